@@ -1,0 +1,6 @@
+//! The records of a member's journal, of which its state is a function.
+#![tactic(auto)]
+
+mod records;
+
+pub use records::{RanItem, Record};
