@@ -14,5 +14,5 @@ mod writer;
 pub use fault::{Unread, WireFault};
 pub use reader::Reader;
 pub use seq::{OutOfMemory, Seq};
-pub use wire::Wire;
+pub use wire::{decode, encode, one_spelling, Wire};
 pub use writer::Writer;

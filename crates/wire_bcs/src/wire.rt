@@ -45,3 +45,94 @@ impl Wire for Digest {
         Ok(Digest(reader.fixed32()?))
     }
 }
+
+#[tactic(auto, unfolding(crate::specs::Shapes::seq_spell, crate::specs::Shapes::seq_read), using(crate::specs::Wrote::parts))]
+impl<T: Wire> Wire for Seq<T> {
+    ghost codec = { seq T.codec };
+
+    fn write_into(&self, writer: &mut Writer) -> Result<(), OutOfMemory> {
+        writer.put_len(self.len() as u32)?;
+        for item in self.as_slice() {
+            item.write_into(writer)?;
+        }
+        Ok(())
+    }
+
+    fn read_from(alloc: Global, reader: &mut Reader) -> Result<Self, Unread> {
+        let count = reader.len()?;
+        let mut items = Seq::new(alloc);
+        for _ in 0..count {
+            items.push(T::read_from(alloc, reader)?)?;
+        }
+        Ok(items)
+    }
+}
+
+#[tactic(auto, unfolding(crate::specs::Shapes::option_spell, crate::specs::Shapes::option_read), using(crate::specs::Wrote::parts))]
+impl<T: Wire> Wire for Option<T> {
+    ghost codec = { option T.codec };
+
+    fn write_into(&self, writer: &mut Writer) -> Result<(), OutOfMemory> {
+        match self {
+            None => {
+                writer.put_bool(false)?;
+                Ok(())
+            }
+            Some(value) => {
+                writer.put_bool(true)?;
+                value.write_into(writer)?;
+                Ok(())
+            }
+        }
+    }
+
+    fn read_from(alloc: Global, reader: &mut Reader) -> Result<Self, Unread> {
+        if !reader.bool()? {
+            return Ok(None);
+        }
+        let value = T::read_from(alloc, reader)?;
+        Ok(Some(value))
+    }
+}
+
+/// The one spelling of a value.
+#[tactic(auto)]
+pub fn encode<T: Wire>(alloc: Global, value: &T) -> Result<Seq<u8>, OutOfMemory>
+    requires { T.codec.short value.now }
+    ensures { IfOk result (λ bytes. bytes ≡ T.codec.spell value.now) }
+{
+    let mut writer = Writer::new(alloc);
+    value.write_into(&mut writer)?;
+    Ok(writer.finish())
+}
+
+/// The value that all the bytes spell. A fault comes exactly where there is none, and is the first.
+pub fn decode<T: Wire>(alloc: Global, bytes: &[u8]) -> Result<T, Unread>
+    // What is read is spelled so, and is a value of its type.
+    ensures found { IfOk result (λ x. (bytes.now ≡ T.codec.spell x) × T.codec.fits x) }
+    // So it may be written again.
+    ensures short { IfOk result T.codec.short }
+    // What is spelled so is read, unless memory runs out.
+    ensures only { (x : _) → T.codec.fits x → bytes.now ≡ T.codec.spell x → Decodes bytes.now result (Ok x) }
+    // Which fault it is.
+    ensures exact { Decodes bytes.now result (whole T.codec bytes.now) }
+{
+    all_of(alloc, bytes)
+}
+
+#[tactic(auto, unfolding(crate::specs::Whole::whole))]
+fn all_of<T: Wire>(alloc: Global, bytes: &[u8]) -> Result<T, Unread>
+    ensures exact { Decodes bytes.now result (whole T.codec bytes.now) }
+{
+    let mut reader = Reader::new(bytes);
+    let value = T::read_from(alloc, &mut reader)?;
+    reader.finish()?;
+    Ok(value)
+}
+
+/// Each value has one spelling, no spelling is a front of another value's, and equal spellings are of
+/// equal values.
+pub fn one_spelling<T: Wire>()
+    ensures { (x y : _) (r s : List ℕ) → T.codec.fits x → T.codec.fits y → T.codec.spell x ++ r ≡ T.codec.spell y ++ s → (x ≡ y) × (r ≡ s) }
+{
+}
