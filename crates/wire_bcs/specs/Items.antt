@@ -53,7 +53,7 @@ front-again count p x rest len e =
     rw (long, front, len) refl
 
 -- a byte array of fixed size has no length
-unfoldable pub fixed : ℕ → Codec (List ℕ)
+abbrev pub fixed : ℕ → Codec (List ℕ)
 fixed count = record {
   short = λ _. Unit {0};
   fits = λ bytes. length bytes ≡ count;
@@ -88,7 +88,7 @@ number-again width p n rest below e =
     rw (front-again width p (low_first width n) rest (length-low_first width n) e) (rw (value_of-low_first width n below) refl)
 
 -- an unsigned integer of so many bytes
-unfoldable pub number : ℕ → Codec ℕ
+abbrev pub number : ℕ → Codec ℕ
 number width = record {
   short = λ _. Unit {0};
   fits = λ n. n < 256 ^ width;
@@ -135,7 +135,7 @@ bool-again p false rest fits e = rw (number-again 1 p 0 rest (omega arith) e) re
 bool-again p true rest fits e = rw (number-again 1 p 1 rest (omega arith) e) refl
 
 -- a bool is one byte, 0 or 1
-unfoldable pub bool_codec : Codec Bool
+abbrev pub bool_codec : Codec Bool
 bool_codec = record {
   short = λ _. Unit {0};
   fits = λ _. Unit {0};
@@ -192,7 +192,7 @@ bytes-again p x rest below e =
     rw (one, two) (ap found (forward-then p (uleb (length x)) x))
 
 -- a sequence of bytes: its length, and the bytes
-unfoldable pub bytes_codec : Codec (List ℕ)
+abbrev pub bytes_codec : Codec (List ℕ)
 bytes_codec = record {
   short = λ bytes. length bytes < length_limit;
   fits = λ bytes. length bytes < length_limit;
@@ -223,7 +223,7 @@ unfolding text_read
 text-again p x rest fits e = rw (bytes-again p x rest fits.0 e) (rw fits.1 refl)
 
 -- a text: the length of its UTF-8 bytes, and the bytes
-unfoldable pub text_codec : Codec (List ℕ)
+abbrev pub text_codec : Codec (List ℕ)
 text_codec = record {
   short = λ bytes. length bytes < length_limit;
   fits = λ bytes. (length bytes < length_limit) × (is_utf8 bytes ≡ true);
@@ -246,7 +246,7 @@ nothing-again p x rest fits e =
     let at_place : ℕ → Read (Unit {0}) = λ n. Ok (tt, record { input = p.input; at = n }) in
     ap at_place (sym (add-zero p.at))
 
-unfoldable pub nothing : Codec (Unit {0})
+abbrev pub nothing : Codec (Unit {0})
 nothing = record {
   short = λ _. Unit {0};
   fits = λ _. Unit {0};

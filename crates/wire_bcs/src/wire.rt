@@ -32,7 +32,7 @@ pub trait Wire: Drop {
         ensures ahead { Ahead reader.old reader.new };
 }
 
-#[tactic(auto, unfolding(crate::specs::Digests::digest, crate::specs::Items::fixed), using(crate::specs::Wrote::parts))]
+#[tactic(auto, unfolding(crate::specs::Digests::digest), using(crate::specs::Wrote::parts))]
 impl Wire for Digest {
     ghost codec = { digest };
 
