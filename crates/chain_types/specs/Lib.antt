@@ -1,3 +1,4 @@
+pub mod Equal
 pub mod Objects
 pub mod Transactions
-pub mod Keys
+pub mod Digests

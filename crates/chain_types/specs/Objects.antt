@@ -1,9 +1,6 @@
--- Objects on the wire (BCS), and their digests (this profile).
+-- Objects on the wire (BCS; the variant numbers are this profile's).
 use Rattle.std.specs.Prelude.{ℕ, ◌⊎◌, refl}
 use Rattle.std.proofs.Common.{inl, inr}
-use Rattle.digest_core.specs.declared.Digest.{Digest}
-use Rattle.digest_core.specs.declared.TheConstants.{TAG_OBJECT}
-use Rattle.digest_core.specs.Tagged.{tagged_digest}
 use Rattle.wire_bcs.specs.Codec.{Codec}
 use Rattle.wire_bcs.specs.Items.{number, nothing}
 use Rattle.wire_bcs.specs.Shapes.{pair, by}
@@ -110,7 +107,3 @@ content = by content_to content_from
 unfoldable pub object : Codec Object
 object = by (λ o. (o.id, (o.version, (o.owner, o.content)))) (λ p. record { id = p.0; version = p.1.0; owner = p.1.1.0; content = p.1.1.1 }) (λ _. refl) (λ _. refl)
     (pair object_id (pair (number 8) (pair owner content)))
-
--- the digest of an object
-unfoldable pub digest_of_object : Object → Digest
-digest_of_object o = tagged_digest TAG_OBJECT (object.spell o)

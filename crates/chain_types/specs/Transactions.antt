@@ -1,9 +1,6 @@
--- Transactions on the wire (BCS), and their digests (this profile).
+-- Transactions on the wire (BCS; the variant numbers are this profile's).
 use Rattle.std.specs.Prelude.{ℕ, Bool, List, ◌⊎◌, refl}
 use Rattle.std.proofs.Common.{inl, inr}
-use Rattle.digest_core.specs.declared.Digest.{Digest}
-use Rattle.digest_core.specs.declared.TheConstants.{TAG_TRANSACTION}
-use Rattle.digest_core.specs.Tagged.{tagged_digest}
 use Rattle.wire_bcs.specs.Codec.{Codec}
 use Rattle.wire_bcs.specs.Items.{number, nothing, bool_codec, bytes_codec}
 use Rattle.wire_bcs.specs.Shapes.{pair, by, seq}
@@ -102,7 +99,3 @@ transaction = by (λ t. (t.epoch, (t.sender, (t.gas, (t.budget, (t.inputs, t.com
 -- transaction, seal
 unfoldable pub signed : Codec SignedTx
 signed = by (λ s. (s.tx, s.seal)) (λ p. record { tx = p.0; seal = p.1 }) (λ _. refl) (λ _. refl) (pair transaction digest)
-
--- the digest of a transaction
-unfoldable pub transaction_digest : Transaction → Digest
-transaction_digest t = tagged_digest TAG_TRANSACTION (transaction.spell t)

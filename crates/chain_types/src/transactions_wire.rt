@@ -2,6 +2,7 @@
 
 ghost use Rattle.std.specs.Prelude.{◌≡◌, IfOk};
 ghost use Rattle.chain_types.specs.Transactions as codecs;
+ghost use Rattle.chain_types.specs.Digests.{transaction_digest};
 
 use crate::objects::{Address, Kind, ObjectId, ObjectRef};
 use crate::transactions::{Argument, Command, Input, SignedTx, Transaction};
@@ -258,10 +259,10 @@ pub fn encode_tx(alloc: Global, tx: &Transaction) -> Result<Seq<u8>, OutOfMemory
 }
 
 /// The digest of a transaction. Its lists are at most 2147483647 long.
-#[tactic(auto, unfolding(crate::specs::Transactions::transaction_digest))]
+#[tactic(auto, unfolding(crate::specs::Digests::transaction_digest))]
 pub fn tx_digest(alloc: Global, tx: &Transaction) -> Result<Digest, OutOfMemory>
     requires { codecs.transaction.short tx.now }
-    ensures { IfOk result (λ digest. digest ≡ codecs.transaction_digest tx.now) }
+    ensures { IfOk result (λ digest. digest ≡ transaction_digest tx.now) }
 {
     let bytes = encode_tx(alloc, tx)?;
     Ok(digest_of(TAG_TRANSACTION, bytes.as_slice()))

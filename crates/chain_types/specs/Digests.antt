@@ -1,11 +1,26 @@
--- Which versions a transaction consumes, how many objects it has, and the version that it writes
--- (Sui documentation: versions are Lamport clocks; which versions count is this profile's choice).
-use Rattle.std.specs.Prelude.{ℕ, suc, ◌+◌, max, Bool, true, false, List, [], ◌∷◌, length, filter, filter_map, fold, Option, Some, None}
+-- The digests of objects and transactions (this profile: tagged SHA-256 of the spelling); which versions a
+-- transaction consumes, how many objects it has, and the version that it writes (Sui documentation:
+-- versions are Lamport clocks; which versions count is this profile's choice).
+use Rattle.std.specs.Prelude.{ℕ, suc, max, Bool, true, false, List, [], ◌∷◌, length, filter, filter_map, fold, Option, Some, None}
+use Rattle.digest_core.specs.declared.Digest.{Digest}
+use Rattle.digest_core.specs.declared.TheConstants.{TAG_OBJECT, TAG_TRANSACTION}
+use Rattle.digest_core.specs.Tagged.{tagged_digest}
+use Rattle.chain_types.specs.declared.objects.Object.{Object}
 use Rattle.chain_types.specs.declared.objects.ObjectKey.{ObjectKey}
 use Rattle.chain_types.specs.declared.objects.ObjectRef.{ObjectRef}
 use Rattle.chain_types.specs.declared.transactions.Input.{Input}
 use Rattle.chain_types.specs.declared.transactions.Input.TheVariants as inputs
 use Rattle.chain_types.specs.declared.transactions.Transaction.{Transaction}
+use Rattle.chain_types.specs.Objects.{object}
+use Rattle.chain_types.specs.Transactions.{transaction}
+
+-- the digest of an object
+unfoldable pub digest_of_object : Object → Digest
+digest_of_object o = tagged_digest TAG_OBJECT (object.spell o)
+
+-- the digest of a transaction
+unfoldable pub transaction_digest : Transaction → Digest
+transaction_digest t = tagged_digest TAG_TRANSACTION (transaction.spell t)
 
 -- the key that a reference names
 abbrev pub key_of : ObjectRef → ObjectKey
