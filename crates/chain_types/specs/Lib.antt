@@ -2,3 +2,4 @@ pub mod Equal
 pub mod Objects
 pub mod Transactions
 pub mod Digests
+pub mod Feeding

@@ -1,14 +1,16 @@
 //! Transactions on the wire, and their digests.
 
-ghost use Rattle.std.specs.Prelude.{◌≡◌, IfOk};
+ghost use Rattle.std.specs.Prelude.{◌≡◌, IfOk, Ok};
+ghost use Rattle.wire_bcs.specs.Whole.{whole};
+ghost use Rattle.wire_bcs.specs.Gives.{Decodes};
 ghost use Rattle.chain_types.specs.Transactions as codecs;
 ghost use Rattle.chain_types.specs.Digests.{transaction_digest};
 
 use crate::objects::{Address, Kind, ObjectId, ObjectRef};
 use crate::transactions::{Argument, Command, Input, SignedTx, Transaction};
-use digest_core::{digest_of, Digest, TAG_TRANSACTION};
+use digest_core::{Digest, TAG_TRANSACTION, digest_of};
 use std::alloc::Global;
-use wire_bcs::{encode, OutOfMemory, Reader, Seq, Unread, Wire, WireFault, Writer};
+use wire_bcs::{OutOfMemory, Reader, Seq, Unread, Wire, WireFault, Writer, decode, encode};
 
 #[tactic(auto, using(wire_bcs::specs::Wrote::parts), unfolding(crate::specs::Transactions::input))]
 impl Wire for Input {
@@ -266,4 +268,27 @@ pub fn tx_digest(alloc: Global, tx: &Transaction) -> Result<Digest, OutOfMemory>
 {
     let bytes = encode_tx(alloc, tx)?;
     Ok(digest_of(TAG_TRANSACTION, bytes.as_slice()))
+}
+
+/// The one spelling of a signed transaction. Its lists are at most 2147483647 long.
+pub fn encode_signed(alloc: Global, signed: &SignedTx) -> Result<Seq<u8>, OutOfMemory>
+    requires { codecs.signed.short signed.now }
+    ensures { IfOk result (λ bytes. bytes ≡ codecs.signed.spell signed.now) }
+{
+    encode(alloc, signed)
+}
+
+/// The signed transaction that all the bytes spell. A fault comes exactly where there is none, and is the
+/// first.
+pub fn decode_signed(alloc: Global, bytes: &[u8]) -> Result<SignedTx, Unread>
+    // What is read is spelled so, and is a value of its type.
+    ensures found { IfOk result (λ x. (bytes.now ≡ codecs.signed.spell x) × codecs.signed.fits x) }
+    // So it may be written again.
+    ensures short { IfOk result codecs.signed.short }
+    // What is spelled so is read, unless memory runs out.
+    ensures only { (x : _) → codecs.signed.fits x → bytes.now ≡ codecs.signed.spell x → Decodes bytes.now result (Ok x) }
+    // Which fault it is.
+    ensures exact { Decodes bytes.now result (whole codecs.signed bytes.now) }
+{
+    decode(alloc, bytes)
 }

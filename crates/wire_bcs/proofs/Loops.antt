@@ -72,5 +72,5 @@ part_of {A} spell xs i x old new lt e h =
     let more = part_first (old ++ front) new (spell x) (flat_map spell (drop (i + 1) xs)) h in
     let all = part_then old new front (spell x ++ flat_map spell (drop (i + 1) xs)) more in
     let same : front ++ (spell x ++ flat_map spell (drop (i + 1) xs)) ≡ uleb (length xs) ++ flat_map spell xs
-        = append_assoc (uleb (length xs)) (flat_map spell (take i xs)) (spell x ++ flat_map spell (drop (i + 1) xs)) ∙ ap (λ (t : List ℕ). uleb (length xs) ++ t) (sym (parts_of spell xs i x lt e)) in
+    = append_assoc (uleb (length xs)) (flat_map spell (take i xs)) (spell x ++ flat_map spell (drop (i + 1) xs)) ∙ ap (λ (t : List ℕ). uleb (length xs) ++ t) (sym (parts_of spell xs i x lt e)) in
     subst (λ (t : List ℕ). is_part old new t ≡ true) same all

@@ -14,9 +14,9 @@ goes_on i bytes rest text lt high begun =
     let one : uleb_in (4 - i) rest ≡ (128 + rest % 128) ∷ uleb_in (4 - (i + 1)) (rest / 128) = ap (λ (k : ℕ). uleb_in k rest) more ∙ uleb_in-more (4 - (i + 1)) rest high in
     let front = take_more_set bytes i (128 + rest % 128) (omega (arith, begun.2)) in
     let parts : take (i + 1) (set bytes i (128 + rest % 128)) ++ uleb_in (4 - (i + 1)) (rest / 128) ≡ text
-        = ap (λ (t : List ℕ). t ++ uleb_in (4 - (i + 1)) (rest / 128)) front
-          ∙ (append_assoc (take i bytes) ((128 + rest % 128) ∷ []) (uleb_in (4 - (i + 1)) (rest / 128))
-          ∙ (ap (λ (t : List ℕ). take i bytes ++ t) (sym one) ∙ begun.0)) in
+    = ap (λ (t : List ℕ). t ++ uleb_in (4 - (i + 1)) (rest / 128)) front
+    ∙ (append_assoc (take i bytes) ((128 + rest % 128) ∷ []) (uleb_in (4 - (i + 1)) (rest / 128))
+    ∙ (ap (λ (t : List ℕ). take i bytes ++ t) (sym one) ∙ begun.0)) in
     let bound : rest < 128 * room (4 - (i + 1)) = (let e : room (4 - i) ≡ 128 * room (4 - (i + 1)) = ap room more in omega (arith, begun.1, e)) in
     (parts, omega arith, length-set bytes i (128 + rest % 128) ∙ begun.2)
 

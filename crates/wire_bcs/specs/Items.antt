@@ -122,11 +122,11 @@ bool-takes p x q fits e =
           let text : low_first 1 b.0.0 ≡ 0 ∷ [] = ap (λ (n : ℕ). low_first 1 n) (eqb-true b.0.0 0 g.0) in
           subst P (ok_is (false, b.0.1) (x, q) g.1) (subst (λ (s : List ℕ). Takes p s b.0.1) text t.0, tt)
       | inr g ↦ elim (chosen (b.0.0 == 1) (Ok (true, b.0.1)) (stop p 2) (Ok (x, q)) g.1) [
-          | inl h ↦
-              let text : low_first 1 b.0.0 ≡ 1 ∷ [] = ap (λ (n : ℕ). low_first 1 n) (eqb-true b.0.0 1 h.0) in
-              subst P (ok_is (true, b.0.1) (x, q) h.1) (subst (λ (s : List ℕ). Takes p s b.0.1) text t.0, tt)
-          | inr h ↦ absurd (let r = h.1 in cc)
-        ]
+        | inl h ↦
+            let text : low_first 1 b.0.0 ≡ 1 ∷ [] = ap (λ (n : ℕ). low_first 1 n) (eqb-true b.0.0 1 h.0) in
+            subst P (ok_is (true, b.0.1) (x, q) h.1) (subst (λ (s : List ℕ). Takes p s b.0.1) text t.0, tt)
+        | inr h ↦ absurd (let r = h.1 in cc)
+      ]
     ]
 
 pub bool-again : (p : Place) (x : Bool) (rest : List ℕ) → Unit {0} → left p ≡ bool_spell x ++ rest → bool_read p ≡ Ok (x, forward (length (bool_spell x)) p)

@@ -98,7 +98,7 @@ items-takes {A} c (suc count) p xs q fits e =
     let u = items-takes c count b.0.1 r.0.0 r.0.1 (Takes-bytes p (c.spell b.0.0) b.0.1 t.0 fits) r.1 in
     let P : List A × Place → Type 0 = λ y. Takes p (flat_map c.spell y.0) y.1 × (length y.0 ≡ suc count) × All c.fits y.0 in
     subst P (ok_is (b.0.0 ∷ r.0.0, r.0.1) (xs, q) r.2)
-      (Takes-then p b.0.1 r.0.1 (c.spell b.0.0) (flat_map c.spell r.0.0) t.0 u.0, ap suc u.1, All-cons c.fits b.0.0 r.0.0 t.1 u.2)
+    (Takes-then p b.0.1 r.0.1 (c.spell b.0.0) (flat_map c.spell r.0.0) t.0 u.0, ap suc u.1, All-cons c.fits b.0.0 r.0.0 t.1 u.2)
 
 items-again : {A : Type 0} (c : Codec A) (xs : List A) (p : Place) (rest : List ℕ) → All c.fits xs → left p ≡ flat_map c.spell xs ++ rest
     → items_read c.read (length xs) p ≡ Ok (xs, forward (length (flat_map c.spell xs)) p)

@@ -55,33 +55,33 @@ uleb_rest-takes zero (b ∷ bytes) x fits e =
     elim (chosen (b == 0) (Err 3) (cond (nat_lt 15 b) (Err 4) (Ok (b, 1))) (Ok x) e) [
       | inl p ↦ absurd (let q : Err 3 ≡ Ok x = p.1 in cc)
       | inr p ↦ elim (chosen (nat_lt 15 b) (Err 4) (Ok (b, 1)) (Ok x) p.1) [
-          | inl q ↦ absurd (let r : Err 4 ≡ Ok x = q.1 in cc)
-          | inr q ↦
-              let some : 0 < b = omega (arith, eqb-false b 0 p.0) in
-              let below : b ≤ 15 = ltb-false 15 b q.0 in
-              subst (Reads zero (b ∷ bytes)) (scan_is (b, 1) x q.1) (refl, refl, some, omega arith)
-        ]
+        | inl q ↦ absurd (let r : Err 4 ≡ Ok x = q.1 in cc)
+        | inr q ↦
+            let some : 0 < b = omega (arith, eqb-false b 0 p.0) in
+            let below : b ≤ 15 = ltb-false 15 b q.0 in
+            subst (Reads zero (b ∷ bytes)) (scan_is (b, 1) x q.1) (refl, refl, some, omega arith)
+      ]
     ]
 uleb_rest-takes (suc more) (b ∷ bytes) x fits e =
     elim (chosen (b == 0) (Err 3) (cond (nat_lt b 128) (Ok (b, 1)) (behind b (uleb_rest more bytes))) (Ok x) e) [
       | inl p ↦ absurd (let q : Err 3 ≡ Ok x = p.1 in cc)
       | inr p ↦ elim (chosen (nat_lt b 128) (Ok (b, 1)) (behind b (uleb_rest more bytes)) (Ok x) p.1) [
-          | inl q ↦
-              let some : 0 < b = omega (arith, eqb-false b 0 p.0) in
-              let below : b < 128 = ltb-true b 128 q.0 in
-              let one = uleb_in-last more b below in
-              let large : 0 < room more = room-some more in
-              subst (Reads (suc more) (b ∷ bytes)) (scan_is (b, 1) x q.1) (rw one refl, rw one refl, some, omega arith)
-          | inr q ↦
-              let high : 128 ≤ b = ltb-false b 128 q.0 in
-              let byte : b < 256 = fits 0 in
-              let r = behind_ok b (uleb_rest more bytes) x q.1 in
-              let rest = uleb_rest-takes more bytes r.0 (IsBytes-rest b bytes fits) r.1 in
-              let one = uleb_in-behind more b r.0.0 high byte rest.2 in
-              let parts : b ∷ bytes ≡ uleb_in (suc more) (b - 128 + 128 * r.0.0) ++ drop r.0.1 bytes = rw one (ap (λ (t : List ℕ). b ∷ t) rest.0) in
-              let count : suc r.0.1 ≡ length (uleb_in (suc more) (b - 128 + 128 * r.0.0)) = rw one (ap suc rest.1) in
-              subst (Reads (suc more) (b ∷ bytes)) r.2 (parts, count, omega (arith, rest.2), omega (arith, rest.3))
-        ]
+        | inl q ↦
+            let some : 0 < b = omega (arith, eqb-false b 0 p.0) in
+            let below : b < 128 = ltb-true b 128 q.0 in
+            let one = uleb_in-last more b below in
+            let large : 0 < room more = room-some more in
+            subst (Reads (suc more) (b ∷ bytes)) (scan_is (b, 1) x q.1) (rw one refl, rw one refl, some, omega arith)
+        | inr q ↦
+            let high : 128 ≤ b = ltb-false b 128 q.0 in
+            let byte : b < 256 = fits 0 in
+            let r = behind_ok b (uleb_rest more bytes) x q.1 in
+            let rest = uleb_rest-takes more bytes r.0 (IsBytes-rest b bytes fits) r.1 in
+            let one = uleb_in-behind more b r.0.0 high byte rest.2 in
+            let parts : b ∷ bytes ≡ uleb_in (suc more) (b - 128 + 128 * r.0.0) ++ drop r.0.1 bytes = rw one (ap (λ (t : List ℕ). b ∷ t) rest.0) in
+            let count : suc r.0.1 ≡ length (uleb_in (suc more) (b - 128 + 128 * r.0.0)) = rw one (ap suc rest.1) in
+            subst (Reads (suc more) (b ∷ bytes)) r.2 (parts, count, omega (arith, rest.2), omega (arith, rest.3))
+      ]
     ]
 
 uleb_rest-again : (more n : ℕ) (rest : List ℕ) → 0 < n → n < room more → uleb_rest more (uleb_in more n ++ rest) ≡ Ok (n, length (uleb_in more n))

@@ -14,5 +14,5 @@ mod writer;
 pub use fault::{Unread, WireFault};
 pub use reader::Reader;
 pub use seq::{OutOfMemory, Seq};
-pub use wire::{decode, encode, one_spelling, Wire};
+pub use wire::{Wire, decode, encode, one_spelling};
 pub use writer::Writer;

@@ -188,18 +188,12 @@ impl<'a> Reader<'a> {
         match uleb_of(rest) {
             Ok((value, count)) => {
                 if value >= limit {
-                    return Err(WireFault {
-                        at: at as u64,
-                        why,
-                    });
+                    return Err(WireFault { at: at as u64, why });
                 }
                 self.at = at + count;
                 Ok(value)
             }
-            Err(why) => Err(WireFault {
-                at: at as u64,
-                why,
-            }),
+            Err(why) => Err(WireFault { at: at as u64, why }),
         }
     }
 

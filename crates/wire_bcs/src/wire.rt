@@ -134,5 +134,4 @@ fn all_of<T: Wire>(alloc: Global, bytes: &[u8]) -> Result<T, Unread>
 /// equal values.
 pub fn one_spelling<T: Wire>()
     ensures { (x y : _) (r s : List ℕ) → T.codec.fits x → T.codec.fits y → T.codec.spell x ++ r ≡ T.codec.spell y ++ s → (x ≡ y) × (r ≡ s) }
-{
-}
+{}

@@ -45,7 +45,8 @@ impl Writer {
     pub fn put_u8(&mut self, value: u8) -> Result<(), OutOfMemory>
         ensures { Appends self.old self.new (number_spell 1 value) result }
     {
-        self.bytes.extend_from_slice(value.to_le_bytes().as_slice())?;
+        self.bytes
+            .extend_from_slice(value.to_le_bytes().as_slice())?;
         Ok(())
     }
 
@@ -54,7 +55,8 @@ impl Writer {
     pub fn put_u16(&mut self, value: u16) -> Result<(), OutOfMemory>
         ensures { Appends self.old self.new (number_spell 2 value) result }
     {
-        self.bytes.extend_from_slice(value.to_le_bytes().as_slice())?;
+        self.bytes
+            .extend_from_slice(value.to_le_bytes().as_slice())?;
         Ok(())
     }
 
@@ -63,7 +65,8 @@ impl Writer {
     pub fn put_u32(&mut self, value: u32) -> Result<(), OutOfMemory>
         ensures { Appends self.old self.new (number_spell 4 value) result }
     {
-        self.bytes.extend_from_slice(value.to_le_bytes().as_slice())?;
+        self.bytes
+            .extend_from_slice(value.to_le_bytes().as_slice())?;
         Ok(())
     }
 
@@ -72,7 +75,8 @@ impl Writer {
     pub fn put_u64(&mut self, value: u64) -> Result<(), OutOfMemory>
         ensures { Appends self.old self.new (number_spell 8 value) result }
     {
-        self.bytes.extend_from_slice(value.to_le_bytes().as_slice())?;
+        self.bytes
+            .extend_from_slice(value.to_le_bytes().as_slice())?;
         Ok(())
     }
 
@@ -81,7 +85,8 @@ impl Writer {
     pub fn put_u128(&mut self, value: u128) -> Result<(), OutOfMemory>
         ensures { Appends self.old self.new (number_spell 16 value) result }
     {
-        self.bytes.extend_from_slice(value.to_le_bytes().as_slice())?;
+        self.bytes
+            .extend_from_slice(value.to_le_bytes().as_slice())?;
         Ok(())
     }
 
