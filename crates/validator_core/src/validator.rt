@@ -2,10 +2,9 @@
 
 ghost use Rattle.std.specs.Prelude.{◌≡◌, ◌+◌, ◌<◌, ◌++◌, ◌∷◌, [], IfOk, IsTrue, OnOk, false, option_copied};
 ghost use Rattle.std.specs.List.{list_any};
-ghost use Rattle.chain_types.specs.Digests.{transaction_digest};
 ghost use Rattle.chain_types.specs.Equal.{digest_eq};
 ghost use Rattle.indexmap.specs.IndexSet.{spare};
-ghost use Rattle.vote_spec.specs.Votes.{after_answer, after_vote, fresh_voter, has_gas_alone, has_voted, object_at, locking_answer, opened, vote_answer, with_object};
+ghost use Rattle.vote_spec.specs.Votes.{after_answer, after_vote, fresh_voter, has_voted, object_at, locking_answer, opened, vote_answer, with_object};
 ghost use Rattle.validator_core.specs.Answers.{AnswersAs};
 
 use crate::gas::{coin_refusal, gas_key, key_of};
@@ -13,6 +12,7 @@ use chain_types::{DecideRefusal, Object, ObjectKey, Transaction, owned_keys};
 use digest_core::Digest;
 use indexmap::{IndexMap, IndexSet};
 use lock_table::{LockRefusal, LockTable};
+use name_map::insert_new;
 use std::alloc::Global;
 use std::marker::Model;
 use vote_spec::Voted;
@@ -40,9 +40,10 @@ fn hold_object(held: &mut IndexMap<ObjectKey, Object>, object: &Object) -> Resul
     ensures { OnOk result (held.new.entries ≡ with_object held.old.entries object.now) }
 {
     let key = key_of(object);
-    if !held.contains_key(&key) {
-        held.insert(key, *object)?;
+    if held.contains_key(&key) {
+        return Ok(());
     }
+    insert_new(held, key, *object)?;
     Ok(())
 }
 
@@ -99,13 +100,12 @@ impl Validator {
         self.voted.contains(digest)
     }
 
-    /// Votes for the transaction, whose one object is its gas coin and whose digest is handed in.
-    /// The order of the answers: the vote that was given before, `Absent`, `WrongDigest`,
+    /// Votes for the transaction, whose one object is its gas coin and whose digest is handed in:
+    /// what stands in the way of its other inputs is not looked at, though all that it consumes is
+    /// locked. The order of the answers: the vote that was given before, `Absent`, `WrongDigest`,
     /// `WrongOwner`, `WrongKind`, `PoorGas`, `Locked`, a fresh vote. After any answer but a fresh
     /// vote the member is as it was.
     pub fn vote(&mut self, tx: &Transaction, digest: &Digest) -> Result<Voted, DecideRefusal>
-        requires alone { IsTrue (has_gas_alone tx.now) }
-        requires digest { digest.now ≡ transaction_digest tx.now }
         ensures { AnswersAs result self.old self.new (vote_answer self.old tx.now digest.now) (after_vote self.old tx.now digest.now) }
     {
         if self.has_voted(digest) {

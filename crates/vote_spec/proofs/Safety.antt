@@ -16,7 +16,9 @@ use Rattle.schedule_text.specs.declared.words.RefWord.{RefWord}
 use Rattle.schedule_text.specs.declared.words.Setup.{Setup}
 use Rattle.vote_spec.specs.declared.answers.Voted.{Voted}
 use Rattle.vote_spec.specs.Votes.{Voter, after_fresh, after_vote, fresh_voter, has_voted, vote_answer}
-use Rattle.vote_spec.specs.Run.{Made, Step, World, asking, is_member, making, named, new_world, nothing, object_named, objects_of, recipient_of, step, transfers_gas}
+use Rattle.name_map.specs.Named.{named}
+use Rattle.vote_spec.specs.declared.answers.Made.{Made}
+use Rattle.vote_spec.specs.Run.{Step, World, asking, is_member, making, new_world, nothing, object_named, objects_of, recipient_of, step, transfers_gas}
 use Rattle.vote_spec.specs.Safety.{Among, Cast, NeverTwice, NoCollision, cast_by, cast_of, casts_at, casts_from}
 use Rattle.vote_spec.proofs.Lists.{get_set_same, get_set_other, among_left, among_right, among_either}
 use Rattle.vote_spec.proofs.Votes.{Votes, earlier, fresh, votes, refusal_stays, voted_after}

@@ -1,7 +1,6 @@
 -- A run of a schedule whose lines are members, coins, transfers of gas coins and votes.
 -- Source: this profile, for the schedule and the report; Sui documentation, for the objects and transactions.
-use Rattle.std.specs.Prelude.{◌≡◌, ◌==◌, ◌&&◌, ℕ, Bool, true, false, not, nat_le, List, [], ◌∷◌, ◌++◌, Option, Some, None, Result, Ok, Err, is_some, fold, map, length, replicate, option_map, bytes_eq, codes, decimal, slice_get, slice_set, count_by, if◌then◌else◌}
-use Rattle.std.specs.Map.{lookup}
+use Rattle.std.specs.Prelude.{◌≡◌, ◌==◌, ℕ, Bool, true, false, List, [], ◌∷◌, ◌++◌, Option, Some, None, Result, Ok, Err, is_some, fold, map, length, replicate, unwrap_or, bytes_eq, codes, decimal, slice_get, slice_set, count_by, if◌then◌else◌}
 use Rattle.std.specs.Option.{option_map_or}
 use Rattle.digest_core.specs.declared.Digest.{Digest}
 use Rattle.digest_core.specs.Tagged.{address_of_name, genesis_id_of}
@@ -36,29 +35,14 @@ use Rattle.report_text.specs.declared.lines.Line.{Line}
 use Rattle.report_text.specs.declared.lines.Line.TheVariants as line
 use Rattle.report_text.specs.declared.lines.VoteText.{VoteText}
 use Rattle.report_text.specs.declared.lines.VoteText.TheVariants as vote_text
+use Rattle.name_map.specs.Named.{Named, first_name, named, with_name}
+use Rattle.vote_spec.specs.declared.answers.Made.{Made}
 use Rattle.vote_spec.specs.declared.answers.Voted.{Voted}
 use Rattle.vote_spec.specs.Votes.{Voter, after_vote, fresh_voter, object_at, vote_answer}
 
--- what is known under names, in the order of naming
-abbrev pub Named : Type 0 → Type 0
-Named A = List (List ℕ × A)
-
-abbrev pub named : {A : Type 0} → Named A → List ℕ → Option A
-named entries name = lookup (bytes_eq name) entries
-
--- a name that is new is given; one that stands already stays
-abbrev pub with_name : {A : Type 0} → Named A → List ℕ → A → Named A
-with_name entries name x = if is_some (named entries name) then entries else entries ++ (name, x) ∷ []
-
 -- the first name of what passes the test, or a question mark
 abbrev pub name_where : {A : Type 0} → (A → Bool) → Named A → List ℕ
-name_where test [] = codes "?"
-name_where test (e ∷ es) = if test e.1 then e.0 else name_where test es
-
--- a transaction that a line made, and its digest
-pub record Made : Type 0 where
-  pub tx : Transaction
-  pub digest : Digest
+name_where test entries = unwrap_or (first_name test entries) (codes "?")
 
 -- the set-up's objects and the transactions made so far, under their names, and the members
 pub record World : Type 0 where
@@ -195,20 +179,3 @@ step w e = nothing w
 abbrev pub lines_from : World → List Event → List Line
 lines_from w [] = []
 lines_from w (e ∷ es) = (step w e).lines ++ lines_from (step w e).world es
-
--- the line forms of this run
-abbrev pub is_built_setup : Setup → Bool
-is_built_setup (setup_line.Member stake honest) = honest
-is_built_setup (setup_line.Coin name user balance) = true
-is_built_setup s = false
-
-abbrev pub is_setup_name : ObjWord → Bool
-is_setup_name (object_word.Setup name) = true
-is_setup_name o = false
-
--- a transfer of an opening coin as gas: epoch 0, version 1, nothing spoiled, and a budget that pays its cost
-abbrev pub is_built : Event → Bool
-is_built (event.Tx name sender spoiled epoch gas budget inputs commands) =
-    not spoiled && epoch == 0 && is_setup_name gas.object && gas.version == 1 && not gas.spoiled && nat_le 1100 budget && is_some (recipient_of inputs) && transfers_gas commands
-is_built (event.Vote member tx) = true
-is_built e = false

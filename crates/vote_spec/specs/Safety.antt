@@ -7,7 +7,9 @@ use Rattle.schedule_text.specs.declared.words.Event.{Event}
 use Rattle.schedule_text.specs.declared.words.Event.TheVariants as event
 use Rattle.vote_spec.specs.declared.answers.Voted.{Voted}
 use Rattle.vote_spec.specs.Votes.{Voter, vote_answer}
-use Rattle.vote_spec.specs.Run.{Made, World, named, step}
+use Rattle.name_map.specs.Named.{named}
+use Rattle.vote_spec.specs.declared.answers.Made.{Made}
+use Rattle.vote_spec.specs.Run.{World, step}
 
 -- x is one of xs
 abbrev pub Among : {A : Type 0} → A → List A → Type 0

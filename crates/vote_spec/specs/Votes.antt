@@ -56,15 +56,6 @@ fresh_voter objects = record { held = opened objects; locks = []; voted = [] }
 abbrev pub has_voted : Voter → Digest → Bool
 has_voted m digest = list_any (λ d. digest_eq digest d) m.voted
 
--- an input that names no object
-abbrev pub is_pure : Input → Bool
-is_pure (input.Pure bytes) = true
-is_pure i = false
-
--- the gas coin is the one object of the transaction
-abbrev pub has_gas_alone : Transaction → Bool
-has_gas_alone t = list_all is_pure t.inputs
-
 -- the version of the gas coin that a transaction names
 abbrev pub gas_key : Transaction → ObjectKey
 gas_key t = record { id = t.gas.id; version = t.gas.version }

@@ -8,5 +8,5 @@
 mod answers;
 mod law;
 
-pub use answers::Voted;
+pub use answers::{Made, Voted};
 pub use law::never_twice;
