@@ -67,7 +67,7 @@ pub all_locked : (keys : List ObjectKey) (locks : Locks) (tx : Digest) (q : Obje
 all_locked [] locks tx q free among = absurd among
 all_locked (key ∷ keys) locks tx q free (inl is) =
     stays keys (insert_entry key_eq locks key tx) tx q tx (put_free locks key keys tx (λ k among. free k (inr among)))
-        (ap (λ k. locked_by (insert_entry key_eq locks key tx) k) is ∙ put_same locks key tx)
+    (ap (λ k. locked_by (insert_entry key_eq locks key tx) k) is ∙ put_same locks key tx)
 all_locked (key ∷ keys) locks tx q free (inr among) =
     all_locked keys (insert_entry key_eq locks key tx) tx q (put_free locks key keys tx (λ k a. free k (inr a))) among
 

@@ -30,7 +30,10 @@ impl<K: Eq + Hash + Drop> FirstNames<K> {
     pub fn new(alloc: Global) -> FirstNames<K>
         ensures { result ≡ [] }
     {
-        FirstNames { names: IndexMap::new(alloc), alloc }
+        FirstNames {
+            names: IndexMap::new(alloc),
+            alloc,
+        }
     }
 
     /// The first name of the key, or a question mark. Takes no memory.

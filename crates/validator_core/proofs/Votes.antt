@@ -65,6 +65,6 @@ pub locked : (m n : Voter) (t : Transaction) (d : Digest) (k : ObjectKey) (o : O
 unfolding vote_refusal after_vote
 locked m n t d k o result is h e f p =
     let said : vote_answer m t d ≡ locking_answer m t d =
-            new_answer m t d (sym h)
-            ∙ ap unless_refused (ap (λ x. refusal_at x m t d) (sym (e ∙ ap (object_at m.held) is)) ∙ ap (λ x. first_some (x ∷ locked_refusal m t d ∷ [])) (sym f) ∙ only (locked_refusal m t d)) in
+    new_answer m t d (sym h)
+    ∙ ap unless_refused (ap (λ x. refusal_at x m t d) (sym (e ∙ ap (object_at m.held) is)) ∙ ap (λ x. first_some (x ∷ locked_refusal m t d ∷ [])) (sym f) ∙ only (locked_refusal m t d)) in
     subst (λ a. AnswersAs result m n a (after_answer m t d a)) (sym said) p

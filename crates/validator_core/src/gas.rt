@@ -3,20 +3,28 @@
 ghost use Rattle.std.specs.Prelude.{◌≡◌, ◌&&◌, not};
 ghost use Rattle.vote_spec.specs.Votes.{balance_of, coin_refusal, gas_key, has_user, is_gas_coin, is_other_user, key_of};
 
-use chain_types::{Address, Content, DecideRefusal, Object, ObjectKey, Owner, Transaction, object_digest};
+use chain_types::{
+    Address, Content, DecideRefusal, Object, ObjectKey, Owner, Transaction, object_digest,
+};
 
 /// The version that an object is.
 pub(crate) fn key_of(object: &Object) -> ObjectKey
     ensures { result ≡ key_of object.now }
 {
-    ObjectKey { id: object.id, version: object.version }
+    ObjectKey {
+        id: object.id,
+        version: object.version,
+    }
 }
 
 /// The version of the gas coin that a transaction names.
 pub(crate) fn gas_key(tx: &Transaction) -> ObjectKey
     ensures { result ≡ gas_key tx.now }
 {
-    ObjectKey { id: tx.gas.id, version: tx.gas.version }
+    ObjectKey {
+        id: tx.gas.id,
+        version: tx.gas.version,
+    }
 }
 
 /// Whether a user other than the sender owns it.
@@ -63,7 +71,10 @@ pub(crate) fn coin_refusal(object: &Object, tx: &Transaction) -> Option<DecideRe
     } else if !is_gas(object) {
         Some(DecideRefusal::WrongKind(key))
     } else if balance < tx.budget {
-        Some(DecideRefusal::PoorGas { had: balance, want: tx.budget })
+        Some(DecideRefusal::PoorGas {
+            had: balance,
+            want: tx.budget,
+        })
     } else {
         None
     }

@@ -42,12 +42,13 @@ among_locks key (k ∷ keys) (inr h) = inr (among_locks key keys h)
 -- the votes that stand in no member's way stay
 more_casts : (i j : ℕ) (m : Voter) (made : Made) (cs : List Cast) → (i ≡ j → ⊥) → Kept i m cs → Kept i m (cs ++ record { member = j; made = made } ∷ [])
 more_casts i j m made cs apart kept = record {
-    locked = λ c h is key k. by c (among_either c cs _ h) is key k;
-    backed = λ d h. let b = kept.backed d h in (b.0, among_left b.0 cs _ b.1, b.2, b.3)
-  }
+  locked = λ c h is key k. by c (among_either c cs _ h) is key k;
+  backed = λ d h. let b = kept.backed d h in (b.0, among_left b.0 cs _ b.1, b.2, b.3);
+}
   where
     new : Cast
     new = record { member = j; made = made }
+
     by : (c : Cast) → Among c cs ⊎ Among c (new ∷ []) → c.member ≡ i → (key : ObjectKey) → Among key (consumed_keys c.made.tx) → locked_by m.locks key ≡ Some c.made.digest
     by c (inl a) is key k = kept.locked c a is key k
     by c (inr (inl e)) is key k = absurd (apart (sym is ∙ ap (λ (x : Cast). x.member) e))
@@ -57,12 +58,13 @@ more_casts i j m made cs apart kept = record {
 own_cast : (i : ℕ) (m : Voter) (made : Made) (cs : List Cast) → NoCollision (cs ++ record { member = i; made = made } ∷ []) → Votes m made.tx made.digest → Kept i m cs
     → Kept i (after_vote m made.tx made.digest) (cs ++ record { member = i; made = made } ∷ [])
 own_cast i m made cs apart (earlier voted same) kept = subst (λ n. Kept i n (cs ++ new ∷ [])) (sym same) (record {
-    locked = λ c h is key k. by c (among_either c cs _ h) is key k;
-    backed = λ d h. let b = kept.backed d h in (b.0, among_left b.0 cs _ b.1, b.2, b.3)
-  })
+  locked = λ c h is key k. by c (among_either c cs _ h) is key k;
+  backed = λ d h. let b = kept.backed d h in (b.0, among_left b.0 cs _ b.1, b.2, b.3);
+})
   where
     new : Cast
     new = record { member = i; made = made }
+
     by : (c : Cast) → Among c cs ⊎ Among c (new ∷ []) → c.member ≡ i → (key : ObjectKey) → Among key (consumed_keys c.made.tx) → locked_by m.locks key ≡ Some c.made.digest
     by c (inl a) is key k = kept.locked c a is key k
     by c (inr (inl e)) is key k =
@@ -72,22 +74,25 @@ own_cast i m made cs apart (earlier voted same) kept = subst (λ n. Kept i n (cs
         kept.locked b.0 b.1 b.2 key (subst (λ xs. Among key xs) (sym keys) k) ∙ ap Some one
     by c (inr (inr a)) is key k = absurd a
 own_cast i m made cs apart (fresh free same) kept = subst (λ n. Kept i n (cs ++ new ∷ [])) (sym same) (record {
-    locked = λ c h is key k. by c (among_either c cs _ h) is key k;
-    backed = λ d h. from d (voted_after m made.tx made.digest d h)
-  })
+  locked = λ c h is key k. by c (among_either c cs _ h) is key k;
+  backed = λ d h. from d (voted_after m made.tx made.digest d h);
+})
   where
     new : Cast
     new = record { member = i; made = made }
+
     open_keys : locking.IsFree m.locks (consumed_keys made.tx) made.digest
     open_keys = locking.free_from (consumed_keys made.tx) m.locks made.digest free
+
     by : (c : Cast) → Among c cs ⊎ Among c (new ∷ []) → c.member ≡ i → (key : ObjectKey) → Among key (consumed_keys c.made.tx)
         → locked_by (with_locks m.locks (consumed_keys made.tx) made.digest) key ≡ Some c.made.digest
     by c (inl a) is key k = locking.stays (consumed_keys made.tx) m.locks made.digest key c.made.digest open_keys (kept.locked c a is key k)
     by c (inr (inl e)) is key k =
         locking.all_locked (consumed_keys made.tx) m.locks made.digest key open_keys
-            (among_locks key (consumed_keys made.tx) (subst (λ (x : Cast). Among key (consumed_keys x.made.tx)) e k))
+        (among_locks key (consumed_keys made.tx) (subst (λ (x : Cast). Among key (consumed_keys x.made.tx)) e k))
         ∙ sym (ap (λ (x : Cast). Some x.made.digest) e)
     by c (inr (inr a)) is key k = absurd a
+
     from : (d : Digest) → (has_voted m d ≡ true) ⊎ (d ≡ made.digest) → (c : Cast) × Among c (cs ++ new ∷ []) × (c.member ≡ i) × (c.made.digest ≡ d)
     from d (inl h) = let b = kept.backed d h in (b.0, among_left b.0 cs _ b.1, b.2, b.3)
     from d (inr e) = (new, among_right new cs _ (inl refl), refl, sym e)
@@ -107,14 +112,16 @@ set_there members i j m n x at_i at_j = go (nat_eq i j) refl
 after_cast : (members : List Voter) (i : ℕ) (m : Voter) (made : Made) (cs : List Cast) → slice_get members i ≡ Some m → NoCollision (cs ++ record { member = i; made = made } ∷ [])
     → Votes m made.tx made.digest → AllKept members cs → AllKept (slice_set members i (after_vote m made.tx made.digest)) (cs ++ record { member = i; made = made } ∷ [])
 after_cast members i m made cs at apart cast kept = record {
-    each = λ j n there. go j n (nat_eq i j) refl there;
-    there = λ c h. by c (among_either c cs _ h)
-  }
+  each = λ j n there. go j n (nat_eq i j) refl there;
+  there = λ c h. by c (among_either c cs _ h);
+}
   where
     new : Cast
     new = record { member = i; made = made }
+
     n' : Voter
     n' = after_vote m made.tx made.digest
+
     go : (j : ℕ) (n : Voter) (b : Bool) → nat_eq i j ≡ b → slice_get (slice_set members i n') j ≡ Some n → Kept j n (cs ++ new ∷ [])
     go j n true is there =
         let e : i ≡ j = (Decides-eqb i j).0 is in
@@ -124,6 +131,7 @@ after_cast members i m made cs at apart cast kept = record {
     go j n false is there =
         let e : i ≡ j → ⊥ = λ h. let b : nat_eq i j ≡ true = (Decides-eqb i j).1 h in cc in
         more_casts j i n made cs (λ h. e (sym h)) (kept.each j n (sym (get_set_other members i j n' e) ∙ there))
+
     by : (c : Cast) → Among c cs ⊎ Among c (new ∷ []) → (y : Voter) × (slice_get (slice_set members i n') c.member ≡ Some y)
     by c (inl a) = let t = kept.there c a in set_there members i c.member m n' t.0 at t.1
     by c (inr (inl e)) = (n', ap (slice_get (slice_set members i n')) (ap (λ (x : Cast). x.member) e) ∙ get_set_same members i m n' at)
@@ -167,8 +175,8 @@ unfolding step
 after_event w (event.Tx name sender spoiled epoch gas budget inputs commands) cs apart kept =
     let made : Step = making w name sender epoch gas budget (object_named w gas.object) (recipient_of inputs) (transfers_gas commands) in
     subst (λ ms. AllKept ms (cs ++ []))
-        (sym (unless_named (is_some (named w.txs name)) w made (making_stays w name sender epoch gas budget (object_named w gas.object) (recipient_of inputs) (transfers_gas commands))))
-        (same_members w.members cs kept)
+    (sym (unless_named (is_some (named w.txs name)) w made (making_stays w name sender epoch gas budget (object_named w gas.object) (recipient_of inputs) (transfers_gas commands))))
+    (same_members w.members cs kept)
 after_event w (event.Vote member name) cs apart kept = after_asking w member name (named w.txs name) (slice_get w.members member) cs refl apart kept
 after_event w e cs apart kept = same_members w.members cs kept
 
@@ -192,7 +200,7 @@ never_twice_from (e ∷ es) w cs apart kept =
     let joined : (cs ++ casts_at w e) ++ casts_from w' es ≡ cs ++ (casts_at w e ++ casts_from w' es) = append_assoc cs (casts_at w e) (casts_from w' es) in
     let apart' : NoCollision ((cs ++ casts_at w e) ++ casts_from w' es) = subst NoCollision (sym joined) apart in
     subst NeverTwice joined
-        (never_twice_from es w' (cs ++ casts_at w e) apart' (after_event w e cs (front_apart (cs ++ casts_at w e) (casts_from w' es) apart') kept))
+    (never_twice_from es w' (cs ++ casts_at w e) apart' (after_event w e cs (front_apart (cs ++ casts_at w e) (casts_from w' es) apart') kept))
 
 true_false : true ≡ false → ⊥
 true_false h = cc
@@ -206,9 +214,9 @@ fresh_members (suc n) objects (suc i) m h = fresh_members n objects i m h
 pub never_twice_law : (setup : List Setup) (events : List Event) → NoCollision (casts_from (new_world setup) events) → NeverTwice (casts_from (new_world setup) events)
 unfolding new_world
 never_twice_law setup events apart = never_twice_from events (new_world setup) [] apart (record {
-    each = λ i m at. let e = fresh_members (count_by is_member setup) (map (λ (x : List ℕ × Object). x.1) (objects_of setup)) i m at in record {
-        locked = λ c h is key k. absurd h;
-        backed = λ d h. let v : has_voted m d ≡ false = ap (λ x. has_voted x d) e in absurd (true_false (sym h ∙ v))
-      };
-    there = λ c h. absurd h
-  })
+  each = λ i m at. let e = fresh_members (count_by is_member setup) (map (λ (x : List ℕ × Object). x.1) (objects_of setup)) i m at in record {
+    locked = λ c h is key k. absurd h;
+    backed = λ d h. let v : has_voted m d ≡ false = ap (λ x. has_voted x d) e in absurd (true_false (sym h ∙ v));
+  };
+  there = λ c h. absurd h;
+})

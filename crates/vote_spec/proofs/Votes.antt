@@ -43,12 +43,14 @@ votes m t d v h = go (has_voted m d) refl h
   where
     Said : Bool → Type 0
     Said b = cond b (Ok (record { fresh = false })) (unless_refused (vote_refusal m t d)) ≡ Ok v
+
     refused : (r : Option DecideRefusal) → vote_refusal m t d ≡ r → has_voted m d ≡ false → unless_refused r ≡ Ok v → Votes m t d
     refused None e new said =
         let answer : cond (has_voted m d) (Ok (record { fresh = false })) (unless_refused (vote_refusal m t d)) ≡ Ok (record { fresh = true }) =
-                ap (λ b. cond b (Ok (record { fresh = false })) (unless_refused (vote_refusal m t d))) new ∙ ap unless_refused e in
+        ap (λ b. cond b (Ok (record { fresh = false })) (unless_refused (vote_refusal m t d))) new ∙ ap unless_refused e in
         fresh (unlocked m t d e) (ap (after_answer m t d) answer)
     refused (Some r) e new said = absurd (cc)
+
     go : (b : Bool) → has_voted m d ≡ b → Said b → Votes m t d
     go true is said =
         earlier is (ap (after_answer m t d) (ap (λ b. cond b (Ok (record { fresh = false })) (unless_refused (vote_refusal m t d))) is))

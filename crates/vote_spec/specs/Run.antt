@@ -53,11 +53,11 @@ pub record World : Type 0 where
 -- the n-th object of the set-up, a coin of currency 0
 abbrev pub coin : ℕ → List ℕ → ℕ → Object
 coin n user balance = record {
-    id = record { 0 = genesis_id_of n };
-    version = 1;
-    owner = owner.Address (record { 0 = address_of_name user });
-    content = content.Coin 0 balance
-  }
+  id = record { 0 = genesis_id_of n };
+  version = 1;
+  owner = owner.Address (record { 0 = address_of_name user });
+  content = content.Coin 0 balance;
+}
 
 -- the objects after one more line of the set-up
 abbrev pub with_setup : Named Object → Setup → Named Object
@@ -75,10 +75,10 @@ objects_of setup = fold with_setup [] setup
 -- the world as it stands before the first event: each member opens with the set-up's objects
 unfoldable pub new_world : List Setup → World
 new_world setup = record {
-    objects = objects_of setup;
-    txs = [];
-    members = replicate (count_by is_member setup) (fresh_voter (map (λ (e : List ℕ × Object). e.1) (objects_of setup)))
-  }
+  objects = objects_of setup;
+  txs = [];
+  members = replicate (count_by is_member setup) (fresh_voter (map (λ (e : List ℕ × Object). e.1) (objects_of setup)));
+}
 
 -- the name of an object
 abbrev pub object_name : World → ObjectId → List ℕ
@@ -119,13 +119,13 @@ object_named w o = None
 -- the transfer of a gas coin to a user
 abbrev pub transfer_of : World → List ℕ → ℕ → ObjectId → ℕ → ℕ → List ℕ → Transaction
 transfer_of w sender epoch id version budget user = record {
-    epoch = epoch;
-    sender = record { 0 = address_of_name sender };
-    gas = record { id = id; version = version; digest = held_digest w (record { id = id; version = version }) };
-    budget = budget;
-    inputs = input.Pure (address_of_name user).0 ∷ [];
-    commands = command.Transfer (argument.Gas ∷ []) (argument.Input 0) ∷ []
-  }
+  epoch = epoch;
+  sender = record { 0 = address_of_name sender };
+  gas = record { id = id; version = version; digest = held_digest w (record { id = id; version = version }) };
+  budget = budget;
+  inputs = input.Pure (address_of_name user).0 ∷ [];
+  commands = command.Transfer (argument.Gas ∷ []) (argument.Input 0) ∷ [];
+}
 
 -- what has happened, and what is printed
 pub record Step : Type 0 where
@@ -161,9 +161,9 @@ answer_text w (Err r) = refusal_text w r
 -- a member is asked to vote for a transaction
 abbrev pub asking : World → ℕ → List ℕ → Option Made → Option Voter → Step
 asking w member name (Some made) (Some m) = record {
-    world = record w { members = slice_set w.members member (after_vote m made.tx made.digest) };
-    lines = line.Vote member name (answer_text w (vote_answer m made.tx made.digest)) ∷ []
-  }
+  world = record w { members = slice_set w.members member (after_vote m made.tx made.digest) };
+  lines = line.Vote member name (answer_text w (vote_answer m made.tx made.digest)) ∷ [];
+}
 asking w member name made m = nothing w
 
 -- one event

@@ -11,5 +11,4 @@ ghost use Rattle.vote_spec.specs.Safety.{NeverTwice, NoCollision, casts_from};
 /// consume the same versions.
 pub fn never_twice()
     ensures { (setup : List Setup) (events : List Event) → NoCollision (casts_from (new_world setup) events) → NeverTwice (casts_from (new_world setup) events) }
-{
-}
+{}
