@@ -11,14 +11,23 @@ use std::test::Fail;
 const VOTES: &str = "member 1 honest\ncoin g0 alice 10000\n\
 tx t1 alice 0 g0@1 2000 a:bob transfer(gas,i0)\n\
 tx t2 alice 0 g0@1 2000 a:carol transfer(gas,i0)\n\
-vote 0 t1\nvote 0 t2\nvote 0 t1\n";
+tx t3 alice 0 g0@1 2000 a:bob transfer(gas,i0)\n\
+tx t4 bob 0 g0@1 2000 a:bob transfer(gas,i0)\n\
+tx t5 alice 0 g0@1 20000 a:bob transfer(gas,i0)\n\
+vote 0 t1\nvote 0 t2\nvote 0 t1\nvote 0 t3\nvote 0 t4\nvote 0 t5\n";
 
-const LINES: [&str; 5] = [
+const LINES: [&str; 11] = [
     "tx t1: made\n",
     "tx t2: made\n",
+    "tx t3: made\n",
+    "tx t4: made\n",
+    "tx t5: made\n",
     "vote 0 t1: voted -\n",
     "vote 0 t2: locked g0@1 by t1\n",
     "vote 0 t1: again -\n",
+    "vote 0 t3: again -\n",
+    "vote 0 t4: wrong owner g0@1\n",
+    "vote 0 t5: poor gas had 10000 want 20000\n",
 ];
 
 /// Runs the words `run` over a text, and tests the status and what was written.
@@ -64,7 +73,7 @@ fn front(alloc: Global, count: u64) -> Result<String, Fail> {
 
 #[test]
 fn runs_whatever_the_pieces(rt: HostRuntime) -> Result<(), Fail> {
-    let report = front(rt.alloc(), 5)?;
+    let report = front(rt.alloc(), 11)?;
     for piece in [1, 7, 64] {
         expect_run(&rt, rt.alloc(), VOTES, piece, 0, 0, 0, report.as_str())?;
     }
@@ -74,11 +83,11 @@ fn runs_whatever_the_pieces(rt: HostRuntime) -> Result<(), Fail> {
 
 #[test]
 fn each_failing_call_has_its_status(rt: HostRuntime) -> Result<(), Fail> {
-    // 162 bytes in pieces of 64, and the read that finds the end
-    for read in 1..5 {
+    // 332 bytes in pieces of 64, and the read that finds the end
+    for read in 1..8 {
         expect_run(&rt, rt.alloc(), VOTES, 64, read, 0, 4, "")?;
     }
-    for write in 1..6 {
+    for write in 1..12 {
         let written = front(rt.alloc(), write - 1)?;
         expect_run(&rt, rt.alloc(), VOTES, 64, 0, write, 5, written.as_str())?;
     }

@@ -1,39 +1,18 @@
--- One member of a list is asked.
-use Rattle.std.proofs.Common.{◌≡◌, ℕ, ◌<◌, List, [], ◌∷◌, Option, Some, None, Result, Ok, Err, length, get_or, refl, ap, sym, ◌∙◌, subst}
-use Rattle.std.specs.Prelude.{slice_get, slice_set}
-use Rattle.std.proofs.lemmas.Option.{slice_get-get_or}
-use Rattle.std.proofs.lemmas.List.{set-get_or}
-use Rattle.chain_types.specs.declared.refusals.DecideRefusal.{DecideRefusal}
-use Rattle.chain_types.specs.declared.refusals.DecideRefusal.TheVariants as refusal
-use Rattle.validator_core.specs.Answers.{AnswersAs}
+-- The world after a member was asked, and what is printed.
+use Rattle.std.proofs.Common.{◌≡◌, ℕ, List, [], ◌∷◌, Option, Some, None, Result, Ok, Err, ap}
+use Rattle.report_text.specs.declared.lines.Line.TheVariants as line
 use Rattle.vote_spec.specs.declared.answers.Made.{Made}
-use Rattle.vote_spec.specs.declared.answers.Voted.{Voted}
-use Rattle.vote_spec.specs.Votes.{Voter, after_vote, vote_answer}
-use Rattle.world_core.specs.Asked.{RepliesAs, members_after, reply_of}
+use Rattle.vote_spec.specs.Run.{World, answer_text, asking}
+use Rattle.vote_spec.specs.Votes.{Voter, vote_answer}
+use Rattle.world_core.specs.Asked.{Answer, members_after, reply_of}
+use Rattle.world_core.specs.Steps.{Steps}
 
-pub asks : (members : List Voter) (i : ℕ) (m n : Voter) (made : Made) (found : Option Made) (r : Result Voted DecideRefusal) → Some made ≡ found → i < length members → m ≡ get_or members i m
-    → AnswersAs r m n (vote_answer m made.tx made.digest) (after_vote m made.tx made.digest)
-    → RepliesAs (Some r) members (slice_set members i n) (reply_of found (slice_get members i)) (members_after members i found (slice_get members i))
-asks members i m n made found r is low at said =
-    let there : slice_get members i ≡ Some m = slice_get-get_or members i m low ∙ ap Some (sym at) in
-    subst (λ f. RepliesAs (Some r) members (slice_set members i n) (reply_of f (slice_get members i)) (members_after members i f (slice_get members i))) is
-    (subst (λ x. RepliesAs (Some r) members (slice_set members i n) (reply_of (Some made) x) (members_after members i (Some made) x)) (sym there) (go r said))
-  where
-    Both : Result Voted DecideRefusal → Type 0
-    Both r = (r ≡ vote_answer m made.tx made.digest) × (n ≡ after_vote m made.tx made.digest)
-
-    pair : (r : Result Voted DecideRefusal) → Both r
-        → (Some r ≡ reply_of (Some made) (Some m)) × (slice_set members i n ≡ members_after members i (Some made) (Some m))
-    pair r p = (ap Some p.0, ap (slice_set members i) p.1)
-
-    go : (r : Result Voted DecideRefusal) → AnswersAs r m n (vote_answer m made.tx made.digest) (after_vote m made.tx made.digest)
-        → RepliesAs (Some r) members (slice_set members i n) (reply_of (Some made) (Some m)) (members_after members i (Some made) (Some m))
-    go (Ok v) p = pair (Ok v) p
-    go (Err refusal.OutOfMemory) p = ap (slice_set members i) (p ∙ at) ∙ set-get_or members i m
-    go (Err (refusal.Absent k)) p = pair (Err (refusal.Absent k)) p
-    go (Err (refusal.Consumed k b)) p = pair (Err (refusal.Consumed k b)) p
-    go (Err (refusal.WrongDigest k)) p = pair (Err (refusal.WrongDigest k)) p
-    go (Err (refusal.WrongOwner k)) p = pair (Err (refusal.WrongOwner k)) p
-    go (Err (refusal.WrongKind k)) p = pair (Err (refusal.WrongKind k)) p
-    go (Err (refusal.PoorGas x y)) p = pair (Err (refusal.PoorGas x y)) p
-    go (Err (refusal.Locked k b)) p = pair (Err (refusal.Locked k b)) p
+pub told : (w : World) (members : List Voter) (i : ℕ) (name : List ℕ) (found : Option Made) (m : Option Voter) (answer : Answer) → Some answer ≡ reply_of found m
+    → members ≡ members_after w.members i found m
+    → Steps w (record w { members = members }) (Ok (line.Vote i name (answer_text w answer) ∷ [])) (asking w i name found m)
+told w members i name None None answer is after = absurd (cc)
+told w members i name None (Some m) answer is after = absurd (cc)
+told w members i name (Some made) None answer is after = absurd (cc)
+told w members i name (Some made) (Some m) answer is after =
+    let same : answer ≡ vote_answer m made.tx made.digest = cc in
+    (ap (λ (a : Answer). line.Vote i name (answer_text w a) ∷ []) same, ap (λ (ms : List Voter). let v : World = record w { members = ms } in v) after)

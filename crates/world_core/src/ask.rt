@@ -3,12 +3,24 @@
 ghost use Rattle.std.specs.Prelude.{◌≡◌, ◌==◌, length, option_copied, option_map, slice_get};
 ghost use Rattle.name_map.specs.Named.{named};
 ghost use Rattle.vote_spec.specs.Run.{recipient_of, transfers_gas};
-ghost use Rattle.world_core.specs.Asked.{RepliesAs, members_after, reply_of};
+ghost use Rattle.world_core.specs.Asked.{RepliesAs, members_after, reply_of, settled};
 
 use name_map::NameMap;
 use schedule_text::{ArgWord, CommandWord, InputWord};
 use validator_core::{DecideRefusal, Validator};
 use vote_spec::{Made, Voted};
+use wire_bcs::OutOfMemory;
+
+/// The answer, unless memory was refused.
+fn settled(answer: Result<Voted, DecideRefusal>) -> Result<Result<Voted, DecideRefusal>, OutOfMemory>
+    ensures { result ≡ settled answer }
+{
+    match answer {
+        Err(DecideRefusal::OutOfMemory) => Err(OutOfMemory),
+        Ok(voted) => Ok(Ok(voted)),
+        Err(refusal) => Ok(Err(refusal)),
+    }
+}
 
 /// Asks the member of this number for its vote for the transaction of this name, where both are
 /// there.
@@ -17,18 +29,20 @@ pub(crate) fn ask(
     txs: &NameMap<Made>,
     member: u32,
     name: &[u8],
-) -> Option<Result<Voted, DecideRefusal>>
+) -> Result<Option<Result<Voted, DecideRefusal>>, OutOfMemory>
     ensures { RepliesAs result members.old.items members.new.items (reply_of (named txs.now name.now) (slice_get members.old.items member)) (members_after members.old.items member (named txs.now name.now) (slice_get members.old.items member)) }
 {
     let Some(made) = txs.get(name) else {
-        return None;
+        return Ok(None);
     };
     let place = member as usize;
     if place >= members.len() {
-        return None;
+        return Ok(None);
     }
     let validator = &mut members[place];
-    Some(validator.vote(&made.tx, &made.digest))
+    let answer = validator.vote(&made.tx, &made.digest);
+    let answer = settled(answer)?;
+    Ok(Some(answer))
 }
 
 /// The one user that the inputs name.

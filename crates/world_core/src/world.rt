@@ -302,12 +302,12 @@ impl World {
     fn ask(&mut self, member: u32, name: &[u8]) -> Result<Seq<Line>, OutOfMemory>
         ensures { Steps self.old self.new result (run.asking self.old member name.now (named self.old.txs name.now) (slice_get self.old.members member)) }
     {
-        let reply = ask(&mut self.members, &self.txs, member, name);
-        let Some(answer) = reply else {
+        let Some(answer) = ask(&mut self.members, &self.txs, member, name)? else {
             return Ok(Seq::new(self.alloc));
         };
         let line = answer_line(self, member, name, &answer)?;
-        one_line(self.alloc, line)
+        let lines = one_line(self.alloc, line)?;
+        Ok(lines)
     }
 
     /// Runs one event, and answers the lines that it prints. An event that names what is not there
