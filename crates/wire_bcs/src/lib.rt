@@ -5,12 +5,14 @@
 //! A call says whether it takes memory: those that answer `OutOfMemory` do, the others do not.
 #![tactic(auto)]
 
+mod copies;
 mod fault;
 mod reader;
 mod seq;
 mod wire;
 mod writer;
 
+pub use copies::Duplicate;
 pub use fault::{Unread, WireFault};
 pub use reader::Reader;
 pub use seq::{OutOfMemory, Seq};
