@@ -1,5 +1,5 @@
 -- Checkpoints on the wire (BCS), and their digests (this profile).
-use Rattle.std.specs.Prelude.{ℕ, Bool, List, refl}
+use Rattle.std.specs.Prelude.{refl}
 use Rattle.digest_core.specs.declared.Digest.{Digest}
 use Rattle.digest_core.specs.declared.TheConstants.{TAG_CHECKPOINT}
 use Rattle.digest_core.specs.Tagged.{tagged_digest}

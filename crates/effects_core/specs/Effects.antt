@@ -1,5 +1,5 @@
 -- Effects on the wire (BCS; the variant numbers are this profile's), and their digests (this profile).
-use Rattle.std.specs.Prelude.{ℕ, List, ◌⊎◌, refl}
+use Rattle.std.specs.Prelude.{ℕ, ◌⊎◌, refl}
 use Rattle.std.proofs.Common.{inl, inr}
 use Rattle.digest_core.specs.declared.Digest.{Digest}
 use Rattle.digest_core.specs.declared.TheConstants.{TAG_EFFECTS}
