@@ -1,9 +1,10 @@
 //! The table.
 
 ghost use Rattle.std.specs.Prelude.{◌≡◌, ◌+◌, ◌<◌, ◌≤◌, [], length};
-ghost use Rattle.lock_table.specs.Locks.{locked_by, with_lock, with_locks, other_lock};
+ghost use Rattle.lock_table.specs.Locks.{locked_by, with_locks, other_lock};
+ghost use Rattle.chain_types.specs.Equal.{key_eq};
 ghost use Rattle.lock_table.specs.Answers.{Refuses};
-ghost use Rattle.indexmap.specs.IndexMap.{spare};
+ghost use Rattle.indexmap.specs.IndexMap.{insert_entry, spare};
 
 use chain_types::ObjectKey;
 use digest_core::Digest;
@@ -23,7 +24,7 @@ pub enum LockRefusal {
 /// Locks one key, for which there is room.
 fn insert_one(locks: &mut IndexMap<ObjectKey, Digest>, key: ObjectKey, tx: Digest)
     requires { 0 < spare locks.old }
-    ensures entries { locks.new.entries ≡ with_lock locks.old.entries key tx }
+    ensures entries { locks.new.entries ≡ insert_entry key_eq locks.old.entries key tx }
     ensures room { spare locks.old ≤ spare locks.new + 1 }
 {
     match locks.insert(key, tx) {

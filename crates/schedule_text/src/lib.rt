@@ -4,8 +4,18 @@
 //! The types here are the words of these lines; the layers above run them.
 #![tactic(auto)]
 
+mod bytes;
+mod cause;
+mod lines;
+mod names;
+mod reader;
+mod reading;
+mod statement;
 mod words;
 
+pub use reader::read_schedule;
+
+pub use cause::Cause;
 pub use words::{
     ArgWord, CommandWord, Event, InputWord, ObjWord, RefWord, Schedule, ScheduleRefusal, Setup,
 };

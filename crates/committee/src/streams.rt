@@ -1,0 +1,113 @@
+//! Reading a whole text, and writing a piece whole.
+
+ghost use Rattle.std.specs.Prelude.{◌≡◌, ◌+◌, ◌<◌, ◌≤◌, ◌++◌, ℕ, List, IfOk, OnOk, OnErr, IsErrOf, length, take, ◌⊎◌};
+ghost use Rattle.std.specs.Io.KnownBytes.{Appends, Consumes, IsAtEnd, Keeps};
+ghost use Rattle.outside.specs.Causes.{Rose};
+ghost use Rattle.schedule_text.specs.Schedule.{longest_text};
+ghost use Rattle.committee.specs.Streams.{AppendsFront, ReadsText};
+ghost use Rattle.committee.specs.declared.stop.Stop.TheVariants as stop;
+
+use crate::stop::Stop;
+use outside::{OutFault, Sink, Source};
+use std::alloc::Global;
+use wire_bcs::Seq;
+
+/// The bytes that are read at the most: one more than a schedule has.
+const MOST_BYTES: usize = 16_777_217;
+
+/// The bytes that are asked for at once.
+const PIECE: usize = 65_536;
+
+/// Reads one piece, of at most `room` bytes, behind the text. Answers how many; zero is the end.
+fn read_piece<S: Source>(
+    source: &mut S,
+    buffer: &mut [u8],
+    room: usize,
+    text: &mut Seq<u8>,
+) -> Result<usize, Stop>
+    requires some { 0 < length buffer.old }
+    requires room { 0 < room }
+    ensures count { IfOk result (λ n. n ≤ room) }
+    ensures piece { IfOk result (λ n. (bytes : List ℕ) × (text.new ≡ text.old ++ bytes) × (length bytes ≡ n) × Consumes (S.left source.old) (S.left source.new) bytes) }
+    ensures end { IfOk result (λ n. n ≡ 0 → IsAtEnd (S.left source.new)) }
+    ensures later { S.faults source.old ≤ S.faults source.new }
+    ensures fault { IsErrOf result stop.ReadFault → Rose (S.faults source.old) (S.faults source.new) }
+    ensures only { IsErrOf result stop.WriteFault ⊎ IsErrOf result stop.Refused → ⊥ }
+{
+    let most = buffer.len().min(room);
+    let (piece, _) = buffer.split_at_mut(most);
+    match source.read(piece) {
+        Ok(count) => {
+            let (bytes, _) = piece.split_at(count);
+            text.extend(bytes)?;
+            Ok(count)
+        }
+        Err(_) => Err(Stop::ReadFault),
+    }
+}
+
+/// Reads the source to its end, or to one byte more than a schedule has.
+pub(crate) fn read_text<S: Source>(alloc: Global, source: &mut S) -> Result<Seq<u8>, Stop>
+    ensures ok { IfOk result (λ text. ReadsText longest_text (S.left source.old) (S.left source.new) text) }
+    ensures later { S.faults source.old ≤ S.faults source.new }
+    ensures fault { IsErrOf result stop.ReadFault → Rose (S.faults source.old) (S.faults source.new) }
+    ensures only { IsErrOf result stop.WriteFault ⊎ IsErrOf result stop.Refused → ⊥ }
+{
+    let mut buffer = zeros(alloc)?;
+    let mut text = Seq::new(alloc);
+    let mut room = MOST_BYTES;
+    while room > 0 {
+        let count = read_piece(source, buffer.as_mut_slice(), room, &mut text)?;
+        if count == 0 {
+            break;
+        }
+        room -= count;
+    }
+    Ok(text)
+}
+
+/// A buffer for one piece.
+fn zeros(alloc: Global) -> Result<Vec<u8>, Stop>
+    ensures room { IfOk result (λ buffer. 0 < length buffer.items) }
+    ensures only { IsErrOf result stop.ReadFault ⊎ IsErrOf result stop.WriteFault ⊎ IsErrOf result stop.Refused → ⊥ }
+{
+    match vec![in alloc; 0u8; PIECE] {
+        Ok(buffer) => Ok(buffer),
+        Err(_) => Err(Stop::OutOfMemory),
+    }
+}
+
+/// Writes one piece or a part of it. Answers how many bytes, at least one.
+fn write_piece<K: Sink>(sink: &mut K, bytes: &[u8]) -> Result<usize, Stop>
+    requires { 0 < length bytes.now }
+    ensures count { IfOk result (λ n. (0 < n) × (n ≤ length bytes.now)) }
+    ensures taken { IfOk result (λ n. Appends (K.held sink.old) (K.held sink.new) (take n bytes.now)) }
+    ensures kept { OnErr result (Keeps (K.held sink.old) (K.held sink.new)) }
+    ensures later { K.faults sink.old ≤ K.faults sink.new }
+    ensures fault { IsErrOf result stop.WriteFault → Rose (K.faults sink.old) (K.faults sink.new) }
+    ensures only { IsErrOf result stop.ReadFault ⊎ IsErrOf result stop.Refused → ⊥ }
+{
+    match sink.write(bytes) {
+        Ok(0) => Err(Stop::WriteFault),
+        Ok(count) => Ok(count),
+        Err(OutFault::Failed) => Err(Stop::WriteFault),
+        Err(OutFault::OutOfMemory) => Err(Stop::OutOfMemory),
+    }
+}
+
+/// Writes the bytes whole.
+pub(crate) fn write_all<K: Sink>(sink: &mut K, bytes: &[u8]) -> Result<(), Stop>
+    ensures ok { OnOk result (Appends (K.held sink.old) (K.held sink.new) bytes.now) }
+    ensures some { AppendsFront (K.held sink.old) (K.held sink.new) bytes.now }
+    ensures later { K.faults sink.old ≤ K.faults sink.new }
+    ensures fault { IsErrOf result stop.WriteFault → Rose (K.faults sink.old) (K.faults sink.new) }
+    ensures only { IsErrOf result stop.ReadFault ⊎ IsErrOf result stop.Refused → ⊥ }
+{
+    let mut rest = bytes;
+    while !rest.is_empty() {
+        let count = write_piece(sink, rest)?;
+        let (_, after) = rest.split_at(count);
+        rest = after;
+    }
+    Ok(())
+}

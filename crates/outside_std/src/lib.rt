@@ -1,0 +1,11 @@
+//! The real outside: standard input and standard output, or anything that reads and writes.
+//!
+//! A few lines over std's `Read` and `Write`, with a count of faults that is raised at each error.
+//! This is the trusted edge: what a terminal, a pipe or a file gives or takes is told by no clause.
+#![tactic(auto)]
+
+mod input;
+mod output;
+
+pub use input::InSource;
+pub use output::OutSink;

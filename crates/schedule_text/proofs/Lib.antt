@@ -1,0 +1,4 @@
+pub mod Agree
+pub mod NameLists
+pub mod Splits
+pub mod Values

@@ -1,0 +1,12 @@
+//! One line of a schedule.
+
+use crate::words::{Event, Setup};
+
+/// A line that is not skipped.
+#[derive(Drop)]
+pub(crate) enum Statement {
+    /// A set-up line.
+    Setup(Setup),
+    /// An event line.
+    Event(Event),
+}
