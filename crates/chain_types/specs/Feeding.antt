@@ -1,5 +1,5 @@
 -- A hasher that is fed a text in pieces.
-use Rattle.std.specs.Prelude.{◌≡◌, ℕ, List, ◌++◌}
+use Rattle.std.specs.Prelude.{ℕ, List, ◌++◌}
 use Rattle.std.proofs.Common.{subst, append_assoc}
 use Rattle.digest_core.specs.declared.Hasher.{Hasher}
 use Rattle.digest_core.specs.Tagged.{Hashes}

@@ -10,7 +10,9 @@ use crate::objects::{Address, Kind, ObjectId, ObjectRef};
 use crate::transactions::{Argument, Command, Input, SignedTx, Transaction};
 use digest_core::{Digest, TAG_TRANSACTION, digest_of};
 use std::alloc::Global;
-use wire_bcs::{OutOfMemory, Reader, Seq, Unread, Wire, WireFault, Writer, decode, encode};
+use wire_bcs::{
+    Duplicate, OutOfMemory, Reader, Seq, Unread, Wire, WireFault, Writer, decode, encode,
+};
 
 #[tactic(auto, using(wire_bcs::specs::Wrote::parts), unfolding(crate::specs::Transactions::input))]
 impl Wire for Input {
@@ -72,6 +74,25 @@ impl Wire for Input {
                 })
             }
         }
+    }
+}
+
+impl Duplicate for Input {
+    fn copy(&self) -> Result<Self, OutOfMemory> {
+        Ok(match self {
+            Input::Pure(bytes) => Input::Pure(bytes.copy()?),
+            Input::Owned(reference) => Input::Owned(*reference),
+            Input::Immutable(reference) => Input::Immutable(*reference),
+            Input::Shared {
+                id,
+                initial,
+                mutable,
+            } => Input::Shared {
+                id: *id,
+                initial: *initial,
+                mutable: *mutable,
+            },
+        })
     }
 }
 
@@ -203,6 +224,33 @@ impl Wire for Command {
     }
 }
 
+impl Duplicate for Command {
+    fn copy(&self) -> Result<Self, OutOfMemory> {
+        Ok(match self {
+            Command::Call { native, args } => Command::Call {
+                native: *native,
+                args: args.copy()?,
+            },
+            Command::Transfer { values, to } => Command::Transfer {
+                values: values.copy()?,
+                to: *to,
+            },
+            Command::Split { coin, amounts } => Command::Split {
+                coin: *coin,
+                amounts: amounts.copy()?,
+            },
+            Command::Merge { target, sources } => Command::Merge {
+                target: *target,
+                sources: sources.copy()?,
+            },
+            Command::MakeVec { kind, values } => Command::MakeVec {
+                kind: *kind,
+                values: values.copy()?,
+            },
+        })
+    }
+}
+
 #[tactic(auto, using(wire_bcs::specs::Wrote::parts), unfolding(crate::specs::Transactions::transaction))]
 impl Wire for Transaction {
     ghost codec = { codecs.transaction };
@@ -235,6 +283,19 @@ impl Wire for Transaction {
     }
 }
 
+impl Duplicate for Transaction {
+    fn copy(&self) -> Result<Self, OutOfMemory> {
+        Ok(Transaction {
+            epoch: self.epoch,
+            sender: self.sender,
+            gas: self.gas,
+            budget: self.budget,
+            inputs: self.inputs.copy()?,
+            commands: self.commands.copy()?,
+        })
+    }
+}
+
 #[tactic(auto, using(wire_bcs::specs::Wrote::parts), unfolding(crate::specs::Transactions::signed))]
 impl Wire for SignedTx {
     ghost codec = { codecs.signed };
@@ -249,6 +310,15 @@ impl Wire for SignedTx {
         let tx = Transaction::read_from(alloc, reader)?;
         let seal = Digest::read_from(alloc, reader)?;
         Ok(SignedTx { tx, seal })
+    }
+}
+
+impl Duplicate for SignedTx {
+    fn copy(&self) -> Result<Self, OutOfMemory> {
+        Ok(SignedTx {
+            tx: self.tx.copy()?,
+            seal: self.seal,
+        })
     }
 }
 

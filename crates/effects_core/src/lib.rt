@@ -2,5 +2,10 @@
 #![tactic(auto)]
 
 mod effects;
+mod effects_wire;
 
 pub use effects::{Effects, Status, Written};
+pub use effects_wire::effects_digest;
+
+#[cfg(test)]
+mod tests;

@@ -1,5 +1,5 @@
-use Rattle.std.proofs.Common.{◌≡◌, ℕ, List, ◌++◌, subst, ◌∙◌}
-use Rattle.std.specs.Int.{w64, to_le_bytes}
+use Rattle.std.proofs.Common.{ℕ, List, ◌++◌, subst, ◌∙◌}
+use Rattle.std.specs.Int.{w64}
 use Rattle.digest_core.specs.Tagged.{Hashes}
 use Rattle.wire_bcs.specs.Little.{to_le_bytes-is}
 use Rattle.wire_bcs.specs.Items.{number_spell}

@@ -1,4 +1,4 @@
-use Rattle.std.proofs.Common.{◌≡◌, ◌∷◌, [], ℕ, List, ◌++◌, subst, sym, ◌∙◌}
+use Rattle.std.proofs.Common.{ℕ, List, ◌++◌, subst, sym, ◌∙◌}
 use Rattle.digest_core.specs.Tagged.{Hashes}
 use Rattle.wire_bcs.specs.Uleb.{uleb}
 use Rattle.wire_bcs.specs.UlebLaws.{uleb_in-last}

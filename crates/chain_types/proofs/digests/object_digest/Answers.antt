@@ -1,4 +1,4 @@
-use Rattle.std.proofs.Common.{◌≡◌, ◌∷◌, [], ℕ, List, ap}
+use Rattle.std.proofs.Common.{◌∷◌, [], ℕ, List, ap}
 use Rattle.digest_core.specs.declared.Digest.{Digest}
 use Rattle.digest_core.specs.Tagged.{tagged_digest}
 use Rattle.digest_core.specs.declared.TheConstants.{TAG_OBJECT}
