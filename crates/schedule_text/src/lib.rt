@@ -1,0 +1,11 @@
+//! The text of a schedule: its words, and the reader that turns bytes into them.
+//!
+//! A schedule is a list of set-up lines and then a list of events, one a line.
+//! The types here are the words of these lines; the layers above run them.
+#![tactic(auto)]
+
+mod words;
+
+pub use words::{
+    ArgWord, CommandWord, Event, InputWord, ObjWord, RefWord, Schedule, ScheduleRefusal, Setup,
+};
