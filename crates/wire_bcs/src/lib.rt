@@ -5,6 +5,8 @@
 //! A call says whether it takes memory: those that answer `OutOfMemory` do, the others do not.
 #![tactic(auto)]
 
+mod fault;
 mod seq;
 
+pub use fault::WireFault;
 pub use seq::{OutOfMemory, Seq};
