@@ -1,6 +1,6 @@
 -- What a transaction names and consumes, and when objects fit it. Source: Sui documentation (object
 -- ownership, versions); that every object counts for the version, immutable ones too, is this profile's choice.
-use Rattle.std.specs.Prelude.{ℕ, suc, ◌+◌, ◌-◌, ◌*◌, max, Bool, true, false, not, ◌&&◌, ◌||◌, ◌==◌, nat_lt, nat_le, List, [], ◌∷◌, map, fold, filter, filter_map, length, Option, Some, None}
+use Rattle.std.specs.Prelude.{ℕ, suc, ◌+◌, ◌-◌, ◌*◌, max, Bool, true, false, not, ◌&&◌, ◌||◌, ◌==◌, nat_lt, nat_le, List, [], ◌∷◌, map, fold, filter, filter_map, sum_by, if◌then◌else◌, length, Option, Some, None}
 use Rattle.std.specs.List.{list_any}
 use Rattle.digest_core.specs.declared.Digest.{Digest}
 use Rattle.chain_types.specs.declared.objects.ObjectId.{ObjectId}
@@ -156,3 +156,18 @@ pays_gas t (gas ∷ os) = is_gas_coin gas.content && nat_le t.budget (balance_of
 
 unfoldable pub fits : Transaction → List Object → Bool
 fits t inputs = fit_inputs t (objects_of t) inputs && pays_gas t inputs && nat_lt (version_of inputs) version_limit
+
+-- ---- money
+
+-- what a content holds of a currency, as a coin or in a vault
+abbrev pub money_of : ℕ → Content → ℕ
+money_of wanted (content.Coin currency balance) = if currency == wanted then balance else 0
+money_of wanted (content.Cap currency supply) = 0
+money_of wanted (content.Counter value) = 0
+money_of wanted (content.Vault currency balance) = if currency == wanted then balance else 0
+money_of wanted (content.VaultKey vault) = 0
+money_of wanted (content.Limit value) = 0
+
+-- the sum of a currency over these objects
+unfoldable pub currency_sum : List Object → ℕ → ℕ
+currency_sum objects currency = sum_by (λ (o : Object). money_of currency o.content) objects

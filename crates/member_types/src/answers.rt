@@ -1,6 +1,6 @@
 //! What the calls of a member answer.
 
-use chain_messages::Sealed;
+use chain_messages::{Certificate, Sealed};
 use chain_types::{ObjectId, ObjectKey, Producer};
 use checkpoint_core::Checkpoint;
 use digest_core::Digest;
@@ -96,4 +96,11 @@ pub struct Ran {
     pub executed: Seq<Effects>,
     pub left: Seq<Left>,
     pub built: Seq<Checkpoint>,
+}
+
+/// A certificate that a member holds, with its transaction's digest.
+#[derive(Debug, Drop)]
+pub struct Held {
+    pub digest: Digest,
+    pub cert: Certificate,
 }

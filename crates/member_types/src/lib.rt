@@ -7,7 +7,7 @@
 mod answers;
 mod refusals;
 
-pub use answers::{Assigned, Ignore, Left, Ran, Seen, SeenWhat, Voted};
+pub use answers::{Assigned, Held, Ignore, Left, Ran, Seen, SeenWhat, Voted};
 pub use refusals::{
     AckRefusal, CloseRefusal, EndRefusal, HoldRefusal, RunRefusal, SeeRefusal, StartRefusal,
     TurnRefusal, VoteRefusal,
