@@ -18,6 +18,15 @@ use Rattle.chain_types.specs.declared.transactions.Command.TheVariants as comman
 use Rattle.chain_types.specs.declared.transactions.Transaction.{Transaction}
 use Rattle.chain_messages.specs.declared.messages.Statement.{Statement}
 use Rattle.chain_messages.specs.declared.messages.Statement.TheVariants as statement
+use Rattle.chain_types.specs.declared.transactions.SignedTx.{SignedTx}
+use Rattle.chain_messages.specs.declared.messages.MemberSeal.{MemberSeal}
+use Rattle.chain_messages.specs.declared.messages.Sealed.{Sealed}
+use Rattle.chain_messages.specs.declared.messages.Certificate.{Certificate}
+use Rattle.chain_messages.specs.declared.messages.Entry.{Entry}
+use Rattle.chain_messages.specs.declared.messages.Entry.TheVariants as entry
+use Rattle.journal_core.specs.declared.records.RanItem.{RanItem}
+use Rattle.journal_core.specs.declared.records.Record.{Record}
+use Rattle.journal_core.specs.declared.records.Record.TheVariants as record_as
 use Rattle.effects_core.specs.declared.effects.Status.{Status}
 use Rattle.effects_core.specs.declared.effects.Status.TheVariants as status
 use Rattle.effects_core.specs.declared.effects.Written.{Written}
@@ -117,3 +126,31 @@ effects_text e = e.tx.0 ++ (status_text e.status ++ (u64 e.version ++ (u64 e.gas
 
 unfoldable pub checkpoint_text : Checkpoint → List ℕ
 checkpoint_text c = u64 c.epoch ++ (u64 c.number ++ (c.parent.0 ++ (listed (λ (i : Item). i.tx.0 ++ i.effects.0) c.items ++ flag c.last)))
+
+-- ---- what is sent and kept
+
+abbrev pub seal_text : MemberSeal → List ℕ
+seal_text s = u32 s.member ++ s.seal.0
+
+unfoldable pub signed_text : SignedTx → List ℕ
+signed_text s = transaction_text s.tx ++ s.seal.0
+
+unfoldable pub certificate_text : Certificate → List ℕ
+certificate_text c = transaction_text c.tx ++ (listed (optional (λ (d : Digest). d.0)) c.origins ++ listed seal_text c.seals)
+
+abbrev pub sealed_text : Sealed → List ℕ
+sealed_text s = u32 s.member ++ (statement_text s.statement ++ s.seal.0)
+
+unfoldable pub entry_text : Entry → List ℕ
+entry_text (entry.Cert c) = 0 ∷ certificate_text c
+entry_text (entry.End s) = 1 ∷ sealed_text s
+entry_text entry.Commit = 2 ∷ []
+
+unfoldable pub record_text : Record → List ℕ
+record_text (record_as.Vote tx origins) = 0 ∷ (transaction_text tx ++ listed (optional (λ (d : Digest). d.0)) origins)
+record_text (record_as.Hold c) = 1 ∷ certificate_text c
+record_text (record_as.See bytes) = 2 ∷ (size (length bytes) ++ bytes)
+record_text record_as.Close = 3 ∷ []
+record_text (record_as.Ran txs) = 4 ∷ listed (λ (d : Digest). d.0) txs
+record_text record_as.Turn = 5 ∷ []
+record_text (record_as.Ran2 items) = 6 ∷ listed (λ (i : RanItem). i.tx.0 ++ i.effects.0) items
