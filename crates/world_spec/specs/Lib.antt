@@ -5,3 +5,6 @@ pub mod Making
 pub mod Step
 pub mod Report
 pub mod Run
+pub mod Assumptions
+pub mod Openings
+pub mod Keyed

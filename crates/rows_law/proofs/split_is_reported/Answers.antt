@@ -1,0 +1,37 @@
+use Rattle.std.proofs.Common.{refl}
+use Rattle.sha2.specs.Sha256.{sha256, digest_bytes, hash_after, compress, rounds as sha_rounds, schedule, first_words}
+use Rattle.std.specs.Fmt.{digits}
+use Rattle.digest_core.specs.Tagged.{tagged_digest, created_id_of, genesis_id_of, address_of_name}
+use Rattle.chain_spec.specs.Certificates.{cert_refusal}
+use Rattle.chain_spec.specs.Committee.{weight_of, total_of}
+use Rattle.chain_spec.specs.Digests.{tx_digest, object_digest, effects_digest, checkpoint_digest}
+use Rattle.chain_spec.specs.Keys.{consumed_keys, lamport, fits, currency_sum}
+use Rattle.chain_spec.specs.Shape.{shape_fault}
+use Rattle.chain_spec.specs.Spelling.{transaction_text, object_text, statement_text, effects_text, checkpoint_text, signed_text, certificate_text, entry_text, record_text}
+use Rattle.block_spec.specs.Commands.{command_step}
+use Rattle.block_spec.specs.Execution.{outcome, execution}
+use Rattle.block_spec.specs.Natives.{mode_of, native_gives}
+use Rattle.member_spec.specs.Admission.{current, admit, entered, passed_mark, pending_on, deferred_on, assigned_of}
+use Rattle.member_spec.specs.Calls.{vote_answer, hold_answer, see_answer, run_answer, close_answer, end_answer, turn_answer, ack_answer, due}
+use Rattle.member_spec.specs.Checkpoints.{checkpoint_behind}
+use Rattle.member_spec.specs.Member.{built, fork_of, after, state}
+use Rattle.member_spec.specs.Replay.{is_allowed, replayed}
+use Rattle.member_spec.specs.Rounds.{wants_of, present, ready, round_of, rounds, left}
+use Rattle.member_spec.specs.Sequence.{what_of, with_entry, saw, seen, seen_what}
+use Rattle.member_spec.specs.Sequential.{map_of, fold_one, fold_all}
+use Rattle.member_spec.specs.Versions.{versions, live, live_list}
+use Rattle.member_spec.specs.Votes.{vote_refusal, vote_origins}
+use Rattle.world_spec.specs.Assumptions.{delivered, delivered_ends, asked, all_delivered, all_formed, all_transactions}
+use Rattle.world_spec.specs.Keyed.{member_seal, sender_seal}
+use Rattle.world_spec.specs.Making.{made_by_line}
+use Rattle.world_spec.specs.Openings.{opening_at}
+use Rattle.world_spec.specs.Report.{acks_collected, lines_of}
+use Rattle.world_spec.specs.Run.{report, world_after, journal, sums_of, summary, report_of}
+use Rattle.world_spec.specs.Setting.{setting_of}
+use Rattle.world_spec.specs.Step.{votes_collected, happens}
+use Rattle.world_spec.specs.World.{new_world, stated, reached, called_in}
+use Rattle.rows_law.proofs.split_is_reported.Goals as goal
+
+pub returns : goal.returns
+unfolding digits sha256 digest_bytes hash_after compress sha_rounds schedule first_words tagged_digest created_id_of genesis_id_of address_of_name cert_refusal weight_of total_of tx_digest object_digest effects_digest checkpoint_digest consumed_keys lamport fits currency_sum shape_fault transaction_text object_text statement_text effects_text checkpoint_text signed_text certificate_text entry_text record_text command_step outcome execution mode_of native_gives current admit entered passed_mark pending_on deferred_on assigned_of vote_answer hold_answer see_answer run_answer close_answer end_answer turn_answer ack_answer due checkpoint_behind built fork_of after state is_allowed replayed wants_of present ready round_of rounds left what_of with_entry saw seen seen_what map_of fold_one fold_all versions live live_list vote_refusal vote_origins delivered delivered_ends asked all_delivered all_formed all_transactions member_seal sender_seal made_by_line opening_at acks_collected lines_of report world_after journal sums_of summary report_of setting_of votes_collected happens new_world stated reached called_in
+returns c = refl

@@ -1,0 +1,4 @@
+pub mod Objects
+pub mod Blocks
+pub mod Reading
+pub mod Runs

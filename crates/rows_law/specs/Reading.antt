@@ -1,0 +1,19 @@
+-- Reading of a few known values, by their spellings.
+use Rattle.std.specs.Prelude.{ℕ, List, [], ◌∷◌, ◌++◌, find, bytes_eq, Option, Some, None, Result, Ok, Err}
+use Rattle.wire_bcs.specs.declared.fault.WireFault.{WireFault}
+use Rattle.chain_types.specs.declared.transactions.SignedTx.{SignedTx}
+use Rattle.chain_messages.specs.declared.messages.Certificate.{Certificate}
+use Rattle.chain_messages.specs.declared.messages.Entry.{Entry}
+use Rattle.chain_spec.specs.Spelling.{signed_text, certificate_text, entry_text}
+use Rattle.world_spec.specs.Setting.{Trust}
+use Rattle.world_spec.specs.Keyed.{keyed}
+
+abbrev pub read_or : {A : Type 0} → Option A → Result A WireFault
+read_or None = Err (record { at = 0; why = 1 })
+read_or (Some x) = Ok x
+
+abbrev pub read_among : {A : Type 0} → (A → List ℕ) → List A → List ℕ → Result A WireFault
+read_among text known bytes = read_or (find (λ x. bytes_eq (text x) bytes) known)
+
+abbrev pub reading : List SignedTx → List Certificate → List Entry → Trust
+reading signed certs entries = keyed (read_among signed_text signed) (read_among certificate_text certs) (read_among entry_text entries)
