@@ -166,7 +166,7 @@ abbrev pub is_dropped : List Object → List Admitted → Certificate → Bool
 is_dropped opening earlier c = nat_le version_limit (version_at_admission opening earlier c) || list_any (lacks_shared opening) (joined_inputs c)
 
 abbrev pub not_of : Held → Held → Bool
-not_of h other = not (digest_eq other.digest h.digest)
+not_of h other = not (digest_eq h.digest other.digest)
 
 abbrev pub taken_as : Bool → List Object → Admission → Held → Admission
 taken_as true opening a h = record a { dropped = a.dropped ++ h.digest ∷ []; pending = filter (not_of h) a.pending }

@@ -85,8 +85,8 @@ use Rattle.report_text.specs.declared.lines.ContentText.TheVariants as content_t
 use Rattle.chain_spec.specs.Spelling.{signed_text, certificate_text, entry_text}
 use Rattle.chain_spec.specs.Tests.{digest_eq}
 use Rattle.chain_spec.specs.Committee.{total_of}
-use Rattle.member_spec.specs.Member.{Member, live_objects, turned}
-use Rattle.member_spec.specs.Calls.{Call, votes, holds, sees, runs, closes, ends, turns, acks, Voted, halted, vote_answer, hold_answer, see_answer, run_answer, close_answer, end_answer, turn_answer, ack_answer}
+use Rattle.member_spec.specs.Member.{Member, Fork, fork_of, live_objects}
+use Rattle.member_spec.specs.Calls.{Call, votes, holds, sees, runs, closes, ends, turns, acks, Voted, vote_answer, hold_answer, see_answer, run_answer, close_answer, end_answer, turn_answer, ack_answer}
 use Rattle.world_spec.specs.Setting.{Name, Setting}
 use Rattle.world_spec.specs.World.{Seat, Made, World, Reached, finds_down, stops, answers, reached, called_in, called_if, is_honest, member_at, next_call, entries_at, list_or_none}
 use Rattle.world_spec.specs.Names.{made_named, cert_named, tx_name, object_name, key_name, address_name, shown_order}
@@ -142,12 +142,13 @@ vote_reached s w bytes (answers m x) = vote_answered s w (vote_answer s.rules m 
 abbrev pub vote_said : Setting → World → ℕ → List ℕ → VoteText
 vote_said s w m bytes = vote_reached s w bytes (reached s w m (votes bytes))
 
+-- a schedule names only what an earlier line made; another name finds nobody
 abbrev pub vote_lines : Setting → World → ℕ → Name → Option Made → List Line
-vote_lines s w m tx None = []
+vote_lines s w m tx None = line.Vote m tx vote_text.Down ∷ []
 vote_lines s w m tx (Some t) = line.Vote m tx (vote_said s w m (signed_text t.signed)) ∷ []
 
 abbrev pub fvote_lines : World → ℕ → Name → List (Option Name) → Option Made → List Line
-fvote_lines w m tx words None = []
+fvote_lines w m tx words None = line.Fvote m tx [] ∷ []
 fvote_lines w m tx words (Some t) = line.Fvote m tx (origin_names w (fvote_origins w t words)) ∷ []
 
 -- ---- cert and final
@@ -159,7 +160,7 @@ cert_collected ms (differ a b) = cert_text.Differ a b
 cert_collected ms whole = cert_text.Formed ms
 
 abbrev pub cert_lines : Setting → World → Name → List ℕ → Option Made → List Line
-cert_lines s w tx ms None = []
+cert_lines s w tx ms None = line.Cert tx (cert_text.NoVote 0) ∷ []
 cert_lines s w tx ms (Some t) = line.Cert tx (cert_collected ms (votes_collected s w t.digest ms)) ∷ []
 
 abbrev pub final_collected : List ℕ → Collected → FinalText
@@ -173,7 +174,7 @@ unfoldable pub acks_collected : Setting → World → Made → List ℕ → Coll
 acks_collected s w t ms = collected digest_eq s.rules.stakes (λ m. last_said (ack_in t.signed.tx.epoch t.digest) m w.said) ms
 
 abbrev pub final_lines : Setting → World → Name → List ℕ → Option Made → List Line
-final_lines s w tx ms None = []
+final_lines s w tx ms None = line.Final tx (final_text.NoAck 0) ∷ []
 final_lines s w tx ms (Some t) = line.Final tx (final_collected ms (acks_collected s w t ms)) ∷ []
 
 -- ---- send
@@ -296,19 +297,12 @@ none_taken m [] = line.See m see_text.Nothing ∷ []
 none_taken m (l ∷ ls) = l ∷ ls
 
 -- a halted member says so, also with no entry to take
-abbrev pub see_halted : Setting → World → ℕ → ℕ → Option SeeRefusal → List Line
-see_halted s w m n (Some (no_see.Halted first second)) = line.See m (see_text.Halted (tx_name w first) (tx_name w second)) ∷ []
-see_halted s w m n (Some no_see.Down) = []
-see_halted s w m n (Some no_see.Full) = []
-see_halted s w m n (Some no_see.Over) = []
-see_halted s w m n (Some (no_see.Gap had want)) = []
-see_halted s w m n (Some no_see.KeepFault) = []
-see_halted s w m n (Some (no_see.Fork key first second)) = []
-see_halted s w m n (Some no_see.OutOfMemory) = []
+abbrev pub see_halted : Setting → World → ℕ → ℕ → Option Fork → List Line
+see_halted s w m n (Some fork) = line.See m (see_text.Halted (tx_name w fork.first) (tx_name w fork.second)) ∷ []
 see_halted s w m n None = none_taken m (entries_lines s n w m)
 
 abbrev pub see_up : Setting → World → ℕ → ℕ → Bool → Option Member → List Line
-see_up s w m n true (Some member) = see_halted s w m (min n (entries_left w (Some member))) (halted no_see.Halted member)
+see_up s w m n true (Some member) = see_halted s w m (min n (entries_left w (Some member))) (fork_of member)
 see_up s w m n true None = line.See m see_text.Down ∷ []
 see_up s w m n false member = line.See m see_text.Down ∷ []
 
@@ -404,7 +398,7 @@ abbrev pub ack_said : Setting → World → ℕ → Digest → AckText
 ack_said s w m tx = if is_honest w m then ack_reached s w tx (reached s w m (acks tx)) else ack_text.Said
 
 abbrev pub ack_lines : Setting → World → ℕ → Name → Option Made → List Line
-ack_lines s w m tx None = []
+ack_lines s w m tx None = line.Ack m tx ack_text.Down ∷ []
 ack_lines s w m tx (Some t) = line.Ack m tx (ack_said s w m t.digest) ∷ []
 
 -- ---- show
