@@ -1,0 +1,5 @@
+pub mod Equal
+pub mod Objects
+pub mod Transactions
+pub mod Digests
+pub mod Feeding

@@ -4,12 +4,20 @@
 //! definitions and of rules above.
 #![tactic(auto)]
 
+mod digests;
+mod keys;
 mod objects;
+mod objects_wire;
 mod refusals;
 mod transactions;
+mod transactions_wire;
 
+pub use digests::object_digest;
+pub use keys::{lamport, object_count, owned_keys};
 pub use objects::{
     Address, Content, Kind, Object, ObjectId, ObjectKey, ObjectRef, Owner, Producer,
 };
 pub use refusals::{CertRefusal, DecideRefusal};
 pub use transactions::{Argument, Command, Input, SignedTx, Transaction};
+pub use transactions_wire::{decode_signed, encode_signed, encode_tx, tx_digest};
+pub use wire_bcs::Unread;

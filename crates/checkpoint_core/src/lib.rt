@@ -2,5 +2,7 @@
 #![tactic(auto)]
 
 mod checkpoints;
+mod checkpoints_wire;
 
 pub use checkpoints::{Checkpoint, Item};
+pub use checkpoints_wire::checkpoint_digest;

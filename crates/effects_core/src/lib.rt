@@ -2,5 +2,7 @@
 #![tactic(auto)]
 
 mod effects;
+mod effects_wire;
 
 pub use effects::{Effects, Status, Written};
+pub use effects_wire::effects_digest;

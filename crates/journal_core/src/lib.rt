@@ -2,5 +2,7 @@
 #![tactic(auto)]
 
 mod records;
+mod records_wire;
 
 pub use records::{RanItem, Record};
+pub use records_wire::{decode_record, encode_record};

@@ -1,0 +1,12 @@
+pub mod Place
+pub mod Codec
+pub mod Little
+pub mod Uleb
+pub mod UlebLaws
+pub mod Items
+pub mod Shapes
+pub mod Tags
+pub mod Whole
+pub mod Wrote
+pub mod Gives
+pub mod Digests

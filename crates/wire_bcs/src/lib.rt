@@ -5,8 +5,16 @@
 //! A call says whether it takes memory: those that answer `OutOfMemory` do, the others do not.
 #![tactic(auto)]
 
+mod copies;
 mod fault;
+mod reader;
 mod seq;
+mod wire;
+mod writer;
 
-pub use fault::WireFault;
+pub use copies::Duplicate;
+pub use fault::{Unread, WireFault};
+pub use reader::Reader;
 pub use seq::{OutOfMemory, Seq};
+pub use wire::{Wire, decode, encode, one_spelling};
+pub use writer::Writer;

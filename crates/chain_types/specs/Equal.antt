@@ -1,0 +1,17 @@
+-- Tests of equality, as they compute on the names of the chain.
+use Rattle.std.specs.Prelude.{◌==◌, ◌&&◌, Bool, bytes_eq}
+use Rattle.digest_core.specs.declared.Digest.{Digest}
+use Rattle.chain_types.specs.declared.objects.ObjectId.{ObjectId}
+use Rattle.chain_types.specs.declared.objects.ObjectKey.{ObjectKey}
+
+-- two digests are one
+abbrev pub digest_eq : Digest → Digest → Bool
+digest_eq a b = bytes_eq a.0 b.0
+
+-- two objects are one
+abbrev pub id_eq : ObjectId → ObjectId → Bool
+id_eq a b = digest_eq a.0 b.0
+
+-- two versions are one version of one object
+abbrev pub key_eq : ObjectKey → ObjectKey → Bool
+key_eq a b = id_eq a.id b.id && (a.version == b.version)

@@ -1,0 +1,130 @@
+//! Effects on the wire, and their digests.
+
+ghost use Rattle.std.specs.Prelude.{◌≡◌, IfOk};
+ghost use Rattle.effects_core.specs.Effects as codecs;
+
+use crate::effects::{Effects, Status, Written};
+use chain_types::{ObjectId, Owner};
+use digest_core::{digest_of, Digest, TAG_EFFECTS};
+use std::alloc::Global;
+use wire_bcs::{encode, Duplicate, OutOfMemory, Reader, Seq, Unread, Wire, Writer};
+
+#[tactic(auto, using(wire_bcs::specs::Wrote::parts), unfolding(crate::specs::Effects::status))]
+impl Wire for Status {
+    ghost codec = { codecs.status };
+
+    fn write_into(&self, writer: &mut Writer) -> Result<(), OutOfMemory> {
+        match self {
+            Status::Done => {
+                writer.put_tag(0)?;
+                Ok(())
+            }
+            Status::Failed { command, cause } => {
+                writer.put_tag(1)?;
+                writer.put_u16(*command)?;
+                writer.put_u8(*cause)?;
+                Ok(())
+            }
+            Status::Aborted { command, code } => {
+                writer.put_tag(2)?;
+                writer.put_u16(*command)?;
+                writer.put_u8(*code)?;
+                Ok(())
+            }
+        }
+    }
+
+    fn read_from(_alloc: Global, reader: &mut Reader) -> Result<Self, Unread> {
+        match reader.tag(3)? {
+            0 => Ok(Status::Done),
+            1 => {
+                let command = reader.u16()?;
+                let cause = reader.u8()?;
+                Ok(Status::Failed { command, cause })
+            }
+            _ => {
+                let command = reader.u16()?;
+                let code = reader.u8()?;
+                Ok(Status::Aborted { command, code })
+            }
+        }
+    }
+}
+
+#[tactic(auto, using(wire_bcs::specs::Wrote::parts), unfolding(crate::specs::Effects::written))]
+impl Wire for Written {
+    ghost codec = { codecs.written };
+
+    fn write_into(&self, writer: &mut Writer) -> Result<(), OutOfMemory> {
+        self.id.write_into(writer)?;
+        self.owner.write_into(writer)?;
+        self.digest.write_into(writer)?;
+        Ok(())
+    }
+
+    fn read_from(alloc: Global, reader: &mut Reader) -> Result<Self, Unread> {
+        let id = ObjectId::read_from(alloc, reader)?;
+        let owner = Owner::read_from(alloc, reader)?;
+        let digest = Digest::read_from(alloc, reader)?;
+        Ok(Written { id, owner, digest })
+    }
+}
+
+#[tactic(auto, using(wire_bcs::specs::Wrote::parts), unfolding(crate::specs::Effects::effects))]
+impl Wire for Effects {
+    ghost codec = { codecs.effects };
+
+    fn write_into(&self, writer: &mut Writer) -> Result<(), OutOfMemory> {
+        self.tx.write_into(writer)?;
+        self.status.write_into(writer)?;
+        writer.put_u64(self.version)?;
+        writer.put_u64(self.gas)?;
+        writer.put_u32(self.created)?;
+        self.written.write_into(writer)?;
+        self.deleted.write_into(writer)?;
+        Ok(())
+    }
+
+    fn read_from(alloc: Global, reader: &mut Reader) -> Result<Self, Unread> {
+        let tx = Digest::read_from(alloc, reader)?;
+        let status = Status::read_from(alloc, reader)?;
+        let version = reader.u64()?;
+        let gas = reader.u64()?;
+        let created = reader.u32()?;
+        let written = Seq::read_from(alloc, reader)?;
+        let deleted = Seq::read_from(alloc, reader)?;
+        Ok(Effects {
+            tx,
+            status,
+            version,
+            gas,
+            created,
+            written,
+            deleted,
+        })
+    }
+}
+
+impl Duplicate for Effects {
+    fn copy(&self) -> Result<Self, OutOfMemory> {
+        Ok(Effects {
+            tx: self.tx,
+            status: self.status,
+            version: self.version,
+            gas: self.gas,
+            created: self.created,
+            written: self.written.copy()?,
+            deleted: self.deleted.copy()?,
+        })
+    }
+}
+
+/// The digest of a transaction's effects. Their lists are at most 2147483647 long.
+#[tactic(auto, unfolding(crate::specs::Effects::digest_of_effects))]
+pub fn effects_digest(alloc: Global, effects: &Effects) -> Result<Digest, OutOfMemory>
+    requires { codecs.effects.short effects.now }
+    ensures { IfOk result (λ digest. digest ≡ codecs.digest_of_effects effects.now) }
+{
+    let bytes = encode(alloc, effects)?;
+    Ok(digest_of(TAG_EFFECTS, bytes.as_slice()))
+}

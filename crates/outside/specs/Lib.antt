@@ -1,0 +1,4 @@
+pub mod Causes
+pub mod Turns
+pub mod Lists
+pub mod Fakes

@@ -1,0 +1,19 @@
+//! The outside of the program: where bytes come from, where they go, and where records are kept.
+//!
+//! Three traits, each with a count of faults that never falls: a call answers `Failed` only where
+//! that count rose in the call. What a value has left, holds or keeps is told by the
+//! implementations in memory ([`MemSource`], [`MemSink`], [`MemKeeper`]) and may stay untold by
+//! others; a clause claims nothing of what is untold.
+#![tactic(auto)]
+
+mod faults;
+mod keeper;
+mod sink;
+mod source;
+mod turns;
+
+pub use faults::{Failed, OutFault};
+pub use keeper::{Keeper, MemKeeper};
+pub use sink::{MemSink, Sink};
+pub use source::{FreeSource, MemSource, Source};
+pub use turns::Turns;

@@ -1,0 +1,25 @@
+//! Which calls of an object in memory are to fail.
+
+ghost use Rattle.std.specs.Prelude.{◌≡◌};
+ghost use Rattle.outside.specs.Turns.{after_call, fails_next};
+
+use wire_bcs::Seq;
+
+/// How many calls were made, and the numbers, from 1, of those that are to fail. The count stands
+/// still at the end of its type.
+#[derive(Debug, Drop)]
+pub struct Turns {
+    pub calls: u64,
+    pub failing: Seq<u64>,
+}
+
+impl Turns {
+    /// Counts a call, and answers whether it is to fail. Takes no memory.
+    pub fn next_fails(&mut self) -> bool
+        ensures fails { result ≡ fails_next self.old }
+        ensures after { self.new ≡ after_call self.old }
+    {
+        self.calls = self.calls.saturating_add(1);
+        self.failing.as_slice().contains(&self.calls)
+    }
+}

@@ -1,0 +1,6 @@
+//! Signers: members of the committee, and users.
+#![tactic(auto)]
+
+mod signer;
+
+pub use signer::Signer;

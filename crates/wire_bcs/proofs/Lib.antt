@@ -1,0 +1,5 @@
+pub mod Numbers
+pub mod Ulebs
+pub mod Texts
+pub mod Loops
+pub mod Decoding

@@ -1,0 +1,40 @@
+-- What a reader's call says of the item or the value that it reads.
+use Rattle.std.specs.Prelude.{◌≡◌, ℕ, ◌≤◌, ◌==◌, true, false, List, length, Result, Ok, Err}
+use Rattle.wire_bcs.specs.declared.fault.WireFault.{WireFault}
+use Rattle.wire_bcs.specs.declared.fault.Unread.{Unread}
+use Rattle.wire_bcs.specs.declared.fault.Unread.TheVariants as unread
+use Rattle.wire_bcs.specs.Place.{Place, Stop, Read, left}
+
+-- An item was read and the reader stands behind it; or there is a fault at the item's first byte, and the
+-- reader stands where it stood.
+abbrev pub Item : {X A : Type 0} → (X → A) → Place → Place → Result X WireFault → Read A → Type 0
+Item view old new (Ok x) read = read ≡ Ok (view x, new)
+Item view old new (Err f) read = (read ≡ Err (record { place = old; why = f.why })) × (f.at ≡ old.at) × (new ≡ old)
+
+-- The first part of an item of two parts: what was read, or only the row of the fault.
+abbrev pub Within : {X A : Type 0} → (X → A) → Place → Result X WireFault → Read A → Type 0
+Within view new (Ok x) read = read ≡ Ok (view x, new)
+Within view new (Err f) read = (p : Place) × (read ≡ Err (record { place = p; why = f.why }))
+
+-- A value was read and the reader stands behind it; or the reader stands at the first fault. Where memory
+-- was refused nothing is said here.
+abbrev pub Gives : {A : Type 0} → Place → Result A Unread → Read A → Type 0
+Gives new (Ok x) read = read ≡ Ok (x, new)
+Gives new (Err (unread.Wire f)) read = (read ≡ Err (record { place = new; why = f.why })) × (f.at ≡ new.at)
+Gives new (Err unread.OutOfMemory) read = Unit {0}
+
+-- in the same input, and not before
+pub record Ahead (old new : Place) : Type 0 where
+  pub input : new.input ≡ old.input
+  pub at : old.at ≤ new.at
+
+-- nothing is left, or row 7 at the first byte that is left
+abbrev pub Ended : {X : Type 0} → Place → Result X WireFault → Type 0
+Ended p (Ok x) = (length (left p) == 0) ≡ true
+Ended p (Err f) = ((length (left p) == 0) ≡ false) × (f.at ≡ p.at) × (f.why ≡ 7)
+
+-- all the bytes spell the value; or this is their first fault, and its place
+abbrev pub Decodes : {A : Type 0} → List ℕ → Result A Unread → Result A Stop → Type 0
+Decodes bytes (Ok x) read = read ≡ Ok x
+Decodes bytes (Err (unread.Wire f)) read = read ≡ Err (record { place = record { input = bytes; at = f.at }; why = f.why })
+Decodes bytes (Err unread.OutOfMemory) read = Unit {0}

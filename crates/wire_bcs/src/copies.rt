@@ -1,0 +1,29 @@
+//! Copies of values that own lists.
+
+ghost use Rattle.std.specs.Prelude.{◌≡◌, IfOk};
+
+use crate::seq::{OutOfMemory, Seq};
+
+/// A type whose values are copied where memory allows: a list takes it from its own allocator.
+pub trait Duplicate: Drop {
+    /// An equal value.
+    fn copy(&self) -> Result<Self, OutOfMemory>
+        ensures { IfOk result (λ copy. copy ≡ self.now) };
+}
+
+impl<T: Copy + Drop> Duplicate for T {
+    fn copy(&self) -> Result<Self, OutOfMemory> {
+        Ok(*self)
+    }
+}
+
+impl<T: Duplicate> Duplicate for Seq<T> {
+    fn copy(&self) -> Result<Self, OutOfMemory> {
+        let mut copies = Seq::new(self.allocator());
+        for item in self.as_slice() {
+            let copy = item.copy()?;
+            copies.push(copy)?;
+        }
+        Ok(copies)
+    }
+}

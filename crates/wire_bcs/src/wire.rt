@@ -1,0 +1,137 @@
+//! Values on the wire.
+
+ghost use Rattle.std.specs.Prelude.{◌≡◌, ◌<◌, ◌++◌, List, ℕ, IfOk, Ok, length};
+ghost use Rattle.wire_bcs.specs.Codec.{Codec};
+ghost use Rattle.wire_bcs.specs.Place.{start};
+ghost use Rattle.wire_bcs.specs.Digests.{digest};
+ghost use Rattle.wire_bcs.specs.Shapes.{seq, option};
+ghost use Rattle.wire_bcs.specs.Whole.{whole};
+ghost use Rattle.wire_bcs.specs.Wrote.{Writes};
+ghost use Rattle.wire_bcs.specs.Gives.{Gives, Ahead, Decodes};
+
+use crate::fault::Unread;
+use crate::reader::Reader;
+use crate::seq::{OutOfMemory, Seq};
+use crate::writer::Writer;
+use digest_core::Digest;
+use std::alloc::Global;
+
+/// A type with one spelling for each value (BCS).
+pub trait Wire: Drop {
+    ghost codec: { Codec Self };
+
+    /// Appends the spelling. A refused call has appended a front of it.
+    fn write_into(&self, writer: &mut Writer) -> Result<(), OutOfMemory>
+        requires { codec.short self.now }
+        ensures { Writes writer.old writer.new (codec.spell self.now) result };
+
+    /// Reads one value from the front of what is left, or tells the first fault and stands there. Where
+    /// memory is refused the reader stands in the same input, and not before.
+    fn read_from(alloc: Global, reader: &mut Reader) -> Result<Self, Unread>
+        ensures exact { Gives reader.new result (codec.read reader.old) }
+        ensures ahead { Ahead reader.old reader.new };
+}
+
+#[tactic(auto, unfolding(crate::specs::Digests::digest), using(crate::specs::Wrote::parts))]
+impl Wire for Digest {
+    ghost codec = { digest };
+
+    fn write_into(&self, writer: &mut Writer) -> Result<(), OutOfMemory> {
+        writer.put_fixed(&self.0)?;
+        Ok(())
+    }
+
+    fn read_from(_alloc: Global, reader: &mut Reader) -> Result<Self, Unread> {
+        Ok(Digest(reader.fixed32()?))
+    }
+}
+
+#[tactic(auto, unfolding(crate::specs::Shapes::seq_spell, crate::specs::Shapes::seq_read), using(crate::specs::Wrote::parts))]
+impl<T: Wire> Wire for Seq<T> {
+    ghost codec = { seq T.codec };
+
+    fn write_into(&self, writer: &mut Writer) -> Result<(), OutOfMemory> {
+        writer.put_len(self.len() as u32)?;
+        for item in self.as_slice() {
+            item.write_into(writer)?;
+        }
+        Ok(())
+    }
+
+    fn read_from(alloc: Global, reader: &mut Reader) -> Result<Self, Unread> {
+        let count = reader.len()?;
+        let mut items = Seq::new(alloc);
+        for _ in 0..count {
+            items.push(T::read_from(alloc, reader)?)?;
+        }
+        Ok(items)
+    }
+}
+
+#[tactic(auto, unfolding(crate::specs::Shapes::option_spell, crate::specs::Shapes::option_read), using(crate::specs::Wrote::parts))]
+impl<T: Wire> Wire for Option<T> {
+    ghost codec = { option T.codec };
+
+    fn write_into(&self, writer: &mut Writer) -> Result<(), OutOfMemory> {
+        match self {
+            None => {
+                writer.put_bool(false)?;
+                Ok(())
+            }
+            Some(value) => {
+                writer.put_bool(true)?;
+                value.write_into(writer)?;
+                Ok(())
+            }
+        }
+    }
+
+    fn read_from(alloc: Global, reader: &mut Reader) -> Result<Self, Unread> {
+        if !reader.bool()? {
+            return Ok(None);
+        }
+        let value = T::read_from(alloc, reader)?;
+        Ok(Some(value))
+    }
+}
+
+/// The one spelling of a value.
+#[tactic(auto)]
+pub fn encode<T: Wire>(alloc: Global, value: &T) -> Result<Seq<u8>, OutOfMemory>
+    requires { T.codec.short value.now }
+    ensures { IfOk result (λ bytes. bytes ≡ T.codec.spell value.now) }
+{
+    let mut writer = Writer::new(alloc);
+    value.write_into(&mut writer)?;
+    Ok(writer.finish())
+}
+
+/// The value that all the bytes spell. A fault comes exactly where there is none, and is the first.
+pub fn decode<T: Wire>(alloc: Global, bytes: &[u8]) -> Result<T, Unread>
+    // What is read is spelled so, and is a value of its type.
+    ensures found { IfOk result (λ x. (bytes.now ≡ T.codec.spell x) × T.codec.fits x) }
+    // So it may be written again.
+    ensures short { IfOk result T.codec.short }
+    // What is spelled so is read, unless memory runs out.
+    ensures only { (x : _) → T.codec.fits x → bytes.now ≡ T.codec.spell x → Decodes bytes.now result (Ok x) }
+    // Which fault it is.
+    ensures exact { Decodes bytes.now result (whole T.codec bytes.now) }
+{
+    all_of(alloc, bytes)
+}
+
+#[tactic(auto, unfolding(crate::specs::Whole::whole))]
+fn all_of<T: Wire>(alloc: Global, bytes: &[u8]) -> Result<T, Unread>
+    ensures exact { Decodes bytes.now result (whole T.codec bytes.now) }
+{
+    let mut reader = Reader::new(bytes);
+    let value = T::read_from(alloc, &mut reader)?;
+    reader.finish()?;
+    Ok(value)
+}
+
+/// Each value has one spelling, no spelling is a front of another value's, and equal spellings are of
+/// equal values.
+pub fn one_spelling<T: Wire>()
+    ensures { (x y : _) (r s : List ℕ) → T.codec.fits x → T.codec.fits y → T.codec.spell x ++ r ≡ T.codec.spell y ++ s → (x ≡ y) × (r ≡ s) }
+{}
