@@ -14,12 +14,12 @@ use Rattle.chain_messages.specs.declared.messages.Entry.TheVariants as entry
 use Rattle.member_types.specs.declared.answers.Held.{Held}
 use Rattle.member_types.specs.declared.answers.Ignore.{Ignore}
 use Rattle.chain_spec.specs.Words.{Each, Along, first_some, where_true}
-use Rattle.chain_spec.specs.Tests.{digest_eq}
-use Rattle.chain_spec.specs.Digests.{tx_digest}
-use Rattle.chain_spec.specs.Certificates.{Rules, cert_refusal}
+use Rattle.chain_spec.specs.Certificates.{Rules, read_entry, cert_refusal}
 use Rattle.chain_spec.proofs.ListLemmas.{along-push, find-test, find-each, filter-each, each-push, any-push, and-first, or-first, not-true}
 use Rattle.member_spec.specs.Admission.{Admitted, Admission, is_admitted, is_known, is_free, is_origin_admitted, has_room, mutable_ids, admit, not_of, taken_as, taken, is_dropped, taken_next, take_free, entered, passed_mark}
 use Rattle.member_spec.specs.Sequence.{Sequence, nothing_seen, What, takes, commits, counts, ignores, ignored_or, certificate_cases, end_cases, what_stated, what_read, what_of, with_what, with_entry, counted_as, ends_with_member, saw, seen, held_as}
+use Rattle.chain_types.specs.Equal.{digest_eq}
+use Rattle.chain_types.specs.Digests.{transaction_digest}
 use Rattle.admission_law.specs.Admitted.{IsInOrder, is_origin_in}
 
 abbrev IsNew : List Admitted → Held → Type 0
@@ -80,10 +80,10 @@ same_held : (x h : Held) → takes x ≡ takes h → x ≡ h
 same_held x h e = cc
 
 -- a certificate that an entry takes was not in the sequence
-taken-new : (r : Rules) (epoch : ℕ) (q : Sequence) (c : Certificate) (h : Held) → ignored_or (first_some (certificate_cases r epoch q c (tx_digest c.tx))) (takes (held_as c)) ≡ takes h → is_known q.admission h.digest ≡ false
-taken-new r epoch q c h e = go (not (c.tx.epoch == epoch)) (is_some (cert_refusal r c)) (is_known q.admission (tx_digest c.tx)) refl e
+taken-new : (r : Rules) (epoch : ℕ) (q : Sequence) (c : Certificate) (h : Held) → ignored_or (first_some (certificate_cases r epoch q c (transaction_digest c.tx))) (takes (held_as c)) ≡ takes h → is_known q.admission h.digest ≡ false
+taken-new r epoch q c h e = go (not (c.tx.epoch == epoch)) (is_some (cert_refusal r c)) (is_known q.admission (transaction_digest c.tx)) refl e
   where
-    go : (x y z : Bool) → is_known q.admission (tx_digest c.tx) ≡ z → ignored_or (first_some (where_true x Ignore.Epoch ∷ where_true y Ignore.Cert ∷ where_true z Ignore.Repeat ∷ [])) (takes (held_as c)) ≡ takes h → is_known q.admission h.digest ≡ false
+    go : (x y z : Bool) → is_known q.admission (transaction_digest c.tx) ≡ z → ignored_or (first_some (where_true x Ignore.Epoch ∷ where_true y Ignore.Cert ∷ where_true z Ignore.Repeat ∷ [])) (takes (held_as c)) ≡ takes h → is_known q.admission h.digest ≡ false
     go true y z k e = absurd (cc)
     go false true z k e = absurd (cc)
     go false false true k e = absurd (cc)
@@ -109,7 +109,7 @@ what-new : (r : Rules) (epoch : ℕ) (q : Sequence) (bytes : List ℕ) (h : Held
 unfolding what_of
 what-new r epoch q bytes h e = or-first (is_admitted q.admission.admitted h.digest) (list_any (digest_eq h.digest) q.admission.dropped)
     (or-first (is_admitted q.admission.admitted h.digest || list_any (digest_eq h.digest) q.admission.dropped) (list_any (λ (x : Held). digest_eq x.digest h.digest) q.admission.pending)
-    (read-new r epoch q (r.read_entry bytes) h e))
+    (read-new r epoch q (read_entry bytes) h e))
 
 tidy-counted : (opening : List Object) (b : Bool) (q : Sequence) (m : ℕ) → IsTidy opening q.admission → IsTidy opening (counted_as b q m).admission
 tidy-counted opening true q m tidy = tidy

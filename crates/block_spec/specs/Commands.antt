@@ -27,8 +27,9 @@ use Rattle.block_types.specs.declared.pieces.Gave.{Gave}
 use Rattle.block_types.specs.declared.pieces.Gave.TheVariants as gave
 use Rattle.block_types.specs.declared.pieces.Mode.{Mode}
 use Rattle.block_types.specs.declared.pieces.Mode.TheVariants as mode
+use Rattle.chain_types.specs.Equal.{id_eq}
 use Rattle.chain_spec.specs.Words.{first_some, first_of, where_true, unless_refused, refused_or, and_then}
-use Rattle.chain_spec.specs.Tests.{kind_eq, id_eq}
+use Rattle.chain_spec.specs.Tests.{kind_eq}
 use Rattle.chain_spec.specs.Shape.{arguments_of}
 use Rattle.block_spec.specs.Natives.{kind_of, currency_of, amount_of, with_amount, holding, parameters_of, amount_limit, Site, new_item, native_gives}
 use Rattle.block_spec.specs.Block.{Place, gas, input, result, Value, pure, object, vector, Slot, Block, place_eq, value_in, put_in, result_count, with_results}

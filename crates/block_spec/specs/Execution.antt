@@ -19,9 +19,9 @@ use Rattle.effects_core.specs.declared.effects.Effects.{Effects}
 use Rattle.block_types.specs.declared.pieces.Item.{Item}
 use Rattle.block_types.specs.declared.pieces.Placed.{Placed}
 use Rattle.block_types.specs.declared.pieces.Executed.{Executed}
+use Rattle.chain_types.specs.Equal.{id_eq}
+use Rattle.chain_types.specs.Digests.{transaction_digest, digest_of_object}
 use Rattle.chain_spec.specs.Words.{numbers_below, first_some}
-use Rattle.chain_spec.specs.Tests.{id_eq}
-use Rattle.chain_spec.specs.Digests.{tx_digest, object_digest}
 use Rattle.chain_spec.specs.Keys.{version_of, object_key}
 use Rattle.chain_spec.specs.Shape.{cost}
 use Rattle.block_spec.specs.Natives.{amount_of, with_amount}
@@ -167,7 +167,7 @@ failed_objects t objects = less_cost_first t (map (λ (x : Place × Object). sam
 -- ---- effects
 
 abbrev pub written_of : Object → Written
-written_of o = record { id = o.id; owner = o.owner; digest = object_digest o }
+written_of o = record { id = o.id; owner = o.owner; digest = digest_of_object o }
 
 abbrev pub failed_status : Failure → Status
 failed_status (c, cause n) = status.Failed c n
@@ -184,7 +184,7 @@ executed_by t tx objects (Err failure) = executed_as t tx (version_of objects) (
 
 -- the effects of a transaction on objects that fit it, and the objects that it writes
 unfoldable pub execution : Transaction → List Object → Executed
-execution t objects = executed_by t (tx_digest t) objects (outcome t (tx_digest t) objects)
+execution t objects = executed_by t (transaction_digest t) objects (outcome t (transaction_digest t) objects)
 
 -- the keys that an execution writes
 abbrev pub written_keys : Executed → List ObjectKey

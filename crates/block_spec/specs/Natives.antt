@@ -18,7 +18,7 @@ use Rattle.block_types.specs.declared.pieces.Gave.{Gave}
 use Rattle.block_types.specs.declared.pieces.Gave.TheVariants as gave
 use Rattle.block_types.specs.declared.pieces.Mode.{Mode}
 use Rattle.block_types.specs.declared.pieces.Mode.TheVariants as mode
-use Rattle.chain_spec.specs.Tests.{id_eq}
+use Rattle.chain_types.specs.Equal.{id_eq}
 use Rattle.chain_spec.specs.Keys.{balance_of}
 
 -- ---- contents

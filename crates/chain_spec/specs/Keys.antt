@@ -15,16 +15,14 @@ use Rattle.chain_types.specs.declared.objects.Content.TheVariants as content
 use Rattle.chain_types.specs.declared.transactions.Input.{Input}
 use Rattle.chain_types.specs.declared.transactions.Input.TheVariants as input
 use Rattle.chain_types.specs.declared.transactions.Transaction.{Transaction}
-use Rattle.chain_spec.specs.Tests.{digest_eq, id_eq, address_eq}
-use Rattle.chain_spec.specs.Digests.{object_digest}
+use Rattle.chain_types.specs.Equal.{digest_eq, id_eq}
+use Rattle.chain_types.specs.Digests.{digest_of_object, is_object, lamport_version}
+use Rattle.chain_spec.specs.Tests.{address_eq}
 
 -- ---- objects
 
 abbrev pub object_key : Object → ObjectKey
 object_key o = record { id = o.id; version = o.version }
-
-abbrev pub ref_key : ObjectRef → ObjectKey
-ref_key r = record { id = r.id; version = r.version }
 
 abbrev pub is_address : Owner → Bool
 is_address (owner.Address a) = true
@@ -71,12 +69,6 @@ balance_of (content.Limit value) = 0
 
 -- ---- the objects of a transaction
 
-abbrev pub is_object : Input → Bool
-is_object (input.Pure bytes) = false
-is_object (input.Owned r) = true
-is_object (input.Immutable r) = true
-is_object (input.Shared id initial mutable) = true
-
 -- the objects that a transaction names: its gas coin, as an owned input, and then its inputs that name one
 abbrev pub objects_of : Transaction → List Input
 objects_of t = input.Owned t.gas ∷ filter is_object t.inputs
@@ -108,26 +100,11 @@ named_id (input.Shared id initial mutable) = Some id
 abbrev pub named_ids : Transaction → List ObjectId
 named_ids t = filter_map named_id (objects_of t)
 
--- ---- consumed keys: the versions that no other transaction may consume, gas first
-
-abbrev pub consumed_key : Input → Option ObjectKey
-consumed_key (input.Pure bytes) = None
-consumed_key (input.Owned r) = Some (ref_key r)
-consumed_key (input.Immutable r) = None
-consumed_key (input.Shared id initial mutable) = None
-
-unfoldable pub consumed_keys : Transaction → List ObjectKey
-consumed_keys t = filter_map consumed_key (input.Owned t.gas ∷ t.inputs)
-
 -- ---- versions
-
--- one more than the greatest
-unfoldable pub lamport : List ℕ → ℕ
-lamport versions = 1 + fold max 0 versions
 
 -- the version at which a transaction on these objects writes
 abbrev pub version_of : List Object → ℕ
-version_of inputs = lamport (map (λ (o : Object). o.version) inputs)
+version_of inputs = lamport_version (map (λ (o : Object). o.version) inputs)
 
 -- every written version is below it: 2 ^ 62
 abbrev pub version_limit : ℕ
@@ -138,8 +115,8 @@ version_limit = 4611686018427387904
 -- the object is what the input names
 abbrev pub fits_input : Transaction → Input → Object → Bool
 fits_input t (input.Pure bytes) o = false
-fits_input t (input.Owned r) o = id_eq o.id r.id && (o.version == r.version) && digest_eq (object_digest o) r.digest && is_owned_by t.sender o.owner
-fits_input t (input.Immutable r) o = id_eq o.id r.id && (o.version == r.version) && digest_eq (object_digest o) r.digest && is_immutable o.owner
+fits_input t (input.Owned r) o = id_eq o.id r.id && (o.version == r.version) && digest_eq (digest_of_object o) r.digest && is_owned_by t.sender o.owner
+fits_input t (input.Immutable r) o = id_eq o.id r.id && (o.version == r.version) && digest_eq (digest_of_object o) r.digest && is_immutable o.owner
 fits_input t (input.Shared id initial mutable) o = id_eq o.id id && is_shared_since initial o.owner
 
 -- one object for each, in order

@@ -11,9 +11,9 @@ use Rattle.chain_types.specs.declared.transactions.Argument.TheVariants as argum
 use Rattle.chain_types.specs.declared.transactions.Command.{Command}
 use Rattle.chain_types.specs.declared.transactions.Command.TheVariants as command
 use Rattle.chain_types.specs.declared.transactions.Transaction.{Transaction}
+use Rattle.chain_types.specs.Equal.{id_eq}
+use Rattle.chain_types.specs.Transactions as transactions
 use Rattle.chain_spec.specs.Words.{first_some, where_true, repeats}
-use Rattle.chain_spec.specs.Tests.{id_eq}
-use Rattle.chain_spec.specs.Spelling.{transaction_text}
 use Rattle.chain_spec.specs.Keys.{objects_of, named_ids, version_limit}
 
 -- every argument of a command, in order
@@ -77,7 +77,7 @@ names_bad_version (input.Shared id initial mutable) = is_bad_version initial
 
 abbrev pub shape_cases : Transaction → List (Option ℕ)
 shape_cases t =
-    where_true (nat_lt 131072 (length (transaction_text t))) 1 ∷
+    where_true (nat_lt 131072 (length (transactions.transaction.spell t))) 1 ∷
     where_true (is_empty_list t.commands) 2 ∷
     where_true (nat_lt 1024 (length t.commands)) 3 ∷
     where_true (nat_lt 256 (length t.inputs)) 4 ∷

@@ -3,6 +3,7 @@ use Rattle.std.specs.Prelude.{ℕ, Bool, true, false, ◌&&◌, ◌||◌, not, �
 use Rattle.std.specs.Option.{option_eq}
 use Rattle.std.specs.List.{list_any}
 use Rattle.digest_core.specs.declared.Digest.{Digest}
+use Rattle.chain_types.specs.Equal.{digest_eq, id_eq, key_eq}
 use Rattle.chain_types.specs.declared.objects.ObjectId.{ObjectId}
 use Rattle.chain_types.specs.declared.objects.Address.{Address}
 use Rattle.chain_types.specs.declared.objects.ObjectKey.{ObjectKey}
@@ -11,17 +12,8 @@ use Rattle.chain_types.specs.declared.objects.Kind.TheVariants as kind
 use Rattle.chain_types.specs.declared.objects.Producer.{Producer}
 use Rattle.chain_types.specs.declared.objects.Producer.TheVariants as producer
 
-abbrev pub digest_eq : Digest → Digest → Bool
-digest_eq a b = bytes_eq a.0 b.0
-
-abbrev pub id_eq : ObjectId → ObjectId → Bool
-id_eq a b = digest_eq a.0 b.0
-
 abbrev pub address_eq : Address → Address → Bool
 address_eq a b = digest_eq a.0 b.0
-
-abbrev pub key_eq : ObjectKey → ObjectKey → Bool
-key_eq a b = id_eq a.id b.id && (a.version == b.version)
 
 abbrev pub producer_eq : Producer → Producer → Bool
 producer_eq producer.Opening producer.Opening = true

@@ -13,9 +13,11 @@ use Rattle.chain_types.specs.declared.transactions.Transaction.{Transaction}
 use Rattle.chain_messages.specs.declared.messages.Certificate.{Certificate}
 use Rattle.member_types.specs.declared.answers.Assigned.{Assigned}
 use Rattle.member_types.specs.declared.answers.Held.{Held}
+use Rattle.chain_types.specs.Equal.{digest_eq, id_eq}
+use Rattle.chain_types.specs.Digests.{lamport_version}
 use Rattle.chain_spec.specs.Words.{first_some, first_of, where_true, last_where}
-use Rattle.chain_spec.specs.Tests.{digest_eq, id_eq, has_id}
-use Rattle.chain_spec.specs.Keys.{objects_of, mutable_id, is_shared, lamport, version_limit}
+use Rattle.chain_spec.specs.Tests.{has_id}
+use Rattle.chain_spec.specs.Keys.{objects_of, mutable_id, is_shared, version_limit}
 
 -- an admitted certificate: the version at which it writes, and the versions assigned to its shared inputs
 pub record Admitted : Type 0 where
@@ -137,7 +139,7 @@ taken_version opening earlier c (inputs.Immutable r) = r.version
 taken_version opening earlier c (inputs.Shared id initial mutable) = (current opening earlier c id).0
 
 abbrev pub version_at_admission : List Object → List Admitted → Certificate → ℕ
-version_at_admission opening earlier c = lamport (map (taken_version opening earlier c) (objects_of c.tx))
+version_at_admission opening earlier c = lamport_version (map (taken_version opening earlier c) (objects_of c.tx))
 
 -- the certificate as it is admitted behind these
 unfoldable pub admit : List Object → List Admitted → Held → Admitted

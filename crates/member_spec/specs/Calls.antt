@@ -35,11 +35,13 @@ use Rattle.member_types.specs.declared.refusals.TurnRefusal.{TurnRefusal}
 use Rattle.member_types.specs.declared.refusals.TurnRefusal.TheVariants as no_turn
 use Rattle.member_types.specs.declared.refusals.AckRefusal.{AckRefusal}
 use Rattle.member_types.specs.declared.refusals.AckRefusal.TheVariants as no_ack
+use Rattle.chain_types.specs.Equal.{digest_eq}
+use Rattle.chain_types.specs.Digests.{transaction_digest}
+use Rattle.effects_core.specs.Effects.{digest_of_effects}
 use Rattle.chain_spec.specs.Words.{first_some, first_of, where_true, unless_refused, refused_or}
-use Rattle.chain_spec.specs.Tests.{digest_eq, has_digest}
-use Rattle.chain_spec.specs.Digests.{tx_digest, effects_digest}
+use Rattle.chain_spec.specs.Tests.{has_digest}
 use Rattle.chain_spec.specs.Shape.{shape_fault}
-use Rattle.chain_spec.specs.Certificates.{Rules, cert_refusal}
+use Rattle.chain_spec.specs.Certificates.{Rules, accepts_sender, read_signed, read_certificate, cert_refusal}
 use Rattle.member_spec.specs.Versions.{Execution, execution_of}
 use Rattle.member_spec.specs.Votes.{Cast, vote_refusal, vote_origins}
 use Rattle.member_spec.specs.Admission.{Admitted, is_known}
@@ -82,10 +84,10 @@ new_vote_cases m t unsealed =
     where_true m.closed no_vote.Closed ∷
     option_map no_vote.Invalid (shape_fault t) ∷
     unsealed ∷
-    option_map decided_as (vote_refusal (ballot m) t (tx_digest t)) ∷ []
+    option_map decided_as (vote_refusal (ballot m) t (transaction_digest t)) ∷ []
 
 abbrev pub voted_as : Member → Transaction → List (Option Digest) → Bool → Voted
-voted_as m t origins new = record { statement = statement.Vote m.epoch (tx_digest t) origins; fresh = new }
+voted_as m t origins new = record { statement = statement.Vote m.epoch (transaction_digest t) origins; fresh = new }
 
 abbrev pub new_vote : Member → Transaction → Option VoteRefusal → Result Voted VoteRefusal
 new_vote m t unsealed = unless_refused (first_some (new_vote_cases m t unsealed)) (voted_as m t (vote_origins (ballot m) t) true)
@@ -96,10 +98,10 @@ vote_again m t unsealed None = new_vote m t unsealed
 
 -- the vote for a transaction, where its seal is accepted or refused as said
 abbrev pub vote_on : Member → Transaction → Option VoteRefusal → Result Voted VoteRefusal
-vote_on m t unsealed = refused_or (where_true (not (t.epoch == m.epoch)) (no_vote.WrongEpoch t.epoch m.epoch)) (vote_again m t unsealed (vote_for m (tx_digest t)))
+vote_on m t unsealed = refused_or (where_true (not (t.epoch == m.epoch)) (no_vote.WrongEpoch t.epoch m.epoch)) (vote_again m t unsealed (vote_for m (transaction_digest t)))
 
 abbrev pub unsealed_of : Rules → SignedTx → Option VoteRefusal
-unsealed_of r s = where_true (not (r.accepts_sender s.tx s.seal)) no_vote.Unsealed
+unsealed_of r s = where_true (not (accepts_sender r s.tx s.seal)) no_vote.Unsealed
 
 abbrev pub vote_read : Rules → Member → Result SignedTx WireFault → Result Voted VoteRefusal
 vote_read r m (Err fault) = Err (no_vote.Malformed fault)
@@ -109,7 +111,7 @@ abbrev pub vote_stopped : Member → Option VoteRefusal
 vote_stopped m = first_some (halted no_vote.Halted m ∷ full no_vote.Full m ∷ [])
 
 unfoldable pub vote_answer : Rules → Member → List ℕ → Result Voted VoteRefusal
-vote_answer r m bytes = refused_or (vote_stopped m) (vote_read r m (r.read_signed bytes))
+vote_answer r m bytes = refused_or (vote_stopped m) (vote_read r m (read_signed bytes))
 
 -- ---- hold
 
@@ -129,14 +131,14 @@ new_hold r m c = unless_refused (first_some (new_hold_cases r m c)) true
 abbrev pub hold_certificate : Rules → Member → Certificate → Result Bool HoldRefusal
 hold_certificate r m c =
     refused_or (where_true (not (c.tx.epoch == m.epoch)) (no_hold.WrongEpoch c.tx.epoch m.epoch))
-    (if is_some (held_of m.held (tx_digest c.tx)) then Ok false else new_hold r m c)
+    (if is_some (held_of m.held (transaction_digest c.tx)) then Ok false else new_hold r m c)
 
 abbrev pub hold_read : Rules → Member → Result Certificate WireFault → Result Bool HoldRefusal
 hold_read r m (Err fault) = Err (no_hold.Malformed fault)
 hold_read r m (Ok c) = hold_certificate r m c
 
 unfoldable pub hold_answer : Rules → Member → List ℕ → Result Bool HoldRefusal
-hold_answer r m bytes = refused_or (hold_stopped m) (hold_read r m (r.read_certificate bytes))
+hold_answer r m bytes = refused_or (hold_stopped m) (hold_read r m (read_certificate bytes))
 
 -- ---- see
 
@@ -211,7 +213,7 @@ turn_answer r m = unless_refused (first_some (turn_cases m)) (reverted m)
 
 abbrev pub acknowledged : Member → Digest → Option Execution → Result Statement AckRefusal
 acknowledged m tx None = Err no_ack.NotExecuted
-acknowledged m tx (Some x) = Ok (statement.Ack m.epoch tx (effects_digest x.gave.effects))
+acknowledged m tx (Some x) = Ok (statement.Ack m.epoch tx (digest_of_effects x.gave.effects))
 
 unfoldable pub ack_answer : Rules → Member → Digest → Result Statement AckRefusal
 ack_answer r m tx = refused_or (halted no_ack.Halted m) (acknowledged m tx (execution_of m.executed tx))
@@ -263,7 +265,7 @@ see_record m number bytes None = Some (record_as.See bytes)
 see_record m number bytes (Some refusal) = None
 
 abbrev pub ran_item : Execution → RanItem
-ran_item x = record { tx = x.digest; effects = effects_digest x.gave.effects }
+ran_item x = record { tx = x.digest; effects = digest_of_effects x.gave.effects }
 
 abbrev pub ran_items : Member → List RanItem
 ran_items m = map ran_item (rounds (books m) m.executed)
@@ -287,8 +289,8 @@ turn_record (Ok txs) = Some record_as.Turn
 
 -- the record that a call appends, before it answers
 unfoldable pub due : Rules → Member → Call → Option Record
-due r m (votes bytes) = vote_record (r.read_signed bytes) (vote_answer r m bytes)
-due r m (holds bytes) = hold_record (r.read_certificate bytes) (hold_answer r m bytes)
+due r m (votes bytes) = vote_record (read_signed bytes) (vote_answer r m bytes)
+due r m (holds bytes) = hold_record (read_certificate bytes) (hold_answer r m bytes)
 due r m (sees number bytes) = see_record m number bytes (first_some (see_cases m number))
 due r m runs = run_record m (run_answer r m)
 due r m closes = close_record (close_answer r m)

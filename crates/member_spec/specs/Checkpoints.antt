@@ -6,9 +6,11 @@ use Rattle.effects_core.specs.declared.effects.Effects.{Effects}
 use Rattle.checkpoint_core.specs.declared.checkpoints.Item.{Item}
 use Rattle.checkpoint_core.specs.declared.checkpoints.Checkpoint.{Checkpoint}
 use Rattle.member_types.specs.declared.answers.Held.{Held}
+use Rattle.chain_types.specs.Equal.{digest_eq}
+use Rattle.effects_core.specs.Effects.{digest_of_effects}
+use Rattle.checkpoint_core.specs.Checkpoints.{digest_of_checkpoint}
 use Rattle.chain_spec.specs.Words.{last_of}
-use Rattle.chain_spec.specs.Tests.{digest_eq, origins_eq}
-use Rattle.chain_spec.specs.Digests.{effects_digest, checkpoint_digest}
+use Rattle.chain_spec.specs.Tests.{origins_eq}
 use Rattle.member_spec.specs.Versions.{Execution, execution_of, is_executed}
 use Rattle.member_spec.specs.Admission.{Admitted}
 use Rattle.member_spec.specs.Sequence.{Cut}
@@ -29,14 +31,14 @@ zero_digest = record { 0 = replicate 32 0 }
 
 abbrev pub effects_digest_of : Option Execution → Digest
 effects_digest_of None = zero_digest
-effects_digest_of (Some x) = effects_digest x.gave.effects
+effects_digest_of (Some x) = digest_of_effects x.gave.effects
 
 abbrev pub item_of : List Execution → Admitted → Item
 item_of executed a = record { tx = a.digest; effects = effects_digest_of (execution_of executed a.digest) }
 
 abbrev pub digest_before : Option Checkpoint → Digest
 digest_before None = zero_digest
-digest_before (Some c) = checkpoint_digest c
+digest_before (Some c) = digest_of_checkpoint c
 
 -- the checkpoint of a cut, behind those before it: numbers go on, and the parent is the one before
 unfoldable pub checkpoint_behind : ℕ → List Execution → List Checkpoint → Cut → Checkpoint

@@ -11,10 +11,10 @@ use Rattle.checkpoint_core.specs.declared.checkpoints.Checkpoint.{Checkpoint}
 use Rattle.journal_core.specs.declared.records.Record.{Record}
 use Rattle.journal_core.specs.declared.records.Record.TheVariants as record_as
 use Rattle.member_types.specs.declared.answers.Held.{Held}
+use Rattle.chain_types.specs.Equal.{digest_eq}
+use Rattle.chain_types.specs.Digests.{transaction_digest, consumed_keys}
 use Rattle.chain_spec.specs.Words.{first_of, first_some}
-use Rattle.chain_spec.specs.Tests.{digest_eq, has_key}
-use Rattle.chain_spec.specs.Digests.{tx_digest}
-use Rattle.chain_spec.specs.Keys.{consumed_keys}
+use Rattle.chain_spec.specs.Tests.{has_key}
 use Rattle.chain_spec.specs.Certificates.{Rules}
 use Rattle.member_spec.specs.Versions.{Execution, live_list}
 use Rattle.member_spec.specs.Votes.{Cast, Ballot}
@@ -83,7 +83,7 @@ fork_of m = fork_in [] m.held
 -- ---- records
 
 abbrev pub cast_of : Transaction → List (Option Digest) → Cast
-cast_of t origins = record { digest = tx_digest t; consumed = consumed_keys t; origins = origins }
+cast_of t origins = record { digest = transaction_digest t; consumed = consumed_keys t; origins = origins }
 
 abbrev pub holding_as : Member → Held → Member
 holding_as m h = record m { held = m.held ++ h ∷ [] }

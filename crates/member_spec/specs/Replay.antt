@@ -9,8 +9,9 @@ use Rattle.journal_core.specs.declared.records.RanItem.{RanItem}
 use Rattle.journal_core.specs.declared.records.Record.{Record}
 use Rattle.journal_core.specs.declared.records.Record.TheVariants as record_as
 use Rattle.member_types.specs.declared.refusals.VoteRefusal.{VoteRefusal}
+use Rattle.chain_types.specs.Equal.{digest_eq}
 use Rattle.chain_spec.specs.Words.{first_some, refused_or}
-use Rattle.chain_spec.specs.Tests.{digest_eq, list_eq, origins_eq}
+use Rattle.chain_spec.specs.Tests.{list_eq, origins_eq}
 use Rattle.chain_spec.specs.Certificates.{Rules}
 use Rattle.member_spec.specs.Member.{Member, fresh, after}
 use Rattle.member_spec.specs.Calls.{Voted, vote_on, vote_stopped, hold_certificate, hold_stopped, is_hold_kept, see_cases, ran_items, run_answer, close_answer, turn_answer}

@@ -16,9 +16,11 @@ use Rattle.block_types.specs.declared.pieces.Executed.{Executed}
 use Rattle.member_types.specs.declared.answers.Assigned.{Assigned}
 use Rattle.member_types.specs.declared.answers.Held.{Held}
 use Rattle.member_types.specs.declared.answers.Left.{Left}
+use Rattle.chain_types.specs.Equal.{digest_eq, id_eq, key_eq}
+use Rattle.chain_types.specs.Digests.{key_of, consumed_keys}
 use Rattle.chain_spec.specs.Words.{first_of, all_some, repeats, where_true}
-use Rattle.chain_spec.specs.Tests.{digest_eq, id_eq, key_eq, producer_eq, has_key}
-use Rattle.chain_spec.specs.Keys.{object_key, ref_key, objects_of, has_shared_input, consumed_keys, fits}
+use Rattle.chain_spec.specs.Tests.{producer_eq, has_key}
+use Rattle.chain_spec.specs.Keys.{object_key, objects_of, has_shared_input, fits}
 use Rattle.block_spec.specs.Execution.{execution, written_keys}
 use Rattle.member_spec.specs.Versions.{Execution, Version, versions, object_in, is_executed}
 use Rattle.member_spec.specs.Votes.{shared_key}
@@ -56,8 +58,8 @@ assigned_id (Some list) id = find (is_of_id id) list
 -- the version that an input needs: the named one of the named origin, or the assigned one of its writer
 abbrev pub wanted_by : Option (List Assigned) → (Input × Option Digest) → Wanted
 wanted_by assigned (inputs.Pure bytes, origin) = record { key = shared_key (record { 0 = record { 0 = [] } }) 0; producer = None }
-wanted_by assigned (inputs.Owned r, origin) = wanted_version (ref_key r) origin
-wanted_by assigned (inputs.Immutable r, origin) = wanted_version (ref_key r) origin
+wanted_by assigned (inputs.Owned r, origin) = wanted_version (key_of r) origin
+wanted_by assigned (inputs.Immutable r, origin) = wanted_version (key_of r) origin
 wanted_by assigned (inputs.Shared id initial mutable, origin) = wanted_as id initial (assigned_id assigned id)
 
 unfoldable pub wants_of : Admission → Held → List Wanted

@@ -18,10 +18,10 @@ use Rattle.member_types.specs.declared.answers.Ignore.{Ignore}
 use Rattle.member_types.specs.declared.answers.Ignore.TheVariants as ignore
 use Rattle.member_types.specs.declared.answers.SeenWhat.{SeenWhat}
 use Rattle.member_types.specs.declared.answers.SeenWhat.TheVariants as seen_as
+use Rattle.chain_types.specs.Digests.{transaction_digest}
 use Rattle.chain_spec.specs.Words.{first_some, where_true}
-use Rattle.chain_spec.specs.Digests.{tx_digest}
 use Rattle.chain_spec.specs.Committee.{weight, is_quorum, is_among}
-use Rattle.chain_spec.specs.Certificates.{Rules, cert_refusal}
+use Rattle.chain_spec.specs.Certificates.{Rules, accepts_statement, read_entry, cert_refusal}
 use Rattle.member_spec.specs.Admission.{Admitted, Admission, nothing_admitted, is_known, since_mark, entered, passed_mark, digest_of_admitted, pending_certificate, pending_on, deferred_on}
 
 -- the transactions of one checkpoint, and whether it is the last of its epoch
@@ -60,12 +60,12 @@ certificate_cases r epoch q c tx =
     where_true (is_known q.admission tx) ignore.Repeat ∷ []
 
 abbrev pub held_as : Certificate → Held
-held_as c = record { digest = tx_digest c.tx; cert = c }
+held_as c = record { digest = transaction_digest c.tx; cert = c }
 
 abbrev pub end_cases : Rules → ℕ → Sequence → Sealed → ℕ → List (Option Ignore)
 end_cases r epoch q s of_epoch =
     where_true (not (of_epoch == epoch)) ignore.Epoch ∷
-    where_true (not (nat_lt s.member (length r.stakes) && r.accepts s.member s.statement s.seal)) ignore.Seal ∷
+    where_true (not (nat_lt s.member (length r.stakes) && accepts_statement r s.member s.statement s.seal)) ignore.Seal ∷
     where_true (is_among q.counted s.member) ignore.Repeat ∷ []
 
 abbrev pub what_stated : Rules → ℕ → Sequence → Sealed → Statement → What
@@ -76,13 +76,13 @@ what_stated r epoch q s (statement.Ack of_epoch tx effects) = ignores ignore.Sta
 
 abbrev pub what_read : Rules → ℕ → Sequence → Result Entry WireFault → What
 what_read r epoch q (Err fault) = ignores ignore.Malformed
-what_read r epoch q (Ok (entry.Cert c)) = ignored_or (first_some (certificate_cases r epoch q c (tx_digest c.tx))) (takes (held_as c))
+what_read r epoch q (Ok (entry.Cert c)) = ignored_or (first_some (certificate_cases r epoch q c (transaction_digest c.tx))) (takes (held_as c))
 what_read r epoch q (Ok (entry.End s)) = what_stated r epoch q s s.statement
 what_read r epoch q (Ok entry.Commit) = commits
 
 -- what the bytes of the next entry are to a member in this epoch
 unfoldable pub what_of : Rules → ℕ → Sequence → List ℕ → What
-what_of r epoch q bytes = what_read r epoch q (r.read_entry bytes)
+what_of r epoch q bytes = what_read r epoch q (read_entry bytes)
 
 -- ---- what an entry does
 

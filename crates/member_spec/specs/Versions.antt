@@ -12,7 +12,8 @@ use Rattle.chain_types.specs.declared.objects.Object.{Object}
 use Rattle.chain_types.specs.declared.objects.Producer.{Producer}
 use Rattle.chain_types.specs.declared.objects.Producer.TheVariants as producers
 use Rattle.block_types.specs.declared.pieces.Executed.{Executed}
-use Rattle.chain_spec.specs.Tests.{digest_eq, id_eq, key_eq, has_id, has_key}
+use Rattle.chain_types.specs.Equal.{digest_eq, id_eq, key_eq}
+use Rattle.chain_spec.specs.Tests.{has_id, has_key}
 use Rattle.chain_spec.specs.Keys.{object_key}
 
 -- a transaction that was executed: its digest, the versions that it consumed, and what it gave

@@ -13,10 +13,11 @@ use Rattle.chain_types.specs.declared.transactions.Input.TheVariants as inputs
 use Rattle.chain_types.specs.declared.transactions.Transaction.{Transaction}
 use Rattle.chain_types.specs.declared.refusals.DecideRefusal.{DecideRefusal}
 use Rattle.chain_types.specs.declared.refusals.DecideRefusal.TheVariants as refused
+use Rattle.chain_types.specs.Equal.{digest_eq, id_eq}
+use Rattle.chain_types.specs.Digests.{digest_of_object, key_of, consumed_keys}
 use Rattle.chain_spec.specs.Words.{first_some, first_of, where_true}
-use Rattle.chain_spec.specs.Tests.{digest_eq, id_eq, has_key}
-use Rattle.chain_spec.specs.Digests.{object_digest}
-use Rattle.chain_spec.specs.Keys.{ref_key, objects_of, consumed_keys, is_address, is_owned_by, is_shared_since, is_immutable, is_gas_coin, balance_of}
+use Rattle.chain_spec.specs.Tests.{has_key}
+use Rattle.chain_spec.specs.Keys.{objects_of, is_address, is_owned_by, is_shared_since, is_immutable, is_gas_coin, balance_of}
 use Rattle.member_spec.specs.Versions.{Execution, Version, versions, version_at, object_in, newest, live, consumer_of}
 
 -- a vote of this epoch: the transaction's digest, the versions that it consumes, and the origins named
@@ -42,8 +43,8 @@ shared_key id initial = record { id = id; version = initial }
 -- a version that is not held, or a shared object of which none is
 abbrev pub absent : Ballot → Input → Option DecideRefusal
 absent b (inputs.Pure bytes) = None
-absent b (inputs.Owned r) = where_true (not (is_some (object_held b (ref_key r)))) (refused.Absent (ref_key r))
-absent b (inputs.Immutable r) = where_true (not (is_some (object_held b (ref_key r)))) (refused.Absent (ref_key r))
+absent b (inputs.Owned r) = where_true (not (is_some (object_held b (key_of r)))) (refused.Absent (key_of r))
+absent b (inputs.Immutable r) = where_true (not (is_some (object_held b (key_of r)))) (refused.Absent (key_of r))
 absent b (inputs.Shared id initial mutable) = where_true (not (is_some (newest id (versions b.opening b.executed)))) (refused.Absent (shared_key id initial))
 
 -- a version that an executed transaction consumed
@@ -58,26 +59,26 @@ of_held (Some o) test = test o
 -- another digest than the held version's
 abbrev pub wrong_digest : Ballot → Input → Option DecideRefusal
 wrong_digest b (inputs.Pure bytes) = None
-wrong_digest b (inputs.Owned r) = where_true (of_held (object_held b (ref_key r)) (λ o. not (digest_eq (object_digest o) r.digest))) (refused.WrongDigest (ref_key r))
-wrong_digest b (inputs.Immutable r) = where_true (of_held (object_held b (ref_key r)) (λ o. not (digest_eq (object_digest o) r.digest))) (refused.WrongDigest (ref_key r))
+wrong_digest b (inputs.Owned r) = where_true (of_held (object_held b (key_of r)) (λ o. not (digest_eq (digest_of_object o) r.digest))) (refused.WrongDigest (key_of r))
+wrong_digest b (inputs.Immutable r) = where_true (of_held (object_held b (key_of r)) (λ o. not (digest_eq (digest_of_object o) r.digest))) (refused.WrongDigest (key_of r))
 wrong_digest b (inputs.Shared id initial mutable) = None
 
 -- owned by an address other than the sender's
 abbrev pub wrong_owner : Ballot → Transaction → Input → Option DecideRefusal
 wrong_owner b t (inputs.Pure bytes) = None
-wrong_owner b t (inputs.Owned r) = where_true (of_held (object_held b (ref_key r)) (λ (o : Object). is_address o.owner && not (is_owned_by t.sender o.owner))) (refused.WrongOwner (ref_key r))
+wrong_owner b t (inputs.Owned r) = where_true (of_held (object_held b (key_of r)) (λ (o : Object). is_address o.owner && not (is_owned_by t.sender o.owner))) (refused.WrongOwner (key_of r))
 wrong_owner b t (inputs.Immutable r) = None
 wrong_owner b t (inputs.Shared id initial mutable) = None
 
 -- gas that is no coin of currency 0 of an address
 abbrev pub no_gas : Ballot → Transaction → Option DecideRefusal
-no_gas b t = where_true (of_held (object_held b (ref_key t.gas)) (λ (o : Object). not (is_address o.owner && is_gas_coin o.content))) (refused.WrongKind (ref_key t.gas))
+no_gas b t = where_true (of_held (object_held b (key_of t.gas)) (λ (o : Object). not (is_address o.owner && is_gas_coin o.content))) (refused.WrongKind (key_of t.gas))
 
 -- an object that is not of an address, not immutable, or not live and shared since then, as the input says
 abbrev pub wrong_kind : Ballot → Input → Option DecideRefusal
 wrong_kind b (inputs.Pure bytes) = None
-wrong_kind b (inputs.Owned r) = where_true (of_held (object_held b (ref_key r)) (λ (o : Object). not (is_address o.owner))) (refused.WrongKind (ref_key r))
-wrong_kind b (inputs.Immutable r) = where_true (of_held (object_held b (ref_key r)) (λ (o : Object). not (is_immutable o.owner))) (refused.WrongKind (ref_key r))
+wrong_kind b (inputs.Owned r) = where_true (of_held (object_held b (key_of r)) (λ (o : Object). not (is_address o.owner))) (refused.WrongKind (key_of r))
+wrong_kind b (inputs.Immutable r) = where_true (of_held (object_held b (key_of r)) (λ (o : Object). not (is_immutable o.owner))) (refused.WrongKind (key_of r))
 wrong_kind b (inputs.Shared id initial mutable) = where_true (not (of_held (live b.opening b.executed id) (λ (o : Object). is_shared_since initial o.owner))) (refused.WrongKind (shared_key id initial))
 
 -- what the gas coin holds
@@ -86,7 +87,7 @@ held_balance None = 0
 held_balance (Some o) = balance_of o.content
 
 abbrev pub gas_balance : Ballot → Transaction → ℕ
-gas_balance b t = held_balance (object_held b (ref_key t.gas))
+gas_balance b t = held_balance (object_held b (key_of t.gas))
 
 -- a version that a vote for another transaction consumes
 abbrev pub is_lock : Digest → ObjectKey → Cast → Bool
@@ -123,8 +124,8 @@ made_by (Some v) = maker v.producer
 -- of a shared object: the transaction of this epoch that shared it
 abbrev pub origin_of : Ballot → Input → Option Digest
 origin_of b (inputs.Pure bytes) = None
-origin_of b (inputs.Owned r) = made_by (version_at (versions b.opening b.executed) (ref_key r))
-origin_of b (inputs.Immutable r) = made_by (version_at (versions b.opening b.executed) (ref_key r))
+origin_of b (inputs.Owned r) = made_by (version_at (versions b.opening b.executed) (key_of r))
+origin_of b (inputs.Immutable r) = made_by (version_at (versions b.opening b.executed) (key_of r))
 origin_of b (inputs.Shared id initial mutable) = made_by (version_at (versions b.opening b.executed) (shared_key id initial))
 
 unfoldable pub vote_origins : Ballot → Transaction → List (Option Digest)

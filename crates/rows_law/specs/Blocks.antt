@@ -10,7 +10,7 @@ use Rattle.chain_types.specs.declared.transactions.Command.TheVariants as comman
 use Rattle.chain_types.specs.declared.transactions.Transaction.{Transaction}
 use Rattle.effects_core.specs.declared.effects.Status.{Status}
 use Rattle.effects_core.specs.declared.effects.Status.TheVariants as status
-use Rattle.chain_spec.specs.Digests.{tx_digest}
+use Rattle.chain_types.specs.Digests.{transaction_digest}
 use Rattle.block_spec.specs.Execution.{execution}
 use Rattle.rows_law.specs.Objects.{alice, bob, coin, reference, number, address}
 
@@ -22,7 +22,7 @@ splitting n = record {
   commands = command.Split argument.Gas (argument.Input 0 ∷ []) ∷ command.Transfer (argument.Result 0 ∷ []) (argument.Input 1) ∷ [] }
 
 abbrev pub split_coin : Object
-split_coin = record { id = record { 0 = created_id_of (tx_digest (splitting 500)) 0 }; version = 2; owner = owner.Address bob; content = content.Coin 0 500 }
+split_coin = record { id = record { 0 = created_id_of (transaction_digest (splitting 500)) 0 }; version = 2; owner = owner.Address bob; content = content.Coin 0 500 }
 
 pub record SplitLeavesTheRest : Type 0 where
   pub done : ◌≡◌ {A = Status} (execution (splitting 500) (coin 0 1 alice 10000 ∷ [])).effects.status status.Done

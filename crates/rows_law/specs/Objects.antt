@@ -13,7 +13,7 @@ use Rattle.chain_types.specs.declared.objects.Content.TheVariants as content
 use Rattle.chain_types.specs.declared.objects.Object.{Object}
 use Rattle.chain_types.specs.declared.transactions.Input.{Input}
 use Rattle.chain_types.specs.declared.transactions.Input.TheVariants as inputs
-use Rattle.chain_spec.specs.Digests.{object_digest}
+use Rattle.chain_types.specs.Digests.{digest_of_object}
 
 -- "alice" and "bob"
 abbrev pub alice : Address
@@ -29,7 +29,7 @@ abbrev pub coin : ℕ → ℕ → Address → ℕ → Object
 coin n version who balance = thing n version (owner.Address who) (content.Coin 0 balance)
 
 abbrev pub reference : Object → ObjectRef
-reference o = record { id = o.id; version = o.version; digest = object_digest o }
+reference o = record { id = o.id; version = o.version; digest = digest_of_object o }
 
 abbrev pub number : ℕ → Input
 number n = inputs.Pure (to_le_bytes w64 n)

@@ -4,7 +4,8 @@ use Rattle.wire_bcs.specs.declared.fault.WireFault.{WireFault}
 use Rattle.chain_types.specs.declared.transactions.SignedTx.{SignedTx}
 use Rattle.chain_messages.specs.declared.messages.Certificate.{Certificate}
 use Rattle.chain_messages.specs.declared.messages.Entry.{Entry}
-use Rattle.chain_spec.specs.Spelling.{signed_text, certificate_text, entry_text}
+use Rattle.chain_types.specs.Transactions as transactions
+use Rattle.chain_messages.specs.Messages as messages
 use Rattle.world_spec.specs.Setting.{Trust}
 use Rattle.world_spec.specs.Keyed.{keyed}
 
@@ -16,4 +17,4 @@ abbrev pub read_among : {A : Type 0} → (A → List ℕ) → List A → List �
 read_among text known bytes = read_or (find (λ x. bytes_eq (text x) bytes) known)
 
 abbrev pub reading : List SignedTx → List Certificate → List Entry → Trust
-reading signed certs entries = keyed (read_among signed_text signed) (read_among certificate_text certs) (read_among entry_text entries)
+reading signed certs entries = keyed (read_among transactions.signed.spell signed) (read_among messages.certificate.spell certs) (read_among messages.entry.spell entries)

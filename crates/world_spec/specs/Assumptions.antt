@@ -17,11 +17,12 @@ use Rattle.chain_messages.specs.declared.messages.Entry.{Entry}
 use Rattle.chain_messages.specs.declared.messages.Entry.TheVariants as entry
 use Rattle.schedule_text.specs.declared.words.Event.{Event}
 use Rattle.schedule_text.specs.declared.words.Event.TheVariants as event
+use Rattle.chain_types.specs.Digests.{transaction_digest}
+use Rattle.chain_types.specs.Transactions as transactions
+use Rattle.chain_messages.specs.Messages as messages
 use Rattle.chain_spec.specs.Words.{Has, Each}
-use Rattle.chain_spec.specs.Spelling.{signed_text, certificate_text}
-use Rattle.chain_spec.specs.Digests.{tx_digest}
 use Rattle.chain_spec.specs.Committee.{weight, weight_of, total_of, is_quorum, is_roll}
-use Rattle.chain_spec.specs.Certificates.{Rules, vote_of, cert_refusal}
+use Rattle.chain_spec.specs.Certificates.{Rules, accepts_statement, read_signed, read_certificate, read_entry, vote_of, cert_refusal}
 use Rattle.member_spec.specs.Calls.{Call, votes, holds, sees, runs, closes, ends, turns, acks}
 use Rattle.world_spec.specs.Setting.{Setting}
 use Rattle.world_spec.specs.World.{Said, Made, Formed, World, new_world, said_by, called_in, called_if, is_honest, is_up, member_at, next_call}
@@ -33,11 +34,11 @@ use Rattle.world_spec.specs.Run.{world_after}
 
 abbrev pub vote_call : Option Made → List Call
 vote_call None = []
-vote_call (Some t) = votes (signed_text t.signed) ∷ []
+vote_call (Some t) = votes (transactions.signed.spell t.signed) ∷ []
 
 abbrev pub send_call : Option Certificate → List Call
 send_call None = []
-send_call (Some c) = holds (certificate_text c) ∷ []
+send_call (Some c) = holds (messages.certificate.spell c) ∷ []
 
 abbrev pub call_list : Option Call → List Call
 call_list None = []
@@ -92,8 +93,8 @@ entry_ends entry.Commit = []
 -- the certificates, the sealed statements and the transactions that are read from the bytes of a call
 abbrev pub certificates_read : Rules → Call → List Certificate
 certificates_read r (votes bytes) = []
-certificates_read r (holds bytes) = read_list (r.read_certificate bytes)
-certificates_read r (sees number bytes) = flat_map entry_certificates (read_list (r.read_entry bytes))
+certificates_read r (holds bytes) = read_list (read_certificate bytes)
+certificates_read r (sees number bytes) = flat_map entry_certificates (read_list (read_entry bytes))
 certificates_read r runs = []
 certificates_read r closes = []
 certificates_read r ends = []
@@ -103,7 +104,7 @@ certificates_read r (acks tx) = []
 abbrev pub ends_read : Rules → Call → List Sealed
 ends_read r (votes bytes) = []
 ends_read r (holds bytes) = []
-ends_read r (sees number bytes) = flat_map entry_ends (read_list (r.read_entry bytes))
+ends_read r (sees number bytes) = flat_map entry_ends (read_list (read_entry bytes))
 ends_read r runs = []
 ends_read r closes = []
 ends_read r ends = []
@@ -111,7 +112,7 @@ ends_read r turns = []
 ends_read r (acks tx) = []
 
 abbrev pub signed_read : Rules → Call → List SignedTx
-signed_read r (votes bytes) = read_list (r.read_signed bytes)
+signed_read r (votes bytes) = read_list (read_signed bytes)
 signed_read r (holds bytes) = []
 signed_read r (sees number bytes) = []
 signed_read r runs = []
@@ -171,7 +172,7 @@ FewFaulty s = 3 * weight_of s.rules.stakes (is_faulty_in s.honest) < total_of s.
 
 -- the statement is made before, where the seal is an honest member's and accepted
 abbrev pub IsStated : Setting → World → ℕ → Statement → Digest → Type 0
-IsStated s w m st seal = is_honest w m ≡ true → s.rules.accepts m st seal ≡ true → Has w.said (said_by m st)
+IsStated s w m st seal = is_honest w m ≡ true → accepts_statement s.rules m st seal ≡ true → Has w.said (said_by m st)
 
 abbrev pub IsUnforged : Setting → World → Certificate → Type 0
 IsUnforged s w c = Each (λ (x : MemberSeal). IsStated s w x.member (vote_of c) x.seal) c.seals
@@ -187,15 +188,15 @@ NoForgery s (e ∷ events) w = Each (IsUnforged s w) (delivered s w e) × Each (
 
 -- different transactions of the run have different digests
 abbrev pub TransactionsApart : List Transaction → Type 0
-TransactionsApart txs = (t u : Transaction) → Has txs t → Has txs u → tx_digest t ≡ tx_digest u → t ≡ u
+TransactionsApart txs = (t u : Transaction) → Has txs t → Has txs u → transaction_digest t ≡ transaction_digest u → t ≡ u
 
 abbrev pub created : Transaction → ℕ → ObjectId
-created t n = record { 0 = created_id_of (tx_digest t) n }
+created t n = record { 0 = created_id_of (transaction_digest t) n }
 
 -- the ids that the commands of different transactions can draw, and those of the set-up, are different; so are
 -- those of one transaction
 pub record IdsApart (s : Setting) (txs : List Transaction) : Type 0 where
-  pub drawn : (t u : Transaction) → Has txs t → Has txs u → (n k : ℕ) → n < draws t.commands → k < draws u.commands → created t n ≡ created u k → (tx_digest t ≡ tx_digest u) × (n ≡ k)
+  pub drawn : (t u : Transaction) → Has txs t → Has txs u → (n k : ℕ) → n < draws t.commands → k < draws u.commands → created t n ≡ created u k → (transaction_digest t ≡ transaction_digest u) × (n ≡ k)
   pub opened : (t : Transaction) → Has txs t → (n : ℕ) → n < draws t.commands → (o : Object) → Has s.opening o → o.id ≡ created t n → ⊥
 
 -- the premises of the promises over whole runs

@@ -26,12 +26,12 @@ use Rattle.schedule_text.specs.declared.words.ArgWord.{ArgWord}
 use Rattle.schedule_text.specs.declared.words.ArgWord.TheVariants as arg_word
 use Rattle.schedule_text.specs.declared.words.CommandWord.{CommandWord}
 use Rattle.schedule_text.specs.declared.words.CommandWord.TheVariants as command_word
+use Rattle.chain_types.specs.Digests.{transaction_digest, digest_of_object}
 use Rattle.chain_spec.specs.Words.{first_some, last_of}
-use Rattle.chain_spec.specs.Digests.{tx_digest, object_digest}
 use Rattle.member_spec.specs.Versions.{Version, versions, version_at}
 use Rattle.member_spec.specs.Checkpoints.{zero_digest}
 use Rattle.member_spec.specs.Member.{Member}
-use Rattle.world_spec.specs.Setting.{Name, User, user_of, Thing, Setting}
+use Rattle.world_spec.specs.Setting.{Name, User, user_of, Thing, Setting, sender_seal}
 use Rattle.world_spec.specs.World.{World, Made, Drawn, says_first}
 use Rattle.world_spec.specs.Names.{made_named, drawn_as, drawn_by}
 
@@ -62,7 +62,7 @@ id_of s w (object_word.Setup name) = thing_at (find (λ (t : Thing). bytes_eq t.
 id_of s w (object_word.Created tx number) = record { 0 = created_id_of (digest_named w tx) number }
 
 abbrev pub digest_in : Version → Digest
-digest_in v = object_digest v.object
+digest_in v = digest_of_object v.object
 
 -- the digest of a version that a member holds
 abbrev pub held_digest : ObjectKey → Member → Option Digest
@@ -154,7 +154,7 @@ transaction_of s w l = record {
   commands = map command_of l.commands }
 
 abbrev pub made_as : Setting → Name → Bool → Transaction → Made
-made_as s name spoiled t = record { name = name; digest = tx_digest t; signed = record { tx = t; seal = spoiled_if spoiled (s.seal_sender t) } }
+made_as s name spoiled t = record { name = name; digest = transaction_digest t; signed = record { tx = t; seal = spoiled_if spoiled (sender_seal s t) } }
 
 -- ---- the names that the line gives
 

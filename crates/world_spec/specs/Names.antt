@@ -11,8 +11,9 @@ use Rattle.chain_types.specs.declared.transactions.Command.{Command}
 use Rattle.chain_types.specs.declared.transactions.Command.TheVariants as command
 use Rattle.chain_types.specs.declared.transactions.Transaction.{Transaction}
 use Rattle.chain_messages.specs.declared.messages.Certificate.{Certificate}
+use Rattle.chain_types.specs.Equal.{digest_eq, id_eq}
 use Rattle.chain_spec.specs.Words.{first_some, first_of, where_true, last_where, numbers_below}
-use Rattle.chain_spec.specs.Tests.{digest_eq, id_eq, address_eq}
+use Rattle.chain_spec.specs.Tests.{address_eq}
 use Rattle.world_spec.specs.Setting.{Name, User, Thing, Setting}
 use Rattle.world_spec.specs.World.{World, Made, Formed, Drawn}
 

@@ -5,7 +5,7 @@ use Rattle.std.specs.FinMap.{values}
 use Rattle.chain_types.specs.declared.objects.Object.{Object}
 use Rattle.chain_types.specs.declared.transactions.Transaction.{Transaction}
 use Rattle.chain_messages.specs.declared.messages.Entry.{Entry}
-use Rattle.chain_spec.specs.Spelling.{entry_text}
+use Rattle.chain_messages.specs.Messages as messages
 use Rattle.member_spec.specs.Admission.{Admitted}
 use Rattle.member_spec.specs.Sequence.{Cut, Sequence, seen}
 use Rattle.member_spec.specs.Sequential.{Folded, map_of, fold_all}
@@ -21,7 +21,7 @@ checkpointed q = flat_map txs_in q.cuts
 
 -- what the sequence of an epoch gives to a member that opened it with these objects
 abbrev pub sequence_of : Setting → List (List Entry) → ℕ → List Object → Sequence
-sequence_of s sequences epoch opening = seen s.rules opening epoch (map entry_text (entries_at sequences epoch))
+sequence_of s sequences epoch opening = seen s.rules opening epoch (map messages.entry.spell (entries_at sequences epoch))
 
 -- the opening objects of an epoch
 unfoldable pub opening_at : Setting → List (List Entry) → ℕ → List Object

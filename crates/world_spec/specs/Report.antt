@@ -82,8 +82,9 @@ use Rattle.report_text.specs.declared.lines.OwnerText.{OwnerText}
 use Rattle.report_text.specs.declared.lines.OwnerText.TheVariants as owner_text
 use Rattle.report_text.specs.declared.lines.ContentText.{ContentText}
 use Rattle.report_text.specs.declared.lines.ContentText.TheVariants as content_text
-use Rattle.chain_spec.specs.Spelling.{signed_text, certificate_text, entry_text}
-use Rattle.chain_spec.specs.Tests.{digest_eq}
+use Rattle.chain_types.specs.Equal.{digest_eq}
+use Rattle.chain_types.specs.Transactions as transactions
+use Rattle.chain_messages.specs.Messages as messages
 use Rattle.chain_spec.specs.Committee.{total_of}
 use Rattle.member_spec.specs.Member.{Member, Fork, fork_of, live_objects}
 use Rattle.member_spec.specs.Calls.{Call, votes, holds, sees, runs, closes, ends, turns, acks, Voted, vote_answer, hold_answer, see_answer, run_answer, close_answer, end_answer, turn_answer, ack_answer}
@@ -145,7 +146,7 @@ vote_said s w m bytes = vote_reached s w bytes (reached s w m (votes bytes))
 -- a schedule names only what an earlier line made; another name finds nobody
 abbrev pub vote_lines : Setting → World → ℕ → Name → Option Made → List Line
 vote_lines s w m tx None = line.Vote m tx vote_text.Down ∷ []
-vote_lines s w m tx (Some t) = line.Vote m tx (vote_said s w m (signed_text t.signed)) ∷ []
+vote_lines s w m tx (Some t) = line.Vote m tx (vote_said s w m (transactions.signed.spell t.signed)) ∷ []
 
 abbrev pub fvote_lines : World → ℕ → Name → List (Option Name) → Option Made → List Line
 fvote_lines w m tx words None = line.Fvote m tx [] ∷ []
@@ -210,7 +211,7 @@ hold_said s w m bytes = hold_reached s w bytes (reached s w m (holds bytes))
 
 abbrev pub send_said : Setting → World → ℕ → Option Certificate → SendText
 send_said s w m None = send_text.NoCertificate
-send_said s w m (Some c) = hold_said s w m (certificate_text c)
+send_said s w m (Some c) = hold_said s w m (messages.certificate.spell c)
 
 -- ---- order
 

@@ -6,7 +6,7 @@ use Rattle.schedule_text.specs.declared.words.Event.{Event}
 use Rattle.schedule_text.specs.declared.words.Schedule.{Schedule}
 use Rattle.report_text.specs.declared.lines.Line.{Line}
 use Rattle.report_text.specs.declared.lines.Line.TheVariants as line
-use Rattle.chain_spec.specs.Spelling.{record_text}
+use Rattle.journal_core.specs.Records as journals
 use Rattle.chain_spec.specs.Keys.{currency_sum}
 use Rattle.member_spec.specs.Member.{Member, built, live_objects}
 use Rattle.world_spec.specs.Setting.{Trust, Setting, setting_of}
@@ -37,7 +37,7 @@ records_of (Some seat) = seat.records
 
 -- a member's journal: the spellings of its records
 unfoldable pub journal : Setting → List Event → ℕ → List (List ℕ)
-journal s events m = map record_text (records_of (slice_get (world_after s events).seats m))
+journal s events m = map journals.journal_record.spell (records_of (slice_get (world_after s events).seats m))
 
 -- what a summary tells of a member: the transactions in the checkpoints that it has built, the number of
 -- these, its live objects, and their sum in currency 0

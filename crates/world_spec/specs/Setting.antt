@@ -4,6 +4,10 @@ use Rattle.std.specs.List.{list_any}
 use Rattle.wire_bcs.specs.declared.fault.WireFault.{WireFault}
 use Rattle.digest_core.specs.declared.Digest.{Digest}
 use Rattle.digest_core.specs.Tagged.{genesis_id_of, address_of_name}
+use Rattle.quorum_core.specs.declared.signer.Signer.{Signer}
+use Rattle.quorum_core.specs.declared.signer.Signer.TheVariants as signers
+use Rattle.chain_types.specs.Transactions as transactions
+use Rattle.chain_messages.specs.Messages as messages
 use Rattle.chain_types.specs.declared.objects.ObjectId.{ObjectId}
 use Rattle.chain_types.specs.declared.objects.Address.{Address}
 use Rattle.chain_types.specs.declared.objects.Owner.{Owner}
@@ -18,7 +22,7 @@ use Rattle.chain_messages.specs.declared.messages.Certificate.{Certificate}
 use Rattle.chain_messages.specs.declared.messages.Entry.{Entry}
 use Rattle.schedule_text.specs.declared.words.Setup.{Setup}
 use Rattle.schedule_text.specs.declared.words.Setup.TheVariants as line
-use Rattle.chain_spec.specs.Tests.{digest_eq, id_eq}
+use Rattle.chain_types.specs.Equal.{digest_eq, id_eq}
 use Rattle.chain_spec.specs.Certificates.{Rules}
 
 -- a name, which is a list of bytes
@@ -35,15 +39,10 @@ pub record Thing : Type 0 where
   pub name : Name
   pub id : ObjectId
 
--- how bytes are read, and how seals are made and accepted
+-- how seals are made and accepted
 pub record Trust : Type 0 where
-  pub read_signed : List ℕ → Result SignedTx WireFault
-  pub read_certificate : List ℕ → Result Certificate WireFault
-  pub read_entry : List ℕ → Result Entry WireFault
-  pub seal : ℕ → Statement → Digest
-  pub seal_sender : Transaction → Digest
-  pub accepts : ℕ → Statement → Digest → Bool
-  pub accepts_sender : Transaction → Digest → Bool
+  pub seal : Signer → List ℕ → Digest
+  pub accepts : Signer → List ℕ → Digest → Bool
 
 -- the committee's rules, who is honest, the opening objects, the names of the set-up, and how seals are made
 pub record Setting : Type 0 where
@@ -52,8 +51,7 @@ pub record Setting : Type 0 where
   pub opening : List Object
   pub things : List Thing
   pub users : List User
-  pub seal : ℕ → Statement → Digest
-  pub seal_sender : Transaction → Digest
+  pub seal : Signer → List ℕ → Digest
 
 abbrev pub user_of : Name → User
 user_of name = record { name = name; address = address_of_name name }
@@ -128,11 +126,7 @@ abbrev pub rules_of : Trust → List Setup → Rules
 rules_of trust lines = record {
   stakes = stakes_of lines;
   writers = writers_of lines;
-  accepts = trust.accepts;
-  accepts_sender = trust.accepts_sender;
-  read_signed = trust.read_signed;
-  read_certificate = trust.read_certificate;
-  read_entry = trust.read_entry }
+  accepts = trust.accepts }
 
 -- what the set-up lines fix
 unfoldable pub setting_of : Trust → List Setup → Setting
@@ -142,5 +136,11 @@ setting_of trust lines = record {
   opening = fold with_new [] (objects_from 0 lines);
   things = things_from 0 lines;
   users = owners_of lines;
-  seal = trust.seal;
-  seal_sender = trust.seal_sender }
+  seal = trust.seal }
+
+-- a member's seal on a statement, and a sender's on its transaction
+abbrev pub member_seal : Setting → ℕ → Statement → Digest
+member_seal s m st = s.seal (signers.Member m) (messages.statement.spell st)
+
+abbrev pub sender_seal : Setting → Transaction → Digest
+sender_seal s t = s.seal (signers.User t.sender.0) (transactions.transaction.spell t)

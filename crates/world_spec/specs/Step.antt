@@ -13,10 +13,12 @@ use Rattle.chain_messages.specs.declared.messages.Entry.TheVariants as entry
 use Rattle.journal_core.specs.declared.records.Record.{Record}
 use Rattle.schedule_text.specs.declared.words.Event.{Event}
 use Rattle.schedule_text.specs.declared.words.Event.TheVariants as event
+use Rattle.chain_types.specs.Equal.{digest_eq}
+use Rattle.effects_core.specs.Effects.{digest_of_effects}
+use Rattle.chain_types.specs.Transactions as transactions
+use Rattle.chain_messages.specs.Messages as messages
 use Rattle.chain_spec.specs.Words.{first_some, first_of, where_true, last_where, all_some}
-use Rattle.chain_spec.specs.Tests.{digest_eq, origins_eq}
-use Rattle.chain_spec.specs.Spelling.{signed_text, certificate_text, entry_text}
-use Rattle.chain_spec.specs.Digests.{effects_digest}
+use Rattle.chain_spec.specs.Tests.{origins_eq}
 use Rattle.chain_spec.specs.Keys.{objects_of}
 use Rattle.chain_spec.specs.Committee.{weight, total_of, is_quorum}
 use Rattle.chain_spec.specs.Certificates.{Rules}
@@ -25,7 +27,7 @@ use Rattle.member_spec.specs.Sequence.{Sequence, seen}
 use Rattle.member_spec.specs.Checkpoints.{effects_digest_of, zero_digest}
 use Rattle.member_spec.specs.Member.{Member}
 use Rattle.member_spec.specs.Calls.{Call, votes, holds, sees, runs, closes, ends, turns, acks}
-use Rattle.world_spec.specs.Setting.{Name, Setting}
+use Rattle.world_spec.specs.Setting.{Name, Setting, member_seal}
 use Rattle.world_spec.specs.World.{Seat, Said, Made, Formed, World, said_by, with_seat, called_in, is_honest, member_at, says_first, entries_at, sees_on, list_or_none}
 use Rattle.world_spec.specs.Names.{made_named, cert_named}
 use Rattle.world_spec.specs.Making.{TxLine, made_by_line, digest_named, spoiled_if, digest_or_zero}
@@ -133,7 +135,7 @@ abbrev pub vote_statement : Transaction → Digest → List (Option Digest) → 
 vote_statement t tx origins = statement.Vote t.epoch tx origins
 
 abbrev pub sealed_by : Setting → Statement → ℕ → MemberSeal
-sealed_by s st m = record { member = m; seal = s.seal m st }
+sealed_by s st m = record { member = m; seal = member_seal s m st }
 
 -- the certificate of these members' votes
 abbrev pub certificate_of : Setting → Made → List (Option Digest) → List ℕ → Certificate
@@ -162,7 +164,7 @@ appended_entry w e = with_entries w (open_entries w ++ e ∷ [])
 
 -- the open epoch ends where a member that sees these entries sees its end
 abbrev pub has_ended : Setting → World → Bool
-has_ended s w = (seen s.rules [] w.epoch (map entry_text (open_entries w))).ended
+has_ended s w = (seen s.rules [] w.epoch (map messages.entry.spell (open_entries w))).ended
 
 abbrev pub risen_if : Bool → World → World
 risen_if true w = record w { epoch = w.epoch + 1; sequences = w.sequences ++ [] ∷ [] }
@@ -176,7 +178,7 @@ ordered w None = w
 ordered w (Some c) = if c.tx.epoch == w.epoch then appended_entry w (entry.Cert c) else w
 
 abbrev pub sealed_end : Setting → ℕ → ℕ → Entry
-sealed_end s m epoch = entry.End (record { member = m; statement = statement.End epoch; seal = s.seal m (statement.End epoch) })
+sealed_end s m epoch = entry.End (record { member = m; statement = statement.End epoch; seal = member_seal s m (statement.End epoch) })
 
 abbrev pub ordered_end : Setting → World → ℕ → ℕ → World
 ordered_end s w m epoch = risen s (appended_entry w (sealed_end s m epoch))
@@ -213,7 +215,7 @@ on_seat w m change (Some seat) = with_seat w m (change seat)
 -- ---- ack
 
 abbrev pub effects_digest_at : Execution → Digest
-effects_digest_at x = effects_digest x.gave.effects
+effects_digest_at x = digest_of_effects x.gave.effects
 
 -- the effects digest of a transaction that a member executed in its present epoch
 abbrev pub executed_digest : Digest → Member → Option Digest
@@ -231,11 +233,11 @@ acked s w m spoiled (Some t) = if is_honest w m then called_in s w m (acks t.dig
 
 abbrev pub voted_on : Setting → World → ℕ → Option Made → World
 voted_on s w m None = w
-voted_on s w m (Some t) = called_in s w m (votes (signed_text t.signed))
+voted_on s w m (Some t) = called_in s w m (votes (transactions.signed.spell t.signed))
 
 abbrev pub sent : Setting → World → ℕ → Option Certificate → World
 sent s w m None = w
-sent s w m (Some c) = called_in s w m (holds (certificate_text c))
+sent s w m (Some c) = called_in s w m (holds (messages.certificate.spell c))
 
 -- the world behind a line
 unfoldable pub happens : Setting → World → Event → World

@@ -17,9 +17,9 @@ use Rattle.member_types.specs.declared.answers.Ran.{Ran}
 use Rattle.member_types.specs.declared.refusals.VoteRefusal.{VoteRefusal}
 use Rattle.member_types.specs.declared.refusals.SeeRefusal.{SeeRefusal}
 use Rattle.member_types.specs.declared.refusals.RunRefusal.{RunRefusal}
+use Rattle.checkpoint_core.specs.Checkpoints.{digest_of_checkpoint}
+use Rattle.chain_messages.specs.Messages as messages
 use Rattle.chain_spec.specs.Words.{first_some}
-use Rattle.chain_spec.specs.Digests.{checkpoint_digest}
-use Rattle.chain_spec.specs.Spelling.{entry_text}
 use Rattle.chain_spec.specs.Certificates.{Rules}
 use Rattle.member_spec.specs.Member.{Member, state}
 use Rattle.member_spec.specs.Calls.{Call, votes, holds, sees, runs, closes, ends, turns, acks, Voted, due, vote_answer, see_answer, run_answer, end_answer, ack_answer}
@@ -89,7 +89,7 @@ entries_at sequences epoch = list_or_none (slice_get sequences epoch)
 
 -- the statement of a built checkpoint
 abbrev pub checkpoint_statement : Checkpoint → Statement
-checkpoint_statement c = statement.Checkpoint c.epoch c.number (checkpoint_digest c)
+checkpoint_statement c = statement.Checkpoint c.epoch c.number (digest_of_checkpoint c)
 
 abbrev pub voted_statement : Result Voted VoteRefusal → List Statement
 voted_statement (Ok v) = v.statement ∷ []
@@ -200,7 +200,7 @@ says_first s says (seat ∷ seats) = first_some ((if seat.honest && seat.up then
 
 -- the next entry of a member's sequence, up to the end of its epoch
 abbrev pub numbered_call : ℕ → Entry → Call
-numbered_call number e = sees number (entry_text e)
+numbered_call number e = sees number (messages.entry.spell e)
 
 abbrev pub next_entry : World → Member → Option Entry
 next_entry w m = if m.sequence.ended then None else slice_get (entries_at w.sequences m.epoch) m.sequence.number
