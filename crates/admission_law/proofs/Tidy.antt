@@ -1,6 +1,6 @@
 -- An admission stays tidy: what is admitted is in order, and what is pending is not admitted.
-use Rattle.std.proofs.Common.{inl, inr, refl, sym, subst, ap, ◌∙◌}
-use Rattle.std.specs.Prelude.{◌≡◌, ◌⊎◌, ℕ, zero, suc, Bool, true, false, cond, not, ◌&&◌, ◌||◌, ◌==◌, List, [], ◌∷◌, ◌++◌, fold, filter, find, length, Option, Some, None, is_some, Result, Ok, Err}
+use Rattle.std.proofs.Common.{refl, subst}
+use Rattle.std.specs.Prelude.{◌≡◌, ℕ, zero, suc, Bool, true, false, cond, not, ◌&&◌, ◌||◌, ◌==◌, List, [], ◌∷◌, ◌++◌, fold, find, length, Option, Some, None, is_some, Result, Ok, Err}
 use Rattle.std.specs.List.{list_any, list_all}
 use Rattle.wire_bcs.specs.declared.fault.WireFault.{WireFault}
 use Rattle.digest_core.specs.declared.Digest.{Digest}
@@ -48,18 +48,20 @@ tidy-taken_as : (opening : List Object) (b : Bool) (a : Admission) (h : Held) �
 unfolding admit
 tidy-taken_as opening true a h tidy new origins = record {
   ordered = tidy.ordered;
-  waiting = filter-each (IsNew a.admitted) (IsNew a.admitted) (not_of h) a.pending (λ x t p. p) tidy.waiting }
+  waiting = filter-each (IsNew a.admitted) (IsNew a.admitted) (not_of h) a.pending (λ x t p. p) tidy.waiting;
+}
 tidy-taken_as opening false a h tidy new origins = record {
   ordered = along-push (IsInOrder opening) [] a.admitted (admit opening a.admitted h) tidy.ordered (admits opening a h new origins);
   waiting = filter-each (IsNew a.admitted) (IsNew (a.admitted ++ admit opening a.admitted h ∷ [])) (not_of h) a.pending
-      (λ x t p. any-push (λ (y : Admitted). digest_eq y.digest x.digest) a.admitted (admit opening a.admitted h) p (not-true (digest_eq h.digest x.digest) t)) tidy.waiting }
+      (λ x t p. any-push (λ (y : Admitted). digest_eq y.digest x.digest) a.admitted (admit opening a.admitted h) p (not-true (digest_eq h.digest x.digest) t)) tidy.waiting;
+}
 
 tidy-next : (writers : Option ℕ) (opening : List Object) (next : Admission → Admission) → ((a : Admission) → IsTidy opening a → IsTidy opening (next a)) → (a : Admission) (h : Option Held) → find (is_free writers a) a.pending ≡ h → IsTidy opening a → IsTidy opening (taken_next next opening a h)
 tidy-next writers opening next keeps a None e tidy = tidy
 tidy-next writers opening next keeps a (Some h) e tidy =
     keeps (taken opening a h) (tidy-taken_as opening (is_dropped opening a.admitted h.cert) a h tidy
-      (find-each (IsNew a.admitted) (is_free writers a) a.pending h tidy.waiting e)
-      (and-first (list_all (is_origin_admitted a) h.cert.origins) (list_all (has_room writers a) (mutable_ids h.cert)) (find-test (is_free writers a) a.pending h e)))
+    (find-each (IsNew a.admitted) (is_free writers a) a.pending h tidy.waiting e)
+    (and-first (list_all (is_origin_admitted a) h.cert.origins) (list_all (has_room writers a) (mutable_ids h.cert)) (find-test (is_free writers a) a.pending h e)))
 
 tidy-free : (writers : Option ℕ) (opening : List Object) (n : ℕ) (a : Admission) → IsTidy opening a → IsTidy opening (take_free writers opening n a)
 tidy-free writers opening zero a tidy = tidy

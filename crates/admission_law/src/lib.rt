@@ -7,11 +7,9 @@ ghost use Rattle.admission_law.specs.Admitted.{AdmittedInOrder, NothingDeferred}
 /// The admitted transactions are distinct, and each stands behind its origins.
 pub fn admitted_in_order()
     ensures { AdmittedInOrder }
-{
-}
+{}
 
 /// Without a limit of writers nothing is deferred.
 pub fn nothing_deferred()
     ensures { NothingDeferred }
-{
-}
+{}

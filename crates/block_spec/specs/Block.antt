@@ -1,5 +1,5 @@
 -- The state of a block between two commands. Source: Sui documentation (programmable transaction blocks).
-use Rattle.std.specs.Prelude.{ℕ, Bool, true, false, ◌&&◌, ◌==◌, List, [], ◌∷◌, ◌++◌, map, length, count_by, find, zip, Option, Some, None, option_map, option_and_then, if◌then◌else◌}
+use Rattle.std.specs.Prelude.{ℕ, Bool, true, false, ◌&&◌, ◌==◌, List, [], ◌∷◌, ◌++◌, map, count_by, find, Option, Some, option_and_then, if◌then◌else◌}
 use Rattle.std.specs.List.{enumerate_from}
 use Rattle.chain_types.specs.declared.objects.Kind.{Kind}
 use Rattle.block_types.specs.declared.pieces.Item.{Item}

@@ -1,14 +1,12 @@
 -- One command: its arguments, its causes in their order, and what it does. Source: Sui documentation
 -- (programmable transaction blocks); the order of the causes is this profile's own.
-use Rattle.std.specs.Prelude.{ℕ, suc, ◌+◌, ◌-◌, Bool, true, false, not, ◌&&◌, ◌||◌, ◌==◌, nat_lt, nat_le, List, [], ◌∷◌, ◌++◌, map, sum, sum_by, length, slice_get, take, filter_map, fold, Option, Some, None, option_map, Result, Ok, Err, if◌then◌else◌}
+use Rattle.std.specs.Prelude.{ℕ, ◌+◌, ◌-◌, Bool, true, false, not, ◌&&◌, ◌==◌, nat_lt, nat_le, List, [], ◌∷◌, ◌++◌, map, sum, sum_by, length, slice_get, filter_map, fold, Option, Some, None, option_map, Result, Ok, Err, if◌then◌else◌}
 use Rattle.std.specs.Int.{w64, from_le_bytes}
-use Rattle.std.specs.List.{list_any, enumerate_from, concat}
+use Rattle.std.specs.List.{list_any, enumerate_from}
 use Rattle.digest_core.specs.declared.Digest.{Digest}
-use Rattle.chain_types.specs.declared.objects.ObjectId.{ObjectId}
 use Rattle.chain_types.specs.declared.objects.Address.{Address}
 use Rattle.chain_types.specs.declared.objects.Kind.{Kind}
 use Rattle.chain_types.specs.declared.objects.Kind.TheVariants as kind
-use Rattle.chain_types.specs.declared.objects.Content.{Content}
 use Rattle.chain_types.specs.declared.objects.Content.TheVariants as content
 use Rattle.chain_types.specs.declared.objects.Owner.{Owner}
 use Rattle.chain_types.specs.declared.objects.Owner.TheVariants as owner
@@ -27,12 +25,10 @@ use Rattle.block_types.specs.declared.pieces.Gave.{Gave}
 use Rattle.block_types.specs.declared.pieces.Gave.TheVariants as gave
 use Rattle.block_types.specs.declared.pieces.Mode.{Mode}
 use Rattle.block_types.specs.declared.pieces.Mode.TheVariants as mode
-use Rattle.chain_types.specs.Equal.{id_eq}
-use Rattle.chain_spec.specs.Words.{first_some, first_of, where_true, unless_refused, refused_or, and_then}
+use Rattle.chain_spec.specs.Words.{first_some, where_true, unless_refused, refused_or}
 use Rattle.chain_spec.specs.Tests.{kind_eq}
-use Rattle.chain_spec.specs.Shape.{arguments_of}
-use Rattle.block_spec.specs.Natives.{kind_of, currency_of, amount_of, with_amount, holding, parameters_of, amount_limit, Site, new_item, native_gives}
-use Rattle.block_spec.specs.Block.{Place, gas, input, result, Value, pure, object, vector, Slot, Block, place_eq, value_in, put_in, result_count, with_results}
+use Rattle.block_spec.specs.Natives.{kind_of, currency_of, amount_of, holding, parameters_of, amount_limit, Site, new_item, native_gives}
+use Rattle.block_spec.specs.Block.{Place, gas, input, result, Value, pure, object, vector, Block, place_eq, value_in, put_in, result_count, with_results}
 
 -- why a command fails: one of the causes 1 to 12, or the code with which a native aborts
 pub data Fault : Type 0 where

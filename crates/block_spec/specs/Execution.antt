@@ -1,7 +1,7 @@
 -- The execution of a transaction on the objects that fit it. Source: Sui documentation (programmable
 -- transaction blocks, gas); what a failed block writes is this profile's own.
-use Rattle.std.specs.Prelude.{ℕ, zero, suc, ◌+◌, ◌-◌, Bool, true, false, not, ◌&&◌, ◌==◌, List, [], ◌∷◌, ◌++◌, map, length, find, zip, filter_map, Option, Some, None, option_map, Result, Ok, Err, if◌then◌else◌}
-use Rattle.std.specs.List.{list_any, enumerate_from}
+use Rattle.std.specs.Prelude.{ℕ, suc, ◌+◌, ◌-◌, Bool, true, false, List, [], ◌∷◌, ◌++◌, map, length, find, filter_map, Option, Some, None, option_map, Result, Ok, Err, if◌then◌else◌}
+use Rattle.std.specs.List.{list_any}
 use Rattle.digest_core.specs.declared.Digest.{Digest}
 use Rattle.digest_core.specs.Tagged.{created_id_of}
 use Rattle.chain_types.specs.declared.objects.ObjectId.{ObjectId}
@@ -15,17 +15,16 @@ use Rattle.chain_types.specs.declared.transactions.Transaction.{Transaction}
 use Rattle.effects_core.specs.declared.effects.Status.{Status}
 use Rattle.effects_core.specs.declared.effects.Status.TheVariants as status
 use Rattle.effects_core.specs.declared.effects.Written.{Written}
-use Rattle.effects_core.specs.declared.effects.Effects.{Effects}
 use Rattle.block_types.specs.declared.pieces.Item.{Item}
 use Rattle.block_types.specs.declared.pieces.Placed.{Placed}
 use Rattle.block_types.specs.declared.pieces.Executed.{Executed}
 use Rattle.chain_types.specs.Equal.{id_eq}
 use Rattle.chain_types.specs.Digests.{transaction_digest, digest_of_object}
-use Rattle.chain_spec.specs.Words.{numbers_below, first_some}
+use Rattle.chain_spec.specs.Words.{numbers_below}
 use Rattle.chain_spec.specs.Keys.{version_of, object_key}
 use Rattle.chain_spec.specs.Shape.{cost}
 use Rattle.block_spec.specs.Natives.{amount_of, with_amount}
-use Rattle.block_spec.specs.Block.{Place, gas, input, result, Value, pure, object, vector, Slot, Block, value_in}
+use Rattle.block_spec.specs.Block.{Place, gas, input, result, Value, pure, object, Slot, Block, value_in}
 use Rattle.block_spec.specs.Commands.{Fault, cause, abort, command_step, piece_of}
 
 -- ---- the block before the first command
@@ -176,7 +175,8 @@ failed_status (c, abort n) = status.Aborted c n
 abbrev pub executed_as : Transaction → Digest → ℕ → Status → ℕ → List Object → List ObjectId → Executed
 executed_as t tx version how made objects deleted = record {
   effects = record { tx = tx; status = how; version = version; gas = cost t; created = made; written = map written_of objects; deleted = deleted };
-  objects = objects }
+  objects = objects;
+}
 
 abbrev pub executed_by : Transaction → Digest → List Object → Result Block Failure → Executed
 executed_by t tx objects (Ok b) = executed_as t tx (version_of objects) status.Done b.made (done_objects t tx objects b) (deleted_ids t objects b)

@@ -1,5 +1,5 @@
 -- The 14 natives, which stand in for Move code: their parameters and what they give. Source: this profile.
-use Rattle.std.specs.Prelude.{ℕ, suc, ◌+◌, ◌-◌, Bool, true, false, not, ◌&&◌, ◌||◌, ◌==◌, nat_lt, nat_le, List, [], ◌∷◌, ◌++◌, map, sum_by, length, slice_get, Option, Some, None, if◌then◌else◌}
+use Rattle.std.specs.Prelude.{ℕ, ◌+◌, ◌-◌, Bool, true, false, not, ◌==◌, nat_lt, nat_le, List, [], ◌∷◌, sum_by, slice_get, Option, Some, None}
 use Rattle.std.specs.List.{list_any}
 use Rattle.digest_core.specs.declared.Digest.{Digest}
 use Rattle.digest_core.specs.Tagged.{created_id_of}
@@ -13,13 +13,11 @@ use Rattle.chain_types.specs.declared.objects.Owner.TheVariants as owner
 use Rattle.block_types.specs.declared.pieces.Item.{Item}
 use Rattle.block_types.specs.declared.pieces.Given.{Given}
 use Rattle.block_types.specs.declared.pieces.Given.TheVariants as given
-use Rattle.block_types.specs.declared.pieces.Placed.{Placed}
 use Rattle.block_types.specs.declared.pieces.Gave.{Gave}
 use Rattle.block_types.specs.declared.pieces.Gave.TheVariants as gave
 use Rattle.block_types.specs.declared.pieces.Mode.{Mode}
 use Rattle.block_types.specs.declared.pieces.Mode.TheVariants as mode
 use Rattle.chain_types.specs.Equal.{id_eq}
-use Rattle.chain_spec.specs.Keys.{balance_of}
 
 -- ---- contents
 

@@ -1,8 +1,8 @@
 -- Lemmas on the words of lists.
-use Rattle.std.proofs.Common.{inl, inr, refl, sym, subst, ap, ◌∙◌, append_assoc}
-use Rattle.std.specs.Prelude.{◌≡◌, ◌⊎◌, ℕ, Bool, true, false, cond, not, ◌&&◌, ◌||◌, List, [], ◌∷◌, ◌++◌, filter, find, Option, Some, None}
-use Rattle.std.specs.List.{list_any, list_all}
-use Rattle.chain_spec.specs.Words.{Has, Each, Along, IsFront}
+use Rattle.std.proofs.Common.{refl, sym, subst, ap, append_assoc}
+use Rattle.std.specs.Prelude.{◌≡◌, Bool, true, false, cond, not, ◌&&◌, ◌||◌, List, [], ◌∷◌, ◌++◌, filter, find, Some}
+use Rattle.std.specs.List.{list_any}
+use Rattle.chain_spec.specs.Words.{Each, Along}
 
 -- one more element, of which P holds with all before it
 pub along-push : {A : Type 0} (P : List A → A → Type 0) (before xs : List A) (x : A) → Along P before xs → P (before ++ xs) x → Along P before (xs ++ x ∷ [])

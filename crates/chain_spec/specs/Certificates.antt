@@ -1,5 +1,5 @@
 -- The rules of one committee, and valid certificates. Source: Sui Lutris; that votes name origins is this profile's own.
-use Rattle.std.specs.Prelude.{ℕ, Bool, true, false, not, ◌==◌, List, [], ◌∷◌, map, length, Option, Some, None, Result, Ok, Err, option_map}
+use Rattle.std.specs.Prelude.{ℕ, Bool, not, ◌==◌, List, [], ◌∷◌, map, length, Option, Result, Ok, Err, option_map}
 use Rattle.digest_core.specs.declared.Digest.{Digest}
 use Rattle.wire_bcs.specs.declared.fault.WireFault.{WireFault}
 use Rattle.wire_bcs.specs.Place.{Stop}

@@ -1,11 +1,9 @@
 -- What a transaction names and consumes, and when objects fit it. Source: Sui documentation (object
 -- ownership, versions); that every object counts for the version, immutable ones too, is this profile's choice.
-use Rattle.std.specs.Prelude.{ℕ, suc, ◌+◌, ◌-◌, ◌*◌, max, Bool, true, false, not, ◌&&◌, ◌||◌, ◌==◌, nat_lt, nat_le, List, [], ◌∷◌, map, fold, filter, filter_map, sum_by, if◌then◌else◌, length, Option, Some, None}
+use Rattle.std.specs.Prelude.{ℕ, Bool, true, false, ◌&&◌, ◌==◌, nat_lt, nat_le, List, [], ◌∷◌, map, filter, filter_map, sum_by, if◌then◌else◌, Option, Some, None}
 use Rattle.std.specs.List.{list_any}
-use Rattle.digest_core.specs.declared.Digest.{Digest}
 use Rattle.chain_types.specs.declared.objects.ObjectId.{ObjectId}
 use Rattle.chain_types.specs.declared.objects.ObjectKey.{ObjectKey}
-use Rattle.chain_types.specs.declared.objects.ObjectRef.{ObjectRef}
 use Rattle.chain_types.specs.declared.objects.Address.{Address}
 use Rattle.chain_types.specs.declared.objects.Object.{Object}
 use Rattle.chain_types.specs.declared.objects.Owner.{Owner}

@@ -1,9 +1,7 @@
 -- The shape of a transaction: the faults 1 to 12, the least that applies. Source: Sui documentation
 -- (programmable transaction blocks); the limits are this profile's own.
-use Rattle.std.specs.Prelude.{ℕ, ◌+◌, ◌-◌, ◌*◌, Bool, true, false, not, ◌&&◌, ◌||◌, ◌==◌, nat_lt, nat_le, List, [], ◌∷◌, ◌++◌, map, length, Option, Some, None}
+use Rattle.std.specs.Prelude.{ℕ, ◌+◌, ◌-◌, ◌*◌, Bool, true, false, ◌||◌, ◌==◌, nat_lt, nat_le, List, [], ◌∷◌, ◌++◌, length, Option}
 use Rattle.std.specs.List.{list_any, enumerate_from}
-use Rattle.chain_types.specs.declared.objects.ObjectId.{ObjectId}
-use Rattle.chain_types.specs.declared.objects.ObjectRef.{ObjectRef}
 use Rattle.chain_types.specs.declared.transactions.Input.{Input}
 use Rattle.chain_types.specs.declared.transactions.Input.TheVariants as input
 use Rattle.chain_types.specs.declared.transactions.Argument.{Argument}

@@ -1,6 +1,6 @@
 -- Admission of the certificates of a sequence, with the limit of writers, and the versions that it assigns to
 -- shared objects. Source: Sui Lutris (shared versions); the waiting for origins and the limit are this profile's own.
-use Rattle.std.specs.Prelude.{ℕ, zero, suc, ◌+◌, Bool, true, false, not, ◌&&◌, ◌||◌, ◌==◌, nat_lt, nat_le, List, [], ◌∷◌, ◌++◌, map, filter, filter_map, find, zip, drop, length, count_by, Option, Some, None, option_map, is_some}
+use Rattle.std.specs.Prelude.{ℕ, zero, suc, Bool, true, false, not, ◌&&◌, ◌||◌, nat_lt, nat_le, List, [], ◌∷◌, ◌++◌, map, filter, filter_map, find, zip, drop, length, count_by, Option, Some, None, option_map}
 use Rattle.std.specs.List.{list_any, list_all}
 use Rattle.digest_core.specs.declared.Digest.{Digest}
 use Rattle.chain_types.specs.declared.objects.ObjectId.{ObjectId}
@@ -9,7 +9,6 @@ use Rattle.chain_types.specs.declared.objects.Producer.{Producer}
 use Rattle.chain_types.specs.declared.objects.Producer.TheVariants as producers
 use Rattle.chain_types.specs.declared.transactions.Input.{Input}
 use Rattle.chain_types.specs.declared.transactions.Input.TheVariants as inputs
-use Rattle.chain_types.specs.declared.transactions.Transaction.{Transaction}
 use Rattle.chain_messages.specs.declared.messages.Certificate.{Certificate}
 use Rattle.member_types.specs.declared.answers.Assigned.{Assigned}
 use Rattle.member_types.specs.declared.answers.Held.{Held}
@@ -147,7 +146,8 @@ admit opening earlier h = record {
   digest = h.digest;
   cert = h.cert;
   version = version_at_admission opening earlier h.cert;
-  assigned = assignments opening earlier h.cert }
+  assigned = assignments opening earlier h.cert;
+}
 
 -- ---- taking certificates
 

@@ -1,7 +1,6 @@
 -- What each call of a member answers, and the record that it appends. Source: Sui Lutris; the order of the
 -- refusals and the records are this profile's own.
-use Rattle.std.specs.Prelude.{ℕ, suc, ◌+◌, Bool, true, false, not, ◌&&◌, ◌==◌, nat_le, List, [], ◌∷◌, ◌++◌, map, drop, filter, find, length, Option, Some, None, option_map, is_some, Result, Ok, Err, if◌then◌else◌}
-use Rattle.std.specs.List.{list_any}
+use Rattle.std.specs.Prelude.{ℕ, Bool, true, false, not, ◌==◌, nat_le, List, [], ◌∷◌, map, drop, filter, length, Option, Some, None, option_map, is_some, Result, Ok, Err, if◌then◌else◌}
 use Rattle.wire_bcs.specs.declared.fault.WireFault.{WireFault}
 use Rattle.digest_core.specs.declared.Digest.{Digest}
 use Rattle.chain_types.specs.declared.transactions.Transaction.{Transaction}
@@ -35,11 +34,9 @@ use Rattle.member_types.specs.declared.refusals.TurnRefusal.{TurnRefusal}
 use Rattle.member_types.specs.declared.refusals.TurnRefusal.TheVariants as no_turn
 use Rattle.member_types.specs.declared.refusals.AckRefusal.{AckRefusal}
 use Rattle.member_types.specs.declared.refusals.AckRefusal.TheVariants as no_ack
-use Rattle.chain_types.specs.Equal.{digest_eq}
 use Rattle.chain_types.specs.Digests.{transaction_digest}
 use Rattle.effects_core.specs.Effects.{digest_of_effects}
 use Rattle.chain_spec.specs.Words.{first_some, first_of, where_true, unless_refused, refused_or}
-use Rattle.chain_spec.specs.Tests.{has_digest}
 use Rattle.chain_spec.specs.Shape.{shape_fault}
 use Rattle.chain_spec.specs.Certificates.{Rules, accepts_sender, read_signed, read_certificate, cert_refusal}
 use Rattle.member_spec.specs.Versions.{Execution, execution_of}
@@ -48,7 +45,7 @@ use Rattle.member_spec.specs.Admission.{Admitted, is_known}
 use Rattle.member_spec.specs.Sequence.{seen_what, what_of, held_as}
 use Rattle.member_spec.specs.Rounds.{rounds, left}
 use Rattle.member_spec.specs.Checkpoints.{held_of, is_done, is_cut}
-use Rattle.member_spec.specs.Member.{Member, Fork, ballot, books, built, vote_for, fork_of, fork_with, holding_as, with_rounds, turned, after}
+use Rattle.member_spec.specs.Member.{Member, Fork, ballot, books, built, vote_for, fork_of, fork_with, with_rounds, after}
 
 -- ---- what comes first in every call: a fork was met, and the list of records is full
 

@@ -1,8 +1,7 @@
 -- The checkpoints that a member has built. Source: Sui Lutris.
-use Rattle.std.specs.Prelude.{ℕ, Bool, true, false, ◌&&◌, List, [], ◌∷◌, ◌++◌, map, find, length, replicate, Option, Some, None, option_map, if◌then◌else◌}
+use Rattle.std.specs.Prelude.{ℕ, Bool, false, ◌&&◌, List, [], ◌∷◌, ◌++◌, map, find, length, replicate, Option, Some, None, if◌then◌else◌}
 use Rattle.std.specs.List.{list_all, list_any}
 use Rattle.digest_core.specs.declared.Digest.{Digest}
-use Rattle.effects_core.specs.declared.effects.Effects.{Effects}
 use Rattle.checkpoint_core.specs.declared.checkpoints.Item.{Item}
 use Rattle.checkpoint_core.specs.declared.checkpoints.Checkpoint.{Checkpoint}
 use Rattle.member_types.specs.declared.answers.Held.{Held}
@@ -47,7 +46,8 @@ checkpoint_behind epoch executed before c = record {
   number = length before;
   parent = digest_before (last_of before);
   items = map (item_of executed) c.txs;
-  last = c.last }
+  last = c.last;
+}
 
 -- the checkpoints of these cuts, up to the first that is not done
 abbrev pub chained : ℕ → List Held → List Execution → List Checkpoint → List Cut → List Checkpoint

@@ -1,12 +1,10 @@
 -- A member of the committee: its state, which is a function of its records. Source: Sui Lutris; the records
 -- are this profile's own.
-use Rattle.std.specs.Prelude.{ℕ, suc, ◌+◌, Bool, true, false, not, ◌&&◌, List, [], ◌∷◌, ◌++◌, map, filter, find, fold, length, Option, Some, None, option_map, is_some, if◌then◌else◌}
-use Rattle.std.specs.List.{list_any}
+use Rattle.std.specs.Prelude.{ℕ, ◌+◌, Bool, true, false, List, [], ◌∷◌, ◌++◌, filter, find, fold, Option, None, option_map, is_some, if◌then◌else◌}
 use Rattle.digest_core.specs.declared.Digest.{Digest}
 use Rattle.chain_types.specs.declared.objects.ObjectKey.{ObjectKey}
 use Rattle.chain_types.specs.declared.objects.Object.{Object}
 use Rattle.chain_types.specs.declared.transactions.Transaction.{Transaction}
-use Rattle.chain_messages.specs.declared.messages.Certificate.{Certificate}
 use Rattle.checkpoint_core.specs.declared.checkpoints.Checkpoint.{Checkpoint}
 use Rattle.journal_core.specs.declared.records.Record.{Record}
 use Rattle.journal_core.specs.declared.records.Record.TheVariants as record_as
@@ -18,7 +16,6 @@ use Rattle.chain_spec.specs.Tests.{has_key}
 use Rattle.chain_spec.specs.Certificates.{Rules}
 use Rattle.member_spec.specs.Versions.{Execution, live_list}
 use Rattle.member_spec.specs.Votes.{Cast, Ballot}
-use Rattle.member_spec.specs.Admission.{Admission}
 use Rattle.member_spec.specs.Sequence.{Sequence, What, takes, commits, counts, ignores, nothing_seen, what_of, saw, held_as}
 use Rattle.member_spec.specs.Rounds.{Books, rounds}
 use Rattle.member_spec.specs.Checkpoints.{chained, held_of, is_cut}
@@ -98,7 +95,8 @@ held_with held (ignores cause) = held
 abbrev pub with_seen : Rules → Member → List ℕ → Member
 with_seen r m bytes = record m {
   sequence = saw r m.opening m.epoch m.sequence bytes;
-  held = held_with m.held (what_of r m.epoch m.sequence bytes) }
+  held = held_with m.held (what_of r m.epoch m.sequence bytes);
+}
 
 abbrev pub with_rounds : Member → Member
 with_rounds m = record m { executed = m.executed ++ rounds (books m) m.executed }

@@ -1,6 +1,6 @@
 -- Which held certificates are ready, the rounds of a run, and what is left at its end. Source: Sui Lutris
 -- (execution of certificates); that rounds follow the order of holding is this profile's own.
-use Rattle.std.specs.Prelude.{ℕ, zero, suc, Bool, true, false, not, ◌&&◌, ◌||◌, List, [], ◌∷◌, ◌++◌, map, filter, filter_map, find, length, Option, Some, None, option_map, option_and_then, is_some, if◌then◌else◌}
+use Rattle.std.specs.Prelude.{ℕ, zero, suc, Bool, true, false, not, ◌&&◌, ◌||◌, List, [], ◌∷◌, ◌++◌, map, filter, find, length, Option, Some, None, option_map, is_some, if◌then◌else◌}
 use Rattle.std.specs.List.{list_any, list_all}
 use Rattle.digest_core.specs.declared.Digest.{Digest}
 use Rattle.chain_types.specs.declared.objects.ObjectId.{ObjectId}
@@ -10,17 +10,15 @@ use Rattle.chain_types.specs.declared.objects.Producer.{Producer}
 use Rattle.chain_types.specs.declared.objects.Producer.TheVariants as producers
 use Rattle.chain_types.specs.declared.transactions.Input.{Input}
 use Rattle.chain_types.specs.declared.transactions.Input.TheVariants as inputs
-use Rattle.chain_types.specs.declared.transactions.Transaction.{Transaction}
-use Rattle.chain_messages.specs.declared.messages.Certificate.{Certificate}
 use Rattle.block_types.specs.declared.pieces.Executed.{Executed}
 use Rattle.member_types.specs.declared.answers.Assigned.{Assigned}
 use Rattle.member_types.specs.declared.answers.Held.{Held}
 use Rattle.member_types.specs.declared.answers.Left.{Left}
-use Rattle.chain_types.specs.Equal.{digest_eq, id_eq, key_eq}
+use Rattle.chain_types.specs.Equal.{id_eq, key_eq}
 use Rattle.chain_types.specs.Digests.{key_of, consumed_keys}
 use Rattle.chain_spec.specs.Words.{first_of, all_some, repeats, where_true}
 use Rattle.chain_spec.specs.Tests.{producer_eq, has_key}
-use Rattle.chain_spec.specs.Keys.{object_key, objects_of, has_shared_input, fits}
+use Rattle.chain_spec.specs.Keys.{object_key, has_shared_input, fits}
 use Rattle.block_spec.specs.Execution.{execution, written_keys}
 use Rattle.member_spec.specs.Versions.{Execution, Version, versions, object_in, is_executed}
 use Rattle.member_spec.specs.Votes.{shared_key}

@@ -1,12 +1,10 @@
 -- What a member makes of the entries of an epoch's sequence. Source: Sui Lutris; the causes and their order
 -- are this profile's own.
-use Rattle.std.specs.Prelude.{ℕ, suc, ◌+◌, Bool, true, false, not, ◌&&◌, ◌||◌, ◌==◌, nat_lt, List, [], ◌∷◌, ◌++◌, map, drop, length, fold, Option, Some, None, option_map, is_some, is_none, Result, Ok, Err, if◌then◌else◌}
-use Rattle.std.specs.List.{list_any}
+use Rattle.std.specs.Prelude.{ℕ, ◌+◌, Bool, true, false, not, ◌&&◌, ◌==◌, nat_lt, List, [], ◌∷◌, ◌++◌, map, drop, length, fold, Option, Some, None, is_some, Result, Ok, Err, if◌then◌else◌}
 use Rattle.wire_bcs.specs.declared.fault.WireFault.{WireFault}
 use Rattle.digest_core.specs.declared.Digest.{Digest}
 use Rattle.chain_types.specs.declared.objects.ObjectId.{ObjectId}
 use Rattle.chain_types.specs.declared.objects.Object.{Object}
-use Rattle.chain_types.specs.declared.transactions.Transaction.{Transaction}
 use Rattle.chain_messages.specs.declared.messages.Statement.{Statement}
 use Rattle.chain_messages.specs.declared.messages.Statement.TheVariants as statement
 use Rattle.chain_messages.specs.declared.messages.Sealed.{Sealed}
@@ -22,7 +20,7 @@ use Rattle.chain_types.specs.Digests.{transaction_digest}
 use Rattle.chain_spec.specs.Words.{first_some, where_true}
 use Rattle.chain_spec.specs.Committee.{weight, is_quorum, is_among}
 use Rattle.chain_spec.specs.Certificates.{Rules, accepts_statement, read_entry, cert_refusal}
-use Rattle.member_spec.specs.Admission.{Admitted, Admission, nothing_admitted, is_known, since_mark, entered, passed_mark, digest_of_admitted, pending_certificate, pending_on, deferred_on}
+use Rattle.member_spec.specs.Admission.{Admitted, Admission, nothing_admitted, is_known, since_mark, entered, passed_mark, digest_of_admitted, pending_on, deferred_on}
 
 -- the transactions of one checkpoint, and whether it is the last of its epoch
 pub record Cut : Type 0 where

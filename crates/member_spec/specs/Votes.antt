@@ -1,10 +1,9 @@
 -- The vote rule: the first case that applies, or the origins that a vote names. Source: Sui Lutris; that
 -- votes name origins is this profile's own.
-use Rattle.std.specs.Prelude.{ℕ, Bool, true, false, not, ◌&&◌, ◌||◌, ◌==◌, nat_lt, List, [], ◌∷◌, map, find, Option, Some, None, option_map, is_some}
+use Rattle.std.specs.Prelude.{ℕ, Bool, false, not, ◌&&◌, nat_lt, List, [], ◌∷◌, map, find, Option, Some, None, option_map, is_some}
 use Rattle.digest_core.specs.declared.Digest.{Digest}
 use Rattle.chain_types.specs.declared.objects.ObjectId.{ObjectId}
 use Rattle.chain_types.specs.declared.objects.ObjectKey.{ObjectKey}
-use Rattle.chain_types.specs.declared.objects.ObjectRef.{ObjectRef}
 use Rattle.chain_types.specs.declared.objects.Object.{Object}
 use Rattle.chain_types.specs.declared.objects.Producer.{Producer}
 use Rattle.chain_types.specs.declared.objects.Producer.TheVariants as producers
@@ -13,7 +12,7 @@ use Rattle.chain_types.specs.declared.transactions.Input.TheVariants as inputs
 use Rattle.chain_types.specs.declared.transactions.Transaction.{Transaction}
 use Rattle.chain_types.specs.declared.refusals.DecideRefusal.{DecideRefusal}
 use Rattle.chain_types.specs.declared.refusals.DecideRefusal.TheVariants as refused
-use Rattle.chain_types.specs.Equal.{digest_eq, id_eq}
+use Rattle.chain_types.specs.Equal.{digest_eq}
 use Rattle.chain_types.specs.Digests.{digest_of_object, key_of, consumed_keys}
 use Rattle.chain_spec.specs.Words.{first_some, first_of, where_true}
 use Rattle.chain_spec.specs.Tests.{has_key}

@@ -6,5 +6,4 @@ ghost use Rattle.quorum_law.specs.Quorums.{TwoQuorumsMeet};
 /// Two quorums share a member that is not faulty, where less than a third of the stake is.
 pub fn two_quorums_meet()
     ensures { TwoQuorumsMeet }
-{
-}
+{}

@@ -1,5 +1,5 @@
 -- With half of the stake faulty two certificates consume one coin; who meets both halts, also after a restart.
-use Rattle.std.specs.Prelude.{◌≡◌, List, [], ◌∷◌, ◌++◌, Bool, true, false, Option, Some, None, codes}
+use Rattle.std.specs.Prelude.{List, [], ◌∷◌, true, false, None, codes}
 use Rattle.schedule_text.specs.declared.words.Setup.{Setup}
 use Rattle.schedule_text.specs.declared.words.Setup.TheVariants as setup
 use Rattle.schedule_text.specs.declared.words.Event.{Event}

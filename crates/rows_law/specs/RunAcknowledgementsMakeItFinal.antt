@@ -1,5 +1,5 @@
 -- A quorum of acknowledgements of one effects digest makes a transaction final.
-use Rattle.std.specs.Prelude.{◌≡◌, List, [], ◌∷◌, ◌++◌, Bool, true, false, Option, Some, None, codes}
+use Rattle.std.specs.Prelude.{List, [], ◌∷◌, true, false, None, codes}
 use Rattle.schedule_text.specs.declared.words.Setup.{Setup}
 use Rattle.schedule_text.specs.declared.words.Setup.TheVariants as setup
 use Rattle.schedule_text.specs.declared.words.Event.{Event}

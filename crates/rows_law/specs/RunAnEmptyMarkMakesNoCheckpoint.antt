@@ -1,5 +1,5 @@
 -- A mark with nothing admitted since the last one cuts nothing.
-use Rattle.std.specs.Prelude.{◌≡◌, List, [], ◌∷◌, ◌++◌, Bool, true, false, Option, Some, None, codes}
+use Rattle.std.specs.Prelude.{List, [], ◌∷◌, true, codes}
 use Rattle.schedule_text.specs.declared.words.Setup.{Setup}
 use Rattle.schedule_text.specs.declared.words.Setup.TheVariants as setup
 use Rattle.schedule_text.specs.declared.words.Event.{Event}

@@ -1,10 +1,8 @@
 -- Each event gives a line.
-use Rattle.std.proofs.Common.{refl, sym, subst, ap, ◌∙◌}
-use Rattle.std.specs.Prelude.{◌≡◌, ◌≤◌, ◌+◌, ℕ, zero, suc, min, Bool, true, false, List, [], ◌∷◌, ◌++◌, length, slice_get, Option, Some, None, Result, Ok, Err}
+use Rattle.std.specs.Prelude.{◌≤◌, ℕ, min, Bool, true, false, List, [], ◌∷◌, length, slice_get, Option, Some, None, Result, Ok, Err}
 use Rattle.std.proofs.lemmas.List.{length-append}
 use native.Mathlib.Omega.{arith}
 use Rattle.digest_core.specs.declared.Digest.{Digest}
-use Rattle.chain_messages.specs.declared.messages.Certificate.{Certificate}
 use Rattle.member_types.specs.declared.answers.Ran.{Ran}
 use Rattle.member_types.specs.declared.refusals.RunRefusal.{RunRefusal}
 use Rattle.member_types.specs.declared.refusals.RunRefusal.TheVariants as no_run
@@ -16,8 +14,8 @@ use Rattle.report_text.specs.declared.lines.Line.{Line}
 use Rattle.member_spec.specs.Member.{Member, Fork, fork_of}
 use Rattle.member_spec.specs.Calls.{runs, turns, run_answer, turn_answer}
 use Rattle.world_spec.specs.Setting.{Name, Setting}
-use Rattle.world_spec.specs.World.{Seat, Made, World, Reached, finds_down, stops, answers, new_world, reached, member_at}
-use Rattle.world_spec.specs.Names.{made_named, cert_named}
+use Rattle.world_spec.specs.World.{Made, World, Reached, finds_down, stops, answers, new_world, reached, member_at}
+use Rattle.world_spec.specs.Names.{made_named}
 use Rattle.world_spec.specs.Step.{happens, entries_left}
 use Rattle.world_spec.specs.Report.{lines_of, vote_lines, fvote_lines, cert_lines, final_lines, ack_lines, none_taken, see_halted, see_up, entries_lines, run_reached, run_answered, turn_reached, turn_answered, show_up, is_seat_up}
 use Rattle.world_spec.specs.Run.{report_from, report}

@@ -1,6 +1,6 @@
 -- A restart keeps the records of each seat.
-use Rattle.std.proofs.Common.{refl, sym, subst, ap, ◌∙◌}
-use Rattle.std.specs.Prelude.{◌≡◌, ℕ, zero, suc, Bool, true, false, List, [], ◌∷◌, slice_get, slice_set, Option, Some, None, option_and_then}
+use Rattle.std.proofs.Common.{refl, ap, ◌∙◌}
+use Rattle.std.specs.Prelude.{◌≡◌, ℕ, zero, suc, List, [], ◌∷◌, slice_get, slice_set, Option, Some, None, option_and_then}
 use Rattle.schedule_text.specs.declared.words.Event.TheVariants as event
 use Rattle.chain_spec.specs.Certificates.{Rules}
 use Rattle.member_spec.specs.Member.{Member}

@@ -7,17 +7,14 @@ ghost use Rattle.world_law.specs.Laws.{EachEventIsReported, RestartKeepsStates, 
 /// A report has at least one line for each event.
 pub fn each_event_is_reported()
     ensures { EachEventIsReported }
-{
-}
+{}
 
 /// A restart leaves the state of every member as it was.
 pub fn restart_keeps_states()
     ensures { RestartKeepsStates }
-{
-}
+{}
 
 /// A call that appends no record leaves the state as it was.
 pub fn no_record_no_change()
     ensures { NoRecordNoChange }
-{
-}
+{}

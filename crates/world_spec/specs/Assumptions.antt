@@ -1,6 +1,6 @@
 -- The run assumptions, and what is certified, delivered and final in a run. Source: Sui Lutris (under a third
 -- of the stake is faulty, signatures are not forged, digests do not collide).
-use Rattle.std.specs.Prelude.{◌≡◌, ◌<◌, ℕ, zero, suc, ◌+◌, ◌-◌, ◌*◌, min, Bool, true, false, not, List, [], ◌∷◌, ◌++◌, map, flat_map, length, slice_get, Option, Some, None, option_map, Result, Ok, Err, if◌then◌else◌}
+use Rattle.std.specs.Prelude.{◌≡◌, ◌<◌, ℕ, zero, suc, ◌*◌, min, Bool, true, false, not, List, [], ◌∷◌, ◌++◌, map, flat_map, slice_get, Option, Some, None, Result, Ok, Err}
 use Rattle.wire_bcs.specs.declared.fault.WireFault.{WireFault}
 use Rattle.digest_core.specs.declared.Digest.{Digest}
 use Rattle.digest_core.specs.Tagged.{created_id_of}
@@ -25,7 +25,7 @@ use Rattle.chain_spec.specs.Committee.{weight, weight_of, total_of, is_quorum, i
 use Rattle.chain_spec.specs.Certificates.{Rules, accepts_statement, read_signed, read_certificate, read_entry, vote_of, cert_refusal}
 use Rattle.member_spec.specs.Calls.{Call, votes, holds, sees, runs, closes, ends, turns, acks}
 use Rattle.world_spec.specs.Setting.{Setting}
-use Rattle.world_spec.specs.World.{Said, Made, Formed, World, new_world, said_by, called_in, called_if, is_honest, is_up, member_at, next_call}
+use Rattle.world_spec.specs.World.{Made, Formed, World, new_world, said_by, called_if, is_honest, member_at, next_call}
 use Rattle.world_spec.specs.Names.{made_named, cert_named, draws}
 use Rattle.world_spec.specs.Step.{happens, entries_left}
 use Rattle.world_spec.specs.Run.{world_after}
@@ -160,7 +160,7 @@ all_transactions s events =
 -- ---- the assumptions
 
 abbrev pub is_faulty_one : Option Bool → Bool
-is_faulty_one None = false
+is_faulty_one None = true
 is_faulty_one (Some honest) = not honest
 
 abbrev pub is_faulty_in : List Bool → ℕ → Bool

@@ -1,5 +1,5 @@
 -- The program's own seals, which are a keyed SHA-256 and no security. Source: this profile.
-use Rattle.std.specs.Prelude.{ℕ, List, [], ◌∷◌, ◌++◌, replicate}
+use Rattle.std.specs.Prelude.{ℕ, List, ◌++◌, replicate}
 use Rattle.digest_core.specs.declared.Digest.{Digest}
 use Rattle.digest_core.specs.declared.TheConstants.{TAG_SEAL}
 use Rattle.digest_core.specs.Tagged.{tagged_digest}
@@ -20,4 +20,5 @@ keyed_seal secret signer bytes = tagged_digest TAG_SEAL (secret ++ (codecs.signe
 abbrev pub keyed : List ℕ → Trust
 keyed secret = record {
   seal = keyed_seal secret;
-  accepts = λ signer bytes seal. digest_eq seal (keyed_seal secret signer bytes) }
+  accepts = λ signer bytes seal. digest_eq seal (keyed_seal secret signer bytes);
+}

@@ -1,12 +1,11 @@
 -- The transaction that a line of a schedule makes. Source: this profile.
-use Rattle.std.specs.Prelude.{ℕ, suc, ◌+◌, ◌-◌, ◌%◌, Bool, true, false, not, ◌==◌, List, [], ◌∷◌, ◌++◌, map, find, filter_map, length, slice_get, Option, Some, None, option_map, bytes_eq, if◌then◌else◌}
+use Rattle.std.specs.Prelude.{ℕ, ◌+◌, ◌-◌, ◌%◌, Bool, true, false, ◌==◌, List, [], ◌∷◌, ◌++◌, map, find, filter_map, slice_get, Option, Some, None, option_map, bytes_eq, if◌then◌else◌}
 use Rattle.std.specs.Int.{w64, to_le_bytes}
 use Rattle.digest_core.specs.declared.Digest.{Digest}
 use Rattle.digest_core.specs.Tagged.{created_id_of, address_of_name}
 use Rattle.chain_types.specs.declared.objects.ObjectId.{ObjectId}
 use Rattle.chain_types.specs.declared.objects.ObjectKey.{ObjectKey}
 use Rattle.chain_types.specs.declared.objects.ObjectRef.{ObjectRef}
-use Rattle.chain_types.specs.declared.objects.Object.{Object}
 use Rattle.chain_types.specs.declared.objects.Kind.{Kind}
 use Rattle.chain_types.specs.declared.objects.Kind.TheVariants as kind
 use Rattle.chain_types.specs.declared.transactions.Input.{Input}
@@ -16,7 +15,6 @@ use Rattle.chain_types.specs.declared.transactions.Argument.TheVariants as argum
 use Rattle.chain_types.specs.declared.transactions.Command.{Command}
 use Rattle.chain_types.specs.declared.transactions.Command.TheVariants as command
 use Rattle.chain_types.specs.declared.transactions.Transaction.{Transaction}
-use Rattle.chain_types.specs.declared.transactions.SignedTx.{SignedTx}
 use Rattle.schedule_text.specs.declared.words.ObjWord.{ObjWord}
 use Rattle.schedule_text.specs.declared.words.ObjWord.TheVariants as object_word
 use Rattle.schedule_text.specs.declared.words.RefWord.{RefWord}
@@ -27,7 +25,6 @@ use Rattle.schedule_text.specs.declared.words.ArgWord.TheVariants as arg_word
 use Rattle.schedule_text.specs.declared.words.CommandWord.{CommandWord}
 use Rattle.schedule_text.specs.declared.words.CommandWord.TheVariants as command_word
 use Rattle.chain_types.specs.Digests.{transaction_digest, digest_of_object}
-use Rattle.chain_spec.specs.Words.{first_some, last_of}
 use Rattle.member_spec.specs.Versions.{Version, versions, version_at}
 use Rattle.member_spec.specs.Checkpoints.{zero_digest}
 use Rattle.member_spec.specs.Member.{Member}
@@ -151,7 +148,8 @@ transaction_of s w l = record {
   gas = reference_of s w l.gas;
   budget = l.budget;
   inputs = map (input_of s w) l.inputs;
-  commands = map command_of l.commands }
+  commands = map command_of l.commands;
+}
 
 abbrev pub made_as : Setting → Name → Bool → Transaction → Made
 made_as s name spoiled t = record { name = name; digest = transaction_digest t; signed = record { tx = t; seal = spoiled_if spoiled (sender_seal s t) } }
@@ -187,7 +185,8 @@ abbrev pub with_made : World → TxLine → Made → World
 with_made w l t = record w {
   txs = w.txs ++ t ∷ [];
   users = w.users ++ (user_of l.sender ∷ filter_map user_word l.inputs);
-  drawn = w.drawn ++ (drawn_list (drawn_word w l.gas.object) ++ (filter_map (drawn_input w) l.inputs ++ drawn_by t.digest t.signed.tx)) }
+  drawn = w.drawn ++ (drawn_list (drawn_word w l.gas.object) ++ (filter_map (drawn_input w) l.inputs ++ drawn_by t.digest t.signed.tx));
+}
 
 unfoldable pub made_by_line : Setting → World → TxLine → World
 made_by_line s w l = with_made w l (made_as s l.name l.spoiled (transaction_of s w l))

@@ -1,6 +1,6 @@
 -- How ids, transactions and users are named: a name counts from its line on, and a transaction goes by the
 -- first name of its digest. Source: this profile.
-use Rattle.std.specs.Prelude.{ℕ, zero, suc, ◌+◌, ◌*◌, Bool, true, false, not, ◌&&◌, ◌==◌, nat_lt, List, [], ◌∷◌, ◌++◌, map, filter, find, filter_map, length, fold, position, Option, Some, None, option_map, bytes_eq, decimal, if◌then◌else◌}
+use Rattle.std.specs.Prelude.{ℕ, ◌+◌, Bool, ◌&&◌, ◌==◌, nat_lt, List, [], ◌∷◌, ◌++◌, map, find, length, fold, position, Option, Some, None, option_map, bytes_eq, decimal, if◌then◌else◌}
 use Rattle.digest_core.specs.declared.Digest.{Digest}
 use Rattle.digest_core.specs.Tagged.{created_id_of}
 use Rattle.chain_types.specs.declared.objects.ObjectId.{ObjectId}
@@ -13,7 +13,6 @@ use Rattle.chain_types.specs.declared.transactions.Transaction.{Transaction}
 use Rattle.chain_messages.specs.declared.messages.Certificate.{Certificate}
 use Rattle.chain_types.specs.Equal.{digest_eq, id_eq}
 use Rattle.chain_spec.specs.Words.{first_some, first_of, where_true, last_where, numbers_below}
-use Rattle.chain_spec.specs.Tests.{address_eq}
 use Rattle.world_spec.specs.Setting.{Name, User, Thing, Setting}
 use Rattle.world_spec.specs.World.{World, Made, Formed, Drawn}
 

@@ -1,6 +1,6 @@
 -- The objects with which each epoch opens: what one thread leaves that executes the checkpointed transactions in
 -- order. Source: Sui Lutris.
-use Rattle.std.specs.Prelude.{ℕ, zero, suc, List, [], ◌∷◌, ◌++◌, map, flat_map}
+use Rattle.std.specs.Prelude.{ℕ, zero, suc, List, map, flat_map}
 use Rattle.std.specs.FinMap.{values}
 use Rattle.chain_types.specs.declared.objects.Object.{Object}
 use Rattle.chain_types.specs.declared.transactions.Transaction.{Transaction}
@@ -8,7 +8,7 @@ use Rattle.chain_messages.specs.declared.messages.Entry.{Entry}
 use Rattle.chain_messages.specs.Messages as messages
 use Rattle.member_spec.specs.Admission.{Admitted}
 use Rattle.member_spec.specs.Sequence.{Cut, Sequence, seen}
-use Rattle.member_spec.specs.Sequential.{Folded, map_of, fold_all}
+use Rattle.member_spec.specs.Sequential.{map_of, fold_all}
 use Rattle.world_spec.specs.Setting.{Setting}
 use Rattle.world_spec.specs.World.{entries_at}
 

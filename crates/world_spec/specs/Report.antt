@@ -1,21 +1,17 @@
 -- The lines of the report that a line of a schedule gives. Source: this profile.
-use Rattle.std.specs.Prelude.{ℕ, zero, suc, ◌+◌, ◌-◌, min, Bool, true, false, not, ◌&&◌, ◌==◌, List, [], ◌∷◌, ◌++◌, map, find, length, slice_get, Option, Some, None, option_map, option_and_then, is_none, Result, Ok, Err, if◌then◌else◌}
-use Rattle.wire_bcs.specs.declared.fault.WireFault.{WireFault}
+use Rattle.std.specs.Prelude.{ℕ, zero, suc, ◌+◌, min, Bool, true, false, ◌==◌, List, [], ◌∷◌, ◌++◌, map, length, slice_get, Option, Some, None, Result, Ok, Err, if◌then◌else◌}
 use Rattle.digest_core.specs.declared.Digest.{Digest}
-use Rattle.chain_types.specs.declared.objects.ObjectId.{ObjectId}
 use Rattle.chain_types.specs.declared.objects.ObjectKey.{ObjectKey}
 use Rattle.chain_types.specs.declared.objects.Owner.{Owner}
 use Rattle.chain_types.specs.declared.objects.Owner.TheVariants as owner
 use Rattle.chain_types.specs.declared.objects.Content.{Content}
 use Rattle.chain_types.specs.declared.objects.Content.TheVariants as content
 use Rattle.chain_types.specs.declared.objects.Object.{Object}
-use Rattle.chain_types.specs.declared.transactions.Transaction.{Transaction}
 use Rattle.chain_types.specs.declared.refusals.CertRefusal.{CertRefusal}
 use Rattle.chain_types.specs.declared.refusals.CertRefusal.TheVariants as bad_cert
 use Rattle.chain_messages.specs.declared.messages.Statement.{Statement}
 use Rattle.chain_messages.specs.declared.messages.Statement.TheVariants as statement
 use Rattle.chain_messages.specs.declared.messages.Certificate.{Certificate}
-use Rattle.chain_messages.specs.declared.messages.Entry.{Entry}
 use Rattle.effects_core.specs.declared.effects.Status.{Status}
 use Rattle.effects_core.specs.declared.effects.Status.TheVariants as status
 use Rattle.effects_core.specs.declared.effects.Effects.{Effects}
@@ -58,21 +54,16 @@ use Rattle.report_text.specs.declared.lines.OrderText.{OrderText}
 use Rattle.report_text.specs.declared.lines.OrderText.TheVariants as order_text
 use Rattle.report_text.specs.declared.lines.OrderEndText.{OrderEndText}
 use Rattle.report_text.specs.declared.lines.OrderEndText.TheVariants as order_end_text
-use Rattle.report_text.specs.declared.lines.SeeText.{SeeText}
 use Rattle.report_text.specs.declared.lines.SeeText.TheVariants as see_text
 use Rattle.report_text.specs.declared.lines.EntryText.{EntryText}
 use Rattle.report_text.specs.declared.lines.EntryText.TheVariants as entry_as
-use Rattle.report_text.specs.declared.lines.RunText.{RunText}
 use Rattle.report_text.specs.declared.lines.RunText.TheVariants as run_text
 use Rattle.report_text.specs.declared.lines.CloseText.{CloseText}
 use Rattle.report_text.specs.declared.lines.CloseText.TheVariants as close_text
 use Rattle.report_text.specs.declared.lines.EndText.{EndText}
 use Rattle.report_text.specs.declared.lines.EndText.TheVariants as end_text
-use Rattle.report_text.specs.declared.lines.TurnText.{TurnText}
 use Rattle.report_text.specs.declared.lines.TurnText.TheVariants as turn_text
-use Rattle.report_text.specs.declared.lines.RestartText.{RestartText}
 use Rattle.report_text.specs.declared.lines.RestartText.TheVariants as restart_text
-use Rattle.report_text.specs.declared.lines.ShowText.{ShowText}
 use Rattle.report_text.specs.declared.lines.ShowText.TheVariants as show_text
 use Rattle.report_text.specs.declared.lines.AckText.{AckText}
 use Rattle.report_text.specs.declared.lines.AckText.TheVariants as ack_text
@@ -89,7 +80,7 @@ use Rattle.chain_spec.specs.Committee.{total_of}
 use Rattle.member_spec.specs.Member.{Member, Fork, fork_of, live_objects}
 use Rattle.member_spec.specs.Calls.{Call, votes, holds, sees, runs, closes, ends, turns, acks, Voted, vote_answer, hold_answer, see_answer, run_answer, close_answer, end_answer, turn_answer, ack_answer}
 use Rattle.world_spec.specs.Setting.{Name, Setting}
-use Rattle.world_spec.specs.World.{Seat, Made, World, Reached, finds_down, stops, answers, reached, called_in, called_if, is_honest, member_at, next_call, entries_at, list_or_none}
+use Rattle.world_spec.specs.World.{Seat, Made, World, Reached, finds_down, stops, answers, reached, called_if, is_honest, member_at, next_call}
 use Rattle.world_spec.specs.Names.{made_named, cert_named, tx_name, object_name, key_name, address_name, shown_order}
 use Rattle.world_spec.specs.Step.{end_in, ack_in, last_said, fvote_origins, Collected, lacks, short, differ, whole, collected, votes_collected, open_entries, entries_left}
 

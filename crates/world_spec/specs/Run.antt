@@ -1,5 +1,5 @@
 -- A whole run: its report, its journals and its sums. Source: this profile.
-use Rattle.std.specs.Prelude.{ℕ, ◌+◌, List, [], ◌∷◌, ◌++◌, map, length, sum_by, fold, slice_get, Option, Some, None, option_map}
+use Rattle.std.specs.Prelude.{ℕ, List, [], ◌∷◌, ◌++◌, map, length, sum_by, slice_get, Option, Some, None}
 use Rattle.checkpoint_core.specs.declared.checkpoints.Checkpoint.{Checkpoint}
 use Rattle.journal_core.specs.declared.records.Record.{Record}
 use Rattle.schedule_text.specs.declared.words.Event.{Event}
@@ -52,7 +52,8 @@ sums_of m = record {
   transactions = sum_by (λ (c : Checkpoint). length c.items) (built m);
   checkpoints = length (built m);
   objects = length (live_objects m);
-  sum = currency_sum (live_objects m) 0 }
+  sum = currency_sum (live_objects m) 0;
+}
 
 abbrev pub summary_line : ℕ → Option Member → List Line
 summary_line n None = []

@@ -1,7 +1,6 @@
 -- What the set-up lines of a schedule fix for its whole run. Source: this profile.
-use Rattle.std.specs.Prelude.{ℕ, suc, ◌+◌, Bool, true, false, not, List, [], ◌∷◌, ◌++◌, map, fold, length, Option, Some, None, Result, if◌then◌else◌}
+use Rattle.std.specs.Prelude.{ℕ, ◌+◌, Bool, List, [], ◌∷◌, ◌++◌, fold, Option, Some, None, if◌then◌else◌}
 use Rattle.std.specs.List.{list_any}
-use Rattle.wire_bcs.specs.declared.fault.WireFault.{WireFault}
 use Rattle.digest_core.specs.declared.Digest.{Digest}
 use Rattle.digest_core.specs.Tagged.{genesis_id_of, address_of_name}
 use Rattle.quorum_core.specs.declared.signer.Signer.{Signer}
@@ -9,20 +8,15 @@ use Rattle.quorum_core.specs.declared.signer.Signer.TheVariants as signers
 use Rattle.chain_types.specs.Transactions as transactions
 use Rattle.chain_messages.specs.Messages as messages
 use Rattle.chain_types.specs.declared.objects.ObjectId.{ObjectId}
-use Rattle.chain_types.specs.declared.objects.Address.{Address}
-use Rattle.chain_types.specs.declared.objects.Owner.{Owner}
 use Rattle.chain_types.specs.declared.objects.Owner.TheVariants as owner
 use Rattle.chain_types.specs.declared.objects.Content.{Content}
 use Rattle.chain_types.specs.declared.objects.Content.TheVariants as content
 use Rattle.chain_types.specs.declared.objects.Object.{Object}
 use Rattle.chain_types.specs.declared.transactions.Transaction.{Transaction}
-use Rattle.chain_types.specs.declared.transactions.SignedTx.{SignedTx}
 use Rattle.chain_messages.specs.declared.messages.Statement.{Statement}
-use Rattle.chain_messages.specs.declared.messages.Certificate.{Certificate}
-use Rattle.chain_messages.specs.declared.messages.Entry.{Entry}
 use Rattle.schedule_text.specs.declared.words.Setup.{Setup}
 use Rattle.schedule_text.specs.declared.words.Setup.TheVariants as line
-use Rattle.chain_types.specs.Equal.{digest_eq, id_eq}
+use Rattle.chain_types.specs.Equal.{id_eq}
 use Rattle.chain_spec.specs.Certificates.{Rules}
 
 -- a name, which is a list of bytes
@@ -126,7 +120,8 @@ abbrev pub rules_of : Trust → List Setup → Rules
 rules_of trust lines = record {
   stakes = stakes_of lines;
   writers = writers_of lines;
-  accepts = trust.accepts }
+  accepts = trust.accepts;
+}
 
 -- what the set-up lines fix
 unfoldable pub setting_of : Trust → List Setup → Setting
@@ -136,7 +131,8 @@ setting_of trust lines = record {
   opening = fold with_new [] (objects_from 0 lines);
   things = things_from 0 lines;
   users = owners_of lines;
-  seal = trust.seal }
+  seal = trust.seal;
+}
 
 -- a member's seal on a statement, and a sender's on its transaction
 abbrev pub member_seal : Setting → ℕ → Statement → Digest

@@ -1,36 +1,32 @@
 -- One line of a schedule, as a step of the world. Source: this profile.
-use Rattle.std.specs.Prelude.{ℕ, zero, suc, ◌+◌, ◌-◌, min, Bool, true, false, not, ◌&&◌, ◌==◌, List, [], ◌∷◌, ◌++◌, map, filter_map, find, length, slice_get, slice_set, Option, Some, None, option_map, option_and_then, bytes_eq, Result, Ok, Err, if◌then◌else◌}
+use Rattle.std.specs.Prelude.{ℕ, ◌+◌, ◌-◌, min, Bool, true, false, not, ◌&&◌, ◌==◌, List, [], ◌∷◌, ◌++◌, map, length, slice_get, slice_set, Option, Some, None, option_map, if◌then◌else◌}
 use Rattle.std.specs.List.{enumerate_from}
 use Rattle.digest_core.specs.declared.Digest.{Digest}
 use Rattle.chain_types.specs.declared.transactions.Transaction.{Transaction}
 use Rattle.chain_messages.specs.declared.messages.Statement.{Statement}
 use Rattle.chain_messages.specs.declared.messages.Statement.TheVariants as statement
-use Rattle.chain_messages.specs.declared.messages.Sealed.{Sealed}
 use Rattle.chain_messages.specs.declared.messages.MemberSeal.{MemberSeal}
 use Rattle.chain_messages.specs.declared.messages.Certificate.{Certificate}
 use Rattle.chain_messages.specs.declared.messages.Entry.{Entry}
 use Rattle.chain_messages.specs.declared.messages.Entry.TheVariants as entry
-use Rattle.journal_core.specs.declared.records.Record.{Record}
 use Rattle.schedule_text.specs.declared.words.Event.{Event}
 use Rattle.schedule_text.specs.declared.words.Event.TheVariants as event
 use Rattle.chain_types.specs.Equal.{digest_eq}
 use Rattle.effects_core.specs.Effects.{digest_of_effects}
 use Rattle.chain_types.specs.Transactions as transactions
 use Rattle.chain_messages.specs.Messages as messages
-use Rattle.chain_spec.specs.Words.{first_some, first_of, where_true, last_where, all_some}
+use Rattle.chain_spec.specs.Words.{first_some, first_of, where_true}
 use Rattle.chain_spec.specs.Tests.{origins_eq}
 use Rattle.chain_spec.specs.Keys.{objects_of}
 use Rattle.chain_spec.specs.Committee.{weight, total_of, is_quorum}
-use Rattle.chain_spec.specs.Certificates.{Rules}
 use Rattle.member_spec.specs.Versions.{Execution, execution_of}
-use Rattle.member_spec.specs.Sequence.{Sequence, seen}
-use Rattle.member_spec.specs.Checkpoints.{effects_digest_of, zero_digest}
+use Rattle.member_spec.specs.Sequence.{seen}
 use Rattle.member_spec.specs.Member.{Member}
-use Rattle.member_spec.specs.Calls.{Call, votes, holds, sees, runs, closes, ends, turns, acks}
+use Rattle.member_spec.specs.Calls.{votes, holds, runs, closes, ends, turns, acks}
 use Rattle.world_spec.specs.Setting.{Name, Setting, member_seal}
-use Rattle.world_spec.specs.World.{Seat, Said, Made, Formed, World, said_by, with_seat, called_in, is_honest, member_at, says_first, entries_at, sees_on, list_or_none}
+use Rattle.world_spec.specs.World.{Seat, Said, Made, World, said_by, with_seat, called_in, is_honest, member_at, says_first, entries_at, sees_on, list_or_none}
 use Rattle.world_spec.specs.Names.{made_named, cert_named}
-use Rattle.world_spec.specs.Making.{TxLine, made_by_line, digest_named, spoiled_if, digest_or_zero}
+use Rattle.world_spec.specs.Making.{made_by_line, digest_named, spoiled_if, digest_or_zero}
 
 -- ---- statements
 
@@ -88,7 +84,7 @@ fvote_origins w t (word ∷ words) = map (origin_word w) (word ∷ words)
 
 abbrev pub fvoted : World → ℕ → List (Option Name) → Option Made → World
 fvoted w m words None = w
-fvoted w m words (Some t) = says w m (statement.Vote t.signed.tx.epoch t.digest (fvote_origins w t words))
+fvoted w m words (Some t) = if is_honest w m then w else says w m (statement.Vote t.signed.tx.epoch t.digest (fvote_origins w t words))
 
 -- ---- cert
 

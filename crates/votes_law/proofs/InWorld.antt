@@ -1,0 +1,183 @@
+-- What holds of no records and is kept by each record that is due holds of every seat of every run.
+use Rattle.std.proofs.Common.{refl, sym, subst, ap, ◌∙◌}
+use Rattle.std.specs.Prelude.{◌≡◌, ℕ, zero, suc, min, Bool, true, false, cond, List, [], ◌∷◌, ◌++◌, map, slice_get, slice_set, Option, Some, None}
+use Rattle.digest_core.specs.declared.Digest.{Digest}
+use Rattle.chain_types.specs.Transactions as transactions
+use Rattle.chain_messages.specs.Messages as messages
+use Rattle.chain_messages.specs.declared.messages.Certificate.{Certificate}
+use Rattle.chain_messages.specs.declared.messages.Entry.{Entry}
+use Rattle.journal_core.specs.declared.records.Record.{Record}
+use Rattle.schedule_text.specs.declared.words.Event.{Event}
+use Rattle.schedule_text.specs.declared.words.Event.TheVariants as event
+use Rattle.chain_spec.specs.Words.{Each}
+use Rattle.member_spec.specs.Member.{Member, state}
+use Rattle.member_spec.specs.Calls.{Call, votes, holds, sees, runs, closes, ends, turns, acks, due}
+use Rattle.world_spec.specs.Setting.{Name, Setting}
+use Rattle.world_spec.specs.World.{Seat, Made, World, Reached, finds_down, stops, answers, new_seat, new_world, member_in, reached_up, reached_seat, appended, stopped_seat, behind, called_seat, called_in, called_if, sees_on, is_honest, member_at, next_call}
+use Rattle.world_spec.specs.Names.{made_named, cert_named}
+use Rattle.world_spec.specs.Making.{made_by_line}
+use Rattle.world_spec.specs.Step.{happens, voted_on, fvoted, formed, formed_as, votes_collected, Collected, lacks, short, differ, whole, sent, ordered, end_ordered, honest_end, ordered_end, risen_if, has_ended, appended_entry, sealed_end, acked, on_seat, armed_seat, started_seat, entries_left, end_in, last_said}
+use Rattle.world_spec.specs.Run.{run, world_after}
+
+-- one element of a list is another
+each-set : {A : Type 0} (P : A → Type 0) (xs : List A) (m : ℕ) (x : A) → Each P xs → P x → Each P (slice_set xs m x)
+each-set P [] m x each one = tt
+each-set P (y ∷ ys) zero x each one = (one, each.1)
+each-set P (y ∷ ys) (suc m) x each one = (each.0, each-set P ys m x each.1 one)
+
+each-get : {A : Type 0} (P : A → Type 0) (xs : List A) (m : ℕ) (x : A) → Each P xs → slice_get xs m ≡ Some x → P x
+each-get P [] m x each e = absurd (cc)
+each-get P (y ∷ ys) zero x each e = subst P (same y x e) each.0
+  where
+    same : {A : Type 0} (y x : A) → Some y ≡ Some x → y ≡ x
+    same y x e = cc
+each-get P (y ∷ ys) (suc m) x each e = each-get P ys m x each.1 e
+
+module _ (s : Setting) (P : List Record → Type 0) (step : (records : List Record) (call : Call) (x : Record) → due s.rules (state s.rules s.opening records) call ≡ Some x → P records → P (records ++ x ∷ [])) where
+  OfSeat : Seat → Type 0
+  OfSeat seat = P seat.records
+
+  abbrev AllSeats : World → Type 0
+  AllSeats w = Each (λ (seat : Seat). P seat.records) w.seats
+
+  -- what a call does to a seat
+  stopped-due : (seat : Seat) (call : Call) (kept : Bool) (x : Record) → reached_seat s call seat ≡ stops kept x → due s.rules (member_in s seat) call ≡ Some x
+  stopped-due seat call kept x e = go seat.up seat.armed (due s.rules (member_in s seat) call) refl e
+    where
+      go : (up : Bool) (armed : Option Bool) (y : Option Record) → due s.rules (member_in s seat) call ≡ y → cond up (reached_up (member_in s seat) armed y) finds_down ≡ stops kept x → due s.rules (member_in s seat) call ≡ Some x
+      go false armed y d e = absurd (cc)
+      go true None y d e = absurd (cc)
+      go true (Some k) None d e = absurd (cc)
+      go true (Some k) (Some z) d e = d ∙ same k z e
+        where
+          same : (k : Bool) (z : Record) → stops k z ≡ stops kept x → Some z ≡ Some x
+          same k z e = cc
+
+  answered-due : (seat : Seat) (call : Call) (m : Member) (x : Option Record) → reached_seat s call seat ≡ answers m x → due s.rules (member_in s seat) call ≡ x
+  answered-due seat call m x e = go seat.up seat.armed (due s.rules (member_in s seat) call) refl e
+    where
+      go : (up : Bool) (armed : Option Bool) (y : Option Record) → due s.rules (member_in s seat) call ≡ y → cond up (reached_up (member_in s seat) armed y) finds_down ≡ answers m x → due s.rules (member_in s seat) call ≡ x
+      go false armed y d e = absurd (cc)
+      go true None y d e = d ∙ same y e
+        where
+          same : (y : Option Record) → answers (member_in s seat) y ≡ answers m x → y ≡ x
+          same y e = cc
+      go true (Some k) None d e = d ∙ same e
+        where
+          same : answers (member_in s seat) None ≡ answers m x → None ≡ x
+          same e = cc
+      go true (Some k) (Some z) d e = absurd (cc)
+
+  kept-stop : (seat : Seat) (call : Call) (kept : Bool) (x : Record) → due s.rules (member_in s seat) call ≡ Some x → P seat.records → P (stopped_seat seat kept x).records
+  kept-stop seat call true x d p = step seat.records call x d p
+  kept-stop seat call false x d p = p
+
+  kept-answer : (seat : Seat) (call : Call) (x : Option Record) → due s.rules (member_in s seat) call ≡ x → P seat.records → P (appended seat.records x)
+  kept-answer seat call None d p = p
+  kept-answer seat call (Some x) d p = step seat.records call x d p
+
+  kept-behind : (w : World) (m : ℕ) (call : Call) (seat : Seat) (r : Reached) → reached_seat s call seat ≡ r → P seat.records → AllSeats w → AllSeats (behind s w m call seat r)
+  kept-behind w m call seat finds_down e p all = all
+  kept-behind w m call seat (stops kept x) e p all = each-set (λ (y : Seat). P y.records) w.seats m (stopped_seat seat kept x) all (kept-stop seat call kept x (stopped-due seat call kept x e) p)
+  kept-behind w m call seat (answers before x) e p all = each-set (λ (y : Seat). P y.records) w.seats m (record seat { records = appended seat.records x }) all (kept-answer seat call x (answered-due seat call before x e) p)
+
+  kept-called_seat : (w : World) (m : ℕ) (call : Call) (seat : Option Seat) → slice_get w.seats m ≡ seat → AllSeats w → AllSeats (called_seat s w m call seat)
+  kept-called_seat w m call None e all = all
+  kept-called_seat w m call (Some seat) e all = kept-behind w m call seat (reached_seat s call seat) refl (each-get (λ (y : Seat). P y.records) w.seats m seat all e) all
+
+  kept-called : (w : World) (m : ℕ) (call : Call) → AllSeats w → AllSeats (called_in s w m call)
+  unfolding called_in
+  kept-called w m call all = kept-called_seat w m call (slice_get w.seats m) refl all
+
+  kept-called_if : (w : World) (m : ℕ) (call : Option Call) → AllSeats w → AllSeats (called_if s w m call)
+  kept-called_if w m None all = all
+  kept-called_if w m (Some call) all = kept-called w m call all
+
+  kept-sees : (n : ℕ) (w : World) (m : ℕ) → AllSeats w → AllSeats (sees_on s n w m)
+  kept-sees zero w m all = all
+  kept-sees (suc n) w m all = kept-sees n (called_if s w m (next_call s w m)) m (kept-called_if w m (next_call s w m) all)
+
+  -- the other lines append no record
+  kept-voted : (w : World) (m : ℕ) (t : Option Made) → AllSeats w → AllSeats (voted_on s w m t)
+  kept-voted w m None all = all
+  kept-voted w m (Some t) all = kept-called w m (votes (transactions.signed.spell t.signed)) all
+
+  kept-if : (b : Bool) (v w : World) → AllSeats v → AllSeats w → AllSeats (cond b v w)
+  kept-if true v w one other = one
+  kept-if false v w one other = other
+
+  kept-fvoted : (w : World) (m : ℕ) (words : List (Option Name)) (t : Option Made) → AllSeats w → AllSeats (fvoted w m words t)
+  kept-fvoted w m words None all = all
+  kept-fvoted w m words (Some t) all = kept-if _ w _ all all
+
+  kept-formed_as : (w : World) (t : Made) (ms : List ℕ) (c : Collected) → AllSeats w → AllSeats (formed_as s w t ms c)
+  kept-formed_as w t ms (lacks m) all = all
+  kept-formed_as w t ms (short weight total) all = all
+  kept-formed_as w t ms (differ a b) all = all
+  kept-formed_as w t ms whole all = all
+
+  kept-formed : (w : World) (ms : List ℕ) (t : Option Made) → AllSeats w → AllSeats (formed s w ms t)
+  kept-formed w ms None all = all
+  kept-formed w ms (Some t) all = kept-formed_as w t ms (votes_collected s w t.digest ms) all
+
+  kept-sent : (w : World) (m : ℕ) (c : Option Certificate) → AllSeats w → AllSeats (sent s w m c)
+  kept-sent w m None all = all
+  kept-sent w m (Some c) all = kept-called w m (holds (messages.certificate.spell c)) all
+
+  kept-ordered : (w : World) (c : Option Certificate) → AllSeats w → AllSeats (ordered w c)
+  kept-ordered w None all = all
+  kept-ordered w (Some c) all = kept-if _ _ w all all
+
+  kept-risen : (b : Bool) (w : World) → AllSeats w → AllSeats (risen_if b w)
+  kept-risen true w all = all
+  kept-risen false w all = all
+
+  kept-end : (w : World) (m epoch : ℕ) → AllSeats w → AllSeats (ordered_end s w m epoch)
+  kept-end w m epoch all = kept-risen (has_ended s (appended_entry w (sealed_end s m epoch))) (appended_entry w (sealed_end s m epoch)) all
+
+  kept-honest_end : (w : World) (m : ℕ) (epoch : Option ℕ) → AllSeats w → AllSeats (honest_end s w m epoch)
+  kept-honest_end w m None all = all
+  kept-honest_end w m (Some epoch) all = kept-if _ _ w (kept-end w m epoch all) all
+
+  kept-on_seat : (w : World) (m : ℕ) (change : Seat → Seat) → ((seat : Seat) → P seat.records → P (change seat).records) → (seat : Option Seat) → slice_get w.seats m ≡ seat → AllSeats w → AllSeats (on_seat w m change seat)
+  kept-on_seat w m change keeps None e all = all
+  kept-on_seat w m change keeps (Some seat) e all = each-set (λ (y : Seat). P y.records) w.seats m (change seat) all (keeps seat (each-get (λ (y : Seat). P y.records) w.seats m seat all e))
+
+  kept-acked : (w : World) (m : ℕ) (spoiled : Bool) (t : Option Made) → AllSeats w → AllSeats (acked s w m spoiled t)
+  kept-acked w m spoiled None all = all
+  kept-acked w m spoiled (Some t) all = kept-if _ _ _ (kept-called w m (acks t.digest) all) all
+
+  kept-line : (w : World) (e : Event) → AllSeats w → AllSeats (happens s w e)
+  unfolding happens made_by_line
+  kept-line w (event.Tx name sender spoiled epoch gas budget inputs commands) all = all
+  kept-line w (event.Vote m tx) all = kept-voted w m (made_named w tx) all
+  kept-line w (event.Fvote m tx origins) all = kept-fvoted w m origins (made_named w tx) all
+  kept-line w (event.Cert tx members) all = kept-formed w members (made_named w tx) all
+  kept-line w (event.Send m tx) all = kept-sent w m (cert_named w tx) all
+  kept-line w (event.Order tx) all = kept-ordered w (cert_named w tx) all
+  kept-line w (event.OrderEnd m) all = kept-if (is_honest w m) _ _ (kept-honest_end w m (last_said end_in m w.said) all) (kept-end _ m w.epoch all)
+  kept-line w event.OrderCommit all = all
+  kept-line w (event.See m entries) all = kept-sees (min entries (entries_left w (member_at s w m))) w m all
+  kept-line w (event.Run m workers) all = kept-called w m runs all
+  kept-line w (event.Close m) all = kept-called w m closes all
+  kept-line w (event.End m) all = kept-called w m ends all
+  kept-line w (event.Turn m) all = kept-called w m turns all
+  kept-line w (event.Show m) all = all
+  kept-line w (event.Stop m kept) all = kept-on_seat w m (armed_seat kept) (λ seat p. p) (slice_get w.seats m) refl all
+  kept-line w (event.Restart m) all = kept-on_seat w m started_seat (λ seat p. p) (slice_get w.seats m) refl all
+  kept-line w (event.RawVote m bytes) all = kept-called w m (votes bytes) all
+  kept-line w (event.RawHold m bytes) all = kept-called w m (holds bytes) all
+  kept-line w (event.Ack m tx spoiled) all = kept-acked w m spoiled (made_named w tx) all
+  kept-line w (event.Final tx members) all = all
+
+  kept-run : (events : List Event) (w : World) → AllSeats w → AllSeats (run s events w)
+  kept-run [] w all = all
+  kept-run (e ∷ events) w all = kept-run events (happens s w e) (kept-line w e all)
+
+  new-seats : (honest : List Bool) → P [] → Each (λ (seat : Seat). P seat.records) (map new_seat honest)
+  new-seats [] none = tt
+  new-seats (h ∷ honest) none = (none, new-seats honest none)
+
+  pub in_world : P [] → (events : List Event) (m : ℕ) (seat : Seat) → slice_get (world_after s events).seats m ≡ Some seat → P seat.records
+  unfolding world_after new_world
+  in_world none events m seat e = each-get (λ (y : Seat). P y.records) (run s events (new_world s)).seats m seat (kept-run events (new_world s) (new-seats s.honest none)) e

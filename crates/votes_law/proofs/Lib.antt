@@ -1,0 +1,3 @@
+pub mod InWorld
+mod Journals
+mod Apart

@@ -1,0 +1,35 @@
+-- What holds of every member in every run.
+use Rattle.std.specs.Prelude.{◌≡◌, ℕ, Bool, true, false, List, [], slice_get, Option, Some}
+use Rattle.chain_types.specs.declared.objects.ObjectKey.{ObjectKey}
+use Rattle.chain_types.specs.declared.objects.Object.{Object}
+use Rattle.journal_core.specs.declared.records.Record.{Record}
+use Rattle.schedule_text.specs.declared.words.Event.{Event}
+use Rattle.chain_types.specs.Equal.{digest_eq}
+use Rattle.chain_spec.specs.Words.{Has, Each, Along}
+use Rattle.chain_spec.specs.Tests.{has_key}
+use Rattle.chain_spec.specs.Certificates.{Rules}
+use Rattle.member_spec.specs.Votes.{Cast}
+use Rattle.member_spec.specs.Member.{state}
+use Rattle.member_spec.specs.Calls.{Call, due}
+use Rattle.world_spec.specs.Setting.{Setting}
+use Rattle.world_spec.specs.World.{Seat, member_in}
+use Rattle.world_spec.specs.Run.{world_after}
+
+-- some call appends the record behind these
+abbrev pub IsDueBehind : Rules → List Object → List Record → Record → Type 0
+IsDueBehind r opening before x = (call : Call) × (due r (state r opening before) call ≡ Some x)
+
+abbrev pub EveryRecordIsDue : Type 0
+EveryRecordIsDue = (s : Setting) (events : List Event) (m : ℕ) (seat : Seat) → slice_get (world_after s events).seats m ≡ Some seat
+    → Along (IsDueBehind s.rules s.opening) [] seat.records
+
+-- a later vote for another transaction consumes no version that this one consumes
+abbrev pub IsApartFrom : Cast → Cast → Type 0
+IsApartFrom later v = digest_eq v.digest later.digest ≡ false → (key : ObjectKey) → Has later.consumed key → has_key v.consumed key ≡ false
+
+abbrev pub AreApart : List Cast → Type 0
+AreApart votes = Along (λ before later. Each (IsApartFrom later) before) [] votes
+
+abbrev pub VotesShareNoVersion : Type 0
+VotesShareNoVersion = (s : Setting) (events : List Event) (m : ℕ) (seat : Seat) → slice_get (world_after s events).seats m ≡ Some seat
+    → AreApart (member_in s seat).votes

@@ -1,0 +1,17 @@
+//! What holds of every member in every run: each of its records was due in the state of those before it, and its
+//! votes of one epoch share no consumed version.
+#![tactic(auto)]
+
+ghost use Rattle.votes_law.specs.Members.{EveryRecordIsDue, VotesShareNoVersion};
+
+/// Each record of each member is the one that some call appends in the state of the records before it.
+pub fn every_record_is_due()
+    ensures { EveryRecordIsDue }
+{
+}
+
+/// Of a member's votes of its epoch, two for different transactions consume no common version.
+pub fn votes_share_no_version()
+    ensures { VotesShareNoVersion }
+{
+}
