@@ -7,6 +7,9 @@ mod messages_wire;
 
 pub use messages::{Certificate, Entry, MemberSeal, Sealed, Statement};
 pub use messages_wire::{
-    decode_certificate, decode_entry, decode_sealed, decode_statement, encode_certificate, encode_entry,
-    encode_sealed, encode_statement,
+    decode_certificate, decode_entry, decode_sealed, decode_statement, encode_certificate,
+    encode_entry, encode_sealed, encode_statement,
 };
+
+#[cfg(test)]
+mod tests;

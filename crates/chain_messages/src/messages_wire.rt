@@ -9,7 +9,7 @@ use crate::messages::{Certificate, Entry, MemberSeal, Sealed, Statement};
 use chain_types::Transaction;
 use digest_core::Digest;
 use std::alloc::Global;
-use wire_bcs::{decode, encode, Duplicate, OutOfMemory, Reader, Seq, Unread, Wire, Writer};
+use wire_bcs::{Duplicate, OutOfMemory, Reader, Seq, Unread, Wire, Writer, decode, encode};
 
 #[tactic(auto, using(wire_bcs::specs::Wrote::parts), unfolding(crate::specs::Messages::statement))]
 impl Wire for Statement {

@@ -10,7 +10,9 @@ use crate::objects::{Address, Kind, ObjectId, ObjectRef};
 use crate::transactions::{Argument, Command, Input, SignedTx, Transaction};
 use digest_core::{Digest, TAG_TRANSACTION, digest_of};
 use std::alloc::Global;
-use wire_bcs::{decode, encode, Duplicate, OutOfMemory, Reader, Seq, Unread, Wire, WireFault, Writer};
+use wire_bcs::{
+    Duplicate, OutOfMemory, Reader, Seq, Unread, Wire, WireFault, Writer, decode, encode,
+};
 
 #[tactic(auto, using(wire_bcs::specs::Wrote::parts), unfolding(crate::specs::Transactions::input))]
 impl Wire for Input {

@@ -4,9 +4,9 @@ ghost use Rattle.std.specs.Prelude.{◌≡◌, IfOk};
 ghost use Rattle.checkpoint_core.specs.Checkpoints as codecs;
 
 use crate::checkpoints::{Checkpoint, Item};
-use digest_core::{digest_of, Digest, TAG_CHECKPOINT};
+use digest_core::{Digest, TAG_CHECKPOINT, digest_of};
 use std::alloc::Global;
-use wire_bcs::{encode, Duplicate, OutOfMemory, Reader, Seq, Unread, Wire, Writer};
+use wire_bcs::{Duplicate, OutOfMemory, Reader, Seq, Unread, Wire, Writer, encode};
 
 #[tactic(auto, using(wire_bcs::specs::Wrote::parts), unfolding(crate::specs::Checkpoints::item))]
 impl Wire for Item {

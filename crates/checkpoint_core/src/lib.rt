@@ -6,3 +6,6 @@ mod checkpoints_wire;
 
 pub use checkpoints::{Checkpoint, Item};
 pub use checkpoints_wire::checkpoint_digest;
+
+#[cfg(test)]
+mod tests;

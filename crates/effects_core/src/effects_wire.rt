@@ -5,9 +5,9 @@ ghost use Rattle.effects_core.specs.Effects as codecs;
 
 use crate::effects::{Effects, Status, Written};
 use chain_types::{ObjectId, Owner};
-use digest_core::{digest_of, Digest, TAG_EFFECTS};
+use digest_core::{Digest, TAG_EFFECTS, digest_of};
 use std::alloc::Global;
-use wire_bcs::{encode, Duplicate, OutOfMemory, Reader, Seq, Unread, Wire, Writer};
+use wire_bcs::{Duplicate, OutOfMemory, Reader, Seq, Unread, Wire, Writer, encode};
 
 #[tactic(auto, using(wire_bcs::specs::Wrote::parts), unfolding(crate::specs::Effects::status))]
 impl Wire for Status {

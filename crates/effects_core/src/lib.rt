@@ -6,3 +6,6 @@ mod effects_wire;
 
 pub use effects::{Effects, Status, Written};
 pub use effects_wire::effects_digest;
+
+#[cfg(test)]
+mod tests;

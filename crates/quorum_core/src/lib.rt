@@ -4,3 +4,6 @@
 mod signer;
 
 pub use signer::Signer;
+
+#[cfg(test)]
+mod tests;

@@ -1,11 +1,11 @@
 -- Sequences, one item after another.
-use Rattle.std.proofs.Common.{◌≡◌, ℕ, suc, ◌+◌, ◌-◌, ◌<◌, ◌≤◌, true, List, [], ◌∷◌, ◌++◌, length, get_or, take, drop, Result, Ok, Err, refl, sym, ◌∙◌, ap, subst, arith, append_assoc}
+use Rattle.std.proofs.Common.{◌≡◌, ℕ, suc, ◌+◌, ◌-◌, ◌<◌, ◌≤◌, true, List, [], ◌∷◌, ◌++◌, length, get_or, take, drop, Ok, Err, refl, sym, ◌∙◌, ap, subst, arith, append_assoc}
 use Rattle.std.specs.Prelude.{flat_map}
-use Rattle.std.proofs.lemmas.List.{append-nil, take-append-drop, drop_more, take_all, take_more}
+use Rattle.std.proofs.lemmas.List.{append-nil, take-append-drop, drop_more}
 use Rattle.std.proofs.lemmas.Grind.{flat_map-append}
 use Rattle.wire_bcs.specs.declared.fault.Unread.{Unread}
 use Rattle.wire_bcs.specs.declared.fault.Unread.TheVariants as unread
-use Rattle.wire_bcs.specs.Place.{Place, Stop, Read, ◌>>=◌}
+use Rattle.wire_bcs.specs.Place.{Place, Read, ◌>>=◌}
 use Rattle.wire_bcs.specs.Uleb.{uleb, uleb_below}
 use Rattle.wire_bcs.specs.Items.{length_limit}
 use Rattle.wire_bcs.specs.Shapes.{items_read, seq_read, seq_spell}

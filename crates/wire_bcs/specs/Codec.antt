@@ -1,6 +1,6 @@
 -- What a codec is: the one spelling of each value of a type, and how it is read back.
-use Rattle.std.specs.Prelude.{◌≡◌, ℕ, ◌+◌, List, ◌++◌, length, Ok, Result}
-use Rattle.wire_bcs.specs.Place.{Place, Stop, Read, Takes, IsBytes, left, forward}
+use Rattle.std.specs.Prelude.{◌≡◌, ℕ, List, ◌++◌, length, Ok}
+use Rattle.wire_bcs.specs.Place.{Place, Read, Takes, IsBytes, left, forward}
 
 pub record Codec (A : Type 0) : Type 1 where
   -- no list in the value is too long to be spelled

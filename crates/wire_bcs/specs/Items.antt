@@ -2,12 +2,12 @@
 -- of the table of faults: 1 the input ends inside the item, 2 a bool byte is neither 0 nor 1, 5 a length
 -- is above 2147483647, 8 the bytes of a text are not UTF-8. (3 and 4 are ULEB128's, 6 and 7 stand in
 -- Tags and Whole.)
-use Rattle.std.specs.Prelude.{◌≡◌, ℕ, zero, suc, ◌+◌, ◌^◌, ◌<◌, ◌≤◌, Bool, true, false, cond, nat_lt, ◌==◌, if◌then◌else◌, List, [], ◌∷◌, ◌++◌, length, take, drop, Result, Ok, Err, refl}
+use Rattle.std.specs.Prelude.{◌≡◌, ℕ, ◌^◌, ◌<◌, ◌≤◌, Bool, true, false, cond, nat_lt, ◌==◌, if◌then◌else◌, List, [], ◌∷◌, ◌++◌, length, take, drop, Ok, Err, refl}
 use Rattle.std.specs.Str.{is_utf8}
 use Rattle.std.proofs.Common.{sym, ◌∙◌, ap, subst, inl, inr, arith, append_assoc, add-zero}
-use Rattle.std.proofs.lemmas.Bool.{cases_lt, eqb-true, ltb-true, ltb-false, le-ltb, lt-ltb}
-use Rattle.std.proofs.lemmas.List.{take_at, drop_at, take-append-drop, length-append, length-take, length-take-le, length-drop, drop-drop, get_or-take, get_or_past}
-use Rattle.wire_bcs.specs.Place.{Place, Stop, Read, Takes, Takes-then, Takes-bytes, Takes-none, IsBytes, left, forward, left-forward, forward-then, stop, ◌>>=◌, bind_ok, ok_is}
+use Rattle.std.proofs.lemmas.Bool.{cases_lt, eqb-true, ltb-false, le-ltb}
+use Rattle.std.proofs.lemmas.List.{take_at, take-append-drop, length-append, length-take, length-take-le, drop-drop, get_or-take, get_or_past}
+use Rattle.wire_bcs.specs.Place.{Place, Read, Takes, Takes-then, Takes-bytes, Takes-none, IsBytes, left, forward, left-forward, forward-then, stop, ◌>>=◌, bind_ok, ok_is}
 use Rattle.wire_bcs.specs.Codec.{Codec}
 use Rattle.wire_bcs.specs.Little.{low_first, value_of, length-low_first, value_of-low_first, value_of-below, low_first-value_of}
 use Rattle.wire_bcs.specs.Uleb.{uleb, uleb_below}

@@ -1,8 +1,8 @@
 -- Codecs made of codecs: fields in order, another view of a value, sequences, options (BCS).
-use Rattle.std.specs.Prelude.{◌≡◌, ℕ, zero, suc, ◌+◌, ◌<◌, Bool, true, false, List, [], ◌∷◌, ◌++◌, length, flat_map, All, Option, Some, None, Result, Ok, Err, IfSome, is_some, get_or, refl}
+use Rattle.std.specs.Prelude.{◌≡◌, ℕ, zero, suc, ◌<◌, Bool, true, false, List, [], ◌∷◌, ◌++◌, length, flat_map, All, Option, Some, None, Ok, IfSome, is_some, get_or, refl}
 use Rattle.std.proofs.Common.{sym, ◌∙◌, ap, subst, arith, append_assoc, add-zero}
 use Rattle.std.proofs.lemmas.List.Elements.{All-nil, All-cons}
-use Rattle.wire_bcs.specs.Place.{Place, Stop, Read, Takes, Takes-then, Takes-bytes, Takes-none, IsBytes, left, forward, left-forward, forward-then, stop, ◌>>=◌, bind_ok, ok_is}
+use Rattle.wire_bcs.specs.Place.{Place, Read, Takes, Takes-then, Takes-bytes, Takes-none, IsBytes, left, forward, left-forward, forward-then, ◌>>=◌, bind_ok, ok_is}
 use Rattle.wire_bcs.specs.Codec.{Codec}
 use Rattle.wire_bcs.specs.Uleb.{uleb, uleb_below}
 use Rattle.wire_bcs.specs.UlebLaws.{uleb-takes, uleb-again}

@@ -1,9 +1,9 @@
 -- Choices (BCS: an enum is its variant number and its fields). Row 6 of the table of faults: there is no
 -- case of the number; its place is that of the number.
-use Rattle.std.specs.Prelude.{◌≡◌, ℕ, zero, suc, ◌+◌, ◌^◌, ◌<◌, ◌≤◌, Bool, true, false, cond, ltb, ◌==◌, ◌⊎◌, if◌then◌else◌, List, [], ◌∷◌, ◌++◌, length, Result, Ok, Err, refl}
+use Rattle.std.specs.Prelude.{◌≡◌, ℕ, suc, ◌^◌, ◌<◌, ◌≤◌, true, false, ltb, ◌==◌, ◌⊎◌, if◌then◌else◌, List, ◌++◌, length, Ok, refl}
 use Rattle.std.proofs.Common.{sym, ◌∙◌, ap, subst, inl, inr, arith, append_assoc}
 use Rattle.std.proofs.lemmas.Bool.{eqb-true, eq-eqb, ne_eqb, ltb-true}
-use Rattle.wire_bcs.specs.Place.{Place, Stop, Read, Takes, Takes-then, Takes-bytes, IsBytes, left, forward, left-forward, forward-then, stop, ◌>>=◌, bind_ok, ok_is}
+use Rattle.wire_bcs.specs.Place.{Place, Read, Takes, Takes-then, Takes-bytes, IsBytes, left, forward, left-forward, forward-then, stop, ◌>>=◌, bind_ok, ok_is}
 use Rattle.wire_bcs.specs.Codec.{Codec}
 use Rattle.wire_bcs.specs.Uleb.{uleb, uleb_below}
 use Rattle.wire_bcs.specs.UlebLaws.{chosen, uleb-takes, uleb-again}

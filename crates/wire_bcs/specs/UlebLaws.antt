@@ -1,9 +1,9 @@
 -- ULEB128 is read as it is spelled.
-use Rattle.std.specs.Prelude.{◌≡◌, ℕ, zero, suc, ◌+◌, ◌-◌, ◌*◌, ◌/◌, ◌%◌, ◌^◌, ◌<◌, ◌≤◌, Bool, true, false, cond, nat_lt, ◌==◌, ◌⊎◌, List, [], ◌∷◌, ◌++◌, length, get_or, drop, Result, Ok, Err, refl}
+use Rattle.std.specs.Prelude.{◌≡◌, ℕ, zero, suc, ◌+◌, ◌-◌, ◌*◌, ◌/◌, ◌%◌, ◌^◌, ◌<◌, ◌≤◌, Bool, true, false, cond, nat_lt, ◌==◌, ◌⊎◌, List, [], ◌∷◌, ◌++◌, length, drop, Result, Ok, Err, refl}
 use Rattle.std.proofs.Common.{sym, ◌∙◌, ap, subst, inl, inr, arith}
 use Rattle.std.proofs.lemmas.List.{get_or-drop, drop-drop}
 use Rattle.std.proofs.lemmas.Bool.{cases_lt, ltb-true, ltb-false, lt-ltb, le-ltb, eqb-false, ne_eqb}
-use Rattle.wire_bcs.specs.Place.{Place, Read, Takes, IsBytes, left, forward, stop, ◌>>=◌, bind_ok, ok_is}
+use Rattle.wire_bcs.specs.Place.{Place, Takes, IsBytes, left, forward, stop, bind_ok, ok_is}
 use Rattle.wire_bcs.specs.Little.{IsBytes-rest}
 use Rattle.wire_bcs.specs.Uleb.{uleb_in, uleb, behind, uleb_rest, uleb_at, counted, uleb_below}
 

@@ -1,9 +1,9 @@
 -- A whole value: its spelling and nothing behind it. Row 7 of the table of faults: bytes are left.
-use Rattle.std.specs.Prelude.{◌≡◌, ℕ, ◌+◌, ◌==◌, Bool, true, false, cond, if◌then◌else◌, List, [], ◌++◌, length, Result, Ok, Err, refl}
-use Rattle.std.proofs.Common.{sym, ◌∙◌, ap, subst, inl, inr, arith}
+use Rattle.std.specs.Prelude.{◌≡◌, ℕ, ◌==◌, if◌then◌else◌, List, [], ◌++◌, length, Result, Ok, refl}
+use Rattle.std.proofs.Common.{sym, ◌∙◌, ap, subst, inl, inr}
 use Rattle.std.proofs.lemmas.Bool.{eqb-true}
 use Rattle.std.proofs.lemmas.List.{append-nil, append_cancel_left, nil_from_length}
-use Rattle.wire_bcs.specs.Place.{Place, Stop, Read, Takes, IsBytes, left, start, forward, left-forward, stop, done, ◌>>=◌, bind_ok, ok_is}
+use Rattle.wire_bcs.specs.Place.{Place, Stop, IsBytes, left, start, forward, left-forward, stop, ◌>>=◌, bind_ok, ok_is}
 use Rattle.wire_bcs.specs.Codec.{Codec}
 use Rattle.wire_bcs.specs.UlebLaws.{chosen}
 

@@ -2,7 +2,7 @@
 
 ghost use Rattle.std.specs.Prelude.{◌≡◌, ◌<◌, ◌++◌, List, ℕ, IfOk, Ok, length};
 ghost use Rattle.wire_bcs.specs.Codec.{Codec};
-ghost use Rattle.wire_bcs.specs.Place.{start};
+ghost use Rattle.wire_bcs.specs.Place.{Place, Takes, IsBytes, left, forward};
 ghost use Rattle.wire_bcs.specs.Digests.{digest};
 ghost use Rattle.wire_bcs.specs.Shapes.{seq, option};
 ghost use Rattle.wire_bcs.specs.Whole.{whole};
@@ -129,6 +129,16 @@ fn all_of<T: Wire>(alloc: Global, bytes: &[u8]) -> Result<T, Unread>
     reader.finish()?;
     Ok(value)
 }
+
+/// What is spelled at a place is read there, whatever follows.
+pub fn spelled_is_read<T: Wire>()
+    ensures { (p : Place) (x : _) (rest : List ℕ) → T.codec.fits x → left p ≡ T.codec.spell x ++ rest → T.codec.read p ≡ Ok (x, forward (length (T.codec.spell x)) p) }
+{}
+
+/// What is read at a place is spelled there, up to the place behind it.
+pub fn read_is_spelled<T: Wire>()
+    ensures { (p : Place) (x : _) (q : Place) → IsBytes p.input → T.codec.read p ≡ Ok (x, q) → Takes p (T.codec.spell x) q × T.codec.fits x }
+{}
 
 /// Each value has one spelling, no spelling is a front of another value's, and equal spellings are of
 /// equal values.

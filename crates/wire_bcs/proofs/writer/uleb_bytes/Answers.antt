@@ -1,6 +1,6 @@
-use Rattle.std.proofs.Common.{◌≡◌, ◌<◌, ◌^◌, refl, arith}
+use Rattle.std.proofs.Common.{◌≡◌, refl, arith}
 use Rattle.wire_bcs.specs.Uleb.{uleb}
-use Rattle.wire_bcs.proofs.Ulebs.{goes_on, ends, at_end}
+use Rattle.wire_bcs.proofs.Ulebs.{goes_on, at_end}
 use Rattle.wire_bcs.proofs.writer.uleb_bytes.Goals as goal
 
 pub loop-index-init : goal.loop-index-init
