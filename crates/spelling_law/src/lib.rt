@@ -7,5 +7,4 @@ ghost use Rattle.spelling_law.specs.Spellings.{TransactionsAreSpelledApart};
 /// Different transactions, statements and records have different spellings.
 pub fn transactions_are_spelled_apart()
     ensures { TransactionsAreSpelledApart }
-{
-}
+{}

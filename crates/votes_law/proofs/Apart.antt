@@ -1,6 +1,6 @@
 -- The votes of a member's epoch are apart: a new one was not locked by an earlier one.
-use Rattle.std.proofs.Common.{inl, inr, refl, sym, subst, ap, ◌∙◌}
-use Rattle.std.specs.Prelude.{◌≡◌, ◌⊎◌, ℕ, Bool, true, false, cond, not, ◌&&◌, ◌==◌, List, [], ◌∷◌, ◌++◌, find, fold, slice_get, Option, Some, None, option_map, Result, Ok, Err}
+use Rattle.std.proofs.Common.{inl, inr, refl, sym, subst}
+use Rattle.std.specs.Prelude.{◌≡◌, ℕ, Bool, true, false, cond, not, ◌&&◌, ◌==◌, List, [], ◌∷◌, ◌++◌, find, fold, slice_get, Option, Some, None, option_map, Result, Ok, Err}
 use Rattle.wire_bcs.specs.declared.fault.WireFault.{WireFault}
 use Rattle.digest_core.specs.declared.Digest.{Digest}
 use Rattle.chain_types.specs.Equal.{digest_eq}
@@ -9,7 +9,6 @@ use Rattle.chain_types.specs.declared.objects.ObjectKey.{ObjectKey}
 use Rattle.chain_types.specs.declared.objects.Object.{Object}
 use Rattle.chain_types.specs.declared.transactions.Transaction.{Transaction}
 use Rattle.chain_types.specs.declared.transactions.SignedTx.{SignedTx}
-use Rattle.chain_types.specs.declared.refusals.DecideRefusal.{DecideRefusal}
 use Rattle.chain_messages.specs.declared.messages.Certificate.{Certificate}
 use Rattle.journal_core.specs.declared.records.RanItem.{RanItem}
 use Rattle.journal_core.specs.declared.records.Record.{Record}
@@ -23,13 +22,13 @@ use Rattle.member_types.specs.declared.refusals.RunRefusal.{RunRefusal}
 use Rattle.member_types.specs.declared.refusals.CloseRefusal.{CloseRefusal}
 use Rattle.member_types.specs.declared.refusals.TurnRefusal.{TurnRefusal}
 use Rattle.schedule_text.specs.declared.words.Event.{Event}
-use Rattle.chain_spec.specs.Words.{Has, Each, Along, first_some, first_of, where_true, refused_or, unless_refused}
+use Rattle.chain_spec.specs.Words.{Has, Each, first_some, first_of, where_true, refused_or, unless_refused}
 use Rattle.chain_spec.specs.Tests.{has_key}
 use Rattle.chain_spec.specs.Certificates.{Rules, read_signed, read_certificate}
 use Rattle.chain_spec.proofs.ListLemmas.{along-push}
 use Rattle.member_spec.specs.Votes.{Cast, Ballot, vote_refusal, vote_cases, vote_origins, locked, is_lock}
 use Rattle.member_spec.specs.Member.{Member, ballot, vote_for, cast_of, fresh, after, state}
-use Rattle.member_spec.specs.Calls.{Call, votes, holds, sees, runs, closes, ends, turns, acks, Voted, decided_as, new_vote_cases, voted_as, new_vote, vote_again, vote_on, unsealed_of, vote_read, vote_stopped, vote_answer, hold_answer, is_hold_kept, see_cases, run_answer, close_answer, turn_answer, vote_record, hold_record, see_record, ran_items, ran_record, run_record, close_record, turn_record, due}
+use Rattle.member_spec.specs.Calls.{Call, votes, holds, sees, runs, closes, ends, turns, acks, decided_as, new_vote_cases, voted_as, new_vote, vote_again, unsealed_of, vote_read, vote_stopped, vote_answer, hold_answer, is_hold_kept, see_cases, run_answer, close_answer, turn_answer, vote_record, hold_record, see_record, ran_items, ran_record, run_record, close_record, turn_record, due}
 use Rattle.world_spec.specs.Setting.{Setting}
 use Rattle.world_spec.specs.World.{Seat, member_in}
 use Rattle.world_spec.specs.Run.{world_after}
@@ -69,14 +68,16 @@ unlocked tx v key e other = go (digest_eq v.digest tx) other e
 
 each-apart : (later : Cast) (vs : List Cast) → ((key : ObjectKey) → Has later.consumed key → find (is_lock later.digest key) vs ≡ None) → Each (IsApartFrom later) vs
 each-apart later [] none = tt
-each-apart later (v ∷ vs) none = (λ other key h. unlocked later.digest v key (none-found (is_lock later.digest key) v vs (none key h)).0 other,
-    each-apart later vs (λ key h. (none-found (is_lock later.digest key) v vs (none key h)).1))
+each-apart later (v ∷ vs) none = (
+  λ other key h. unlocked later.digest v key (none-found (is_lock later.digest key) v vs (none key h)).0 other,
+  each-apart later vs (λ key h. (none-found (is_lock later.digest key) v vs (none key h)).1),
+)
 
 not-locked : (b : Ballot) (t : Transaction) (origins : List (Option Digest)) → vote_refusal b t (transaction_digest t) ≡ None → Each (IsApartFrom (cast_of t origins)) b.votes
 unfolding vote_refusal
 not-locked b t origins e = each-apart (cast_of t origins) b.votes (λ key h.
     none-map _ (find (is_lock (transaction_digest t) key) b.votes) (none-of (locked b.votes (transaction_digest t)) (consumed_keys t) key
-      (none-each (vote_cases b t (transaction_digest t)) e).1.1.1.1.1.1.1.0 h))
+    (none-each (vote_cases b t (transaction_digest t)) e).1.1.1.1.1.1.1.0 h))
 
 -- ---- only a vote appends a Vote, and then no case refuses it
 
@@ -177,5 +178,5 @@ none-voted r opening = tt
 pub votes-apart : (s : Setting) (events : List Event) (m : ℕ) (seat : Seat) → slice_get (world_after s events).seats m ≡ Some seat → AreApart (member_in s seat).votes
 votes-apart s events m seat e =
     in_world s (λ records. AreApart (state s.rules s.opening records).votes)
-      (λ records call x d apart. subst (λ (n : Member). AreApart n.votes) (sym (state-push s.rules s.opening records x)) (apart-after s.rules (state s.rules s.opening records) call x d apart))
-      (none-voted s.rules s.opening) events m seat e
+    (λ records call x d apart. subst (λ (n : Member). AreApart n.votes) (sym (state-push s.rules s.opening records x)) (apart-after s.rules (state s.rules s.opening records) call x d apart))
+    (none-voted s.rules s.opening) events m seat e

@@ -1,22 +1,20 @@
 -- What holds of no records and is kept by each record that is due holds of every seat of every run.
-use Rattle.std.proofs.Common.{refl, sym, subst, ap, ◌∙◌}
+use Rattle.std.proofs.Common.{refl, subst, ◌∙◌}
 use Rattle.std.specs.Prelude.{◌≡◌, ℕ, zero, suc, min, Bool, true, false, cond, List, [], ◌∷◌, ◌++◌, map, slice_get, slice_set, Option, Some, None}
-use Rattle.digest_core.specs.declared.Digest.{Digest}
 use Rattle.chain_types.specs.Transactions as transactions
 use Rattle.chain_messages.specs.Messages as messages
 use Rattle.chain_messages.specs.declared.messages.Certificate.{Certificate}
-use Rattle.chain_messages.specs.declared.messages.Entry.{Entry}
 use Rattle.journal_core.specs.declared.records.Record.{Record}
 use Rattle.schedule_text.specs.declared.words.Event.{Event}
 use Rattle.schedule_text.specs.declared.words.Event.TheVariants as event
 use Rattle.chain_spec.specs.Words.{Each}
 use Rattle.member_spec.specs.Member.{Member, state}
-use Rattle.member_spec.specs.Calls.{Call, votes, holds, sees, runs, closes, ends, turns, acks, due}
+use Rattle.member_spec.specs.Calls.{Call, votes, holds, runs, closes, ends, turns, acks, due}
 use Rattle.world_spec.specs.Setting.{Name, Setting}
 use Rattle.world_spec.specs.World.{Seat, Made, World, Reached, finds_down, stops, answers, new_seat, new_world, member_in, reached_up, reached_seat, appended, stopped_seat, behind, called_seat, called_in, called_if, sees_on, is_honest, member_at, next_call}
 use Rattle.world_spec.specs.Names.{made_named, cert_named}
 use Rattle.world_spec.specs.Making.{made_by_line}
-use Rattle.world_spec.specs.Step.{happens, voted_on, fvoted, formed, formed_as, votes_collected, Collected, lacks, short, differ, whole, sent, ordered, end_ordered, honest_end, ordered_end, risen_if, has_ended, appended_entry, sealed_end, acked, on_seat, armed_seat, started_seat, entries_left, end_in, last_said}
+use Rattle.world_spec.specs.Step.{happens, voted_on, fvoted, formed, formed_as, votes_collected, Collected, lacks, short, differ, whole, sent, ordered, honest_end, ordered_end, risen_if, has_ended, appended_entry, sealed_end, acked, on_seat, armed_seat, started_seat, entries_left, end_in, last_said}
 use Rattle.world_spec.specs.Run.{run, world_after}
 
 -- one element of a list is another

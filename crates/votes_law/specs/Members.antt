@@ -1,5 +1,5 @@
 -- What holds of every member in every run.
-use Rattle.std.specs.Prelude.{◌≡◌, ℕ, Bool, true, false, List, [], slice_get, Option, Some}
+use Rattle.std.specs.Prelude.{◌≡◌, ℕ, false, List, [], slice_get, Some}
 use Rattle.chain_types.specs.declared.objects.ObjectKey.{ObjectKey}
 use Rattle.chain_types.specs.declared.objects.Object.{Object}
 use Rattle.journal_core.specs.declared.records.Record.{Record}

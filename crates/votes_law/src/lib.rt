@@ -7,11 +7,9 @@ ghost use Rattle.votes_law.specs.Members.{EveryRecordIsDue, VotesShareNoVersion}
 /// Each record of each member is the one that some call appends in the state of the records before it.
 pub fn every_record_is_due()
     ensures { EveryRecordIsDue }
-{
-}
+{}
 
 /// Of a member's votes of its epoch, two for different transactions consume no common version.
 pub fn votes_share_no_version()
     ensures { VotesShareNoVersion }
-{
-}
+{}

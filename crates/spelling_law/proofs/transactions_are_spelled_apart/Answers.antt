@@ -10,4 +10,5 @@ returns c = record {
   statements = apart messages.statement;
   certificates = apart messages.certificate;
   entries = apart messages.entry;
-  records = apart journals.journal_record }
+  records = apart journals.journal_record;
+}
