@@ -33,7 +33,8 @@ use Rattle.world_spec.specs.Setting.{Setting}
 use Rattle.world_spec.specs.World.{Seat, member_in}
 use Rattle.world_spec.specs.Run.{world_after}
 use Rattle.votes_law.specs.Members.{IsApartFrom, AreApart}
-use Rattle.votes_law.proofs.InWorld.{in_world}
+use Rattle.world_spec.specs.Assumptions.{read_list, signed_read}
+use Rattle.votes_law.proofs.InWorld.{in_world, each-any}
 
 -- ---- no case applies
 
@@ -73,7 +74,7 @@ each-apart later (v ∷ vs) none = (
   each-apart later vs (λ key h. (none-found (is_lock later.digest key) v vs (none key h)).1),
 )
 
-not-locked : (b : Ballot) (t : Transaction) (origins : List (Option Digest)) → vote_refusal b t (transaction_digest t) ≡ None → Each (IsApartFrom (cast_of t origins)) b.votes
+pub not-locked : (b : Ballot) (t : Transaction) (origins : List (Option Digest)) → vote_refusal b t (transaction_digest t) ≡ None → Each (IsApartFrom (cast_of t origins)) b.votes
 unfolding vote_refusal
 not-locked b t origins e = each-apart (cast_of t origins) b.votes (λ key h.
     none-map _ (find (is_lock (transaction_digest t) key) b.votes) (none-of (locked b.votes (transaction_digest t)) (consumed_keys t) key
@@ -84,32 +85,39 @@ not-locked b t origins e = each-apart (cast_of t origins) b.votes (λ key h.
 same-tx : (t u : Transaction) (o p : List (Option Digest)) → Some (record_as.Vote t o) ≡ Some (record_as.Vote u p) → t ≡ u
 same-tx t u o p e = cc
 
-IsFree : Member → Transaction → Type 0
-IsFree m t = vote_refusal (ballot m) t (transaction_digest t) ≡ None
+-- no case refuses the transaction, it is of the member's epoch, and P holds of it
+pub record IsCastFreely (P : Transaction → Type 0) (m : Member) (t : Transaction) : Type 0 where
+  pub free : vote_refusal (ballot m) t (transaction_digest t) ≡ None
+  pub epoch : (t.epoch == m.epoch) ≡ true
+  pub given : P t
 
-module _ (m : Member) (tx : Transaction) (origins : List (Option Digest)) where
+module _ (P : Transaction → Type 0) (m : Member) (tx : Transaction) (origins : List (Option Digest)) where
   abbrev Free : Transaction → Type 0
-  Free t = vote_refusal (ballot m) t (transaction_digest t) ≡ None
+  Free t = IsCastFreely P m t
 
-  new-free : (t : Transaction) (seal : Digest) (unsealed : Option VoteRefusal) → vote_record (Ok (record { tx = t; seal = seal })) (new_vote m t unsealed) ≡ Some (record_as.Vote tx origins) → Free tx
-  new-free t seal unsealed e = go (first_some (new_vote_cases m t unsealed)) refl e
+  new-free : (t : Transaction) (seal : Digest) (unsealed : Option VoteRefusal) → P t → (t.epoch == m.epoch) ≡ true → vote_record (Ok (record { tx = t; seal = seal })) (new_vote m t unsealed) ≡ Some (record_as.Vote tx origins) → Free tx
+  new-free t seal unsealed p same e = go (first_some (new_vote_cases m t unsealed)) refl e
     where
       go : (refusal : Option VoteRefusal) → first_some (new_vote_cases m t unsealed) ≡ refusal → vote_record (Ok (record { tx = t; seal = seal })) (unless_refused refusal (voted_as m t (vote_origins (ballot m) t) true)) ≡ Some (record_as.Vote tx origins) → Free tx
       go (Some refusal) none e = absurd (cc)
-      go None none e = subst Free (same-tx t tx (vote_origins (ballot m) t) origins e) (none-map decided_as (vote_refusal (ballot m) t (transaction_digest t)) (none-each (new_vote_cases m t unsealed) none).1.1.1.0)
+      go None none e = subst Free (same-tx t tx (vote_origins (ballot m) t) origins e) (record {
+        free = none-map decided_as (vote_refusal (ballot m) t (transaction_digest t)) (none-each (new_vote_cases m t unsealed) none).1.1.1.0;
+        epoch = same;
+        given = p;
+      })
 
-  again-free : (t : Transaction) (seal : Digest) (unsealed : Option VoteRefusal) (v : Option Cast) → vote_record (Ok (record { tx = t; seal = seal })) (vote_again m t unsealed v) ≡ Some (record_as.Vote tx origins) → Free tx
-  again-free t seal unsealed (Some v) e = absurd (cc)
-  again-free t seal unsealed None e = new-free t seal unsealed e
+  again-free : (t : Transaction) (seal : Digest) (unsealed : Option VoteRefusal) (v : Option Cast) → P t → (t.epoch == m.epoch) ≡ true → vote_record (Ok (record { tx = t; seal = seal })) (vote_again m t unsealed v) ≡ Some (record_as.Vote tx origins) → Free tx
+  again-free t seal unsealed (Some v) p same e = absurd (cc)
+  again-free t seal unsealed None p same e = new-free t seal unsealed p same e
 
-  on-free : (t : Transaction) (seal : Digest) (unsealed : Option VoteRefusal) (wrong : Option VoteRefusal) → vote_record (Ok (record { tx = t; seal = seal })) (refused_or wrong (vote_again m t unsealed (vote_for m (transaction_digest t)))) ≡ Some (record_as.Vote tx origins) → Free tx
-  on-free t seal unsealed (Some refusal) e = absurd (cc)
-  on-free t seal unsealed None e = again-free t seal unsealed (vote_for m (transaction_digest t)) e
+  on-free : (t : Transaction) (seal : Digest) (unsealed : Option VoteRefusal) (same : Bool) → (t.epoch == m.epoch) ≡ same → P t → vote_record (Ok (record { tx = t; seal = seal })) (refused_or (where_true (not same) (no_vote.WrongEpoch t.epoch m.epoch)) (vote_again m t unsealed (vote_for m (transaction_digest t)))) ≡ Some (record_as.Vote tx origins) → Free tx
+  on-free t seal unsealed false q p e = absurd (cc)
+  on-free t seal unsealed true q p e = again-free t seal unsealed (vote_for m (transaction_digest t)) p q e
 
-  read-free : (r : Rules) (read : Result SignedTx WireFault) (stopped : Option VoteRefusal) → vote_record read (refused_or stopped (vote_read r m read)) ≡ Some (record_as.Vote tx origins) → Free tx
-  read-free r (Err fault) stopped e = absurd (cc)
-  read-free r (Ok s) (Some refusal) e = absurd (cc)
-  read-free r (Ok s) None e = on-free s.tx s.seal (unsealed_of r s) (where_true (not (s.tx.epoch == m.epoch)) (no_vote.WrongEpoch s.tx.epoch m.epoch)) e
+  read-free : (r : Rules) (read : Result SignedTx WireFault) (stopped : Option VoteRefusal) → Each (λ (x : SignedTx). P x.tx) (read_list read) → vote_record read (refused_or stopped (vote_read r m read)) ≡ Some (record_as.Vote tx origins) → Free tx
+  read-free r (Err fault) stopped g e = absurd (cc)
+  read-free r (Ok s) (Some refusal) g e = absurd (cc)
+  read-free r (Ok s) None g e = on-free s.tx s.seal (unsealed_of r s) (s.tx.epoch == m.epoch) refl g.0 e
 
   hold-none : (read : Result Certificate WireFault) (answer : Result Bool HoldRefusal) → hold_record read answer ≡ Some (record_as.Vote tx origins) → ⊥
   hold-none (Err fault) answer e = cc
@@ -140,22 +148,22 @@ module _ (m : Member) (tx : Transaction) (origins : List (Option Digest)) where
   turn-none (Err refusal) e = cc
   turn-none (Ok txs) e = cc
 
-  pub due-free : (r : Rules) (call : Call) → due r m call ≡ Some (record_as.Vote tx origins) → Free tx
+  pub due-free : (r : Rules) (call : Call) → Each (λ (x : SignedTx). P x.tx) (signed_read r call) → due r m call ≡ Some (record_as.Vote tx origins) → Free tx
   unfolding due vote_answer
-  due-free r (votes bytes) e = read-free r (read_signed bytes) (vote_stopped m) e
-  due-free r (holds bytes) e = absurd (hold-none (read_certificate bytes) (hold_answer r m bytes) e)
-  due-free r (sees number bytes) e = absurd (see-none number bytes (first_some (see_cases m number)) e)
-  due-free r runs e = absurd (run-none (run_answer r m) e)
-  due-free r closes e = absurd (close-none (close_answer r m) e)
-  due-free r ends e = absurd (cc)
-  due-free r turns e = absurd (turn-none (turn_answer r m) e)
-  due-free r (acks d) e = absurd (cc)
+  due-free r (votes bytes) g e = read-free r (read_signed bytes) (vote_stopped m) g e
+  due-free r (holds bytes) g e = absurd (hold-none (read_certificate bytes) (hold_answer r m bytes) e)
+  due-free r (sees number bytes) g e = absurd (see-none number bytes (first_some (see_cases m number)) e)
+  due-free r runs g e = absurd (run-none (run_answer r m) e)
+  due-free r closes g e = absurd (close-none (close_answer r m) e)
+  due-free r ends g e = absurd (cc)
+  due-free r turns g e = absurd (turn-none (turn_answer r m) e)
+  due-free r (acks d) g e = absurd (cc)
 
 -- ---- each record keeps the votes apart
 
 apart-after : (r : Rules) (m : Member) (call : Call) (x : Record) → due r m call ≡ Some x → AreApart m.votes → AreApart (after r m x).votes
 unfolding after
-apart-after r m call (record_as.Vote tx origins) e apart = along-push (λ before later. Each (IsApartFrom later) before) [] m.votes (cast_of tx origins) apart (not-locked (ballot m) tx origins (due-free m tx origins r call e))
+apart-after r m call (record_as.Vote tx origins) e apart = along-push (λ before later. Each (IsApartFrom later) before) [] m.votes (cast_of tx origins) apart (not-locked (ballot m) tx origins (due-free (λ _. Unit {0}) m tx origins r call (each-any (signed_read r call)) e).free)
 apart-after r m call (record_as.Hold c) e apart = apart
 apart-after r m call (record_as.See bytes) e apart = apart
 apart-after r m call record_as.Close e apart = apart

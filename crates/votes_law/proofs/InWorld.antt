@@ -187,7 +187,7 @@ module _ (s : Setting) (Given : Call → Type 0) (P : List Record → Type 0) (s
   unfolding world_after new_world
   in_world_given none events g m seat e = each-get (λ (y : Seat). P y.records) (run s events (new_world s)).seats m seat (kept-run events (new_world s) g (new-seats s.honest none)) e
 
-each-any : {A : Type 0} (xs : List A) → Each (λ _. Unit {0}) xs
+pub each-any : {A : Type 0} (xs : List A) → Each (λ _. Unit {0}) xs
 each-any [] = tt
 each-any (x ∷ xs) = (tt, each-any xs)
 

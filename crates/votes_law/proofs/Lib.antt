@@ -1,3 +1,4 @@
 pub mod InWorld
 mod Journals
-mod Apart
+pub mod Apart
+pub mod Once

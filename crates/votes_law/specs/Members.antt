@@ -1,8 +1,12 @@
 -- What holds of every member in every run.
-use Rattle.std.specs.Prelude.{◌≡◌, ℕ, false, List, [], slice_get, Some}
+use Rattle.std.specs.Prelude.{◌≡◌, ℕ, false, List, [], slice_get, Some, Option}
 use Rattle.chain_types.specs.declared.objects.ObjectKey.{ObjectKey}
 use Rattle.chain_types.specs.declared.objects.Object.{Object}
 use Rattle.journal_core.specs.declared.records.Record.{Record}
+use Rattle.journal_core.specs.declared.records.Record.TheVariants as record_as
+use Rattle.digest_core.specs.declared.Digest.{Digest}
+use Rattle.chain_types.specs.declared.transactions.Transaction.{Transaction}
+use Rattle.chain_types.specs.Digests.{transaction_digest, consumed_keys}
 use Rattle.schedule_text.specs.declared.words.Event.{Event}
 use Rattle.chain_types.specs.Equal.{digest_eq}
 use Rattle.chain_spec.specs.Words.{Has, Each, Along}
@@ -33,3 +37,11 @@ AreApart votes = Along (λ before later. Each (IsApartFrom later) before) [] vot
 abbrev pub VotesShareNoVersion : Type 0
 VotesShareNoVersion = (s : Setting) (events : List Event) (m : ℕ) (seat : Seat) → slice_get (world_after s events).seats m ≡ Some seat
     → AreApart (member_in s seat).votes
+
+-- over the whole journal: of two votes of one epoch for different transactions, none consumes a version that the
+-- other consumes
+abbrev pub NoVersionIsVotedTwice : Type 0
+NoVersionIsVotedTwice = (s : Setting) (events : List Event) (m : ℕ) (seat : Seat) → slice_get (world_after s events).seats m ≡ Some seat
+    → (t u : Transaction) (origins others : List (Option Digest)) → Has seat.records (record_as.Vote t origins) → Has seat.records (record_as.Vote u others)
+    → t.epoch ≡ u.epoch → (transaction_digest t ≡ transaction_digest u → ⊥)
+    → (key : ObjectKey) → Has (consumed_keys t) key → Has (consumed_keys u) key → ⊥

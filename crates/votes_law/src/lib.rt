@@ -2,7 +2,7 @@
 //! votes of one epoch share no consumed version.
 #![tactic(auto)]
 
-ghost use Rattle.votes_law.specs.Members.{EveryRecordIsDue, VotesShareNoVersion};
+ghost use Rattle.votes_law.specs.Members.{EveryRecordIsDue, NoVersionIsVotedTwice, VotesShareNoVersion};
 
 /// Each record of each member is the one that some call appends in the state of the records before it.
 pub fn every_record_is_due()
@@ -12,4 +12,9 @@ pub fn every_record_is_due()
 /// Of a member's votes of its epoch, two for different transactions consume no common version.
 pub fn votes_share_no_version()
     ensures { VotesShareNoVersion }
+{}
+
+/// Over a member's whole journal, stops and restarts included, no version is voted for twice in an epoch.
+pub fn no_version_is_voted_twice()
+    ensures { NoVersionIsVotedTwice }
 {}
