@@ -19,12 +19,12 @@ use Rattle.world_spec.specs.Run.{run, world_after}
 use Rattle.world_spec.specs.Assumptions.{vote_call, send_call, call_list, see_calls, ack_call, calls_of, all_of}
 
 -- one element of a list is another
-each-set : {A : Type 0} (P : A → Type 0) (xs : List A) (m : ℕ) (x : A) → Each P xs → P x → Each P (slice_set xs m x)
+pub each-set : {A : Type 0} (P : A → Type 0) (xs : List A) (m : ℕ) (x : A) → Each P xs → P x → Each P (slice_set xs m x)
 each-set P [] m x each one = tt
 each-set P (y ∷ ys) zero x each one = (one, each.1)
 each-set P (y ∷ ys) (suc m) x each one = (each.0, each-set P ys m x each.1 one)
 
-each-get : {A : Type 0} (P : A → Type 0) (xs : List A) (m : ℕ) (x : A) → Each P xs → slice_get xs m ≡ Some x → P x
+pub each-get : {A : Type 0} (P : A → Type 0) (xs : List A) (m : ℕ) (x : A) → Each P xs → slice_get xs m ≡ Some x → P x
 each-get P [] m x each e = absurd (cc)
 each-get P (y ∷ ys) zero x each e = subst P (same y x e) each.0
   where
@@ -32,20 +32,20 @@ each-get P (y ∷ ys) zero x each e = subst P (same y x e) each.0
     same y x e = cc
 each-get P (y ∷ ys) (suc m) x each e = each-get P ys m x each.1 e
 
-each-front : {A : Type 0} (P : A → Type 0) (xs ys : List A) → Each P (xs ++ ys) → Each P xs
+pub each-front : {A : Type 0} (P : A → Type 0) (xs ys : List A) → Each P (xs ++ ys) → Each P xs
 each-front P [] ys each = tt
 each-front P (x ∷ xs) ys each = (each.0, each-front P xs ys each.1)
 
-each-back : {A : Type 0} (P : A → Type 0) (xs ys : List A) → Each P (xs ++ ys) → Each P ys
+pub each-back : {A : Type 0} (P : A → Type 0) (xs ys : List A) → Each P (xs ++ ys) → Each P ys
 each-back P [] ys each = each
 each-back P (x ∷ xs) ys each = each-back P xs ys each.1
 
 module _ (s : Setting) (Given : Call → Type 0) (P : List Record → Type 0) (step : (records : List Record) (call : Call) (x : Record) → Given call → due s.rules (state s.rules s.opening records) call ≡ Some x → P records → P (records ++ x ∷ [])) where
-  abbrev AllSeats : World → Type 0
+  abbrev pub AllSeats : World → Type 0
   AllSeats w = Each (λ (seat : Seat). P seat.records) w.seats
 
   -- what a call does to a seat
-  stopped-due : (seat : Seat) (call : Call) (kept : Bool) (x : Record) → reached_seat s call seat ≡ stops kept x → due s.rules (member_in s seat) call ≡ Some x
+  pub stopped-due : (seat : Seat) (call : Call) (kept : Bool) (x : Record) → reached_seat s call seat ≡ stops kept x → due s.rules (member_in s seat) call ≡ Some x
   stopped-due seat call kept x e = go seat.up seat.armed (due s.rules (member_in s seat) call) refl e
     where
       go : (up : Bool) (armed : Option Bool) (y : Option Record) → due s.rules (member_in s seat) call ≡ y → cond up (reached_up (member_in s seat) armed y) finds_down ≡ stops kept x → due s.rules (member_in s seat) call ≡ Some x
@@ -57,7 +57,7 @@ module _ (s : Setting) (Given : Call → Type 0) (P : List Record → Type 0) (s
           same : (k : Bool) (z : Record) → stops k z ≡ stops kept x → Some z ≡ Some x
           same k z e = cc
 
-  answered-due : (seat : Seat) (call : Call) (m : Member) (x : Option Record) → reached_seat s call seat ≡ answers m x → due s.rules (member_in s seat) call ≡ x
+  pub answered-due : (seat : Seat) (call : Call) (m : Member) (x : Option Record) → reached_seat s call seat ≡ answers m x → due s.rules (member_in s seat) call ≡ x
   answered-due seat call m x e = go seat.up seat.armed (due s.rules (member_in s seat) call) refl e
     where
       go : (up : Bool) (armed : Option Bool) (y : Option Record) → due s.rules (member_in s seat) call ≡ y → cond up (reached_up (member_in s seat) armed y) finds_down ≡ answers m x → due s.rules (member_in s seat) call ≡ x
@@ -89,7 +89,7 @@ module _ (s : Setting) (Given : Call → Type 0) (P : List Record → Type 0) (s
   kept-called_seat w m call None g e all = all
   kept-called_seat w m call (Some seat) g e all = kept-behind w m call seat (reached_seat s call seat) g refl (each-get (λ (y : Seat). P y.records) w.seats m seat all e) all
 
-  kept-called : (w : World) (m : ℕ) (call : Call) → Given call → AllSeats w → AllSeats (called_in s w m call)
+  pub kept-called : (w : World) (m : ℕ) (call : Call) → Given call → AllSeats w → AllSeats (called_in s w m call)
   unfolding called_in
   kept-called w m call g all = kept-called_seat w m call (slice_get w.seats m) g refl all
 
@@ -151,7 +151,7 @@ module _ (s : Setting) (Given : Call → Type 0) (P : List Record → Type 0) (s
   kept-acked w m spoiled None g all = all
   kept-acked w m spoiled (Some t) g all = kept-if _ _ _ (kept-called w m (acks t.digest) g.0 all) all
 
-  kept-line : (w : World) (e : Event) → Each Given (calls_of s w e) → AllSeats w → AllSeats (happens s w e)
+  pub kept-line : (w : World) (e : Event) → Each Given (calls_of s w e) → AllSeats w → AllSeats (happens s w e)
   unfolding happens made_by_line
   kept-line w (event.Tx name sender spoiled epoch gas budget inputs commands) g all = all
   kept-line w (event.Vote m tx) g all = kept-voted w m (made_named w tx) g all
@@ -178,7 +178,7 @@ module _ (s : Setting) (Given : Call → Type 0) (P : List Record → Type 0) (s
   kept-run [] w g all = all
   kept-run (e ∷ events) w g all = kept-run events (happens s w e) (each-back Given (calls_of s w e) _ g) (kept-line w e (each-front Given (calls_of s w e) _ g) all)
 
-  new-seats : (honest : List Bool) → P [] → Each (λ (seat : Seat). P seat.records) (map new_seat honest)
+  pub new-seats : (honest : List Bool) → P [] → Each (λ (seat : Seat). P seat.records) (map new_seat honest)
   new-seats [] none = tt
   new-seats (h ∷ honest) none = (none, new-seats honest none)
 

@@ -71,12 +71,15 @@ bytes-equal (x ∷ xs) (y ∷ ys) e = go (x == y) refl e (bytes-equal xs ys)
     go true q e rest = subst (λ (z : ℕ). x ∷ xs ≡ z ∷ ys) (eqb-true x y q) (ap (λ (zs : List ℕ). x ∷ zs) (rest e))
     go false q e rest = absurd (cc)
 
+pub equal : (a b : Digest) → digest_eq a b ≡ true → a ≡ b
+equal a b e = ap (λ (bytes : List ℕ). record { 0 = bytes }) (bytes-equal a.0 b.0 e)
+
 pub differ : (a b : Digest) → (a ≡ b → ⊥) → digest_eq a b ≡ false
 differ a b other = go (digest_eq a b) refl
   where
     go : (x : Bool) → digest_eq a b ≡ x → digest_eq a b ≡ false
     go false e = e
-    go true e = absurd (other (ap (λ (bytes : List ℕ). record { 0 = bytes }) (bytes-equal a.0 b.0 e)))
+    go true e = absurd (other (equal a b e))
 
 key-same : (k : ObjectKey) → key_eq k k ≡ true
 key-same k = rw (bytes-same k.id.0.0) (eq-eqb k.version k.version refl)
