@@ -1,1 +1,1 @@
-mod Meeting
+pub mod Meeting

@@ -38,7 +38,7 @@ get-set (x ∷ xs) (suc m) (suc n) y q e = go (get-set xs m n y q e)
     go (inr h) = inr h
 
 -- an element of two lists
-has-either : {A : Type 0} (xs ys : List A) (y : A) → Has (xs ++ ys) y → Has xs y ⊎ Has ys y
+pub has-either : {A : Type 0} (xs ys : List A) (y : A) → Has (xs ++ ys) y → Has xs y ⊎ Has ys y
 has-either [] ys y h = inr h
 has-either (x ∷ xs) ys y (inl e) = inl (inl e)
 has-either (x ∷ xs) ys y (inr h) = go (has-either xs ys y h)

@@ -83,7 +83,7 @@ cast-after r m records call (record_as.Ran2 items) d kept = λ v h. kept-more re
 
 -- ---- a stated vote is kept, or was
 
-find-has : {A : Type 0} (test : A → Bool) (xs : List A) (x : A) → find test xs ≡ Some x → Has xs x
+pub find-has : {A : Type 0} (test : A → Bool) (xs : List A) (x : A) → find test xs ≡ Some x → Has xs x
 find-has test [] x e = absurd (cc)
 find-has test (y ∷ ys) x e = go (test y) e (find-has test ys x)
   where

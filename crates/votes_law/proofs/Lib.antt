@@ -1,6 +1,6 @@
 pub mod InWorld
 pub mod Backed
-mod Journals
+pub mod Journals
 pub mod Apart
 pub mod Once
-mod Kept
+pub mod Kept
