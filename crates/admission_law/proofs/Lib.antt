@@ -1,0 +1,2 @@
+mod Tidy
+mod Deferring

@@ -1,0 +1,4 @@
+pub mod Natives
+pub mod Block
+pub mod Commands
+pub mod Execution

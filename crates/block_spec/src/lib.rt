@@ -1,0 +1,2 @@
+//! Definitions of a block's execution: the natives, one command, a whole transaction.
+#![tactic(auto)]

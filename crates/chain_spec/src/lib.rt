@@ -1,0 +1,2 @@
+//! Definitions of the chain, for its contracts: words, digests, keys, shape, quorum, certificates.
+#![tactic(auto)]

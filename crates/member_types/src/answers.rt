@@ -1,0 +1,106 @@
+//! What the calls of a member answer.
+
+use chain_messages::{Certificate, Sealed};
+use chain_types::{ObjectId, ObjectKey, Producer};
+use checkpoint_core::Checkpoint;
+use digest_core::Digest;
+use effects_core::Effects;
+use wire_bcs::Seq;
+
+/// The version that admission assigned to a shared object, and who wrote it.
+#[derive(Clone, Copy, Debug, PartialEq, Eq)]
+pub struct Assigned {
+    pub id: ObjectId,
+    pub version: u64,
+    pub writer: Producer,
+    pub mutable: bool,
+}
+
+/// A vote. `fresh` is false where the member had voted for this transaction before.
+#[derive(Debug, Drop)]
+pub struct Voted {
+    pub sealed: Sealed,
+    pub fresh: bool,
+}
+
+/// Why an entry of the sequence is ignored, in the order in which the causes are tried.
+#[derive(Clone, Copy, Debug, PartialEq, Eq)]
+pub enum Ignore {
+    Malformed,
+    /// It is sealed, and no End statement.
+    Statement,
+    /// It is of another epoch.
+    Epoch,
+    /// The certificate is not valid.
+    Cert,
+    /// The member is not known, or its seal is not accepted.
+    Seal,
+    /// The transaction is in the sequence, or the member's End is.
+    Repeat,
+}
+
+/// What a member made of an entry.
+#[derive(Debug, Drop)]
+pub enum SeenWhat {
+    /// What a certificate's entry let in, in order.
+    Taken {
+        admitted: Seq<Digest>,
+        dropped: Seq<Digest>,
+    },
+    /// The transaction waits for this origin, the first that is not admitted.
+    Pending {
+        tx: Digest,
+        origin: Digest,
+    },
+    /// The transaction waits for the next mark, since this object has its writers.
+    Deferred {
+        tx: Digest,
+        id: ObjectId,
+    },
+    /// What was taken right behind the mark.
+    Commit {
+        admitted: Seq<Digest>,
+        dropped: Seq<Digest>,
+    },
+    /// The weight of the members whose End was counted.
+    Counted {
+        member: u32,
+        weight: u64,
+    },
+    /// The same, where the epoch ends here.
+    Ended {
+        member: u32,
+        weight: u64,
+    },
+    Ignored(Ignore),
+}
+
+/// What a member made of an entry, and the checkpoints that it completed.
+#[derive(Debug, Drop)]
+pub struct Seen {
+    pub what: SeenWhat,
+    pub built: Seq<Checkpoint>,
+}
+
+/// A held certificate that a run left although what it waited for is executed: the first version
+/// that is not there, or none where it does not fit.
+#[derive(Clone, Copy, Debug, PartialEq, Eq)]
+pub struct Left {
+    pub tx: Digest,
+    pub key: Option<ObjectKey>,
+}
+
+/// What a run did: what it executed, what it left, and the checkpoints that it completed.
+#[derive(Debug, Drop)]
+pub struct Ran {
+    pub executed: Seq<Effects>,
+    pub left: Seq<Left>,
+    pub built: Seq<Checkpoint>,
+}
+
+/// A certificate that a member holds, with its transaction's digest.
+#[derive(Debug, Drop)]
+pub struct Held {
+    pub digest: Digest,
+    pub cert: Certificate,
+}

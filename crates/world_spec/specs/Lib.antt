@@ -1,0 +1,10 @@
+pub mod Setting
+pub mod World
+pub mod Names
+pub mod Making
+pub mod Step
+pub mod Report
+pub mod Run
+pub mod Assumptions
+pub mod Openings
+pub mod Keyed

@@ -1,0 +1,260 @@
+-- One line of a schedule, as a step of the world. Source: this profile.
+use Rattle.std.specs.Prelude.{ℕ, ◌+◌, ◌-◌, min, Bool, true, false, not, ◌&&◌, ◌==◌, List, [], ◌∷◌, ◌++◌, map, length, slice_get, slice_set, Option, Some, None, option_map, if◌then◌else◌}
+use Rattle.std.specs.List.{enumerate_from}
+use Rattle.digest_core.specs.declared.Digest.{Digest}
+use Rattle.chain_types.specs.declared.transactions.Transaction.{Transaction}
+use Rattle.chain_messages.specs.declared.messages.Statement.{Statement}
+use Rattle.chain_messages.specs.declared.messages.Statement.TheVariants as statement
+use Rattle.chain_messages.specs.declared.messages.MemberSeal.{MemberSeal}
+use Rattle.chain_messages.specs.declared.messages.Certificate.{Certificate}
+use Rattle.chain_messages.specs.declared.messages.Entry.{Entry}
+use Rattle.chain_messages.specs.declared.messages.Entry.TheVariants as entry
+use Rattle.schedule_text.specs.declared.words.Event.{Event}
+use Rattle.schedule_text.specs.declared.words.Event.TheVariants as event
+use Rattle.chain_types.specs.Equal.{digest_eq}
+use Rattle.effects_core.specs.Effects.{digest_of_effects}
+use Rattle.chain_types.specs.Transactions as transactions
+use Rattle.chain_messages.specs.Messages as messages
+use Rattle.chain_spec.specs.Words.{first_some, first_of, where_true}
+use Rattle.chain_spec.specs.Tests.{origins_eq}
+use Rattle.chain_spec.specs.Keys.{objects_of}
+use Rattle.chain_spec.specs.Committee.{weight, total_of, is_quorum}
+use Rattle.member_spec.specs.Versions.{Execution, execution_of}
+use Rattle.member_spec.specs.Sequence.{seen}
+use Rattle.member_spec.specs.Member.{Member}
+use Rattle.member_spec.specs.Calls.{votes, holds, runs, closes, ends, turns, acks}
+use Rattle.world_spec.specs.Setting.{Name, Setting, member_seal}
+use Rattle.world_spec.specs.World.{Seat, Said, Made, World, said_by, with_seat, called_in, is_honest, member_at, says_first, entries_at, sees_on, list_or_none}
+use Rattle.world_spec.specs.Names.{made_named, cert_named}
+use Rattle.world_spec.specs.Making.{made_by_line, digest_named, spoiled_if, digest_or_zero}
+
+-- ---- statements
+
+-- a vote for a transaction, an End, an acknowledgement of a transaction in an epoch
+abbrev pub vote_in : Digest → Statement → Option (List (Option Digest))
+vote_in tx (statement.Vote epoch t origins) = where_true (digest_eq t tx) origins
+vote_in tx (statement.End epoch) = None
+vote_in tx (statement.Checkpoint epoch number digest) = None
+vote_in tx (statement.Ack epoch t effects) = None
+
+abbrev pub end_in : Statement → Option ℕ
+end_in (statement.Vote epoch t origins) = None
+end_in (statement.End epoch) = Some epoch
+end_in (statement.Checkpoint epoch number digest) = None
+end_in (statement.Ack epoch t effects) = None
+
+abbrev pub ack_in : ℕ → Digest → Statement → Option Digest
+ack_in epoch tx (statement.Vote e t origins) = None
+ack_in epoch tx (statement.End e) = None
+ack_in epoch tx (statement.Checkpoint e number digest) = None
+ack_in epoch tx (statement.Ack e t effects) = where_true ((e == epoch) && digest_eq t tx) effects
+
+abbrev pub says_of : {A : Type 0} → (Statement → Option A) → ℕ → Said → Option A
+says_of reads m x = if x.member == m then reads x.statement else None
+
+-- what a member stated last of something
+abbrev pub last_said : {A : Type 0} → (Statement → Option A) → ℕ → List Said → Option A
+last_said reads m [] = None
+last_said reads m (x ∷ xs) = first_some (last_said reads m xs ∷ says_of reads m x ∷ [])
+
+abbrev pub says : World → ℕ → Statement → World
+says w m st = record w { said = w.said ++ said_by m st ∷ [] }
+
+-- ---- fvote
+
+abbrev pub origin_word : World → Option Name → Option Digest
+origin_word w None = None
+origin_word w (Some name) = Some (digest_named w name)
+
+abbrev pub no_origins : Transaction → List (Option Digest)
+no_origins t = map (λ _. None) (objects_of t)
+
+abbrev pub origins_or : List (Option Digest) → Option (List (Option Digest)) → List (Option Digest)
+origins_or none None = none
+origins_or none (Some origins) = origins
+
+-- the last vote of the lowest-numbered honest member that has one
+abbrev pub honest_vote : World → Digest → (ℕ × Seat) → Option (List (Option Digest))
+honest_vote w tx seat = if seat.1.honest then last_said (vote_in tx) seat.0 w.said else None
+
+-- the named origins, and where none are named those of an honest member's vote, else none for each object
+abbrev pub fvote_origins : World → Made → List (Option Name) → List (Option Digest)
+fvote_origins w t [] = origins_or (no_origins t.signed.tx) (first_of (honest_vote w t.digest) (enumerate_from 0 w.seats))
+fvote_origins w t (word ∷ words) = map (origin_word w) (word ∷ words)
+
+abbrev pub fvoted : World → ℕ → List (Option Name) → Option Made → World
+fvoted w m words None = w
+fvoted w m words (Some t) = if is_honest w m then w else says w m (statement.Vote t.signed.tx.epoch t.digest (fvote_origins w t words))
+
+-- ---- cert
+
+-- what collecting gives: a member without a vote, too little stake, two that differ, or all of them
+pub data Collected : Type 0 where
+  lacks : ℕ → Collected
+  short : ℕ → ℕ → Collected
+  differ : ℕ → ℕ → Collected
+  whole : Collected
+
+abbrev pub lacks_where : {A : Type 0} → ℕ → Option A → Option Collected
+lacks_where m None = Some (lacks m)
+lacks_where m (Some x) = None
+
+abbrev pub differ_from : {A : Type 0} → (A → A → Bool) → ℕ → Option A → ℕ → Option A → Option Collected
+differ_from same a None b y = None
+differ_from same a (Some x) b None = None
+differ_from same a (Some x) b (Some y) = where_true (not (same x y)) (differ a b)
+
+abbrev pub differs_among : {A : Type 0} → (A → A → Bool) → (ℕ → Option A) → List ℕ → Option Collected
+differs_among same reads [] = None
+differs_among same reads (a ∷ ms) = first_of (λ b. differ_from same a (reads a) b (reads b)) ms
+
+abbrev pub too_short : List ℕ → List ℕ → Option Collected
+too_short stakes ms = where_true (not (is_quorum stakes (weight stakes ms))) (short (weight stakes ms) (total_of stakes))
+
+abbrev pub whole_or : Option Collected → Collected
+whole_or None = whole
+whole_or (Some c) = c
+
+-- what the members' last words of something give, in the order of the causes
+abbrev pub collected : {A : Type 0} → (A → A → Bool) → List ℕ → (ℕ → Option A) → List ℕ → Collected
+collected same stakes reads ms = whole_or (first_some (first_of (λ m. lacks_where m (reads m)) ms ∷ too_short stakes ms ∷ differs_among same reads ms ∷ []))
+
+-- what collecting the votes for a transaction gives
+unfoldable pub votes_collected : Setting → World → Digest → List ℕ → Collected
+votes_collected s w tx ms = collected origins_eq s.rules.stakes (λ m. last_said (vote_in tx) m w.said) ms
+
+abbrev pub first_origins : World → Digest → List ℕ → List (Option Digest)
+first_origins w tx [] = []
+first_origins w tx (m ∷ ms) = list_or_none (last_said (vote_in tx) m w.said)
+
+abbrev pub vote_statement : Transaction → Digest → List (Option Digest) → Statement
+vote_statement t tx origins = statement.Vote t.epoch tx origins
+
+abbrev pub sealed_by : Setting → Statement → ℕ → MemberSeal
+sealed_by s st m = record { member = m; seal = member_seal s m st }
+
+-- the certificate of these members' votes
+abbrev pub certificate_of : Setting → Made → List (Option Digest) → List ℕ → Certificate
+certificate_of s t origins ms = record { tx = t.signed.tx; origins = origins; seals = map (sealed_by s (vote_statement t.signed.tx t.digest origins)) ms }
+
+abbrev pub formed_as : Setting → World → Made → List ℕ → Collected → World
+formed_as s w t ms (lacks m) = w
+formed_as s w t ms (short weight total) = w
+formed_as s w t ms (differ a b) = w
+formed_as s w t ms whole = record w { certs = w.certs ++ record { name = t.name; cert = certificate_of s t (first_origins w t.digest ms) ms } ∷ [] }
+
+abbrev pub formed : Setting → World → List ℕ → Option Made → World
+formed s w ms None = w
+formed s w ms (Some t) = formed_as s w t ms (votes_collected s w t.digest ms)
+
+-- ---- order
+
+abbrev pub open_entries : World → List Entry
+open_entries w = entries_at w.sequences w.epoch
+
+abbrev pub with_entries : World → List Entry → World
+with_entries w entries = record w { sequences = slice_set w.sequences w.epoch entries }
+
+abbrev pub appended_entry : World → Entry → World
+appended_entry w e = with_entries w (open_entries w ++ e ∷ [])
+
+-- the open epoch ends where a member that sees these entries sees its end
+abbrev pub has_ended : Setting → World → Bool
+has_ended s w = (seen s.rules [] w.epoch (map messages.entry.spell (open_entries w))).ended
+
+abbrev pub risen_if : Bool → World → World
+risen_if true w = record w { epoch = w.epoch + 1; sequences = w.sequences ++ [] ∷ [] }
+risen_if false w = w
+
+abbrev pub risen : Setting → World → World
+risen s w = risen_if (has_ended s w) w
+
+abbrev pub ordered : World → Option Certificate → World
+ordered w None = w
+ordered w (Some c) = if c.tx.epoch == w.epoch then appended_entry w (entry.Cert c) else w
+
+abbrev pub sealed_end : Setting → ℕ → ℕ → Entry
+sealed_end s m epoch = entry.End (record { member = m; statement = statement.End epoch; seal = member_seal s m (statement.End epoch) })
+
+abbrev pub ordered_end : Setting → World → ℕ → ℕ → World
+ordered_end s w m epoch = risen s (appended_entry w (sealed_end s m epoch))
+
+abbrev pub honest_end : Setting → World → ℕ → Option ℕ → World
+honest_end s w m None = w
+honest_end s w m (Some epoch) = if epoch == w.epoch then ordered_end s w m epoch else w
+
+-- the last End of an honest member; a faulty one states one of the open epoch
+abbrev pub end_ordered : Setting → World → ℕ → World
+end_ordered s w m =
+    if is_honest w m then honest_end s w m (last_said end_in m w.said)
+    else ordered_end s (says w m (statement.End w.epoch)) m w.epoch
+
+-- ---- see
+
+-- how many entries a member has before it
+abbrev pub entries_left : World → Option Member → ℕ
+entries_left w None = 0
+entries_left w (Some m) = length (entries_at w.sequences m.epoch) - m.sequence.number
+
+-- ---- stop and restart
+
+abbrev pub armed_seat : Bool → Seat → Seat
+armed_seat kept seat = record seat { armed = Some kept }
+
+abbrev pub started_seat : Seat → Seat
+started_seat seat = record seat { up = true; armed = None }
+
+abbrev pub on_seat : World → ℕ → (Seat → Seat) → Option Seat → World
+on_seat w m change None = w
+on_seat w m change (Some seat) = with_seat w m (change seat)
+
+-- ---- ack
+
+abbrev pub effects_digest_at : Execution → Digest
+effects_digest_at x = digest_of_effects x.gave.effects
+
+-- the effects digest of a transaction that a member executed in its present epoch
+abbrev pub executed_digest : Digest → Member → Option Digest
+executed_digest tx m = option_map effects_digest_at (execution_of m.executed tx)
+
+-- what a faulty member acknowledges: what the lowest-numbered honest member has that is up and executed it, else zeros
+abbrev pub false_ack : Setting → World → Made → Bool → Statement
+false_ack s w t spoiled = statement.Ack t.signed.tx.epoch t.digest (spoiled_if spoiled (digest_or_zero (says_first s (executed_digest t.digest) w.seats)))
+
+abbrev pub acked : Setting → World → ℕ → Bool → Option Made → World
+acked s w m spoiled None = w
+acked s w m spoiled (Some t) = if is_honest w m then called_in s w m (acks t.digest) else says w m (false_ack s w t spoiled)
+
+-- ---- the step
+
+abbrev pub voted_on : Setting → World → ℕ → Option Made → World
+voted_on s w m None = w
+voted_on s w m (Some t) = called_in s w m (votes (transactions.signed.spell t.signed))
+
+abbrev pub sent : Setting → World → ℕ → Option Certificate → World
+sent s w m None = w
+sent s w m (Some c) = called_in s w m (holds (messages.certificate.spell c))
+
+-- the world behind a line
+unfoldable pub happens : Setting → World → Event → World
+happens s w (event.Tx name sender spoiled epoch gas budget inputs commands) =
+    made_by_line s w (record { name = name; sender = sender; spoiled = spoiled; epoch = epoch; gas = gas; budget = budget; inputs = inputs; commands = commands })
+happens s w (event.Vote m tx) = voted_on s w m (made_named w tx)
+happens s w (event.Fvote m tx origins) = fvoted w m origins (made_named w tx)
+happens s w (event.Cert tx members) = formed s w members (made_named w tx)
+happens s w (event.Send m tx) = sent s w m (cert_named w tx)
+happens s w (event.Order tx) = ordered w (cert_named w tx)
+happens s w (event.OrderEnd m) = end_ordered s w m
+happens s w event.OrderCommit = appended_entry w entry.Commit
+happens s w (event.See m entries) = sees_on s (min entries (entries_left w (member_at s w m))) w m
+happens s w (event.Run m workers) = called_in s w m runs
+happens s w (event.Close m) = called_in s w m closes
+happens s w (event.End m) = called_in s w m ends
+happens s w (event.Turn m) = called_in s w m turns
+happens s w (event.Show m) = w
+happens s w (event.Stop m kept) = on_seat w m (armed_seat kept) (slice_get w.seats m)
+happens s w (event.Restart m) = on_seat w m started_seat (slice_get w.seats m)
+happens s w (event.RawVote m bytes) = called_in s w m (votes bytes)
+happens s w (event.RawHold m bytes) = called_in s w m (holds bytes)
+happens s w (event.Ack m tx spoiled) = acked s w m spoiled (made_named w tx)
+happens s w (event.Final tx members) = w

@@ -1,0 +1,219 @@
+-- The world of a run: the members with their records, what was said, made and ordered. Source: this profile;
+-- one consensus sequence for each epoch is the premise of the Sui Lutris paper.
+use Rattle.std.specs.Prelude.{ℕ, zero, suc, Bool, true, false, ◌&&◌, List, [], ◌∷◌, ◌++◌, map, slice_get, slice_set, Option, Some, None, option_map, option_and_then, Result, Ok, Err, if◌then◌else◌}
+use Rattle.digest_core.specs.declared.Digest.{Digest}
+use Rattle.chain_types.specs.declared.objects.ObjectId.{ObjectId}
+use Rattle.chain_types.specs.declared.transactions.SignedTx.{SignedTx}
+use Rattle.chain_messages.specs.declared.messages.Statement.{Statement}
+use Rattle.chain_messages.specs.declared.messages.Statement.TheVariants as statement
+use Rattle.chain_messages.specs.declared.messages.Certificate.{Certificate}
+use Rattle.chain_messages.specs.declared.messages.Entry.{Entry}
+use Rattle.checkpoint_core.specs.declared.checkpoints.Checkpoint.{Checkpoint}
+use Rattle.journal_core.specs.declared.records.Record.{Record}
+use Rattle.member_types.specs.declared.answers.Seen.{Seen}
+use Rattle.member_types.specs.declared.answers.Ran.{Ran}
+use Rattle.member_types.specs.declared.refusals.VoteRefusal.{VoteRefusal}
+use Rattle.member_types.specs.declared.refusals.SeeRefusal.{SeeRefusal}
+use Rattle.member_types.specs.declared.refusals.RunRefusal.{RunRefusal}
+use Rattle.checkpoint_core.specs.Checkpoints.{digest_of_checkpoint}
+use Rattle.chain_messages.specs.Messages as messages
+use Rattle.chain_spec.specs.Words.{first_some}
+use Rattle.chain_spec.specs.Certificates.{Rules}
+use Rattle.member_spec.specs.Member.{Member, state}
+use Rattle.member_spec.specs.Calls.{Call, votes, holds, sees, runs, closes, ends, turns, acks, Voted, due, vote_answer, see_answer, run_answer, end_answer, ack_answer}
+use Rattle.world_spec.specs.Setting.{Name, User, Setting}
+
+-- a member: whether it is honest, its records, whether it is up, and an armed stop, which keeps the record or loses it
+pub record Seat : Type 0 where
+  pub honest : Bool
+  pub records : List Record
+  pub up : Bool
+  pub armed : Option Bool
+
+-- a statement that a member made
+pub record Said : Type 0 where
+  pub member : ℕ
+  pub statement : Statement
+
+-- a transaction by the name of its line
+pub record Made : Type 0 where
+  pub name : Name
+  pub digest : Digest
+  pub signed : SignedTx
+
+-- a certificate, under the name for which it was formed
+pub record Formed : Type 0 where
+  pub name : Name
+  pub cert : Certificate
+
+-- an id that a transaction's creation number draws
+pub record Drawn : Type 0 where
+  pub id : ObjectId
+  pub tx : Digest
+  pub number : ℕ
+
+pub record World : Type 0 where
+  -- the sequences of the epochs up to the open one, which is the last
+  pub sequences : List (List Entry)
+  pub epoch : ℕ
+  pub seats : List Seat
+  -- all statements made, oldest first
+  pub said : List Said
+  -- the transactions made, the certificates formed, and the names that lines gave to users and created objects
+  pub txs : List Made
+  pub certs : List Formed
+  pub users : List User
+  pub drawn : List Drawn
+
+abbrev pub new_seat : Bool → Seat
+new_seat honest = record { honest = honest; records = []; up = true; armed = None }
+
+unfoldable pub new_world : Setting → World
+new_world s = record { sequences = [] ∷ []; epoch = 0; seats = map new_seat s.honest; said = []; txs = []; certs = []; users = s.users; drawn = [] }
+
+-- a member's state is always that of its records
+abbrev pub member_in : Setting → Seat → Member
+member_in s seat = state s.rules s.opening seat.records
+
+-- the entries of an epoch's sequence
+abbrev pub list_or_none : {A : Type 0} → Option (List A) → List A
+list_or_none None = []
+list_or_none (Some xs) = xs
+
+abbrev pub entries_at : List (List Entry) → ℕ → List Entry
+entries_at sequences epoch = list_or_none (slice_get sequences epoch)
+
+-- ---- one call
+
+-- the statement of a built checkpoint
+abbrev pub checkpoint_statement : Checkpoint → Statement
+checkpoint_statement c = statement.Checkpoint c.epoch c.number (digest_of_checkpoint c)
+
+abbrev pub voted_statement : Result Voted VoteRefusal → List Statement
+voted_statement (Ok v) = v.statement ∷ []
+voted_statement (Err refusal) = []
+
+abbrev pub built_statements : Result Seen SeeRefusal → List Statement
+built_statements (Ok seen) = map checkpoint_statement seen.built
+built_statements (Err refusal) = []
+
+abbrev pub ran_statements : Result Ran RunRefusal → List Statement
+ran_statements (Ok ran) = map checkpoint_statement ran.built
+ran_statements (Err refusal) = []
+
+abbrev pub answered_statement : {E : Type 0} → Result Statement E → List Statement
+answered_statement (Ok st) = st ∷ []
+answered_statement (Err refusal) = []
+
+-- the statements that a call makes where it answers: a vote, new or again; an End; an acknowledgement; a
+-- checkpoint where it is listed as built
+unfoldable pub stated : Rules → Member → Call → List Statement
+stated r m (votes bytes) = voted_statement (vote_answer r m bytes)
+stated r m (holds bytes) = []
+stated r m (sees number bytes) = built_statements (see_answer r m number bytes)
+stated r m runs = ran_statements (run_answer r m)
+stated r m closes = []
+stated r m ends = answered_statement (end_answer r m)
+stated r m turns = []
+stated r m (acks tx) = answered_statement (ack_answer r m tx)
+
+-- what becomes of a call: the member is down, it stops at the append, or it answers in this state
+pub data Reached : Type 0 where
+  finds_down : Reached
+  stops : Bool → Record → Reached
+  answers : Member → Option Record → Reached
+
+abbrev pub reached_up : Member → Option Bool → Option Record → Reached
+reached_up m None x = answers m x
+reached_up m (Some kept) None = answers m None
+reached_up m (Some kept) (Some x) = stops kept x
+
+abbrev pub reached_seat : Setting → Call → Seat → Reached
+reached_seat s call seat = if seat.up then reached_up (member_in s seat) seat.armed (due s.rules (member_in s seat) call) else finds_down
+
+abbrev pub reached_at : Setting → Call → Option Seat → Reached
+reached_at s call None = finds_down
+reached_at s call (Some seat) = reached_seat s call seat
+
+unfoldable pub reached : Setting → World → ℕ → Call → Reached
+reached s w m call = reached_at s call (slice_get w.seats m)
+
+abbrev pub said_by : ℕ → Statement → Said
+said_by m st = record { member = m; statement = st }
+
+abbrev pub appended : List Record → Option Record → List Record
+appended records None = records
+appended records (Some x) = records ++ x ∷ []
+
+abbrev pub with_seat : World → ℕ → Seat → World
+with_seat w m seat = record w { seats = slice_set w.seats m seat }
+
+-- a stop takes the answer and the statements; the record is kept or lost
+abbrev pub stopped_seat : Seat → Bool → Record → Seat
+stopped_seat seat kept x = record seat { records = if kept then seat.records ++ x ∷ [] else seat.records; up = false; armed = None }
+
+abbrev pub behind : Setting → World → ℕ → Call → Seat → Reached → World
+behind s w m call seat finds_down = w
+behind s w m call seat (stops kept x) = with_seat w m (stopped_seat seat kept x)
+behind s w m call seat (answers before x) =
+    record (with_seat w m (record seat { records = appended seat.records x })) { said = w.said ++ map (said_by m) (stated s.rules before call) }
+
+abbrev pub called_seat : Setting → World → ℕ → Call → Option Seat → World
+called_seat s w m call None = w
+called_seat s w m call (Some seat) = behind s w m call seat (reached_seat s call seat)
+
+-- the world behind a call on a member
+unfoldable pub called_in : Setting → World → ℕ → Call → World
+called_in s w m call = called_seat s w m call (slice_get w.seats m)
+
+-- ---- members
+
+abbrev pub honest_seat : Option Seat → Bool
+honest_seat None = false
+honest_seat (Some seat) = seat.honest
+
+abbrev pub is_honest : World → ℕ → Bool
+is_honest w m = honest_seat (slice_get w.seats m)
+
+abbrev pub state_of : Setting → Seat → Option Member
+state_of s seat = Some (member_in s seat)
+
+-- the state of a member
+abbrev pub member_at : Setting → World → ℕ → Option Member
+member_at s w m = option_and_then (state_of s) (slice_get w.seats m)
+
+abbrev pub up_seat : Option Seat → Bool
+up_seat None = false
+up_seat (Some seat) = seat.up
+
+abbrev pub is_up : World → ℕ → Bool
+is_up w m = up_seat (slice_get w.seats m)
+
+-- what the lowest-numbered honest member that is up says of something, where one says anything
+abbrev pub says_first : {A : Type 0} → Setting → (Member → Option A) → List Seat → Option A
+says_first s says [] = None
+says_first s says (seat ∷ seats) = first_some ((if seat.honest && seat.up then says (member_in s seat) else None) ∷ says_first s says seats ∷ [])
+
+-- ---- entries
+
+-- the next entry of a member's sequence, up to the end of its epoch
+abbrev pub numbered_call : ℕ → Entry → Call
+numbered_call number e = sees number (messages.entry.spell e)
+
+abbrev pub next_entry : World → Member → Option Entry
+next_entry w m = if m.sequence.ended then None else slice_get (entries_at w.sequences m.epoch) m.sequence.number
+
+abbrev pub next_call_of : World → Member → Option Call
+next_call_of w m = option_map (numbered_call m.sequence.number) (next_entry w m)
+
+abbrev pub next_call : Setting → World → ℕ → Option Call
+next_call s w m = option_and_then (next_call_of w) (member_at s w m)
+
+abbrev pub called_if : Setting → World → ℕ → Option Call → World
+called_if s w m None = w
+called_if s w m (Some call) = called_in s w m call
+
+-- a member takes so many entries, as far as there are any
+abbrev pub sees_on : Setting → ℕ → World → ℕ → World
+sees_on s zero w m = w
+sees_on s (suc n) w m = sees_on s n (called_if s w m (next_call s w m)) m

@@ -1,0 +1,2 @@
+//! Definitions of a run of a schedule: the world, its report and journals, the run assumptions.
+#![tactic(auto)]
