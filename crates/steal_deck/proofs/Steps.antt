@@ -1,15 +1,14 @@
 -- Each step of a hand or a thief keeps the rule of the deck.
-use Rattle.std.proofs.Common.{◌≡◌, ◌≢◌, ℕ, zero, suc, ◌+◌, ◌<◌, ◌≤◌, ◌==◌, if◌then◌else◌, true, false, true≢false, List, [], ◌∷◌, ◌++◌, length, set, sym, refl, ap, ◌∙◌, subst, ⊎_elim, append_assoc, arith, length-append, length-set, eqb, eq-eqb, ne_eqb}
+use Rattle.std.proofs.Common.{◌≡◌, ◌≢◌, ℕ, zero, suc, ◌+◌, ◌<◌, ◌≤◌, ◌==◌, if◌then◌else◌, true, false, true≢false, List, [], ◌∷◌, ◌++◌, length, set, sym, refl, ap, ◌∙◌, subst, ⊎_elim, append_assoc, arith, length-append, length-set, eq-eqb, ne_eqb}
 use Rattle.std.proofs.lemmas.List.Sums.{sum_by-cons, sum_by_push}
 use Rattle.std.specs.List.{sum_by}
 use mathlib.Core.Option.{some, some-injective, some-ne-none}
-use native.Mathlib.Decide.{ℕ_discrete}
-use mathlib.Core.Logic.{dite}
+use native.Mathlib.Decide.{ℕ_discrete, dec_le}
 use lib.ListN.{get_elem?}
-use Rattle.crossbeam_deque.specs.Tasks.{Pushes, Takes as TakesOf, Finds, FindsFew, Forks}
-use Rattle.crossbeam_deque.proofs.Lists.{at_set, at_snoc}
+use Rattle.crossbeam_deque.specs.Tasks.{Pushes, Takes as TakesOf, Forks, Merges, Learns}
+use Rattle.crossbeam_deque.proofs.Lists.{at_set, at_snoc, set_else}
 use Rattle.steal_deck.specs.declared.rule.Track.{Track}
-use Rattle.steal_deck.specs.Deck.{times, times_taken, StartsWith, new_hand, new_thief, Takes, IsAllTaken, Knows, InOrder}
+use Rattle.steal_deck.specs.Deck.{times, times_taken, StartsWith, NoneTwice, with_taken, new_hand, new_thief, Takes, IsAllTaken, Knows, InOrder}
 
 total_set : (f : Track → ℕ) (views : List Track) (port : ℕ) (v w : Track) → get_elem? views port ≡ some v → sum_by f (set views port w) + f v ≡ sum_by f views + f w
 total_set f [] port v w e = absurd (some-ne-none v (sym e))
@@ -67,8 +66,7 @@ pushes port v xs owns items views h at =
     let mine = h.each port v at in
     let same : h.gone ++ (items ++ xs) ≡ (h.gone ++ items) ++ xs = sym (append_assoc h.gone items xs) in
     let len : length (set views port w) ≡ length views = length-set views port w in
-    let F : ℕ → Track → Type 0 = λ j u. Knows h.hand (h.gone ++ (items ++ xs)) (length h.gone) (length (set views port w)) j u in
-    (
+    let F : ℕ → Track → Type 0 = λ j u. Knows h.hand (h.gone ++ (items ++ xs)) (length h.gone) (length (set views port w)) j u in (
       w,
       record {
         hand = h.hand;
@@ -95,8 +93,7 @@ takes port v xs items views pos few h at =
     let len : length (set views port w) ≡ length views = length-set views port w in
     let size : length (h.gone ++ xs) ≡ n + 1 = omega (arith, length-append h.gone xs, one_of xs pos few) in
     let F : ℕ → Track → Type 0 = λ j u. Knows h.hand ((h.gone ++ xs) ++ items) (length (h.gone ++ xs)) (length (set views port w)) j u in
-    let begun : StartsWith (h.gone ++ xs) (h.gone ++ (xs ++ items)) = (items, sym same) in
-    (
+    let begun : StartsWith (h.gone ++ xs) (h.gone ++ (xs ++ items)) = (items, sym same) in (
       w,
       record {
         hand = h.hand;
@@ -107,7 +104,7 @@ takes port v xs items views pos few h at =
               alone = λ a. len ∙ mine.alone a;
               seen = (items, refl);
               taken = λ p t. elim (ℕ_discrete n p) [
-                yes e ↦ omega arith
+                | yes e ↦ omega arith
                 | no e ↦ let old = mine.taken p (omega (arith, times-append p v.taken (n ∷ []), times-else p n e, t)) in omega arith
               ];
             })
@@ -118,7 +115,7 @@ takes port v xs items views pos few h at =
               taken = λ p t. let old = k.taken p t in omega arith;
             });
         once = λ p lt. let tot = total_set (λ u. times p u.taken) views port v w at in let app = times-append p v.taken (n ∷ []) in elim (ℕ_discrete n p) [
-          yes e ↦ let here : times p (n ∷ []) ≡ 1 = subst (λ q. times p (q ∷ []) ≡ 1) (sym e) (times-here p) in omega (arith, tot, app, here, h.not_yet p (omega arith))
+          | yes e ↦ let here : times p (n ∷ []) ≡ 1 = subst (λ q. times p (q ∷ []) ≡ 1) (sym e) (times-here p) in omega (arith, tot, app, here, h.not_yet p (omega arith))
           | no e ↦ omega (arith, tot, app, times-else p n e, h.once p (omega arith))
         ];
         not_yet = λ p le. let ne : n ≢ p = omega arith in omega (arith, total_set (λ u. times p u.taken) views port v w at, times-append p v.taken (n ∷ []), times-else p n ne, h.not_yet p (omega arith));
@@ -152,8 +149,8 @@ forks port v items views h at =
     let all : List Track = vs ++ new_thief ∷ [] in
     let F : ℕ → Track → Type 0 = λ j u. Knows h.hand (h.gone ++ items) (length h.gone) (length all) j u in
     let old : Each F vs = each_set F views port l
-        (record { owner = mine.owner; alone = λ a. absurd (true≢false (sym a)); seen = mine.seen; taken = mine.taken })
-        (λ j u other e. let k = h.each j u e in record { owner = k.owner; alone = λ a. absurd (other (omega (arith, k.alone a, below views j u e, below views port v at))); seen = k.seen; taken = k.taken }) in
+    (record { owner = mine.owner; alone = λ a. absurd (true≢false (sym a)); seen = mine.seen; taken = mine.taken })
+    (λ j u other e. let k = h.each j u e in record { owner = k.owner; alone = λ a. absurd (other (omega (arith, k.alone a, below views j u e, below views port v at))); seen = k.seen; taken = k.taken }) in
     let same : (p : ℕ) → times_taken p all ≡ times_taken p views = λ p. omega (arith, total_set (λ u. times p u.taken) views port v l at, sum_by_push (λ u. times p u.taken) vs new_thief) in
     record {
       hand = h.hand;
@@ -162,3 +159,44 @@ forks port v items views h at =
       once = λ p lt. same p ∙ h.once p lt;
       not_yet = λ p le. same p ∙ h.not_yet p le;
     }
+
+pub merges : (port : ℕ) (v : Track) (other : ℕ) (u : Track) → Merges InOrder port v other u (with_taken v u.taken) new_thief
+merges port v other u items views h at two at' =
+    let both : Track = with_taken v u.taken in
+    let mine = h.each port v at in
+    let vs : List Track = set views port both in
+    let was : get_elem? views other ≡ some u = sym (set_else views port other both two) ∙ at' in
+    let theirs = h.each other u was in
+    let all : List Track = set vs other new_thief in
+    let len : length all ≡ length views = length-set vs other new_thief ∙ length-set views port both in
+    let F : ℕ → Track → Type 0 = λ j y. Knows h.hand (h.gone ++ items) (length h.gone) (length all) j y in
+    let now : Each F vs = each_set F views port both
+    (record {
+      owner = mine.owner;
+      alone = λ a. len ∙ mine.alone a;
+      seen = mine.seen;
+      taken = λ p t. either_below p (mine.taken p) (theirs.taken p) (omega (arith, times-append p v.taken u.taken, t));
+    })
+    (λ j y apart e. let k = h.each j y e in record { owner = k.owner; alone = λ a. len ∙ k.alone a; seen = k.seen; taken = k.taken }) in
+    let same : (p : ℕ) → times_taken p all ≡ times_taken p views = λ p. omega (arith, total_set (λ y. times p y.taken) views port v both at, total_set (λ y. times p y.taken) vs other u new_thief at', times-append p v.taken u.taken) in
+    record {
+      hand = h.hand;
+      gone = h.gone;
+      each = each_set F vs other new_thief (record { owner = λ o. absurd (true≢false (sym o)); alone = λ a. absurd (true≢false (sym a)); seen = (h.gone ++ items, refl); taken = λ p t. absurd (omega (arith, t)) }) (λ j y apart e. now j y e);
+      once = λ p lt. same p ∙ h.once p lt;
+      not_yet = λ p le. same p ∙ h.not_yet p le;
+    }
+  where
+    either_below : (p : ℕ) {n : ℕ} → (0 < times p v.taken → p < n) → (0 < times p u.taken → p < n) → 0 < times p v.taken + times p u.taken → p < n
+    either_below p a b t = elim (ℕ_discrete (times p v.taken) 0) [ yes z ↦ b (omega arith) | no z ↦ a (omega arith) ]
+
+at_most : (f : Track → ℕ) (views : List Track) (port : ℕ) (v : Track) → get_elem? views port ≡ some v → f v ≤ sum_by f views
+at_most f [] port v e = absurd (some-ne-none v (sym e))
+at_most f (x ∷ xs) zero v e = let q = ap f (some-injective x v e) in omega (arith, sum_by-cons f x xs)
+at_most f (x ∷ xs) (suc port) v e = omega (arith, at_most f xs port v e, sum_by-cons f x xs)
+
+pub learns : (port : ℕ) (v : Track) → Learns InOrder port v (λ items. NoneTwice v.taken)
+learns port v items views h at p = elim (dec_le (length h.gone) p) [
+  | yes le ↦ omega (arith, h.not_yet p le, at_most (λ u. times p u.taken) views port v at)
+  | no gt ↦ omega (arith, h.once p (omega arith), at_most (λ u. times p u.taken) views port v at)
+]

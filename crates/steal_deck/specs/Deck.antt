@@ -30,6 +30,14 @@ new_thief = record { owner = false; alone = false; pushed = []; seen = []; taken
 abbrev pub after_push : Track → ℕ → Track
 after_push v item = record v { pushed = v.pushed ++ item ∷ [] }
 
+-- this party took the pushes of these places too
+abbrev pub with_taken : Track → List ℕ → Track
+with_taken v places = record v { taken = v.taken ++ places }
+
+-- no number stands twice in the list
+abbrev pub NoneTwice : List ℕ → Type 0
+NoneTwice xs = (x : ℕ) → times x xs ≤ 1
+
 -- The items leave the deck at its front: they are the pushes from `place` on, `before` is what was pushed before them,
 -- and each push that this party took before has a smaller place
 pub record Takes (v : Track) (items : List ℕ) (w : Track) : Type 0 where

@@ -1,5 +1,5 @@
 -- What clauses see of a hand and of a thief.
-use Rattle.std.specs.Prelude.{◌≡◌, ℕ, List, []}
+use Rattle.std.specs.Prelude.{◌≡◌, ℕ}
 use Rattle.crossbeam_deque.specs.Handles.{worker_deque, worker_view, stealer_deque, view}
 use Rattle.steal_deck.specs.Deck.{new_hand}
 use Rattle.steal_deck.specs.declared.rule.Track.{Track}

@@ -3,7 +3,7 @@
 ghost use Rattle.std.specs.Prelude.{◌≡◌, ◌<◌, ◌≤◌, true, false, length, IfOk, IfErr, OnOk, MatchOption};
 ghost use Rattle.crossbeam_deque.specs.Handles.{worker_capacity, worker_flavor, worker_index, worker_view};
 
-use crate::rule::{Line, Pushing, Sharing, Taking, Track};
+use crate::rule::{Line, Once, Pushing, Returning, Sharing, Taking, Track};
 use crate::thief::Thief;
 use crossbeam_deque::Worker;
 use std::alloc::Global;
@@ -25,7 +25,7 @@ pub struct Hand {
 
 impl Hand {
     ghost use Rattle.std.specs.Prelude.{[], ◌∷◌};
-    ghost use Rattle.steal_deck.specs.Deck.{IsAllTaken, Takes, after_push, new_thief};
+    ghost use Rattle.steal_deck.specs.Deck.{IsAllTaken, NoneTwice, Takes, after_push, new_thief, with_taken};
     ghost use Rattle.steal_deck.specs.Hands.{IsNew, IsThiefOf, SameDeck, capacity_of, hand_track, thief_track};
 
     /// A new deck, for `capacity` pushes.
@@ -77,5 +77,18 @@ impl Hand {
         ensures item { MatchOption result ((hand_track self.new ≡ hand_track self.old) × IsAllTaken (hand_track self.old)) (λ item. Takes (hand_track self.old) (item ∷ []) (hand_track self.new)) }
     {
         self.owner.pop_as::<Taking>()
+    }
+
+    /// Takes a thief of this deck back. What it took counts as taken by the hand from now on: no push was taken twice.
+    pub fn take_back(&mut self, thief: Thief)
+        requires { IsThiefOf self.old thief }
+        ensures deck { SameDeck self.old self.new }
+        ensures track { hand_track self.new ≡ with_taken (hand_track self.old) (thief_track thief).taken }
+        ensures once { NoneTwice (hand_track self.new).taken }
+    {
+        let Thief { stealer, pass } = thief;
+        self.owner.absorb::<Returning>(pass);
+        self.owner.len_as::<Once>();
+        drop(stealer);
     }
 }

@@ -3,7 +3,7 @@
 ghost use Rattle.std.specs.Prelude.{◌≡◌, false};
 ghost use Rattle.steal_deck.specs.Deck.{InOrder, IsAllTaken, Takes, after_push, new_hand, new_thief};
 
-use crossbeam_deque::protocol::{Outcome, Protocol, Split};
+use crossbeam_deque::protocol::{Join, Lesson, Outcome, Protocol, Split};
 use std::collections::LinkedList;
 
 /// What the hand of a deck, or a thief, knows of the deck. It exists in contracts alone: no value of it is made.
@@ -56,4 +56,24 @@ impl Split<Track> for Sharing {
     ghost left = { λ v. record v { alone = false } };
 
     ghost right = { λ v. new_thief };
+}
+
+/// A thief goes, and its hand counts what it took.
+pub struct Returning;
+
+impl Join<Track> for Returning {
+    ghost use Rattle.steal_deck.specs.Deck.{with_taken};
+
+    ghost both = { λ v w. with_taken v w.taken };
+
+    ghost spent = { new_thief };
+}
+
+/// No push was taken twice.
+pub struct Once;
+
+impl Lesson<u64, Track> for Once {
+    ghost use Rattle.steal_deck.specs.Deck.{NoneTwice};
+
+    ghost fact = { λ v items. NoneTwice v.taken };
 }

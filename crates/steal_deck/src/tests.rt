@@ -15,5 +15,6 @@ fn a_deck_is_first_in_first_out(rt: HostRuntime) -> Result<(), Fail> {
     assert_eq!(rt; thief.steal(), Stolen::Item(6));
     assert_eq!(rt; hand.pop(), None);
     assert_eq!(rt; thief.steal(), Stolen::Empty);
+    hand.take_back(thief);
     Ok(())
 }
