@@ -1,0 +1,6 @@
+//! A crew of workers over the board of a plan.
+#![tactic(auto)]
+
+mod kit;
+mod order;
+mod team;
