@@ -8,6 +8,9 @@ loop-task-init g c = subst (Sorts c.args.tasks c.args.pairs.items c.args.pairs.i
 pub loop-task-preserved : goal.loop-task-preserved
 loop-task-preserved g c = sorts_more _ _ _ _ _ _ _ c.in-Some.ensures.items c.loop-task.invariant
 
+pub loop-task-preserved-in-Some : goal.loop-task-preserved-in-Some
+loop-task-preserved-in-Some g c = sorts_more _ _ _ _ _ _ _ c.in-Some.ensures.items c.loop-task.invariant
+
 pub unwrapped-requires : goal.unwrapped-requires
 unwrapped-requires g c = let cases = c.in_default.ensures.cases in sorts_full c.args.tasks c.args.pairs.items c.loop-task.slots.items (subst (λ l. Sorts c.args.tasks c.args.pairs.items l c.loop-task.slots.items) (nil_of c.loop-task.pairs.items (omega (arith, cases.0, c.loop-task.pairs.ok))) c.loop-task.invariant)
 
