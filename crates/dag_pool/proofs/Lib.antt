@@ -1,1 +1,3 @@
 pub mod Sorting
+pub mod Owing
+pub mod Tasks

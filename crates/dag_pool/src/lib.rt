@@ -1,6 +1,12 @@
 //! A crew of workers over the board of a plan.
 #![tactic(auto)]
 
+mod crew;
+mod gate;
 mod kit;
 mod order;
+mod post;
+mod task;
 mod team;
+
+pub use gate::{Gate, OpenGate};
