@@ -89,3 +89,12 @@ module _ {V : Type 0} (es : List Edge) (n workers k : ℕ) where
         (λ t d. let b = times-append t v.ready (task ∷ []) in dite (ℕ_discrete task t)
           (λ q. (subst (λ x. x < n) q lt, λ some. let h = times_here t task [] q in omega (arith, b, h)))
           (λ ne. let h = times_else t task [] ne in let m = most t in let r = o.valid t (omega (arith, h, m, d)) in (r.0, λ some. let s = r.1 some in omega (arith, b, s)))))
+
+  -- the task that was popped is still due
+  pub owed_popped : (v : View V) (due rest : List ℕ) (task : ℕ) (starved : Bool) → due ≡ rest ++ task ∷ [] → IsOwed es n workers k v due starved → IsOwed es n workers k v (task ∷ rest) starved
+  owed_popped v due rest task starved e o = owed_step v v due (task ∷ rest) starved starved o (λ f. f) (λ f t s. let a = same t in omega (arith, a, s)) (λ f t r. inl r) (λ t d. o.valid t (let a = same t in omega (arith, a, d)))
+    where
+    same : (t : ℕ) → times t due ≡ times t (task ∷ rest)
+    same t = let a = ap (times t) e ∙ times-append t rest (task ∷ []) in dite (ℕ_discrete task t)
+        (λ q. let b = times_here t task [] q in let c = times_here t task rest q in omega (arith, a, b, c))
+        (λ ne. let b = times_else t task [] ne in let c = times_else t task rest ne in omega (arith, a, b, c))

@@ -7,6 +7,9 @@ mod kit;
 mod order;
 mod post;
 mod task;
+mod shift;
+mod sweep;
 mod team;
+mod worker;
 
 pub use gate::{Gate, OpenGate};

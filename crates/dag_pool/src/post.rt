@@ -20,8 +20,10 @@ pub(crate) struct Post<J: Job> {
 #[derive(Drop)]
 pub(crate) struct Shift<J: Job> {
     pub(crate) post: Post<J>,
+    /// The worker's own kit.
+    pub(crate) kit: Kit,
     /// A kit for each worker that is still to start.
-    pub(crate) kits: Vec<Kit>,
+    pub(crate) others: Vec<Kit>,
     /// Whether memory was refused to a task after it was claimed.
     pub(crate) lost: bool,
 }
