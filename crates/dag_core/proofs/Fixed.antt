@@ -1,6 +1,6 @@
 -- The values of a plan as a fixed point: whatever task is run when its inputs are there, with the plan's values as inputs it gives
 -- the plan's output, and the plan's values to its outgoing edges.
-use Rattle.std.proofs.Common.{◌≡◌, ◌≢◌, ℕ, zero, suc, ◌+◌, ◌<◌, ◌≤◌, Bool, true, false, cond, eqb, List, [], ◌∷◌, ◌++◌, length, get_or, set, replicate, Option, Some, None, sym, refl, ap, ◌∙◌, subst, eq-eqb, eqb→eq, length-set, length-append, get_or-set_same, get_or-set_other, arith}
+use Rattle.std.proofs.Common.{◌≡◌, ◌≢◌, ℕ, zero, suc, ◌+◌, ◌<◌, ◌≤◌, eqb, List, [], ◌∷◌, ◌++◌, length, get_or, set, replicate, Option, Some, None, sym, refl, ap, ◌∙◌, subst, eq-eqb, eqb→eq, length-set, get_or-set_same, get_or-set_other, arith}
 use mathlib.Core.Logic.{dite}
 use native.Mathlib.Decide.{ℕ_discrete}
 use Rattle.std.specs.Prelude.{slice_get}
@@ -9,8 +9,8 @@ use Rattle.std.specs.Option.{option_to_list}
 use Rattle.std.proofs.lemmas.Option.{same_Some}
 use Rattle.std.proofs.lemmas.List.{length-replicate}
 use Rattle.dag_core.specs.declared.plan.Edge.{Edge}
-use Rattle.dag_core.specs.Places.{times, places_by}
-use Rattle.dag_core.specs.Values.{edge_at, source, target, places_to, places_from, count_in, count_out, value_of, values_at, put_at, known_next, known_after, outputs_after, edge_values, outputs}
+use Rattle.dag_core.specs.Places.{times}
+use Rattle.dag_core.specs.Values.{source, target, places_to, places_from, count_in, count_out, value_of, values_at, put_at, known_next, known_after, outputs_after, edge_values, outputs}
 use Rattle.dag_core.proofs.Places.{times_here, times_else, times_in, places_once, places_found, places_inside}
 
 abbrev no_edge : Edge

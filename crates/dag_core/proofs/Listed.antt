@@ -3,13 +3,13 @@ use Rattle.std.proofs.Common.{◌≡◌, ◌≢◌, ℕ, ◌+◌, ◌<◌, zero,
 use Rattle.std.proofs.lemmas.List.{take_more, length-take-le, length-replicate, get_or-replicate}
 use mathlib.Core.Logic.{dite}
 use native.Mathlib.Decide.{ℕ_discrete}
-use Rattle.std.specs.Prelude.{position, Option, Some, None}
+use Rattle.std.specs.Prelude.{Some, None}
 use Rattle.std.specs.List.{position_from}
 use Rattle.std.proofs.lemmas.Iterator.Adapters.{position_from-zero}
 use Rattle.std.proofs.lemmas.Bool.Decides.{nat_tests}
 use Rattle.dag_core.specs.declared.plan.Edge.{Edge}
 use Rattle.dag_core.specs.Places.{IsFiled, places_by}
-use Rattle.dag_core.specs.Values.{source, target, edge_at, is_forward, first_bad}
+use Rattle.dag_core.specs.Values.{source, target, is_forward, first_bad}
 use Rattle.dag_core.proofs.Places.{places-push}
 
 none_pass : {X : Type 0} (p : X → Bool) (i : ℕ) (xs : List X) (d : X) → position_from p i xs ≡ None → (k : ℕ) → k < length xs → p (get_or xs k d) ≡ false

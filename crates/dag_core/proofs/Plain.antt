@@ -1,5 +1,5 @@
 -- The steps of `evaluate_plain`: inputs taken one by one, values put one by one, and what waits between two tasks.
-use Rattle.std.proofs.Common.{◌≡◌, ◌≢◌, ℕ, zero, suc, ◌+◌, ◌<◌, ◌≤◌, List, [], ◌∷◌, ◌++◌, length, get_or, set, take, drop, replicate, Option, Some, None, sym, refl, ap, ◌∙◌, subst, append_assoc, get_or-set_other, arith}
+use Rattle.std.proofs.Common.{◌≡◌, ◌≢◌, ℕ, ◌+◌, ◌<◌, ◌≤◌, List, [], ◌∷◌, ◌++◌, length, get_or, set, take, drop, Option, Some, None, sym, refl, ap, ◌∙◌, subst, append_assoc, get_or-set_other, arith}
 use mathlib.Core.Logic.{dite}
 use native.Mathlib.Decide.{ℕ_discrete}
 use Rattle.std.specs.Prelude.{slice_get}
@@ -8,8 +8,8 @@ use Rattle.std.proofs.lemmas.List.{append-nil, take_more}
 use Rattle.std.proofs.lemmas.Option.{get_or_from_slice_get}
 use Rattle.dag_core.specs.declared.plan.Edge.{Edge}
 use Rattle.dag_core.specs.Places.{times}
-use Rattle.dag_core.specs.Values.{source, target, places_to, places_from, count_out, value_of, values_at, put_at, edge_values, outputs, Waits}
-use Rattle.dag_core.proofs.Places.{times_at, times_in, times-append, times_here, times_else}
+use Rattle.dag_core.specs.Values.{source, target, places_to, places_from, value_of, values_at, put_at, edge_values, outputs, Waits}
+use Rattle.dag_core.proofs.Places.{times_at, times_in, times-append, times_here}
 use Rattle.dag_core.proofs.Fixed.{IsPlan, to_target, source_from, from_source, from_once, not_from, not_to, length-put_at, put_else, put_here, values_same, item_at, task_output, task_value, values_fit}
 
 module _ {V : Type 0} where

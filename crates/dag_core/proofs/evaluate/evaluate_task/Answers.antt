@@ -1,6 +1,5 @@
-use Rattle.std.proofs.Common.{◌≡◌, ℕ, ◌<◌, ◌≤◌, sym, ap, subst, ◌∙◌, length, List, arith}
+use Rattle.std.proofs.Common.{◌≡◌, ◌<◌, ◌≤◌, sym, ap, subst, ◌∙◌, length, arith}
 use Rattle.dag_core.specs.Places.{times}
-use Rattle.dag_core.specs.Values.{places_to, places_from}
 use Rattle.dag_core.proofs.Fixed.{to_target, to_once, from_source, inputs_fit}
 use Rattle.dag_core.proofs.Plain.{taken_inputs, waits_next, output_taken}
 use Rattle.dag_core.proofs.PlanFacts.{is_plan}

@@ -1,4 +1,4 @@
-use Rattle.std.proofs.Common.{◌≡◌, ℕ, ◌+◌, sym, ap, refl, subst, ◌∙◌, get_or, None, arith}
+use Rattle.std.proofs.Common.{ap, refl, ◌∙◌, get_or, arith}
 use Rattle.dag_core.specs.Values.{value_of}
 use Rattle.dag_core.proofs.Places.{times_at}
 use Rattle.dag_core.proofs.Plain.{taken_more, others_more}

@@ -1,4 +1,4 @@
-use Rattle.std.proofs.Common.{◌≡◌, ℕ, length, get_or, sym, refl, ap, subst, ◌∙◌, take, arith, List, set, ◌++◌, ◌∷◌, [], ◌+◌}
+use Rattle.std.proofs.Common.{sym, refl, subst, take, ◌+◌}
 use Rattle.dag_core.specs.Places.{IsFiled}
 use Rattle.dag_core.specs.Values.{edge_at}
 use Rattle.dag_core.proofs.Listed.{filed_more}
