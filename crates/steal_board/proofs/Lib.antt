@@ -1,3 +1,4 @@
 pub mod Counts
 pub mod Agreeing
 pub mod Fitting
+pub mod Moves

@@ -7,6 +7,10 @@
 //! the plan's value. No call but `lay` and `close` takes memory, and none waits.
 #![tactic(auto)]
 
+mod board;
+mod law;
 mod view;
+mod words;
 
+pub use board::{Board, BoardSeat, Claim};
 pub use view::{Paper, View};
