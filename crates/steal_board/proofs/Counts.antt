@@ -93,8 +93,8 @@ total_times f g e [] same one = refl
 total_times f g e (p ∷ ps) same one =
     let r = total_times f g e ps same one in
     dite (ℕ_discrete p e)
-      (λ q. let t = times_here e p ps q in let a : f p ≡ g p + 1 = subst (λ n. f n ≡ g n + 1) (sym q) one in omega (arith, r, t, a))
-      (λ ne. let t = times_else e p ps ne in let a = same p ne in omega (arith, r, t, a))
+    (λ q. let t = times_here e p ps q in let a : f p ≡ g p + 1 = subst (λ n. f n ≡ g n + 1) (sym q) one in omega (arith, r, t, a))
+    (λ ne. let t = times_else e p ps ne in let a = same p ne in omega (arith, r, t, a))
 
 pub total_pointwise : (f g : ℕ → ℕ) (ps : List ℕ) → ((x : ℕ) → 0 < times x ps → f x ≡ g x) → total f ps ≡ total g ps
 total_pointwise f g [] same = refl
@@ -117,9 +117,9 @@ length-places : {X : Type 0} (p : X → Bool) (i : ℕ) (xs : List X) → length
 length-places p i [] = omega arith
 length-places {X = X} p i (x ∷ xs) = go (p x) (length-places p (i + 1) xs)
   where
-  go : (b : Bool) → length (places_by p (i + 1) xs) ≤ length xs → length (cond b (i ∷ places_by p (i + 1) xs) (places_by p (i + 1) xs)) ≤ suc (length xs)
-  go true h = omega (arith, h)
-  go false h = omega (arith, h)
+    go : (b : Bool) → length (places_by p (i + 1) xs) ≤ length xs → length (cond b (i ∷ places_by p (i + 1) xs) (places_by p (i + 1) xs)) ≤ suc (length xs)
+    go true h = omega (arith, h)
+    go false h = omega (arith, h)
 
 -- no more edges are unpaid than there are
 pub owing_few : (paid : ℕ → ℕ) (es : List Edge) (t : ℕ) → owing paid es t ≤ count_in es t

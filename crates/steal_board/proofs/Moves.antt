@@ -44,12 +44,12 @@ module _ {T : Type 0} where
       → Agrees p ws hs (sums (λ u. u.mine) (set s.views i w)) (sums (λ u. u.turn) (set s.views i w)) (sums (λ u. u.paid) (set s.views i w)) (sums (λ u. u.taken) (set s.views i w)) (sums (λ u. u.ready) (set s.views i w)) (sums (λ u. u.gone) (set s.views i w))
       → Held p record { words = ws; homes = hs; views = set s.views i w }
   moved p s i v w ws hs h at same fit len agrees = record {
-      wide = let a = h.wide in omega (arith, len, a);
-      few = h.few;
-      shares = total_same (λ u. u.share) s.views i v w at same ∙ h.shares;
-      each = views_stay p s.views i w h.each fit;
-      agrees = agrees;
-    }
+    wide = let a = h.wide in omega (arith, len, a);
+    few = h.few;
+    shares = total_same (λ u. u.share) s.views i v w at same ∙ h.shares;
+    each = views_stay p s.views i w h.each fit;
+    agrees = agrees;
+  }
 
   -- the seat with the whole share has in its lists all that is counted
   alone : (p : Paper T) (s : State (Option T) (View T)) (i : ℕ) (v : View T) → Held p s → get_elem? s.views i ≡ some v → v.share ≡ whole → (part : View T → List ℕ)
@@ -68,7 +68,7 @@ module _ {T : Type 0} where
 
   claims_whole : (v : View T) (s : State (Option T) (View T)) (i t : ℕ) → Held v.paper s → get_elem? s.views i ≡ some v → v.share ≡ whole → t < v.paper.tasks → ClaimsWhole v t (get_or s.words t 0)
   claims_whole v s i t h at all lt = record {
-      won = λ z.
+    won = λ z.
         let m = unclaimed v.paper s.words s.homes _ _ _ _ _ _ h.wide h.few h.agrees t lt (λ q. omega (arith, q, z)) in
         let a = alone_mine v.paper s i v h at all t in
         let g = alone v.paper s i v h at all (λ u. u.gone) (λ u y. omega arith) t in
@@ -78,10 +78,10 @@ module _ {T : Type 0} where
           dite (ℕ_discrete (times t v.gone) 0) (λ n. n) (λ n. absurd (let c = h.agrees.gone_claimed t (omega (arith, g, n)) in omega (arith, c, m))),
           λ some_in. let told = h.agrees.told t some_in (sym owed ∙ z) in omega (arith, r, told),
         );
-      lost = λ q. let m = is_claimed v.paper s.words s.homes _ _ _ _ _ _ h.wide h.few h.agrees t lt q in let a = alone_mine v.paper s i v h at all t in omega (arith, m, a);
-      early = λ nz nm. h.agrees.free t lt (unclaimed v.paper s.words s.homes _ _ _ _ _ _ h.wide h.few h.agrees t lt nm) ∙ alone_owing v.paper s i v h at all t;
-      once = λ x. let a = alone_mine v.paper s i v h at all x in let o = h.agrees.once x in (omega (arith, a, o), λ le. let z = h.agrees.inside x le in omega (arith, a, z));
-    }
+    lost = λ q. let m = is_claimed v.paper s.words s.homes _ _ _ _ _ _ h.wide h.few h.agrees t lt q in let a = alone_mine v.paper s i v h at all t in omega (arith, m, a);
+    early = λ nz nm. h.agrees.free t lt (unclaimed v.paper s.words s.homes _ _ _ _ _ _ h.wide h.few h.agrees t lt nm) ∙ alone_owing v.paper s i v h at all t;
+    once = λ x. let a = alone_mine v.paper s i v h at all x in let o = h.agrees.once x in (omega (arith, a, o), λ le. let z = h.agrees.inside x le in omega (arith, a, z));
+  }
 
   -- after a claim's step, which leaves the number k in the word
   abbrev Claimed : State (Option T) (View T) → ℕ → Me (Option T) (View T) → ℕ → ℕ → ℕ → Type 0
@@ -99,7 +99,7 @@ module _ {T : Type 0} where
         keeps,
         tt,
         moved v.paper s i v w (set s.words t mark) s.homes h at refl (fit_mine v has (h.each i v at) t) (length-set s.words t mark)
-          (agrees_at v.paper (set s.words t mark) s.homes _ _ _ _ _ _ _ _ _ _ _ _ refl (sums_same (λ u. u.turn) s.views i v w at refl) (sums_same (λ u. u.paid) s.views i v w at refl) (sums_same (λ u. u.taken) s.views i v w at refl)
+            (agrees_at v.paper (set s.words t mark) s.homes _ _ _ _ _ _ _ _ _ _ _ _ refl (sums_same (λ u. u.turn) s.views i v w at refl) (sums_same (λ u. u.paid) s.views i v w at refl) (sums_same (λ u. u.taken) s.views i v w at refl)
             (sums_same (λ u. u.ready) s.views i v w at refl) (sums_same (λ u. u.gone) s.views i v w at refl)
             (won_agrees v.paper s.words s.homes _ _ _ _ _ _ h.wide h.few h.agrees (sums (λ u. u.mine) (set s.views i w)) t lt z grown)),
         record {
@@ -121,7 +121,7 @@ module _ {T : Type 0} where
         keeps,
         tt,
         moved v.paper s i v w (set s.words t (get_or s.words t 0)) s.homes h at refl (fit_gone v has (h.each i v at) t) (length-set s.words t (get_or s.words t 0))
-          (agrees_at v.paper (set s.words t (get_or s.words t 0)) s.homes _ _ _ _ _ _ _ _ _ _ _ _ (sums_same (λ u. u.mine) s.views i v w at refl) (sums_same (λ u. u.turn) s.views i v w at refl) (sums_same (λ u. u.paid) s.views i v w at refl)
+            (agrees_at v.paper (set s.words t (get_or s.words t 0)) s.homes _ _ _ _ _ _ _ _ _ _ _ _ (sums_same (λ u. u.mine) s.views i v w at refl) (sums_same (λ u. u.turn) s.views i v w at refl) (sums_same (λ u. u.paid) s.views i v w at refl)
             (sums_same (λ u. u.taken) s.views i v w at refl) (sums_same (λ u. u.ready) s.views i v w at refl) refl
             (words_same v.paper s.words s.homes _ _ _ _ _ _ t (lost_agrees v.paper s.words s.homes _ _ _ _ _ _ h.wide h.few h.agrees (sums (λ u. u.gone) (set s.views i w)) t lt q grown))),
         record {
@@ -145,7 +145,7 @@ module _ {T : Type 0} where
         keeps,
         tt,
         moved v.paper s i v v (set s.words t (get_or s.words t 0)) s.homes h at refl (h.each i v at) (length-set s.words t (get_or s.words t 0))
-          (agrees_at v.paper (set s.words t (get_or s.words t 0)) s.homes _ _ _ _ _ _ _ _ _ _ _ _ (sums_same (λ u. u.mine) s.views i v v at refl) (sums_same (λ u. u.turn) s.views i v v at refl) (sums_same (λ u. u.paid) s.views i v v at refl)
+            (agrees_at v.paper (set s.words t (get_or s.words t 0)) s.homes _ _ _ _ _ _ _ _ _ _ _ _ (sums_same (λ u. u.mine) s.views i v v at refl) (sums_same (λ u. u.turn) s.views i v v at refl) (sums_same (λ u. u.paid) s.views i v v at refl)
             (sums_same (λ u. u.taken) s.views i v v at refl) (sums_same (λ u. u.ready) s.views i v v at refl) (sums_same (λ u. u.gone) s.views i v v at refl)
             (words_same v.paper s.words s.homes _ _ _ _ _ _ t h.agrees)),
         record {
@@ -167,14 +167,14 @@ module _ {T : Type 0} where
   claims slots i me t has lt s h len at small = dite (ℕ_discrete (get_or s.words t 0) 0)
       (λ z. subst (Claimed s i me t slots) (sym (ap (λ b. either b mark (get_or s.words t 0)) (eq-eqb (get_or s.words t 0) 0 z))) (claim_won slots i me t has lt s h at z))
       (λ nz. subst (Claimed s i me t slots) (sym (ap (λ b. either b mark (get_or s.words t 0)) (ne_eqb (get_or s.words t 0) 0 nz)))
-        (dite (ℕ_discrete (get_or s.words t 0) mark) (λ q. claim_lost slots i me t has lt s h at q) (λ nm. claim_early slots i me t has lt s h at nz nm)))
+      (dite (ℕ_discrete (get_or s.words t 0) mark) (λ q. claim_lost slots i me t has lt s h at q) (λ nm. claim_early slots i me t has lt s h at nz nm)))
 
   -- an edge whose source the seat claimed, and that it has not turned or paid, is in no `turn` or `paid`
   unpaid_anywhere : (v : View T) (i e : ℕ) (s : State (Option T) (View T)) → Held v.paper s → get_elem? s.views i ≡ some v → 0 < times (source v.paper.edges e) v.mine → times e v.turn + times e v.paid ≡ 0
       → sums (λ u. u.turn) s.views e + sums (λ u. u.paid) s.views e ≡ 0
   unpaid_anywhere v i e s h at claimed unpaid =
       sym (total_plus (λ (u : View T). times e u.turn) (λ (u : View T). times e u.paid) s.views)
-        ∙ total_below (λ (u : View T). times e u.turn + times e u.paid) (λ (u : View T). times (source v.paper.edges e) u.mine) s.views i v at (λ j u at'. (h.each j u at').sent e) (h.agrees.once (source v.paper.edges e)) claimed unpaid
+      ∙ total_below (λ (u : View T). times e u.turn + times e u.paid) (λ (u : View T). times (source v.paper.edges e) u.mine) s.views i v at (λ j u at'. (h.each j u at').sent e) (h.agrees.once (source v.paper.edges e)) claimed unpaid
 
   -- an edge whose target the seat claimed, and that it has not taken, is in no `taken`
   untaken_anywhere : (v : View T) (i e : ℕ) (s : State (Option T) (View T)) → Held v.paper s → get_elem? s.views i ≡ some v → 0 < times (target v.paper.edges e) v.mine → times e v.taken ≡ 0 → sums (λ u. u.taken) s.views e ≡ 0
@@ -193,10 +193,10 @@ module _ {T : Type 0} where
         takes e None,
         (h.agrees.slots e lt).empty none_yet,
         moved v.paper s i v w (set s.words word (get_or s.words word 0)) (set s.homes e none) h at refl (fit_turning v has (h.each i v at) e lt claimed unpaid) (length-set s.words word (get_or s.words word 0))
-          (agrees_at v.paper (set s.words word (get_or s.words word 0)) (set s.homes e none) _ _ _ _ _ _ _ _ _ _ _ _ (sums_same (λ u. u.mine) s.views i v w at refl) refl (sums_same (λ u. u.paid) s.views i v w at refl)
+            (agrees_at v.paper (set s.words word (get_or s.words word 0)) (set s.homes e none) _ _ _ _ _ _ _ _ _ _ _ _ (sums_same (λ u. u.mine) s.views i v w at refl) refl (sums_same (λ u. u.paid) s.views i v w at refl)
             (sums_same (λ u. u.taken) s.views i v w at refl) (sums_same (λ u. u.ready) s.views i v w at refl) (sums_same (λ u. u.gone) s.views i v w at refl)
             (words_same v.paper s.words (set s.homes e none) _ _ _ _ _ _ word
-              (turned_agrees v.paper s.words s.homes _ _ _ _ _ _ h.wide h.few h.agrees (sums (λ u. u.turn) (set s.views i w)) e lt (omega (arith, len, deep, lt)) none_yet grown))),
+            (turned_agrees v.paper s.words s.homes _ _ _ _ _ _ h.wide h.few h.agrees (sums (λ u. u.turn) (set s.views i w)) e lt (omega (arith, len, deep, lt)) none_yet grown))),
         (refl, refl),
       )
 
@@ -223,10 +223,10 @@ module _ {T : Type 0} where
         takes e (Some full.0),
         full.2,
         moved v.paper s i v w (set s.words word (get_or s.words word 0)) (set s.homes e none) h at refl (fit_taken v has (h.each i v at) e lt claimed untaken) (length-set s.words word (get_or s.words word 0))
-          (agrees_at v.paper (set s.words word (get_or s.words word 0)) (set s.homes e none) _ _ _ _ _ _ _ _ _ _ _ _ (sums_same (λ u. u.mine) s.views i v w at refl) (sums_same (λ u. u.turn) s.views i v w at refl) (sums_same (λ u. u.paid) s.views i v w at refl) refl
+            (agrees_at v.paper (set s.words word (get_or s.words word 0)) (set s.homes e none) _ _ _ _ _ _ _ _ _ _ _ _ (sums_same (λ u. u.mine) s.views i v w at refl) (sums_same (λ u. u.turn) s.views i v w at refl) (sums_same (λ u. u.paid) s.views i v w at refl) refl
             (sums_same (λ u. u.ready) s.views i v w at refl) (sums_same (λ u. u.gone) s.views i v w at refl)
             (words_same v.paper s.words (set s.homes e none) _ _ _ _ _ _ word
-              (taken_agrees v.paper s.words s.homes _ _ _ _ _ _ h.wide h.few h.agrees (sums (λ u. u.taken) (set s.views i w)) e lt (omega (arith, len, deep, lt)) none_yet paid grown))),
+            (taken_agrees v.paper s.words s.homes _ _ _ _ _ _ h.wide h.few h.agrees (sums (λ u. u.taken) (set s.views i w)) e lt (omega (arith, len, deep, lt)) none_yet paid grown))),
         (refl, (full.0, full.1, refl)),
       )
 
@@ -239,7 +239,7 @@ module _ {T : Type 0} where
         gives,
         tt,
         moved v.paper s i v v (set s.words word (get_or s.words word 0)) (set s.homes e (some None)) h at refl (h.each i v at) (length-set s.words word (get_or s.words word 0))
-          (agrees_at v.paper (set s.words word (get_or s.words word 0)) (set s.homes e (some None)) _ _ _ _ _ _ _ _ _ _ _ _ (sums_same (λ u. u.mine) s.views i v v at refl) (sums_same (λ u. u.turn) s.views i v v at refl) (sums_same (λ u. u.paid) s.views i v v at refl)
+            (agrees_at v.paper (set s.words word (get_or s.words word 0)) (set s.homes e (some None)) _ _ _ _ _ _ _ _ _ _ _ _ (sums_same (λ u. u.mine) s.views i v v at refl) (sums_same (λ u. u.turn) s.views i v v at refl) (sums_same (λ u. u.paid) s.views i v v at refl)
             (sums_same (λ u. u.taken) s.views i v v at refl) (sums_same (λ u. u.ready) s.views i v v at refl) (sums_same (λ u. u.gone) s.views i v v at refl)
             (words_same v.paper s.words (set s.homes e (some None)) _ _ _ _ _ _ word (returned_agrees v.paper s.words s.homes _ _ _ _ _ _ h.wide h.few h.agrees e lt (omega (arith, taken, was))))),
         (refl, refl),
@@ -283,13 +283,13 @@ module _ {T : Type 0} where
         gives,
         tt,
         moved v.paper s i v w (set s.words (target v.paper.edges e) (get_or s.words (target v.paper.edges e) 0 - 1)) (set s.homes e (some (Some x))) h at refl (fit_pay v e r (eqb (get_or s.words (target v.paper.edges e) 0) 1) has (h.each i v at) turned)
-          (length-set s.words (target v.paper.edges e) (get_or s.words (target v.paper.edges e) 0 - 1))
-          (agrees_at v.paper (set s.words (target v.paper.edges e) (get_or s.words (target v.paper.edges e) 0 - 1)) (set s.homes e (some (Some x))) _ _ _ _ _ _ _ _ _ _ _ _ (sums_same (λ u. u.mine) s.views i v w at refl) refl refl
+            (length-set s.words (target v.paper.edges e) (get_or s.words (target v.paper.edges e) 0 - 1))
+            (agrees_at v.paper (set s.words (target v.paper.edges e) (get_or s.words (target v.paper.edges e) 0 - 1)) (set s.homes e (some (Some x))) _ _ _ _ _ _ _ _ _ _ _ _ (sums_same (λ u. u.mine) s.views i v w at refl) refl refl
             (sums_same (λ u. u.taken) s.views i v w at refl) refl (sums_same (λ u. u.gone) s.views i v w at refl)
             (paid_agrees v.paper s.words s.homes _ _ _ _ _ _ h.wide h.few h.agrees (sums (λ u. u.turn) (set s.views i w)) (sums (λ u. u.paid) (set s.views i w)) (sums (λ u. u.ready) (set s.views i w)) e x lt (omega (arith, len, deep, lt)) inside turn is_value
-              (λ y. sums_fewer (λ u. u.turn) s.views i v w e y at (turned ∙ ap (λ l. e ∷ l) (sym (ap (drop 1) turned))))
-              (λ y. sums_grown (λ u. u.paid) s.views i v w e y at refl)
-              (λ y. ready_pay v e i (eqb (get_or s.words (target v.paper.edges e) 0) 1) s.views at y))),
+            (λ y. sums_fewer (λ u. u.turn) s.views i v w e y at (turned ∙ ap (λ l. e ∷ l) (sym (ap (drop 1) turned))))
+            (λ y. sums_grown (λ u. u.paid) s.views i v w e y at refl)
+            (λ y. ready_pay v e i (eqb (get_or s.words (target v.paper.edges e) 0) 1) s.views at y))),
         (pay_view_is v e (eqb (get_or s.words (target v.paper.edges e) 0) 1), refl),
       )
 
@@ -311,9 +311,9 @@ module _ {T : Type 0} where
         few = h.few;
         shares = let a = total_push (λ y. y.share) (set s.views i w) u in let b = total_set (λ y. y.share) s.views i v w at in let c = h.shares in omega (arith, a, b, c, more);
         each = λ j y at'. ⊎_elim (λ t. views_stay v.paper s.views i w h.each (fit_share v (omega (arith, more)) (h.each i v at) (v.share - 1) (omega (arith, more))) j y t)
-          (λ q. subst (IsFit v.paper) q (fit_new v.paper 1 (omega arith))) (at_snoc (set s.views i w) u y j at');
+            (λ q. subst (IsFit v.paper) q (fit_new v.paper 1 (omega arith))) (at_snoc (set s.views i w) u y j at');
         agrees = agrees_at v.paper s.words s.homes _ _ _ _ _ _ _ _ _ _ _ _ (fresh_sum (λ y. y.mine) s.views i v w u at refl refl) (fresh_sum (λ y. y.turn) s.views i v w u at refl refl) (fresh_sum (λ y. y.paid) s.views i v w u at refl refl)
-          (fresh_sum (λ y. y.taken) s.views i v w u at refl refl) (fresh_sum (λ y. y.ready) s.views i v w u at refl refl) (fresh_sum (λ y. y.gone) s.views i v w u at refl refl) h.agrees;
+            (fresh_sum (λ y. y.taken) s.views i v w u at refl refl) (fresh_sum (λ y. y.ready) s.views i v w u at refl refl) (fresh_sum (λ y. y.gone) s.views i v w u at refl refl) h.agrees;
       }
 
   -- a sum over all views, where one takes in another
@@ -336,16 +336,16 @@ module _ {T : Type 0} where
         shares = joined_total (λ y. y.share) s.views i v j w both spent at at' refl refl ∙ h.shares;
         each = views_stay v.paper (set s.views i both) j spent (views_stay v.paper s.views i both h.each (fit_joined v has (h.each i v at) w (h.each j w there))) (fit_spent v.paper);
         agrees = agrees_at v.paper s.words s.homes _ _ _ _ _ _ _ _ _ _ _ _ (joined_sum (λ y. y.mine) s.views i v j w both spent at at' refl refl) (joined_sum (λ y. y.turn) s.views i v j w both spent at at' refl refl)
-          (joined_sum (λ y. y.paid) s.views i v j w both spent at at' refl refl) (joined_sum (λ y. y.taken) s.views i v j w both spent at at' refl refl) (joined_sum (λ y. y.ready) s.views i v j w both spent at at' refl refl)
-          (joined_sum (λ y. y.gone) s.views i v j w both spent at at' refl refl) h.agrees;
+            (joined_sum (λ y. y.paid) s.views i v j w both spent at at' refl refl) (joined_sum (λ y. y.taken) s.views i v j w both spent at at' refl refl) (joined_sum (λ y. y.ready) s.views i v j w both spent at at' refl refl)
+            (joined_sum (λ y. y.gone) s.views i v j w both spent at at' refl refl) h.agrees;
       }
 
 none_paid : (es : List Edge) (t : ℕ) → owing (λ e. 0) es t ≡ count_in es t
 none_paid es t = go (places_to es t)
   where
-  go : (ps : List ℕ) → total (λ (e : ℕ). 1) ps ≡ length ps
-  go [] = refl
-  go (p ∷ ps) = let h = go ps in omega (arith, h)
+    go : (ps : List ℕ) → total (λ (e : ℕ). 1) ps ≡ length ps
+    go [] = refl
+    go (p ∷ ps) = let h = go ps in omega (arith, h)
 
 empty_home : {T : Type 0} (n e : ℕ) → e < n → get_elem? (map some (replicate {A = Option T} n None)) e ≡ some (some None)
 empty_home zero e h = absurd (omega arith)
@@ -355,25 +355,25 @@ empty_home {T = T} (suc n) (suc e) h = empty_home {T = T} n e (omega arith)
 -- the rule as the board is laid
 pub opens : {T : Type 0} (p : Paper T) (ws : List ℕ) → p.tasks ≤ length ws → length p.edges < 2 ^ 31 → ((t : ℕ) → t < p.tasks → get_or ws t 0 ≡ count_in p.edges t) → Held p (opening ws (replicate (length p.edges) None) (seat_view p whole))
 opens {T = T} p ws wide few counted = record {
-    wide = wide;
-    few = few;
-    shares = refl;
-    each = λ i v at. only i v at;
-    agrees = record {
-      free = λ t lt z. counted t lt ∙ sym (none_paid p.edges t);
-      claimed = λ t lt h. absurd (omega (arith, h));
-      once = λ t. omega arith;
-      inside = λ t le. refl;
-      ready_paid = λ t h. absurd (omega (arith, h));
-      told = λ t some_in z. absurd (let n = none_paid p.edges t in omega (arith, n, some_in, z));
-      gone_claimed = λ t h. absurd (omega (arith, h));
-      slots = λ e lt. record { alone = omega arith; after = omega arith; empty = λ z. empty_home (length p.edges) e lt; out = λ h. absurd (omega (arith, h)); full = λ h z. absurd (omega (arith, h)) };
-    };
-  }
+  wide = wide;
+  few = few;
+  shares = refl;
+  each = λ i v at. only i v at;
+  agrees = record {
+    free = λ t lt z. counted t lt ∙ sym (none_paid p.edges t);
+    claimed = λ t lt h. absurd (omega (arith, h));
+    once = λ t. omega arith;
+    inside = λ t le. refl;
+    ready_paid = λ t h. absurd (omega (arith, h));
+    told = λ t some_in z. absurd (let n = none_paid p.edges t in omega (arith, n, some_in, z));
+    gone_claimed = λ t h. absurd (omega (arith, h));
+    slots = λ e lt. record { alone = omega arith; after = omega arith; empty = λ z. empty_home (length p.edges) e lt; out = λ h. absurd (omega (arith, h)); full = λ h z. absurd (omega (arith, h)) };
+  };
+}
   where
-  only : (i : ℕ) (v : View T) → get_elem? (seat_view p whole ∷ []) i ≡ some v → IsFit p v
-  only zero v at = subst (IsFit p) (some-injective (seat_view p whole) v at) (fit_new p whole (omega arith))
-  only (suc i) v at = absurd (some-ne-none v (sym at))
+    only : (i : ℕ) (v : View T) → get_elem? (seat_view p whole ∷ []) i ≡ some v → IsFit p v
+    only zero v at = subst (IsFit p) (some-injective (seat_view p whole) v at) (fit_new p whole (omega arith))
+    only (suc i) v at = absurd (some-ne-none v (sym at))
 
 -- what the words are in the end, of the seat with the whole share
 pub closes : {T : Type 0} (p : Paper T) (ws : List ℕ) (xs : List (Option T)) (i : ℕ) (v : View T) → v.share ≡ whole → Final (Seen (Held p) i v) ws xs → (t : ℕ) → t < p.tasks

@@ -9,6 +9,8 @@
 
 mod board;
 mod law;
+#[cfg(test)]
+mod tests;
 mod view;
 mod words;
 
