@@ -1,6 +1,6 @@
 -- The values of a plan as a fixed point: whatever task is run when its inputs are there, with the plan's values as inputs it gives
 -- the plan's output, and the plan's values to its outgoing edges.
-use Rattle.std.proofs.Common.{◌≡◌, ◌≢◌, ℕ, zero, suc, ◌+◌, ◌<◌, ◌≤◌, Bool, true, false, cond, eqb, List, [], ◌∷◌, ◌++◌, length, get_or, set, replicate, Option, Some, None, sym, refl, ap, ◌∙◌, subst, eq-eqb, eqb→eq, length-set, length-append, get_or-set_same, get_or-set_other, arith}
+use Rattle.std.proofs.Common.{◌≡◌, ◌≢◌, ℕ, zero, suc, ◌+◌, ◌<◌, ◌≤◌, eqb, List, [], ◌∷◌, ◌++◌, length, get_or, set, replicate, Option, Some, None, sym, refl, ap, ◌∙◌, subst, eq-eqb, eqb→eq, length-set, get_or-set_same, get_or-set_other, arith}
 use mathlib.Core.Logic.{dite}
 use native.Mathlib.Decide.{ℕ_discrete}
 use Rattle.std.specs.Prelude.{slice_get}
@@ -9,8 +9,8 @@ use Rattle.std.specs.Option.{option_to_list}
 use Rattle.std.proofs.lemmas.Option.{same_Some}
 use Rattle.std.proofs.lemmas.List.{length-replicate}
 use Rattle.dag_core.specs.declared.plan.Edge.{Edge}
-use Rattle.dag_core.specs.Places.{times, places_by}
-use Rattle.dag_core.specs.Values.{edge_at, source, target, places_to, places_from, count_in, count_out, value_of, values_at, put_at, known_next, known_after, outputs_after, edge_values, outputs}
+use Rattle.dag_core.specs.Places.{times}
+use Rattle.dag_core.specs.Values.{source, target, places_to, places_from, count_in, count_out, value_of, values_at, put_at, known_next, known_after, outputs_after, edge_values, outputs}
 use Rattle.dag_core.proofs.Places.{times_here, times_else, times_in, places_once, places_found, places_inside}
 
 abbrev no_edge : Edge
@@ -118,7 +118,7 @@ module _ {J V O : Type 0} (output : J → List V → O) (values : J → List V �
       let same = inputs_stay known t (i ∷ js) forward in
       let e : i ≡ j = same_Some i j at in
       subst (λ n. Some (output i (values_at known (places_to es t))) ≡ Some (output j (values_at (known_after output values es known t (i ∷ js)) (places_to es n)))) q
-        (ap (λ l. Some (output i l)) (sym same) ∙ ap (λ x. Some (output x (values_at (known_after output values es known t (i ∷ js)) (places_to es t)))) e)
+      (ap (λ l. Some (output i l)) (sym same) ∙ ap (λ x. Some (output x (values_at (known_after output values es known t (i ∷ js)) (places_to es t)))) e)
   output_from known t (i ∷ js) (suc k) u j forward is at = output_from (known_next output values es known t i) (t + 1) js k u j forward (omega arith) at
 
   -- and the final values of its outgoing edges are those that its job gives on the final values
@@ -134,8 +134,8 @@ module _ {J V O : Type 0} (output : J → List V → O) (values : J → List V �
       let same = inputs_stay known t (i ∷ js) forward in
       let lt' : m < count_out es t = subst (λ n. m < count_out es n) q lt in
       let given' : slice_get (values i (values_at known (places_to es t))) m ≡ Some v =
-        ap (λ l. slice_get (values i l) m) (sym same) ∙ subst (λ x. slice_get (values x (values_at (known_after output values es known t (i ∷ js)) (places_to es t))) m ≡ Some v) e
-          (subst (λ n. slice_get (values j (values_at (known_after output values es known t (i ∷ js)) (places_to es n))) m ≡ Some v) q given) in
+      ap (λ l. slice_get (values i l) m) (sym same) ∙ subst (λ x. slice_get (values x (values_at (known_after output values es known t (i ∷ js)) (places_to es t))) m ≡ Some v) e
+      (subst (λ n. slice_get (values j (values_at (known_after output values es known t (i ∷ js)) (places_to es n))) m ≡ Some v) q given) in
       let there = times_at_place (places_from es t) m lt' in
       let from = from_source es t (get_or (places_from es t) m 0) there in
       let s = from.1 in
@@ -143,10 +143,10 @@ module _ {J V O : Type 0} (output : J → List V → O) (values : J → List V �
       let here : value_of next (get_or (places_from es t) m 0) ≡ Some v = put_here known (places_from es t) _ m v (from_once es t) (λ x h. let r = (from_source es t x h).0 in omega (arith, r, len)) lt' given' in
       subst (λ n. value_of (known_after output values es known t (i ∷ js)) (get_or (places_from es n) m 0) ≡ Some v) (sym q) (stays ∙ here)
     where
-    times_at_place : (ps : List ℕ) (m : ℕ) → m < length ps → 0 < times (get_or ps m 0) ps
-    times_at_place [] m h = absurd (omega arith)
-    times_at_place (p ∷ ps) zero h = let e = times_here p p ps refl in omega (arith, e)
-    times_at_place (p ∷ ps) (suc m) h = let r = times_at_place ps m (omega arith) in omega (arith, r)
+      times_at_place : (ps : List ℕ) (m : ℕ) → m < length ps → 0 < times (get_or ps m 0) ps
+      times_at_place [] m h = absurd (omega arith)
+      times_at_place (p ∷ ps) zero h = let e = times_here p p ps refl in omega (arith, e)
+      times_at_place (p ∷ ps) (suc m) h = let r = times_at_place ps m (omega arith) in omega (arith, r)
   value_from known t (i ∷ js) (suc k) u j forward len is at m v lt given =
       value_from (known_next output values es known t i) (t + 1) js k u j forward (length-put_at known (places_from es t) (values i (values_at known (places_to es t))) ∙ len) (omega arith) at m v lt given
 
@@ -181,9 +181,9 @@ module _ {J V O : Type 0} (output : J → List V → O) (values : J → List V �
       let f = plan.forward e lt in
       let job = item_at js u (omega arith) in
       let ins : length (values_at (edge_values output values es js) (places_to es u)) ≡ count_in es u =
-        length-values_at (edge_values output values es js) (places_to es u) (λ x h. let r = to_target es u x h in let g = plan.forward x r.0 in let t = r.1 in below x r.0 (omega (arith, g, t))) in
+      length-values_at (edge_values output values es js) (places_to es u) (λ x h. let r = to_target es u x h in let g = plan.forward x r.0 in let t = r.1 in below x r.0 (omega (arith, g, t))) in
       let size : length (values job.0 (values_at (edge_values output values es js) (places_to es u))) ≡ count_out es u =
-        plan.sized job.0 _ (ins ∙ sym (plan.takes_in u job.0 job.1)) ∙ plan.gives_out u job.0 job.1 in
+      plan.sized job.0 _ (ins ∙ sym (plan.takes_in u job.0 job.1)) ∙ plan.gives_out u job.0 job.1 in
       let one : times e (places_from es u) ≡ 1 = subst (λ n. times e (places_from es n) ≡ 1) q (source_from es e lt) in
       let place = times_in e (places_from es u) (omega (arith, one)) in
       let given = item_at (values job.0 (values_at (edge_values output values es js) (places_to es u))) place.0 (let b = place.1 in omega (arith, size, b)) in (

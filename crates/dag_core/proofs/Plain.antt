@@ -1,5 +1,5 @@
 -- The steps of `evaluate_plain`: inputs taken one by one, values put one by one, and what waits between two tasks.
-use Rattle.std.proofs.Common.{◌≡◌, ◌≢◌, ℕ, zero, suc, ◌+◌, ◌<◌, ◌≤◌, List, [], ◌∷◌, ◌++◌, length, get_or, set, take, drop, replicate, Option, Some, None, sym, refl, ap, ◌∙◌, subst, append_assoc, get_or-set_other, arith}
+use Rattle.std.proofs.Common.{◌≡◌, ◌≢◌, ℕ, ◌+◌, ◌<◌, ◌≤◌, List, [], ◌∷◌, ◌++◌, length, get_or, set, take, drop, Option, Some, None, sym, refl, ap, ◌∙◌, subst, append_assoc, get_or-set_other, arith}
 use mathlib.Core.Logic.{dite}
 use native.Mathlib.Decide.{ℕ_discrete}
 use Rattle.std.specs.Prelude.{slice_get}
@@ -8,8 +8,8 @@ use Rattle.std.proofs.lemmas.List.{append-nil, take_more}
 use Rattle.std.proofs.lemmas.Option.{get_or_from_slice_get}
 use Rattle.dag_core.specs.declared.plan.Edge.{Edge}
 use Rattle.dag_core.specs.Places.{times}
-use Rattle.dag_core.specs.Values.{source, target, places_to, places_from, count_out, value_of, values_at, put_at, edge_values, outputs, Waits}
-use Rattle.dag_core.proofs.Places.{times_at, times_in, times-append, times_here, times_else}
+use Rattle.dag_core.specs.Values.{source, target, places_to, places_from, value_of, values_at, put_at, edge_values, outputs, Waits}
+use Rattle.dag_core.proofs.Places.{times_at, times_in, times-append, times_here}
 use Rattle.dag_core.proofs.Fixed.{IsPlan, to_target, source_from, from_source, from_once, not_from, not_to, length-put_at, put_else, put_here, values_same, item_at, task_output, task_value, values_fit}
 
 module _ {V : Type 0} where
@@ -35,8 +35,8 @@ module _ {V : Type 0} where
       let more : take (k + 1) ps ≡ take k ps ++ p ∷ [] = take_more ps k 0 lt ∙ ap (λ x. take k ps ++ x ∷ []) is in
       let both : times e (take k ps) + times e (p ∷ []) ≡ 0 = sym (times-append e (take k ps) (p ∷ [])) ∙ (ap (times e) (sym more) ∙ none) in
       dite (ℕ_discrete p e)
-        (λ q. absurd (let h = times_here e p [] q in omega (arith, h, both)))
-        (λ ne. get_or-set_other slots p e None None (λ q. ne (sym q)) ∙ others e (omega (arith, both)))
+      (λ q. absurd (let h = times_here e p [] q in omega (arith, h, both)))
+      (λ ne. get_or-set_other slots p e None None (λ q. ne (sym q)) ∙ others e (omega (arith, both)))
 
   put_none : (known : List (Option V)) (ps : List ℕ) → put_at known ps [] ≡ known
   put_none known [] = refl
@@ -63,24 +63,25 @@ module _ {J V O : Type 0} (output : J → List V → O) (values : J → List V �
       → length taken ≡ length slots → ((e : ℕ) → times e (places_to es t) ≡ 0 → value_of taken e ≡ value_of slots e)
       → Waits es (edge_values output values es js) (put_at taken (places_from es t) (values j (values_at (edge_values output values es js) (places_to es t)))) (t + 1)
   waits_more slots taken t j at waits len others = record {
-      counted = length-put_at taken (places_from es t) _ ∙ (len ∙ waits.counted);
-      here = λ e lt s u. dite (ℕ_discrete (source es e) t) (λ q. mine e lt q) (λ ne. old e lt s u ne);
-    }
+    counted = length-put_at taken (places_from es t) _ ∙ (len ∙ waits.counted);
+    here = λ e lt s u. dite (ℕ_discrete (source es e) t) (λ q. mine e lt q) (λ ne. old e lt s u ne);
+  }
     where
-    mine : (e : ℕ) → e < length es → source es e ≡ t → value_of (put_at taken (places_from es t) (values j (values_at (edge_values output values es js) (places_to es t)))) e ≡ value_of (edge_values output values es js) e
-    mine e lt q =
-        let one : times e (places_from es t) ≡ 1 = subst (λ n. times e (places_from es n) ≡ 1) q (source_from es e lt) in
-        let place = times_in e (places_from es t) (omega (arith, one)) in
-        let fit = values_fit output values takes gives es js plan t j at in
-        let given = item_at (values j (values_at (edge_values output values es js) (places_to es t))) place.0 (let b = place.1 in omega (arith, fit, b)) in
-        let counted = waits.counted in
-        let put = put_here taken (places_from es t) (values j (values_at (edge_values output values es js) (places_to es t))) place.0 given.0 (from_once es t) (λ x h. let r = (from_source es t x h).0 in omega (arith, r, len, counted)) place.1 given.1 in
-        let want = task_value output values takes gives es js plan t j at place.0 given.0 place.1 given.1 in
-        subst (λ x. value_of (put_at taken (places_from es t) (values j (values_at (edge_values output values es js) (places_to es t)))) x ≡ value_of (edge_values output values es js) x) place.2 (put ∙ sym want)
-    old : (e : ℕ) → e < length es → source es e < t + 1 → t + 1 ≤ target es e → source es e ≢ t
-        → value_of (put_at taken (places_from es t) (values j (values_at (edge_values output values es js) (places_to es t)))) e ≡ value_of (edge_values output values es js) e
-    old e lt s u ne =
-        put_else taken (places_from es t) (values j (values_at (edge_values output values es js) (places_to es t))) e (not_from es t e ne)
+      mine : (e : ℕ) → e < length es → source es e ≡ t → value_of (put_at taken (places_from es t) (values j (values_at (edge_values output values es js) (places_to es t)))) e ≡ value_of (edge_values output values es js) e
+      mine e lt q =
+          let one : times e (places_from es t) ≡ 1 = subst (λ n. times e (places_from es n) ≡ 1) q (source_from es e lt) in
+          let place = times_in e (places_from es t) (omega (arith, one)) in
+          let fit = values_fit output values takes gives es js plan t j at in
+          let given = item_at (values j (values_at (edge_values output values es js) (places_to es t))) place.0 (let b = place.1 in omega (arith, fit, b)) in
+          let counted = waits.counted in
+          let put = put_here taken (places_from es t) (values j (values_at (edge_values output values es js) (places_to es t))) place.0 given.0 (from_once es t) (λ x h. let r = (from_source es t x h).0 in omega (arith, r, len, counted)) place.1 given.1 in
+          let want = task_value output values takes gives es js plan t j at place.0 given.0 place.1 given.1 in
+          subst (λ x. value_of (put_at taken (places_from es t) (values j (values_at (edge_values output values es js) (places_to es t)))) x ≡ value_of (edge_values output values es js) x) place.2 (put ∙ sym want)
+
+      old : (e : ℕ) → e < length es → source es e < t + 1 → t + 1 ≤ target es e → source es e ≢ t
+          → value_of (put_at taken (places_from es t) (values j (values_at (edge_values output values es js) (places_to es t)))) e ≡ value_of (edge_values output values es js) e
+      old e lt s u ne =
+          put_else taken (places_from es t) (values j (values_at (edge_values output values es js) (places_to es t))) e (not_from es t e ne)
           ∙ (others e (not_to es t e (λ q. omega arith)) ∙ waits.here e lt (omega arith) (omega arith))
 
   -- the same, in terms of what the calls give
@@ -91,7 +92,7 @@ module _ {J V O : Type 0} (output : J → List V → O) (values : J → List V �
       let given_is : given ≡ values j (values_at (edge_values output values es js) (places_to es t)) = gave ∙ ap (values j) (taken_inputs slots t into inputs waits into_is got) in
       let put_is : put_at taken (places_from es t) (values j (values_at (edge_values output values es js) (places_to es t))) ≡ next = sym (put ∙ (ap (λ ps. put_at taken ps given) out_is ∙ ap (put_at taken (places_from es t)) given_is)) in
       subst (λ l. Waits es (edge_values output values es js) l (t + 1)) put_is
-        (waits_more slots taken t j at waits len (λ e none. others e (ap (times e) into_is ∙ none)))
+      (waits_more slots taken t j at waits len (λ e none. others e (ap (times e) into_is ∙ none)))
 
   -- a task's output, of the inputs that were taken
   pub output_taken : (t : ℕ) (j : J) (inputs : List V) (o : O) → slice_get js t ≡ Some j → inputs ≡ values_at (edge_values output values es js) (places_to es t) → o ≡ output j inputs

@@ -1,5 +1,5 @@
 -- What a plan's own facts say of its values.
-use Rattle.std.proofs.Common.{◌≡◌, ℕ, List, length}
+use Rattle.std.proofs.Common.{◌≡◌, List, length}
 use Rattle.dag_core.specs.declared.job.Job.{Ghosts}
 use Rattle.dag_core.specs.declared.plan.Plan.{Plan}
 use Rattle.dag_core.proofs.Fixed.{IsPlan}

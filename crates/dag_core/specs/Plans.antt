@@ -1,5 +1,5 @@
 -- The values of a plan, over the plan itself.
-use Rattle.std.specs.Prelude.{ℕ, List, Option}
+use Rattle.std.specs.Prelude.{List, Option}
 use Rattle.dag_core.specs.declared.job.Job.{Ghosts}
 use Rattle.dag_core.specs.declared.plan.Plan.{Plan}
 use Rattle.dag_core.specs.Values.{edge_values, outputs}

@@ -12,10 +12,7 @@ use std::alloc::Global;
 use wire_bcs::{OutOfMemory, Seq};
 
 /// The outputs of a plan's tasks, in task order: tasks are run from 0 on. Time and memory grow with tasks and edges.
-pub fn evaluate_plain<J: Job>(
-    alloc: Global,
-    plan: &Plan<J>,
-) -> Result<Seq<J::Output>, OutOfMemory>
+pub fn evaluate_plain<J: Job>(alloc: Global, plan: &Plan<J>) -> Result<Seq<J::Output>, OutOfMemory>
     ensures { IfOk result (λ outputs. outputs ≡ plan_outputs plan.now) }
 {
     let mut held = empty_slots(alloc, plan.edge_count() as usize)?;

@@ -17,6 +17,7 @@ struct Link {
 
 impl Job for Link {
     type Value = u64;
+
     type Output = u64;
 
     ghost takes = { λ link. link.takes };
@@ -30,7 +31,11 @@ impl Job for Link {
     ghost sized = { λ link inputs _. length-replicate link.gives ((slice_index inputs 0 + 1) % 2 ^ 64) };
 
     fn run(&self, alloc: Global, inputs: &Seq<u64>) -> Result<(u64, Seq<u64>), OutOfMemory> {
-        let before = if inputs.is_empty() { 0 } else { inputs.as_slice()[0] };
+        let before = if inputs.is_empty() {
+            0
+        } else {
+            inputs.as_slice()[0]
+        };
         let value = before.wrapping_add(1);
         let values = vec![in alloc; value; self.gives as usize]?;
         Ok((value, Seq::from_vec(values)))
@@ -61,5 +66,17 @@ fn no_task_has_no_output(rt: HostRuntime) -> Result<(), Fail> {
     assert_eq!(rt; plan.tasks(), 0);
     assert_eq!(rt; plan.edge_count(), 0);
     assert!(rt; evaluate_plain(alloc, &plan)?.is_empty());
+    Ok(())
+}
+
+#[test]
+fn an_edge_to_itself_is_refused(rt: HostRuntime) -> Result<(), Fail> {
+    let alloc = rt.alloc();
+    let jobs = [Link { takes: 0, gives: 0 }, Link { takes: 1, gives: 1 }];
+    let edges = [Edge { from: 1, to: 1 }];
+    let jobs = Seq::from_slice(alloc, &jobs)?;
+    let edges = Seq::from_slice(alloc, &edges)?;
+    let plan = Plan::new(alloc, jobs, edges);
+    assert!(rt; matches!(plan, Err(PlanRefusal::BadEdge(0))));
     Ok(())
 }

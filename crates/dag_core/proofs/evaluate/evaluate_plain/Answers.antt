@@ -1,4 +1,4 @@
-use Rattle.std.proofs.Common.{◌≡◌, ℕ, ◌+◌, ◌≤◌, sym, ap, ◌∙◌, length, take, List, arith}
+use Rattle.std.proofs.Common.{◌≡◌, ◌∙◌, length, arith}
 use Rattle.std.proofs.lemmas.List.{take_all}
 use Rattle.dag_core.specs.Plans.{plan_outputs}
 use Rattle.dag_core.proofs.Fixed.{length-outputs}

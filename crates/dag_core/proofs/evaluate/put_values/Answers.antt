@@ -1,4 +1,4 @@
-use Rattle.std.proofs.Common.{◌≡◌, ℕ, ◌+◌, ◌<◌, ◌≤◌, sym, ap, subst, ◌∙◌, List, ◌∷◌, [], length, drop, get_or, reverse, Option, arith}
+use Rattle.std.proofs.Common.{◌≡◌, ℕ, ◌+◌, ◌<◌, ◌≤◌, sym, ap, ◌∙◌, List, ◌∷◌, [], length, drop, get_or, reverse, Option, arith}
 use Rattle.std.proofs.lemmas.List.{drop_more, drop_all}
 use Rattle.dag_core.specs.Values.{put_at}
 use Rattle.dag_core.proofs.Places.{times_at}
@@ -15,8 +15,8 @@ left_more : {V : Type 0} (start slots next : List (Option V)) (ps : List ℕ) (k
     → next ≡ put_at slots (get_or ps k 0 ∷ []) rest → left ≡ drop 1 rest → put_at next (drop (k + 1) ps) left ≡ put_at start ps values
 left_more start slots next ps k values rest left lt so_far put popped =
     ap (λ n. put_at n (drop (k + 1) ps) left) put
-      ∙ (ap (put_at (put_at slots (get_or ps k 0 ∷ []) rest) (drop (k + 1) ps)) popped
-        ∙ (put_step slots (get_or ps k 0) (drop (k + 1) ps) rest ∙ (ap (λ qs. put_at slots qs rest) (sym (drop_more ps k 0 lt)) ∙ so_far)))
+    ∙ (ap (put_at (put_at slots (get_or ps k 0 ∷ []) rest) (drop (k + 1) ps)) popped
+    ∙ (put_step slots (get_or ps k 0) (drop (k + 1) ps) rest ∙ (ap (λ qs. put_at slots qs rest) (sym (drop_more ps k 0 lt)) ∙ so_far)))
 
 left_none : {V : Type 0} (start slots : List (Option V)) (ps : List ℕ) (k : ℕ) (values rest : List V) → length ps ≤ k → put_at slots (drop k ps) rest ≡ put_at start ps values → slots ≡ put_at start ps values
 left_none start slots ps k values rest le so_far = ap (λ qs. put_at slots qs rest) (sym (drop_all k ps le)) ∙ so_far
@@ -24,7 +24,7 @@ left_none start slots ps k values rest le so_far = ap (λ qs. put_at slots qs re
 pub loop-place-preserved : goal.loop-place-preserved
 loop-place-preserved g c =
     left_more c.args.slots.now c.loop-place.slots c.put_value.new.slots c.args.places.now c.loop-place.place-index c.args.values (reverse c.loop-place.rest.items) (reverse c.put_value.new.rest.items) c.loop-place-test.true c.loop-place.invariant
-      c.put_value.ensures.slots c.put_value.ensures.rest
+    c.put_value.ensures.slots c.put_value.ensures.rest
 
 pub returns : goal.returns
 returns g c = left_none c.args.slots.now c.loop-place.slots c.args.places.now c.loop-place.place-index c.args.values (reverse c.loop-place.rest.items) c.loop-place-test.false c.loop-place.invariant

@@ -1,4 +1,4 @@
-use Rattle.std.proofs.Common.{◌≡◌, ℕ, ◌<◌, length, sym, ap, subst, ◌∙◌, None, List, arith}
+use Rattle.std.proofs.Common.{◌≡◌, ℕ, ◌<◌, length, sym, ap, ◌∙◌, None, List, arith}
 use Rattle.dag_core.specs.declared.plan.Edge.{Edge}
 use Rattle.dag_core.specs.Values.{source, target, first_bad}
 use Rattle.dag_core.proofs.Listed.{forward_all, filed_row}
