@@ -1,5 +1,8 @@
 -- The closing pass.
-use Rattle.std.proofs.Common.{◌≡◌, ◌≢◌, ℕ, zero, suc, ◌+◌, ◌-◌, ◌<◌, ◌≤◌, Bool, true, false, List, [], ◌∷◌, ◌++◌, length, sym, refl, ap, ◌∙◌, subst, inl, inr, ⊎_elim, ◌⊎◌, mod-lt, arith}
+use Rattle.std.proofs.Common.{◌≡◌, ◌≢◌, ℕ, zero, suc, ◌+◌, ◌-◌, ◌<◌, ◌≤◌, Bool, true, false, List, [], ◌∷◌, ◌++◌, length, sym, refl, ap, ◌∙◌, subst, inl, inr, ⊎_elim, ◌⊎◌, mod-lt, get_or, All, arith}
+use Rattle.std.specs.Prelude.{slice_get}
+use Rattle.std.proofs.lemmas.Option.{slice_get_within}
+use Rattle.dag_pool.specs.Outputs.{AreOutputs}
 use mathlib.Core.Logic.{dite}
 use native.Mathlib.Decide.{ℕ_discrete}
 use Rattle.dag_core.specs.declared.plan.Edge.{Edge}
@@ -61,3 +64,7 @@ module _ {V : Type 0} (es : List Edge) (n : ℕ) where
       let p = clean.paid e lt in
       let t = clean.taken e lt in
       (omega (arith, a, c, p), omega (arith, b, d, t))
+
+-- the pairs that were brought are of tasks of the plan
+pub pairs_inside : {O : Type 0} (n : ℕ) (os : List O) (ps : List (ℕ × O)) → length os ≡ n → AreOutputs os ps → All (λ (pair : ℕ × O). pair.0 < n) ps
+pairs_inside n os ps size right k d lt = let h = slice_get_within os (get_or ps k d).0 (get_or ps k d).1 (right k d lt) in omega (arith, h, size)

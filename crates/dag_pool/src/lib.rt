@@ -7,9 +7,11 @@ mod kit;
 mod order;
 mod post;
 mod task;
+mod run;
 mod shift;
 mod sweep;
 mod team;
 mod worker;
 
 pub use gate::{Gate, OpenGate};
+pub use run::{PoolRun, run_plan};

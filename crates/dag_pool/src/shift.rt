@@ -1,6 +1,8 @@
 //! The workers of a crew, as a team.
 
-ghost use Rattle.steal_board.specs.Boards.{view};
+ghost use Rattle.std.specs.Prelude.{◌≡◌, ◌++◌, false};
+ghost use Rattle.steal_board.specs.Boards.{view, IsOf};
+ghost use Rattle.steal_board.specs.Views.{joined};
 ghost use Rattle.dag_pool.specs.Crews.{IsFresh, HasWorked};
 
 use crate::crew::Crew;
@@ -73,9 +75,16 @@ impl<J: Job, G: Gate> Team<Shift<J>> for Crew<'_, J, G> {
             post,
             kit,
             others: rest,
-            lost: lost || also_lost || refused,
+            lost: any_of(lost, also_lost, refused),
         }
     }
+}
+
+// Whether one of them is so.
+fn any_of(one: bool, two: bool, three: bool) -> bool
+    ensures { result ≡ false → (one ≡ false) × (two ≡ false) × (three ≡ false) }
+{
+    one || two || three
 }
 
 // What two workers did, and whether memory was refused.
