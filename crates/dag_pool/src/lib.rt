@@ -15,3 +15,6 @@ mod worker;
 
 pub use gate::{Gate, OpenGate};
 pub use run::{PoolRun, run_plan};
+
+#[cfg(test)]
+mod tests;
