@@ -353,8 +353,9 @@ empty_home (suc n) zero h = refl
 empty_home {T = T} (suc n) (suc e) h = empty_home {T = T} n e (omega arith)
 
 -- the rule as the board is laid
-pub opens : {T : Type 0} (p : Paper T) (ws : List ℕ) → p.tasks ≤ length ws → length p.edges < 2 ^ 31 → ((t : ℕ) → t < p.tasks → get_or ws t 0 ≡ count_in p.edges t) → Held p (opening ws (replicate (length p.edges) None) (seat_view p whole))
-opens {T = T} p ws wide few counted = record {
+pub opens : {T : Type 0} (p : Paper T) (ws : List ℕ) → p.tasks ≤ length ws → length p.edges < 2 ^ 31 → ((t : ℕ) → t < p.tasks → get_or ws t 0 ≡ count_in p.edges t)
+    → ((t : ℕ) → p.tasks ≤ t → t < length ws → get_or ws t 0 ≡ mark) → Held p (opening ws (replicate (length p.edges) None) (seat_view p whole))
+opens {T = T} p ws wide few counted spare = record {
   wide = wide;
   few = few;
   shares = refl;
@@ -364,6 +365,7 @@ opens {T = T} p ws wide few counted = record {
     claimed = λ t lt h. absurd (omega (arith, h));
     once = λ t. omega arith;
     inside = λ t le. refl;
+    spare = spare;
     ready_paid = λ t h. absurd (omega (arith, h));
     told = λ t some_in z. absurd (let n = none_paid p.edges t in omega (arith, n, some_in, z));
     gone_claimed = λ t h. absurd (omega (arith, h));
@@ -395,3 +397,18 @@ closes_mark p ws xs i v all last t lt is =
     let h = last.1.0 in
     let m = alone_mine p s i v h last.1.1 all t in
     let c = is_claimed p s.words s.homes _ _ _ _ _ _ h.wide h.few h.agrees t lt (ap (λ l. get_or l t 0) last.2 ∙ is) in omega (arith, m, c)
+
+-- in the end each task was claimed once at most, and each edge paid and taken once at most
+pub closes_once : {T : Type 0} (p : Paper T) (ws : List ℕ) (xs : List (Option T)) (i : ℕ) (v : View T) → v.share ≡ whole → Final (Seen (Held p) i v) ws xs → (x : ℕ) → (times x v.mine ≤ 1) × (times x v.paid ≤ 1) × (times x v.taken ≤ 1)
+closes_once p ws xs i v all last x =
+    let s = last.0 in
+    let h = last.1.0 in
+    let m = alone_mine p s i v h last.1.1 all x in
+    let q = alone_paid p s i v h last.1.1 all x in
+    let k = alone p s i v h last.1.1 all (λ u. u.taken) (λ u y. omega arith) x in
+    let once = h.agrees.once x in
+    let fit = h.each i v last.1.1 in (
+      omega (arith, m, once),
+      dite (dec_lt x (length p.edges)) (λ lt. let a = (h.agrees.slots x lt).alone in omega (arith, q, a)) (λ n. let b = fit.bound x (omega (arith, n)) in omega (arith, b)),
+      dite (dec_lt x (length p.edges)) (λ lt. let a = (h.agrees.slots x lt).alone in let b = (h.agrees.slots x lt).after in omega (arith, k, a, b)) (λ n. let b = fit.bound x (omega (arith, n)) in omega (arith, b)),
+    )
