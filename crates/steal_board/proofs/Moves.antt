@@ -1,5 +1,5 @@
 -- Each step keeps the board rule, and tells its caller what it is to tell.
-use Rattle.std.proofs.Common.{◌≡◌, ◌≢◌, ℕ, zero, suc, ◌+◌, ◌-◌, ◌%◌, ◌^◌, ◌<◌, ◌≤◌, ◌⊎◌, Bool, true, false, cond, eqb, List, [], ◌∷◌, ◌++◌, map, drop, length, set, get_or, replicate, Option, Some, None, sym, refl, ap, ◌∙◌, subst, inl, inr, ⊎_elim, eq-eqb, ne_eqb, length-set, arith}
+use Rattle.std.proofs.Common.{◌≡◌, ◌≢◌, ℕ, zero, suc, ◌+◌, ◌-◌, ◌%◌, ◌^◌, ◌<◌, ◌≤◌, Bool, true, false, cond, eqb, List, [], ◌∷◌, ◌++◌, map, drop, length, set, get_or, replicate, Option, Some, None, sym, refl, ap, ◌∙◌, subst, ⊎_elim, eq-eqb, ne_eqb, length-set, arith}
 use mathlib.Core.Logic.{dite}
 use mathlib.Core.Option.{some, none, some-injective, some-ne-none}
 use mathlib.Core.Option as Maybe
@@ -7,8 +7,8 @@ use native.Mathlib.Decide.{ℕ_discrete, dec_lt}
 use lib.ListN.{get_elem?}
 use prog.Atomic.{either}
 use Rattle.std.proofs.lemmas.List.{set-get_or}
-use Rattle.atomic_table.specs.Table.{State, Me, Step, step, Act, keeps, takes, gives, Allows, Splits, Joins, opening, Final, Seen, stepped, rest, Valid, carried_after}
-use Rattle.atomic_table.proofs.Lists.{at_set, at_snoc, set_else, at_map}
+use Rattle.atomic_table.specs.Table.{State, Me, step, Act, keeps, takes, gives, Allows, Splits, Joins, opening, Final, Seen, stepped, Valid, carried_after}
+use Rattle.atomic_table.proofs.Lists.{at_set, at_snoc, set_else}
 use Rattle.dag_core.specs.declared.plan.Edge.{Edge}
 use Rattle.dag_core.specs.Places.{times}
 use Rattle.dag_core.specs.Values.{source, target, places_to, count_in, value_of}
@@ -16,10 +16,10 @@ use Rattle.dag_core.proofs.Places.{times-append, times_here}
 use Rattle.steal_board.specs.declared.view.Paper.{Paper}
 use Rattle.steal_board.specs.declared.view.View.{View}
 use Rattle.steal_board.specs.Views.{whole, mark, seat_view, with_share, with_mine, with_gone, with_ready, with_taken, turning, settling, joined, spent}
-use Rattle.steal_board.specs.Rule.{total, sums, owing, IsFit, Stands, Agrees, Held}
+use Rattle.steal_board.specs.Rule.{total, sums, owing, IsFit, Agrees, Held}
 use Rattle.steal_board.specs.Steps.{ClaimsWhole, Claims, Turns, Pays, Takes, Returns}
 use Rattle.steal_board.proofs.Counts.{total_set, total_same, total_push, total_one, total_plus, total_below, total_alone, sums_same, sums_grown, sums_front, sums_fewer, owing_few, owing_edge}
-use Rattle.steal_board.proofs.Agreeing.{owing_small, unclaimed, is_claimed, won_agrees, lost_agrees, turned_agrees, taken_agrees, returned_agrees, paid_agrees, target_owed}
+use Rattle.steal_board.proofs.Agreeing.{unclaimed, is_claimed, won_agrees, lost_agrees, turned_agrees, taken_agrees, returned_agrees, paid_agrees, target_owed}
 use Rattle.steal_board.proofs.Fitting.{fit_mine, fit_gone, fit_ready, fit_share, fit_turning, fit_taken, fit_settling, fit_joined, fit_new, fit_spent}
 
 -- the same words and slots agree with the same counts

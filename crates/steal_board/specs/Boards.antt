@@ -1,5 +1,5 @@
 -- A board and a seat of it, as contracts see them.
-use Rattle.std.specs.Prelude.{◌≡◌, ℕ, ◌<◌, List, []}
+use Rattle.std.specs.Prelude.{◌≡◌, ℕ, ◌<◌, []}
 use Rattle.dag_core.specs.declared.job.Job.{Ghosts}
 use Rattle.dag_core.specs.declared.plan.Plan.{Plan}
 use Rattle.steal_board.specs.declared.board.Board.{Board}

@@ -116,10 +116,8 @@ impl<J: Job> Board<J> {
         ensures all_waiting { (left : ℕ) → (view seat.old).share ≡ whole → result ≡ Claim.Waiting left → left ≡ owing (λ edge. times edge (view seat.old).paid) (over self.now).edges task }
         ensures all_once { (view seat.old).share ≡ whole → (t : ℕ) → (times t (view seat.old).mine ≤ 1) × (length (over self.now).jobs ≤ t → times t (view seat.old).mine ≡ 0) }
     {
-        let found = self
-            .table
-            .shared
-            .compare_exchange::<Claiming>(&mut seat.seat, task as usize, 0, MARK);
+        let shared = &self.table.shared;
+        let found = shared.compare_exchange::<Claiming>(&mut seat.seat, task as usize, 0, MARK);
         if found == 0 {
             Claim::Mine
         } else if found == MARK {

@@ -1,4 +1,3 @@
-use Rattle.std.proofs.Common.{◌≡◌}
 use Rattle.steal_board.specs.Views.{paper_of}
 use Rattle.steal_board.proofs.Laying.{lays}
 use Rattle.steal_board.proofs.board.Board.lay.Goals as goal
