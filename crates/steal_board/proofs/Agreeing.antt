@@ -1,5 +1,5 @@
 -- Each kind of step keeps words, slots and counts in agreement.
-use Rattle.std.proofs.Common.{◌≡◌, ◌≢◌, ℕ, zero, suc, ◌+◌, ◌-◌, ◌%◌, ◌^◌, ◌<◌, ◌≤◌, Bool, true, false, cond, eqb, List, [], ◌∷◌, ◌++◌, length, set, get_or, Option, Some, None, sym, refl, ap, ◌∙◌, subst, eq-eqb, ne_eqb, get_or-set_same, get_or-set_other, arith}
+use Rattle.std.proofs.Common.{◌≡◌, ◌≢◌, ℕ, ◌+◌, ◌-◌, ◌^◌, ◌<◌, ◌≤◌, Bool, true, false, cond, eqb, List, [], ◌∷◌, length, set, get_or, Option, Some, None, sym, refl, ap, ◌∙◌, subst, eq-eqb, ne_eqb, get_or-set_same, get_or-set_other, length-set, arith}
 use mathlib.Core.Logic.{dite}
 use mathlib.Core.Option.{some, none}
 use mathlib.Core.Option as Maybe
@@ -7,7 +7,7 @@ use native.Mathlib.Decide.{ℕ_discrete}
 use lib.ListN.{get_elem?}
 use Rattle.atomic_table.proofs.Lists.{set_here, set_else}
 use Rattle.dag_core.specs.Places.{times}
-use Rattle.dag_core.specs.Values.{source, target, count_in, value_of}
+use Rattle.dag_core.specs.Values.{target, value_of}
 use Rattle.dag_core.proofs.Places.{times_here, times_else}
 use Rattle.steal_board.specs.declared.view.Paper.{Paper}
 use Rattle.steal_board.specs.Views.{mark}
@@ -53,6 +53,7 @@ module _ {T : Type 0} (p : Paper T) (ws : List ℕ) (hs : List (Maybe.Option (Op
             (λ q. let g = grown x in let o = one_here t x q in let z : M x ≡ 0 = ap M (sym q) ∙ none in omega (arith, g, o, z))
             (λ ne. let g = grown x in let o = one_else t x ne in let m = agrees.once x in omega (arith, g, o, m));
         inside = λ x le. let g = grown x in let o = one_else t x (λ q. omega arith) in let m = agrees.inside x le in omega (arith, g, o, m);
+        spare = λ x le lx. get_or-set_other ws t x mark 0 (λ q. omega arith) ∙ agrees.spare x le (let n = length-set ws t mark in omega (arith, n, lx));
         ready_paid = agrees.ready_paid;
         told = agrees.told;
         gone_claimed = λ x h. dite (ℕ_discrete t x)
@@ -67,6 +68,7 @@ module _ {T : Type 0} (p : Paper T) (ws : List ℕ) (hs : List (Maybe.Option (Op
     claimed = agrees.claimed;
     once = agrees.once;
     inside = agrees.inside;
+    spare = agrees.spare;
     ready_paid = agrees.ready_paid;
     told = agrees.told;
     slots = agrees.slots;
@@ -76,7 +78,7 @@ module _ {T : Type 0} (p : Paper T) (ws : List ℕ) (hs : List (Maybe.Option (Op
   }
 
   pub turned_agrees : (U' : ℕ → ℕ) (e : ℕ) → e < length p.edges → e < length hs → U e + P e ≡ 0 → ((x : ℕ) → U' x ≡ U x + times x (e ∷ [])) → Agrees p ws (set hs e none) M U' P K R G
-  turned_agrees U' e lt here none_yet grown = record { free = agrees.free; claimed = agrees.claimed; once = agrees.once; inside = agrees.inside; ready_paid = agrees.ready_paid; told = agrees.told; gone_claimed = agrees.gone_claimed; slots = λ x lx. dite (ℕ_discrete e x) (λ q. this x q) (λ ne. other x lx ne) }
+  turned_agrees U' e lt here none_yet grown = record { free = agrees.free; claimed = agrees.claimed; once = agrees.once; inside = agrees.inside; spare = agrees.spare; ready_paid = agrees.ready_paid; told = agrees.told; gone_claimed = agrees.gone_claimed; slots = λ x lx. dite (ℕ_discrete e x) (λ q. this x q) (λ ne. other x lx ne) }
     where
       this : (x : ℕ) → e ≡ x → Stands p (set hs e none) x (U' x) (P x) (K x)
       this x q = subst (λ n. Stands p (set hs e none) n (U' n) (P n) (K n)) q (
@@ -105,7 +107,7 @@ module _ {T : Type 0} (p : Paper T) (ws : List ℕ) (hs : List (Maybe.Option (Op
           }
 
   pub taken_agrees : (K' : ℕ → ℕ) (e : ℕ) → e < length p.edges → e < length hs → K e ≡ 0 → 0 < P e → ((x : ℕ) → K' x ≡ K x + times x (e ∷ [])) → Agrees p ws (set hs e none) M U P K' R G
-  taken_agrees K' e lt here none_yet paid grown = record { free = agrees.free; claimed = agrees.claimed; once = agrees.once; inside = agrees.inside; ready_paid = agrees.ready_paid; told = agrees.told; gone_claimed = agrees.gone_claimed; slots = λ x lx. dite (ℕ_discrete e x) (λ q. this x q) (λ ne. other x lx ne) }
+  taken_agrees K' e lt here none_yet paid grown = record { free = agrees.free; claimed = agrees.claimed; once = agrees.once; inside = agrees.inside; spare = agrees.spare; ready_paid = agrees.ready_paid; told = agrees.told; gone_claimed = agrees.gone_claimed; slots = λ x lx. dite (ℕ_discrete e x) (λ q. this x q) (λ ne. other x lx ne) }
     where
       this : (x : ℕ) → e ≡ x → Stands p (set hs e none) x (U x) (P x) (K' x)
       this x q = subst (λ n. Stands p (set hs e none) n (U n) (P n) (K' n)) q (
@@ -134,7 +136,7 @@ module _ {T : Type 0} (p : Paper T) (ws : List ℕ) (hs : List (Maybe.Option (Op
           }
 
   pub returned_agrees : (e : ℕ) → e < length p.edges → 0 < K e → Agrees p ws (set hs e (some None)) M U P K R G
-  returned_agrees e lt was = record { free = agrees.free; claimed = agrees.claimed; once = agrees.once; inside = agrees.inside; ready_paid = agrees.ready_paid; told = agrees.told; gone_claimed = agrees.gone_claimed; slots = λ x lx. dite (ℕ_discrete e x) (λ q. this x q) (λ ne. other x lx ne) }
+  returned_agrees e lt was = record { free = agrees.free; claimed = agrees.claimed; once = agrees.once; inside = agrees.inside; spare = agrees.spare; ready_paid = agrees.ready_paid; told = agrees.told; gone_claimed = agrees.gone_claimed; slots = λ x lx. dite (ℕ_discrete e x) (λ q. this x q) (λ ne. other x lx ne) }
     where
       this : (x : ℕ) → e ≡ x → Stands p (set hs e (some None)) x (U x) (P x) (K x)
       this x q = subst (λ n. Stands p (set hs e (some None)) n (U n) (P n) (K n)) q (
@@ -183,6 +185,7 @@ module _ {T : Type 0} (p : Paper T) (ws : List ℕ) (hs : List (Maybe.Option (Op
         (λ ne. let c = agrees.claimed t lt' h in (get_or-set_other ws (target p.edges e) t (get_or ws (target p.edges e) 0 - 1) 0 (λ q. ne (sym q)) ∙ c.0, same_owed t ne ∙ c.1));
     once = agrees.once;
     inside = agrees.inside;
+    spare = λ t le lt'. get_or-set_other ws (target p.edges e) t (get_or ws (target p.edges e) 0 - 1) 0 (λ q. omega arith) ∙ agrees.spare t le (let n = length-set ws (target p.edges e) (get_or ws (target p.edges e) 0 - 1) in omega (arith, n, lt'));
     ready_paid = λ t h. dite (ℕ_discrete (target p.edges e) t) (λ q. subst (λ n. 0 < R' n → owing P' p.edges n ≡ 0) q here_ready h) (λ ne. same_owed t ne ∙ agrees.ready_paid t (other_ready t ne h));
     told = λ t c z. dite (ℕ_discrete (target p.edges e) t) (λ q. subst (λ n. owing P' p.edges n ≡ 0 → 0 < R' n) q here_told z)
         (λ ne. let r = agrees.told t c (sym (same_owed t ne) ∙ z) in let m = told_more t in omega (arith, r, m));

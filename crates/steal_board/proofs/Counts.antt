@@ -6,7 +6,7 @@ use native.Mathlib.Decide.{ℕ_discrete}
 use lib.ListN.{get_elem?}
 use Rattle.dag_core.specs.declared.plan.Edge.{Edge}
 use Rattle.dag_core.specs.Places.{times, places_by}
-use Rattle.dag_core.specs.Values.{source, target, places_to, count_in}
+use Rattle.dag_core.specs.Values.{target, places_to, count_in}
 use Rattle.dag_core.proofs.Places.{times_here, times_else, times-append}
 use Rattle.dag_core.proofs.Fixed.{to_target, target_to}
 use Rattle.steal_board.specs.declared.view.View.{View}

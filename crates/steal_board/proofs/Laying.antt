@@ -1,5 +1,5 @@
 -- The board as it is laid and as it is closed.
-use Rattle.std.proofs.Common.{◌≡◌, ℕ, zero, suc, ◌+◌, ◌<◌, ◌≤◌, ◌^◌, List, [], ◌∷◌, ◌++◌, length, get_or, take, replicate, Option, None, Result, sym, refl, ap, ◌∙◌, subst, arith}
+use Rattle.std.proofs.Common.{◌≡◌, ℕ, zero, suc, ◌+◌, ◌<◌, ◌≤◌, ◌^◌, List, [], ◌∷◌, ◌++◌, length, get_or, take, replicate, Option, None, Result, sym, ap, ◌∙◌, subst, arith}
 use mathlib.Core.Option.{some, some-injective, some-ne-none}
 use lib.ListN.{get_elem?}
 use Rattle.std.specs.Prelude.{IfOk}
@@ -16,9 +16,9 @@ use Rattle.steal_board.proofs.Moves.{opens, closes, closes_mark}
 
 -- the rule as the board is laid, over the words as they were made
 pub lays : {T : Type 0} (p : Paper T) (ws made : List ℕ) (n : ℕ) → ws ≡ made → n ≡ length p.edges → p.tasks ≤ length made → length p.edges < 2 ^ 31 → ((t : ℕ) → t < p.tasks → get_or made t 0 ≡ count_in p.edges t)
-    → Held p (opening ws (replicate n None) (seat_view p whole))
-lays p ws made n same count wide few counted =
-    subst (λ l. Held p (opening l (replicate n None) (seat_view p whole))) (sym same) (subst (λ k. Held p (opening made (replicate k None) (seat_view p whole))) (sym count) (opens p made wide few counted))
+    → ((t : ℕ) → p.tasks ≤ t → t < length made → get_or made t 0 ≡ mark) → Held p (opening ws (replicate n None) (seat_view p whole))
+lays p ws made n same count wide few counted spare =
+    subst (λ l. Held p (opening l (replicate n None) (seat_view p whole))) (sym same) (subst (λ k. Held p (opening made (replicate k None) (seat_view p whole))) (sym count) (opens p made wide few counted spare))
 
 -- one more item taken, which is known by its place
 pub take_found : (l : List ℕ) (i x : ℕ) → get_elem? l i ≡ some x → take (i + 1) l ≡ take i l ++ x ∷ []

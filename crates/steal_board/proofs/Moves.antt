@@ -1,5 +1,5 @@
 -- Each step keeps the board rule, and tells its caller what it is to tell.
-use Rattle.std.proofs.Common.{◌≡◌, ◌≢◌, ℕ, zero, suc, ◌+◌, ◌-◌, ◌%◌, ◌^◌, ◌<◌, ◌≤◌, ◌⊎◌, Bool, true, false, cond, eqb, List, [], ◌∷◌, ◌++◌, map, drop, length, set, get_or, replicate, Option, Some, None, sym, refl, ap, ◌∙◌, subst, inl, inr, ⊎_elim, eq-eqb, ne_eqb, length-set, arith}
+use Rattle.std.proofs.Common.{◌≡◌, ◌≢◌, ℕ, zero, suc, ◌+◌, ◌-◌, ◌%◌, ◌^◌, ◌<◌, ◌≤◌, Bool, true, false, cond, eqb, List, [], ◌∷◌, ◌++◌, map, drop, length, set, get_or, replicate, Option, Some, None, sym, refl, ap, ◌∙◌, subst, ⊎_elim, eq-eqb, ne_eqb, length-set, arith}
 use mathlib.Core.Logic.{dite}
 use mathlib.Core.Option.{some, none, some-injective, some-ne-none}
 use mathlib.Core.Option as Maybe
@@ -7,8 +7,8 @@ use native.Mathlib.Decide.{ℕ_discrete, dec_lt}
 use lib.ListN.{get_elem?}
 use prog.Atomic.{either}
 use Rattle.std.proofs.lemmas.List.{set-get_or}
-use Rattle.atomic_table.specs.Table.{State, Me, Step, step, Act, keeps, takes, gives, Allows, Splits, Joins, opening, Final, Seen, stepped, rest, Valid, carried_after}
-use Rattle.atomic_table.proofs.Lists.{at_set, at_snoc, set_else, at_map}
+use Rattle.atomic_table.specs.Table.{State, Me, step, Act, keeps, takes, gives, Allows, Splits, Joins, opening, Final, Seen, stepped, Valid, carried_after}
+use Rattle.atomic_table.proofs.Lists.{at_set, at_snoc, set_else}
 use Rattle.dag_core.specs.declared.plan.Edge.{Edge}
 use Rattle.dag_core.specs.Places.{times}
 use Rattle.dag_core.specs.Values.{source, target, places_to, count_in, value_of}
@@ -16,10 +16,10 @@ use Rattle.dag_core.proofs.Places.{times-append, times_here}
 use Rattle.steal_board.specs.declared.view.Paper.{Paper}
 use Rattle.steal_board.specs.declared.view.View.{View}
 use Rattle.steal_board.specs.Views.{whole, mark, seat_view, with_share, with_mine, with_gone, with_ready, with_taken, turning, settling, joined, spent}
-use Rattle.steal_board.specs.Rule.{total, sums, owing, IsFit, Stands, Agrees, Held}
+use Rattle.steal_board.specs.Rule.{total, sums, owing, IsFit, Agrees, Held}
 use Rattle.steal_board.specs.Steps.{ClaimsWhole, Claims, Turns, Pays, Takes, Returns}
 use Rattle.steal_board.proofs.Counts.{total_set, total_same, total_push, total_one, total_plus, total_below, total_alone, sums_same, sums_grown, sums_front, sums_fewer, owing_few, owing_edge}
-use Rattle.steal_board.proofs.Agreeing.{owing_small, unclaimed, is_claimed, won_agrees, lost_agrees, turned_agrees, taken_agrees, returned_agrees, paid_agrees, target_owed}
+use Rattle.steal_board.proofs.Agreeing.{unclaimed, is_claimed, won_agrees, lost_agrees, turned_agrees, taken_agrees, returned_agrees, paid_agrees, target_owed}
 use Rattle.steal_board.proofs.Fitting.{fit_mine, fit_gone, fit_ready, fit_share, fit_turning, fit_taken, fit_settling, fit_joined, fit_new, fit_spent}
 
 -- the same words and slots agree with the same counts
@@ -353,8 +353,9 @@ empty_home (suc n) zero h = refl
 empty_home {T = T} (suc n) (suc e) h = empty_home {T = T} n e (omega arith)
 
 -- the rule as the board is laid
-pub opens : {T : Type 0} (p : Paper T) (ws : List ℕ) → p.tasks ≤ length ws → length p.edges < 2 ^ 31 → ((t : ℕ) → t < p.tasks → get_or ws t 0 ≡ count_in p.edges t) → Held p (opening ws (replicate (length p.edges) None) (seat_view p whole))
-opens {T = T} p ws wide few counted = record {
+pub opens : {T : Type 0} (p : Paper T) (ws : List ℕ) → p.tasks ≤ length ws → length p.edges < 2 ^ 31 → ((t : ℕ) → t < p.tasks → get_or ws t 0 ≡ count_in p.edges t)
+    → ((t : ℕ) → p.tasks ≤ t → t < length ws → get_or ws t 0 ≡ mark) → Held p (opening ws (replicate (length p.edges) None) (seat_view p whole))
+opens {T = T} p ws wide few counted spare = record {
   wide = wide;
   few = few;
   shares = refl;
@@ -364,6 +365,7 @@ opens {T = T} p ws wide few counted = record {
     claimed = λ t lt h. absurd (omega (arith, h));
     once = λ t. omega arith;
     inside = λ t le. refl;
+    spare = spare;
     ready_paid = λ t h. absurd (omega (arith, h));
     told = λ t some_in z. absurd (let n = none_paid p.edges t in omega (arith, n, some_in, z));
     gone_claimed = λ t h. absurd (omega (arith, h));
@@ -395,3 +397,18 @@ closes_mark p ws xs i v all last t lt is =
     let h = last.1.0 in
     let m = alone_mine p s i v h last.1.1 all t in
     let c = is_claimed p s.words s.homes _ _ _ _ _ _ h.wide h.few h.agrees t lt (ap (λ l. get_or l t 0) last.2 ∙ is) in omega (arith, m, c)
+
+-- in the end each task was claimed once at most, and each edge paid and taken once at most
+pub closes_once : {T : Type 0} (p : Paper T) (ws : List ℕ) (xs : List (Option T)) (i : ℕ) (v : View T) → v.share ≡ whole → Final (Seen (Held p) i v) ws xs → (x : ℕ) → (times x v.mine ≤ 1) × (times x v.paid ≤ 1) × (times x v.taken ≤ 1)
+closes_once p ws xs i v all last x =
+    let s = last.0 in
+    let h = last.1.0 in
+    let m = alone_mine p s i v h last.1.1 all x in
+    let q = alone_paid p s i v h last.1.1 all x in
+    let k = alone p s i v h last.1.1 all (λ u. u.taken) (λ u y. omega arith) x in
+    let once = h.agrees.once x in
+    let fit = h.each i v last.1.1 in (
+      omega (arith, m, once),
+      dite (dec_lt x (length p.edges)) (λ lt. let a = (h.agrees.slots x lt).alone in omega (arith, q, a)) (λ n. let b = fit.bound x (omega (arith, n)) in omega (arith, b)),
+      dite (dec_lt x (length p.edges)) (λ lt. let a = (h.agrees.slots x lt).alone in let b = (h.agrees.slots x lt).after in omega (arith, k, a, b)) (λ n. let b = fit.bound x (omega (arith, n)) in omega (arith, b)),
+    )

@@ -1,9 +1,8 @@
 -- What each step tells its caller: of the word's number, the seat before, the number found and the seat after.
-use Rattle.std.specs.Prelude.{◌≡◌, ◌≢◌, ℕ, ◌<◌, ◌≤◌, List, [], ◌∷◌, Option, Some, None, length, if◌then◌else◌, ◌==◌}
+use Rattle.std.specs.Prelude.{◌≡◌, ◌≢◌, ℕ, ◌<◌, ◌≤◌, ◌∷◌, Option, Some, None, if◌then◌else◌, ◌==◌}
 use Rattle.atomic_table.specs.Table.{Me, Step, rest}
 use Rattle.dag_core.specs.Places.{times}
-use Rattle.dag_core.specs.Values.{count_in, target, value_of}
-use Rattle.steal_board.specs.declared.view.Paper.{Paper}
+use Rattle.dag_core.specs.Values.{count_in, value_of}
 use Rattle.steal_board.specs.declared.view.View.{View}
 use Rattle.steal_board.specs.Views.{whole, mark, with_mine, with_gone, with_ready, with_taken, turning, settling}
 use Rattle.steal_board.specs.Rule.{owing}

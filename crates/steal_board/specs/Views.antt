@@ -1,5 +1,5 @@
 -- What a seat's view is after each call.
-use Rattle.std.specs.Prelude.{ℕ, ◌+◌, ◌-◌, List, [], ◌∷◌, ◌++◌, drop, length}
+use Rattle.std.specs.Prelude.{ℕ, ◌+◌, [], ◌∷◌, ◌++◌, drop, length}
 use Rattle.dag_core.specs.declared.job.Job.{Ghosts}
 use Rattle.dag_core.specs.declared.plan.Plan.{Plan}
 use Rattle.dag_core.specs.Plans.{plan_values}

@@ -15,7 +15,7 @@ use wire_bcs::{OutOfMemory, Seq};
 /// The words and slots of a plan, for callers on any threads.
 #[derive(Drop)]
 pub struct Board<J: Job> {
-    pub table: Table<Option<J::Value>, View<J::Value>, Plan<J>, Law, Global>,
+    table: Table<Option<J::Value>, View<J::Value>, Plan<J>, Law, Global>,
     edges: Seq<Edge>,
     tasks: usize,
     ghost counted: { tasks ≡ length table.shared.key.jobs },
@@ -28,7 +28,7 @@ pub struct Board<J: Job> {
 /// A caller's right to make calls on a board. It has no bytes, and a view, which says what was done with it.
 #[derive(Drop)]
 pub struct BoardSeat<J: Job> {
-    pub seat: Seat<Option<J::Value>, View<J::Value>>,
+    seat: Seat<Option<J::Value>, View<J::Value>>,
 }
 
 /// What a claim found.
@@ -116,10 +116,8 @@ impl<J: Job> Board<J> {
         ensures all_waiting { (left : ℕ) → (view seat.old).share ≡ whole → result ≡ Claim.Waiting left → left ≡ owing (λ edge. times edge (view seat.old).paid) (over self.now).edges task }
         ensures all_once { (view seat.old).share ≡ whole → (t : ℕ) → (times t (view seat.old).mine ≤ 1) × (length (over self.now).jobs ≤ t → times t (view seat.old).mine ≡ 0) }
     {
-        let found = self
-            .table
-            .shared
-            .compare_exchange::<Claiming>(&mut seat.seat, task as usize, 0, MARK);
+        let shared = &self.table.shared;
+        let found = shared.compare_exchange::<Claiming>(&mut seat.seat, task as usize, 0, MARK);
         if found == 0 {
             Claim::Mine
         } else if found == MARK {
@@ -196,11 +194,13 @@ impl<J: Job> Board<J> {
     }
 
     /// The last words, of the seat with the whole share: a task's word is the mark exactly where the task stands in the
-    /// seat's `mine`, and else the number of its incoming edges that do not stand in its `paid`.
+    /// seat's `mine`, and else the number of its incoming edges that do not stand in its `paid`. Each task stands there
+    /// once at most, and so does each edge in `paid` and in `taken`. After a refusal the board and the seat are gone.
     pub fn close(self, alloc: Global, seat: BoardSeat<J>) -> Result<Seq<u64>, OutOfMemory>
         requires of { IsOf self seat }
         requires all { (view seat).share ≡ whole }
         ensures len { IfOk result (λ words. length words ≡ length (over self).jobs) }
+        ensures once { (x : ℕ) → (times x (view seat).mine ≤ 1) × (times x (view seat).paid ≤ 1) × (times x (view seat).taken ≤ 1) }
         ensures claimed { IfOk result (λ words. (task : ℕ) → task < length (over self).jobs → 0 < times task (view seat).mine → slice_index words task ≡ mark) }
         ensures marked { IfOk result (λ words. (task : ℕ) → task < length (over self).jobs → slice_index words task ≡ mark → 0 < times task (view seat).mine) }
         ensures free { IfOk result (λ words. (task : ℕ) → task < length (over self).jobs → times task (view seat).mine ≡ 0 → slice_index words task ≡ owing (λ edge. times edge (view seat).paid) (over self).edges task) }

@@ -1,12 +1,14 @@
 //! A board of two tasks and one edge, by two callers on two threads, and a board with no task.
 
-ghost use Rattle.std.specs.Prelude.{◌≡◌, ◌+◌, ◌%◌, ◌^◌, replicate, slice_index};
+ghost use Rattle.std.specs.Prelude.{◌≡◌, ◌+◌, ◌<◌, ◌%◌, ◌^◌, length, replicate, slice_index};
+ghost use Rattle.steal_board.specs.Boards.{over, view, IsOf, Claimed};
 ghost use Rattle.std.proofs.lemmas.List.{length-replicate};
 
-use crate::{Board, Claim};
+use crate::{Board, BoardSeat, Claim};
 use dag_core::{Edge, Job, Plan};
 use std::alloc::Global;
 use std::test::Fail;
+use std::thread::{Threads, join};
 use wire_bcs::{OutOfMemory, Seq};
 
 // Adds 1 to what comes in, or gives 1 where nothing does.
@@ -43,6 +45,39 @@ impl Job for Link {
     }
 }
 
+// A claim in a thread of its own.
+fn claim_elsewhere<R: Threads + Sync>(
+    rt: &R,
+    board: &Board<Link>,
+    seat: BoardSeat<Link>,
+    task: u32,
+) -> (Claim, BoardSeat<Link>)
+    requires of { IsOf board.now seat }
+    requires task { task < length (over board.now).jobs }
+    ensures of { IsOf board.now result.1 }
+    ensures view { Claimed result.0 task (view seat) (view result.1) }
+{
+    let (claimed, _) = join(
+        rt,
+        move || -> (Claim, BoardSeat<Link>)
+            requires { IsOf board.now seat × (task < length (over board.now).jobs) }
+            ensures { IsOf board.entry.now result.1 × Claimed result.0 task (view seat) (view result.1) }
+        { claim_here(board, seat, task) },
+        || (),
+    );
+    claimed
+}
+
+fn claim_here(board: &Board<Link>, mut seat: BoardSeat<Link>, task: u32) -> (Claim, BoardSeat<Link>)
+    requires of { IsOf board.now seat }
+    requires task { task < length (over board.now).jobs }
+    ensures of { IsOf board.now result.1 }
+    ensures view { Claimed result.0 task (view seat) (view result.1) }
+{
+    let found = board.claim(&mut seat, task);
+    (found, seat)
+}
+
 #[test]
 fn a_task_waits_for_its_edge(rt: HostRuntime) -> Result<(), Fail> {
     let alloc = rt.alloc();
@@ -52,13 +87,14 @@ fn a_task_waits_for_its_edge(rt: HostRuntime) -> Result<(), Fail> {
     let edges = Seq::from_slice(alloc, &edges)?;
     let plan = Plan::new(alloc, jobs, edges)?;
     let (board, mut first) = Board::lay(alloc, &plan)?;
-    let mut second = board.split(&mut first);
+    let second = board.split(&mut first);
     assert_eq!(rt; board.claim(&mut first, 1), Claim::Waiting(1));
     let found = board.claim(&mut first, 0);
     assert_eq!(rt; found, Claim::Mine);
-    assert_eq!(rt; board.claim(&mut second, 0), Claim::Taken);
+    let (found, second) = claim_elsewhere(&rt, &board, second, 0);
+    assert_eq!(rt; found, Claim::Taken);
     assert!(rt; board.pay(&mut first, 0, 1));
-    let found = board.claim(&mut second, 1);
+    let (found, mut second) = claim_elsewhere(&rt, &board, second, 1);
     assert_eq!(rt; found, Claim::Mine);
     assert_eq!(rt; board.take_input(&mut second, 0), 1);
     let seat = board.join(first, second);

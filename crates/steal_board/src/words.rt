@@ -16,6 +16,7 @@ pub(crate) const MARK: u64 = u64::MAX;
 pub(crate) fn first_words<J: Job>(alloc: Global, plan: &Plan<J>) -> Result<Vec<u64>, OutOfMemory>
     ensures some { IfOk result (λ words. 0 < length words.items) }
     ensures wide { IfOk result (λ words. length plan.now.jobs ≤ length words.items) }
+    ensures spare { IfOk result (λ words. (task : ℕ) → length plan.now.jobs ≤ task → task < length words.items → slice_index words.items task ≡ MARK) }
     ensures counted { IfOk result (λ words. (task : ℕ) → task < length plan.now.jobs → slice_index words.items task ≡ count_in plan.now.edges task) }
 {
     let mut words = Vec::new(alloc);

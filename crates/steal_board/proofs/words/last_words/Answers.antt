@@ -1,4 +1,4 @@
-use Rattle.std.proofs.Common.{◌≡◌, ℕ, ap, sym, ◌∙◌, ◌∷◌, ◌++◌, []}
+use Rattle.std.proofs.Common.{ap, sym, ◌∙◌, ◌∷◌, ◌++◌, []}
 use Rattle.std.specs.Slots.{slots_items}
 use Rattle.steal_board.proofs.Laying.{take_found}
 use Rattle.steal_board.proofs.words.last_words.Goals as goal

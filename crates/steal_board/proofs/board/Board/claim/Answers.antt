@@ -1,4 +1,4 @@
-use Rattle.std.proofs.Common.{◌≡◌, ℕ, ◌<◌, ◌≤◌, arith}
+use Rattle.std.proofs.Common.{arith}
 use Rattle.steal_board.specs.Views.{paper_of}
 use Rattle.steal_board.proofs.Calls.{claims_over}
 use Rattle.steal_board.proofs.board.Board.claim.Goals as goal

@@ -1,4 +1,4 @@
-use Rattle.std.proofs.Common.{◌≡◌, ℕ, ◌<◌, ◌≤◌, ◌∷◌, Option, Some, length, sym, refl, ap, ◌∙◌, subst, arith}
+use Rattle.std.proofs.Common.{◌∷◌, Option, Some, length, ap, ◌∙◌}
 use Rattle.atomic_table.specs.Table.{rest}
 use Rattle.dag_core.specs.Values.{target}
 use Rattle.steal_board.specs.Views.{paper_of}

@@ -1,4 +1,4 @@
-use Rattle.std.proofs.Common.{◌≡◌, ℕ, ◌<◌, ◌≤◌, ◌∷◌, Option, Some, None, length, sym, refl, ap, ◌∙◌, subst, arith}
+use Rattle.std.proofs.Common.{◌∷◌, Some, None, length, ap, ◌∙◌}
 use Rattle.atomic_table.specs.Table.{rest}
 use Rattle.steal_board.specs.Views.{paper_of}
 use Rattle.steal_board.proofs.Calls.{inside_of, last_slot, takes_over, returns_over}
