@@ -1,5 +1,5 @@
 -- Numbers below a bound, none of them twice, are not more than the bound.
-use Rattle.std.proofs.Common.{◌≡◌, ◌≢◌, ℕ, zero, suc, ◌+◌, ◌<◌, ◌≤◌, Bool, true, false, cond, eqb, List, [], ◌∷◌, length, sym, refl, ap, ◌∙◌, subst, eq-eqb, ne_eqb, arith}
+use Rattle.std.proofs.Common.{◌≡◌, ◌≢◌, ℕ, zero, suc, ◌+◌, ◌≤◌, cond, eqb, List, [], ◌∷◌, length, sym, refl, ap, ◌∙◌, subst, eq-eqb, ne_eqb, arith}
 use mathlib.Core.Logic.{dite}
 use native.Mathlib.Decide.{ℕ_discrete}
 use Rattle.dag_core.specs.Places.{times}
@@ -46,6 +46,6 @@ few (suc n) xs once inside =
     let a = length-without n xs in
     let o = once n in
     let r = few n (without n xs)
-      (λ x. dite (ℕ_discrete x n) (λ e. let z = subst (λ k. times k (without n xs) ≡ 0) (sym e) (times-without_none n xs) in omega (arith, z)) (λ ne. let z = times-without n x xs ne in let p = once x in omega (arith, z, p)))
-      (λ x le. dite (ℕ_discrete x n) (λ e. subst (λ k. times k (without n xs) ≡ 0) (sym e) (times-without_none n xs)) (λ ne. times-without n x xs ne ∙ inside x (omega arith))) in
+    (λ x. dite (ℕ_discrete x n) (λ e. let z = subst (λ k. times k (without n xs) ≡ 0) (sym e) (times-without_none n xs) in omega (arith, z)) (λ ne. let z = times-without n x xs ne in let p = once x in omega (arith, z, p)))
+    (λ x le. dite (ℕ_discrete x n) (λ e. subst (λ k. times k (without n xs) ≡ 0) (sym e) (times-without_none n xs)) (λ ne. times-without n x xs ne ∙ inside x (omega arith))) in
     omega (arith, a, o, r)

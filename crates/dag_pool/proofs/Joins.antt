@@ -1,18 +1,18 @@
 -- What two groups of workers leave, together.
-use Rattle.std.proofs.Common.{◌≡◌, ◌≢◌, ℕ, zero, suc, ◌+◌, ◌<◌, ◌≤◌, Bool, true, false, cond, eqb, List, [], ◌∷◌, ◌++◌, length, Some, sym, refl, ap, ◌∙◌, subst, inl, inr, ⊎_elim, ◌⊎◌, arith}
+use Rattle.std.proofs.Common.{◌≡◌, ℕ, ◌+◌, Bool, false, cond, eqb, List, [], ◌∷◌, ◌++◌, Some, sym, refl, ap, subst, arith}
 use mathlib.Core.Logic.{dite}
 use native.Mathlib.Decide.{ℕ_discrete, dec_lt}
 use Rattle.std.specs.Prelude.{slice_get}
 use Rattle.std.proofs.lemmas.List.Elements.{All-append}
 use Rattle.dag_core.specs.declared.plan.Edge.{Edge}
 use Rattle.dag_core.specs.Places.{times}
-use Rattle.dag_core.specs.Values.{source, target, count_in}
+use Rattle.dag_core.specs.Values.{source, target}
 use Rattle.dag_core.proofs.Places.{times-append}
 use Rattle.steal_board.specs.declared.view.View.{View}
 use Rattle.steal_board.specs.declared.view.Paper.{Paper}
 use Rattle.steal_board.specs.Views.{joined, seat_view}
-use Rattle.dag_pool.specs.Outputs.{times_in, AreOutputs}
-use Rattle.dag_pool.specs.Work.{IsClean, Brings, IsSound, IsOwed, IsLeft, dealt_to}
+use Rattle.dag_pool.specs.Outputs.{times_in}
+use Rattle.dag_pool.specs.Work.{IsSound, IsOwed, IsLeft, dealt_to}
 
 times_in-append : {O : Type 0} (t : ℕ) (xs bs : List (ℕ × O)) → times_in t (xs ++ bs) ≡ times_in t xs + times_in t bs
 times_in-append t [] bs = omega arith
@@ -31,11 +31,11 @@ module _ {V O : Type 0} (es : List Edge) (n workers : ℕ) (os : List O) where
       all = λ t. let x = a.brings.all t in let y = b.brings.all t in let p = times_in-append t ps qs in let m = times-append t v.mine w.mine in omega (arith, x, y, p, m);
     };
     heard = λ f t r. let p = times-append t v.ready w.ready in let m = times-append t v.mine w.mine in let q = times-append t v.gone w.gone in
-      dite (ℕ_discrete (times t v.ready) 0)
+        dite (ℕ_discrete (times t v.ready) 0)
         (λ z. let h = b.heard (neither f).1 t (omega (arith, p, z, r)) in omega (arith, h, m, q))
         (λ some. let h = a.heard (neither f).0 t (omega arith) in omega (arith, h, m, q));
     dealt = λ f t lt none above below. let m = times-append t v.mine w.mine in let q = times-append t v.gone w.gone in
-      dite (dec_lt (dealt_to es workers t) middle)
+        dite (dec_lt (dealt_to es workers t) middle)
         (λ under. let h = a.dealt (neither f).0 t lt none above under in omega (arith, h, m, q))
         (λ over. let h = b.dealt (neither f).1 t lt none (omega arith) below in omega (arith, h, m, q));
   }

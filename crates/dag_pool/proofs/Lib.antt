@@ -4,3 +4,4 @@ pub mod Tasks
 pub mod Few
 pub mod Joins
 pub mod Sweeps
+pub mod Counts

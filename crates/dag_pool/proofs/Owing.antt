@@ -1,5 +1,5 @@
 -- What a worker owes, from one step to the next.
-use Rattle.std.proofs.Common.{◌≡◌, ◌≢◌, ℕ, zero, suc, ◌+◌, ◌<◌, ◌≤◌, Bool, true, false, true≢false, List, [], ◌∷◌, ◌++◌, length, sym, refl, ap, ◌∙◌, subst, inl, inr, ⊎_elim, ◌⊎◌, arith}
+use Rattle.std.proofs.Common.{◌≡◌, ℕ, ◌+◌, ◌<◌, ◌≤◌, Bool, true, false, true≢false, List, [], ◌∷◌, ◌++◌, sym, refl, ap, ◌∙◌, subst, inl, inr, ⊎_elim, ◌⊎◌, arith}
 use mathlib.Core.Logic.{dite}
 use native.Mathlib.Decide.{ℕ_discrete}
 use Rattle.dag_core.specs.declared.plan.Edge.{Edge}
@@ -8,7 +8,7 @@ use Rattle.dag_core.specs.Values.{count_in}
 use Rattle.dag_core.proofs.Places.{times_here, times_else, times-append}
 use Rattle.steal_board.specs.declared.view.View.{View}
 use Rattle.steal_board.specs.Views.{with_mine, with_gone, with_ready, with_paid}
-use Rattle.dag_pool.specs.Work.{IsOwed, Took, Paid}
+use Rattle.dag_pool.specs.Work.{IsOwed, Took}
 
 -- of a task, what is due, was claimed or was found claimed
 abbrev seen : {V : Type 0} → List ℕ → View V → ℕ → ℕ
@@ -31,32 +31,32 @@ module _ {V : Type 0} (es : List Edge) (n workers k : ℕ) where
   pub owed_mine : (v w : View V) (task : ℕ) (due : List ℕ) (starved : Bool) → w ≡ with_mine v task → IsOwed es n workers k v (task ∷ due) starved → IsOwed es n workers k w due starved
   owed_mine v w task due starved e o = subst (λ u. IsOwed es n workers k u due starved) (sym e)
       (owed_step v (with_mine v task) (task ∷ due) due starved starved o (λ f. f)
-        (λ f t s. let a = times-append t v.mine (task ∷ []) in omega (arith, a, s))
-        (λ f t r. inl r)
-        (λ t d. o.valid t (omega (arith, d))))
+      (λ f t s. let a = times-append t v.mine (task ∷ []) in omega (arith, a, s))
+      (λ f t r. inl r)
+      (λ t d. o.valid t (omega (arith, d))))
 
   -- and so does one that found the task claimed
   pub owed_gone : (v w : View V) (task : ℕ) (due : List ℕ) (starved : Bool) → w ≡ with_gone v task → IsOwed es n workers k v (task ∷ due) starved → IsOwed es n workers k w due starved
   owed_gone v w task due starved e o = subst (λ u. IsOwed es n workers k u due starved) (sym e)
       (owed_step v (with_gone v task) (task ∷ due) due starved starved o (λ f. f)
-        (λ f t s. let a = times-append t v.gone (task ∷ []) in omega (arith, a, s))
-        (λ f t r. inl r)
-        (λ t d. o.valid t (omega (arith, d))))
+      (λ f t s. let a = times-append t v.gone (task ∷ []) in omega (arith, a, s))
+      (λ f t r. inl r)
+      (λ t d. o.valid t (omega (arith, d))))
 
   -- a task that was not due
   pub owed_mine_else : (v w : View V) (task : ℕ) (due : List ℕ) (starved : Bool) → w ≡ with_mine v task → IsOwed es n workers k v due starved → IsOwed es n workers k w due starved
   owed_mine_else v w task due starved e o = subst (λ u. IsOwed es n workers k u due starved) (sym e)
       (owed_step v (with_mine v task) due due starved starved o (λ f. f)
-        (λ f t s. let a = times-append t v.mine (task ∷ []) in omega (arith, a, s))
-        (λ f t r. inl r)
-        o.valid)
+      (λ f t s. let a = times-append t v.mine (task ∷ []) in omega (arith, a, s))
+      (λ f t r. inl r)
+      o.valid)
 
   pub owed_gone_else : (v w : View V) (task : ℕ) (due : List ℕ) (starved : Bool) → w ≡ with_gone v task → IsOwed es n workers k v due starved → IsOwed es n workers k w due starved
   owed_gone_else v w task due starved e o = subst (λ u. IsOwed es n workers k u due starved) (sym e)
       (owed_step v (with_gone v task) due due starved starved o (λ f. f)
-        (λ f t s. let a = times-append t v.gone (task ∷ []) in omega (arith, a, s))
-        (λ f t r. inl r)
-        o.valid)
+      (λ f t s. let a = times-append t v.gone (task ∷ []) in omega (arith, a, s))
+      (λ f t r. inl r)
+      o.valid)
 
   -- where memory was refused, nothing is owed but that what is due is due rightly
   pub owed_starved : (v : View V) (due due' : List ℕ) (starved : Bool) → ((t : ℕ) → times t due' ≤ times t due) → IsOwed es n workers k v due starved → IsOwed es n workers k v due' true
@@ -84,17 +84,17 @@ module _ {V : Type 0} (es : List Edge) (n workers k : ℕ) where
       → IsOwed es n workers k v due starved → IsOwed es n workers k w due' starved'
   owed_ready v w edge task due due' starved starved' e lt noted most o = subst (λ u. IsOwed es n workers k u due' starved') (sym e)
       (owed_step v (with_ready (with_paid v edge) task) due due' starved starved' o (λ f. (noted f).0)
-        (λ f t s. let a = (noted f).1 t in omega (arith, a, s))
-        (λ f t r. let a = (noted f).1 t in let b = times-append t v.ready (task ∷ []) in dite (ℕ_discrete (times t v.ready) 0) (λ z. inr (omega (arith, a, b, r, z))) (λ p. inl (omega arith)))
-        (λ t d. let b = times-append t v.ready (task ∷ []) in dite (ℕ_discrete task t)
-          (λ q. (subst (λ x. x < n) q lt, λ some. let h = times_here t task [] q in omega (arith, b, h)))
-          (λ ne. let h = times_else t task [] ne in let m = most t in let r = o.valid t (omega (arith, h, m, d)) in (r.0, λ some. let s = r.1 some in omega (arith, b, s)))))
+      (λ f t s. let a = (noted f).1 t in omega (arith, a, s))
+      (λ f t r. let a = (noted f).1 t in let b = times-append t v.ready (task ∷ []) in dite (ℕ_discrete (times t v.ready) 0) (λ z. inr (omega (arith, a, b, r, z))) (λ p. inl (omega arith)))
+      (λ t d. let b = times-append t v.ready (task ∷ []) in dite (ℕ_discrete task t)
+      (λ q. (subst (λ x. x < n) q lt, λ some. let h = times_here t task [] q in omega (arith, b, h)))
+      (λ ne. let h = times_else t task [] ne in let m = most t in let r = o.valid t (omega (arith, h, m, d)) in (r.0, λ some. let s = r.1 some in omega (arith, b, s)))))
 
   -- the task that was popped is still due
   pub owed_popped : (v : View V) (due rest : List ℕ) (task : ℕ) (starved : Bool) → due ≡ rest ++ task ∷ [] → IsOwed es n workers k v due starved → IsOwed es n workers k v (task ∷ rest) starved
   owed_popped v due rest task starved e o = owed_step v v due (task ∷ rest) starved starved o (λ f. f) (λ f t s. let a = same t in omega (arith, a, s)) (λ f t r. inl r) (λ t d. o.valid t (let a = same t in omega (arith, a, d)))
     where
-    same : (t : ℕ) → times t due ≡ times t (task ∷ rest)
-    same t = let a = ap (times t) e ∙ times-append t rest (task ∷ []) in dite (ℕ_discrete task t)
-        (λ q. let b = times_here t task [] q in let c = times_here t task rest q in omega (arith, a, b, c))
-        (λ ne. let b = times_else t task [] ne in let c = times_else t task rest ne in omega (arith, a, b, c))
+      same : (t : ℕ) → times t due ≡ times t (task ∷ rest)
+      same t = let a = ap (times t) e ∙ times-append t rest (task ∷ []) in dite (ℕ_discrete task t)
+          (λ q. let b = times_here t task [] q in let c = times_here t task rest q in omega (arith, a, b, c))
+          (λ ne. let b = times_else t task [] ne in let c = times_else t task rest ne in omega (arith, a, b, c))

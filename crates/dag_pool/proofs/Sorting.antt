@@ -1,10 +1,9 @@
 -- Outputs that are put into the slots of their tasks, one after another.
-use Rattle.std.proofs.Common.{◌≡◌, ◌≢◌, ℕ, zero, suc, ◌+◌, ◌<◌, Bool, true, false, cond, eqb, List, [], ◌∷◌, ◌++◌, length, All, get_or, set, replicate, Option, Some, None, Result, Ok, Err, IfOk, sym, refl, ap, ◌∙◌, subst, inl, inr, ⊎_elim, ◌⊎◌, ◌≤◌, eq-eqb, ne_eqb, length-set, length-append, get_or-set_same, get_or-set_other, arith}
-use mathlib.Core.Logic.{dite}
+use Rattle.std.proofs.Common.{◌≡◌, ◌≢◌, ℕ, zero, suc, ◌+◌, ◌<◌, cond, eqb, List, [], ◌∷◌, ◌++◌, length, All, get_or, set, replicate, Option, Some, None, Result, Ok, Err, IfOk, sym, refl, ap, ◌∙◌, subst, inl, inr, ⊎_elim, ◌⊎◌, ◌≤◌, ne_eqb, length-set, length-append, get_or-set_same, get_or-set_other, arith}
 use native.Mathlib.Decide.{ℕ_discrete}
 use Rattle.std.specs.Prelude.{slice_get, is_some}
-use Rattle.std.proofs.lemmas.Option.{slice_get-get_or, slice_get_within, same_Some, get_or_from_slice_get, slice_get_read}
-use Rattle.std.proofs.lemmas.List.{length-replicate, get_or-replicate, ext_get_or, same_lists}
+use Rattle.std.proofs.lemmas.Option.{slice_get-get_or, same_Some, get_or_from_slice_get, slice_get_read}
+use Rattle.std.proofs.lemmas.List.{length-replicate, same_lists}
 use Rattle.std.proofs.lemmas.List.Elements.{All-pop}
 use Rattle.dag_pool.specs.Outputs.{times_in, AreOutputs}
 
@@ -44,44 +43,45 @@ module _ {O : Type 0} where
     right = λ os len are. (are, λ t o e. absurd (empty n t o e));
   }
     where
-    empty : (n t : ℕ) (o : O) → get_or (replicate n None) t None ≡ Some o → ⊥
-    empty zero t o e = cc
-    empty (suc n) zero o e = cc
-    empty (suc n) (suc t) o e = empty n t o e
+      empty : (n t : ℕ) (o : O) → get_or (replicate n None) t None ≡ Some o → ⊥
+      empty zero t o e = cc
+      empty (suc n) zero o e = cc
+      empty (suc n) (suc t) o e = empty n t o e
 
   pub sorts_more : (n : ℕ) (all before pairs : List (ℕ × O)) (slots : List (Option O)) (t : ℕ) (o : O) → before ≡ pairs ++ (t, o) ∷ [] → Sorts n all before slots → Sorts n all pairs (set slots t (Some o))
   sorts_more n all before pairs slots t o e s = record {
-      size = length-set slots t (Some o) ∙ s.size;
-      inside = (All_last (λ p. p.0 < n) pairs (t, o) inside).0;
-      there = λ u lt. elim (ℕ_discrete t u) [
-        yes q ↦ let z : get_or (set slots t (Some o)) u None ≡ Some o = subst (λ k. get_or (set slots t (Some o)) k None ≡ Some o) q here in
-            let f : filled (set slots t (Some o)) u ≡ 1 = ap (λ (x : Option O). cond (is_some x) 1 0) z in omega arith
-        | no ne ↦ let z = get_or-set_other slots t u (Some o) None (λ q. ne (sym q)) in
-            let f : filled (set slots t (Some o)) u ≡ filled slots u = ap (λ (x : Option O). cond (is_some x) 1 0) z in
-            let h = subst (λ l. 0 < times_in u l + filled slots u) e (s.there u lt) in
-            let c : times_in u ((t, o) ∷ []) ≡ 0 = ap (λ b. cond b 1 0 + 0) (ne_eqb t u ne) in
-            omega (arith, h, times_in-append u pairs ((t, o) ∷ []), f, c)
-      ];
-      right = λ os len are.
+    size = length-set slots t (Some o) ∙ s.size;
+    inside = (All_last (λ p. p.0 < n) pairs (t, o) inside).0;
+    there = λ u lt. elim (ℕ_discrete t u) [
+      | yes q ↦ let z : get_or (set slots t (Some o)) u None ≡ Some o = subst (λ k. get_or (set slots t (Some o)) k None ≡ Some o) q here in
+          let f : filled (set slots t (Some o)) u ≡ 1 = ap (λ (x : Option O). cond (is_some x) 1 0) z in omega arith
+      | no ne ↦ let z = get_or-set_other slots t u (Some o) None (λ q. ne (sym q)) in
+          let f : filled (set slots t (Some o)) u ≡ filled slots u = ap (λ (x : Option O). cond (is_some x) 1 0) z in
+          let h = subst (λ l. 0 < times_in u l + filled slots u) e (s.there u lt) in
+          let c : times_in u ((t, o) ∷ []) ≡ 0 = ap (λ b. cond b 1 0 + 0) (ne_eqb t u ne) in
+          omega (arith, h, times_in-append u pairs ((t, o) ∷ []), f, c)
+    ];
+    right = λ os len are.
         let r = s.right os len are in
-        let both : AreOutputs os (pairs ++ (t, o) ∷ []) = subst (AreOutputs os) e r.0 in
-        (
+        let both : AreOutputs os (pairs ++ (t, o) ∷ []) = subst (AreOutputs os) e r.0 in (
           (All_last (λ p. slice_get os p.0 ≡ Some p.1) pairs (t, o) both).0,
           λ u x at. elim (ℕ_discrete t u) [
-            yes q ↦ let z : get_or (set slots t (Some o)) u None ≡ Some o = subst (λ k. get_or (set slots t (Some o)) k None ≡ Some o) q here in
+            | yes q ↦ let z : get_or (set slots t (Some o)) u None ≡ Some o = subst (λ k. get_or (set slots t (Some o)) k None ≡ Some o) q here in
                 let w : slice_get os t ≡ Some o = (All_last (λ p. slice_get os p.0 ≡ Some p.1) pairs (t, o) both).1 in
                 subst (λ k. slice_get os k ≡ Some x) q (w ∙ (sym z ∙ at))
             | no ne ↦ r.1 u x (sym (get_or-set_other slots t u (Some o) None (λ q. ne (sym q))) ∙ at)
           ],
         );
-    }
+  }
     where
-    inside : All (λ (p : ℕ × O). p.0 < n) (pairs ++ (t, o) ∷ [])
-    inside = subst (All (λ (p : ℕ × O). p.0 < n)) e s.inside
-    below : t < length slots
-    below = let b : t < n = (All_last (λ p. p.0 < n) pairs (t, o) inside).1 in let z = s.size in omega arith
-    here : get_or (set slots t (Some o)) t None ≡ Some o
-    here = get_or-set_same slots t (Some o) None below
+      inside : All (λ (p : ℕ × O). p.0 < n) (pairs ++ (t, o) ∷ [])
+      inside = subst (All (λ (p : ℕ × O). p.0 < n)) e s.inside
+
+      below : t < length slots
+      below = let b : t < n = (All_last (λ p. p.0 < n) pairs (t, o) inside).1 in let z = s.size in omega arith
+
+      here : get_or (set slots t (Some o)) t None ≡ Some o
+      here = get_or-set_same slots t (Some o) None below
 
   filled_some : (slots : List (Option O)) (t : ℕ) → t < length slots → 0 < filled slots t → (o : O) × (slice_get slots t ≡ Some (Some o))
   filled_some [] t lt h = absurd (omega arith)
@@ -98,8 +98,8 @@ module _ {O : Type 0} where
       → ((t : ℕ) (o : O) → slice_get sorted t ≡ Some o → slice_get slots t ≡ Some (Some o)) → length os ≡ n → AreOutputs os all → sorted ≡ os
   sorts_all n all slots sorted os s len same size are = same_lists sorted os (len ∙ (s.size ∙ sym size))
       (λ k d lt. let x : O = get_or sorted k d in
-          let at = same k x (slice_get-get_or sorted k d lt) in
-          sym (get_or_from_slice_get os k x d ((s.right os size are).1 k x (get_or_from_slice_get slots k (Some x) None at))))
+      let at = same k x (slice_get-get_or sorted k d lt) in
+      sym (get_or_from_slice_get os k x d ((s.right os size are).1 k x (get_or_from_slice_get slots k (Some x) None at))))
 
 -- the slots before `place` were emptied in turn, and what stood in them is the outputs
 pub record Empties {O : Type 0} (all slots : List (Option O)) (place : ℕ) (outputs : List O) : Type 0 where

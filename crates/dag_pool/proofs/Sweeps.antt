@@ -1,6 +1,5 @@
 -- The closing pass.
-use Rattle.std.proofs.Common.{◌≡◌, ◌≢◌, ℕ, zero, suc, ◌+◌, ◌-◌, ◌<◌, ◌≤◌, Bool, true, false, List, [], ◌∷◌, ◌++◌, length, sym, refl, ap, ◌∙◌, subst, inl, inr, ⊎_elim, ◌⊎◌, mod-lt, get_or, All, arith}
-use Rattle.std.specs.Prelude.{slice_get}
+use Rattle.std.proofs.Common.{◌≡◌, ℕ, ◌+◌, ◌-◌, ◌<◌, ◌≤◌, Bool, false, List, [], ◌∷◌, length, refl, ap, ◌∙◌, subst, mod-lt, get_or, All, arith}
 use Rattle.std.proofs.lemmas.Option.{slice_get_within}
 use Rattle.dag_pool.specs.Outputs.{AreOutputs}
 use mathlib.Core.Logic.{dite}
@@ -8,12 +7,12 @@ use native.Mathlib.Decide.{ℕ_discrete}
 use Rattle.dag_core.specs.declared.plan.Edge.{Edge}
 use Rattle.dag_core.specs.Places.{times}
 use Rattle.dag_core.specs.Values.{source, target, places_to, count_in}
-use Rattle.dag_core.proofs.Places.{times_here, times_else, times-append}
+use Rattle.dag_core.proofs.Places.{times_here, times-append}
 use Rattle.dag_core.proofs.Fixed.{to_target}
 use Rattle.steal_board.specs.declared.view.View.{View}
 use Rattle.steal_board.specs.Views.{with_mine, with_gone}
 use Rattle.steal_board.specs.Rule.{total, owing}
-use Rattle.dag_pool.specs.Work.{IsClean, IsLeft, NoneLeft, HasAll, dealt_to, sources_below}
+use Rattle.dag_pool.specs.Work.{IsClean, IsLeft, NoneLeft, HasAll, sources_below}
 
 total_none : (f : ℕ → ℕ) (ps : List ℕ) → ((e : ℕ) → 0 < times e ps → f e ≡ 0) → total f ps ≡ 0
 total_none f [] none = refl

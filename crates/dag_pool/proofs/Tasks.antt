@@ -1,5 +1,5 @@
 -- One task: its inputs are taken, its edges are paid, and its output stands.
-use Rattle.std.proofs.Common.{◌≡◌, ◌≢◌, ℕ, zero, suc, ◌+◌, ◌<◌, ◌≤◌, Bool, true, false, List, [], ◌∷◌, ◌++◌, length, get_or, take, drop, Option, Some, None, sym, refl, ap, ◌∙◌, subst, append_assoc, cond, eqb, arith, All}
+use Rattle.std.proofs.Common.{◌≡◌, ℕ, zero, suc, ◌+◌, ◌<◌, ◌≤◌, List, [], ◌∷◌, ◌++◌, length, get_or, take, drop, Option, Some, sym, refl, ap, ◌∙◌, subst, append_assoc, cond, eqb, arith}
 use mathlib.Core.Logic.{dite}
 use native.Mathlib.Decide.{ℕ_discrete}
 use Rattle.std.specs.Prelude.{slice_get, reverse}
@@ -8,13 +8,13 @@ use Rattle.std.proofs.lemmas.List.{take_more, reverse-append}
 use Rattle.std.proofs.lemmas.List.Elements.{All-append}
 use Rattle.dag_core.specs.declared.plan.Edge.{Edge}
 use Rattle.dag_core.specs.Places.{times}
-use Rattle.dag_core.specs.Values.{source, target, places_to, places_from, count_in, value_of, values_at}
+use Rattle.dag_core.specs.Values.{source, target, places_to, places_from, value_of, values_at}
 use Rattle.dag_core.proofs.Places.{times_here, times_else, times-append, times_at}
 use Rattle.dag_core.proofs.Fixed.{from_source, source_from, to_target, target_to, to_once, from_once, not_to, not_from}
 use Rattle.steal_board.specs.declared.view.View.{View}
-use Rattle.steal_board.specs.Views.{with_mine, with_ready, with_paid, with_taken}
+use Rattle.steal_board.specs.Views.{with_ready, with_paid, with_taken}
 use Rattle.dag_pool.specs.Outputs.{AreOutputs, times_in}
-use Rattle.dag_pool.specs.Work.{Took, Paid, IsClean, Brings, IsSound, IsBegun}
+use Rattle.dag_pool.specs.Work.{Took, Paid, IsSound, IsBegun}
 
 -- the i-th place of a list without repetition
 pub record IsPlace (places : List ℕ) (i p : ℕ) : Type 0 where
@@ -55,11 +55,11 @@ place_from es task places i e lt =
 pub popped : {V : Type 0} (rest left values : List V) (value : V) (i : ℕ) → rest ≡ left ++ value ∷ [] → reverse rest ≡ drop i values → (slice_get values i ≡ Some value) × (reverse left ≡ drop (i + 1) values)
 popped {V} rest left values value i e r = next values i (sym (sym (reverse-append left (value ∷ [])) ∙ (ap reverse (sym e) ∙ r)))
   where
-  next : (vs : List V) (k : ℕ) → drop k vs ≡ value ∷ reverse left → (slice_get vs k ≡ Some value) × (reverse left ≡ drop (k + 1) vs)
-  next [] zero h = cc
-  next [] (suc k) h = cc
-  next (v ∷ vs) zero h = (cc, cc)
-  next (v ∷ vs) (suc k) h = let z : suc (k + 1) ≡ suc k + 1 = omega arith in let r = next vs k h in (r.0, r.1 ∙ ap (λ m. drop m (v ∷ vs)) z)
+    next : (vs : List V) (k : ℕ) → drop k vs ≡ value ∷ reverse left → (slice_get vs k ≡ Some value) × (reverse left ≡ drop (k + 1) vs)
+    next [] zero h = cc
+    next [] (suc k) h = cc
+    next (v ∷ vs) zero h = (cc, cc)
+    next (v ∷ vs) (suc k) h = let z : suc (k + 1) ≡ suc k + 1 = omega arith in let r = next vs k h in (r.0, r.1 ∙ ap (λ m. drop m (v ∷ vs)) z)
 
 module _ {V : Type 0} where
   pub took_none : (v : View V) (places : List ℕ) → Took v (take 0 places) v
@@ -92,9 +92,9 @@ module _ {V : Type 0} where
       → values_at vals (take (i + 1) places) ≡ values_at vals (take i places) ++ value ∷ []
   values_more vals places i p value lt at e = ap (values_at vals) (take_more places i 0 lt) ∙ (snoc (take i places) (get_or places i 0) ∙ ap (λ o. values_at vals (take i places) ++ (option_to_list o ++ [])) (ap (value_of vals) at ∙ e))
     where
-    snoc : (ps : List ℕ) (q : ℕ) → values_at vals (ps ++ q ∷ []) ≡ values_at vals ps ++ (option_to_list (value_of vals q) ++ [])
-    snoc [] q = refl
-    snoc (x ∷ xs) q = ap (λ l. option_to_list (value_of vals x) ++ l) (snoc xs q) ∙ sym (append_assoc (option_to_list (value_of vals x)) (values_at vals xs) (option_to_list (value_of vals q) ++ []))
+      snoc : (ps : List ℕ) (q : ℕ) → values_at vals (ps ++ q ∷ []) ≡ values_at vals ps ++ (option_to_list (value_of vals q) ++ [])
+      snoc [] q = refl
+      snoc (x ∷ xs) q = ap (λ l. option_to_list (value_of vals x) ++ l) (snoc xs q) ∙ sym (append_assoc (option_to_list (value_of vals x)) (values_at vals xs) (option_to_list (value_of vals q) ++ []))
 
   -- what was claimed just now has taken nothing and paid nothing
   pub begun_untaken : {O : Type 0} (es : List Edge) (n : ℕ) (os : List O) (task : ℕ) (v : View V) (ps : List (ℕ × O)) → IsBegun es n os task v ps → (e : ℕ) → e < length es → target es e ≡ task → times e v.taken ≡ 0
@@ -110,33 +110,35 @@ module _ {V : Type 0} where
   pub sound_next : {O : Type 0} (es : List Edge) (n : ℕ) (os : List O) (task : ℕ) (v w x : View V) (ps : List (ℕ × O)) (o : O) → task < n → IsBegun es n os task v ps
       → Took v (places_to es task) w → Paid w (places_from es task) x → slice_get os task ≡ Some o → IsSound es n os x (ps ++ (task, o) ∷ [])
   sound_next {O} es n os task v w x ps o lt b took paid right = record {
-      clean = record {
-        paid = λ e le. let a = paid.counts e in let t = ap (λ (u : View V). times e u.paid) took.same in let c = ap (λ (u : View V). times e u.paid) b.claimed in let old = b.sound.clean.paid e le in let m = mine (source es e) in
-            let same : times e (places_from es task) ≡ times (source es e) (task ∷ []) = dite (ℕ_discrete task (source es e))
-              (λ q. subst (λ k. times e (places_from es k) ≡ times (source es e) (k ∷ [])) (sym q) (source_from es e le ∙ sym (times_here (source es e) (source es e) [] refl)))
-              (λ ne. not_from es task e (λ q. ne (sym q)) ∙ sym (times_else (source es e) task [] ne)) in
-            omega (arith, a, t, c, old, m, same);
-        taken = λ e le. let a = took.counts e in let t = ap (λ (u : View V). times e u.taken) paid.same in let c = ap (λ (u : View V). times e u.taken) b.claimed in let old = b.sound.clean.taken e le in let m = mine (target es e) in
-            let same : times e (places_to es task) ≡ times (target es e) (task ∷ []) = dite (ℕ_discrete task (target es e))
-              (λ q. subst (λ k. times e (places_to es k) ≡ times (target es e) (k ∷ [])) (sym q) (target_to es e le ∙ sym (times_here (target es e) (target es e) [] refl)))
-              (λ ne. not_to es task e (λ q. ne (sym q)) ∙ sym (times_else (target es e) task [] ne)) in
-            omega (arith, a, t, c, old, m, same);
-      };
-      brings = record {
-        right = All-append (λ (pair : ℕ × O). slice_get os pair.0 ≡ Some pair.1) ps ((task, o) ∷ []) b.sound.brings.right (one right);
-        all = λ t. let old = b.sound.brings.all t in let m = mine t in let a = times_in-append t ps ((task, o) ∷ []) in omega (arith, old, m, a);
-      };
-      once = λ t. let m = mine t in let old = b.sound.once t in dite (ℕ_discrete task t)
+    clean = record {
+      paid = λ e le. let a = paid.counts e in let t = ap (λ (u : View V). times e u.paid) took.same in let c = ap (λ (u : View V). times e u.paid) b.claimed in let old = b.sound.clean.paid e le in let m = mine (source es e) in
+          let same : times e (places_from es task) ≡ times (source es e) (task ∷ []) = dite (ℕ_discrete task (source es e))
+          (λ q. subst (λ k. times e (places_from es k) ≡ times (source es e) (k ∷ [])) (sym q) (source_from es e le ∙ sym (times_here (source es e) (source es e) [] refl)))
+          (λ ne. not_from es task e (λ q. ne (sym q)) ∙ sym (times_else (source es e) task [] ne)) in
+          omega (arith, a, t, c, old, m, same);
+      taken = λ e le. let a = took.counts e in let t = ap (λ (u : View V). times e u.taken) paid.same in let c = ap (λ (u : View V). times e u.taken) b.claimed in let old = b.sound.clean.taken e le in let m = mine (target es e) in
+          let same : times e (places_to es task) ≡ times (target es e) (task ∷ []) = dite (ℕ_discrete task (target es e))
+          (λ q. subst (λ k. times e (places_to es k) ≡ times (target es e) (k ∷ [])) (sym q) (target_to es e le ∙ sym (times_here (target es e) (target es e) [] refl)))
+          (λ ne. not_to es task e (λ q. ne (sym q)) ∙ sym (times_else (target es e) task [] ne)) in
+          omega (arith, a, t, c, old, m, same);
+    };
+    brings = record {
+      right = All-append (λ (pair : ℕ × O). slice_get os pair.0 ≡ Some pair.1) ps ((task, o) ∷ []) b.sound.brings.right (one right);
+      all = λ t. let old = b.sound.brings.all t in let m = mine t in let a = times_in-append t ps ((task, o) ∷ []) in omega (arith, old, m, a);
+    };
+    once = λ t. let m = mine t in let old = b.sound.once t in dite (ℕ_discrete task t)
         (λ q. let h = times_here t task [] q in let f = subst (λ k. times k b.before.mine ≡ 0) q b.fresh in omega (arith, m, h, f))
         (λ ne. let h = times_else t task [] ne in omega (arith, m, h, old));
-      inside = λ t le. let m = mine t in let old = b.sound.inside t le in let h = times_else t task [] (λ q. omega arith) in omega (arith, m, old, h);
-    }
+    inside = λ t le. let m = mine t in let old = b.sound.inside t le in let h = times_else t task [] (λ q. omega arith) in omega (arith, m, old, h);
+  }
     where
-    mine : (t : ℕ) → times t x.mine ≡ times t b.before.mine + times t (task ∷ [])
-    mine t = ap (λ (u : View V). times t u.mine) paid.same ∙ (ap (λ (u : View V). times t u.mine) took.same ∙ (ap (λ (u : View V). times t u.mine) b.claimed ∙ times-append t b.before.mine (task ∷ [])))
-    one : slice_get os task ≡ Some o → AreOutputs os ((task, o) ∷ [])
-    one p zero d h = p
-    one p (suc k) d h = absurd (omega arith)
-    times_in-append : (t : ℕ) (xs bs : List (ℕ × O)) → times_in t (xs ++ bs) ≡ times_in t xs + times_in t bs
-    times_in-append t [] bs = omega arith
-    times_in-append t (a ∷ xs) bs = let h = times_in-append t xs bs in let c : ℕ = cond (eqb a.0 t) 1 0 in let s : times_in t ((a ∷ xs) ++ bs) ≡ c + times_in t (xs ++ bs) = refl in omega arith
+      mine : (t : ℕ) → times t x.mine ≡ times t b.before.mine + times t (task ∷ [])
+      mine t = ap (λ (u : View V). times t u.mine) paid.same ∙ (ap (λ (u : View V). times t u.mine) took.same ∙ (ap (λ (u : View V). times t u.mine) b.claimed ∙ times-append t b.before.mine (task ∷ [])))
+
+      one : slice_get os task ≡ Some o → AreOutputs os ((task, o) ∷ [])
+      one p zero d h = p
+      one p (suc k) d h = absurd (omega arith)
+
+      times_in-append : (t : ℕ) (xs bs : List (ℕ × O)) → times_in t (xs ++ bs) ≡ times_in t xs + times_in t bs
+      times_in-append t [] bs = omega arith
+      times_in-append t (a ∷ xs) bs = let h = times_in-append t xs bs in let c : ℕ = cond (eqb a.0 t) 1 0 in let s : times_in t ((a ∷ xs) ++ bs) ≡ c + times_in t (xs ++ bs) = refl in omega arith

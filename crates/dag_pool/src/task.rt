@@ -122,12 +122,7 @@ fn pay_outputs<J: Job, G>(
 }
 
 // Pays one edge. A task that this makes ready is due.
-fn pay_edge<J: Job, G>(
-    crew: &Crew<'_, J, G>,
-    post: &mut Post<J>,
-    place: u32,
-    value: J::Value,
-)
+fn pay_edge<J: Job, G>(crew: &Crew<'_, J, G>, post: &mut Post<J>, place: u32, value: J::Value)
     requires of { IsOf crew.now.board.now post.old.seat }
     requires place { place < length (plan_of crew.now).edges }
     requires claimed { 0 < times (source (plan_of crew.now).edges place) (view post.old.seat).mine }

@@ -1,6 +1,6 @@
 //! Plans of several shapes, by one thread and by crews.
 
-ghost use Rattle.std.specs.Prelude.{◌≡◌, ℕ, ◌+◌, ◌*◌, ◌-◌, ◌<◌, ◌≤◌, ◌%◌, ◌^◌, length, replicate, slice_get, slice_index, IfOk, Some};
+ghost use Rattle.std.specs.Prelude.{◌≡◌, ℕ, ◌+◌, ◌*◌, ◌-◌, ◌<◌, ◌≤◌, ◌%◌, ◌^◌, length, replicate, slice_get, slice_index, IfOk, Some, count_by, ◌==◌};
 ghost use Rattle.dag_core.specs.Values.{count_in, count_out};
 ghost use Rattle.std.proofs.lemmas.List.{length-replicate};
 
@@ -69,6 +69,13 @@ fn count_to(edges: &[Edge], task: u32) -> u32
     requires { length edges.now < 2 ^ 31 }
     ensures { result ≡ count_in edges.now task }
 {
+    passing_to(edges, task)
+}
+
+fn passing_to(edges: &[Edge], task: u32) -> u32
+    requires { length edges.now < 2 ^ 31 }
+    ensures { result ≡ count_by (λ edge. edge.to == task) edges.now }
+{
     edges.iter().filter(|edge| edge.to == task).count() as u32
 }
 
@@ -76,6 +83,13 @@ fn count_to(edges: &[Edge], task: u32) -> u32
 fn count_from(edges: &[Edge], task: u32) -> u32
     requires { length edges.now < 2 ^ 31 }
     ensures { result ≡ count_out edges.now task }
+{
+    passing_from(edges, task)
+}
+
+fn passing_from(edges: &[Edge], task: u32) -> u32
+    requires { length edges.now < 2 ^ 31 }
+    ensures { result ≡ count_by (λ edge. edge.from == task) edges.now }
 {
     edges.iter().filter(|edge| edge.from == task).count() as u32
 }
@@ -149,11 +163,30 @@ fn a_chain_adds_up(rt: HostRuntime) -> Result<(), Fail> {
     let alloc = rt.alloc();
     let edges = [Edge { from: 0, to: 1 }, Edge { from: 1, to: 2 }];
     let jobs = [
-        Mix { takes: 0, gives: 1, own: 1, factor: 0 },
-        Mix { takes: 1, gives: 1, own: 1, factor: 0 },
-        Mix { takes: 1, gives: 0, own: 1, factor: 0 },
+        Mix {
+            takes: 0,
+            gives: 1,
+            own: 1,
+            factor: 0,
+        },
+        Mix {
+            takes: 1,
+            gives: 1,
+            own: 1,
+            factor: 0,
+        },
+        Mix {
+            takes: 1,
+            gives: 0,
+            own: 1,
+            factor: 0,
+        },
     ];
-    let plan = Plan::new(alloc, Seq::from_slice(alloc, &jobs)?, Seq::from_slice(alloc, &edges)?)?;
+    let plan = Plan::new(
+        alloc,
+        Seq::from_slice(alloc, &jobs)?,
+        Seq::from_slice(alloc, &edges)?,
+    )?;
     gives(&rt, alloc, &plan, 1, &[1, 2, 3])?;
     gives(&rt, alloc, &plan, 2, &[1, 2, 3])?;
     gives(&rt, alloc, &plan, 16, &[1, 2, 3])
@@ -173,8 +206,14 @@ fn crews_agree_with_one_thread(rt: HostRuntime) -> Result<(), Fail> {
         chain.push(Edge { from: to - 1, to })?;
         star.push(Edge { from: 0, to })?;
         if to >= 10 {
-            layers.push(Edge { from: (to / 10 - 1) * 10 + to * 7 % 10, to })?;
-            layers.push(Edge { from: (to / 10 - 1) * 10 + (to * 3 + 1) % 10, to })?;
+            layers.push(Edge {
+                from: (to / 10 - 1) * 10 + to * 7 % 10,
+                to,
+            })?;
+            layers.push(Edge {
+                from: (to / 10 - 1) * 10 + (to * 3 + 1) % 10,
+                to,
+            })?;
         }
     }
     agrees(&rt, alloc, 1000, chain)?;

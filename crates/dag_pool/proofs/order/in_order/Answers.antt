@@ -1,4 +1,4 @@
-use Rattle.std.proofs.Common.{[], sym, subst, arith}
+use Rattle.std.proofs.Common.{sym, subst, arith}
 use Rattle.dag_pool.proofs.Sorting.{Sorts, sorts_none, sorts_more, sorts_full, sorts_all, nil_of, if_both}
 use Rattle.dag_pool.proofs.order.in_order.Goals as goal
 

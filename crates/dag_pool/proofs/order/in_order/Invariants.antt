@@ -1,4 +1,4 @@
-use Rattle.std.proofs.Common.{◌≡◌, length}
+use Rattle.std.proofs.Common.{length}
 use Rattle.dag_pool.proofs.Sorting.{Sorts}
 use Rattle.dag_pool.proofs.order.in_order.Given as goal
 

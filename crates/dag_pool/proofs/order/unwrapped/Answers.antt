@@ -1,7 +1,7 @@
-use Rattle.std.proofs.Common.{arith, subst, sym, ap, ◌∙◌, rules, ◌≡◌, ◌+◌, Some, None, set}
+use Rattle.std.proofs.Common.{arith, subst, sym, ap, ◌∙◌, ◌≡◌, ◌+◌, Some, None, set}
 use Rattle.std.specs.Prelude.{slice_get}
 use Rattle.std.proofs.lemmas.Option.{same_Some}
-use Rattle.dag_pool.proofs.Sorting.{Empties, stood, empties_none, empties_more}
+use Rattle.dag_pool.proofs.Sorting.{Empties, stood, empties_more}
 use Rattle.dag_pool.proofs.order.unwrapped.Goals as goal
 
 pub unreachable-requires : goal.unreachable-requires
@@ -20,7 +20,7 @@ loop-place-preserved g c =
     let at = was ∙ ap Some (sym c.in-Some.ensures.value) in
     let next = empties_more c.args.slots.items c.loop-place.slots.items c.loop-place.place c.loop-place.outputs.items c.in-Some.output c.loop-place.invariant at in
     subst (λ x. Empties c.args.slots.items (set c.loop-place.slots.items c.loop-place.place x) (c.loop-place.place + 1) c.push.new.self.items) (sym c.take.ensures.after)
-      (subst (λ l. Empties c.args.slots.items (set c.loop-place.slots.items c.loop-place.place None) (c.loop-place.place + 1) l) (sym c.in_ok-push.ensures.items) next)
+    (subst (λ l. Empties c.args.slots.items (set c.loop-place.slots.items c.loop-place.place None) (c.loop-place.place + 1) l) (sym c.in_ok-push.ensures.items) next)
 
 pub returns-clause-same : goal.returns-clause-same
 returns-clause-same g c = λ place output at. c.loop-place.invariant.same place output (subst (λ l. slice_get l place ≡ Some output) c.from_vec.ensures at)

@@ -1,14 +1,13 @@
-use Rattle.std.proofs.Common.{◌≡◌, ◌<◌, ap, sym, subst, refl, ◌∙◌, arith, get_or, length, Some, ◌++◌, ◌∷◌, []}
+use Rattle.std.proofs.Common.{◌≡◌, ◌<◌, ap, sym, subst, ◌∙◌, arith, length, Some, ◌++◌, ◌∷◌, []}
 use Rattle.std.specs.Prelude.{slice_get}
 use Rattle.std.proofs.lemmas.Option.{slice_get_within}
 use Rattle.dag_core.specs.Places.{times}
-use Rattle.dag_core.specs.Values.{places_to, places_from}
 use Rattle.dag_core.specs.Plans.{plan_outputs}
 use Rattle.dag_core.proofs.Fixed.{inputs_fit, values_fit, task_value, task_output}
 use Rattle.dag_core.proofs.PlanFacts.{is_plan}
 use Rattle.steal_board.specs.Boards.{view}
 use Rattle.dag_pool.specs.Work.{IsSound}
-use Rattle.dag_pool.specs.Crews.{plan_of, IsGood, Owes}
+use Rattle.dag_pool.specs.Crews.{plan_of}
 use Rattle.dag_pool.proofs.Tasks.{begun_mine, begun_untaken, begun_unpaid, sound_next}
 use Rattle.dag_pool.proofs.Owing.{owed_took}
 use Rattle.dag_pool.proofs.task.execute.Goals as goal
@@ -41,8 +40,8 @@ pay_outputs-requires-clause-values g c =
     let given = c.in_ok-output.ensures.values ∙ ap (g.J.Job.values c.job.result.now) c.in_ok-inputs.ensures.inputs in
     let many = ap length given ∙ values_fit g.J.Job.output g.J.Job.values g.J.Job.takes g.J.Job.gives plan.edges plan.jobs (is_plan plan g.met.J.Job.sized) c.args.task c.job.result.now c.job.ensures in
     λ m value at. task_value g.J.Job.output g.J.Job.values g.J.Job.takes g.J.Job.gives plan.edges plan.jobs (is_plan plan g.met.J.Job.sized) c.args.task c.job.result.now c.job.ensures m value
-      (let inside = slice_get_within c.in_ok-output.values m value at in omega (arith, many, inside))
-      (subst (λ l. slice_get l m ≡ Some value) given at)
+    (let inside = slice_get_within c.in_ok-output.values m value at in omega (arith, many, inside))
+    (subst (λ l. slice_get l m ≡ Some value) given at)
 
 pub returns-clause-good : goal.returns-clause-good
 returns-clause-good g c =

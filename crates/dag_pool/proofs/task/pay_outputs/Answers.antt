@@ -1,10 +1,10 @@
-use Rattle.std.proofs.Common.{◌≡◌, ◌<◌, ap, sym, subst, refl, ◌∙◌, arith, get_or, Some}
+use Rattle.std.proofs.Common.{◌≡◌, ◌<◌, sym, subst, refl, ◌∙◌, arith, get_or, Some}
 use Rattle.dag_core.specs.Places.{times}
 use Rattle.dag_core.specs.Values.{value_of}
 use Rattle.dag_core.specs.Plans.{plan_values}
 use Rattle.steal_board.specs.Boards.{view}
 use Rattle.dag_pool.specs.Crews.{plan_of}
-use Rattle.dag_pool.proofs.Tasks.{place_from, paid_none, paid_more, popped}
+use Rattle.dag_pool.proofs.Tasks.{place_from, paid_more, popped}
 use Rattle.dag_pool.proofs.task.pay_outputs.Goals as goal
 
 pub pay_edge-requires-clause-place : goal.pay_edge-requires-clause-place

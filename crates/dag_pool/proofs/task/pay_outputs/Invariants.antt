@@ -2,7 +2,7 @@ use Rattle.std.proofs.Common.{◌≡◌, ℕ, take, drop}
 use Rattle.std.specs.Prelude.{reverse}
 use Rattle.steal_board.specs.Boards.{view, IsOf}
 use Rattle.dag_pool.specs.Work.{Paid}
-use Rattle.dag_pool.specs.Crews.{plan_of, Owes}
+use Rattle.dag_pool.specs.Crews.{Owes}
 use Rattle.dag_pool.proofs.task.pay_outputs.Given as goal
 
 abbrev pub invariant-loop-place : goal.invariant-loop-place

@@ -1,9 +1,7 @@
 use Rattle.std.proofs.Common.{◌<◌, ap, sym, subst, ◌∙◌, arith, get_or, refl, ◌++◌, ◌∷◌, []}
 use Rattle.dag_core.specs.Places.{times}
-use Rattle.dag_core.specs.Values.{values_at, places_to}
 use Rattle.dag_core.specs.Plans.{plan_values}
 use Rattle.steal_board.specs.Boards.{view}
-use Rattle.dag_pool.specs.Work.{Took}
 use Rattle.dag_pool.specs.Crews.{plan_of}
 use Rattle.dag_pool.proofs.Tasks.{place_into, took_none, took_more, values_more}
 use Rattle.dag_pool.proofs.task.take_inputs.Goals as goal
@@ -35,5 +33,5 @@ loop-place-preserved g c =
       of = c.take_input-value.ensures.of;
       took = took_more _ _ _ places c.loop-place.place-index _ c.loop-place-test.true refl c.take_input-value.ensures.view c.loop-place.invariant.took;
       inputs = c.in_ok-push.ensures.items ∙ (ap (λ l. l ++ c.take_input-value.result ∷ []) c.loop-place.invariant.inputs
-        ∙ sym (values_more (plan_values (plan_of c.args.crew.now)) places c.loop-place.place-index (get_or places c.loop-place.place-index 0) c.take_input-value.result c.loop-place-test.true refl c.take_input-value.ensures.value));
+          ∙ sym (values_more (plan_values (plan_of c.args.crew.now)) places c.loop-place.place-index (get_or places c.loop-place.place-index 0) c.take_input-value.result c.loop-place-test.true refl c.take_input-value.ensures.value));
     }

@@ -1,4 +1,4 @@
-use Rattle.std.proofs.Common.{◌≡◌, ◌≤◌, length}
+use Rattle.std.proofs.Common.{◌≡◌, ◌≤◌}
 use Rattle.steal_board.specs.Boards.{view}
 use Rattle.dag_pool.specs.Work.{IsOwed, sources_below}
 use Rattle.dag_pool.specs.Crews.{plan_of}

@@ -11,7 +11,7 @@ returns-clause-worked g c =
     record {
       of = c.run_turns.ensures.kept.of;
       left = λ found. elim c.match-run_turns.branch [
-        in-Ok w ↦ left_one plan.edges (length plan.jobs) c.args.self.now.workers (plan_outputs plan) c.args.number _ _ _ w.in-Ok.ensures.good.sound w.in-Ok.ensures.owed
+        | in-Ok w ↦ left_one plan.edges (length plan.jobs) c.args.self.now.workers (plan_outputs plan) c.args.number _ _ _ w.in-Ok.ensures.good.sound w.in-Ok.ensures.owed
         | in-Err w ↦ absurd (true≢false (sym w.lost-is ∙ found))
       ];
     }
