@@ -1,0 +1,5 @@
+pub mod Places
+pub mod Listed
+pub mod Fixed
+pub mod Plain
+pub mod PlanFacts

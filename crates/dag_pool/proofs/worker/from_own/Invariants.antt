@@ -1,0 +1,11 @@
+use Rattle.std.proofs.Common.{◌≡◌, length}
+use Rattle.steal_board.specs.Boards.{view}
+use Rattle.dag_pool.specs.Crews.{IsReady, KeepsSeat}
+use Rattle.dag_pool.proofs.worker.from_own.Given as goal
+
+abbrev pub invariant-loop : goal.invariant-loop
+invariant-loop g l = record {
+  ready : IsReady l.crew l.number l.post;
+  kept : KeepsSeat l.crew l.fn.post l.post;
+  mine : length (view l.post.seat).mine ≡ length (view l.fn.post.seat).mine;
+}

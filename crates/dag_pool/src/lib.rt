@@ -1,0 +1,29 @@
+//! A plan executed by 1 to 16 workers in threads of their own.
+//!
+//! [`run_plan`] goes by a board that was laid over the plan: a worker claims a task on it, takes the task's inputs from it,
+//! runs the job, and pays the values to it. Whatever the number of workers and the order of their steps, the outputs are
+//! those of the plan, each task runs once, and the seat that comes back has claimed every task and paid and taken every edge
+//! once. Tasks go round by decks, one for each worker; what is proved of a run rests on the board alone.
+//! A [`Gate`] is told of each execution.
+//!
+//! No speed is promised: a worker that finds nothing retires for good, so after a narrow place in a plan only those run on
+//! that had something. Nor does any proof say that two workers run at one time.
+#![tactic(auto)]
+
+mod crew;
+mod gate;
+mod kit;
+mod order;
+mod post;
+mod run;
+mod shift;
+mod sweep;
+mod task;
+mod team;
+mod worker;
+
+pub use gate::{Gate, OpenGate};
+pub use run::{PoolRun, run_plan};
+
+#[cfg(test)]
+mod tests;

@@ -1,0 +1,51 @@
+//! Outputs in the order of their tasks.
+
+ghost use Rattle.std.specs.Prelude.{◌≡◌, ℕ, ◌<◌, List, Some, None, length, All, IfOk, slice_get, replicate};
+ghost use Rattle.dag_pool.specs.Outputs.{AreOutputs, times_in};
+
+use std::alloc::Global;
+use wire_bcs::{OutOfMemory, Seq};
+
+/// The outputs that the pairs of a task and its output tell, in the order of the tasks. Each task stands among the pairs.
+pub(crate) fn in_order<O: Drop>(
+    alloc: Global,
+    mut pairs: Vec<(u32, O)>,
+    tasks: u32,
+) -> Result<Seq<O>, OutOfMemory>
+    requires inside { All (λ pair. pair.0 < tasks) pairs.items }
+    requires all { (task : ℕ) → task < tasks → 0 < times_in task pairs.items }
+    ensures { IfOk result (λ sorted. (outputs : List O) → length outputs ≡ tasks → AreOutputs outputs pairs.items → sorted ≡ outputs) }
+{
+    let mut slots = empty_slots(alloc, tasks as usize)?;
+    while let Some((task, output)) = pairs.pop() {
+        slots[task as usize] = Some(output);
+    }
+    unwrapped(alloc, slots)
+}
+
+// So many empty slots.
+fn empty_slots<O: Drop>(alloc: Global, count: usize) -> Result<Vec<Option<O>>, OutOfMemory>
+    ensures { IfOk result (λ slots. slots.items ≡ replicate count None) }
+{
+    let mut slots = Vec::with_capacity(alloc, count)?;
+    for _ in 0..count {
+        slots.push(None)?;
+    }
+    Ok(slots)
+}
+
+// What stands in the slots, each of which is filled.
+fn unwrapped<O: Drop>(alloc: Global, mut slots: Vec<Option<O>>) -> Result<Seq<O>, OutOfMemory>
+    requires { (place : ℕ) → place < length slots.items → (output : O) × (slice_get slots.items place ≡ Some (Some output)) }
+    ensures len { IfOk result (λ outputs. length outputs ≡ length slots.items) }
+    ensures same { IfOk result (λ outputs. (place : ℕ) (output : O) → slice_get outputs place ≡ Some output → slice_get slots.items place ≡ Some (Some output)) }
+{
+    let mut outputs = Vec::with_capacity(alloc, slots.len())?;
+    for place in 0..slots.len() {
+        let Some(output) = slots[place].take() else {
+            unreachable!();
+        };
+        outputs.push(output)?;
+    }
+    Ok(Seq::from_vec(outputs))
+}

@@ -1,0 +1,3 @@
+pub mod Deck
+pub mod Hands
+pub mod Steals
