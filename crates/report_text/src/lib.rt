@@ -8,8 +8,10 @@
 #![tactic(auto)]
 
 mod lines;
+mod printer;
 
 pub use lines::{
     AckText, CertText, CloseText, ContentText, EndText, EntryText, FinalText, Line, OrderEndText,
     OrderText, OwnerText, RestartText, RunText, SeeText, SendText, ShowText, TurnText, VoteText,
 };
+pub use printer::print_line;

@@ -144,7 +144,7 @@ unfoldable pub new_tx_check : Schedule → List ℕ → ObjWord → List InputWo
 new_tx_check s name gas inputs =
     also (check (nat_lt (length (tx_names s.events)) 65535) cause.TooManyTransactions)
     (also (check (not (is_among (tx_names s.events) name)) cause.RepeatedName)
-        (also (object_check s gas) (each_check (input_check s) inputs)))
+    (also (object_check s gas) (each_check (input_check s) inputs)))
 
 -- a transaction and origins that are known, and a faulty member
 unfoldable pub fvote_check : Schedule → ℕ → List ℕ → List (Option (List ℕ)) → Check

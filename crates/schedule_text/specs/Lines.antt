@@ -61,9 +61,9 @@ abbrev pub gas_transfer : List ℕ → List ℕ → Option (List ℕ) → Option
 gas_transfer name sender (Some coin) (Some address) budget =
     with_number (number_in 1100 18446744073709551615 budget)
     (λ n. statement.Event
-        (event.Tx name sender false 0 (record { object = object.Setup coin; version = 1; spoiled = false }) n
-            (input.Address address ∷ [])
-            (command.Transfer (arg.Gas ∷ arg.Input 0 ∷ []) ∷ [])))
+    (event.Tx name sender false 0 (record { object = object.Setup coin; version = 1; spoiled = false }) n
+    (input.Address address ∷ [])
+    (command.Transfer (arg.Gas ∷ arg.Input 0 ∷ []) ∷ [])))
 gas_transfer name sender coin address budget = Err cause.BadForm
 
 unfoldable pub is_gas_transfer : List ℕ → Bool

@@ -132,11 +132,7 @@ pub(crate) fn cut_at(byte: u8, word: &[u8]) -> Option<(&[u8], &[u8])>
 }
 
 /// The parts between such bytes.
-pub(crate) fn parts_of(
-    alloc: Global,
-    byte: u8,
-    text: &[u8],
-) -> Result<Vec<&[u8]>, OutOfMemory>
+pub(crate) fn parts_of(alloc: Global, byte: u8, text: &[u8]) -> Result<Vec<&[u8]>, OutOfMemory>
     ensures { IfOk result (λ v. map (λ x. x.now) v.items ≡ slice_split (λ b. b == byte) text.now) }
 {
     Ok(text.split(move |b| *b == byte).collect(alloc)?)

@@ -13,9 +13,11 @@ mod reading;
 mod statement;
 mod words;
 
-pub use reader::read_schedule;
-
 pub use cause::Cause;
+pub use reader::read_schedule;
 pub use words::{
     ArgWord, CommandWord, Event, InputWord, ObjWord, RefWord, Schedule, ScheduleRefusal, Setup,
 };
+
+#[cfg(test)]
+mod tests;

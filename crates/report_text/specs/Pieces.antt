@@ -1,0 +1,9 @@
+-- What the printer's pieces print.
+use Rattle.std.specs.Prelude.{ℕ, List, decimal}
+use Rattle.report_text.specs.declared.printer.Piece.{Piece}
+use Rattle.report_text.specs.declared.printer.Piece.TheVariants as piece
+
+abbrev pub piece_text : Piece → List ℕ
+piece_text (piece.Text text) = text.now
+piece_text (piece.Number n) = decimal n
+piece_text (piece.Wide n) = decimal n
