@@ -5,5 +5,6 @@ use Rattle.report_text.specs.declared.printer.Piece.TheVariants as piece
 
 abbrev pub piece_text : Piece → List ℕ
 piece_text (piece.Text text) = text.now
+piece_text (piece.Name name) = name.now
 piece_text (piece.Number n) = decimal n
 piece_text (piece.Wide n) = decimal n

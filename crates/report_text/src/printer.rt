@@ -16,6 +16,7 @@ use wire_bcs::{OutOfMemory, Seq};
 #[derive(Clone, Copy)]
 enum Piece<'a> {
     Text(&'a [u8]),
+    Name(&'a Seq<u8>),
     Number(u64),
     Wide(u128),
 }
@@ -32,6 +33,7 @@ fn print_piece(out: &mut Seq<u8>, piece: Piece<'_>) -> Result<(), OutOfMemory>
 {
     match piece {
         Piece::Text(text) => out.extend(text),
+        Piece::Name(name) => out.extend(name.as_slice()),
         Piece::Number(number) => print_number(out, number),
         Piece::Wide(number) => {
             let mut buffer = Buffer::new();
@@ -67,30 +69,30 @@ fn print_name(out: &mut Seq<u8>, name: &[u8]) -> Result<(), OutOfMemory>
 }
 
 #[tactic(auto, unfolding(crate::specs::Text::origins_text))]
-fn print_origins(out: &mut Seq<u8>, origins: &[Option<Seq<u8>>]) -> Result<(), OutOfMemory>
+fn print_origins(out: &mut Seq<u8>, origins: &Seq<Option<Seq<u8>>>) -> Result<(), OutOfMemory>
     ensures { OnOk result (out.new ≡ out.old ++ origins_text origins.now) }
 {
-    for origin in origins {
+    for origin in origins.as_slice() {
         print_origin(out, origin)?;
     }
     Ok(())
 }
 
 #[tactic(auto, unfolding(crate::specs::Text::names_text))]
-fn print_names(out: &mut Seq<u8>, names: &[Seq<u8>]) -> Result<(), OutOfMemory>
+fn print_names(out: &mut Seq<u8>, names: &Seq<Seq<u8>>) -> Result<(), OutOfMemory>
     ensures { OnOk result (out.new ≡ out.old ++ names_text names.now) }
 {
-    for name in names {
+    for name in names.as_slice() {
         print_name(out, name.as_slice())?;
     }
     Ok(())
 }
 
 #[tactic(auto, unfolding(crate::specs::Text::numbers_text))]
-fn print_numbers(out: &mut Seq<u8>, numbers: &[u64]) -> Result<(), OutOfMemory>
+fn print_numbers(out: &mut Seq<u8>, numbers: &Seq<u64>) -> Result<(), OutOfMemory>
     ensures { OnOk result (out.new ≡ out.old ++ numbers_text numbers.now) }
 {
-    for number in numbers {
+    for number in numbers.as_slice() {
         out.push(b' ')?;
         print_number(out, *number)?;
     }
@@ -98,7 +100,7 @@ fn print_numbers(out: &mut Seq<u8>, numbers: &[u64]) -> Result<(), OutOfMemory>
 }
 
 /// A word and names, where there are any.
-fn print_part(out: &mut Seq<u8>, word: &[u8], names: &[Seq<u8>]) -> Result<(), OutOfMemory>
+fn print_part(out: &mut Seq<u8>, word: &[u8], names: &Seq<Seq<u8>>) -> Result<(), OutOfMemory>
     ensures { OnOk result (out.new ≡ out.old ++ part_text word.now names.now) }
 {
     if names.is_empty() {
@@ -110,8 +112,8 @@ fn print_part(out: &mut Seq<u8>, word: &[u8], names: &[Seq<u8>]) -> Result<(), O
 
 fn print_taken(
     out: &mut Seq<u8>,
-    admitted: &[Seq<u8>],
-    dropped: &[Seq<u8>],
+    admitted: &Seq<Seq<u8>>,
+    dropped: &Seq<Seq<u8>>,
 ) -> Result<(), OutOfMemory>
     ensures { OnOk result (out.new ≡ out.old ++ taken_text admitted.now dropped.now) }
 {
@@ -135,19 +137,19 @@ fn print_vote_text(out: &mut Seq<u8>, text: &VoteText) -> Result<(), OutOfMemory
     match text {
         VoteText::Voted { origins } => {
             out.extend(b"voted")?;
-            print_origins(out, origins.as_slice())
+            print_origins(out, origins)
         },
         VoteText::Again { origins } => {
             out.extend(b"again")?;
-            print_origins(out, origins.as_slice())
+            print_origins(out, origins)
         },
         VoteText::Halted { first, second } => print(
             out,
             &[
                 Piece::Text(b"halted "),
-                Piece::Text(first.as_slice()),
+                Piece::Name(first),
                 Piece::Text(b" "),
-                Piece::Text(second.as_slice()),
+                Piece::Name(second),
             ],
         ),
         VoteText::Malformed { at, why } => print(
@@ -174,31 +176,25 @@ fn print_vote_text(out: &mut Seq<u8>, text: &VoteText) -> Result<(), OutOfMemory
             &[Piece::Text(b"invalid "), Piece::Number(*number)],
         ),
         VoteText::Unsealed => out.extend(b"unsealed"),
-        VoteText::Absent { key } => print(
-            out,
-            &[Piece::Text(b"absent "), Piece::Text(key.as_slice())],
-        ),
+        VoteText::Absent { key } => print(out, &[Piece::Text(b"absent "), Piece::Name(key)]),
         VoteText::Consumed { key, by } => print(
             out,
             &[
                 Piece::Text(b"consumed "),
-                Piece::Text(key.as_slice()),
+                Piece::Name(key),
                 Piece::Text(b" by "),
-                Piece::Text(by.as_slice()),
+                Piece::Name(by),
             ],
         ),
         VoteText::WrongDigest { key } => print(
             out,
-            &[Piece::Text(b"wrong digest "), Piece::Text(key.as_slice())],
+            &[Piece::Text(b"wrong digest "), Piece::Name(key)],
         ),
         VoteText::WrongOwner { key } => print(
             out,
-            &[Piece::Text(b"wrong owner "), Piece::Text(key.as_slice())],
+            &[Piece::Text(b"wrong owner "), Piece::Name(key)],
         ),
-        VoteText::WrongKind { key } => print(
-            out,
-            &[Piece::Text(b"wrong kind "), Piece::Text(key.as_slice())],
-        ),
+        VoteText::WrongKind { key } => print(out, &[Piece::Text(b"wrong kind "), Piece::Name(key)]),
         VoteText::PoorGas { had, want } => print(
             out,
             &[
@@ -212,9 +208,9 @@ fn print_vote_text(out: &mut Seq<u8>, text: &VoteText) -> Result<(), OutOfMemory
             out,
             &[
                 Piece::Text(b"locked "),
-                Piece::Text(key.as_slice()),
+                Piece::Name(key),
                 Piece::Text(b" by "),
-                Piece::Text(by.as_slice()),
+                Piece::Name(by),
             ],
         ),
         VoteText::Down => out.extend(b"down"),
@@ -252,7 +248,7 @@ fn print_cert_text(out: &mut Seq<u8>, text: &CertText) -> Result<(), OutOfMemory
         ),
         CertText::Formed { members } => {
             out.extend(b"formed by")?;
-            print_numbers(out, members.as_slice())
+            print_numbers(out, members)
         },
     }
 }
@@ -269,9 +265,9 @@ fn print_send_text(out: &mut Seq<u8>, text: &SendText) -> Result<(), OutOfMemory
             out,
             &[
                 Piece::Text(b"halted "),
-                Piece::Text(first.as_slice()),
+                Piece::Name(first),
                 Piece::Text(b" "),
-                Piece::Text(second.as_slice()),
+                Piece::Name(second),
             ],
         ),
         SendText::Malformed { at, why } => print(
@@ -312,11 +308,11 @@ fn print_send_text(out: &mut Seq<u8>, text: &SendText) -> Result<(), OutOfMemory
             out,
             &[
                 Piece::Text(b"fork "),
-                Piece::Text(key.as_slice()),
+                Piece::Name(key),
                 Piece::Text(b" "),
-                Piece::Text(first.as_slice()),
+                Piece::Name(first),
                 Piece::Text(b" "),
-                Piece::Text(second.as_slice()),
+                Piece::Name(second),
             ],
         ),
         SendText::Down => out.extend(b"down"),
@@ -360,9 +356,9 @@ fn print_see_text(out: &mut Seq<u8>, text: &SeeText) -> Result<(), OutOfMemory>
             out,
             &[
                 Piece::Text(b"halted "),
-                Piece::Text(first.as_slice()),
+                Piece::Name(first),
                 Piece::Text(b" "),
-                Piece::Text(second.as_slice()),
+                Piece::Name(second),
             ],
         ),
         SeeText::Down => out.extend(b"down"),
@@ -375,33 +371,29 @@ fn print_entry_text(out: &mut Seq<u8>, text: &EntryText) -> Result<(), OutOfMemo
     ensures { OnOk result (out.new ≡ out.old ++ entry_text text.now) }
 {
     match text {
-        EntryText::Taken { admitted, dropped } => print_taken(
-            out,
-            admitted.as_slice(),
-            dropped.as_slice(),
-        ),
+        EntryText::Taken { admitted, dropped } => print_taken(out, admitted, dropped),
         EntryText::Pending { tx, origin } => print(
             out,
             &[
                 Piece::Text(b"pending "),
-                Piece::Text(tx.as_slice()),
+                Piece::Name(tx),
                 Piece::Text(b" on "),
-                Piece::Text(origin.as_slice()),
+                Piece::Name(origin),
             ],
         ),
         EntryText::Deferred { tx, object } => print(
             out,
             &[
                 Piece::Text(b"deferred "),
-                Piece::Text(tx.as_slice()),
+                Piece::Name(tx),
                 Piece::Text(b" on "),
-                Piece::Text(object.as_slice()),
+                Piece::Name(object),
             ],
         ),
         EntryText::Commit { admitted, dropped } => {
             out.extend(b"commit")?;
-            print_part(out, b" admitted", admitted.as_slice())?;
-            print_part(out, b" dropped", dropped.as_slice())
+            print_part(out, b" admitted", admitted)?;
+            print_part(out, b" dropped", dropped)
         },
         EntryText::EndOf {
             member,
@@ -432,11 +424,11 @@ fn print_entry_text(out: &mut Seq<u8>, text: &EntryText) -> Result<(), OutOfMemo
             out,
             &[
                 Piece::Text(b"fork "),
-                Piece::Text(key.as_slice()),
+                Piece::Name(key),
                 Piece::Text(b" "),
-                Piece::Text(first.as_slice()),
+                Piece::Name(first),
                 Piece::Text(b" "),
-                Piece::Text(second.as_slice()),
+                Piece::Name(second),
             ],
         ),
         EntryText::Stopped => out.extend(b"stopped"),
@@ -456,9 +448,9 @@ fn print_run_text(out: &mut Seq<u8>, text: &RunText) -> Result<(), OutOfMemory>
             out,
             &[
                 Piece::Text(b"halted "),
-                Piece::Text(first.as_slice()),
+                Piece::Name(first),
                 Piece::Text(b" "),
-                Piece::Text(second.as_slice()),
+                Piece::Name(second),
             ],
         ),
         RunText::Down => out.extend(b"down"),
@@ -478,9 +470,9 @@ fn print_close_text(out: &mut Seq<u8>, text: &CloseText) -> Result<(), OutOfMemo
             out,
             &[
                 Piece::Text(b"halted "),
-                Piece::Text(first.as_slice()),
+                Piece::Name(first),
                 Piece::Text(b" "),
-                Piece::Text(second.as_slice()),
+                Piece::Name(second),
             ],
         ),
         CloseText::Down => out.extend(b"down"),
@@ -496,14 +488,14 @@ fn print_end_text(out: &mut Seq<u8>, text: &EndText) -> Result<(), OutOfMemory>
     match text {
         EndText::Said => out.extend(b"said"),
         EndText::NotClosed => out.extend(b"not closed"),
-        EndText::Waits { tx } => print(out, &[Piece::Text(b"waits "), Piece::Text(tx.as_slice())]),
+        EndText::Waits { tx } => print(out, &[Piece::Text(b"waits "), Piece::Name(tx)]),
         EndText::Halted { first, second } => print(
             out,
             &[
                 Piece::Text(b"halted "),
-                Piece::Text(first.as_slice()),
+                Piece::Name(first),
                 Piece::Text(b" "),
-                Piece::Text(second.as_slice()),
+                Piece::Name(second),
             ],
         ),
         EndText::Down => out.extend(b"down"),
@@ -525,14 +517,14 @@ fn print_turn_text(out: &mut Seq<u8>, text: &TurnText) -> Result<(), OutOfMemory
             ],
         ),
         TurnText::NotEnded => out.extend(b"not ended"),
-        TurnText::Waits { tx } => print(out, &[Piece::Text(b"waits "), Piece::Text(tx.as_slice())]),
+        TurnText::Waits { tx } => print(out, &[Piece::Text(b"waits "), Piece::Name(tx)]),
         TurnText::Halted { first, second } => print(
             out,
             &[
                 Piece::Text(b"halted "),
-                Piece::Text(first.as_slice()),
+                Piece::Name(first),
                 Piece::Text(b" "),
-                Piece::Text(second.as_slice()),
+                Piece::Name(second),
             ],
         ),
         TurnText::Down => out.extend(b"down"),
@@ -586,9 +578,9 @@ fn print_ack_text(out: &mut Seq<u8>, text: &AckText) -> Result<(), OutOfMemory>
             out,
             &[
                 Piece::Text(b"halted "),
-                Piece::Text(first.as_slice()),
+                Piece::Name(first),
                 Piece::Text(b" "),
-                Piece::Text(second.as_slice()),
+                Piece::Name(second),
             ],
         ),
         AckText::Down => out.extend(b"down"),
@@ -624,7 +616,7 @@ fn print_final_text(out: &mut Seq<u8>, text: &FinalText) -> Result<(), OutOfMemo
         ),
         FinalText::FinalBy { members } => {
             out.extend(b"final by")?;
-            print_numbers(out, members.as_slice())
+            print_numbers(out, members)
         },
     }
 }
@@ -634,7 +626,7 @@ fn print_owner_text(out: &mut Seq<u8>, text: &OwnerText) -> Result<(), OutOfMemo
     ensures { OnOk result (out.new ≡ out.old ++ owner_text text.now) }
 {
     match text {
-        OwnerText::Address { name } => print(out, &[Piece::Text(name.as_slice())]),
+        OwnerText::Address { name } => print(out, &[Piece::Name(name)]),
         OwnerText::Shared { initial } => print(
             out,
             &[Piece::Text(b"shared "), Piece::Number(*initial)],
@@ -679,10 +671,7 @@ fn print_content_text(out: &mut Seq<u8>, text: &ContentText) -> Result<(), OutOf
                 Piece::Number(*balance),
             ],
         ),
-        ContentText::Key { object } => print(
-            out,
-            &[Piece::Text(b"key "), Piece::Text(object.as_slice())],
-        ),
+        ContentText::Key { object } => print(out, &[Piece::Text(b"key "), Piece::Name(object)]),
         ContentText::Limit { value } => print(
             out,
             &[Piece::Text(b"limit "), Piece::Number(*value)],
@@ -697,11 +686,7 @@ fn print_body(out: &mut Seq<u8>, line: &Line) -> Result<(), OutOfMemory>
     match line {
         Line::TxMade { tx } => print(
             out,
-            &[
-                Piece::Text(b"tx "),
-                Piece::Text(tx.as_slice()),
-                Piece::Text(b": made"),
-            ],
+            &[Piece::Text(b"tx "), Piece::Name(tx), Piece::Text(b": made")],
         ),
         Line::Vote { member, tx, text } => {
             print(
@@ -710,7 +695,7 @@ fn print_body(out: &mut Seq<u8>, line: &Line) -> Result<(), OutOfMemory>
                     Piece::Text(b"vote "),
                     Piece::Number(*member),
                     Piece::Text(b" "),
-                    Piece::Text(tx.as_slice()),
+                    Piece::Name(tx),
                     Piece::Text(b": "),
                 ],
             )?;
@@ -727,20 +712,16 @@ fn print_body(out: &mut Seq<u8>, line: &Line) -> Result<(), OutOfMemory>
                     Piece::Text(b"fvote "),
                     Piece::Number(*member),
                     Piece::Text(b" "),
-                    Piece::Text(tx.as_slice()),
+                    Piece::Name(tx),
                     Piece::Text(b": voted"),
                 ],
             )?;
-            print_origins(out, origins.as_slice())
+            print_origins(out, origins)
         },
         Line::Cert { tx, text } => {
             print(
                 out,
-                &[
-                    Piece::Text(b"cert "),
-                    Piece::Text(tx.as_slice()),
-                    Piece::Text(b": "),
-                ],
+                &[Piece::Text(b"cert "), Piece::Name(tx), Piece::Text(b": ")],
             )?;
             print_cert_text(out, text)
         },
@@ -751,7 +732,7 @@ fn print_body(out: &mut Seq<u8>, line: &Line) -> Result<(), OutOfMemory>
                     Piece::Text(b"send "),
                     Piece::Number(*member),
                     Piece::Text(b" "),
-                    Piece::Text(tx.as_slice()),
+                    Piece::Name(tx),
                     Piece::Text(b": "),
                 ],
             )?;
@@ -760,11 +741,7 @@ fn print_body(out: &mut Seq<u8>, line: &Line) -> Result<(), OutOfMemory>
         Line::Order { tx, text } => {
             print(
                 out,
-                &[
-                    Piece::Text(b"order "),
-                    Piece::Text(tx.as_slice()),
-                    Piece::Text(b": "),
-                ],
+                &[Piece::Text(b"order "), Piece::Name(tx), Piece::Text(b": ")],
             )?;
             print_order_text(out, text)
         },
@@ -826,7 +803,7 @@ fn print_body(out: &mut Seq<u8>, line: &Line) -> Result<(), OutOfMemory>
             out,
             &[
                 Piece::Text(b"  "),
-                Piece::Text(tx.as_slice()),
+                Piece::Name(tx),
                 Piece::Text(b" done v"),
                 Piece::Number(*version),
                 Piece::Text(b" gas "),
@@ -843,7 +820,7 @@ fn print_body(out: &mut Seq<u8>, line: &Line) -> Result<(), OutOfMemory>
             out,
             &[
                 Piece::Text(b"  "),
-                Piece::Text(tx.as_slice()),
+                Piece::Name(tx),
                 Piece::Text(b" failed at "),
                 Piece::Number(*command),
                 Piece::Text(b" cause "),
@@ -864,7 +841,7 @@ fn print_body(out: &mut Seq<u8>, line: &Line) -> Result<(), OutOfMemory>
             out,
             &[
                 Piece::Text(b"  "),
-                Piece::Text(tx.as_slice()),
+                Piece::Name(tx),
                 Piece::Text(b" aborted at "),
                 Piece::Number(*command),
                 Piece::Text(b" code "),
@@ -879,18 +856,14 @@ fn print_body(out: &mut Seq<u8>, line: &Line) -> Result<(), OutOfMemory>
             out,
             &[
                 Piece::Text(b"  "),
-                Piece::Text(tx.as_slice()),
+                Piece::Name(tx),
                 Piece::Text(b" absent "),
-                Piece::Text(key.as_slice()),
+                Piece::Name(key),
             ],
         ),
         Line::Unfit { tx } => print(
             out,
-            &[
-                Piece::Text(b"  "),
-                Piece::Text(tx.as_slice()),
-                Piece::Text(b" unfit"),
-            ],
+            &[Piece::Text(b"  "), Piece::Name(tx), Piece::Text(b" unfit")],
         ),
         Line::Checkpoint { number, txs, last } => {
             print(
@@ -901,7 +874,7 @@ fn print_body(out: &mut Seq<u8>, line: &Line) -> Result<(), OutOfMemory>
                     Piece::Text(b":"),
                 ],
             )?;
-            print_names(out, txs.as_slice())?;
+            print_names(out, txs)?;
             print_only_if(out, *last, b" last")
         },
         Line::Close { member, text } => {
@@ -937,10 +910,7 @@ fn print_body(out: &mut Seq<u8>, line: &Line) -> Result<(), OutOfMemory>
             )?;
             print_turn_text(out, text)
         },
-        Line::Reverted { tx } => print(
-            out,
-            &[Piece::Text(b"  reverted "), Piece::Text(tx.as_slice())],
-        ),
+        Line::Reverted { tx } => print(out, &[Piece::Text(b"  reverted "), Piece::Name(tx)]),
         Line::Stop { member, kept } => {
             print(
                 out,
@@ -1006,7 +976,7 @@ fn print_body(out: &mut Seq<u8>, line: &Line) -> Result<(), OutOfMemory>
                 out,
                 &[
                     Piece::Text(b"  "),
-                    Piece::Text(object.as_slice()),
+                    Piece::Name(object),
                     Piece::Text(b" v"),
                     Piece::Number(*version),
                     Piece::Text(b" "),
@@ -1023,7 +993,7 @@ fn print_body(out: &mut Seq<u8>, line: &Line) -> Result<(), OutOfMemory>
                     Piece::Text(b"ack "),
                     Piece::Number(*member),
                     Piece::Text(b" "),
-                    Piece::Text(tx.as_slice()),
+                    Piece::Name(tx),
                     Piece::Text(b": "),
                 ],
             )?;
@@ -1032,11 +1002,7 @@ fn print_body(out: &mut Seq<u8>, line: &Line) -> Result<(), OutOfMemory>
         Line::Final { tx, text } => {
             print(
                 out,
-                &[
-                    Piece::Text(b"final "),
-                    Piece::Text(tx.as_slice()),
-                    Piece::Text(b": "),
-                ],
+                &[Piece::Text(b"final "), Piece::Name(tx), Piece::Text(b": ")],
             )?;
             print_final_text(out, text)
         },

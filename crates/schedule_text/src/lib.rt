@@ -6,10 +6,13 @@
 
 mod bytes;
 mod cause;
+mod commands;
+mod inputs;
 mod lines;
 mod names;
 mod reader;
 mod reading;
+mod refs;
 mod statement;
 mod words;
 

@@ -1,6 +1,5 @@
 use Rattle.std.proofs.Common.{◌≡◌, ◌∷◌, ◌++◌, take, decimal}
 use Rattle.std.specs.List.{flat_map}
-
 use Rattle.report_text.proofs.printer.print_numbers.Given as goal
 
 abbrev pub invariant-loop-number : goal.invariant-loop-number
