@@ -178,10 +178,7 @@ fn are_args(mut left: Option<&[u8]>) -> bool
 
 /// The arguments that are left between commas.
 #[tactic(auto, using(crate::proofs::Each::each_more), unfolding(crate::specs::Bytes::each_of))]
-fn args_of(
-    alloc: Global,
-    mut left: Option<&[u8]>,
-) -> Result<Option<Seq<ArgWord>>, OutOfMemory>
+fn args_of(alloc: Global, mut left: Option<&[u8]>) -> Result<Option<Seq<ArgWord>>, OutOfMemory>
     ensures { IfOk result (λ r. r ≡ each_of arg_of (parts_left 44 left.entry)) }
 {
     let mut args = Seq::new(alloc);
@@ -259,8 +256,9 @@ fn command_value(
         CommandKind::Merge => Ok(args_of(alloc, Some(inside))?.map(CommandWord::Merge)),
         CommandKind::Transfer => Ok(args_of(alloc, Some(inside))?.map(CommandWord::Transfer)),
         CommandKind::MakeVec => vector_value(alloc, inside),
-        CommandKind::Call(native) => Ok(args_of(alloc, call_words(inside))?
-            .map(|args| CommandWord::Call { native, args })),
+        CommandKind::Call(native) => Ok(args_of(alloc, call_words(inside))?.map(
+            |args| CommandWord::Call { native, args },
+        )),
     }
 }
 
