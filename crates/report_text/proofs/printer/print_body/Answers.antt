@@ -1,6 +1,6 @@
 use Rattle.std.proofs.Common.{◌++◌, ap, ◌∙◌, append_assoc}
 use Rattle.report_text.specs.Text.{body_of, names_text}
-use Rattle.report_text.proofs.Appends.{appends_then}
+use Rattle.report_text.proofs.Appends.{appends_then, joined}
 use Rattle.report_text.proofs.printer.print_body.Goals as goal
 
 pub returns-in_ok-print-in-RawVote : goal.returns-in_ok-print-in-RawVote
@@ -35,3 +35,8 @@ returns-in-Make c = rw c.in-Make.is c.print-in-Make.ensures
 pub returns-in-Refused : goal.returns-in-Refused
 unfolding body_of
 returns-in-Refused c = rw c.in-Refused.is c.print-in-Refused.ensures
+
+pub returns-in_ok-print_names-in-Checkpoint : goal.returns-in_ok-print_names-in-Checkpoint
+unfolding body_of
+returns-in_ok-print_names-in-Checkpoint c =
+    rw c.in-Checkpoint.is (appends_then c.print_only_if.result c.args.out.now c.print_names.new.out c.print_only_if.new.out _ _ (joined c.args.out.now c.print-in-Checkpoint.new.out c.print_names.new.out _ _ c.in_ok-print-in-Checkpoint.ensures c.in_ok-print_names-in-Checkpoint.ensures) c.print_only_if.ensures)
