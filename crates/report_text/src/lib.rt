@@ -15,3 +15,6 @@ pub use lines::{
     OrderText, OwnerText, RestartText, RunText, SeeText, SendText, ShowText, TurnText, VoteText,
 };
 pub use printer::print_line;
+
+#[cfg(test)]
+mod tests;

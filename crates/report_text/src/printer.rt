@@ -138,11 +138,11 @@ fn print_vote_text(out: &mut Seq<u8>, text: &VoteText) -> Result<(), OutOfMemory
         VoteText::Voted { origins } => {
             out.extend(b"voted")?;
             print_origins(out, origins)
-        },
+        }
         VoteText::Again { origins } => {
             out.extend(b"again")?;
             print_origins(out, origins)
-        },
+        }
         VoteText::Halted { first, second } => print(
             out,
             &[
@@ -249,7 +249,7 @@ fn print_cert_text(out: &mut Seq<u8>, text: &CertText) -> Result<(), OutOfMemory
         CertText::Formed { members } => {
             out.extend(b"formed by")?;
             print_numbers(out, members)
-        },
+        }
     }
 }
 
@@ -394,7 +394,7 @@ fn print_entry_text(out: &mut Seq<u8>, text: &EntryText) -> Result<(), OutOfMemo
             out.extend(b"commit")?;
             print_part(out, b" admitted", admitted)?;
             print_part(out, b" dropped", dropped)
-        },
+        }
         EntryText::EndOf {
             member,
             weight,
@@ -413,7 +413,7 @@ fn print_entry_text(out: &mut Seq<u8>, text: &EntryText) -> Result<(), OutOfMemo
                 ],
             )?;
             print_only_if(out, *ended, b", epoch ended")
-        },
+        }
         EntryText::IgnoredMalformed => out.extend(b"ignored malformed"),
         EntryText::IgnoredStatement => out.extend(b"ignored statement"),
         EntryText::IgnoredEpoch => out.extend(b"ignored epoch"),
@@ -617,7 +617,7 @@ fn print_final_text(out: &mut Seq<u8>, text: &FinalText) -> Result<(), OutOfMemo
         FinalText::FinalBy { members } => {
             out.extend(b"final by")?;
             print_numbers(out, members)
-        },
+        }
     }
 }
 
@@ -700,7 +700,7 @@ fn print_body(out: &mut Seq<u8>, line: &Line) -> Result<(), OutOfMemory>
                 ],
             )?;
             print_vote_text(out, text)
-        },
+        }
         Line::Fvote {
             member,
             tx,
@@ -717,14 +717,14 @@ fn print_body(out: &mut Seq<u8>, line: &Line) -> Result<(), OutOfMemory>
                 ],
             )?;
             print_origins(out, origins)
-        },
+        }
         Line::Cert { tx, text } => {
             print(
                 out,
                 &[Piece::Text(b"cert "), Piece::Name(tx), Piece::Text(b": ")],
             )?;
             print_cert_text(out, text)
-        },
+        }
         Line::Send { member, tx, text } => {
             print(
                 out,
@@ -737,14 +737,14 @@ fn print_body(out: &mut Seq<u8>, line: &Line) -> Result<(), OutOfMemory>
                 ],
             )?;
             print_send_text(out, text)
-        },
+        }
         Line::Order { tx, text } => {
             print(
                 out,
                 &[Piece::Text(b"order "), Piece::Name(tx), Piece::Text(b": ")],
             )?;
             print_order_text(out, text)
-        },
+        }
         Line::OrderEnd { member, text } => {
             print(
                 out,
@@ -755,7 +755,7 @@ fn print_body(out: &mut Seq<u8>, line: &Line) -> Result<(), OutOfMemory>
                 ],
             )?;
             print_order_end_text(out, text)
-        },
+        }
         Line::OrderCommit { entry } => print(
             out,
             &[Piece::Text(b"order commit: entry "), Piece::Number(*entry)],
@@ -770,7 +770,7 @@ fn print_body(out: &mut Seq<u8>, line: &Line) -> Result<(), OutOfMemory>
                 ],
             )?;
             print_see_text(out, text)
-        },
+        }
         Line::SeeEntry {
             member,
             entry,
@@ -787,7 +787,7 @@ fn print_body(out: &mut Seq<u8>, line: &Line) -> Result<(), OutOfMemory>
                 ],
             )?;
             print_entry_text(out, text)
-        },
+        }
         Line::Run { member, text } => {
             print(
                 out,
@@ -798,7 +798,7 @@ fn print_body(out: &mut Seq<u8>, line: &Line) -> Result<(), OutOfMemory>
                 ],
             )?;
             print_run_text(out, text)
-        },
+        }
         Line::Done { tx, version, gas } => print(
             out,
             &[
@@ -876,7 +876,7 @@ fn print_body(out: &mut Seq<u8>, line: &Line) -> Result<(), OutOfMemory>
             )?;
             print_names(out, txs)?;
             print_only_if(out, *last, b" last")
-        },
+        }
         Line::Close { member, text } => {
             print(
                 out,
@@ -887,7 +887,7 @@ fn print_body(out: &mut Seq<u8>, line: &Line) -> Result<(), OutOfMemory>
                 ],
             )?;
             print_close_text(out, text)
-        },
+        }
         Line::End { member, text } => {
             print(
                 out,
@@ -898,7 +898,7 @@ fn print_body(out: &mut Seq<u8>, line: &Line) -> Result<(), OutOfMemory>
                 ],
             )?;
             print_end_text(out, text)
-        },
+        }
         Line::Turn { member, text } => {
             print(
                 out,
@@ -909,7 +909,7 @@ fn print_body(out: &mut Seq<u8>, line: &Line) -> Result<(), OutOfMemory>
                 ],
             )?;
             print_turn_text(out, text)
-        },
+        }
         Line::Reverted { tx } => print(out, &[Piece::Text(b"  reverted "), Piece::Name(tx)]),
         Line::Stop { member, kept } => {
             print(
@@ -921,7 +921,7 @@ fn print_body(out: &mut Seq<u8>, line: &Line) -> Result<(), OutOfMemory>
                 ],
             )?;
             out.extend(if *kept { b"kept" } else { b"lost" })
-        },
+        }
         Line::Restart { member, text } => {
             print(
                 out,
@@ -932,7 +932,7 @@ fn print_body(out: &mut Seq<u8>, line: &Line) -> Result<(), OutOfMemory>
                 ],
             )?;
             print_restart_text(out, text)
-        },
+        }
         Line::RawVote { member, text } => {
             print(
                 out,
@@ -943,7 +943,7 @@ fn print_body(out: &mut Seq<u8>, line: &Line) -> Result<(), OutOfMemory>
                 ],
             )?;
             print_vote_text(out, text)
-        },
+        }
         Line::RawHold { member, text } => {
             print(
                 out,
@@ -954,7 +954,7 @@ fn print_body(out: &mut Seq<u8>, line: &Line) -> Result<(), OutOfMemory>
                 ],
             )?;
             print_send_text(out, text)
-        },
+        }
         Line::Show { member, text } => {
             print(
                 out,
@@ -965,7 +965,7 @@ fn print_body(out: &mut Seq<u8>, line: &Line) -> Result<(), OutOfMemory>
                 ],
             )?;
             print_show_text(out, text)
-        },
+        }
         Line::Object {
             object,
             version,
@@ -985,7 +985,7 @@ fn print_body(out: &mut Seq<u8>, line: &Line) -> Result<(), OutOfMemory>
             print_owner_text(out, owner)?;
             out.extend(b" ")?;
             print_content_text(out, content)
-        },
+        }
         Line::Ack { member, tx, text } => {
             print(
                 out,
@@ -998,14 +998,14 @@ fn print_body(out: &mut Seq<u8>, line: &Line) -> Result<(), OutOfMemory>
                 ],
             )?;
             print_ack_text(out, text)
-        },
+        }
         Line::Final { tx, text } => {
             print(
                 out,
                 &[Piece::Text(b"final "), Piece::Name(tx), Piece::Text(b": ")],
             )?;
             print_final_text(out, text)
-        },
+        }
         Line::Make {
             number,
             transactions,
