@@ -1,6 +1,6 @@
 -- The values of words, one after another.
-use Rattle.std.proofs.Common.{◌≡◌, List, [], ◌∷◌, ◌++◌, Option, Some, None, refl, ap, sym, append_assoc}
-use Rattle.schedule_text.specs.Bytes.{with_both, each_of}
+use Rattle.std.proofs.Common.{◌≡◌, List, [], ◌∷◌, ◌++◌, Option, Some, None, refl, ap, append_assoc}
+use Rattle.schedule_text.specs.Bytes.{with_both}
 
 -- the values of the rest, behind those of the front
 abbrev pub after_front : {A : Type 0} → List A → Option (List A) → Option (List A)

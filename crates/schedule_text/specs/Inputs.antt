@@ -5,11 +5,10 @@ use Rattle.std.specs.Result.{result_ok}
 use Rattle.hex.specs.Hex.{decode_of}
 use Rattle.schedule_text.specs.declared.inputs.InputKind.{InputKind}
 use Rattle.schedule_text.specs.declared.inputs.InputKind.TheVariants as kind
-use Rattle.schedule_text.specs.declared.words.ObjWord.{ObjWord}
 use Rattle.schedule_text.specs.declared.words.RefWord.{RefWord}
 use Rattle.schedule_text.specs.declared.words.InputWord.{InputWord}
 use Rattle.schedule_text.specs.declared.words.InputWord.TheVariants as input
-use Rattle.schedule_text.specs.Bytes.{is_name, is_digit, is_digits, number_of, cut_at, with_both}
+use Rattle.schedule_text.specs.Bytes.{is_name, is_digit, is_digits, number_of, cut_at}
 use Rattle.schedule_text.specs.Refs.{is_ref, ref_of, is_shared}
 
 -- a hexadecimal digit, in lower case

@@ -1,6 +1,6 @@
 -- The forms of the lines: the form first, numbers taken as any digits, and then each number
 -- in the range of its place. Source: this profile.
-use Rattle.std.specs.Prelude.{◌≡◌, ◌==◌, ℕ, Bool, true, false, ◌&&◌, ◌||◌, nat_lt, List, [], ◌∷◌, length, Option, Some, None, Result, Ok, Err, min, codes, option_map, option_and_then, if◌then◌else◌}
+use Rattle.std.specs.Prelude.{◌==◌, ℕ, Bool, true, false, ◌&&◌, ◌||◌, nat_lt, List, [], ◌∷◌, length, Option, Some, None, Result, Ok, Err, min, codes, option_map, option_and_then, if◌then◌else◌}
 use Rattle.std.specs.List.{slice_split, list_all}
 use Rattle.std.specs.Str.{bytes_eq}
 use Rattle.schedule_text.specs.declared.cause.Cause.{Cause}
@@ -9,7 +9,6 @@ use Rattle.schedule_text.specs.declared.words.Setup.TheVariants as setup
 use Rattle.schedule_text.specs.declared.words.Event.{Event}
 use Rattle.schedule_text.specs.declared.words.Event.TheVariants as event
 use Rattle.schedule_text.specs.declared.words.InputWord.{InputWord}
-use Rattle.schedule_text.specs.declared.words.CommandWord.{CommandWord}
 use Rattle.schedule_text.specs.declared.statement.Statement.{Statement}
 use Rattle.schedule_text.specs.declared.statement.Statement.TheVariants as statement
 use Rattle.schedule_text.specs.Bytes.{is_name, is_digits, number_of, number_in, has_mark, without_mark, with_both, each_of}

@@ -1,5 +1,4 @@
-use Rattle.std.proofs.Common.{◌≡◌, ◌++◌, length, map}
-use Rattle.std.specs.List.{list_all}
+use Rattle.std.proofs.Common.{◌≡◌, length, map}
 use Rattle.schedule_text.specs.Lines.{after_inputs}
 use Rattle.schedule_text.proofs.lines.after_inputs.Given as goal
 

@@ -1,4 +1,4 @@
-use Rattle.std.proofs.Common.{◌≡◌, ◌++◌, length, map}
+use Rattle.std.proofs.Common.{◌≡◌, length, map}
 use Rattle.std.specs.List.{list_all}
 use Rattle.schedule_text.specs.Bytes.{is_digits}
 use Rattle.schedule_text.proofs.lines.are_all_digits.Given as goal

@@ -1,4 +1,4 @@
-use Rattle.std.proofs.Common.{◌≡◌, ◌++◌, length, map}
+use Rattle.std.proofs.Common.{◌≡◌, length, map}
 use Rattle.std.specs.List.{list_all}
 use Rattle.schedule_text.specs.Commands.{is_command}
 use Rattle.schedule_text.proofs.lines.are_commands.Given as goal

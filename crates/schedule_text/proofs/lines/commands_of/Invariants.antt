@@ -1,5 +1,4 @@
-use Rattle.std.proofs.Common.{◌≡◌, ◌++◌, length, map}
-use Rattle.std.specs.List.{list_all}
+use Rattle.std.proofs.Common.{◌≡◌, length, map}
 use Rattle.schedule_text.specs.Bytes.{each_of}
 use Rattle.schedule_text.specs.Commands.{command_of}
 use Rattle.schedule_text.proofs.Each.{after_front}

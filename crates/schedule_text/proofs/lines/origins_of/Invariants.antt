@@ -1,5 +1,4 @@
 use Rattle.std.proofs.Common.{◌≡◌, ◌++◌, length, map}
-use Rattle.std.specs.List.{list_all}
 use Rattle.schedule_text.specs.Lines.{origins_of}
 use Rattle.schedule_text.proofs.lines.origins_of.Given as goal
 
