@@ -1,5 +1,5 @@
 -- Appends, one after another.
-use Rattle.std.proofs.Common.{◌≡◌, List, ◌++◌, Result, Ok, Err, OnOk, append_assoc, ap, sym, ◌∙◌}
+use Rattle.std.proofs.Common.{◌≡◌, List, ◌++◌, Result, Ok, Err, OnOk, append_assoc, ap, ◌∙◌}
 
 -- what is appended after a first part
 pub appends_then : {A U E : Type 0} (r : Result U E) (old mid new first rest : List A) → mid ≡ old ++ first → OnOk r (new ≡ mid ++ rest) → OnOk r (new ≡ old ++ (first ++ rest))

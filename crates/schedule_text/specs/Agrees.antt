@@ -1,5 +1,5 @@
 -- The reader's state says of the schedule so far what the definitions say of it.
-use Rattle.std.specs.Prelude.{◌≡◌, ℕ, Bool, false, List, [], Option, Some, None, nat_eq}
+use Rattle.std.specs.Prelude.{◌≡◌, ℕ, false, List, [], Option, Some, None, nat_eq}
 use Rattle.std.specs.List.{list_any}
 use Rattle.schedule_text.specs.declared.words.Schedule.{Schedule}
 use Rattle.schedule_text.specs.declared.reading.Reading.{Reading}

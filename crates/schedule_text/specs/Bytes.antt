@@ -1,5 +1,5 @@
 -- Names and numbers of a schedule, byte by byte. Source: this profile.
-use Rattle.std.specs.Prelude.{◌==◌, ℕ, ◌+◌, ◌-◌, ◌*◌, ◌^◌, Bool, false, ◌&&◌, ◌||◌, not, List, [], ◌∷◌, length, Option, Some, None, nat_le, nat_lt, take, drop, option_map, option_and_then, position, if◌then◌else◌}
+use Rattle.std.specs.Prelude.{◌==◌, ℕ, ◌+◌, ◌-◌, ◌*◌, ◌^◌, Bool, false, ◌&&◌, ◌||◌, not, List, [], ◌∷◌, length, Option, Some, None, nat_le, nat_lt, slice_index, take, drop, option_map, option_and_then, position, if◌then◌else◌}
 use Rattle.std.specs.List.{list_all}
 
 abbrev pub is_digit : ℕ → Bool
@@ -52,3 +52,22 @@ number_in low high word =
 unfoldable pub cut_at : ℕ → List ℕ → Option (List ℕ × List ℕ)
 cut_at byte word =
     option_map (λ at. (take at word, drop (at + 1) word)) (position (λ b. b == byte) word)
+
+-- the word ends with this byte
+unfoldable pub has_mark : ℕ → List ℕ → Bool
+has_mark byte word = nat_lt 0 (length word) && slice_index word (length word - 1) == byte
+
+-- the word without this byte at its end
+unfoldable pub without_mark : ℕ → List ℕ → List ℕ
+without_mark byte word = if has_mark byte word then take (length word - 1) word else word
+
+-- one value of two, where both are there
+abbrev pub with_both : {A B C : Type 0} → Option A → Option B → (A → B → C) → Option C
+with_both None b f = None
+with_both (Some x) None f = None
+with_both (Some x) (Some y) f = Some (f x y)
+
+-- the value of each, where each has one
+unfoldable pub each_of : {X A : Type 0} → (X → Option A) → List X → Option (List A)
+each_of f [] = Some []
+each_of f (x ∷ xs) = with_both (f x) (each_of f xs) (λ y ys. y ∷ ys)

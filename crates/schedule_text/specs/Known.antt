@@ -1,6 +1,6 @@
 -- What the lines of a schedule so far made known, and when a further line may follow them.
 -- The causes are tried in their order. Source: this profile.
-use Rattle.std.specs.Prelude.{◌≡◌, ◌==◌, ℕ, ◌+◌, Bool, true, false, ◌&&◌, not, List, [], ◌∷◌, ◌++◌, length, Option, Some, None, Result, Ok, Err, nat_lt, nat_eq, slice_get, if◌then◌else◌}
+use Rattle.std.specs.Prelude.{◌==◌, ℕ, Bool, true, false, ◌&&◌, not, List, [], ◌∷◌, ◌++◌, length, Option, Some, None, Result, Ok, Err, nat_lt, nat_eq, slice_get, if◌then◌else◌}
 use Rattle.std.specs.List.{list_any, filter_map}
 use Rattle.std.specs.Str.{bytes_eq}
 use Rattle.schedule_text.specs.declared.cause.Cause.{Cause}
@@ -144,7 +144,7 @@ unfoldable pub new_tx_check : Schedule → List ℕ → ObjWord → List InputWo
 new_tx_check s name gas inputs =
     also (check (nat_lt (length (tx_names s.events)) 65535) cause.TooManyTransactions)
     (also (check (not (is_among (tx_names s.events) name)) cause.RepeatedName)
-        (also (object_check s gas) (each_check (input_check s) inputs)))
+    (also (object_check s gas) (each_check (input_check s) inputs)))
 
 -- a transaction and origins that are known, and a faulty member
 unfoldable pub fvote_check : Schedule → ℕ → List ℕ → List (Option (List ℕ)) → Check

@@ -1,7 +1,10 @@
 pub mod Agrees
 pub mod Bytes
 pub mod Cause
+pub mod Commands
+pub mod Inputs
 pub mod Known
 pub mod Left
 pub mod Lines
+pub mod Refs
 pub mod Schedule

@@ -1,5 +1,5 @@
 -- The schedule that a text is, or the line and the cause of its refusal. Source: this profile.
-use Rattle.std.specs.Prelude.{◌≡◌, ◌==◌, ℕ, ◌+◌, Bool, true, not, ◌||◌, List, [], ◌∷◌, length, Result, Ok, Err, nat_eq, nat_lt, slice_index, codes, if◌then◌else◌}
+use Rattle.std.specs.Prelude.{◌≡◌, ◌==◌, ℕ, ◌+◌, Bool, true, List, [], ◌∷◌, length, Result, Ok, Err, nat_eq, nat_lt, codes, if◌then◌else◌}
 use Rattle.std.specs.List.{slice_split, list_any, list_all, starts_with}
 use Rattle.schedule_text.specs.declared.cause.Cause.{Cause}
 use Rattle.schedule_text.specs.declared.cause.Cause.TheVariants as cause

@@ -1,9 +1,10 @@
 //! Names and numbers, byte by byte.
 
-ghost use Rattle.std.specs.Prelude.{◌≡◌, ◌==◌, ◌*◌, ◌+◌, ◌-◌, ◌^◌, ◌<◌, ◌≤◌, option_map, IsTrue, IfOk, IfSome, map, position, length};
+ghost use Rattle.std.specs.Prelude.{◌≡◌, ◌∷◌, ◌==◌, ◌*◌, ◌+◌, ◌-◌, ◌^◌, ◌<◌, ◌≤◌, option_map, IsTrue, IfOk, IfSome, map, position, length};
 ghost use Rattle.std.specs.Option.{SomeIff};
 ghost use Rattle.std.specs.List.{slice_split, list_all};
-ghost use Rattle.schedule_text.specs.Bytes.{is_name_byte, is_lower, is_digit, is_name, is_digits, value_from, has_leading_zero, number_of, number_in, cut_at};
+ghost use Rattle.schedule_text.specs.Left.{parts_left, size_left};
+ghost use Rattle.schedule_text.specs.Bytes.{is_name_byte, is_lower, is_digit, is_name, is_digits, value_from, has_leading_zero, number_of, number_in, cut_at, has_mark, without_mark};
 
 use std::alloc::Global;
 use wire_bcs::OutOfMemory;
@@ -131,12 +132,39 @@ pub(crate) fn cut_at(byte: u8, word: &[u8]) -> Option<(&[u8], &[u8])>
     Some((&word[..at], &word[at + 1..]))
 }
 
+/// The first part of the text between such bytes, and what follows it.
+pub(crate) fn cut_part(byte: u8, text: &[u8]) -> (&[u8], Option<&[u8]>)
+    ensures parts { slice_split (λ b. b == byte) text.now ≡ result.0.now ∷ parts_left byte result.1 }
+    ensures shorter { size_left result.1 ≤ length text.now }
+{
+    match cut_at(byte, text) {
+        Some((part, after)) => (part, Some(after)),
+        None => (text, None),
+    }
+}
+
+/// Whether the word ends with this byte.
+#[tactic(auto, unfolding(crate::specs::Bytes::has_mark))]
+pub(crate) fn has_mark(byte: u8, word: &[u8]) -> bool
+    ensures { result ≡ has_mark byte word.now }
+{
+    !word.is_empty() && word[word.len() - 1] == byte
+}
+
+/// The word without this byte at its end.
+#[tactic(auto, unfolding(crate::specs::Bytes::without_mark, crate::specs::Bytes::has_mark))]
+pub(crate) fn without_mark(byte: u8, word: &[u8]) -> &[u8]
+    ensures { result.now ≡ without_mark byte word.now }
+{
+    if has_mark(byte, word) {
+        &word[..word.len() - 1]
+    } else {
+        word
+    }
+}
+
 /// The parts between such bytes.
-pub(crate) fn parts_of(
-    alloc: Global,
-    byte: u8,
-    text: &[u8],
-) -> Result<Vec<&[u8]>, OutOfMemory>
+pub(crate) fn parts_of(alloc: Global, byte: u8, text: &[u8]) -> Result<Vec<&[u8]>, OutOfMemory>
     ensures { IfOk result (λ v. map (λ x. x.now) v.items ≡ slice_split (λ b. b == byte) text.now) }
 {
     Ok(text.split(move |b| *b == byte).collect(alloc)?)

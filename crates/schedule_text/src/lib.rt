@@ -6,16 +6,21 @@
 
 mod bytes;
 mod cause;
+mod commands;
+mod inputs;
 mod lines;
 mod names;
 mod reader;
 mod reading;
+mod refs;
 mod statement;
 mod words;
 
-pub use reader::read_schedule;
-
 pub use cause::Cause;
+pub use reader::read_schedule;
 pub use words::{
     ArgWord, CommandWord, Event, InputWord, ObjWord, RefWord, Schedule, ScheduleRefusal, Setup,
 };
+
+#[cfg(test)]
+mod tests;

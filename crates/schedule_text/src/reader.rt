@@ -8,9 +8,8 @@ ghost use Rattle.schedule_text.specs.Cause.{ReadsInto};
 ghost use Rattle.schedule_text.specs.Known.{add_line};
 ghost use Rattle.schedule_text.specs.Lines.{words_of};
 ghost use Rattle.schedule_text.specs.Schedule.{lines_of, is_skipped, is_member_line, read_line, read_lines, schedule_of, refusal_of, RefusesWith};
-ghost use Rattle.schedule_text.specs.Left.{lines_left, size_left};
 
-use crate::bytes::{cut_at, parts_of};
+use crate::bytes::{cut_part, parts_of};
 use crate::cause::{Cause, LineFault};
 use crate::lines::statement_of;
 use crate::reading::Reading;
@@ -48,23 +47,12 @@ fn is_member_line(line: &[u8]) -> bool
     line.starts_with(b"member ")
 }
 
-/// The first line of the text, and what follows its end.
-fn cut_line(text: &[u8]) -> (&[u8], Option<&[u8]>)
-    ensures lines { lines_of text.now ≡ result.0.now ∷ lines_left result.1 }
-    ensures shorter { size_left result.1 ≤ length text.now }
-{
-    match cut_at(b'\n', text) {
-        Some((line, after)) => (line, Some(after)),
-        None => (text, None),
-    }
-}
-
 fn has_member_line(text: &[u8]) -> bool
     ensures { result ≡ list_any is_member_line (lines_of text.now) }
 {
     let mut left = Some(text);
     while let Some(text) = left {
-        let (line, after) = cut_line(text);
+        let (line, after) = cut_part(b'\n', text);
         if is_member_line(line) {
             return true;
         }
@@ -130,7 +118,7 @@ fn read_lines(alloc: Global, text: &[u8]) -> Result<Schedule, ScheduleRefusal>
     let mut left = Some(text);
     let mut number = 1;
     while let Some(text) = left {
-        let (line, after) = cut_line(text);
+        let (line, after) = cut_part(b'\n', text);
         if let Err(fault) = read_line(alloc, &mut reading, line) {
             return Err(refusal(number, fault));
         }

@@ -300,12 +300,7 @@ impl Reading {
     }
 
     #[tactic(auto, unfolding(crate::specs::Known::fvote_check))]
-    fn fvote_check(
-        &self,
-        member: u32,
-        tx: &[u8],
-        origins: &[Option<Seq<u8>>],
-    ) -> Result<(), Cause>
+    fn fvote_check(&self, member: u32, tx: &[u8], origins: &[Option<Seq<u8>>]) -> Result<(), Cause>
         requires { Agrees self.now }
         ensures { result ≡ fvote_check self.now.schedule member tx.now origins.now }
     {
@@ -360,7 +355,9 @@ fn add_role(roles: &mut Seq<bool>, setup: &Setup) -> Result<(), OutOfMemory>
 {
     match setup {
         Setup::Member { stake: _, honest } => roles.push(*honest),
-        Setup::Coin { .. } | Setup::Counter { .. } | Setup::Cap { .. } | Setup::Writers(_) => Ok(()),
+        Setup::Coin { .. } | Setup::Counter { .. } | Setup::Cap { .. } | Setup::Writers(_) => Ok(
+            (),
+        ),
     }
 }
 

@@ -1,5 +1,4 @@
-use Rattle.std.proofs.Common.{◌++◌, ap, ◌∙◌, append_assoc}
-use Rattle.report_text.specs.Text.{body_of, names_text}
+use Rattle.report_text.specs.Text.{body_of}
 use Rattle.report_text.proofs.Appends.{appends_then, joined}
 use Rattle.report_text.proofs.printer.print_body.Goals as goal
 

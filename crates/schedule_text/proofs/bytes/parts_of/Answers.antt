@@ -6,7 +6,7 @@ use Rattle.schedule_text.proofs.bytes.parts_of.Goals as goal
 pub returns : goal.returns
 returns c =
     let h =
-        map_from_collect _ c.collect.ensures.ran
-        (YieldsList-from_slice_split _ (λ b. b == c.args.byte) c.args.text.now c.split.ensures.rest c.split.ensures.done c.split.ensures.closure
-            (λ x r q k. search (rules, tests))) in
+    map_from_collect _ c.collect.ensures.ran
+    (YieldsList-from_slice_split _ (λ b. b == c.args.byte) c.args.text.now c.split.ensures.rest c.split.ensures.done c.split.ensures.closure
+    (λ x r q k. search (rules, tests))) in
     rw c.in_ok-collect.was at h

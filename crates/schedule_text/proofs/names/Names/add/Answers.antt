@@ -1,6 +1,3 @@
-use Rattle.std.proofs.Common.{sym, ◌∙◌}
-use Rattle.std.specs.Str.{bytes_eq}
-use Rattle.schedule_text.specs.Known.{is_among}
 use Rattle.schedule_text.proofs.NameLists.{map-added}
 use Rattle.schedule_text.proofs.names.Names.add.Goals as goal
 

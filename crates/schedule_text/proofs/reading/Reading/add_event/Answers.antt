@@ -1,6 +1,4 @@
-use Rattle.std.proofs.Common.{sym, ◌∙◌, subst}
-use Rattle.schedule_text.specs.Agrees.{IsNewName}
-use Rattle.schedule_text.specs.Known.{tx_name}
+use Rattle.std.proofs.Common.{sym, ◌∙◌}
 use Rattle.schedule_text.proofs.Agree.{tx_is_new, txs_after}
 use Rattle.schedule_text.proofs.reading.Reading.add_event.Goals as goal
 
