@@ -2,10 +2,10 @@
 use Rattle.std.specs.Prelude.{◌≡◌, ℕ, List, [], ◌∷◌, Option, Ok, Err, ◌⊎◌, codes}
 use Rattle.std.specs.Io.KnownBytes.{Appends, Consumes, IsAtEnd, Keeps}
 use Rattle.schedule_text.specs.declared.words.Schedule.{Schedule}
-use Rattle.schedule_text.specs.Schedule.{Refused, longest_text, schedule_of}
+use Rattle.schedule_text.specs.Schedule.{Refused, longest_text}
 use Rattle.vote_spec.specs.Run.{new_world}
 use Rattle.vote_spec.specs.Safety.{Cast, NeverTwice, NoCollision, casts_from}
-use Rattle.committee.specs.Report.{output_of, refusal_text, report_of}
+use Rattle.committee.specs.Report.{output_of, readable, refusal_text, report_of}
 use Rattle.committee.specs.Streams.{AppendsFront, ReadsText}
 
 -- the words are exactly `run`
@@ -23,7 +23,7 @@ pub record IsWhole (left left' held held' : Option (List ℕ)) : Type 0 where
   pub schedule : Schedule
   pub read : Consumes left left' text
   pub ended : IsAtEnd left'
-  pub is : schedule_of text ≡ Ok schedule
+  pub is : readable text ≡ Ok schedule
   pub written : Appends held held' (report_of schedule)
   pub never_twice : NoCollision (casts_of schedule) → NeverTwice (casts_of schedule)
 
@@ -32,7 +32,7 @@ pub record IsRefused (left left' held held' : Option (List ℕ)) : Type 0 where
   pub text : List ℕ
   pub refused : Refused
   pub read : ReadsText longest_text left left' text
-  pub is : schedule_of text ≡ Err refused
+  pub is : readable text ≡ Err refused
   pub written : Appends held held' (refusal_text refused)
 
 -- the text was read whole, and a front of what is to be written for it was written

@@ -6,8 +6,13 @@ use Rattle.report_text.specs.declared.lines.Line.TheVariants as line
 use Rattle.report_text.specs.Text.{text_of}
 use Rattle.schedule_text.specs.declared.words.Event.{Event}
 use Rattle.schedule_text.specs.declared.words.Schedule.{Schedule}
-use Rattle.schedule_text.specs.Schedule.{Refused, schedule_of}
-use Rattle.vote_spec.specs.Run.{World, new_world, step}
+use Rattle.schedule_text.specs.Forms.{schedule_within}
+use Rattle.schedule_text.specs.Schedule.{Refused}
+use Rattle.vote_spec.specs.Run.{World, is_built, new_world, step}
+
+-- the schedule that bytes are, where all its lines have a form that is run
+abbrev pub readable : List ℕ → Result Schedule Refused
+readable text = schedule_within is_built text
 
 -- the bytes of lines
 abbrev pub lines_text : List Line → List ℕ
@@ -32,4 +37,4 @@ output_for (Ok s) = report_of s
 output_for (Err r) = refusal_text r
 
 abbrev pub output_of : List ℕ → List ℕ
-output_of text = output_for (schedule_of text)
+output_of text = output_for (readable text)

@@ -3,12 +3,12 @@
 ghost use Rattle.std.specs.Prelude.{◌≡◌, ◌≤◌, ◌++◌, [], IfOk, OnOk, IsErrOf, Ok, Err, ◌⊎◌};
 ghost use Rattle.std.specs.Io.KnownBytes.{Appends};
 ghost use Rattle.outside.specs.Causes.{Rose};
-ghost use Rattle.report_text.specs.declared.lines.Line.TheVariants as line;
+ghost use Rattle.report_text.specs.declared.lines.Line.TheVariants as report_line;
 ghost use Rattle.report_text.specs.Text.{text_of};
 ghost use Rattle.schedule_text.specs.declared.words.Schedule.{Schedule};
-ghost use Rattle.schedule_text.specs.Schedule.{Refused, schedule_of};
+ghost use Rattle.schedule_text.specs.Schedule.{Refused};
 ghost use Rattle.vote_spec.specs.Run as run;
-ghost use Rattle.committee.specs.Report.{lines_text, output_of, refusal_text, report_from, report_of};
+ghost use Rattle.committee.specs.Report.{lines_text, output_of, readable, refusal_text, report_from, report_of};
 ghost use Rattle.committee.specs.Streams.{AppendsFront};
 ghost use Rattle.committee.specs.declared.stop.Stop.TheVariants as stop;
 
@@ -16,10 +16,10 @@ use crate::stop::Stop;
 use crate::streams::write_all;
 use outside::Sink;
 use report_text::{Line, print_line};
-use schedule_text::{Event, Schedule, ScheduleRefusal, read_schedule};
+use schedule_text::{Event, Schedule, ScheduleRefusal, read_schedule_within};
 use std::alloc::Global;
 use wire_bcs::{OutOfMemory, Seq};
-use world_core::World;
+use world_core::{BuiltForms, World};
 
 /// The bytes of lines.
 fn print_lines(alloc: Global, lines: &Seq<Line>) -> Result<Seq<u8>, OutOfMemory>
@@ -86,8 +86,8 @@ fn run_schedule<K: Sink>(alloc: Global, schedule: &Schedule, sink: &mut K) -> Re
 
 /// Writes the line of a refusal.
 fn refuse<K: Sink>(alloc: Global, line: u64, cause: u8, sink: &mut K) -> Result<(), Stop>
-    ensures ok { OnOk result (Appends (K.held sink.old) (K.held sink.new) (text_of (line.Refused line cause))) }
-    ensures some { AppendsFront (K.held sink.old) (K.held sink.new) (text_of (line.Refused line cause)) }
+    ensures ok { OnOk result (Appends (K.held sink.old) (K.held sink.new) (text_of (report_line.Refused line cause))) }
+    ensures some { AppendsFront (K.held sink.old) (K.held sink.new) (text_of (report_line.Refused line cause)) }
     ensures later { K.faults sink.old ≤ K.faults sink.new }
     ensures fault { IsErrOf result stop.WriteFault → Rose (K.faults sink.old) (K.faults sink.new) }
     ensures only { IsErrOf result stop.ReadFault ⊎ IsErrOf result stop.Refused → ⊥ }
@@ -105,14 +105,14 @@ fn refuse<K: Sink>(alloc: Global, line: u64, cause: u8, sink: &mut K) -> Result<
 
 /// Runs a text: writes the report of the schedule that it is, or the line that says why it is none.
 pub(crate) fn run_text<K: Sink>(alloc: Global, text: &[u8], sink: &mut K) -> Result<(), Stop>
-    ensures ok { OnOk result ((s : Schedule) × (schedule_of text.now ≡ Ok s) × Appends (K.held sink.old) (K.held sink.new) (report_of s)) }
-    ensures refused { IsErrOf result stop.Refused → (r : Refused) × (schedule_of text.now ≡ Err r) × Appends (K.held sink.old) (K.held sink.new) (refusal_text r) }
+    ensures ok { OnOk result ((s : Schedule) × (readable text.now ≡ Ok s) × Appends (K.held sink.old) (K.held sink.new) (report_of s)) }
+    ensures refused { IsErrOf result stop.Refused → (r : Refused) × (readable text.now ≡ Err r) × Appends (K.held sink.old) (K.held sink.new) (refusal_text r) }
     ensures some { AppendsFront (K.held sink.old) (K.held sink.new) (output_of text.now) }
     ensures later { K.faults sink.old ≤ K.faults sink.new }
     ensures fault { IsErrOf result stop.WriteFault → Rose (K.faults sink.old) (K.faults sink.new) }
     ensures only { IsErrOf result stop.ReadFault → ⊥ }
 {
-    match read_schedule(alloc, text) {
+    match read_schedule_within(alloc, &BuiltForms, text) {
         Ok(schedule) => run_schedule(alloc, &schedule, sink),
         Err(ScheduleRefusal::Refused { line, cause }) => {
             refuse(alloc, line, cause, sink)?;

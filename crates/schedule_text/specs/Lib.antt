@@ -8,3 +8,4 @@ pub mod Left
 pub mod Lines
 pub mod Refs
 pub mod Schedule
+pub mod Forms

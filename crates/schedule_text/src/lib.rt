@@ -7,6 +7,7 @@
 mod bytes;
 mod cause;
 mod commands;
+mod forms;
 mod inputs;
 mod lines;
 mod names;
@@ -17,7 +18,9 @@ mod statement;
 mod words;
 
 pub use cause::Cause;
+pub use forms::{Forms, read_schedule_within};
 pub use reader::read_schedule;
+pub use statement::Statement;
 pub use words::{
     ArgWord, CommandWord, Event, InputWord, ObjWord, RefWord, Schedule, ScheduleRefusal, Setup,
 };

@@ -4,7 +4,7 @@ use crate::words::{Event, Setup};
 
 /// A line that is not skipped.
 #[derive(Drop)]
-pub(crate) enum Statement {
+pub enum Statement {
     /// A set-up line.
     Setup(Setup),
     /// An event line.

@@ -1,6 +1,6 @@
 -- A run of a schedule whose lines are members, coins, transfers of gas coins and votes.
 -- Source: this profile, for the schedule and the report; Sui documentation, for the objects and transactions.
-use Rattle.std.specs.Prelude.{◌≡◌, ◌==◌, ℕ, Bool, true, false, List, [], ◌∷◌, ◌++◌, Option, Some, None, Result, Ok, Err, is_some, fold, map, length, replicate, unwrap_or, bytes_eq, codes, decimal, slice_get, slice_set, count_by, if◌then◌else◌}
+use Rattle.std.specs.Prelude.{◌≡◌, ◌==◌, ◌&&◌, ℕ, Bool, true, false, not, nat_le, List, [], ◌∷◌, ◌++◌, Option, Some, None, Result, Ok, Err, is_some, fold, map, length, replicate, unwrap_or, bytes_eq, codes, decimal, slice_get, slice_set, count_by, if◌then◌else◌}
 use Rattle.std.specs.Option.{option_map_or}
 use Rattle.digest_core.specs.declared.Digest.{Digest}
 use Rattle.digest_core.specs.Tagged.{address_of_name, genesis_id_of}
@@ -19,6 +19,8 @@ use Rattle.chain_types.specs.declared.transactions.Input.TheVariants as input
 use Rattle.chain_types.specs.declared.transactions.Transaction.{Transaction}
 use Rattle.chain_types.specs.Digests.{digest_of_object, transaction_digest}
 use Rattle.chain_types.specs.Equal.{digest_eq, id_eq}
+use Rattle.schedule_text.specs.declared.statement.Statement.{Statement}
+use Rattle.schedule_text.specs.declared.statement.Statement.TheVariants as statement
 use Rattle.schedule_text.specs.declared.words.ArgWord.TheVariants as arg_word
 use Rattle.schedule_text.specs.declared.words.CommandWord.{CommandWord}
 use Rattle.schedule_text.specs.declared.words.CommandWord.TheVariants as command_word
@@ -179,3 +181,28 @@ step w e = nothing w
 abbrev pub lines_from : World → List Event → List Line
 lines_from w [] = []
 lines_from w (e ∷ es) = (step w e).lines ++ lines_from (step w e).world es
+
+-- the forms of line that this run has: honest members, coins, transfers of gas and votes
+abbrev pub is_built_setup : Setup → Bool
+is_built_setup (setup_line.Member stake honest) = honest
+is_built_setup (setup_line.Coin name user balance) = true
+is_built_setup s = false
+
+abbrev pub is_setup_name : ObjWord → Bool
+is_setup_name (object_word.Setup name) = true
+is_setup_name o = false
+
+-- an opening coin pays: version 1, and nothing spoiled
+abbrev pub is_opening_coin : RefWord → Bool
+is_opening_coin r = is_setup_name r.object && r.version == 1 && not r.spoiled
+
+-- a transfer of the gas coin in epoch 0, whose budget pays its cost
+abbrev pub is_built_event : Event → Bool
+is_built_event (event.Tx name sender spoiled epoch gas budget inputs commands) =
+    not spoiled && epoch == 0 && is_opening_coin gas && nat_le 1100 budget && is_some (recipient_of inputs) && transfers_gas commands
+is_built_event (event.Vote member tx) = true
+is_built_event e = false
+
+unfoldable pub is_built : Statement → Bool
+is_built (statement.Setup s) = is_built_setup s
+is_built (statement.Event e) = is_built_event e

@@ -7,7 +7,9 @@
 #![tactic(auto)]
 
 mod ask;
+mod forms;
 mod text;
 mod world;
 
+pub use forms::BuiltForms;
 pub use world::World;
