@@ -1,0 +1,6 @@
+use Rattle.std.proofs.Common.{◌≡◌, ◌++◌}
+use Rattle.schedule_make.specs.Make.{for_each, coin_text}
+use Rattle.schedule_make.proofs.make.print_coins.Given as goal
+
+abbrev pub invariant-loop-k : goal.invariant-loop-k
+invariant-loop-k l = l.out ≡ l.fn.out ++ for_each coin_text l.k

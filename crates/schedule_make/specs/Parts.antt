@@ -1,0 +1,8 @@
+-- What a part of a line prints.
+use Rattle.std.specs.Prelude.{ℕ, List, decimal}
+use Rattle.schedule_make.specs.declared.parts.Part.{Part}
+use Rattle.schedule_make.specs.declared.parts.Part.TheVariants as part
+
+abbrev pub part_text : Part → List ℕ
+part_text (part.Text text) = text.now
+part_text (part.Number n) = decimal n

@@ -1,0 +1,10 @@
+//! The schedules that show the program at work: `number` transactions of four shapes, run by
+//! four members, of which one comes late and uses `workers` threads.
+#![tactic(auto)]
+
+mod make;
+mod parts;
+#[cfg(test)]
+mod tests;
+
+pub use make::make_text;
