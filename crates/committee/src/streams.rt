@@ -53,7 +53,7 @@ pub(crate) fn read_text<S: Source>(alloc: Global, source: &mut S) -> Result<Seq<
     ensures fault { IsErrOf result stop.ReadFault → Rose (S.faults source.old) (S.faults source.new) }
     ensures only { IsErrOf result stop.WriteFault ⊎ IsErrOf result stop.Refused → ⊥ }
 {
-    let mut buffer = zeros(alloc)?;
+    let mut buffer = zeros(alloc, PIECE)?;
     let mut text = Seq::new(alloc);
     let mut room = MOST_BYTES;
     while room > 0 {
@@ -66,12 +66,12 @@ pub(crate) fn read_text<S: Source>(alloc: Global, source: &mut S) -> Result<Seq<
     Ok(text)
 }
 
-/// A buffer for one piece.
-fn zeros(alloc: Global) -> Result<Vec<u8>, Stop>
-    ensures room { IfOk result (λ buffer. 0 < length buffer.items) }
+/// A buffer of so many bytes.
+fn zeros(alloc: Global, count: usize) -> Result<Vec<u8>, Stop>
+    ensures room { IfOk result (λ buffer. length buffer.items ≡ count) }
     ensures only { IsErrOf result stop.ReadFault ⊎ IsErrOf result stop.WriteFault ⊎ IsErrOf result stop.Refused → ⊥ }
 {
-    match vec![in alloc; 0u8; PIECE] {
+    match vec![in alloc; 0u8; count] {
         Ok(buffer) => Ok(buffer),
         Err(_) => Err(Stop::OutOfMemory),
     }

@@ -1,6 +1,6 @@
 //! The top call.
 
-ghost use Rattle.std.specs.Prelude.{◌≡◌, ◌↔◌, ◌⊎◌, map, IsErrOf, IsTrue, OnOk};
+ghost use Rattle.std.specs.Prelude.{◌≡◌, ◌↔◌, ◌⊎◌, codes, map, IsErrOf, IsTrue, OnOk};
 ghost use Rattle.std.specs.String.{string_bytes};
 ghost use Rattle.std.specs.Io.KnownBytes.{Keeps};
 ghost use Rattle.outside.specs.Causes.{Rose};
@@ -13,12 +13,19 @@ use crate::streams::read_text;
 use outside::{Sink, Source};
 use std::alloc::Global;
 
+/// Whether the word is `run`.
+fn is_run_word(word: &str) -> bool
+    ensures { IsTrue result ↔ (word.now ≡ codes "run") }
+{
+    word == "run"
+}
+
 /// Whether the words are exactly `run`.
 fn is_run(words: &[String]) -> bool
     ensures { IsTrue result ↔ IsRun (map string_bytes words.now) }
 {
     match words {
-        [word] => word.as_str() == "run",
+        [word] => is_run_word(word.as_str()),
         _ => false,
     }
 }

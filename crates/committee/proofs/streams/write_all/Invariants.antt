@@ -1,0 +1,9 @@
+use Rattle.std.proofs.Common.{◌≤◌}
+use Rattle.committee.specs.Streams.{Owes}
+use Rattle.committee.proofs.streams.write_all.Given as goal
+
+abbrev pub invariant-loop-rest : goal.invariant-loop-rest
+invariant-loop-rest g l = record {
+  owes : Owes (g.K.Sink.held l.fn.sink) (g.K.Sink.held l.sink) l.rest l.bytes;
+  later : g.K.Sink.faults l.fn.sink ≤ g.K.Sink.faults l.sink;
+}
