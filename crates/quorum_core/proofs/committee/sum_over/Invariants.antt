@@ -1,4 +1,4 @@
-use Rattle.std.proofs.Common.{◌≡◌, ◌+◌, ◌≤◌, true, drop}
+use Rattle.std.proofs.Common.{◌≡◌, ◌+◌, true, drop}
 use Rattle.quorum_core.specs.Committee.{is_roll, weight}
 use Rattle.quorum_core.proofs.committee.sum_over.Given as goal
 

@@ -1,4 +1,4 @@
-use Rattle.std.proofs.Common.{ℕ, List, [], ◌∷◌, ◌++◌, ap, ◌∙◌, subst, append_assoc}
+use Rattle.std.proofs.Common.{ℕ, List, ◌∷◌, ◌++◌, ap, ◌∙◌, subst, append_assoc}
 use Rattle.std.specs.Int.{w32}
 use Rattle.digest_core.specs.Tagged.{Hashes}
 use Rattle.wire_bcs.specs.Little.{to_le_bytes-is}
