@@ -1,5 +1,5 @@
 -- The arguments of a command, as one beside a list.
-use Rattle.std.proofs.Common.{◌≡◌, ℕ, ◌+◌, Bool, false, true, ◌||◌, List, [], ◌∷◌, ◌++◌, length, refl, ap, sym, ◌∙◌, Option, Some, None, is_some, cond, arith}
+use Rattle.std.proofs.Common.{◌≡◌, ◌+◌, Bool, false, true, ◌||◌, List, [], ◌∷◌, ◌++◌, length, refl, ap, ◌∙◌, is_some, cond, arith}
 use Rattle.std.specs.List.{list_any}
 use Rattle.std.proofs.lemmas.Grind.{common_steps}
 use Rattle.chain_types.specs.declared.transactions.Argument.{Argument}

@@ -1,9 +1,8 @@
 -- Long lists make long spellings, and short lists can be spelled.
-use Rattle.std.proofs.Common.{◌≡◌, ℕ, suc, zero, ◌+◌, ◌<◌, ◌≤◌, Bool, true, false, ◌||◌, List, [], ◌∷◌, ◌++◌, length, refl, ap, sym, ◌∙◌, arith, length-append, inl, inr}
+use Rattle.std.proofs.Common.{◌≡◌, ℕ, suc, zero, ◌+◌, ◌<◌, ◌≤◌, Bool, true, false, ◌||◌, List, [], ◌∷◌, ◌++◌, length, refl, arith, length-append}
 use Rattle.std.specs.Prelude.{nat_lt, All, flat_map, slice_index_or}
 use Rattle.std.specs.List.{list_any}
 use Rattle.std.proofs.lemmas.Bool.{ltb-true, ltb-false, lt-ltb}
-use Rattle.wire_bcs.specs.Codec.{Codec}
 use Rattle.wire_bcs.specs.Uleb.{uleb}
 use Rattle.wire_bcs.specs.Items.{bytes_spell, number_spell, length_limit}
 use Rattle.wire_bcs.specs.Digests.{digest}
@@ -19,7 +18,7 @@ use Rattle.chain_types.specs.declared.transactions.Input.{Input}
 use Rattle.chain_types.specs.declared.transactions.Input.TheVariants as input
 use Rattle.chain_types.specs.declared.transactions.Transaction.{Transaction}
 use Rattle.chain_types.specs.Transactions as codecs
-use Rattle.tx_check.specs.Parts.{has_long_list, is_long_command, is_long_input, is_long_list, listed_of}
+use Rattle.tx_check.specs.Parts.{has_long_list, is_long_command, is_long_input, is_long_list}
 
 behind : (xs ys : List ℕ) → length ys ≤ length (xs ++ ys)
 behind xs ys = let e = length-append xs ys in omega arith

@@ -1,6 +1,7 @@
 //! The faults of shape, the least first.
 
-ghost use Rattle.std.specs.Prelude.{◌≡◌, IfOk, nat_lt};
+ghost use Rattle.std.specs.Prelude.{◌≡◌, ◌≤◌, IfOk, length, nat_lt};
+ghost use Rattle.chain_types.specs.Transactions.{transaction};
 ghost use Rattle.chain_spec.specs.Shape.{cost, shape_fault};
 ghost use Rattle.tx_check.specs.Answers.{Checks};
 ghost use Rattle.tx_check.specs.Parts.{command_fault, list_fault};
@@ -97,7 +98,10 @@ fn command_fault(tx: &Transaction) -> Option<u8>
 
 /// Whether the transaction has a valid shape, or the least of its faults.
 pub fn check_shape(alloc: Global, tx: &Transaction) -> Result<(), ShapeRefusal>
-    ensures { Checks result (shape_fault tx.now) }
+    ensures fault { Checks result (shape_fault tx.now) }
+    // A transaction of valid shape may be spelled, and has few inputs.
+    ensures short { IfOk result (λ _. transaction.short tx.now) }
+    ensures few { IfOk result (λ _. length tx.now.inputs ≤ 256) }
 {
     if let Some(number) = list_fault(alloc, tx)? {
         return Err(ShapeRefusal::Invalid(number));

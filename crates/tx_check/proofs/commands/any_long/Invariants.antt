@@ -1,4 +1,4 @@
-use Rattle.std.proofs.Common.{◌≡◌, length, drop}
+use Rattle.std.proofs.Common.{◌≡◌, drop}
 use Rattle.std.specs.List.{list_any}
 use Rattle.tx_check.specs.Parts.{is_long_command}
 use Rattle.tx_check.proofs.commands.any_long.Given as goal

@@ -1,4 +1,4 @@
-use Rattle.std.proofs.Common.{◌≡◌, length, drop}
+use Rattle.std.proofs.Common.{◌≡◌, drop}
 use Rattle.std.specs.List.{list_any}
 use Rattle.chain_spec.specs.Shape.{is_no_native}
 use Rattle.tx_check.proofs.commands.any_no_native.Given as goal

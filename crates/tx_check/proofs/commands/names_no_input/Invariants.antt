@@ -1,4 +1,4 @@
-use Rattle.std.proofs.Common.{◌≡◌, length, drop}
+use Rattle.std.proofs.Common.{◌≡◌, drop}
 use Rattle.std.specs.List.{list_any}
 use Rattle.chain_spec.specs.Shape.{arguments_of, is_no_input}
 use Rattle.tx_check.proofs.commands.names_no_input.Given as goal

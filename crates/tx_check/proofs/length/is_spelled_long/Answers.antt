@@ -1,4 +1,4 @@
-use Rattle.std.proofs.Common.{◌∙◌, sym}
+use Rattle.std.proofs.Common.{sym}
 use Rattle.tx_check.proofs.Long.{long_lists, short_lists}
 use Rattle.tx_check.proofs.length.is_spelled_long.Goals as goal
 
