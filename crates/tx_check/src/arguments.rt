@@ -1,10 +1,9 @@
 //! What single arguments name.
 
-ghost use Rattle.std.specs.Prelude.{◌≡◌, ◌||◌, ◌+◌, Bool, if◌then◌else◌, is_some, length};
+ghost use Rattle.std.specs.Prelude.{◌≡◌, length};
 ghost use Rattle.std.specs.List.{list_any};
-ghost use Rattle.chain_types.specs.declared.transactions.Argument.{Argument as Arg};
 ghost use Rattle.chain_spec.specs.Shape.{arguments_of, is_late, is_no_input};
-ghost use Rattle.tx_check.specs.Parts.{any_lone, listed_of, lone_of};
+ghost use Rattle.tx_check.specs.Parts.{listed_of, lone_of};
 
 use chain_types::{Argument, Command, Transaction};
 
