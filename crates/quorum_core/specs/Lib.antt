@@ -1,1 +1,3 @@
+pub mod Committee
+pub mod Seals
 pub mod Signers

@@ -1,0 +1,72 @@
+-- The least fault, from the first five cases and the others.
+use Rattle.std.proofs.Common.{◌≡◌, ◌≤◌, ℕ, zero, suc, Bool, true, false, length, get_or, List, [], ◌∷◌, Option, Some, None, refl, ap, sym, ◌∙◌}
+use Rattle.chain_types.specs.declared.transactions.Transaction.{Transaction}
+use Rattle.chain_spec.specs.Shape.{shape_cases, shape_fault}
+use Rattle.chain_types.specs.Transactions.{transaction}
+use Rattle.std.specs.Prelude.{nat_lt}
+use Rattle.std.proofs.lemmas.Bool.{ltb-false}
+use Rattle.tx_check.proofs.Long.{long_lists, short_lists}
+use Rattle.chain_spec.specs.Words.{first_some, where_true}
+use Rattle.tx_check.specs.Parts.{behind_five, command_fault, first_five, has_long_list, list_fault}
+
+abbrev or_else : Option ℕ → Option ℕ → Option ℕ
+or_else None y = y
+or_else (Some x) y = Some x
+
+split : (a b c d e : Option ℕ) (rest : List (Option ℕ)) → first_some (a ∷ b ∷ c ∷ d ∷ e ∷ rest) ≡ or_else (first_some (a ∷ b ∷ c ∷ d ∷ e ∷ [])) (first_some rest)
+split (Some n) b c d e rest = refl
+split None (Some n) c d e rest = refl
+split None None (Some n) d e rest = refl
+split None None None (Some n) e rest = refl
+split None None None None (Some n) rest = refl
+split None None None None None rest = refl
+
+alone : (x : Option ℕ) → x ≡ or_else x None
+alone None = refl
+alone (Some n) = refl
+
+split_list : (cases : List (Option ℕ)) → first_some cases ≡ or_else (first_some (first_five cases)) (first_some (behind_five cases))
+split_list [] = refl
+split_list (a ∷ []) = alone (first_some (a ∷ []))
+split_list (a ∷ b ∷ []) = alone (first_some (a ∷ b ∷ []))
+split_list (a ∷ b ∷ c ∷ []) = alone (first_some (a ∷ b ∷ c ∷ []))
+split_list (a ∷ b ∷ c ∷ d ∷ []) = alone (first_some (a ∷ b ∷ c ∷ d ∷ []))
+split_list (a ∷ b ∷ c ∷ d ∷ e ∷ rest) = split a b c d e rest
+
+whole : (t : Transaction) → shape_fault t ≡ or_else (list_fault t) (command_fault t)
+unfolding shape_fault list_fault command_fault
+whole t = split_list (shape_cases t)
+
+pub in_lists : (t : Transaction) (n : ℕ) → list_fault t ≡ Some n → shape_fault t ≡ Some n
+in_lists t n e = whole t ∙ ap (λ x. or_else x (command_fault t)) e
+
+pub in_commands : (t : Transaction) (x : Option ℕ) → list_fault t ≡ None → command_fault t ≡ x → shape_fault t ≡ x
+in_commands t x e f = whole t ∙ ap (λ y. or_else y (command_fault t)) e ∙ f
+
+-- where there is no fault, no case has one
+none_at : (cases : List (Option ℕ)) (place : ℕ) → first_some cases ≡ None → get_or cases place None ≡ None
+none_at [] place e = refl
+none_at (Some n ∷ cases) place e = absurd (cc)
+none_at (None ∷ cases) zero e = refl
+none_at (None ∷ cases) (suc place) e = none_at cases place e
+
+not_so : (b : Bool) (n : ℕ) → where_true b n ≡ None → b ≡ false
+not_so true n e = absurd (cc)
+not_so false n e = refl
+
+none_long : (t : Transaction) → nat_lt 131072 (length (transaction.spell t)) ≡ false → has_long_list t ≡ false
+none_long t e = go (has_long_list t) refl
+  where
+    go : (b : Bool) → has_long_list t ≡ b → has_long_list t ≡ false
+    go false is = is
+    go true is = absurd (let clash = sym (long_lists t is) ∙ e in cc)
+
+-- a transaction of valid shape can be spelled
+pub valid_short : (t : Transaction) → shape_fault t ≡ None → transaction.short t
+unfolding shape_fault
+valid_short t e = short_lists t (none_long t (not_so (nat_lt 131072 (length (transaction.spell t))) 1 (none_at (shape_cases t) zero e)))
+
+-- and has few inputs
+pub valid_few : (t : Transaction) → shape_fault t ≡ None → length t.inputs ≤ 256
+unfolding shape_fault
+valid_few t e = ltb-false 256 (length t.inputs) (not_so (nat_lt 256 (length t.inputs)) 4 (none_at (shape_cases t) (suc (suc (suc zero))) e))

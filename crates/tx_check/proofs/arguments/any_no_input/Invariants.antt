@@ -1,0 +1,7 @@
+use Rattle.std.proofs.Common.{◌≡◌, drop}
+use Rattle.std.specs.List.{list_any}
+use Rattle.chain_spec.specs.Shape.{is_no_input}
+use Rattle.tx_check.proofs.arguments.any_no_input.Given as goal
+
+abbrev pub invariant-loop-argument : goal.invariant-loop-argument
+invariant-loop-argument l = list_any (is_no_input l.tx) (drop l.argument-index l.arguments) ≡ list_any (is_no_input l.tx) l.arguments

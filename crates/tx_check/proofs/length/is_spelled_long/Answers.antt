@@ -1,0 +1,9 @@
+use Rattle.std.proofs.Common.{sym}
+use Rattle.tx_check.proofs.Long.{long_lists, short_lists}
+use Rattle.tx_check.proofs.length.is_spelled_long.Goals as goal
+
+pub returns-then-has_long_list : goal.returns-then-has_long_list
+returns-then-has_long_list c = sym (long_lists c.args.tx.now (sym c.if-has_long_list.ensures))
+
+pub encode_tx-requires : goal.encode_tx-requires
+encode_tx-requires c = short_lists c.args.tx.now (sym c.if-has_long_list.ensures)

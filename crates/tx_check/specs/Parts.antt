@@ -1,0 +1,73 @@
+-- The parts in which a transaction is looked at.
+use Rattle.std.specs.Prelude.{ℕ, Bool, true, false, ◌||◌, nat_lt, List, [], ◌∷◌, ◌++◌, length, Option, Some, None, if◌then◌else◌}
+use Rattle.std.specs.List.{list_any}
+use Rattle.chain_types.specs.declared.transactions.Argument.{Argument}
+use Rattle.chain_types.specs.declared.transactions.Command.{Command}
+use Rattle.chain_types.specs.declared.transactions.Command.TheVariants as command
+use Rattle.chain_types.specs.declared.transactions.Input.{Input}
+use Rattle.chain_types.specs.declared.transactions.Input.TheVariants as input
+use Rattle.chain_types.specs.declared.transactions.Transaction.{Transaction}
+use Rattle.chain_types.specs.declared.objects.ObjectId.{ObjectId}
+use Rattle.chain_types.specs.Equal.{id_eq}
+use Rattle.chain_spec.specs.Shape.{shape_cases}
+use Rattle.chain_spec.specs.Words.{first_some}
+
+-- ---- arguments: one beside the list, and the list
+
+abbrev pub lone_of : Command → Option Argument
+lone_of (command.Call native args) = None
+lone_of (command.Transfer values to) = Some to
+lone_of (command.Split coin amounts) = Some coin
+lone_of (command.Merge target sources) = Some target
+lone_of (command.MakeVec kind values) = None
+
+abbrev pub listed_of : Command → List Argument
+listed_of (command.Call native args) = args
+listed_of (command.Transfer values to) = values
+listed_of (command.Split coin amounts) = amounts
+listed_of (command.Merge target sources) = sources
+listed_of (command.MakeVec kind values) = values
+
+abbrev pub any_lone : (Argument → Bool) → Option Argument → Bool
+any_lone test None = false
+any_lone test (Some argument) = test argument
+
+-- ---- lists that alone are longer than a transaction may be spelled
+
+abbrev pub is_long_list : {A : Type 0} → List A → Bool
+is_long_list xs = nat_lt 131072 (length xs)
+
+abbrev pub is_long_input : Input → Bool
+is_long_input (input.Pure bytes) = is_long_list bytes
+is_long_input (input.Owned r) = false
+is_long_input (input.Immutable r) = false
+is_long_input (input.Shared id initial mutable) = false
+
+abbrev pub is_long_command : Command → Bool
+is_long_command c = is_long_list (listed_of c)
+
+abbrev pub has_long_list : Transaction → Bool
+has_long_list t = is_long_list t.inputs || (list_any is_long_input t.inputs || (is_long_list t.commands || list_any is_long_command t.commands))
+
+-- ---- ids, one after the other
+
+-- whether an id was among the earlier ones, or comes twice
+abbrev pub repeats_after : List ObjectId → List ObjectId → Bool
+repeats_after seen [] = false
+repeats_after seen (id ∷ rest) = if list_any (λ other. id_eq id other) seen then true else repeats_after (seen ++ id ∷ []) rest
+
+-- ---- the first five faults, and the others
+
+abbrev pub first_five : {A : Type 0} → List A → List A
+first_five (a ∷ b ∷ c ∷ d ∷ e ∷ rest) = a ∷ b ∷ c ∷ d ∷ e ∷ []
+first_five xs = xs
+
+abbrev pub behind_five : {A : Type 0} → List A → List A
+behind_five (a ∷ b ∷ c ∷ d ∷ e ∷ rest) = rest
+behind_five xs = []
+
+unfoldable pub list_fault : Transaction → Option ℕ
+list_fault t = first_some (first_five (shape_cases t))
+
+unfoldable pub command_fault : Transaction → Option ℕ
+command_fault t = first_some (behind_five (shape_cases t))

@@ -1,0 +1,73 @@
+//! The ids that a transaction names.
+
+ghost use Rattle.std.specs.Prelude.{◌≡◌, ◌++◌, ◌∷◌, [], IfOk, OnOk, false};
+ghost use Rattle.std.specs.List.{list_any};
+ghost use Rattle.chain_types.specs.Equal.{id_eq};
+ghost use Rattle.chain_spec.specs.Keys.{named_id, named_ids};
+ghost use Rattle.chain_spec.specs.Words.{repeats};
+ghost use Rattle.tx_check.specs.Parts.{repeats_after};
+
+use chain_types::{Input, ObjectId, Transaction};
+use indexmap::IndexSet;
+use std::alloc::Global;
+use wire_bcs::{OutOfMemory, Seq};
+
+/// The id that the input names.
+fn named_id(input: &Input) -> Option<ObjectId>
+    ensures { result ≡ named_id input.now }
+{
+    match input {
+        Input::Pure(_) => None,
+        Input::Owned(reference) => Some(reference.id),
+        Input::Immutable(reference) => Some(reference.id),
+        Input::Shared { id, .. } => Some(*id),
+    }
+}
+
+/// The ids of the objects of a transaction, in their order.
+fn named_ids(alloc: Global, tx: &Transaction) -> Result<Seq<ObjectId>, OutOfMemory>
+    ensures { IfOk result (λ ids. ids ≡ named_ids tx.now) }
+{
+    let mut ids = Seq::new(alloc);
+    ids.push(tx.gas.id)?;
+    for input in tx.inputs.as_slice() {
+        if let Some(id) = named_id(input) {
+            ids.push(id)?;
+        }
+    }
+    Ok(ids)
+}
+
+/// Notes an id that was not seen before.
+fn note(seen: &mut IndexSet<ObjectId>, id: ObjectId) -> Result<(), OutOfMemory>
+    requires { list_any (λ other. id_eq id other) seen.old.keys ≡ false }
+    ensures { OnOk result (seen.new.keys ≡ seen.old.keys ++ id ∷ []) }
+{
+    seen.insert(id)?;
+    Ok(())
+}
+
+/// Whether one of the ids comes twice.
+fn has_twice(alloc: Global, ids: &[ObjectId]) -> Result<bool, OutOfMemory>
+    ensures { IfOk result (λ twice. twice ≡ repeats_after [] ids.now) }
+{
+    let mut seen = IndexSet::new(alloc);
+    let mut rest = ids;
+    while let [id, after @ ..] = rest {
+        if seen.contains(id) {
+            return Ok(true);
+        }
+        note(&mut seen, *id)?;
+        rest = after;
+    }
+    Ok(false)
+}
+
+/// Whether the transaction names an id twice.
+#[tactic(auto, using(crate::proofs::Twice::repeats_whole))]
+pub(crate) fn repeats_id(alloc: Global, tx: &Transaction) -> Result<bool, OutOfMemory>
+    ensures { IfOk result (λ twice. twice ≡ repeats id_eq (named_ids tx.now)) }
+{
+    let ids = named_ids(alloc, tx)?;
+    has_twice(alloc, ids.as_slice())
+}

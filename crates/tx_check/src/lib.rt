@@ -1,0 +1,17 @@
+//! The shape of a transaction: what can be said of it before any object is looked at.
+//!
+//! [`check_shape`] answers the least of the twelve faults of shape that apply, or none; what it
+//! promises is one equation by the definition of the shape. Its time is linear in the transaction.
+#![tactic(auto)]
+
+mod arguments;
+mod commands;
+mod ids;
+mod inputs;
+mod length;
+mod shape;
+
+pub use shape::{ShapeRefusal, check_shape};
+
+#[cfg(test)]
+mod tests;
