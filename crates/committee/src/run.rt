@@ -52,7 +52,7 @@ fn run_event<K: Sink>(
 }
 
 /// Runs the events in order.
-#[tactic(auto, unfolding(crate::specs::Report::report_from))]
+#[tactic(auto, using(crate::proofs::Ends::owes_all, crate::proofs::Ends::owes_less, crate::proofs::Ends::owes_cut, crate::proofs::Ends::owes_none, crate::proofs::Ends::owes_some), unfolding(crate::specs::Report::report_from))]
 fn run_events<K: Sink>(
     alloc: Global,
     world: &mut World,
@@ -84,6 +84,19 @@ fn run_schedule<K: Sink>(alloc: Global, schedule: &Schedule, sink: &mut K) -> Re
     run_events(alloc, &mut world, schedule.events.as_slice(), sink)
 }
 
+/// Writes one line.
+fn write_line<K: Sink>(alloc: Global, line: &Line, sink: &mut K) -> Result<(), Stop>
+    ensures ok { OnOk result (Appends (K.held sink.old) (K.held sink.new) (text_of line.now)) }
+    ensures some { AppendsFront (K.held sink.old) (K.held sink.new) (text_of line.now) }
+    ensures later { K.faults sink.old ≤ K.faults sink.new }
+    ensures fault { IsErrOf result stop.WriteFault → Rose (K.faults sink.old) (K.faults sink.new) }
+    ensures only { IsErrOf result stop.ReadFault ⊎ IsErrOf result stop.Refused → ⊥ }
+{
+    let mut text = Seq::new(alloc);
+    print_line(line, &mut text)?;
+    write_all(sink, text.as_slice())
+}
+
 /// Writes the line of a refusal.
 fn refuse<K: Sink>(alloc: Global, line: u64, cause: u8, sink: &mut K) -> Result<(), Stop>
     ensures ok { OnOk result (Appends (K.held sink.old) (K.held sink.new) (text_of (report_line.Refused line cause))) }
@@ -92,15 +105,11 @@ fn refuse<K: Sink>(alloc: Global, line: u64, cause: u8, sink: &mut K) -> Result<
     ensures fault { IsErrOf result stop.WriteFault → Rose (K.faults sink.old) (K.faults sink.new) }
     ensures only { IsErrOf result stop.ReadFault ⊎ IsErrOf result stop.Refused → ⊥ }
 {
-    let mut text = Seq::new(alloc);
-    print_line(
-        &Line::Refused {
-            line,
-            cause: u64::from(cause),
-        },
-        &mut text,
-    )?;
-    write_all(sink, text.as_slice())
+    let refused = Line::Refused {
+        line,
+        cause: u64::from(cause),
+    };
+    write_line(alloc, &refused, sink)
 }
 
 /// Runs a text: writes the report of the schedule that it is, or the line that says why it is none.

@@ -25,7 +25,19 @@ all_one P x p (suc k) d low = absurd (omega arith)
 pub transfer_short : (w : World) (sender : List ℕ) (epoch : ℕ) (id : ObjectId) (version budget : ℕ) (user : List ℕ) → transaction.short (transfer_of w sender epoch id version budget user)
 unfolding transaction input command argument object_ref object_id address digest
 transfer_short w sender epoch id version budget user =
-    let few : length (address_of_name user).0 < length_limit = subst (λ n. n < length_limit) (sym (address_length user)) (lit< tt) in
-    (tt, (tt, ((tt, (tt, tt)), (tt,
-    ((lit< tt, all_one input.short (inputs.Pure (address_of_name user).0) few),
-     (lit< tt, all_one command.short (commands.Transfer (arguments.Gas ∷ []) (arguments.Input 0)) ((lit< tt, all_one argument.short arguments.Gas tt), tt)))))))
+    let few : length (address_of_name user).0 < length_limit = subst (λ n. n < length_limit) (sym (address_length user)) (lit< tt) in (
+      tt,
+      (
+        tt,
+        (
+          (tt, (tt, tt)),
+          (
+            tt,
+            (
+              (lit< tt, all_one input.short (inputs.Pure (address_of_name user).0) few),
+              (lit< tt, all_one command.short (commands.Transfer (arguments.Gas ∷ []) (arguments.Input 0)) ((lit< tt, all_one argument.short arguments.Gas tt), tt)),
+            ),
+          ),
+        ),
+      ),
+    )

@@ -12,7 +12,7 @@ Answer = Result Voted DecideRefusal
 
 -- an answer, unless memory was refused
 abbrev pub settled : Answer → Result Answer OutOfMemory
-settled (Err refusal.OutOfMemory) = Err (record { })
+settled (Err refusal.OutOfMemory) = Err (record {})
 settled answer = Ok answer
 
 -- the answer of a member that is there, to a transaction that was made

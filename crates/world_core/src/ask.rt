@@ -12,7 +12,9 @@ use vote_spec::{Made, Voted};
 use wire_bcs::OutOfMemory;
 
 /// The answer, unless memory was refused.
-fn settled(answer: Result<Voted, DecideRefusal>) -> Result<Result<Voted, DecideRefusal>, OutOfMemory>
+fn settled(
+    answer: Result<Voted, DecideRefusal>,
+) -> Result<Result<Voted, DecideRefusal>, OutOfMemory>
     ensures { result ≡ settled answer }
 {
     match answer {

@@ -9,3 +9,6 @@ invariant-loop-room g l = record {
   piece : length l.buffer.items ≡ 65536;
   later : g.S.Source.faults l.fn.source ≤ g.S.Source.faults l.source;
 }
+
+abbrev pub decreases-loop-room : goal.decreases-loop-room
+decreases-loop-room g l = l.room

@@ -1,4 +1,4 @@
-use Rattle.std.proofs.Common.{◌≤◌}
+use Rattle.std.proofs.Common.{◌≤◌, length}
 use Rattle.committee.specs.Streams.{Owes}
 use Rattle.committee.proofs.streams.write_all.Given as goal
 
@@ -7,3 +7,6 @@ invariant-loop-rest g l = record {
   owes : Owes (g.K.Sink.held l.fn.sink) (g.K.Sink.held l.sink) l.rest l.bytes;
   later : g.K.Sink.faults l.fn.sink ≤ g.K.Sink.faults l.sink;
 }
+
+abbrev pub decreases-loop-rest : goal.decreases-loop-rest
+decreases-loop-rest g l = length l.rest

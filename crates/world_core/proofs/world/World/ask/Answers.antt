@@ -18,4 +18,4 @@ returns c =
     let t = told w c.ask.new.members.items c.args.member name found m c.in-Some.answer (sym c.in-Some.is ∙ c.in_ok-answer.ensures.0) c.in_ok-answer.ensures.1 in
     let lines : c.in_ok-lines.lines ≡ (asking w c.args.member name found m).lines = c.in_ok-lines.ensures ∙ ap (λ (l : Line). l ∷ []) c.in_ok-line.ensures ∙ t.0 in
     subst (λ (v : World). (c.in_ok-lines.lines ≡ (asking v c.args.member name (named v.txs name) (slice_get v.members c.args.member)).lines)
-        × (w' ≡ (asking v c.args.member name (named v.txs name) (slice_get v.members c.args.member)).world)) c.self.view_is (lines, t.1)
+    × (w' ≡ (asking v c.args.member name (named v.txs name) (slice_get v.members c.args.member)).world)) c.self.view_is (lines, t.1)
