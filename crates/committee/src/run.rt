@@ -52,7 +52,7 @@ fn run_event<K: Sink>(
 }
 
 /// Runs the events in order.
-#[tactic(auto, using(crate::proofs::Ends::owes_all, crate::proofs::Ends::owes_less, crate::proofs::Ends::owes_cut, crate::proofs::Ends::owes_none, crate::proofs::Ends::owes_some), unfolding(crate::specs::Report::report_from))]
+#[tactic(auto, using(crate::proofs::Ends::owes_all, crate::proofs::Ends::owes_some, crate::proofs::Ends::owes_none), unfolding(crate::specs::Report::report_from))]
 fn run_events<K: Sink>(
     alloc: Global,
     world: &mut World,

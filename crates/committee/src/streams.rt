@@ -96,15 +96,7 @@ fn write_piece<K: Sink>(sink: &mut K, bytes: &[u8]) -> Result<usize, Stop>
 }
 
 /// Writes the bytes whole.
-#[tactic(
-    auto,
-    using(
-        crate::proofs::Ends::owes_all,
-        crate::proofs::Ends::owes_after,
-        crate::proofs::Ends::owes_some,
-        crate::proofs::Ends::owes_none
-    )
-)]
+#[tactic(auto, using(crate::proofs::Ends::owes_all, crate::proofs::Ends::owes_some, crate::proofs::Ends::owes_none))]
 pub(crate) fn write_all<K: Sink>(sink: &mut K, bytes: &[u8]) -> Result<(), Stop>
     ensures ok { OnOk result (Appends (K.held sink.old) (K.held sink.new) bytes.now) }
     ensures some { AppendsFront (K.held sink.old) (K.held sink.new) bytes.now }
