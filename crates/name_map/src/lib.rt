@@ -11,3 +11,6 @@ mod names;
 pub use entries::insert_new;
 pub use first_names::FirstNames;
 pub use names::NameMap;
+
+#[cfg(test)]
+mod tests;
