@@ -1,13 +1,11 @@
 //! Which certificates are valid.
 
-ghost use Rattle.std.specs.Prelude.{◌≡◌, ◌==◌, ◌<◌, ◌≤◌, ℕ, List, Option, IfOk, length, map};
-ghost use Rattle.digest_core.specs.declared.Digest.{Digest as Seal};
-ghost use Rattle.quorum_core.specs.declared.signer.Signer.{Signer as Who};
+ghost use Rattle.std.specs.Prelude.{◌≡◌, ◌==◌, ◌≤◌, ℕ, Option, IfOk, length};
 ghost use Rattle.chain_types.specs.Transactions.{transaction};
 ghost use Rattle.chain_messages.specs.Messages.{statement};
 ghost use Rattle.chain_spec.specs.Words.{first_of, unless_refused};
 ghost use Rattle.chain_spec.specs.Keys.{objects_of};
-ghost use Rattle.chain_spec.specs.Certificates.{cert_refusal, members_of, vote_of};
+ghost use Rattle.chain_spec.specs.Certificates.{cert_refusal, vote_of};
 ghost use Rattle.cert_rules.specs.Answers.{Checks};
 ghost use Rattle.cert_rules.specs.Parts.{member_refusal, object_refusal, refused_seal, rules_of};
 
@@ -95,7 +93,8 @@ fn check_seals<S: Sealer>(sealer: &S, bytes: &[u8], seals: &[MemberSeal]) -> Res
     Ok(())
 }
 
-/// Whether a certificate is valid, or the first reason why it is not, for every limit of writers.
+/// Whether a certificate of the committee is valid, or the first reason why it is not. The limit of
+/// writers plays no part. A transaction of any size may be given.
 pub fn check_cert<S: Sealer>(
     alloc: Global,
     cert: &Certificate,

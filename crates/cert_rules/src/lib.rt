@@ -4,8 +4,9 @@
 //! whether one is valid, or the first reason why it is not: the shape of its transaction, one
 //! origin for each object, members in order, their stake, and each seal over the vote. [`collect`]
 //! makes one of votes, or says that their stake is short or which two differ. What is promised is
-//! said by definitions, one equation a call; a certificate that was collected from accepted votes is
-//! valid. A check spells the vote once and checks one seal a member.
+//! said by definitions, one equation a call. Of votes whose seals are accepted it makes a valid
+//! certificate, where the transaction has a valid shape and the votes name one origin for each
+//! object. A check spells the vote once and checks one seal a member.
 #![tactic(auto)]
 
 mod check;
