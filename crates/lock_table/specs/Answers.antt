@@ -1,5 +1,5 @@
 -- What locking all the keys of a transaction answers, and what stands then.
-use Rattle.std.specs.Prelude.{◌≡◌, List, Option, Result, Ok, Err, Some, None}
+use Rattle.std.specs.Prelude.{◌≡◌, List, Result, Ok, Err, Some, None}
 use Rattle.digest_core.specs.declared.Digest.{Digest}
 use Rattle.chain_types.specs.declared.objects.ObjectKey.{ObjectKey}
 use Rattle.lock_table.specs.declared.locks.LockRefusal.{LockRefusal}

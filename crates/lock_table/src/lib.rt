@@ -9,3 +9,6 @@
 mod locks;
 
 pub use locks::{LockRefusal, LockTable};
+
+#[cfg(test)]
+mod tests;

@@ -1,0 +1,12 @@
+use Rattle.std.proofs.Common.{◌≡◌, length}
+use Rattle.chain_spec.specs.Words.{first_of}
+use Rattle.cert_rules.specs.Parts.{refused_seal}
+use Rattle.cert_rules.proofs.check.check_seals.Given as goal
+
+abbrev pub invariant-loop-rest : goal.invariant-loop-rest
+invariant-loop-rest g l =
+    let test = refused_seal (g.S.Sealer.accepts l.sealer) l.bytes in
+    first_of test l.rest ≡ first_of test l.seals
+
+abbrev pub decreases-loop-rest : goal.decreases-loop-rest
+decreases-loop-rest g l = length l.rest

@@ -1,0 +1,115 @@
+//! Which certificates are valid.
+
+ghost use Rattle.std.specs.Prelude.{◌≡◌, ◌==◌, ◌≤◌, ℕ, Option, IfOk, length};
+ghost use Rattle.chain_types.specs.Transactions.{transaction};
+ghost use Rattle.chain_messages.specs.Messages.{statement};
+ghost use Rattle.chain_spec.specs.Words.{first_of, unless_refused};
+ghost use Rattle.chain_spec.specs.Keys.{objects_of};
+ghost use Rattle.chain_spec.specs.Certificates.{cert_refusal, vote_of};
+ghost use Rattle.cert_rules.specs.Answers.{Checks};
+ghost use Rattle.cert_rules.specs.Parts.{member_refusal, object_refusal, refused_seal, rules_of};
+
+use crate::roll::{is_roll, members_of};
+use chain_messages::{Certificate, MemberSeal, Statement, encode_statement};
+use chain_types::{CertRefusal, object_count, tx_digest};
+use quorum_core::{Committee, Sealer, Signer};
+use std::alloc::Global;
+use tx_check::{ShapeRefusal, check_shape};
+use wire_bcs::{Duplicate, OutOfMemory, Seq};
+
+/// Whether there is one origin for each object.
+#[tactic(auto, unfolding(chain_types::specs::Digests::objects_of))]
+fn has_each_origin(cert: &Certificate) -> bool
+    requires { length cert.now.tx.inputs ≤ 256 }
+    ensures { result ≡ (length cert.now.origins == length (objects_of cert.now.tx)) }
+{
+    cert.origins.len() == object_count(&cert.tx) as u64
+}
+
+/// Whether the transaction has a valid shape, and one origin for each object.
+#[tactic(auto, unfolding(crate::specs::Parts::object_refusal))]
+fn check_objects(alloc: Global, cert: &Certificate) -> Result<(), CertRefusal>
+    ensures refusal { Checks result (object_refusal cert.now) }
+    ensures short { IfOk result (λ _. transaction.short cert.now.tx) }
+    ensures few { IfOk result (λ _. length cert.now.origins ≤ 257) }
+{
+    match check_shape(alloc, &cert.tx) {
+        Err(ShapeRefusal::Invalid(fault)) => Err(CertRefusal::Shape(fault)),
+        Err(ShapeRefusal::OutOfMemory) => Err(CertRefusal::OutOfMemory),
+        Ok(()) => {
+            if has_each_origin(cert) {
+                Ok(())
+            } else {
+                Err(CertRefusal::Shape(13))
+            }
+        }
+    }
+}
+
+/// Whether the members are in order, and are a quorum.
+#[tactic(auto, unfolding(crate::specs::Parts::member_refusal))]
+fn check_members(committee: &Committee, members: &[u32]) -> Result<(), CertRefusal>
+    ensures { result ≡ unless_refused (member_refusal committee.now members.now) tt }
+{
+    if !is_roll(committee, members) {
+        return Err(CertRefusal::Order);
+    }
+    let weight = committee.weight(members);
+    if !committee.is_quorum(weight) {
+        return Err(CertRefusal::ShortStake {
+            weight,
+            total: committee.total(),
+        });
+    }
+    Ok(())
+}
+
+/// The spelling of the vote that the seals are over.
+fn vote_bytes(alloc: Global, cert: &Certificate) -> Result<Seq<u8>, OutOfMemory>
+    requires short { transaction.short cert.now.tx }
+    requires few { length cert.now.origins ≤ 257 }
+    ensures { IfOk result (λ bytes. bytes ≡ statement.spell (vote_of cert.now)) }
+{
+    let vote = Statement::Vote {
+        epoch: cert.tx.epoch,
+        tx: tx_digest(alloc, &cert.tx)?,
+        origins: cert.origins.copy()?,
+    };
+    encode_statement(alloc, &vote)
+}
+
+/// Whether each seal is accepted over the bytes, or the first that is not.
+fn check_seals<S: Sealer>(sealer: &S, bytes: &[u8], seals: &[MemberSeal]) -> Result<(), CertRefusal>
+    ensures { result ≡ unless_refused (first_of (refused_seal (S.accepts sealer.now) bytes.now) seals.now) tt }
+{
+    let mut rest = seals;
+    while let [seal, after @ ..] = rest {
+        let member = seal.member;
+        if !sealer.check(&Signer::Member(member), bytes, &seal.seal) {
+            return Err(CertRefusal::BadSeal { member });
+        }
+        rest = after;
+    }
+    Ok(())
+}
+
+/// Whether a certificate of the committee is valid, or the first reason why it is not. The limit of
+/// writers plays no part. A transaction of any size may be given.
+pub fn check_cert<S: Sealer>(
+    alloc: Global,
+    cert: &Certificate,
+    committee: &Committee,
+    sealer: &S,
+) -> Result<(), CertRefusal>
+    ensures { (writers : Option ℕ) → Checks result (cert_refusal (rules_of committee.now writers (S.accepts sealer.now)) cert.now) }
+{
+    check_objects(alloc, cert)?;
+    let Ok(members) = members_of(alloc, cert.seals.as_slice()) else {
+        return Err(CertRefusal::OutOfMemory);
+    };
+    check_members(committee, &members)?;
+    let Ok(bytes) = vote_bytes(alloc, cert) else {
+        return Err(CertRefusal::OutOfMemory);
+    };
+    check_seals(sealer, bytes.as_slice(), cert.seals.as_slice())
+}
