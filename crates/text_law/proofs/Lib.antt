@@ -4,3 +4,9 @@ pub mod Words
 pub mod Calls
 pub mod Statements
 pub mod Whole
+pub mod MadeText
+pub mod MadeLength
+pub mod Ranges
+pub mod MadeWords
+pub mod MadeOrder
+pub mod Generated
