@@ -1,0 +1,12 @@
+pub mod Pieces
+pub mod Numbers
+pub mod Words
+pub mod Calls
+pub mod Statements
+pub mod Whole
+pub mod MadeText
+pub mod MadeLength
+pub mod Ranges
+pub mod MadeWords
+pub mod MadeOrder
+pub mod Generated

@@ -1,0 +1,17 @@
+-- What holds of schedules and their texts.
+use Rattle.std.specs.Prelude.{◌≡◌, ℕ, ◌≤◌, length, Ok}
+use Rattle.schedule_make.specs.Make.{make_text_of}
+use Rattle.schedule_text.specs.declared.words.Schedule.{Schedule}
+use Rattle.schedule_text.specs.Schedule.{longest_text, schedule_of}
+use Rattle.text_law.specs.Canonical.{canonical}
+use Rattle.text_law.specs.Made.{made}
+use Rattle.text_law.specs.Sayable.{IsSayable}
+
+-- what a text can say is read from its canonical text, where that is not too long
+abbrev pub CanonicalTextReadsBack : Type 0
+CanonicalTextReadsBack = (s : Schedule) → IsSayable s → length (canonical s) ≤ longest_text → schedule_of (canonical s) ≡ Ok s
+
+-- the generator's text is the text of a schedule, with the set-up and the events that it means
+abbrev pub GeneratedTextIsASchedule : Type 0
+GeneratedTextIsASchedule = (number workers : ℕ) → number ≤ 10000 → 1 ≤ workers → workers ≤ 16
+    → schedule_of (make_text_of number workers) ≡ Ok (made number workers)

@@ -1,0 +1,4 @@
+pub mod Canonical
+pub mod Sayable
+pub mod Made
+pub mod Laws

@@ -1,0 +1,15 @@
+//! Schedules and their texts: a schedule is read back from its canonical text, so the grammar is neither empty nor
+//! ambiguous; and the generator's text is the text of a schedule.
+#![tactic(auto)]
+
+ghost use Rattle.text_law.specs.Laws.{CanonicalTextReadsBack, GeneratedTextIsASchedule};
+
+/// What a text can say is read from its canonical text.
+pub fn canonical_text_reads_back()
+    ensures { CanonicalTextReadsBack }
+{}
+
+/// What the generator writes is a schedule, with the set-up and the events that it means.
+pub fn generated_text_is_a_schedule()
+    ensures { GeneratedTextIsASchedule }
+{}
