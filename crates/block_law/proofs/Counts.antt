@@ -37,7 +37,7 @@ pub times-append : (x : ObjectId) (xs ys : List ObjectId) → times x (xs ++ ys)
 times-append x [] ys = omega arith
 times-append x (y ∷ xs) ys = let rest = times-append x xs ys in omega (arith, rest)
 
-none-times : (x : ObjectId) (ys : List ObjectId) → list_any (id_eq x) ys ≡ false → times x ys ≡ 0
+pub none-times : (x : ObjectId) (ys : List ObjectId) → list_any (id_eq x) ys ≡ false → times x ys ≡ 0
 none-times x [] e = refl
 none-times x (y ∷ ys) e = go (id_eq y x) refl (none-times x ys (or-second (id_eq x y) (list_any (id_eq x) ys) e))
   where
@@ -45,7 +45,7 @@ none-times x (y ∷ ys) e = go (id_eq y x) refl (none-times x ys (or-second (id_
     go true h rest = absurd (let h' = id_back y x h in let f = or-first (id_eq x y) (list_any (id_eq x) ys) e in cc)
     go false h rest = omega arith
 
-times-none : (x : ObjectId) (ys : List ObjectId) → times x ys ≡ 0 → list_any (id_eq x) ys ≡ false
+pub times-none : (x : ObjectId) (ys : List ObjectId) → times x ys ≡ 0 → list_any (id_eq x) ys ≡ false
 times-none x [] e = refl
 times-none x (y ∷ ys) e = go (id_eq x y) refl (times-none x ys (counted (id_eq y x) refl e).1)
   where

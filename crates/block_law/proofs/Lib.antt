@@ -6,3 +6,5 @@ pub mod Amounts
 pub mod Kept
 pub mod Steps
 pub mod Natives
+pub mod Blocks
+pub mod Effects

@@ -2,8 +2,19 @@
 #![tactic(auto)]
 
 ghost use Rattle.block_law.specs.Failing.{AFailedBlockPaysGas};
+ghost use Rattle.block_law.specs.Names.{EffectsNameEachIdOnce, EffectsNameWhatIsTouched};
 
 /// A block that fails changes the balance of its gas coin and the versions of what it may write, and nothing else.
 pub fn a_failed_block_pays_gas()
     ensures { AFailedBlockPaysGas }
+{}
+
+/// Effects name no id that the transaction neither names nor draws.
+pub fn effects_name_what_is_touched()
+    ensures { EffectsNameWhatIsTouched }
+{}
+
+/// Where all ids that a transaction names or draws are apart, its effects name each id at most once.
+pub fn effects_name_each_id_once()
+    ensures { EffectsNameEachIdOnce }
 {}
