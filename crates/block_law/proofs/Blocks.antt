@@ -160,7 +160,7 @@ start-good : (t : Transaction) (objects : List Object) → Every (Good t (first_
 start-good t [] = tt
 start-good t (coin ∷ os) = (like-same (gas_item t coin), first-good t (first_slots t (coin ∷ os)) 0 t.inputs os (first-behind t coin os))
 
-kept-start : (t : Transaction) (tx : Digest) (objects : List Object) → IsKept t tx (first_block t objects) (first_block t objects)
+pub kept-start : (t : Transaction) (tx : Digest) (objects : List Object) → IsKept t tx (first_block t objects) (first_block t objects)
 kept-start t tx objects = record {
   good = start-good t objects;
   stands = stands-self (first_slots t objects);

@@ -39,24 +39,32 @@ pub record IsOrigin (first : List Slot) (x : Place × Object) : Type 0 where
   pub same : before.id ≡ x.1.id
   pub outer : is_result x.0 ≡ false
 
-origins-from : (whole : List Slot) (n : ℕ) (is : List Input) (os : List Object) → Behind whole n (input_slots n is os) → Each (IsOrigin whole) (written_inputs n is os)
-origins-from whole n [] os behind = tt
-origins-from whole n (inputs.Pure bytes ∷ is) os behind = origins-from whole (suc n) is os (behind-next whole n (record { place = input n; value = Some (pure bytes) }) (input_slots (suc n) is os) refl behind)
-origins-from whole n (inputs.Owned r ∷ is) [] behind = tt
-origins-from whole n (inputs.Owned r ∷ is) (o ∷ os) behind =
-    (record { before = item_of o; there = behind-here whole n (record { place = input n; value = Some (object (item_of o)) }) (input_slots (suc n) is os) refl behind; same = refl; outer = refl },
-     origins-from whole (suc n) is os (behind-next whole n (record { place = input n; value = Some (object (item_of o)) }) (input_slots (suc n) is os) refl behind))
-origins-from whole n (inputs.Immutable r ∷ is) [] behind = tt
-origins-from whole n (inputs.Immutable r ∷ is) (o ∷ os) behind = origins-from whole (suc n) is os (behind-next whole n (record { place = input n; value = Some (object (item_of o)) }) (input_slots (suc n) is os) refl behind)
-origins-from whole n (inputs.Shared id initial mutable ∷ is) [] behind = tt
-origins-from whole n (inputs.Shared id initial true ∷ is) (o ∷ os) behind =
-    (record { before = item_of o; there = behind-here whole n (record { place = input n; value = Some (object (item_of o)) }) (input_slots (suc n) is os) refl behind; same = refl; outer = refl },
-     origins-from whole (suc n) is os (behind-next whole n (record { place = input n; value = Some (object (item_of o)) }) (input_slots (suc n) is os) refl behind))
-origins-from whole n (inputs.Shared id initial false ∷ is) (o ∷ os) behind = origins-from whole (suc n) is os (behind-next whole n (record { place = input n; value = Some (object (item_of o)) }) (input_slots (suc n) is os) refl behind)
+pub record IsInput (first : List Slot) (x : Place × Object) : Type 0 where
+  pub there : value_in x.0 first ≡ Some (object (item_of x.1))
+  pub outer : is_result x.0 ≡ false
+
+pub inputs-first : (whole : List Slot) (n : ℕ) (is : List Input) (os : List Object) → Behind whole n (input_slots n is os) → Each (IsInput whole) (written_inputs n is os)
+inputs-first whole n [] os behind = tt
+inputs-first whole n (inputs.Pure bytes ∷ is) os behind = inputs-first whole (suc n) is os (behind-next whole n (record { place = input n; value = Some (pure bytes) }) (input_slots (suc n) is os) refl behind)
+inputs-first whole n (inputs.Owned r ∷ is) [] behind = tt
+inputs-first whole n (inputs.Owned r ∷ is) (o ∷ os) behind =
+    (record { there = behind-here whole n (record { place = input n; value = Some (object (item_of o)) }) (input_slots (suc n) is os) refl behind; outer = refl },
+     inputs-first whole (suc n) is os (behind-next whole n (record { place = input n; value = Some (object (item_of o)) }) (input_slots (suc n) is os) refl behind))
+inputs-first whole n (inputs.Immutable r ∷ is) [] behind = tt
+inputs-first whole n (inputs.Immutable r ∷ is) (o ∷ os) behind = inputs-first whole (suc n) is os (behind-next whole n (record { place = input n; value = Some (object (item_of o)) }) (input_slots (suc n) is os) refl behind)
+inputs-first whole n (inputs.Shared id initial mutable ∷ is) [] behind = tt
+inputs-first whole n (inputs.Shared id initial true ∷ is) (o ∷ os) behind =
+    (record { there = behind-here whole n (record { place = input n; value = Some (object (item_of o)) }) (input_slots (suc n) is os) refl behind; outer = refl },
+     inputs-first whole (suc n) is os (behind-next whole n (record { place = input n; value = Some (object (item_of o)) }) (input_slots (suc n) is os) refl behind))
+inputs-first whole n (inputs.Shared id initial false ∷ is) (o ∷ os) behind = inputs-first whole (suc n) is os (behind-next whole n (record { place = input n; value = Some (object (item_of o)) }) (input_slots (suc n) is os) refl behind)
+
+input-origins : (first : List Slot) (xs : List (Place × Object)) → Each (IsInput first) xs → Each (IsOrigin first) xs
+input-origins first [] inputs = tt
+input-origins first (x ∷ xs) inputs = (record { before = item_of x.1; there = inputs.0.there; same = refl; outer = inputs.0.outer }, input-origins first xs inputs.1)
 
 pub origins : (t : Transaction) (objects : List Object) → Each (IsOrigin (first_slots t objects)) (written_places t objects)
 origins t [] = tt
-origins t (coin ∷ os) = (record { before = gas_item t coin; there = refl; same = refl; outer = refl }, origins-from (first_slots t (coin ∷ os)) 0 t.inputs os (first-behind t coin os))
+origins t (coin ∷ os) = (record { before = gas_item t coin; there = refl; same = refl; outer = refl }, input-origins (first_slots t (coin ∷ os)) (written_inputs 0 t.inputs os) (inputs-first (first_slots t (coin ∷ os)) 0 t.inputs os (first-behind t coin os)))
 
 -- ---- ids in their places
 

@@ -8,3 +8,5 @@ pub mod Steps
 pub mod Natives
 pub mod Blocks
 pub mod Effects
+pub mod Sums
+pub mod Keeping
