@@ -1,6 +1,6 @@
 -- What contents of each kind hold, and what they hold with another amount.
-use Rattle.std.proofs.Common.{refl, ap, sym, subst, ◌∙◌}
-use Rattle.std.specs.Prelude.{◌≡◌, ◌+◌, ℕ, Bool, true, false, cond, not, ◌||◌, ◌==◌, List, [], ◌∷◌, fold, sum, sum_by}
+use Rattle.std.proofs.Common.{refl, ap, sym, subst}
+use Rattle.std.specs.Prelude.{◌≡◌, ◌+◌, ℕ, Bool, true, false, cond, not, ◌==◌, List, [], ◌∷◌, fold, sum_by}
 use Rattle.std.specs.List.{list_any}
 use Rattle.std.proofs.lemmas.Bool.{eqb-true}
 use native.Mathlib.Omega.{arith}
@@ -61,12 +61,12 @@ pub record IsPurse (k : Content) : Type 0 where
   pub no_cap : (c n : ℕ) → caps_of c (with_amount n k) ≡ 0
   pub was_no_cap : (c : ℕ) → caps_of c k ≡ 0
 
-part-is : (b : Bool) (n : ℕ) → cond b n 0 ≡ part b n
-part-is true n = refl
-part-is false n = refl
+pub cond-part : (b : Bool) (n : ℕ) → cond b n 0 ≡ part b n
+cond-part true n = refl
+cond-part false n = refl
 
 pub coin-purse : (k : Content) → kind_eq (kind_of k) kind.Coin ≡ true → IsPurse k
-coin-purse (content.Coin currency balance) e = record { filled = λ c n. part-is (currency == c) n; holds = λ c. part-is (currency == c) balance; no_supply = λ c n. refl; had_no_supply = λ c. refl; no_cap = λ c n. refl; was_no_cap = λ c. refl }
+coin-purse (content.Coin currency balance) e = record { filled = λ c n. cond-part (currency == c) n; holds = λ c. cond-part (currency == c) balance; no_supply = λ c n. refl; had_no_supply = λ c. refl; no_cap = λ c n. refl; was_no_cap = λ c. refl }
 coin-purse (content.Cap currency supply) e = absurd (cc)
 coin-purse (content.Counter value) e = absurd (cc)
 coin-purse (content.Vault currency balance) e = absurd (cc)
@@ -74,7 +74,7 @@ coin-purse (content.VaultKey vault) e = absurd (cc)
 coin-purse (content.Limit value) e = absurd (cc)
 
 pub vault-purse : (k : Content) → kind_eq (kind_of k) kind.Vault ≡ true → IsPurse k
-vault-purse (content.Vault currency balance) e = record { filled = λ c n. part-is (currency == c) n; holds = λ c. part-is (currency == c) balance; no_supply = λ c n. refl; had_no_supply = λ c. refl; no_cap = λ c n. refl; was_no_cap = λ c. refl }
+vault-purse (content.Vault currency balance) e = record { filled = λ c n. cond-part (currency == c) n; holds = λ c. cond-part (currency == c) balance; no_supply = λ c n. refl; had_no_supply = λ c. refl; no_cap = λ c n. refl; was_no_cap = λ c. refl }
 vault-purse (content.Cap currency supply) e = absurd (cc)
 vault-purse (content.Counter value) e = absurd (cc)
 vault-purse (content.Coin currency balance) e = absurd (cc)
@@ -89,7 +89,7 @@ pub record IsCap (k : Content) : Type 0 where
   pub same_cap : (c n : ℕ) → caps_of c (with_amount n k) ≡ caps_of c k
 
 pub cap-is : (k : Content) → kind_eq (kind_of k) kind.Cap ≡ true → IsCap k
-cap-is (content.Cap currency supply) e = record { no_money = λ c n. refl; had_no_money = λ c. refl; supplies = λ c n. part-is (currency == c) n; supplied = λ c. part-is (currency == c) supply; same_cap = λ c n. refl }
+cap-is (content.Cap currency supply) e = record { no_money = λ c n. refl; had_no_money = λ c. refl; supplies = λ c n. cond-part (currency == c) n; supplied = λ c. cond-part (currency == c) supply; same_cap = λ c n. refl }
 cap-is (content.Coin currency balance) e = absurd (cc)
 cap-is (content.Counter value) e = absurd (cc)
 cap-is (content.Vault currency balance) e = absurd (cc)

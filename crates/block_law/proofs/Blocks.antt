@@ -1,33 +1,31 @@
 -- What all the commands of a block keep together.
-use Rattle.std.proofs.Common.{refl, ap, sym, subst, ◌∙◌}
+use Rattle.std.proofs.Common.{refl, sym, subst, ◌∙◌}
 use Rattle.std.proofs.lemmas.Bool.{eq-eqb, ne_eqb}
-use Rattle.std.specs.Prelude.{◌≡◌, ◌≤◌, ◌+◌, ◌-◌, ℕ, zero, suc, Bool, true, false, cond, not, ◌&&◌, ◌==◌, List, [], ◌∷◌, ◌++◌, map, length, slice_get, option_map, Option, Some, None, Result, Ok, Err}
+use Rattle.std.specs.Prelude.{◌≡◌, ◌≤◌, ◌+◌, ℕ, suc, Bool, true, false, cond, not, ◌==◌, List, [], ◌∷◌, map, length, slice_get, option_map, Option, Some, None, Result, Ok, Err}
 use Rattle.std.specs.List.{list_any}
 use native.Mathlib.Omega.{arith}
 use Rattle.digest_core.specs.declared.Digest.{Digest}
 use Rattle.chain_types.specs.declared.objects.ObjectId.{ObjectId}
 use Rattle.chain_types.specs.declared.objects.Object.{Object}
-use Rattle.chain_types.specs.declared.transactions.Argument.{Argument}
 use Rattle.chain_types.specs.declared.transactions.Input.{Input}
 use Rattle.chain_types.specs.declared.transactions.Input.TheVariants as inputs
 use Rattle.chain_types.specs.declared.transactions.Command.{Command}
 use Rattle.chain_types.specs.declared.transactions.Command.TheVariants as command
 use Rattle.chain_types.specs.declared.transactions.Transaction.{Transaction}
 use Rattle.block_types.specs.declared.pieces.Item.{Item}
-use Rattle.block_types.specs.declared.pieces.Placed.{Placed}
-use Rattle.chain_spec.specs.Words.{Each, first_some, where_true, refused_or}
+use Rattle.chain_spec.specs.Words.{where_true, refused_or}
 use Rattle.chain_spec.specs.Keys.{version_of}
 use Rattle.block_spec.specs.Natives.{parameters_of, amount_of}
-use Rattle.block_spec.specs.Block.{Place, gas, input, result, Value, pure, object, vector, Slot, Block, value_in}
+use Rattle.block_spec.specs.Block.{input, Value, pure, object, Slot, Block, value_in}
 use Rattle.block_spec.specs.Commands.{Fault, cause, needs_of, wrong_count, is_read_only, arguments_cause, taken_cause, performed, command_step, transfer_block, vector_block, address_in}
-use Rattle.block_spec.specs.Execution.{Failure, item_of, gas_item, input_slots, first_slots, first_block, commands_from, commands_next, none_unused, is_unused, checked_end, outcome}
+use Rattle.block_spec.specs.Execution.{Failure, item_of, gas_item, input_slots, first_slots, first_block, commands_from, commands_next, is_unused, checked_end, outcome}
 use Rattle.block_law.specs.Names.{drawn_ids}
 use Rattle.block_law.proofs.Counts.{times}
 use Rattle.block_law.proofs.Slots.{block_weight, Every}
 use Rattle.block_law.proofs.Reading.{all-none, where-false, all-read}
 use Rattle.block_law.proofs.Amounts.{money, supply, caps, amount-same}
-use Rattle.block_law.proofs.Kept.{Like, Turned, Good, Stands, is_result}
-use Rattle.block_law.proofs.Steps.{counts, IsStep, done, ok-same, split-step, merge-step, transfer-step, vector-step}
+use Rattle.block_law.proofs.Kept.{Like, Turned, Good, Stands}
+use Rattle.block_law.proofs.Steps.{counts, IsStep, ok-same, split-step, merge-step, transfer-step, vector-step}
 use Rattle.block_law.proofs.Natives.{call-step}
 
 -- ---- one command
@@ -133,21 +131,25 @@ behind-here whole n s slots at behind = behind n (omega arith) ∙ found
 
 first-good : (t : Transaction) (whole : List Slot) (n : ℕ) (is : List Input) (os : List Object) → Behind whole n (input_slots n is os) → Every (Good t whole []) (input_slots n is os)
 first-good t whole n [] os behind = tt
-first-good t whole n (inputs.Pure bytes ∷ is) os behind =
-    (turned-pure (is_read_only (slice_get t.inputs n)) (value_in (input n) whole) bytes (behind-here whole n (record { place = input n; value = Some (pure bytes) }) (input_slots (suc n) is os) refl behind),
-     first-good t whole (suc n) is os (behind-next whole n (record { place = input n; value = Some (pure bytes) }) (input_slots (suc n) is os) refl behind))
+first-good t whole n (inputs.Pure bytes ∷ is) os behind = (
+  turned-pure (is_read_only (slice_get t.inputs n)) (value_in (input n) whole) bytes (behind-here whole n (record { place = input n; value = Some (pure bytes) }) (input_slots (suc n) is os) refl behind),
+  first-good t whole (suc n) is os (behind-next whole n (record { place = input n; value = Some (pure bytes) }) (input_slots (suc n) is os) refl behind),
+)
 first-good t whole n (inputs.Owned r ∷ is) [] behind = tt
-first-good t whole n (inputs.Owned r ∷ is) (o ∷ os) behind =
-    (turned-object (is_read_only (slice_get t.inputs n)) (value_in (input n) whole) (item_of o) (behind-here whole n (record { place = input n; value = Some (object (item_of o)) }) (input_slots (suc n) is os) refl behind),
-     first-good t whole (suc n) is os (behind-next whole n (record { place = input n; value = Some (object (item_of o)) }) (input_slots (suc n) is os) refl behind))
+first-good t whole n (inputs.Owned r ∷ is) (o ∷ os) behind = (
+  turned-object (is_read_only (slice_get t.inputs n)) (value_in (input n) whole) (item_of o) (behind-here whole n (record { place = input n; value = Some (object (item_of o)) }) (input_slots (suc n) is os) refl behind),
+  first-good t whole (suc n) is os (behind-next whole n (record { place = input n; value = Some (object (item_of o)) }) (input_slots (suc n) is os) refl behind),
+)
 first-good t whole n (inputs.Immutable r ∷ is) [] behind = tt
-first-good t whole n (inputs.Immutable r ∷ is) (o ∷ os) behind =
-    (turned-object (is_read_only (slice_get t.inputs n)) (value_in (input n) whole) (item_of o) (behind-here whole n (record { place = input n; value = Some (object (item_of o)) }) (input_slots (suc n) is os) refl behind),
-     first-good t whole (suc n) is os (behind-next whole n (record { place = input n; value = Some (object (item_of o)) }) (input_slots (suc n) is os) refl behind))
+first-good t whole n (inputs.Immutable r ∷ is) (o ∷ os) behind = (
+  turned-object (is_read_only (slice_get t.inputs n)) (value_in (input n) whole) (item_of o) (behind-here whole n (record { place = input n; value = Some (object (item_of o)) }) (input_slots (suc n) is os) refl behind),
+  first-good t whole (suc n) is os (behind-next whole n (record { place = input n; value = Some (object (item_of o)) }) (input_slots (suc n) is os) refl behind),
+)
 first-good t whole n (inputs.Shared id initial mutable ∷ is) [] behind = tt
-first-good t whole n (inputs.Shared id initial mutable ∷ is) (o ∷ os) behind =
-    (turned-object (is_read_only (slice_get t.inputs n)) (value_in (input n) whole) (item_of o) (behind-here whole n (record { place = input n; value = Some (object (item_of o)) }) (input_slots (suc n) is os) refl behind),
-     first-good t whole (suc n) is os (behind-next whole n (record { place = input n; value = Some (object (item_of o)) }) (input_slots (suc n) is os) refl behind))
+first-good t whole n (inputs.Shared id initial mutable ∷ is) (o ∷ os) behind = (
+  turned-object (is_read_only (slice_get t.inputs n)) (value_in (input n) whole) (item_of o) (behind-here whole n (record { place = input n; value = Some (object (item_of o)) }) (input_slots (suc n) is os) refl behind),
+  first-good t whole (suc n) is os (behind-next whole n (record { place = input n; value = Some (object (item_of o)) }) (input_slots (suc n) is os) refl behind),
+)
 
 pub first-behind : (t : Transaction) (coin : Object) (os : List Object) → Behind (first_slots t (coin ∷ os)) 0 (input_slots 0 t.inputs os)
 first-behind t coin os = λ m above. refl
@@ -183,6 +185,7 @@ done-is t tx objects b e = go (commands_from t tx (version_of objects) 0 t.comma
     left : (after : Block) (u : Bool) → list_any is_unused after.slots ≡ u → cond {A = Result Block Failure} u (Err (length t.commands, cause 12)) (Ok after) ≡ Ok b → IsKept t tx (first_block t objects) after → IsDone t tx objects b
     left after true h e kept = absurd (cc)
     left after false h e kept = subst (IsDone t tx objects) (ok-same Failure after b e) (record { kept = kept; used = h })
+
     go : (r : Result Block Failure) → commands_from t tx (version_of objects) 0 t.commands (first_block t objects) ≡ r → checked_end t r ≡ Ok b → IsDone t tx objects b
     go (Ok after) h e = left after (list_any is_unused after.slots) refl e (kept-commands t tx (version_of objects) 0 t.commands (first_block t objects) (first_block t objects) after (kept-start t tx objects) h)
     go (Err failure) h e = absurd (cc)

@@ -1,7 +1,7 @@
 -- How often an id stands in a list; a list without repeats has each at most once.
-use Rattle.std.proofs.Common.{refl, ap, sym, subst, ◌∙◌}
+use Rattle.std.proofs.Common.{refl, ap, sym, subst}
 use Rattle.std.proofs.lemmas.Slice.Eq.{bytes_eq-Decides}
-use Rattle.std.specs.Prelude.{◌≡◌, ◌≤◌, ◌+◌, ℕ, zero, suc, Bool, true, false, ◌||◌, List, [], ◌∷◌, ◌++◌}
+use Rattle.std.specs.Prelude.{◌≡◌, ◌≤◌, ◌+◌, ℕ, Bool, true, false, ◌||◌, List, [], ◌∷◌, ◌++◌}
 use Rattle.std.specs.List.{list_any}
 use native.Mathlib.Omega.{arith}
 use Rattle.digest_core.specs.declared.Digest.{Digest}
@@ -52,6 +52,7 @@ times-none x (y ∷ ys) e = go (id_eq x y) refl (times-none x ys (counted (id_eq
     counted : (b : Bool) → id_eq y x ≡ b → hit b + times x ys ≡ 0 → (b ≡ false) × (times x ys ≡ 0)
     counted true h e = absurd (omega arith)
     counted false h e = (refl, omega arith)
+
     go : (b : Bool) → id_eq x y ≡ b → list_any (id_eq x) ys ≡ false → (b || list_any (id_eq x) ys) ≡ false
     go true h rest = absurd (let h' = id_back x y h in let f = (counted (id_eq y x) refl e).0 in cc)
     go false h rest = rest
@@ -72,8 +73,10 @@ each-once (y ∷ ys) once = go (list_any (id_eq y) ys) (times-none y ys here) (e
   where
     here : times y ys ≡ 0
     here = let one : hit (id_eq y y) + times y ys ≤ 1 = once y in let same = ap hit (id_refl y) in omega (arith, one, same)
+
     below : (x : ObjectId) → times x ys ≤ 1
     below x = let one : hit (id_eq y x) + times x ys ≤ 1 = once x in omega (arith, one)
+
     go : (b : Bool) → b ≡ false → repeats id_eq ys ≡ false → (b || repeats id_eq ys) ≡ false
     go true e rest = absurd (cc)
     go false e rest = rest

@@ -1,7 +1,6 @@
 -- Which ids the effects of a transaction name.
 use Rattle.std.proofs.Common.{refl, ap, sym, subst, ◌∙◌}
-use Rattle.std.proofs.lemmas.Bool.{eqb-true}
-use Rattle.std.specs.Prelude.{◌≡◌, ◌≤◌, ◌+◌, ℕ, zero, suc, Bool, true, false, cond, ◌&&◌, ◌==◌, nat_lt, List, [], ◌∷◌, ◌++◌, map, filter, filter_map, find, slice_get, option_map, Option, Some, None, Result, Ok, Err}
+use Rattle.std.specs.Prelude.{◌≡◌, ◌≤◌, ◌+◌, ℕ, suc, Bool, true, false, cond, ◌&&◌, ◌==◌, nat_lt, List, [], ◌∷◌, ◌++◌, map, filter_map, find, slice_get, option_map, Option, Some, None, Result, Ok, Err}
 use Rattle.std.specs.List.{cons_option}
 use native.Mathlib.Omega.{arith}
 use Rattle.digest_core.specs.declared.Digest.{Digest}
@@ -14,22 +13,21 @@ use Rattle.chain_types.specs.declared.transactions.Transaction.{Transaction}
 use Rattle.effects_core.specs.declared.effects.Written.{Written}
 use Rattle.block_types.specs.declared.pieces.Item.{Item}
 use Rattle.block_types.specs.declared.pieces.Placed.{Placed}
-use Rattle.block_types.specs.declared.pieces.Executed.{Executed}
 use Rattle.chain_types.specs.Equal.{digest_eq, id_eq}
-use Rattle.chain_types.specs.Digests.{transaction_digest, digest_of_object, is_object}
+use Rattle.chain_types.specs.Digests.{transaction_digest, digest_of_object}
 use Rattle.chain_spec.specs.Words.{Each, numbers_below, repeats}
 use Rattle.chain_spec.specs.Tests.{has_id}
 use Rattle.chain_spec.specs.Keys.{fits, fits_input, fit_inputs, pays_gas, version_of, version_limit, objects_of, named_id, named_ids, is_owned_by, is_immutable, is_shared_since}
 use Rattle.chain_spec.proofs.ListLemmas.{find-test, and-first, and-second}
 use Rattle.block_spec.specs.Block.{Place, gas, input, result, Value, pure, object, vector, Slot, Block, value_in}
 use Rattle.block_spec.specs.Commands.{is_read_only, piece_of}
-use Rattle.block_spec.specs.Execution.{Failure, item_of, gas_item, input_slots, first_slots, first_block, outcome, object_at, left_in, now_in, after_block, is_written, written_inputs, written_places, created_objects, with_rest, with_rest_first, done_objects, is_none_left, deleted_id, deleted_ids, same_object, less_cost_first, failed_objects, written_of, execution, executed_by}
+use Rattle.block_spec.specs.Execution.{Failure, item_of, gas_item, input_slots, first_slots, outcome, object_at, left_in, now_in, after_block, written_inputs, written_places, created_objects, with_rest_first, done_objects, is_none_left, deleted_id, deleted_ids, same_object, less_cost_first, failed_objects, written_of, execution, executed_by}
 use Rattle.block_law.specs.Names.{drawn_id, drawn_ids, touched_ids, effect_ids}
-use Rattle.block_law.proofs.Counts.{hit, times, times-append, id_same, id_refl, once-each, each-once, none-times, times-none}
+use Rattle.block_law.proofs.Counts.{hit, times, times-append, id_same, once-each, each-once, none-times, times-none}
 use Rattle.block_law.proofs.Slots.{Every, value-every}
-use Rattle.block_law.proofs.Kept.{Like, Turned, Good, is_result}
+use Rattle.block_law.proofs.Kept.{Turned, Good, is_result}
 use Rattle.block_law.proofs.Steps.{map-append}
-use Rattle.block_law.proofs.Blocks.{Behind, behind-here, behind-next, first-behind, IsKept, IsDone, done-is}
+use Rattle.block_law.proofs.Blocks.{Behind, behind-here, behind-next, first-behind, done-is}
 
 -- ---- the places that are written, with what lay there first
 
@@ -47,15 +45,17 @@ pub inputs-first : (whole : List Slot) (n : ℕ) (is : List Input) (os : List Ob
 inputs-first whole n [] os behind = tt
 inputs-first whole n (inputs.Pure bytes ∷ is) os behind = inputs-first whole (suc n) is os (behind-next whole n (record { place = input n; value = Some (pure bytes) }) (input_slots (suc n) is os) refl behind)
 inputs-first whole n (inputs.Owned r ∷ is) [] behind = tt
-inputs-first whole n (inputs.Owned r ∷ is) (o ∷ os) behind =
-    (record { there = behind-here whole n (record { place = input n; value = Some (object (item_of o)) }) (input_slots (suc n) is os) refl behind; outer = refl },
-     inputs-first whole (suc n) is os (behind-next whole n (record { place = input n; value = Some (object (item_of o)) }) (input_slots (suc n) is os) refl behind))
+inputs-first whole n (inputs.Owned r ∷ is) (o ∷ os) behind = (
+  record { there = behind-here whole n (record { place = input n; value = Some (object (item_of o)) }) (input_slots (suc n) is os) refl behind; outer = refl },
+  inputs-first whole (suc n) is os (behind-next whole n (record { place = input n; value = Some (object (item_of o)) }) (input_slots (suc n) is os) refl behind),
+)
 inputs-first whole n (inputs.Immutable r ∷ is) [] behind = tt
 inputs-first whole n (inputs.Immutable r ∷ is) (o ∷ os) behind = inputs-first whole (suc n) is os (behind-next whole n (record { place = input n; value = Some (object (item_of o)) }) (input_slots (suc n) is os) refl behind)
 inputs-first whole n (inputs.Shared id initial mutable ∷ is) [] behind = tt
-inputs-first whole n (inputs.Shared id initial true ∷ is) (o ∷ os) behind =
-    (record { there = behind-here whole n (record { place = input n; value = Some (object (item_of o)) }) (input_slots (suc n) is os) refl behind; outer = refl },
-     inputs-first whole (suc n) is os (behind-next whole n (record { place = input n; value = Some (object (item_of o)) }) (input_slots (suc n) is os) refl behind))
+inputs-first whole n (inputs.Shared id initial true ∷ is) (o ∷ os) behind = (
+  record { there = behind-here whole n (record { place = input n; value = Some (object (item_of o)) }) (input_slots (suc n) is os) refl behind; outer = refl },
+  inputs-first whole (suc n) is os (behind-next whole n (record { place = input n; value = Some (object (item_of o)) }) (input_slots (suc n) is os) refl behind),
+)
 inputs-first whole n (inputs.Shared id initial false ∷ is) (o ∷ os) behind = inputs-first whole (suc n) is os (behind-next whole n (record { place = input n; value = Some (object (item_of o)) }) (input_slots (suc n) is os) refl behind)
 
 input-origins : (first : List Slot) (xs : List (Place × Object)) → Each (IsInput first) xs → Each (IsOrigin first) xs
@@ -73,6 +73,7 @@ turned-id true first before now e turned = ap (λ (i : Item). i.id) (same-item (
   where
     same-item : object now ≡ object before → now ≡ before
     same-item h = cc
+
     e_back : first ≡ Some (object before) → first ≡ Some (object now) → object now ≡ object before
     e_back f g = cc
 turned-id false first before now e turned = (subst (λ (v : Option Value). Turned false v (object now)) e turned).0
@@ -124,8 +125,10 @@ places-once t first version b (x ∷ xs) y origin good = go (after_block version
   where
     rest_ids : List Object
     rest_ids = filter_map (λ (x : Place × Object). after_block version b x.0 x.1) xs
+
     gone_ids : List ObjectId
     gone_ids = filter_map (deleted_id version b) xs
+
     go : (a : Option Object) → after_block version b x.0 x.1 ≡ a → times y (map id_of rest_ids) + times y gone_ids ≡ times y (first_ids xs)
         → times y (map id_of (cons_option a rest_ids)) + times y (cons_option (cond (is_none_left a) (Some x.1.id) None) gone_ids) ≡ hit (id_eq x.1.id y) + times y (first_ids xs)
     go None h rest = omega (arith, rest)
@@ -137,6 +140,7 @@ created-from tx version b (n ∷ ns) y = go (left_in version b.placed (drawn_id 
   where
     rest_ids : List Object
     rest_ids = filter_map (λ n. left_in version b.placed (record { 0 = created_id_of tx n })) ns
+
     go : (a : Option Object) → left_in version b.placed (drawn_id tx n) ≡ a → times y (map id_of rest_ids) ≤ times y (map (drawn_id tx) ns) → times y (map id_of (cons_option a rest_ids)) ≤ hit (id_eq (drawn_id tx n) y) + times y (map (drawn_id tx) ns)
     go None h rest = omega (arith, rest)
     go (Some o) h rest = let same = ap (λ (i : ObjectId). hit (id_eq i y)) (left-id version b.placed (drawn_id tx n) o h) in omega (arith, rest, same)
@@ -153,7 +157,7 @@ same-ids : (version : ℕ) (xs : List (Place × Object)) → map id_of (map (λ 
 same-ids version [] = refl
 same-ids version (x ∷ xs) = ap (λ ids. x.1.id ∷ ids) (same-ids version xs)
 
-written-ids : (os : List Object) → map (λ (w : Written). w.id) (map written_of os) ≡ map id_of os
+pub written-ids : (os : List Object) → map (λ (w : Written). w.id) (map written_of os) ≡ map id_of os
 written-ids [] = refl
 written-ids (o ∷ os) = ap (λ ids. o.id ∷ ids) (written-ids os)
 
@@ -202,8 +206,10 @@ effects-times t objects fit y = go (outcome t (transaction_digest t) objects) re
   where
     tx : Digest
     tx = transaction_digest t
+
     named : times y (first_ids (written_places t objects)) ≤ times y (named_ids t)
     named = subst (λ ids. times y (first_ids (written_places t objects)) ≤ times y ids) (objects-ids t objects fit) (places-ids t objects y)
+
     go : (r : Result Block Failure) → outcome t (transaction_digest t) objects ≡ r → times y (effect_ids (executed_by t (transaction_digest t) objects r).effects) ≤ times y (touched_ids t (executed_by t (transaction_digest t) objects r).effects)
     go (Err failure) h =
         let ids : map (λ (w : Written). w.id) (map written_of (failed_objects t objects)) ≡ first_ids (written_places t objects) = written-ids (failed_objects t objects) ∙ cost-ids t (map (λ (x : Place × Object). same_object (version_of objects) x.1) (written_places t objects)) ∙ same-ids (version_of objects) (written_places t objects) in
@@ -214,7 +220,7 @@ effects-times t objects fit y = go (outcome t (transaction_digest t) objects) re
     go (Ok b) h =
         let places : List Object = filter_map (λ (x : Place × Object). after_block (version_of objects) b x.0 x.1) (written_places t objects) in
         let ids : map (λ (w : Written). w.id) (map written_of (done_objects t (transaction_digest t) objects b)) ≡ map id_of places ++ map id_of (created_objects (transaction_digest t) (version_of objects) b) =
-            written-ids (done_objects t (transaction_digest t) objects b) ∙ map-append id_of (with_rest_first t places) (created_objects (transaction_digest t) (version_of objects) b) ∙ ap (λ ids. ids ++ map id_of (created_objects (transaction_digest t) (version_of objects) b)) (rest-ids t places) in
+        written-ids (done_objects t (transaction_digest t) objects b) ∙ map-append id_of (with_rest_first t places) (created_objects (transaction_digest t) (version_of objects) b) ∙ ap (λ ids. ids ++ map id_of (created_objects (transaction_digest t) (version_of objects) b)) (rest-ids t places) in
         let same = ap (times y) ids in
         let left = times-append y (map (λ (w : Written). w.id) (map written_of (done_objects t (transaction_digest t) objects b))) (deleted_ids t objects b) in
         let middle = times-append y (map id_of places) (map id_of (created_objects (transaction_digest t) (version_of objects) b)) in
@@ -222,6 +228,15 @@ effects-times t objects fit y = go (outcome t (transaction_digest t) objects) re
         let once = places-once t (first_slots t objects) (version_of objects) b (written_places t objects) y (origins t objects) (done-is t (transaction_digest t) objects b h).kept.good in
         let made = created-from (transaction_digest t) (version_of objects) b (numbers_below b.made) y in
         omega (arith, same, left, middle, right, once, made, named)
+
+-- the effects list what is written
+pub written-are : (t : Transaction) (objects : List Object) → (execution t objects).effects.written ≡ map written_of (execution t objects).objects
+unfolding execution
+written-are t objects = go (outcome t (transaction_digest t) objects)
+  where
+    go : (r : Result Block Failure) → (executed_by t (transaction_digest t) objects r).effects.written ≡ map written_of (executed_by t (transaction_digest t) objects r).objects
+    go (Ok b) = refl
+    go (Err failure) = refl
 
 pub name_once : (t : Transaction) (objects : List Object) → fits t objects ≡ true → repeats id_eq (touched_ids t (execution t objects).effects) ≡ false → repeats id_eq (effect_ids (execution t objects).effects) ≡ false
 name_once t objects fit apart = each-once (effect_ids (execution t objects).effects) (λ y.

@@ -1,23 +1,20 @@
 -- A failed block leaves what it found, less the cost.
 use Rattle.std.proofs.Common.{refl, ap}
 use Rattle.std.proofs.lemmas.Bool.{leb-true, ltb-false, eqb-true}
-use Rattle.std.specs.Prelude.{◌≡◌, ◌≢◌, ◌≤◌, ◌-◌, ℕ, zero, suc, Bool, true, false, ◌&&◌, ◌==◌, nat_le, nat_lt, List, [], ◌∷◌, map, Option, Some, None, Result, Ok, Err}
+use Rattle.std.specs.Prelude.{◌≡◌, ◌≢◌, ◌≤◌, ℕ, zero, suc, Bool, true, false, ◌&&◌, nat_le, nat_lt, List, [], ◌∷◌, Option, Some, None, Result, Ok, Err}
 use native.Mathlib.Omega.{arith}
-use Rattle.digest_core.specs.declared.Digest.{Digest}
 use Rattle.chain_types.specs.declared.objects.Object.{Object}
 use Rattle.chain_types.specs.declared.objects.Content.{Content}
 use Rattle.chain_types.specs.declared.objects.Content.TheVariants as content
 use Rattle.chain_types.specs.declared.transactions.Transaction.{Transaction}
-use Rattle.effects_core.specs.declared.effects.Status.{Status}
 use Rattle.effects_core.specs.declared.effects.Status.TheVariants as status
 use Rattle.chain_types.specs.Digests.{transaction_digest}
 use Rattle.chain_spec.specs.Words.{first_some, where_true}
-use Rattle.chain_spec.specs.Keys.{fits, fit_inputs, pays_gas as holds_budget, version_of, version_limit, objects_of, is_gas_coin, balance_of}
+use Rattle.chain_spec.specs.Keys.{fits, fit_inputs, version_of, version_limit, objects_of, is_gas_coin, balance_of}
 use Rattle.chain_spec.specs.Shape.{shape_fault, shape_cases, cost}
 use Rattle.chain_spec.proofs.ListLemmas.{and-first, and-second}
 use Rattle.block_spec.specs.Block.{Block}
-use Rattle.block_spec.specs.Commands.{Fault, cause, abort}
-use Rattle.block_spec.specs.Execution.{Failure, execution, executed_by, outcome, written_inputs}
+use Rattle.block_spec.specs.Execution.{Failure, execution, executed_by, outcome}
 use Rattle.block_law.specs.Failing.{PaysGas}
 
 abbrev later : {A : Type 0} → ℕ → List A → List A
@@ -56,8 +53,10 @@ gas-is t coin others fit = coin-is coin.content t.budget (and-first a b both) (a
   where
     a : Bool
     a = is_gas_coin coin.content
+
     b : Bool
     b = nat_le t.budget (balance_of coin.content)
+
     both : (is_gas_coin coin.content && nat_le t.budget (balance_of coin.content)) ≡ true
     both = and-second (fit_inputs t (objects_of t) (coin ∷ others)) (is_gas_coin coin.content && nat_le t.budget (balance_of coin.content))
         (and-first (fit_inputs t (objects_of t) (coin ∷ others) && (is_gas_coin coin.content && nat_le t.budget (balance_of coin.content))) (nat_lt (version_of (coin ∷ others)) version_limit) fit)

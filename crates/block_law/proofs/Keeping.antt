@@ -1,6 +1,6 @@
 -- Of each currency, what is held moves with the supplies of its caps and with the gas.
 use Rattle.std.proofs.Common.{refl, ap, sym, subst, ◌∙◌, inl, inr}
-use Rattle.std.specs.Prelude.{◌≡◌, ◌⊎◌, ◌≤◌, ◌+◌, ◌-◌, ℕ, zero, suc, Bool, true, false, cond, ◌==◌, List, [], ◌∷◌, ◌++◌, map, filter_map, find, sum_by, option_map, Option, Some, None, Result, Ok, Err}
+use Rattle.std.specs.Prelude.{◌≡◌, ◌≤◌, ◌+◌, ◌-◌, ℕ, Bool, true, false, cond, ◌==◌, List, [], ◌∷◌, ◌++◌, map, filter_map, find, sum_by, option_map, Option, Some, None, Result, Ok, Err}
 use Rattle.std.specs.List.{cons_option}
 use native.Mathlib.Omega.{arith}
 use Rattle.digest_core.specs.declared.Digest.{Digest}
@@ -8,30 +8,28 @@ use Rattle.chain_types.specs.declared.objects.ObjectId.{ObjectId}
 use Rattle.chain_types.specs.declared.objects.Object.{Object}
 use Rattle.chain_types.specs.declared.objects.Content.{Content}
 use Rattle.chain_types.specs.declared.objects.Content.TheVariants as content
-use Rattle.chain_types.specs.declared.transactions.Input.{Input}
 use Rattle.chain_types.specs.declared.transactions.Transaction.{Transaction}
 use Rattle.chain_types.specs.Equal.{id_eq}
 use Rattle.chain_types.specs.Digests.{transaction_digest}
 use Rattle.block_types.specs.declared.pieces.Item.{Item}
 use Rattle.block_types.specs.declared.pieces.Placed.{Placed}
-use Rattle.block_types.specs.declared.pieces.Executed.{Executed}
 use Rattle.chain_spec.specs.Words.{Each, Has, repeats}
 use Rattle.chain_spec.specs.Keys.{fits, money_of, currency_sum, version_of, named_ids}
-use Rattle.chain_spec.specs.Shape.{shape_fault, cost}
+use Rattle.chain_spec.specs.Shape.{cost}
 use Rattle.block_spec.specs.Natives.{amount_of, with_amount}
-use Rattle.block_spec.specs.Block.{Place, gas, input, result, Value, pure, object, vector, Slot, Block, value_in}
+use Rattle.block_spec.specs.Block.{Place, gas, Value, pure, object, vector, Slot, Block, value_in}
 use Rattle.block_spec.specs.Commands.{piece_of}
-use Rattle.block_spec.specs.Execution.{Failure, item_of, gas_item, first_slots, first_block, outcome, object_at, left_in, now_in, after_block, written_inputs, written_places, created_objects, with_rest, with_rest_first, done_objects, same_object, less_cost_first, failed_objects, execution, executed_by}
+use Rattle.block_spec.specs.Execution.{Failure, gas_item, first_slots, first_block, outcome, object_at, now_in, after_block, written_inputs, written_places, created_objects, with_rest_first, done_objects, same_object, failed_objects, execution, executed_by}
 use Rattle.block_law.specs.Money.{supply_of, supply_sum, caps_of, cap_count}
 use Rattle.block_law.specs.Names.{drawn_ids, touched_ids}
 use Rattle.block_law.specs.Keeping.{MayRun, objects_before, gas_in}
 use Rattle.block_law.proofs.Counts.{hit, times, times-append, id_equal, id_same, id_refl, once-each}
-use Rattle.block_law.proofs.Slots.{placed_weight, block_weight, slots_weight, value_weight, Every}
-use Rattle.block_law.proofs.Amounts.{part, part-plus, part-zero, sum-cons, money, supply, caps, amount-twice}
-use Rattle.block_law.proofs.Kept.{Like, Went, Good, Stands}
+use Rattle.block_law.proofs.Slots.{placed_weight, block_weight, value_weight, Every}
+use Rattle.block_law.proofs.Amounts.{cond-part, part, part-plus, sum-cons, amount-twice}
+use Rattle.block_law.proofs.Kept.{Like, Good, Stands}
 use Rattle.block_law.proofs.Steps.{counts}
 use Rattle.block_law.proofs.Failing.{gas-is, affords}
-use Rattle.block_law.proofs.Blocks.{IsKept, IsDone, done-is, first-behind}
+use Rattle.block_law.proofs.Blocks.{IsDone, done-is, first-behind}
 use Rattle.block_law.proofs.Effects.{IsInput, inputs-first, first_ids, places-ids, objects-ids}
 use Rattle.block_law.proofs.Sums.{places_weight, unwritten, whole-weight, holds, objects_weight, objects-append, start-done, placed-times, spent-most, spent_ids, left-weight}
 
@@ -94,13 +92,12 @@ gas-left t tx version coin os b balance held is once = go (value_in gas b.slots)
 record IsAdditive (f : Content → ℕ) (g : ℕ → ℕ) : Type 0 where
   adds : (m n : ℕ) → f (content.Coin 0 (m + n)) ≡ f (content.Coin 0 m) + g n
 
-cond-part : (b : Bool) (n : ℕ) → cond b n 0 ≡ part b n
-cond-part true n = refl
-cond-part false n = refl
 
 money-adds : (c : ℕ) → IsAdditive (money_of c) (λ n. money_of c (content.Coin 0 n))
-money-adds c = record { adds = λ m n.
-    let a = cond-part (0 == c) (m + n) in let b = cond-part (0 == c) m in let d = cond-part (0 == c) n in let e = part-plus (0 == c) m n in omega (arith, a, b, d, e) }
+money-adds c = record {
+  adds = λ m n.
+      let a = cond-part (0 == c) (m + n) in let b = cond-part (0 == c) m in let d = cond-part (0 == c) n in let e = part-plus (0 == c) m n in omega (arith, a, b, d, e);
+}
 
 supply-adds : (c : ℕ) → IsAdditive (supply_of c) (λ n. 0)
 supply-adds c = record { adds = λ m n. refl }

@@ -1,10 +1,8 @@
 -- What each place of a block holds, against what it held first: an input keeps its id, the gas coin is a coin or has
 -- left, and what may only be read stays as it was.
-use Rattle.std.proofs.Common.{refl, ap, sym, subst, ◌∙◌, inl, inr}
-use Rattle.std.specs.Prelude.{◌≡◌, ◌⊎◌, ℕ, ◌+◌, Bool, true, false, not, cond, List, [], ◌∷◌, ◌++◌, map, slice_get, Option, Some, None}
+use Rattle.std.proofs.Common.{refl, ap, ◌∙◌, inl, inr}
+use Rattle.std.specs.Prelude.{◌≡◌, ℕ, ◌+◌, Bool, true, false, not, cond, List, [], ◌∷◌, ◌++◌, map, slice_get, Option, Some, None}
 use Rattle.std.specs.List.{enumerate_from}
-use Rattle.chain_types.specs.declared.transactions.Input.{Input}
-use Rattle.chain_types.specs.declared.transactions.Argument.{Argument}
 use Rattle.chain_types.specs.declared.transactions.Command.{Command}
 use Rattle.chain_types.specs.declared.transactions.Transaction.{Transaction}
 use Rattle.block_types.specs.declared.pieces.Item.{Item}
@@ -13,8 +11,8 @@ use Rattle.chain_spec.specs.Words.{Each, Has}
 use Rattle.block_spec.specs.Natives.{kind_of, with_amount, holding}
 use Rattle.chain_spec.specs.Tests.{kind_eq}
 use Rattle.chain_types.specs.declared.objects.Kind.{Kind}
-use Rattle.block_spec.specs.Block.{Place, gas, input, result, Value, pure, object, vector, Slot, Block, value_in, put_in, place_eq, is_result_of, result_slots}
-use Rattle.block_spec.specs.Commands.{is_transfer, is_common, is_read_only, stays_in_place, is_frozen_place, place_of}
+use Rattle.block_spec.specs.Block.{Place, gas, input, result, Value, pure, object, vector, Slot, value_in, put_in, place_eq, result_slots}
+use Rattle.block_spec.specs.Commands.{is_transfer, is_common, is_read_only, stays_in_place, is_frozen_place}
 use Rattle.block_law.proofs.Slots.{Every, every-append, values_weight, slots_weight}
 use Rattle.block_law.proofs.Amounts.{amount-twice}
 use native.Mathlib.Omega.{arith}

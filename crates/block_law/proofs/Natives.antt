@@ -1,7 +1,7 @@
 -- What a call of a native takes and gives, and what it keeps.
 use Rattle.std.proofs.Common.{refl, ap, sym, subst, ◌∙◌}
 use Rattle.std.proofs.lemmas.Bool.{ltb-false, eqb-true}
-use Rattle.std.specs.Prelude.{◌≡◌, ◌≤◌, ◌+◌, ◌-◌, ℕ, zero, suc, Bool, true, false, cond, not, ◌==◌, nat_lt, nat_le, List, [], ◌∷◌, ◌++◌, map, sum_by, length, Option, Some, None, Result, Ok, Err}
+use Rattle.std.specs.Prelude.{◌≡◌, ◌≤◌, ◌+◌, ◌-◌, ℕ, zero, suc, Bool, true, false, cond, not, ◌==◌, nat_lt, nat_le, List, [], ◌∷◌, ◌++◌, map, sum_by, length, Option, Some, None, Ok}
 use Rattle.std.specs.List.{list_any}
 use native.Mathlib.Omega.{arith}
 use Rattle.digest_core.specs.declared.Digest.{Digest}
@@ -17,24 +17,23 @@ use Rattle.chain_types.specs.declared.transactions.Command.{Command}
 use Rattle.chain_types.specs.declared.transactions.Transaction.{Transaction}
 use Rattle.chain_types.specs.Equal.{id_eq}
 use Rattle.block_types.specs.declared.pieces.Item.{Item}
-use Rattle.block_types.specs.declared.pieces.Given.{Given}
 use Rattle.block_types.specs.declared.pieces.Placed.{Placed}
 use Rattle.block_types.specs.declared.pieces.Gave.{Gave}
 use Rattle.block_types.specs.declared.pieces.Gave.TheVariants as gave
 use Rattle.chain_spec.specs.Words.{Each}
 use Rattle.chain_spec.specs.Tests.{kind_eq}
 use Rattle.chain_spec.specs.Keys.{money_of}
-use Rattle.block_spec.specs.Natives.{parameters_of, native_gives, kind_of, currency_of, amount_of, with_amount, holding, Site, new_item, amount_limit, item_given, items_given, item_at, items_at, number_at, gives, owned_by_all, abort_if, other_currency, joined, coin_zero, coin_mint, coin_burn, counter_add, counter_require, vault_new, vault_deposit, vault_withdraw, share, counter_add_limited, names_vault, may_be_shared}
-use Rattle.block_spec.specs.Block.{Place, gas, input, result, Value, pure, object, vector, Slot, Block, place_eq, value_in, put_in, result_slots, with_results}
-use Rattle.block_spec.specs.Commands.{Fault, abort, Need, number, address, by_value, by_mut, by_ref, coins, paired, place_of, is_pure, is_right_kind, is_transfer, is_frozen_place, stays_in_place, given_as, given_all, spend, spend_all, spend_taken, put_changed, put_back, placed_list, called_block, called, site}
+use Rattle.block_spec.specs.Natives.{parameters_of, native_gives, kind_of, currency_of, amount_of, holding, Site, new_item, amount_limit, item_given, items_given, item_at, number_at, gives, owned_by_all, abort_if, other_currency, joined, coin_mint, coin_burn, counter_add, counter_require, vault_new, vault_deposit, vault_withdraw, share, counter_add_limited, names_vault, may_be_shared}
+use Rattle.block_spec.specs.Block.{Place, Value, pure, object, vector, Slot, Block, place_eq, value_in, result_slots, with_results}
+use Rattle.block_spec.specs.Commands.{Fault, Need, number, by_value, by_mut, by_ref, coins, paired, place_of, is_pure, is_right_kind, is_transfer, is_frozen_place, stays_in_place, given_as, given_all, spend_all, spend_taken, put_changed, put_back, placed_list, called_block, called, site}
 use Rattle.block_law.specs.Money.{supply_of, caps_of}
 use Rattle.block_law.specs.Names.{drawn_id, drawn_ids}
 use Rattle.block_law.proofs.Counts.{hit, times}
-use Rattle.block_law.proofs.Slots.{items_weight, value_weight, values_weight, slots_weight, placed_weight, block_weight, items-append, slots-append, placed-append, objects-weight, put-weight, Every, put-every, value-every, Others, Lies, spend-weight, spend-placed, spend-other, spend-every}
-use Rattle.block_law.proofs.Reading.{IsRead, AllRead, Covers, covers-last, apart-from, is-object, is-changed}
-use Rattle.block_law.proofs.Amounts.{part, part-plus, part-zero, sum-cons, money, supply, caps, IsPurse, coin-purse, vault-purse, IsCap, cap-is, IsPlain, counter-plain, IsPurseItem, IsOf, same-currency, each-false, each-map, coins-money, coins-supply, coins-caps, amount}
-use Rattle.block_law.proofs.Kept.{Like, Good, good-holding, good-spent, every-grows, good-vector, Stands, put-stands, stands-results, every-results, results-weight, objects-sorted}
-use Rattle.block_law.proofs.Steps.{counts, Balanced, IsStep, drawn-next, drawn-same, done, ok-same, place-apart, append-nil, spend-stands}
+use Rattle.block_law.proofs.Slots.{items_weight, values_weight, slots_weight, placed_weight, items-append, slots-append, placed-append, objects-weight, put-weight, Every, put-every, value-every, Lies, spend-weight, spend-other, spend-every}
+use Rattle.block_law.proofs.Reading.{IsRead, AllRead, covers-last, apart-from, is-object, is-changed}
+use Rattle.block_law.proofs.Amounts.{cond-part, part, part-plus, part-zero, IsPurse, coin-purse, vault-purse, IsCap, cap-is, IsPlain, counter-plain, IsPurseItem, IsOf, same-currency, each-false, each-map, coins-money, coins-supply, coins-caps, amount}
+use Rattle.block_law.proofs.Kept.{Good, good-holding, good-spent, every-grows, good-vector, Stands, put-stands, stands-results, every-results, results-weight, objects-sorted}
+use Rattle.block_law.proofs.Steps.{Balanced, IsStep, drawn-next, drawn-same, ok-same, place-apart, append-nil, spend-stands}
 
 -- ---- what is balanced
 
@@ -44,9 +43,6 @@ pub record IsEmpty (k : Content) : Type 0 where
   pub supply : (c : ℕ) → supply_of c k ≡ 0
   pub caps : (c : ℕ) → caps_of c k ≡ 0
 
-cond-part : (b : Bool) (n : ℕ) → cond b n 0 ≡ part b n
-cond-part true n = refl
-cond-part false n = refl
 
 new-id : (s : Site) (x : ObjectId) (k : ℕ) (n : ℕ) → n ≡ s.made + k → hit (id_eq (drawn_id s.tx (s.made + k)) x) + times x (drawn_ids s.tx n) ≡ times x (drawn_ids s.tx (suc n))
 new-id s x k n e =
@@ -246,25 +242,25 @@ module _ (t : Transaction) (tx : Digest) (version c : ℕ) (first : List Slot) (
   unchanged needs args values results left made s balanced =
       subst (λ (inner : Block). IsStep t tx first b (with_results c (map object results) (record inner { placed = b.placed ++ placed_list left; made = made }))) (sym (put-none needs (spend_taken needs b) ∙ s.spends))
       (finish (spend_all args b) (values_items values) [] results left made
-        (λ w. let spent = spend-weight w args values b s.lies in let items = values-weigh w values in omega (arith, spent, items))
-        (spent-good args s.moves)
-        (λ places stand. spend-stands places args b stand)
-        balanced)
+      (λ w. let spent = spend-weight w args values b s.lies in let items = values-weigh w values in omega (arith, spent, items))
+      (spent-good args s.moves)
+      (λ places stand. spend-stands places args b stand)
+      balanced)
 
   changed : (x : Argument × Need) (needs : List (Argument × Need)) (args : List Argument) (values : List Value) (results : List Item) (item new : Item) (left : Option Placed) (made : ℕ) → Spends t b cmd (x ∷ needs) args values → IsChange t b x.0 args item new → Balanced tx b.made made (item ∷ values_items values) (new ∷ (results ++ left_items left)) → IsStep t tx first b (called_block c b (x ∷ needs) results (Some new) left made)
   changed x needs args values results item new left made s change balanced =
       subst (λ (inner : Block). IsStep t tx first b (with_results c (map object results) (record (put_back x.0 new inner) { placed = b.placed ++ placed_list left; made = made }))) (sym s.spends)
       (finish (put_back x.0 new (spend_all args b)) (item ∷ values_items values) (new ∷ []) results left made
-        (λ w.
-          let put = put-weight w (place_of x.0) (Some (object new)) (object item) (spend_all args b).slots (spend-other (place_of x.0) args b change.others ∙ change.there) in
-          let spent = spend-weight w args values b s.lies in
-          let items = values-weigh w values in
-          omega (arith, put, spent, items))
-        (put-every (Good t first b.placed) (place_of x.0) (Some (object new)) (spend_all args b).slots (spent-good args s.moves)
-          (subst (λ (i : Item). Good t first b.placed (place_of x.0) (Some (object i))) (sym change.is)
-          (good-holding t first b.placed (place_of x.0) item change.number change.thawed (value-every (Good t first b.placed) (place_of x.0) (object item) b.slots each change.there))))
-        (λ places stand. put-stands places (place_of x.0) (Some (object new)) (spend_all args b).slots (spend-stands places args b stand))
-        balanced)
+      (λ w.
+      let put = put-weight w (place_of x.0) (Some (object new)) (object item) (spend_all args b).slots (spend-other (place_of x.0) args b change.others ∙ change.there) in
+      let spent = spend-weight w args values b s.lies in
+      let items = values-weigh w values in
+      omega (arith, put, spent, items))
+      (put-every (Good t first b.placed) (place_of x.0) (Some (object new)) (spend_all args b).slots (spent-good args s.moves)
+      (subst (λ (i : Item). Good t first b.placed (place_of x.0) (Some (object i))) (sym change.is)
+      (good-holding t first b.placed (place_of x.0) item change.number change.thawed (value-every (Good t first b.placed) (place_of x.0) (object item) b.slots each change.there))))
+      (λ places stand. put-stands places (place_of x.0) (Some (object new)) (spend_all args b).slots (spend-stands places args b stand))
+      balanced)
 
   -- ---- the arguments of a call
 
@@ -302,7 +298,7 @@ module _ (t : Transaction) (tx : Digest) (version c : ℕ) (first : List Slot) (
         there = read.there ∙ ap Some o.1;
         moves = read.moves;
         fitting = subst (λ (v : Value). is_right_kind (by_value k) v ≡ true) o.1 read.fitting;
-        apart = λ y e. apart-from t b cmd earlier y x (by_value k) (subst (λ (l : List Argument) . (test : Argument → Bool) → list_any test l ≡ false → test y ≡ false) (sym e) (covers-last y [])) read (ap is_pure o.1);
+        apart = λ y e. apart-from t b cmd earlier y x (by_value k) (subst (λ (l : List Argument). (test : Argument → Bool) → list_any test l ≡ false → test y ≡ false) (sym e) (covers-last y [])) read (ap is_pure o.1);
       }
 
   nothing : (needs : List (Argument × Need)) → spend_taken needs b ≡ b → Spends t b cmd needs [] []
@@ -326,12 +322,16 @@ module _ (t : Transaction) (tx : Digest) (version c : ℕ) (first : List Slot) (
     where
       needs : List (Argument × Need)
       needs = (x, by_mut kind.Cap) ∷ (y, number) ∷ []
+
       f : Found x kind.Cap
       f = found kind.Cap [] x read.0
+
       new : Item
       new = holding (amount f.item + n) f.item
+
       results : List Item
       results = new_item s 0 (content.Coin (currency_of f.item.content) n) ∷ []
+
       rest : called c b needs (gives s (content.Coin (currency_of f.item.content) n ∷ []) (Some new)) ≡ Ok after
       rest = (abort-not c b after needs (nat_le amount_limit (amount f.item + n)) 1 (gives s (content.Coin (currency_of f.item.content) n ∷ []) (Some new))
           (subst (λ (v : Option Value). called c b needs (coin_mint s (item_given (Some (given_as (by_mut kind.Cap) v))) n) ≡ Ok after) f.there gave)).1
@@ -339,65 +339,81 @@ module _ (t : Transaction) (tx : Digest) (version c : ℕ) (first : List Slot) (
   burn-step : (x y : Argument) (after : Block) → AllRead t b cmd [] ((x, by_mut kind.Cap) ∷ (y, by_value (Some kind.Coin)) ∷ []) → Gives ((x, by_mut kind.Cap) ∷ (y, by_value (Some kind.Coin)) ∷ []) (coin_burn s (item_given (Some (given_as (by_mut kind.Cap) (value_in (place_of x) b.slots)))) (item_given (Some (given_as (by_value (Some kind.Coin)) (value_in (place_of y) b.slots))))) after → IsStep t tx first b after
   burn-step x y after read gave = subst (IsStep t tx first b) (ok-same Fault (called_block c b needs [] (Some new) None b.made) after second.1)
       (changed (x, by_mut kind.Cap) ((y, by_value (Some kind.Coin)) ∷ []) (y ∷ []) (object k.item ∷ []) [] f.item new None b.made
-        (record { spends = refl; lies = (k.there, (tt, tt)); moves = (k.moves, tt) })
-        (change-apart x y kind.Cap f (amount f.item - amount k.item) (k.apart x refl))
-        (balanced-burn s f.item k.item (cap-is f.item.content f.fitting) (coin-purse k.item.content k.fitting) (same-currency (currency_of f.item.content) (currency_of k.item.content) one.0) (ltb-false (amount f.item) (amount k.item) second.0)))
+      (record { spends = refl; lies = (k.there, (tt, tt)); moves = (k.moves, tt) })
+      (change-apart x y kind.Cap f (amount f.item - amount k.item) (k.apart x refl))
+      (balanced-burn s f.item k.item (cap-is f.item.content f.fitting) (coin-purse k.item.content k.fitting) (same-currency (currency_of f.item.content) (currency_of k.item.content) one.0) (ltb-false (amount f.item) (amount k.item) second.0)))
     where
       needs : List (Argument × Need)
       needs = (x, by_mut kind.Cap) ∷ (y, by_value (Some kind.Coin)) ∷ []
+
       f : Found x kind.Cap
       f = found kind.Cap [] x read.0
+
       k : Taken y (Some kind.Coin) (x ∷ [])
       k = taken (Some kind.Coin) (x ∷ []) y read.1.0
+
       new : Item
       new = holding (amount f.item - amount k.item) f.item
+
       one : (other_currency f.item k.item ≡ false) × (called c b needs (abort_if (nat_lt (amount f.item) (amount k.item)) 2 (gives s [] (Some new))) ≡ Ok after)
       one = abort-not c b after needs (other_currency f.item k.item) 1 (abort_if (nat_lt (amount f.item) (amount k.item)) 2 (gives s [] (Some new)))
           (subst (λ (v : Option Value). called c b needs (coin_burn s f.item (item_given (Some (given_as (by_value (Some kind.Coin)) v)))) ≡ Ok after) k.there
           (subst (λ (v : Option Value). called c b needs (coin_burn s (item_given (Some (given_as (by_mut kind.Cap) v))) (item_given (Some (given_as (by_value (Some kind.Coin)) (value_in (place_of y) b.slots))))) ≡ Ok after) f.there gave))
+
       second : (nat_lt (amount f.item) (amount k.item) ≡ false) × (called c b needs (gives s [] (Some new)) ≡ Ok after)
       second = abort-not c b after needs (nat_lt (amount f.item) (amount k.item)) 2 (gives s [] (Some new)) one.1
 
   deposit-step : (x y : Argument) (after : Block) → AllRead t b cmd [] ((x, by_mut kind.Vault) ∷ (y, by_value (Some kind.Coin)) ∷ []) → Gives ((x, by_mut kind.Vault) ∷ (y, by_value (Some kind.Coin)) ∷ []) (vault_deposit s (item_given (Some (given_as (by_mut kind.Vault) (value_in (place_of x) b.slots)))) (item_given (Some (given_as (by_value (Some kind.Coin)) (value_in (place_of y) b.slots))))) after → IsStep t tx first b after
   deposit-step x y after read gave = subst (IsStep t tx first b) (ok-same Fault (called_block c b needs [] (Some new) None b.made) after second.1)
       (changed (x, by_mut kind.Vault) ((y, by_value (Some kind.Coin)) ∷ []) (y ∷ []) (object k.item ∷ []) [] f.item new None b.made
-        (record { spends = refl; lies = (k.there, (tt, tt)); moves = (k.moves, tt) })
-        (change-apart x y kind.Vault f (amount f.item + amount k.item) (k.apart x refl))
-        (balanced-deposit s f.item k.item (vault-purse f.item.content f.fitting) (coin-purse k.item.content k.fitting) (same-currency (currency_of f.item.content) (currency_of k.item.content) one.0)))
+      (record { spends = refl; lies = (k.there, (tt, tt)); moves = (k.moves, tt) })
+      (change-apart x y kind.Vault f (amount f.item + amount k.item) (k.apart x refl))
+      (balanced-deposit s f.item k.item (vault-purse f.item.content f.fitting) (coin-purse k.item.content k.fitting) (same-currency (currency_of f.item.content) (currency_of k.item.content) one.0)))
     where
       needs : List (Argument × Need)
       needs = (x, by_mut kind.Vault) ∷ (y, by_value (Some kind.Coin)) ∷ []
+
       f : Found x kind.Vault
       f = found kind.Vault [] x read.0
+
       k : Taken y (Some kind.Coin) (x ∷ [])
       k = taken (Some kind.Coin) (x ∷ []) y read.1.0
+
       new : Item
       new = holding (amount f.item + amount k.item) f.item
+
       one : (other_currency f.item k.item ≡ false) × (called c b needs (abort_if (nat_le amount_limit (amount f.item + amount k.item)) 2 (gives s [] (Some new))) ≡ Ok after)
       one = abort-not c b after needs (other_currency f.item k.item) 1 (abort_if (nat_le amount_limit (amount f.item + amount k.item)) 2 (gives s [] (Some new)))
           (subst (λ (v : Option Value). called c b needs (vault_deposit s f.item (item_given (Some (given_as (by_value (Some kind.Coin)) v)))) ≡ Ok after) k.there
           (subst (λ (v : Option Value). called c b needs (vault_deposit s (item_given (Some (given_as (by_mut kind.Vault) v))) (item_given (Some (given_as (by_value (Some kind.Coin)) (value_in (place_of y) b.slots))))) ≡ Ok after) f.there gave))
+
       second : (nat_le amount_limit (amount f.item + amount k.item) ≡ false) × (called c b needs (gives s [] (Some new)) ≡ Ok after)
       second = abort-not c b after needs (nat_le amount_limit (amount f.item + amount k.item)) 2 (gives s [] (Some new)) one.1
 
   withdraw-step : (x y z : Argument) (key : Item) (n : ℕ) (after : Block) → AllRead t b cmd [] ((x, by_mut kind.Vault) ∷ (y, by_ref kind.VaultKey) ∷ (z, number) ∷ []) → Gives ((x, by_mut kind.Vault) ∷ (y, by_ref kind.VaultKey) ∷ (z, number) ∷ []) (vault_withdraw s (item_given (Some (given_as (by_mut kind.Vault) (value_in (place_of x) b.slots)))) key n) after → IsStep t tx first b after
   withdraw-step x y z key n after read gave = subst (IsStep t tx first b) (ok-same Fault (called_block c b needs results (Some new) None (b.made + 1)) after second.1)
       (changed (x, by_mut kind.Vault) ((y, by_ref kind.VaultKey) ∷ (z, number) ∷ []) [] [] results f.item new None (b.made + 1) (nothing needs refl) (change-of x kind.Vault f (amount f.item - n))
-        (balanced-withdraw s f.item n (vault-purse f.item.content f.fitting) (ltb-false (amount f.item) n second.0)))
+      (balanced-withdraw s f.item n (vault-purse f.item.content f.fitting) (ltb-false (amount f.item) n second.0)))
     where
       needs : List (Argument × Need)
       needs = (x, by_mut kind.Vault) ∷ (y, by_ref kind.VaultKey) ∷ (z, number) ∷ []
+
       f : Found x kind.Vault
       f = found kind.Vault [] x read.0
+
       new : Item
       new = holding (amount f.item - n) f.item
+
       results : List Item
       results = new_item s 0 (content.Coin (currency_of f.item.content) n) ∷ []
+
       last : Gave
       last = gives s (content.Coin (currency_of f.item.content) n ∷ []) (Some new)
+
       one : (not (names_vault f.item.id key.content) ≡ false) × (called c b needs (abort_if (nat_lt (amount f.item) n) 2 last) ≡ Ok after)
       one = abort-not c b after needs (not (names_vault f.item.id key.content)) 1 (abort_if (nat_lt (amount f.item) n) 2 last)
           (subst (λ (v : Option Value). called c b needs (vault_withdraw s (item_given (Some (given_as (by_mut kind.Vault) v))) key n) ≡ Ok after) f.there gave)
+
       second : (nat_lt (amount f.item) n ≡ false) × (called c b needs last ≡ Ok after)
       second = abort-not c b after needs (nat_lt (amount f.item) n) 2 last one.1
 
@@ -407,8 +423,10 @@ module _ (t : Transaction) (tx : Digest) (version c : ℕ) (first : List Slot) (
     where
       f : Found x kind.Counter
       f = found kind.Counter [] x read
+
       new : Item
       new = holding (amount f.item + n) f.item
+
       one : (nat_le amount_limit (amount f.item + n) ≡ false) × (called c b ((x, by_mut kind.Counter) ∷ needs) (gives s [] (Some new)) ≡ Ok after)
       one = abort-not c b after ((x, by_mut kind.Counter) ∷ needs) (nat_le amount_limit (amount f.item + n)) 1 (gives s [] (Some new))
           (subst (λ (v : Option Value). called c b ((x, by_mut kind.Counter) ∷ needs) (counter_add s (item_given (Some (given_as (by_mut kind.Counter) v))) n) ≡ Ok after) f.there gave)
@@ -419,10 +437,13 @@ module _ (t : Transaction) (tx : Digest) (version c : ℕ) (first : List Slot) (
     where
       counter : Item
       counter = item_given (Some (given_as (by_mut kind.Counter) (value_in (place_of x) b.slots)))
+
       last : Gave
       last = gives s [] (Some (holding (amount counter + n) counter))
+
       one : (nat_le amount_limit (amount counter + n) ≡ false) × (called c b ((x, by_mut kind.Counter) ∷ needs) (abort_if (nat_lt (amount_of limit.content) (amount counter + n)) 2 last) ≡ Ok after)
       one = abort-not c b after ((x, by_mut kind.Counter) ∷ needs) (nat_le amount_limit (amount counter + n)) 1 (abort_if (nat_lt (amount_of limit.content) (amount counter + n)) 2 last) gave
+
       go : (z : Bool) → z ≡ false → called c b ((x, by_mut kind.Counter) ∷ needs) last ≡ Ok after → called c b ((x, by_mut kind.Counter) ∷ needs) (abort_if z 1 last) ≡ Ok after
       go true e gave = absurd (cc)
       go false e gave = gave
@@ -441,8 +462,8 @@ module _ (t : Transaction) (tx : Digest) (version c : ℕ) (first : List Slot) (
   own-step : (x : Argument) (who : Owner) (after : Block) (k : Taken x None []) → Gives ((x, by_value None) ∷ []) (owned_by_all s k.item who) after → IsStep t tx first b after
   own-step x who after k gave = subst (IsStep t tx first b) (ok-same Fault (called_block c b ((x, by_value None) ∷ []) [] None (Some (record { item = k.item; owner = who })) b.made) after gave)
       (unchanged ((x, by_value None) ∷ []) (x ∷ []) (object k.item ∷ []) [] (Some (record { item = k.item; owner = who })) b.made
-        (record { spends = refl; lies = (k.there, (tt, tt)); moves = (k.moves, tt) })
-        (record { moved = λ n. refl; same_caps = λ n. refl; drew = λ y. omega arith }))
+      (record { spends = refl; lies = (k.there, (tt, tt)); moves = (k.moves, tt) })
+      (record { moved = λ n. refl; same_caps = λ n. refl; drew = λ y. omega arith }))
 
   taken-item : (x : Argument) (after : Block) (g : Item → Gave) (k : Taken x None []) → Gives ((x, by_value None) ∷ []) (g (item_given (Some (given_as (by_value None) (value_in (place_of x) b.slots))))) after → Gives ((x, by_value None) ∷ []) (g k.item) after
   taken-item x after g k gave = subst (λ (v : Option Value). called c b ((x, by_value None) ∷ []) (g (item_given (Some (given_as (by_value None) v)))) ≡ Ok after) k.there gave
@@ -477,20 +498,25 @@ module _ (t : Transaction) (tx : Digest) (version c : ℕ) (first : List Slot) (
   joined-done x [] after there moves purses ends = absurd (cc)
   joined-done x (i ∷ others) after there moves purses ends = subst (IsStep t tx first b) (ok-same Fault (called_block c b needs (new ∷ []) None None b.made) after second)
       (unchanged needs (x ∷ []) (vector kind.Coin (i ∷ others) ∷ []) (new ∷ []) None b.made
-        (record { spends = refl; lies = (there, (tt, tt)); moves = (moves, tt) })
-        (subst (λ (ins : List Item). Balanced tx b.made b.made ins (new ∷ [])) (sym (append-nil (i ∷ others)))
-        (balanced-join s i others purses.0 purses.1 (each-map (λ (j : Item). other_currency i j ≡ false) (IsOf (currency_of i.content)) others (λ j d. sym (same-currency (currency_of i.content) (currency_of j.content) d)) (each-false (other_currency i) others one.0)))))
+      (record { spends = refl; lies = (there, (tt, tt)); moves = (moves, tt) })
+      (subst (λ (ins : List Item). Balanced tx b.made b.made ins (new ∷ [])) (sym (append-nil (i ∷ others)))
+      (balanced-join s i others purses.0 purses.1 (each-map (λ (j : Item). other_currency i j ≡ false) (IsOf (currency_of i.content)) others (λ j d. sym (same-currency (currency_of i.content) (currency_of j.content) d)) (each-false (other_currency i) others one.0)))))
     where
       needs : List (Argument × Need)
       needs = (x, coins) ∷ []
+
       total : ℕ
       total = amount i + sum_by amount others
+
       new : Item
       new = holding total i
+
       last : Gave
       last = gave.Done (new ∷ []) None None s.made
+
       one : (list_any (other_currency i) others ≡ false) × (called c b needs (abort_if (nat_le amount_limit total) 3 last) ≡ Ok after)
       one = abort-not c b after needs (list_any (other_currency i) others) 2 (abort_if (nat_le amount_limit total) 3 last) ends
+
       second : called c b needs last ≡ Ok after
       second = (abort-not c b after needs (nat_le amount_limit total) 3 last one.1).1
 
@@ -501,6 +527,7 @@ module _ (t : Transaction) (tx : Digest) (version c : ℕ) (first : List Slot) (
     where
       o : (is : List Item) × (read.0.value ≡ vector kind.Coin is)
       o = is-coins read.0.value read.0.fitting
+
       there : value_in (place_of x) b.slots ≡ Some (vector kind.Coin o.0)
       there = read.0.there ∙ ap Some o.1
 

@@ -1,19 +1,18 @@
 -- What is known of arguments that no cause refuses.
-use Rattle.std.proofs.Common.{refl, ap, sym, subst, ◌∙◌}
-use Rattle.std.specs.Prelude.{◌≡◌, ℕ, Bool, true, false, cond, not, ◌&&◌, ◌||◌, List, [], ◌∷◌, ◌++◌, map, filter_map, Option, Some, None}
+use Rattle.std.proofs.Common.{refl, ap, subst, ◌∙◌}
+use Rattle.std.specs.Prelude.{◌≡◌, Bool, true, false, not, ◌&&◌, ◌||◌, List, [], ◌∷◌, ◌++◌, map, Option, Some, None}
 use Rattle.std.specs.List.{list_any}
 use Rattle.chain_types.specs.declared.objects.Kind.{Kind}
-use Rattle.chain_types.specs.declared.objects.Kind.TheVariants as kind
 use Rattle.chain_types.specs.declared.transactions.Argument.{Argument}
 use Rattle.chain_types.specs.declared.transactions.Command.{Command}
 use Rattle.chain_types.specs.declared.transactions.Transaction.{Transaction}
 use Rattle.block_types.specs.declared.pieces.Item.{Item}
 use Rattle.chain_spec.specs.Words.{Each, first_some, where_true}
 use Rattle.chain_spec.specs.Tests.{kind_eq}
-use Rattle.chain_spec.proofs.ListLemmas.{or-first, or-second, and-first}
+use Rattle.chain_spec.proofs.ListLemmas.{or-first}
 use Rattle.block_spec.specs.Natives.{kind_of}
-use Rattle.block_spec.specs.Block.{Place, Value, pure, object, vector, Slot, Block, place_eq, value_in}
-use Rattle.block_spec.specs.Commands.{Need, number, address, by_value, by_mut, by_ref, coins, all_by, place_of, has_no_result, is_bad_pure, is_right_kind, takes_value, changes_value, stays_in_place, is_frozen_place, is_pure, is_aliased, value_cases, value_cause, argument_cause, arguments_cause, piece_of, item_in, items_in}
+use Rattle.block_spec.specs.Block.{Value, pure, object, vector, Block, place_eq, value_in}
+use Rattle.block_spec.specs.Commands.{Need, by_value, by_mut, all_by, place_of, has_no_result, is_right_kind, takes_value, changes_value, stays_in_place, is_frozen_place, is_pure, is_aliased, value_cases, value_cause, argument_cause, arguments_cause, items_in}
 use Rattle.block_law.proofs.Slots.{Others, Lies}
 
 -- ---- no case applies
@@ -124,9 +123,10 @@ pub record Takes (t : Transaction) (b : Block) (c : Command) (args : List Argume
 pub takes-others : (t : Transaction) (b : Block) (c : Command) (k : Option Kind) (earlier args : List Argument) (more : List (Argument × Need)) (x : Argument) → Covers x earlier → AllRead t b c earlier (all_by (by_value k) args ++ more) → Others (place_of x) args
 takes-others t b c k earlier [] more x covers read = tt
 takes-others t b c k earlier (a ∷ args) more x covers read =
-    let o = is-object k read.0.value read.0.fitting in
-    (apart-from t b c earlier x a (by_value k) covers read.0 (ap is_pure o.1),
-     takes-others t b c k (earlier ++ a ∷ []) args more x (covers-more x a earlier covers) read.1)
+    let o = is-object k read.0.value read.0.fitting in (
+      apart-from t b c earlier x a (by_value k) covers read.0 (ap is_pure o.1),
+      takes-others t b c k (earlier ++ a ∷ []) args more x (covers-more x a earlier covers) read.1,
+    )
 
 pub takes : (t : Transaction) (b : Block) (c : Command) (k : Option Kind) (earlier args : List Argument) (more : List (Argument × Need)) → AllRead t b c earlier (all_by (by_value k) args ++ more) → Takes t b c args
 takes t b c k earlier [] more read = record { items = []; lies = tt; found = refl; moves = tt }

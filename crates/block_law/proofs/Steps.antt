@@ -1,7 +1,7 @@
 -- What a command takes and gives, and what it keeps: the commands that call no native.
 use Rattle.std.proofs.Common.{refl, ap, sym, subst, ◌∙◌, inl, inr}
 use Rattle.std.proofs.lemmas.Bool.{ltb-false}
-use Rattle.std.specs.Prelude.{◌≡◌, ◌≤◌, ◌+◌, ◌-◌, ℕ, zero, suc, Bool, true, false, cond, not, ◌==◌, nat_lt, nat_le, List, [], ◌∷◌, ◌++◌, map, sum, sum_by, length, Option, Some, None, Result, Ok, Err}
+use Rattle.std.specs.Prelude.{◌≡◌, ◌≤◌, ◌+◌, ◌-◌, ℕ, suc, Bool, true, false, cond, not, ◌==◌, nat_lt, List, [], ◌∷◌, ◌++◌, map, sum, length, Option, Some, None, Result, Ok, Err}
 use Rattle.std.specs.List.{list_any, enumerate_from}
 use native.Mathlib.Omega.{arith}
 use Rattle.digest_core.specs.declared.Digest.{Digest}
@@ -14,21 +14,20 @@ use Rattle.chain_types.specs.declared.objects.Kind.TheVariants as kind
 use Rattle.chain_types.specs.declared.objects.Content.TheVariants as content
 use Rattle.chain_types.specs.declared.transactions.Argument.{Argument}
 use Rattle.chain_types.specs.declared.transactions.Command.{Command}
-use Rattle.chain_types.specs.declared.transactions.Command.TheVariants as command
 use Rattle.chain_types.specs.declared.transactions.Transaction.{Transaction}
 use Rattle.chain_types.specs.Equal.{id_eq}
 use Rattle.block_types.specs.declared.pieces.Item.{Item}
 use Rattle.block_types.specs.declared.pieces.Placed.{Placed}
-use Rattle.chain_spec.specs.Words.{Each, Has, numbers_below, first_some, where_true, unless_refused}
+use Rattle.chain_spec.specs.Words.{Each, Has, numbers_below, first_some, unless_refused}
 use Rattle.chain_spec.specs.Tests.{kind_eq}
-use Rattle.block_spec.specs.Natives.{kind_of, currency_of, amount_of, with_amount, holding, Site, new_item, amount_limit}
-use Rattle.block_spec.specs.Block.{Place, gas, input, result, Value, pure, object, vector, Slot, Block, place_eq, value_in, put_in, result_slots, with_results}
-use Rattle.block_spec.specs.Commands.{Fault, cause, Need, number, address, by_value, by_mut, all_by, place_of, is_right_kind, is_transfer, is_frozen_place, stays_in_place, piece_of, item_in, items_in, number_in, spend, spend_all, put_back, numbered_coin, split_block, split, sum_of, withheld, merge_cases, merge_block, merge, placed_at, transfer_block, vector_block, site}
+use Rattle.block_spec.specs.Natives.{kind_of, currency_of, holding, Site, new_item}
+use Rattle.block_spec.specs.Block.{Place, gas, input, result, Value, pure, object, vector, Slot, Block, place_eq, value_in, put_in, result_slots}
+use Rattle.block_spec.specs.Commands.{Fault, cause, number, address, by_value, by_mut, all_by, place_of, is_transfer, is_frozen_place, stays_in_place, piece_of, item_in, items_in, number_in, spend, spend_all, numbered_coin, split_block, split, sum_of, merge_cases, merge_block, merge, placed_at, transfer_block, vector_block, site}
 use Rattle.block_law.specs.Names.{drawn_id, drawn_ids}
 use Rattle.block_law.proofs.Counts.{hit, times, times-append}
-use Rattle.block_law.proofs.Slots.{place-same, value-other, items_weight, value_weight, values_weight, slots_weight, placed_weight, block_weight, items-append, slots-append, placed-append, objects-weight, put-weight, Every, put-every, value-every, Others, Lies, lies-put, spend-weight, spend-placed, spend-made, spend-other, spend-every}
-use Rattle.block_law.proofs.Reading.{all-none, where-false, IsRead, AllRead, covers-last, is-object, is-changed, Takes, takes, takes-others, takes-each}
-use Rattle.block_law.proofs.Amounts.{part, part-plus, part-zero, sum-cons, money, supply, caps, IsPurse, coin-purse, IsPurseItem, IsOf, same-currency, each-false, each-map, coins-money, coins-supply, coins-caps, amount}
+use Rattle.block_law.proofs.Slots.{place-same, items_weight, values_weight, placed_weight, block_weight, slots-append, placed-append, objects-weight, put-weight, Every, put-every, value-every, Others, Lies, spend-weight, spend-placed, spend-made, spend-other, spend-every}
+use Rattle.block_law.proofs.Reading.{all-none, where-false, AllRead, covers-last, is-changed, Takes, takes, takes-others, takes-each}
+use Rattle.block_law.proofs.Amounts.{cond-part, part, part-plus, part-zero, sum-cons, money, supply, caps, coin-purse, IsPurseItem, IsOf, same-currency, each-false, each-map, coins-money, coins-supply, coins-caps, amount}
 use Rattle.block_law.proofs.Kept.{Like, Turned, Went, IsSorted, Good, good-holding, good-spent, every-grows, has-back, Stands, put-stands, stands-results, every-results, results-weight}
 
 -- ---- what went in and what came out
@@ -104,9 +103,6 @@ new-weight : (w : Item → ℕ) (s : Site) (currency from : ℕ) (amounts : List
 new-weight w s currency from [] = refl
 new-weight w s currency from (n ∷ ns) = let rest = new-weight w s currency (from + 1) ns in omega (arith, rest)
 
-cond-part : (b : Bool) (n : ℕ) → cond b n 0 ≡ part b n
-cond-part true n = refl
-cond-part false n = refl
 
 new-money : (c : ℕ) (s : Site) (currency from : ℕ) (amounts : List ℕ) → items_weight (money c) (new_coins s currency from amounts) ≡ part (currency == c) (sum amounts)
 new-money c s currency from [] = sym (part-zero (currency == c))
@@ -191,14 +187,19 @@ module _ (t : Transaction) (tx : Digest) (version c : ℕ) (first : List Slot) (
     where
       s : Site
       s = site tx version b
+
       currency : ℕ
       currency = currency_of item.content
+
       held : Item
       held = holding (amount item - sum amounts) item
+
       coins : List Item
       coins = new_coins s currency 0 amounts
+
       values : List Value
       values = map (numbered_coin s currency) (enumerate_from 0 amounts)
+
       back : amount item ≡ (amount item - sum amounts) + sum amounts
       back = omega (arith, enough)
 
@@ -207,10 +208,13 @@ module _ (t : Transaction) (tx : Digest) (version c : ℕ) (first : List Slot) (
     where
       ns : List ℕ
       ns = map (number_in b) amounts
+
       o : (i : Item) × ((read.0.value ≡ object i) × (kind_eq (kind_of i.content) kind.Coin ≡ true))
       o = is-changed kind.Coin read.0.value read.0.fitting
+
       there : value_in (place_of coin) b.slots ≡ Some (object o.0)
       there = read.0.there ∙ ap Some o.1.0
+
       go : (x : Bool) → nat_lt (amount o.0) (sum ns) ≡ x → cond x (Err (cause 8)) (Ok (split_block (site tx version b) c b coin o.0 ns)) ≡ Ok after → IsStep t tx first b after
       go true h e = absurd (cc)
       go false h e = subst (IsStep t tx first b) (ok-same Fault (split_block (site tx version b) c b coin o.0 ns) after e) (split-done cmd coin o.0 ns there (coin-purse o.0.content o.1.1) read.0.thaws (ltb-false (amount o.0) (sum ns) h))
@@ -249,17 +253,20 @@ module _ (t : Transaction) (tx : Digest) (version c : ℕ) (first : List Slot) (
     };
     good = subst (λ placed. Every (Good t first placed) (put_in (place_of target) (Some (object held)) spent.slots)) (sym (spend-placed sources b))
         (put-every (Good t first b.placed) (place_of target) (Some (object held)) spent.slots
-          (spend-every (Good t first b.placed) sources b (each-map (λ (a : Argument). stays_in_place t cmd (place_of a) ≡ false) (λ (a : Argument). Good t first b.placed (place_of a) None) sources (λ a moves. good-spent t cmd first b.placed (place_of a) kept moves) k.moves) each)
-          (good-holding t first b.placed (place_of target) item total thawed (value-every (Good t first b.placed) (place_of target) (object item) b.slots each there)));
+        (spend-every (Good t first b.placed) sources b (each-map (λ (a : Argument). stays_in_place t cmd (place_of a) ≡ false) (λ (a : Argument). Good t first b.placed (place_of a) None) sources (λ a moves. good-spent t cmd first b.placed (place_of a) kept moves) k.moves) each)
+        (good-holding t first b.placed (place_of target) item total thawed (value-every (Good t first b.placed) (place_of target) (object item) b.slots each there)));
     stands = λ places stand. put-stands places (place_of target) (Some (object held)) spent.slots (spend-stands places sources b stand);
   }
     where
       total : ℕ
       total = amount item + sum_of (items_in b sources)
+
       held : Item
       held = holding total item
+
       spent : Block
       spent = spend_all sources b
+
       there' : value_in (place_of target) spent.slots ≡ Some (object item)
       there' = spend-other (place_of target) sources b (others-back (place_of target) sources others) ∙ there
 
@@ -269,18 +276,25 @@ module _ (t : Transaction) (tx : Digest) (version c : ℕ) (first : List Slot) (
     where
       o : (i : Item) × ((read.0.value ≡ object i) × (kind_eq (kind_of i.content) kind.Coin ≡ true))
       o = is-changed kind.Coin read.0.value read.0.fitting
+
       there : value_in (place_of target) b.slots ≡ Some (object o.0)
       there = read.0.there ∙ ap Some o.1.0
+
       rest : AllRead t b cmd (target ∷ []) (all_by (by_value (Some kind.Coin)) sources ++ [])
       rest = subst (AllRead t b cmd (target ∷ [])) (sym (append-nil (all_by (by_value (Some kind.Coin)) sources))) read.1
+
       k : Takes t b cmd sources
       k = takes t b cmd (Some kind.Coin) (target ∷ []) sources [] rest
+
       done_is : (first_some (merge_cases t target o.0 (items_in b sources)) ≡ None) × (merge_block b target o.0 sources ≡ after)
       done_is = unless-ok (first_some (merge_cases t target o.0 (items_in b sources))) (merge_block b target o.0 sources) after (subst (λ i. merge t b target i sources ≡ Ok after) (ap piece_of there) e)
+
       purses : Each IsPurseItem k.items
       purses = subst (Each IsPurseItem) k.found (takes-each IsPurseItem t b cmd kind.Coin (target ∷ []) sources [] rest (λ i. coin-purse i.content))
+
       differs : Item → Bool
       differs i = not (currency_of i.content == currency_of o.0.content)
+
       same : Each (IsOf (currency_of o.0.content)) k.items
       same = subst (Each (IsOf (currency_of o.0.content))) k.found
           (each-map (λ (i : Item). differs i ≡ false) (IsOf (currency_of o.0.content)) (items_in b sources) (λ i d. same-currency (currency_of i.content) (currency_of o.0.content) d)
@@ -290,15 +304,17 @@ module _ (t : Transaction) (tx : Digest) (version c : ℕ) (first : List Slot) (
 
   transfer-gone : (cmd : Command) (placed : List Placed) (args : List Argument) (items : List Item) → Lies b.slots args (map object items) → ((i : Item) → Has items i → (p : Placed) × (Has placed p × (p.item ≡ i))) → Each (λ (a : Argument). stays_in_place t cmd (place_of a) ≡ false) args → Every (Good t first placed) b.slots → Each (λ (a : Argument). Good t first placed (place_of a) None) args
   transfer-gone cmd placed [] [] lies found moves grown = tt
-  transfer-gone cmd placed (a ∷ args) (i ∷ items) lies found moves grown =
-      (gone-from (place_of a) (found i (inl refl)) moves.0 (value-every (Good t first placed) (place_of a) (object i) b.slots grown lies.0),
-       transfer-gone cmd placed args items lies.1.1 (λ j has. found j (inr has)) moves.1 grown)
+  transfer-gone cmd placed (a ∷ args) (i ∷ items) lies found moves grown = (
+    gone-from (place_of a) (found i (inl refl)) moves.0 (value-every (Good t first placed) (place_of a) (object i) b.slots grown lies.0),
+    transfer-gone cmd placed args items lies.1.1 (λ j has. found j (inr has)) moves.1 grown,
+  )
     where
       gone : (before : Option Value) → (p : Placed) × (Has placed p × (p.item ≡ i)) → Turned false before (object i) → Went placed before
       gone None p turned = turned
       gone (Some (pure bytes)) p turned = turned
       gone (Some (object before)) p turned = (p.0, (p.1.0, subst (Like before) (sym p.1.1) turned))
       gone (Some (vector k before)) p turned = turned
+
       gone-from : (q : Place) → (p : Placed) × (Has placed p × (p.item ≡ i)) → stays_in_place t cmd q ≡ false → Good t first placed q (Some (object i)) → Good t first placed q None
       gone-from gas p moves good = gone (value_in gas first) p good
       gone-from (input n) p moves good = moves
@@ -330,8 +346,10 @@ module _ (t : Transaction) (tx : Digest) (version c : ℕ) (first : List Slot) (
     where
       k : Takes t b cmd values
       k = takes t b cmd None [] values ((to, address) ∷ []) read
+
       new : List Placed
       new = map (placed_at (owner.Address who)) (items_in b values)
+
       leaves : (i : Item) → Has k.items i → (p : Placed) × (Has (b.placed ++ new) p × (p.item ≡ i))
       leaves i has = (placed_at (owner.Address who) i, (has-back b.placed new (placed_at (owner.Address who) i) (has-map (placed_at (owner.Address who)) (items_in b values) i (subst (λ is. Has is i) (sym k.found) has)), refl))
 
@@ -362,5 +380,6 @@ module _ (t : Transaction) (tx : Digest) (version c : ℕ) (first : List Slot) (
     where
       takes_them : Takes t b cmd values
       takes_them = takes t b cmd (Some k) [] values [] (subst (AllRead t b cmd []) (sym (append-nil (all_by (by_value (Some k)) values))) read)
+
       spent : Block
       spent = spend_all values b

@@ -1,6 +1,6 @@
 -- What the objects behind a block hold together, against what those before it held.
-use Rattle.std.proofs.Common.{refl, ap, sym, subst, ◌∙◌, inl, inr}
-use Rattle.std.specs.Prelude.{◌≡◌, ◌⊎◌, ◌≤◌, ◌+◌, ◌-◌, ℕ, zero, suc, Bool, true, false, cond, ◌||◌, ◌==◌, List, [], ◌∷◌, ◌++◌, map, filter_map, find, slice_get, option_map, Option, Some, None, Result, Ok, Err}
+use Rattle.std.proofs.Common.{refl, ap, sym, subst, ◌∙◌}
+use Rattle.std.specs.Prelude.{◌≡◌, ◌≤◌, ◌+◌, ℕ, suc, Bool, true, false, cond, List, [], ◌∷◌, ◌++◌, map, filter_map, find, slice_get, option_map, Option, Some, None}
 use Rattle.std.specs.List.{list_any, cons_option}
 use native.Mathlib.Omega.{arith}
 use Rattle.digest_core.specs.declared.Digest.{Digest}
@@ -15,18 +15,18 @@ use Rattle.chain_types.specs.declared.transactions.Transaction.{Transaction}
 use Rattle.chain_types.specs.Equal.{id_eq}
 use Rattle.block_types.specs.declared.pieces.Item.{Item}
 use Rattle.block_types.specs.declared.pieces.Placed.{Placed}
-use Rattle.chain_spec.specs.Words.{Each, Has, numbers_below}
+use Rattle.chain_spec.specs.Words.{Each, numbers_below}
 use Rattle.chain_spec.proofs.ListLemmas.{or-first, or-second}
-use Rattle.block_spec.specs.Block.{Place, gas, input, result, Value, pure, object, vector, Slot, Block, place_eq, value_in}
+use Rattle.block_spec.specs.Block.{Place, gas, input, result, Value, pure, object, vector, Slot, Block, value_in}
 use Rattle.block_spec.specs.Commands.{is_common, is_read_only, piece_of}
-use Rattle.block_spec.specs.Execution.{is_unused, is_left, item_of, gas_item, input_slots, first_slots, first_block, object_at, left_in, now_in, after_block, written_inputs, written_places, created_objects}
+use Rattle.block_spec.specs.Execution.{is_unused, is_left, item_of, input_slots, first_slots, first_block, object_at, left_in, now_in, after_block, written_inputs, written_places, created_objects}
 use Rattle.block_law.specs.Names.{drawn_id, drawn_ids}
 use Rattle.block_law.proofs.Counts.{hit, times, times-append, id_same, id_equal, id_refl}
 use Rattle.block_law.proofs.Slots.{value_weight, slots_weight, placed_weight, block_weight, Every, value-every}
 use Rattle.block_law.proofs.Kept.{Turned, Good, is_result, Stands}
 use Rattle.block_law.proofs.Steps.{counts}
-use Rattle.block_law.proofs.Blocks.{Behind, behind-here, behind-next, first-behind, IsKept, kept-start, IsDone}
-use Rattle.block_law.proofs.Effects.{IsOrigin, IsInput, inputs-first, origins, first_ids, good-id}
+use Rattle.block_law.proofs.Blocks.{Behind, behind-here, behind-next, first-behind, kept-start, IsDone}
+use Rattle.block_law.proofs.Effects.{IsOrigin, origins, first_ids, good-id}
 
 -- ---- what a written place holds
 
@@ -280,6 +280,7 @@ module _ (f : Content → ℕ) where
           other : (c : Bool) → id_eq id p.item.id ≡ c → c ≡ false
           other true k = absurd (let same = id_equal p.item.id id (sym (id_same id p.item.id k)) in cc)
           other false k = refl
+
       go : (b : Bool) → id_eq p.item.id id ≡ b → (times p.item.id ids ≡ 1 → adds p ids ≡ f p.item.content) → (times p.item.id ids ≡ 0 → adds p ids ≡ 0) → cond b (f p.item.content) 0 + adds p ids ≡ f p.item.content
       go true h more none = let here = ap hit (id_equal id p.item.id (sym (id_same p.item.id id h))) in let rest = none (omega (arith, one, here)) in omega (arith, rest)
       go false h more none = let here = ap hit (apart h) in let rest = more (omega (arith, one, here)) in omega (arith, rest)
@@ -315,9 +316,11 @@ module _ (f : Content → ℕ) where
     where
       rest_objects : List Object
       rest_objects = filter_map (λ (x : Place × Object). after_block version b x.0 x.1) xs
+
       gone : (a : Option Object) → objects_weight (cons_option a rest_objects) ≡ option_weight a + objects_weight rest_objects
       gone None = omega arith
       gone (Some o) = refl
+
       go : (v : Option Value) → value_in x.0 b.slots ≡ v → objects_weight rest_objects ≡ places_weight holds b.slots xs + ids_weight version b.placed (spent_ids b.slots xs)
           → objects_weight (cons_option (now_in version b.placed x.1 (piece_of v)) rest_objects) ≡ (value_weight holds v + places_weight holds b.slots xs) + ids_weight version b.placed (cons_option (spent_id x.1.id v) (spent_ids b.slots xs))
       go None h rest = let more = gone (left_in version b.placed x.1.id) in omega (arith, rest, more)
@@ -331,6 +334,7 @@ module _ (f : Content → ℕ) where
     where
       rest_objects : List Object
       rest_objects = filter_map (λ n. left_in version b.placed (record { 0 = created_id_of tx n })) ns
+
       go : (a : Option Object) → objects_weight rest_objects ≡ ids_weight version b.placed (map (drawn_id tx) ns) → objects_weight (cons_option a rest_objects) ≡ option_weight a + ids_weight version b.placed (map (drawn_id tx) ns)
       go None rest = omega (arith, rest)
       go (Some o) rest = omega (arith, rest)
@@ -398,6 +402,6 @@ left-weight f t tx version coin os b is apart =
     let created = created-weight f tx version b (numbers_below b.made) in
     let both = ids-append f version b.placed (spent_ids b.slots (written_places t (coin ∷ os))) (drawn_ids tx b.made) in
     let found = find-sum f version b.placed (spent_ids b.slots (written_places t (coin ∷ os)) ++ drawn_ids tx b.made) (placed-times t tx coin os b is)
-        (λ x. let split = times-append x (spent_ids b.slots (written_places t (coin ∷ os))) (drawn_ids tx b.made) in let most = spent-most b.slots x (written_places t (coin ∷ os)) in let once = apart x in omega (arith, split, most, once)) in
+    (λ x. let split = times-append x (spent_ids b.slots (written_places t (coin ∷ os))) (drawn_ids tx b.made) in let most = spent-most b.slots x (written_places t (coin ∷ os)) in let once = apart x in omega (arith, split, most, once)) in
     let whole = whole-weight (holds f) t tx coin os b is in
     omega (arith, after, created, both, found, whole)

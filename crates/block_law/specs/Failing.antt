@@ -1,9 +1,8 @@
 -- What a failed block leaves.
-use Rattle.std.specs.Prelude.{◌≡◌, ◌≢◌, ◌≤◌, ◌-◌, ℕ, Bool, true, List, [], ◌∷◌, map, Option, None}
+use Rattle.std.specs.Prelude.{◌≡◌, ◌≢◌, ◌≤◌, ◌-◌, ℕ, true, List, [], ◌∷◌, map, None}
 use Rattle.chain_types.specs.declared.objects.Object.{Object}
 use Rattle.chain_types.specs.declared.objects.Content.TheVariants as content
 use Rattle.chain_types.specs.declared.transactions.Transaction.{Transaction}
-use Rattle.effects_core.specs.declared.effects.Status.{Status}
 use Rattle.effects_core.specs.declared.effects.Status.TheVariants as status
 use Rattle.block_types.specs.declared.pieces.Executed.{Executed}
 use Rattle.chain_spec.specs.Keys.{fits, version_of}

@@ -1,5 +1,5 @@
 -- What a transaction keeps of each currency.
-use Rattle.std.specs.Prelude.{◌≡◌, ◌+◌, ℕ, Bool, false, true, List, map, Option, None}
+use Rattle.std.specs.Prelude.{◌≡◌, ◌+◌, ℕ, false, true, List, map, None}
 use Rattle.chain_types.specs.declared.objects.Object.{Object}
 use Rattle.chain_types.specs.declared.objects.Content.TheVariants as content
 use Rattle.chain_types.specs.declared.transactions.Transaction.{Transaction}

@@ -1,5 +1,5 @@
 -- The ids that a transaction draws, and those that its effects name.
-use Rattle.std.specs.Prelude.{◌≡◌, ℕ, Bool, true, false, List, ◌++◌, map}
+use Rattle.std.specs.Prelude.{◌≡◌, ℕ, true, false, List, ◌++◌, map}
 use Rattle.digest_core.specs.declared.Digest.{Digest}
 use Rattle.digest_core.specs.Tagged.{created_id_of}
 use Rattle.chain_types.specs.declared.objects.ObjectId.{ObjectId}
