@@ -1,8 +1,7 @@
 -- What a list of transactions neither names nor draws stays in the map.
-use Rattle.std.proofs.Common.{refl, ap, sym, subst, ◌∙◌}
+use Rattle.std.proofs.Common.{refl, ap, subst, ◌∙◌}
 use Rattle.std.specs.Prelude.{◌≡◌, ℕ, Bool, true, false, cond, ◌||◌, List, [], ◌∷◌, ◌++◌, map, fold, Option, Some, None}
-use Rattle.std.specs.List.{list_any}
-use Rattle.std.specs.FinMap.{get, get-insert, get-remove, IsAntisymmetric, nat_cmp-IsAntisymmetric, slice_cmp-IsAntisymmetric}
+use Rattle.std.specs.FinMap.{get, get-insert, get-remove, nat_cmp-IsAntisymmetric, slice_cmp-IsAntisymmetric}
 use Rattle.std.specs.Ordering.{nat_cmp, is_eq, eq_by_cmp}
 use Rattle.std.specs.declared.cmp.Ordering.{Ordering}
 use Rattle.std.specs.declared.cmp.Ordering.TheVariants.{Less, Equal, Greater}
@@ -14,16 +13,15 @@ use Rattle.chain_types.specs.declared.objects.Object.{Object}
 use Rattle.chain_types.specs.declared.transactions.Transaction.{Transaction}
 use Rattle.effects_core.specs.declared.effects.Effects.{Effects}
 use Rattle.effects_core.specs.declared.effects.Written.{Written}
-use Rattle.block_types.specs.declared.pieces.Executed.{Executed}
 use Rattle.chain_types.specs.Equal.{id_eq}
 use Rattle.chain_spec.specs.Words.{Each}
 use Rattle.chain_spec.specs.Tests.{has_id}
 use Rattle.chain_spec.specs.Keys.{fits, named_ids}
 use Rattle.chain_spec.proofs.ListLemmas.{or-first, or-second}
-use Rattle.block_spec.specs.Execution.{execution, written_of}
+use Rattle.block_spec.specs.Execution.{execution}
 use Rattle.member_spec.specs.Versions.{id_cmp}
 use Rattle.member_spec.specs.Sequential.{Objects, with_object, without_id, read_by, map_after, Folded, without_effects, with_execution, executed_on, fold_one, fold_all}
-use Rattle.block_law.specs.Names.{drawn_ids, touched_ids, effect_ids}
+use Rattle.block_law.specs.Names.{drawn_ids}
 use Rattle.block_law.proofs.Counts.{id_equal}
 use Rattle.block_law.proofs.Effects.{id_of, written-ids, written-are, name_touched}
 use Rattle.sequence_law.specs.Untouched.{NamesNot, DrawsNot}
@@ -93,9 +91,9 @@ any-parts id (x ∷ xs) ys none = go (id_eq id x) none (any-parts id xs ys (or-s
 stays-executed : (m : Objects) (t : Transaction) (objects : List Object) (id : ObjectId) → fits t objects ≡ true → NamesNot id t → DrawsNot id (Some (execution t objects).effects) → get (map_after m (execution t objects)) id ≡ get m id
 stays-executed m t objects id fit names draws =
     let none = any-parts id (map (λ (w : Written). w.id) (execution t objects).effects.written) (execution t objects).effects.deleted
-        (name_touched t objects fit id (any-joined id (named_ids t) (drawn_ids (execution t objects).effects.tx (execution t objects).effects.created) names draws)) in
+    (name_touched t objects fit id (any-joined id (named_ids t) (drawn_ids (execution t objects).effects.tx (execution t objects).effects.created) names draws)) in
     let ids : map (λ (w : Written). w.id) (execution t objects).effects.written ≡ map id_of (execution t objects).objects =
-        ap (map (λ (w : Written). w.id)) (written-are t objects) ∙ written-ids (execution t objects).objects in
+    ap (map (λ (w : Written). w.id)) (written-are t objects) ∙ written-ids (execution t objects).objects in
     stays-without (fold with_object m (execution t objects).objects) (execution t objects).effects.deleted id none.1
     ∙ stays-with m (execution t objects).objects id (subst (λ is. has_id is id ≡ false) ids none.0)
 
@@ -117,6 +115,7 @@ effects-front P f t each = go (read_by f.map t) each
     fitting : (b : Bool) (objects : List Object) → Each P (cond b (with_execution f (execution t objects)) (without_effects f)).effects → Each P f.effects
     fitting true objects each = each-front P f.effects (Some (execution t objects).effects ∷ []) each
     fitting false objects each = each-front P f.effects (None ∷ []) each
+
     go : (read : Option (List Object)) → Each P (executed_on f t read).effects → Each P f.effects
     go None each = each-front P f.effects (None ∷ []) each
     go (Some objects) each = fitting (fits t objects) objects each
@@ -132,6 +131,7 @@ stays-one f t id names draws = go (read_by f.map t) draws
     fitting : (b : Bool) (objects : List Object) → fits t objects ≡ b → Each (DrawsNot id) (cond b (with_execution f (execution t objects)) (without_effects f)).effects → get (cond b (with_execution f (execution t objects)) (without_effects f)).map id ≡ get f.map id
     fitting true objects fit draws = stays-executed f.map t objects id fit names (each-last (DrawsNot id) f.effects (Some (execution t objects).effects) draws)
     fitting false objects fit draws = refl
+
     go : (read : Option (List Object)) → Each (DrawsNot id) (executed_on f t read).effects → get (executed_on f t read).map id ≡ get f.map id
     go None draws = refl
     go (Some objects) draws = fitting (fits t objects) objects refl draws

@@ -1,5 +1,5 @@
 -- What sequential execution leaves alone.
-use Rattle.std.specs.Prelude.{◌≡◌, Bool, false, List, Option, Some, None}
+use Rattle.std.specs.Prelude.{◌≡◌, false, List, Option, Some, None}
 use Rattle.std.specs.FinMap.{get}
 use Rattle.chain_types.specs.declared.objects.ObjectId.{ObjectId}
 use Rattle.chain_types.specs.declared.transactions.Transaction.{Transaction}
