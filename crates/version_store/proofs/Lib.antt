@@ -1,0 +1,6 @@
+mod Equality
+mod Lists
+mod Held
+mod Newest
+mod Executions
+mod Kept

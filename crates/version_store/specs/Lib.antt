@@ -1,0 +1,4 @@
+pub mod Stores
+pub mod Kept
+pub mod Steps
+pub mod Changes
