@@ -4,3 +4,4 @@ mod Held
 mod Newest
 mod Executions
 mod Kept
+mod Places

@@ -2,3 +2,4 @@ pub mod Stores
 pub mod Kept
 pub mod Steps
 pub mod Changes
+pub mod Live

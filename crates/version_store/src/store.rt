@@ -16,10 +16,10 @@ use wire_bcs::{OutOfMemory, Seq};
 /// transactions in order.
 #[derive(Drop)]
 pub struct Store {
-    maps: Maps,
+    pub(crate) maps: Maps,
     /// How many objects the epoch opened with.
     opened: usize,
-    alloc: Global,
+    pub(crate) alloc: Global,
 }
 
 impl Model for Store {
