@@ -64,13 +64,12 @@ pub some_mapped : {A B : Type 0} → (f : A → B) (o : Option A) → is_some (o
 some_mapped f None = refl
 some_mapped f (Some x) = refl
 
--- a transaction that was not executed is not kept
-pub not_ran : (ran : List (Digest × Ran)) (objects : List Object) (tx : Digest) → is_some (execution_of (executions ran objects) tx) ≡ false → is_some (lookup (digest_eq tx) ran) ≡ false
-not_ran ran objects tx h =
+-- a transaction is kept where it was executed
+pub has_ran : (ran : List (Digest × Ran)) (objects : List Object) (tx : Digest) → is_some (lookup (digest_eq tx) ran) ≡ is_some (execution_of (executions ran objects) tx)
+has_ran ran objects tx =
     sym (some_mapped (λ (r : Ran). r.effects) (lookup (digest_eq tx) ran))
     ∙ ap is_some (lookup_ran ran objects tx)
     ∙ some_mapped (λ (x : Execution). x.gave.effects) (execution_of (executions ran objects) tx)
-    ∙ h
 
 -- the count behind one more execution
 pub written_more : (ran : List (Digest × Ran)) (tx : Digest) (r : Ran) → written_in (ran ++ (tx, r) ∷ []) ≡ written_in ran + r.written

@@ -73,11 +73,11 @@ first_new : (held : List Version) (o : Object) (os : List Object) → are_new he
 first_new held o os h =
     let keys : List ObjectKey = map object_key os in
     let p : (not (holds_key held (object_key o) || list_any (holds_key held) keys) ≡ true) × (not (list_any (key_eq (object_key o)) keys || repeats key_eq keys) ≡ true) =
-        and_true (not (holds_key held (object_key o) || list_any (holds_key held) keys)) (not (list_any (key_eq (object_key o)) keys || repeats key_eq keys)) h in
+    and_true (not (holds_key held (object_key o) || list_any (holds_key held) keys)) (not (list_any (key_eq (object_key o)) keys || repeats key_eq keys)) h in
     let f : (holds_key held (object_key o) ≡ false) × (list_any (holds_key held) keys ≡ false) =
-        or_false (holds_key held (object_key o)) (list_any (holds_key held) keys) (not_true (holds_key held (object_key o) || list_any (holds_key held) keys) p.0) in
+    or_false (holds_key held (object_key o)) (list_any (holds_key held) keys) (not_true (holds_key held (object_key o) || list_any (holds_key held) keys) p.0) in
     let r : (list_any (key_eq (object_key o)) keys ≡ false) × (repeats key_eq keys ≡ false) =
-        or_false (list_any (key_eq (object_key o)) keys) (repeats key_eq keys) (not_true (list_any (key_eq (object_key o)) keys || repeats key_eq keys) p.1) in
+    or_false (list_any (key_eq (object_key o)) keys) (repeats key_eq keys) (not_true (list_any (key_eq (object_key o)) keys || repeats key_eq keys) p.1) in
     record {
       free = f.0;
       rest = λ producer.

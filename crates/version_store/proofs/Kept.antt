@@ -23,7 +23,7 @@ use Rattle.version_store.specs.Changes.{Adds, Holds, IsEmpty, SameEntries}
 use Rattle.version_store.specs.Steps.{with_versions, with_all_newer}
 use Rattle.version_store.proofs.Held.{made, new_go_last, objects_kept, objects_made, versions_more, versions_opened}
 use Rattle.version_store.proofs.Newest.{newest_more, deleted_more, consumed_more}
-use Rattle.version_store.proofs.Executions.{stored_more, not_ran, written_more}
+use Rattle.version_store.proofs.Executions.{stored_more, has_ran, written_more}
 
 -- ---- one more execution
 
@@ -32,7 +32,6 @@ ran_of effects objects consumed = record { consumed = consumed; effects = effect
 
 module _ (opened : ℕ) (old new : Maps) (effects : Effects) (objects : List Object) (consumed : List ObjectKey) (kept : IsKept opened old) (adds : Adds old new effects objects consumed)
     (first : is_executed (stored opened old).executed effects.tx ≡ false) (fresh : are_new (held_in (stored opened old)) objects ≡ true) where
-
   abbrev before : Stored
   before = stored opened old
 
@@ -58,7 +57,7 @@ module _ (opened : ℕ) (old new : Maps) (effects : Effects) (objects : List Obj
   ran_now =
       adds.executed
       ∙ goes_last digest_eq old.executed.entries effects.tx (ran_of effects objects consumed)
-      (not_ran old.executed.entries (drop opened (map kept_object old.versions.entries)) effects.tx first)
+      (has_ran old.executed.entries (drop opened (map kept_object old.versions.entries)) effects.tx ∙ first)
 
   counted : opened + written_in old.executed.entries ≡ length (map kept_object old.versions.entries)
   counted = kept.counts ∙ sym (length-map old.versions.entries kept_object)
@@ -100,10 +99,10 @@ module _ (opened : ℕ) (old new : Maps) (effects : Effects) (objects : List Obj
       grow : opened + written_in (old.executed.entries ++ (effects.tx, ran_of effects objects consumed) ∷ []) ≡ length (old.versions.entries ++ map kept_as (map (made (producers.Tx effects.tx)) objects))
       grow =
           let sums : written_in (old.executed.entries ++ (effects.tx, ran_of effects objects consumed) ∷ []) ≡ written_in old.executed.entries + length objects =
-              written_more old.executed.entries effects.tx (ran_of effects objects consumed) in
+          written_more old.executed.entries effects.tx (ran_of effects objects consumed) in
           let lengths : length (old.versions.entries ++ map kept_as (map (made (producers.Tx effects.tx)) objects)) ≡ length old.versions.entries + length objects =
-              length-append old.versions.entries (map kept_as (map (made (producers.Tx effects.tx)) objects))
-              ∙ ap (λ n. length old.versions.entries + n) (length-map (map (made (producers.Tx effects.tx)) objects) kept_as ∙ length-map objects (made (producers.Tx effects.tx))) in
+          length-append old.versions.entries (map kept_as (map (made (producers.Tx effects.tx)) objects))
+          ∙ ap (λ n. length old.versions.entries + n) (length-map (map (made (producers.Tx effects.tx)) objects) kept_as ∙ length-map objects (made (producers.Tx effects.tx))) in
           let known : opened + written_in old.executed.entries ≡ length old.versions.entries = kept.counts in
           grind arith
 
@@ -134,13 +133,12 @@ written {opened} {old} {mid} {new} {s} {effects} {objects} {slice} {consumed} {c
     let kept_mid : IsKept opened mid = same_kept opened old mid same kept in
     let at : stored opened mid ≡ s = same_stored opened old mid same ∙ view in
     let first_mid : is_executed (stored opened mid).executed effects.tx ≡ false = ap (λ (t : Stored). is_executed t.executed effects.tx) at ∙ first in
-    let fresh_mid : are_new (held_in (stored opened mid)) slice ≡ true = ap (λ t. are_new (held_in t) slice) at ∙ ap (are_new (held_in s)) os ∙ fresh in
-    (
+    let fresh_mid : are_new (held_in (stored opened mid)) slice ≡ true = ap (λ t. are_new (held_in t) slice) at ∙ ap (are_new (held_in s)) os ∙ fresh in (
       keeps opened mid new effects slice copy kept_mid adds first_mid fresh_mid,
       stands opened mid new effects slice copy kept_mid adds first_mid fresh_mid
-      ∙ ap (λ t. with_execution t (executed_as effects slice copy)) at
-      ∙ ap (λ xs. with_execution s (executed_as effects xs copy)) os
-      ∙ ap (λ xs. with_execution s (executed_as effects objects xs)) ks
+          ∙ ap (λ t. with_execution t (executed_as effects slice copy)) at
+          ∙ ap (λ xs. with_execution s (executed_as effects xs copy)) os
+          ∙ ap (λ xs. with_execution s (executed_as effects objects xs)) ks,
     )
 
 -- ---- a store that opens
@@ -150,7 +148,6 @@ opening_of objects = record { opening = objects; executed = [] }
 
 module _ (maps : Maps) (objects : List Object) (versions_are : maps.versions.entries ≡ with_versions producers.Opening [] objects) (newest_is : maps.newest.entries ≡ with_all_newer [] objects)
     (no_executed : maps.executed.entries ≡ []) (no_consumers : maps.consumers.entries ≡ []) (no_deleted : maps.deleted.keys ≡ []) (fresh : are_new [] objects ≡ true) where
-
   entries_opened : maps.versions.entries ≡ map kept_as (map (made producers.Opening) objects)
   entries_opened = versions_are ∙ new_go_last producers.Opening [] objects fresh
 
@@ -178,19 +175,18 @@ module _ (maps : Maps) (objects : List Object) (versions_are : maps.versions.ent
       count : length objects + 0 ≡ length maps.versions.entries
       count =
           let lengths : length maps.versions.entries ≡ length objects =
-              ap length entries_opened ∙ length-map (map (made producers.Opening) objects) kept_as ∙ length-map objects (made producers.Opening) in
+          ap length entries_opened ∙ length-map (map (made producers.Opening) objects) kept_as ∙ length-map objects (made producers.Opening) in
           grind arith
 
 pub opens : {n : ℕ} {none mid new : Maps} {objects slice : List Object} → IsEmpty none → SameEntries none mid → Holds mid new producers.Opening slice → slice ≡ objects → n ≡ length objects → are_new [] objects ≡ true
     → IsKept n new × (stored n new ≡ opening_of objects)
 opens {n} {none} {mid} {new} {objects} {slice} empty same holds os count fresh =
     let vs : new.versions.entries ≡ with_versions producers.Opening [] objects =
-        holds.versions ∙ ap (λ es. with_versions producers.Opening es slice) (same.versions ∙ empty.versions) ∙ ap (with_versions producers.Opening []) os in
+    holds.versions ∙ ap (λ es. with_versions producers.Opening es slice) (same.versions ∙ empty.versions) ∙ ap (with_versions producers.Opening []) os in
     let ns : new.newest.entries ≡ with_all_newer [] objects = holds.newest ∙ ap (λ es. with_all_newer es slice) (same.newest ∙ empty.newest) ∙ ap (with_all_newer []) os in
     let es : new.executed.entries ≡ [] = ap (λ m. m.entries) holds.executed ∙ same.executed ∙ empty.executed in
     let cs : new.consumers.entries ≡ [] = ap (λ m. m.entries) holds.consumers ∙ same.consumers ∙ empty.consumers in
-    let ds : new.deleted.keys ≡ [] = ap (λ m. m.keys) holds.deleted ∙ same.deleted ∙ empty.deleted in
-    (
+    let ds : new.deleted.keys ≡ [] = ap (λ m. m.keys) holds.deleted ∙ same.deleted ∙ empty.deleted in (
       subst (λ k. IsKept k new) (sym count) (keeps_opened new objects vs ns es cs ds fresh),
-      ap (λ k. stored k new) count ∙ stands_opened new objects vs ns es cs ds fresh
+      ap (λ k. stored k new) count ∙ stands_opened new objects vs ns es cs ds fresh,
     )

@@ -5,3 +5,4 @@ mod Newest
 mod Executions
 mod Kept
 mod Places
+mod News

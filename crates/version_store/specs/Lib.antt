@@ -3,3 +3,4 @@ pub mod Kept
 pub mod Steps
 pub mod Changes
 pub mod Live
+pub mod Fresh

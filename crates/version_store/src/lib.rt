@@ -6,8 +6,12 @@
 //! answer is that of the definitions on this list. Look-ups are by maps: none scans what is held.
 #![tactic(auto)]
 
+mod fresh;
 mod live;
 mod maps;
 mod store;
 
 pub use store::Store;
+
+#[cfg(test)]
+mod tests;

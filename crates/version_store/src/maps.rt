@@ -152,7 +152,12 @@ impl Maps {
     }
 
     /// Makes room for one execution that writes, consumes and deletes so many.
-    pub(crate) fn make_room(&mut self, written: usize, consumed: usize, deleted: usize) -> Result<(), OutOfMemory>
+    pub(crate) fn make_room(
+        &mut self,
+        written: usize,
+        consumed: usize,
+        deleted: usize,
+    ) -> Result<(), OutOfMemory>
         ensures same { SameEntries self.old self.new }
         ensures room { OnOk result (HasRoom self.new written consumed deleted) }
     {

@@ -51,15 +51,23 @@ impl Store {
 
     /// Adds an executed transaction: its effects, the objects that it wrote, and the versions that it consumed.
     /// The transaction is new, and so is each written version. A refusal changes nothing.
-    pub fn write(&mut self, effects: Effects, objects: Seq<Object>, consumed: &Seq<ObjectKey>) -> Result<(), OutOfMemory>
+    pub fn write(
+        &mut self,
+        effects: Effects,
+        objects: Seq<Object>,
+        consumed: &Seq<ObjectKey>,
+    ) -> Result<(), OutOfMemory>
         requires first { is_executed self.old.executed effects.tx ≡ false }
         requires new { are_new (held_in self.old) objects ≡ true }
         ensures ok { OnOk result (self.new ≡ with_execution self.old (executed_as effects objects consumed.now)) }
         ensures err { OnErr result (self.new ≡ self.old) }
     {
         let consumed = Seq::from_slice(self.alloc, consumed.as_slice())?;
-        self.maps
-            .make_room(objects.as_slice().len(), consumed.as_slice().len(), effects.deleted.as_slice().len())?;
+        self.maps.make_room(
+            objects.as_slice().len(),
+            consumed.as_slice().len(),
+            effects.deleted.as_slice().len(),
+        )?;
         self.maps.add(effects, objects.as_slice(), consumed);
         Ok(())
     }
@@ -107,6 +115,13 @@ impl Store {
         ensures { result ≡ is_some (newest id.now (held_in self.now)) }
     {
         self.maps.newest.contains_key(id)
+    }
+
+    /// Whether the transaction was executed. Takes no memory.
+    pub fn is_executed(&self, tx: &Digest) -> bool
+        ensures { result ≡ is_executed self.now.executed tx.now }
+    {
+        self.maps.executed.contains_key(tx)
     }
 
     /// The effects of an executed transaction; none exactly where it was not executed. Takes no memory.
