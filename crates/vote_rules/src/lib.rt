@@ -6,8 +6,8 @@
 #![tactic(auto)]
 
 mod case;
-mod decide;
 mod origin;
+mod rule;
 
 pub use chain_types::DecideRefusal;
-pub use decide::decide;
+pub use rule::decide;
