@@ -70,38 +70,82 @@ fn takes(
     Ok(true)
 }
 
-#[test]
-fn one_transaction(rt: HostRuntime) -> Result<(), Fail> {
-    let alloc = rt.alloc();
+/// The store behind one transaction, which consumed both coins of the opening.
+fn behind(alloc: Global) -> Result<Option<Store>, OutOfMemory> {
     let before = [coin(1, 1, 500), coin(2, 3, 50)];
     let after = [coin(1, 4, 540), coin(0, 4, 10)];
     let consumed = [key(1, 1), key(2, 3)];
     let Some(mut store) = opened(alloc, before.as_slice())? else {
-        return Err(Fail::new("the objects are distinct"));
+        return Ok(None);
     };
-    assert_eq!(rt; store.get(&key(1, 4)), None);
-    assert_eq!(rt; store.live(&id(2)), Some(&before[1]));
-    assert_eq!(rt; store.consumer(&key(1, 1)), None);
-    assert!(rt; takes(alloc, &mut store, after.as_slice(), consumed.as_slice())?);
-    assert!(rt; !takes(alloc, &mut store, after.as_slice(), consumed.as_slice())?);
-    assert_eq!(rt; store.get(&key(1, 1)), Some(&before[0]));
-    assert_eq!(rt; store.get(&key(1, 4)), Some(&after[0]));
+    if !takes(alloc, &mut store, after.as_slice(), consumed.as_slice())? {
+        return Ok(None);
+    }
+    Ok(Some(store))
+}
+
+fn store_behind(alloc: Global) -> Result<Store, Fail> {
+    match behind(alloc)? {
+        Some(store) => Ok(store),
+        None => Err(Fail::new("the versions are new")),
+    }
+}
+
+#[test]
+fn versions_stay(rt: HostRuntime) -> Result<(), Fail> {
+    let store = store_behind(rt.alloc())?;
+    assert_eq!(rt; store.get(&key(1, 1)), Some(&coin(1, 1, 500)));
+    assert_eq!(rt; store.get(&key(1, 4)), Some(&coin(1, 4, 540)));
+    assert_eq!(rt; store.get(&key(1, 2)), None);
+    Ok(())
+}
+
+#[test]
+fn who_made_a_version(rt: HostRuntime) -> Result<(), Fail> {
+    let store = store_behind(rt.alloc())?;
     assert_eq!(rt; store.producer(&key(2, 3)), Some(Producer::Opening));
     assert_eq!(rt;
         store.producer(&key(0, 4)),
         Some(Producer::Tx(Digest([9; 32])))
     );
     assert_eq!(rt; store.producer(&key(0, 3)), None);
+    Ok(())
+}
+
+#[test]
+fn who_consumed_a_version(rt: HostRuntime) -> Result<(), Fail> {
+    let store = store_behind(rt.alloc())?;
     assert_eq!(rt; store.consumer(&key(2, 3)), Some(Digest([9; 32])));
     assert_eq!(rt; store.consumer(&key(0, 4)), None);
-    assert_eq!(rt; store.live(&id(1)), Some(&after[0]));
+    Ok(())
+}
+
+#[test]
+fn the_newest_lives_unless_deleted(rt: HostRuntime) -> Result<(), Fail> {
+    let store = store_behind(rt.alloc())?;
+    assert_eq!(rt; store.live(&id(1)), Some(&coin(1, 4, 540)));
     assert_eq!(rt; store.live(&id(2)), None);
     assert!(rt; store.has(&id(2)));
     assert!(rt; !store.has(&id(3)));
+    Ok(())
+}
+
+#[test]
+fn live_objects_ascend(rt: HostRuntime) -> Result<(), Fail> {
+    let live = store_behind(rt.alloc())?.live_list()?;
     assert_eq!(rt;
-        store.live_list()?.as_slice(),
-        [after[1], after[0]].as_slice()
+        live.as_slice(),
+        [coin(0, 4, 10), coin(1, 4, 540)].as_slice()
     );
+    Ok(())
+}
+
+#[test]
+fn a_transaction_is_executed_once(rt: HostRuntime) -> Result<(), Fail> {
+    let alloc = rt.alloc();
+    let mut store = store_behind(alloc)?;
+    assert!(rt; store.is_executed(&Digest([9; 32])));
+    assert!(rt; !takes(alloc, &mut store, [].as_slice(), [].as_slice())?);
     Ok(())
 }
 
@@ -109,12 +153,6 @@ fn one_transaction(rt: HostRuntime) -> Result<(), Fail> {
 fn versions_stand_once(rt: HostRuntime) -> Result<(), Fail> {
     let alloc = rt.alloc();
     assert!(rt; opened(alloc, [coin(1, 1, 5), coin(1, 1, 6)].as_slice())?.is_none());
-    let Some(store) = opened(alloc, [coin(1, 1, 5), coin(1, 2, 6)].as_slice())? else {
-        return Err(Fail::new("the versions are distinct"));
-    };
-    assert_eq!(rt; store.live(&id(1)), Some(&coin(1, 2, 6)));
-    assert!(rt;
-        !store.are_new(&Seq::from_slice(alloc, [coin(3, 1, 0), coin(1, 1, 0)].as_slice())?)?
-    );
+    assert!(rt; opened(alloc, [coin(1, 1, 5), coin(1, 2, 6)].as_slice())?.is_some());
     Ok(())
 }

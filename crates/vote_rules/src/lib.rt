@@ -11,3 +11,6 @@ mod rule;
 
 pub use chain_types::DecideRefusal;
 pub use rule::decide;
+
+#[cfg(test)]
+mod tests;
