@@ -1,6 +1,7 @@
 //! New entries of a map that keeps the order of insertion.
 
-ghost use Rattle.std.specs.Prelude.{◌≡◌, ◌++◌, ◌∷◌, [], OnOk, OnErr, false, is_some};
+ghost use Rattle.std.specs.Prelude.{◌≡◌, ◌+◌, ◌<◌, ◌≤◌, ◌++◌, ◌∷◌, [], OnOk, OnErr, false, is_some};
+ghost use Rattle.indexmap.specs.IndexMap.{insert_entry, spare};
 ghost use Rattle.std.specs.Map.{lookup};
 
 use indexmap::IndexMap;
@@ -19,4 +20,16 @@ pub fn insert_new<K: Eq + Hash + Drop, V: Drop>(
 {
     map.insert(key, value)?;
     Ok(())
+}
+
+/// Puts a value under a key, for which there is room.
+pub fn insert_in_room<K: Eq + Hash + Drop, V: Drop>(map: &mut IndexMap<K, V>, key: K, value: V)
+    requires { 0 < spare map.old }
+    ensures entries { map.new.entries ≡ insert_entry K.eq map.old.entries key value }
+    ensures room { spare map.old ≤ spare map.new + 1 }
+{
+    match map.insert(key, value) {
+        Ok(_) => {}
+        Err(_) => unreachable!(),
+    }
 }

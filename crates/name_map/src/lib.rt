@@ -8,7 +8,7 @@ mod entries;
 mod first_names;
 mod names;
 
-pub use entries::insert_new;
+pub use entries::{insert_in_room, insert_new};
 pub use first_names::FirstNames;
 pub use names::NameMap;
 

@@ -1,6 +1,6 @@
 //! A source over a reader.
 
-ghost use Rattle.std.specs.Prelude.{ℕ};
+ghost use Rattle.std.specs.Prelude.{◌≡◌, ℕ};
 
 use outside::{Failed, Source};
 use std::io::Read;
@@ -14,7 +14,10 @@ pub struct InSource<R: Read + Drop> {
 
 impl<R: Read + Drop> InSource<R> {
     /// A source of what the reader has left, with no faults yet.
-    pub fn new(reader: R) -> InSource<R> {
+    pub fn new(reader: R) -> InSource<R>
+        ensures left { R.remaining result.reader ≡ R.remaining reader }
+        ensures faults { result.faults ≡ 0 }
+    {
         InSource { reader, faults: 0 }
     }
 }

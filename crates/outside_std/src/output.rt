@@ -1,6 +1,7 @@
 //! A sink over a writer.
 
-ghost use Rattle.std.specs.Prelude.{ℕ};
+ghost use Rattle.std.specs.Prelude.{◌≡◌, ℕ};
+ghost use Rattle.std.specs.Io.KnownBytes.{Keeps};
 
 use outside::{OutFault, Sink};
 use std::io::Write;
@@ -14,12 +15,18 @@ pub struct OutSink<W: Write + Drop> {
 
 impl<W: Write + Drop> OutSink<W> {
     /// A sink into the writer, with no faults yet.
-    pub fn new(writer: W) -> OutSink<W> {
+    pub fn new(writer: W) -> OutSink<W>
+        ensures held { W.contents result.writer ≡ W.contents writer }
+        ensures faults { result.faults ≡ 0 }
+    {
         OutSink { writer, faults: 0 }
     }
 
     /// Hands on what the writer holds back, and answers whether that went well.
-    pub fn finish(&mut self) -> bool {
+    pub fn finish(&mut self) -> bool
+        ensures held { Keeps (W.contents self.old.writer) (W.contents self.new.writer) }
+        ensures faults { self.new.faults ≡ self.old.faults }
+    {
         self.writer.flush().is_ok()
     }
 }

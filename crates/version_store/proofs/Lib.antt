@@ -1,0 +1,8 @@
+mod Equality
+mod Lists
+mod Held
+mod Newest
+mod Executions
+mod Kept
+mod Places
+mod News

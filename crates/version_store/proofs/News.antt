@@ -1,0 +1,86 @@
+-- New versions, one after the other, are new together.
+use Rattle.std.proofs.Common.{arith, ◌≡◌, ◌<◌, length, Bool, true, false, cond, ◌&&◌, ◌||◌, not, List, [], ◌∷◌, ◌++◌, Option, Some, None, is_some, map, refl, ap, sym, ◌∙◌}
+use Rattle.std.specs.List.{list_any}
+use Rattle.std.specs.Map.{lookup}
+use Rattle.chain_types.specs.declared.objects.Object.{Object}
+use Rattle.chain_types.specs.declared.objects.ObjectKey.{ObjectKey}
+use Rattle.chain_types.specs.Equal.{key_eq}
+use Rattle.chain_spec.specs.Words.{repeats}
+use Rattle.chain_spec.specs.Tests.{has_key}
+use Rattle.chain_spec.specs.Keys.{object_key}
+use Rattle.member_spec.specs.Versions.{Version, is_key}
+use Rattle.member_spec.specs.Rounds.{holds_key}
+use Rattle.version_store.specs.Stores.{are_new}
+use Rattle.version_store.specs.Fresh.{all_fresh}
+use Rattle.version_store.specs.Kept.{kept_as}
+use Rattle.version_store.proofs.Equality.{key_same, key_self, turn}
+use Rattle.version_store.proofs.Held.{kept_of}
+use Rattle.version_store.proofs.Lists.{any_push}
+
+-- a version is held where the map has its key
+pub holds_kept : (held : List Version) (key : ObjectKey) → is_some (lookup (key_eq key) (map kept_as held)) ≡ holds_key held key
+holds_kept [] key = refl
+holds_kept (v ∷ vs) key =
+    ap (λ b. is_some (cond b (Some (kept_of v)) (lookup (key_eq key) (map kept_as vs)))) (turn key_eq key_same key_self key (object_key v.object))
+    ∙ by (is_key key v) (holds_kept vs key)
+  where
+    by : (b : Bool) → is_some (lookup (key_eq key) (map kept_as vs)) ≡ holds_key vs key → is_some (cond b (Some (kept_of v)) (lookup (key_eq key) (map kept_as vs))) ≡ (b || holds_key vs key)
+    by true more = refl
+    by false more = more
+
+-- of the keys, some were seen
+abbrev seen_among : List ObjectKey → List ObjectKey → Bool
+seen_among seen keys = list_any (has_key seen) keys
+
+-- one more key was seen
+seen_more : (seen : List ObjectKey) (k : ObjectKey) (keys : List ObjectKey) → seen_among (seen ++ k ∷ []) keys ≡ (seen_among seen keys || list_any (key_eq k) keys)
+seen_more seen k [] = refl
+seen_more seen k (q ∷ qs) =
+    ap (λ b. b || seen_among (seen ++ k ∷ []) qs) (any_push (key_eq q) seen k ∙ ap (λ b. has_key seen q || b) (turn key_eq key_same key_self q k))
+    ∙ ap (λ b. (has_key seen q || key_eq k q) || b) (seen_more seen k qs)
+    ∙ shuffle (has_key seen q) (key_eq k q) (seen_among seen qs) (list_any (key_eq k) qs)
+  where
+    shuffle : (a b c d : Bool) → ((a || b) || (c || d)) ≡ ((a || c) || (b || d))
+    shuffle true b c d = refl
+    shuffle false true true d = refl
+    shuffle false true false d = refl
+    shuffle false false true d = refl
+    shuffle false false false d = refl
+
+pub fresh_as : (held : List Version) (seen : List ObjectKey) (objects : List Object)
+    → all_fresh held seen objects ≡ (are_new held objects && not (seen_among seen (map object_key objects)))
+fresh_as held seen [] = refl
+fresh_as held seen (o ∷ os) =
+    ap (λ b. cond (holds_key held (object_key o) || has_key seen (object_key o)) false b) (fresh_as held (seen ++ object_key o ∷ []) os ∙ ap (λ b. are_new held os && not b) (seen_more seen (object_key o) (map object_key os)))
+    ∙ all (holds_key held (object_key o)) (has_key seen (object_key o)) (list_any (holds_key held) (map object_key os)) (repeats key_eq (map object_key os)) (seen_among seen (map object_key os)) (list_any (key_eq (object_key o)) (map object_key os))
+  where
+    all : (h s hs r ss k : Bool) → cond (h || s) false ((not hs && not r) && not (ss || k)) ≡ ((not (h || hs) && not (k || r)) && not (s || ss))
+    all true s hs r ss k = refl
+    all false true true r ss k = refl
+    all false true false r ss true = refl
+    all false true false true ss false = refl
+    all false true false false ss false = refl
+    all false false true r ss k = refl
+    all false false false true ss true = refl
+    all false false false true ss false = refl
+    all false false false false true true = refl
+    all false false false false true false = refl
+    all false false false false false true = refl
+    all false false false false false false = refl
+
+-- nothing was seen before the first
+pub fresh_is_new : (held : List Version) (objects : List Object) → all_fresh held [] objects ≡ are_new held objects
+fresh_is_new held objects = fresh_as held [] objects ∙ ap (λ b. are_new held objects && not b) (none (map object_key objects)) ∙ with_true (are_new held objects)
+  where
+    none : (keys : List ObjectKey) → seen_among [] keys ≡ false
+    none [] = refl
+    none (k ∷ ks) = none ks
+
+    with_true : (b : Bool) → (b && true) ≡ b
+    with_true true = refl
+    with_true false = refl
+
+-- where nothing is left to look at, all are new
+pub all_seen : (held : List Version) (seen : List ObjectKey) (rest objects : List Object) → length rest < 1 → all_fresh held seen rest ≡ all_fresh held [] objects → true ≡ are_new held objects
+all_seen held seen [] objects none same = same ∙ fresh_is_new held objects
+all_seen held seen (o ∷ os) objects none same = absurd (grind arith)

@@ -1,0 +1,16 @@
+-- New versions, one after the other.
+use Rattle.std.specs.Prelude.{Bool, true, false, ◌||◌, List, [], ◌∷◌, ◌++◌, if◌then◌else◌}
+use Rattle.chain_types.specs.declared.objects.Object.{Object}
+use Rattle.chain_types.specs.declared.objects.ObjectKey.{ObjectKey}
+use Rattle.chain_spec.specs.Tests.{has_key}
+use Rattle.chain_spec.specs.Keys.{object_key}
+use Rattle.member_spec.specs.Versions.{Version}
+use Rattle.member_spec.specs.Rounds.{holds_key}
+
+-- each is neither held nor among those seen before it
+abbrev pub all_fresh : List Version → List ObjectKey → List Object → Bool
+all_fresh held seen [] = true
+all_fresh held seen (o ∷ os) =
+    if holds_key held (object_key o) || has_key seen (object_key o)
+    then false
+    else all_fresh held (seen ++ object_key o ∷ []) os

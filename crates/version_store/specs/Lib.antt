@@ -1,0 +1,6 @@
+pub mod Stores
+pub mod Kept
+pub mod Steps
+pub mod Changes
+pub mod Live
+pub mod Fresh

@@ -1,0 +1,34 @@
+-- What a store stands for, and the executions that it can take. Source: Sui Lutris.
+use Rattle.std.specs.Prelude.{Bool, List, [], ◌∷◌, ◌++◌, map}
+use Rattle.digest_core.specs.declared.Digest.{Digest}
+use Rattle.chain_types.specs.declared.objects.Object.{Object}
+use Rattle.chain_types.specs.declared.objects.ObjectKey.{ObjectKey}
+use Rattle.effects_core.specs.declared.effects.Effects.{Effects}
+use Rattle.chain_spec.specs.Keys.{object_key}
+use Rattle.member_spec.specs.Versions.{Execution, Version, versions}
+use Rattle.member_spec.specs.Rounds.{writes_new}
+
+-- the objects with which the epoch opened, and the transactions executed since, in order
+pub record Stored : Type 0 where
+  pub opening : List Object
+  pub executed : List Execution
+
+-- all versions that are held
+abbrev pub held_in : Stored → List Version
+held_in s = versions s.opening s.executed
+
+-- each of these objects is a version that is not held, and none comes twice
+abbrev pub are_new : List Version → List Object → Bool
+are_new held objects = writes_new held (map object_key objects)
+
+-- an execution, by its parts
+abbrev pub executed_as : Effects → List Object → List ObjectKey → Execution
+executed_as effects objects consumed = record {
+  digest = effects.tx;
+  consumed = consumed;
+  gave = record { effects = effects; objects = objects };
+}
+
+-- one more transaction was executed
+abbrev pub with_execution : Stored → Execution → Stored
+with_execution s x = record s { executed = s.executed ++ x ∷ [] }

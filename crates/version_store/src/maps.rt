@@ -1,0 +1,196 @@
+//! The maps of a store, and one step of each.
+
+ghost use Rattle.std.specs.Prelude.{◌≡◌, ◌+◌, ◌<◌, ◌≤◌, OnOk, Some, length};
+ghost use Rattle.indexmap.specs.IndexMap.{spare};
+ghost use Rattle.indexmap.specs.IndexSet.{insert_all, insert_key, spare as set_spare};
+ghost use Rattle.chain_types.specs.Equal.{id_eq};
+ghost use Rattle.version_store.specs.Steps.{newer_of, with_all_newer, with_consumer, with_consumers, with_newer, with_versions};
+ghost use Rattle.version_store.specs.Changes.{Adds, HasRoom, Holds, IsEmpty, SameEntries};
+
+use chain_types::{Object, ObjectId, ObjectKey, Producer};
+use digest_core::Digest;
+use effects_core::Effects;
+use indexmap::{IndexMap, IndexSet};
+use name_map::insert_in_room;
+use std::alloc::Global;
+use wire_bcs::{OutOfMemory, Seq};
+
+/// A held version, and who made it.
+#[derive(Clone, Copy, Debug, PartialEq, Eq)]
+pub(crate) struct Kept {
+    pub(crate) object: Object,
+    pub(crate) producer: Producer,
+}
+
+/// What is kept of an executed transaction: the objects that it wrote are among the versions.
+#[derive(Debug, Drop)]
+pub(crate) struct Ran {
+    pub(crate) consumed: Seq<ObjectKey>,
+    pub(crate) effects: Effects,
+    pub(crate) written: usize,
+}
+
+/// The maps.
+#[derive(Drop)]
+pub(crate) struct Maps {
+    /// The opening objects, and then what each executed transaction wrote.
+    pub(crate) versions: IndexMap<ObjectKey, Kept>,
+    pub(crate) executed: IndexMap<Digest, Ran>,
+    pub(crate) consumers: IndexMap<ObjectKey, Digest>,
+    /// The newest version of each id.
+    pub(crate) newest: IndexMap<ObjectId, Object>,
+    pub(crate) deleted: IndexSet<ObjectId>,
+}
+
+/// Puts each of the objects under its key; there is room.
+fn add_versions(versions: &mut IndexMap<ObjectKey, Kept>, objects: &[Object], producer: Producer)
+    requires { length objects.now ≤ spare versions.old }
+    ensures { versions.new.entries ≡ with_versions producer versions.old.entries objects.now }
+{
+    for object in objects {
+        let key = ObjectKey {
+            id: object.id,
+            version: object.version,
+        };
+        let kept = Kept {
+            object: *object,
+            producer,
+        };
+        insert_in_room(versions, key, kept);
+    }
+}
+
+/// Puts an object under its id, unless a newer one is there; there is room.
+fn add_newer(newest: &mut IndexMap<ObjectId, Object>, object: &Object)
+    requires { 0 < spare newest.old }
+    ensures entries { newest.new.entries ≡ with_newer newest.old.entries object.now }
+    ensures room { spare newest.old ≤ spare newest.new + 1 }
+{
+    let newer = match newest.get(&object.id) {
+        Some(held) => newer(held, object),
+        None => *object,
+    };
+    insert_in_room(newest, object.id, newer);
+}
+
+/// The newer of two versions of one object.
+fn newer(held: &Object, object: &Object) -> Object
+    ensures { result ≡ newer_of (Some held.now) object.now }
+{
+    if held.version < object.version {
+        *object
+    } else {
+        *held
+    }
+}
+
+/// Puts each of the objects under its id, unless a newer one is there; there is room.
+fn add_all_newer(newest: &mut IndexMap<ObjectId, Object>, objects: &[Object])
+    requires { length objects.now ≤ spare newest.old }
+    ensures { newest.new.entries ≡ with_all_newer newest.old.entries objects.now }
+{
+    for object in objects {
+        add_newer(newest, object);
+    }
+}
+
+/// Marks an id; there is room.
+fn add_id(deleted: &mut IndexSet<ObjectId>, id: ObjectId)
+    requires { 0 < set_spare deleted.old }
+    ensures keys { deleted.new.keys ≡ insert_key id_eq deleted.old.keys id }
+    ensures room { set_spare deleted.old ≤ set_spare deleted.new + 1 }
+{
+    match deleted.insert(id) {
+        Ok(_) => {}
+        Err(_) => unreachable!(),
+    }
+}
+
+/// Marks each of the ids; there is room.
+fn add_ids(deleted: &mut IndexSet<ObjectId>, ids: &[ObjectId])
+    requires { length ids.now ≤ set_spare deleted.old }
+    ensures { deleted.new.keys ≡ insert_all id_eq deleted.old.keys ids.now }
+{
+    for id in ids {
+        add_id(deleted, *id);
+    }
+}
+
+/// Says who consumed a key, unless it is known; there is room.
+fn add_consumer(consumers: &mut IndexMap<ObjectKey, Digest>, key: ObjectKey, tx: Digest)
+    requires { 0 < spare consumers.old }
+    ensures entries { consumers.new.entries ≡ with_consumer tx consumers.old.entries key }
+    ensures room { spare consumers.old ≤ spare consumers.new + 1 }
+{
+    if !consumers.contains_key(&key) {
+        insert_in_room(consumers, key, tx);
+    }
+}
+
+/// Says who consumed each of the keys, unless it is known; there is room.
+fn add_consumers(consumers: &mut IndexMap<ObjectKey, Digest>, keys: &[ObjectKey], tx: Digest)
+    requires { length keys.now ≤ spare consumers.old }
+    ensures { consumers.new.entries ≡ with_consumers tx consumers.old.entries keys.now }
+{
+    for key in keys {
+        add_consumer(consumers, *key, tx);
+    }
+}
+
+impl Maps {
+    /// Empty maps. Takes no memory.
+    pub(crate) fn new(alloc: Global) -> Maps
+        ensures { IsEmpty result }
+    {
+        Maps {
+            versions: IndexMap::new(alloc),
+            executed: IndexMap::new(alloc),
+            consumers: IndexMap::new(alloc),
+            newest: IndexMap::new(alloc),
+            deleted: IndexSet::new(alloc),
+        }
+    }
+
+    /// Makes room for one execution that writes, consumes and deletes so many.
+    pub(crate) fn make_room(
+        &mut self,
+        written: usize,
+        consumed: usize,
+        deleted: usize,
+    ) -> Result<(), OutOfMemory>
+        ensures same { SameEntries self.old self.new }
+        ensures room { OnOk result (HasRoom self.new written consumed deleted) }
+    {
+        self.versions.reserve(written)?;
+        self.newest.reserve(written)?;
+        self.consumers.reserve(consumed)?;
+        self.deleted.reserve(deleted)?;
+        self.executed.reserve(1)?;
+        Ok(())
+    }
+
+    /// Holds the objects of a producer; there is room.
+    pub(crate) fn hold(&mut self, objects: &[Object], producer: Producer)
+        requires { (length objects.now ≤ spare self.old.versions) × (length objects.now ≤ spare self.old.newest) }
+        ensures { Holds self.old self.new producer objects.now }
+    {
+        add_versions(&mut self.versions, objects, producer);
+        add_all_newer(&mut self.newest, objects);
+    }
+
+    /// Adds an execution; there is room.
+    pub(crate) fn add(&mut self, effects: Effects, objects: &[Object], consumed: Seq<ObjectKey>)
+        requires { HasRoom self.old (length objects.now) (length consumed) (length effects.deleted) }
+        ensures { Adds self.old self.new effects objects.now consumed }
+    {
+        self.hold(objects, Producer::Tx(effects.tx));
+        add_ids(&mut self.deleted, effects.deleted.as_slice());
+        add_consumers(&mut self.consumers, consumed.as_slice(), effects.tx);
+        let ran = Ran {
+            consumed,
+            effects,
+            written: objects.len(),
+        };
+        insert_in_room(&mut self.executed, ran.effects.tx, ran);
+    }
+}

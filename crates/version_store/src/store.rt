@@ -1,0 +1,136 @@
+//! The store, and what it answers.
+
+ghost use Rattle.std.specs.Prelude.{◌≡◌, [], IfOk, OnErr, OnOk, false, true, is_some, option_copied, option_map};
+ghost use Rattle.member_spec.specs.Versions.{Execution, Version, consumer_of, execution_of, is_executed, live, newest, object_in, version_at};
+ghost use Rattle.version_store.specs.Stores.{are_new, executed_as, held_in, with_execution};
+
+use crate::maps::Maps;
+use chain_types::{Object, ObjectId, ObjectKey, Producer};
+use digest_core::Digest;
+use effects_core::Effects;
+use std::alloc::Global;
+use std::marker::Model;
+use wire_bcs::{OutOfMemory, Seq};
+
+/// What a member holds in an epoch. Contracts see the objects with which the epoch opened, and the executed
+/// transactions in order.
+#[derive(Drop)]
+pub struct Store {
+    pub(crate) maps: Maps,
+    /// How many objects the epoch opened with.
+    opened: usize,
+    pub(crate) alloc: Global,
+}
+
+impl Model for Store {
+    ghost use Rattle.version_store.specs.Stores.{Stored};
+    ghost use Rattle.version_store.specs.Kept.{IsKept, stored};
+
+    ghost Value = { Stored };
+
+    ghost view = { λ s. stored s.opened s.maps };
+
+    ghost invariant = { λ s. IsKept s.opened s.maps };
+}
+
+impl Store {
+    /// The store of an epoch that opens with these objects, of which none stands there twice.
+    pub fn opening(alloc: Global, objects: &Seq<Object>) -> Result<Store, OutOfMemory>
+        requires { are_new [] objects.now ≡ true }
+        ensures { IfOk result (λ s. s ≡ record { opening = objects.now; executed = [] }) }
+    {
+        let mut maps = Maps::new(alloc);
+        maps.make_room(objects.as_slice().len(), 0, 0)?;
+        maps.hold(objects.as_slice(), Producer::Opening);
+        Ok(Store {
+            maps,
+            opened: objects.as_slice().len(),
+            alloc,
+        })
+    }
+
+    /// Adds an executed transaction: its effects, the objects that it wrote, and the versions that it consumed.
+    /// The transaction is new, and so is each written version. A refusal changes nothing.
+    pub fn write(
+        &mut self,
+        effects: Effects,
+        objects: Seq<Object>,
+        consumed: &Seq<ObjectKey>,
+    ) -> Result<(), OutOfMemory>
+        requires first { is_executed self.old.executed effects.tx ≡ false }
+        requires new { are_new (held_in self.old) objects ≡ true }
+        ensures ok { OnOk result (self.new ≡ with_execution self.old (executed_as effects objects consumed.now)) }
+        ensures err { OnErr result (self.new ≡ self.old) }
+    {
+        let consumed = Seq::from_slice(self.alloc, consumed.as_slice())?;
+        self.maps.make_room(
+            objects.as_slice().len(),
+            consumed.as_slice().len(),
+            effects.deleted.as_slice().len(),
+        )?;
+        self.maps.add(effects, objects.as_slice(), consumed);
+        Ok(())
+    }
+
+    /// The object of this version; none exactly where the version is not held. Takes no memory.
+    pub fn get(&self, key: &ObjectKey) -> Option<&Object>
+        ensures { option_copied result ≡ option_map object_in (version_at (held_in self.now) key.now) }
+    {
+        match self.maps.versions.get(key) {
+            Some(kept) => Some(&kept.object),
+            None => None,
+        }
+    }
+
+    /// Who made this version; none exactly where it is not held. Takes no memory.
+    pub fn producer(&self, key: &ObjectKey) -> Option<Producer>
+        ensures { result ≡ option_map (λ (v : Version). v.producer) (version_at (held_in self.now) key.now) }
+    {
+        match self.maps.versions.get(key) {
+            Some(kept) => Some(kept.producer),
+            None => None,
+        }
+    }
+
+    /// The transaction that consumed this version; none exactly where no executed one did. Takes no memory.
+    pub fn consumer(&self, key: &ObjectKey) -> Option<Digest>
+        ensures { result ≡ option_map (λ (x : Execution). x.digest) (consumer_of self.now.executed key.now) }
+    {
+        self.maps.consumers.get(key).copied()
+    }
+
+    /// The newest held version of an id; none exactly where none is held, or the object was deleted. Takes no memory.
+    #[tactic(auto, unfolding(member_spec::specs::Versions::live))]
+    pub fn live(&self, id: &ObjectId) -> Option<&Object>
+        ensures { option_copied result ≡ live self.now.opening self.now.executed id.now }
+    {
+        if self.maps.deleted.contains(id) {
+            return None;
+        }
+        self.maps.newest.get(id)
+    }
+
+    /// Whether a version of the id is held, deleted or not. Takes no memory.
+    pub fn has(&self, id: &ObjectId) -> bool
+        ensures { result ≡ is_some (newest id.now (held_in self.now)) }
+    {
+        self.maps.newest.contains_key(id)
+    }
+
+    /// Whether the transaction was executed. Takes no memory.
+    pub fn is_executed(&self, tx: &Digest) -> bool
+        ensures { result ≡ is_executed self.now.executed tx.now }
+    {
+        self.maps.executed.contains_key(tx)
+    }
+
+    /// The effects of an executed transaction; none exactly where it was not executed. Takes no memory.
+    pub fn executed(&self, tx: &Digest) -> Option<&Effects>
+        ensures { option_map (λ (e : _). e.now) result ≡ option_map (λ (x : Execution). x.gave.effects) (execution_of self.now.executed tx.now) }
+    {
+        match self.maps.executed.get(tx) {
+            Some(ran) => Some(&ran.effects),
+            None => None,
+        }
+    }
+}
