@@ -1,6 +1,6 @@
 -- What a transaction names and consumes, and when objects fit it. Source: Sui documentation (object
 -- ownership, versions); that every object counts for the version, immutable ones too, is this profile's choice.
-use Rattle.std.specs.Prelude.{ℕ, Bool, true, false, ◌&&◌, ◌==◌, nat_lt, nat_le, List, [], ◌∷◌, map, filter, filter_map, sum_by, if◌then◌else◌, Option, Some, None}
+use Rattle.std.specs.Prelude.{ℕ, Bool, true, false, ◌&&◌, ◌==◌, nat_lt, nat_le, List, [], ◌∷◌, map, filter, filter_map, Option, Some, None}
 use Rattle.std.specs.List.{list_any}
 use Rattle.chain_types.specs.declared.objects.ObjectId.{ObjectId}
 use Rattle.chain_types.specs.declared.objects.ObjectKey.{ObjectKey}
@@ -16,6 +16,8 @@ use Rattle.chain_types.specs.declared.transactions.Transaction.{Transaction}
 use Rattle.chain_types.specs.Equal.{digest_eq, id_eq}
 use Rattle.chain_types.specs.Digests.{digest_of_object, is_object, lamport_version}
 use Rattle.chain_spec.specs.Tests.{address_eq}
+pub use Rattle.effects_core.specs.Money.{money_of}
+unfoldable pub use Rattle.effects_core.specs.Money.{currency_sum}
 
 -- ---- objects
 
@@ -131,18 +133,3 @@ pays_gas t (gas ∷ os) = is_gas_coin gas.content && nat_le t.budget (balance_of
 
 unfoldable pub fits : Transaction → List Object → Bool
 fits t inputs = fit_inputs t (objects_of t) inputs && pays_gas t inputs && nat_lt (version_of inputs) version_limit
-
--- ---- money
-
--- what a content holds of a currency, as a coin or in a vault
-abbrev pub money_of : ℕ → Content → ℕ
-money_of wanted (content.Coin currency balance) = if currency == wanted then balance else 0
-money_of wanted (content.Cap currency supply) = 0
-money_of wanted (content.Counter value) = 0
-money_of wanted (content.Vault currency balance) = if currency == wanted then balance else 0
-money_of wanted (content.VaultKey vault) = 0
-money_of wanted (content.Limit value) = 0
-
--- the sum of a currency over these objects
-unfoldable pub currency_sum : List Object → ℕ → ℕ
-currency_sum objects currency = sum_by (λ (o : Object). money_of currency o.content) objects
