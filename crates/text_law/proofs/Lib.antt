@@ -10,3 +10,8 @@ pub mod Ranges
 pub mod MadeWords
 pub mod MadeOrder
 pub mod Generated
+pub mod Said
+pub mod SaidWords
+pub mod SaidLines
+pub mod SaidWhole
+pub mod Added

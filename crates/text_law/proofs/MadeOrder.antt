@@ -1,5 +1,5 @@
 -- The lines of the generator's schedule may follow one another.
-use Rattle.std.proofs.Common.{◌≡◌, ◌==◌, ℕ, zero, suc, ◌+◌, ◌-◌, ◌%◌, ◌<◌, ◌≤◌, nat_lt, Bool, true, false, cond, not, List, [], ◌∷◌, ◌++◌, map, length, slice_get, None, Result, Ok, Err, codes, decimal, refl, ap, sym, ◌∙◌, arith, append_assoc, append-nil, ◌⊎◌, inl, inr, add-one}
+use Rattle.std.proofs.Common.{◌≡◌, ◌==◌, ℕ, zero, suc, ◌+◌, ◌-◌, ◌%◌, ◌<◌, ◌≤◌, nat_lt, Bool, true, false, cond, not, List, [], ◌∷◌, ◌++◌, map, length, slice_get, None, Result, Ok, codes, decimal, refl, ap, sym, ◌∙◌, arith, append_assoc, append-nil, ◌⊎◌, inl, inr, add-one}
 use Rattle.std.proofs.lemmas.Bool.{cases_Bool, eqb-true, false_from_ne_true, lt-ltb, or_left, or_right}
 use Rattle.std.proofs.lemmas.Fmt.{decimal_injective}
 use Rattle.std.proofs.lemmas.List.{map-append}
@@ -27,21 +27,10 @@ use Rattle.schedule_text.specs.Known.{Check, check, also, is_among, role_of, rol
 use Rattle.text_law.specs.Canonical.{statements}
 use Rattle.text_law.specs.Sayable.{then_read, added}
 use Rattle.text_law.specs.Made.{transaction, coin, counter, member_items, coin_item, items, plain_ref, split_event, spend_event, write_event, read_event, tx_event, vote_events, send_events, after_tx, certified, ordered, late, ending, rest, made}
+use Rattle.text_law.proofs.Added.{go_on}
 use Rattle.text_law.proofs.Ranges.{all-append, all-each, range-push, not-among, among-range}
 
--- ---- lines after lines
-
-then-append : (xs ys : List Statement) (r : Result Schedule Cause) → ((s : Schedule) → added s (xs ++ ys) ≡ then_read (added s xs) (λ t. added t ys))
-    → then_read r (λ t. added t (xs ++ ys)) ≡ then_read (then_read r (λ t. added t xs)) (λ t. added t ys)
-then-append xs ys (Ok s) h = h s
-then-append xs ys (Err c) h = refl
-
-added-append : (s : Schedule) (xs ys : List Statement) → added s (xs ++ ys) ≡ then_read (added s xs) (λ t. added t ys)
-added-append s [] ys = refl
-added-append s (x ∷ xs) ys = then-append xs ys (add_line s x) (λ t. added-append t xs ys)
-
-go_on : (s t : Schedule) (r : Result Schedule Cause) (xs ys : List Statement) → added s xs ≡ Ok t → added t ys ≡ r → added s (xs ++ ys) ≡ r
-go_on s t r xs ys h k = added-append s xs ys ∙ ap (λ (q : Result Schedule Cause). then_read q (λ u. added u ys)) h ∙ k
+-- ---- from stage to stage
 
 -- a stage for each number
 chain : (f : ℕ → List Statement) (stage : ℕ → Schedule) (last : ℕ) → ((k : ℕ) → k < last → added (stage k) (f k) ≡ Ok (stage (k + 1)))
