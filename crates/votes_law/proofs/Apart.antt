@@ -38,16 +38,16 @@ use Rattle.votes_law.proofs.InWorld.{in_world, each-any}
 
 -- ---- no case applies
 
-none-each : {A : Type 0} (cases : List (Option A)) → first_some cases ≡ None → Each (λ o. o ≡ None) cases
+pub none-each : {A : Type 0} (cases : List (Option A)) → first_some cases ≡ None → Each (λ o. o ≡ None) cases
 none-each [] e = tt
 none-each (Some x ∷ cases) e = absurd (cc)
 none-each (None ∷ cases) e = (refl, none-each cases e)
 
-none-map : {A B : Type 0} (f : A → B) (o : Option A) → option_map f o ≡ None → o ≡ None
+pub none-map : {A B : Type 0} (f : A → B) (o : Option A) → option_map f o ≡ None → o ≡ None
 none-map f None e = refl
 none-map f (Some x) e = absurd (cc)
 
-none-of : {A B : Type 0} (says : A → Option B) (xs : List A) (x : A) → first_of says xs ≡ None → Has xs x → says x ≡ None
+pub none-of : {A B : Type 0} (says : A → Option B) (xs : List A) (x : A) → first_of says xs ≡ None → Has xs x → says x ≡ None
 none-of says [] x e h = absurd h
 none-of says (y ∷ ys) x e (inl h) = subst (λ z. says z ≡ None) h (none-each (says y ∷ first_of says ys ∷ []) e).0
 none-of says (y ∷ ys) x e (inr h) = none-of says ys x (none-each (says y ∷ first_of says ys ∷ []) e).1.0 h
@@ -85,7 +85,7 @@ not-locked b t origins e = each-apart (cast_of t origins) b.votes (λ key h.
 same-tx : (t u : Transaction) (o p : List (Option Digest)) → Some (record_as.Vote t o) ≡ Some (record_as.Vote u p) → t ≡ u
 same-tx t u o p e = cc
 
-accepted : {E : Type 0} (b : Bool) (refusal : E) → where_true (not b) refusal ≡ None → b ≡ true
+pub accepted : {E : Type 0} (b : Bool) (refusal : E) → where_true (not b) refusal ≡ None → b ≡ true
 accepted true refusal e = refl
 accepted false refusal e = absurd (cc)
 
