@@ -5,3 +5,4 @@ pub mod Totals
 pub mod Handed
 pub mod Voted
 pub mod Owner
+pub mod Forks

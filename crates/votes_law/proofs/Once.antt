@@ -61,7 +61,7 @@ bytes-same (x ∷ xs) = go x (bytes-same xs)
     go : (x : ℕ) → bytes_eq xs xs ≡ true → bytes_eq (x ∷ xs) (x ∷ xs) ≡ true
     go x e = rw (eq-eqb x x refl, e) refl
 
-bytes-equal : (xs ys : List ℕ) → bytes_eq xs ys ≡ true → xs ≡ ys
+pub bytes-equal : (xs ys : List ℕ) → bytes_eq xs ys ≡ true → xs ≡ ys
 bytes-equal [] [] e = refl
 bytes-equal [] (y ∷ ys) e = absurd (cc)
 bytes-equal (x ∷ xs) [] e = absurd (cc)
