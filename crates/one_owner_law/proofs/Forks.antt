@@ -331,7 +331,7 @@ module _ (total : List Certificate) (r : Rules) where
 
 -- ---- what the run delivers
 
-each-join : {A : Type 0} (P : A → Type 0) (xs ys : List A) → Each P xs → Each P ys → Each P (xs ++ ys)
+pub each-join : {A : Type 0} (P : A → Type 0) (xs ys : List A) → Each P xs → Each P ys → Each P (xs ++ ys)
 each-join P [] ys one other = other
 each-join P (x ∷ xs) ys one other = (one.0, each-join P xs ys one.1 other)
 

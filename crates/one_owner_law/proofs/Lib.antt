@@ -6,3 +6,4 @@ pub mod Handed
 pub mod Voted
 pub mod Owner
 pub mod Forks
+pub mod Unforged

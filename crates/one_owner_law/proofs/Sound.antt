@@ -174,7 +174,7 @@ IsSpoken total txs (statement.Checkpoint epoch number digest) = Unit {0}
 IsSpoken total txs (statement.Ack epoch tx effects) = Unit {0}
 
 module _ (total : List SignedTx) where
-  given-more : (txs more : List Made) → ((t : Made) → Has txs t → Has more t) → (t : Transaction) → IsGiven total txs t → IsGiven total more t
+  pub given-more : (txs more : List Made) → ((t : Made) → Has txs t → Has more t) → (t : Transaction) → IsGiven total txs t → IsGiven total more t
   given-more txs more grow t (inl (x, h, e)) = inl (x, grow x h, e)
   given-more txs more grow t (inr x) = inr x
 
@@ -264,7 +264,7 @@ has-set {A} (z ∷ zs) (suc n) y x (inr h) = go (has-set zs n y x h)
     go (inl h) = inl (inr h)
     go (inr e) = inr e
 
-get-has : {A : Type 0} (xs : List A) (n : ℕ) (x : A) → slice_get xs n ≡ Some x → Has xs x
+pub get-has : {A : Type 0} (xs : List A) (n : ℕ) (x : A) → slice_get xs n ≡ Some x → Has xs x
 get-has [] n x e = absurd (cc)
 get-has (y ∷ ys) zero x e = inl (same e)
   where

@@ -75,6 +75,17 @@ IsOfMade w (statement.Ack epoch tx effects) = Unit {0}
 abbrev pub with_formed : Setting → World → Made → List ℕ → World
 with_formed s w t ms = record w { certs = w.certs ++ record { name = t.name; cert = certificate_of s t (first_origins w t.digest ms) ms } ∷ [] }
 
+-- a certificate that a line names was formed
+pub named-backed : (w : World) (name : Name) (x : Certificate) → cert_named w name ≡ Some x → IsBacked w (entry.Cert x)
+named-backed w name x e = go (last_where (λ (f : Formed). bytes_eq f.name name) w.certs) refl e
+  where
+    same : (f : Formed) → Some (cert_in f) ≡ Some x → f.cert ≡ x
+    same f e = cc
+
+    go : (o : Option Formed) → last_where (λ (f : Formed). bytes_eq f.name name) w.certs ≡ o → option_map cert_in o ≡ Some x → IsBacked w (entry.Cert x)
+    go None q e = absurd (cc)
+    go (Some f) q e = (f, last-has (λ (f : Formed). bytes_eq f.name name) w.certs f q, same f e)
+
 -- each step keeps Q; Given is what is known of the calls, with the member that each is made on
 pub record Keeps (s : Setting) (Given : Option ℕ → Call → Type 0) (Q : World → Type 0) : Type 0 where
   pub calls : (w : World) (m : ℕ) (call : Call) → Given (Some m) call → Q w → Q (called_in s w m call)
@@ -155,16 +166,6 @@ module _ (s : Setting) (Given : Option ℕ → Call → Type 0) (Q : World → T
   named-has : (w : World) (name : Name) (x : Made) → made_named w name ≡ Some x → Has w.txs x
   named-has w name x e = find-has (λ (t : Made). bytes_eq t.name name) w.txs x e
 
-  named-formed : (w : World) (name : Name) (x : Certificate) → cert_named w name ≡ Some x → IsBacked w (entry.Cert x)
-  named-formed w name x e = go (last_where (λ (f : Formed). bytes_eq f.name name) w.certs) refl e
-    where
-      same : (f : Formed) → Some (cert_in f) ≡ Some x → f.cert ≡ x
-      same f e = cc
-
-      go : (o : Option Formed) → last_where (λ (f : Formed). bytes_eq f.name name) w.certs ≡ o → option_map cert_in o ≡ Some x → IsBacked w (entry.Cert x)
-      go None q e = absurd (cc)
-      go (Some f) q e = (f, last-has (λ (f : Formed). bytes_eq f.name name) w.certs f q, same f e)
-
   is-end : (st : Statement) (epoch : ℕ) → end_in st ≡ Some epoch → st ≡ statement.End epoch
   is-end (statement.Vote e t origins) epoch q = absurd (cc)
   is-end (statement.End e) epoch q = cc
@@ -189,7 +190,7 @@ module _ (s : Setting) (Given : Option ℕ → Call → Type 0) (Q : World → T
   step-line w (event.Fvote m tx origins) g q = step-fvoted w m origins (made_named w tx) (named-has w tx) q
   step-line w (event.Cert tx members) g q = step-formed w members (made_named w tx) (named-has w tx) q
   step-line w (event.Send m tx) g q = step-sent w m (cert_named w tx) g q
-  step-line w (event.Order tx) g q = step-ordered w (cert_named w tx) (named-formed w tx) q
+  step-line w (event.Order tx) g q = step-ordered w (cert_named w tx) (named-backed w tx) q
   step-line w (event.OrderEnd m) g q =
       step-if (is_honest w m) (honest_end s w m (last_said end_in m w.said)) (ordered_end s (says w m (statement.End w.epoch)) m w.epoch)
       (λ _. step-honest_end w m (last_said end_in m w.said) (stated-end w m) q)

@@ -50,7 +50,7 @@ flat-each {A} {B} f P (x ∷ xs) all = (each (f x) (λ y h. all y (has-left (f x
 -- ---- what a run hands to its members
 
 module _ (s : Setting) where
-  asked-given : (total : List SignedTx) (events : List Event) (w : World) → ((x : SignedTx) → Has (all_of asked s events w) x → Has total x) → AllGiven s (IsGivenCall s total) events w
+  pub asked-given : (total : List SignedTx) (events : List Event) (w : World) → ((x : SignedTx) → Has (all_of asked s events w) x → Has total x) → AllGiven s (IsGivenCall s total) events w
   unfolding asked
   asked-given total [] w sub = tt
   asked-given total (e ∷ events) w sub = (

@@ -7,7 +7,6 @@ use Rattle.chain_types.specs.Digests.{transaction_digest, consumed_keys}
 use Rattle.chain_messages.specs.Messages as messages
 use Rattle.chain_messages.specs.declared.messages.MemberSeal.{MemberSeal}
 use Rattle.chain_messages.specs.declared.messages.Certificate.{Certificate}
-use Rattle.chain_messages.specs.declared.messages.Entry.{Entry}
 use Rattle.journal_core.specs.declared.records.Record.TheVariants as record_as
 use Rattle.schedule_text.specs.declared.words.Event.{Event}
 use Rattle.schedule_text.specs.declared.words.Event.TheVariants as event
@@ -15,7 +14,7 @@ use Rattle.chain_spec.specs.Words.{Has, Each}
 use Rattle.chain_spec.specs.Certificates.{accepts_sender, vote_of}
 use Rattle.member_spec.specs.Member.{fork_of}
 use Rattle.world_spec.specs.Setting.{Setting}
-use Rattle.world_spec.specs.World.{Seat, Said, World, new_world, said_by, member_in, is_honest}
+use Rattle.world_spec.specs.World.{Seat, Said, World, new_world, said_by, member_in, is_honest, entries_at}
 use Rattle.world_spec.specs.Run.{world_after}
 use Rattle.world_spec.specs.Assumptions.{asked, all_of, all_formed, all_transactions, IsCertified, TransactionsApart, NoForgery, IsHonestRun}
 
@@ -107,26 +106,38 @@ abbrev pub NoForkIsMet : Type 0
 NoForkIsMet = (s : Setting) (front back : List Event) → IsHonestRun s (front ++ back) → (m : ℕ) (seat : Seat) → slice_get (world_after s front).seats m ≡ Some seat
     → fork_of (member_in s seat) ≡ None
 
--- ---- raw lines
+-- ---- schedules without raw certificates
 
-abbrev pub is_raw : Event → Bool
-is_raw (event.Tx name sender spoiled epoch gas budget inputs commands) = false
-is_raw (event.Vote m tx) = false
-is_raw (event.Fvote m tx origins) = false
-is_raw (event.Cert tx members) = false
-is_raw (event.Send m tx) = false
-is_raw (event.Order tx) = false
-is_raw (event.OrderEnd m) = false
-is_raw event.OrderCommit = false
-is_raw (event.See m entries) = false
-is_raw (event.Run m workers) = false
-is_raw (event.Close m) = false
-is_raw (event.End m) = false
-is_raw (event.Turn m) = false
-is_raw (event.Show m) = false
-is_raw (event.Stop m kept) = false
-is_raw (event.Restart m) = false
-is_raw (event.RawVote m bytes) = true
-is_raw (event.RawHold m bytes) = true
-is_raw (event.Ack m tx spoiled) = false
-is_raw (event.Final tx members) = false
+-- whether a line hands a member bytes of its own as a certificate
+abbrev pub is_raw_hold : Event → Bool
+is_raw_hold (event.Tx name sender spoiled epoch gas budget inputs commands) = false
+is_raw_hold (event.Vote m tx) = false
+is_raw_hold (event.Fvote m tx origins) = false
+is_raw_hold (event.Cert tx members) = false
+is_raw_hold (event.Send m tx) = false
+is_raw_hold (event.Order tx) = false
+is_raw_hold (event.OrderEnd m) = false
+is_raw_hold event.OrderCommit = false
+is_raw_hold (event.See m entries) = false
+is_raw_hold (event.Run m workers) = false
+is_raw_hold (event.Close m) = false
+is_raw_hold (event.End m) = false
+is_raw_hold (event.Turn m) = false
+is_raw_hold (event.Show m) = false
+is_raw_hold (event.Stop m kept) = false
+is_raw_hold (event.Restart m) = false
+is_raw_hold (event.RawVote m bytes) = false
+is_raw_hold (event.RawHold m bytes) = true
+is_raw_hold (event.Ack m tx spoiled) = false
+is_raw_hold (event.Final tx members) = false
+
+-- the certificates that the lines formed and the entries that they ordered are in the ranges of their spelling
+pub record AreSpellable (s : Setting) (events : List Event) : Type 0 where
+  pub certificates : Each messages.certificate.fits (all_formed s events)
+  pub entries : (epoch : ℕ) → Each messages.entry.fits (entries_at (world_after s events).sequences epoch)
+
+-- without such lines no statement is forged: what the lines deliver was formed of votes that were stated, or is an
+-- End that its member stated
+abbrev pub NothingIsForged : Type 0
+NothingIsForged = (s : Setting) (events : List Event) → Each (λ (e : Event). is_raw_hold e ≡ false) events
+    → TransactionsApart (all_transactions s events) → AreSpellable s events → NoForgery s events (new_world s)

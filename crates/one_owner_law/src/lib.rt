@@ -2,7 +2,7 @@
 //! and no digest collision: no two of them consume one object version.
 #![tactic(auto)]
 
-ghost use Rattle.one_owner_law.specs.Owners.{CertifiedIsVotedFor, FormedIsVotedFor, NoForkIsMet, OneListOfOrigins, OneOwner, SenderHasSigned, StatementsOnlyGrow};
+ghost use Rattle.one_owner_law.specs.Owners.{CertifiedIsVotedFor, FormedIsVotedFor, NoForkIsMet, NothingIsForged, OneListOfOrigins, OneOwner, SenderHasSigned, StatementsOnlyGrow};
 
 /// What was stated behind some events is stated behind more.
 pub fn statements_only_grow()
@@ -39,4 +39,9 @@ pub fn sender_has_signed()
 /// Behind each front of the events no member holds two certificates that consume one version, so none is halted.
 pub fn no_fork_is_met()
     ensures { NoForkIsMet }
+{}
+
+/// Without lines that hand over bytes as a certificate, no statement is forged.
+pub fn nothing_is_forged()
+    ensures { NothingIsForged }
 {}
