@@ -41,17 +41,17 @@ use Rattle.chain_spec.proofs.ListLemmas.{along-push, and-first, and-second}
 use Rattle.member_spec.specs.Sequence.{Sequence, What, takes, commits, counts, ignores, ignored_or, certificate_cases, end_cases, what_stated, what_read, what_of, held_as}
 use Rattle.member_spec.specs.Checkpoints.{held_of}
 use Rattle.member_spec.specs.Member.{Member, Fork, consumes, fork_at, fork_with, fork_in, fork_of, held_with, after, state}
-use Rattle.member_spec.specs.Calls.{Call, votes, holds, sees, runs, closes, ends, turns, acks, Voted, record_limit, new_hold_cases, new_hold, hold_certificate, hold_read, hold_stopped, hold_answer, see_cases, vote_answer, run_answer, close_answer, turn_answer, kept_vote, vote_record, is_hold_kept, hold_record, see_record, ran_items, ran_record, run_record, close_record, turn_record, due}
+use Rattle.member_spec.specs.Calls.{Call, votes, holds, sees, runs, closes, ends, turns, acks, Voted, record_limit, new_hold_cases, new_hold, hold_certificate, hold_read, hold_stopped, hold_answer, see_cases, vote_answer, run_answer, close_answer, turn_answer, kept_vote, vote_record, is_hold_kept, hold_record, see_record, ran_items, ran_record, run_record, close_record, turn_record, due, after_due, called}
 use Rattle.world_spec.specs.Setting.{Setting}
 use Rattle.world_spec.specs.World.{Seat, World, new_world, member_in}
 use Rattle.world_spec.specs.Step.{happens}
-use Rattle.world_spec.specs.Run.{world_after}
+use Rattle.world_spec.specs.Run.{run, world_after}
 use Rattle.world_spec.specs.Assumptions.{calls_of, read_list, entry_certificates, certificates_read, delivered, all_of, all_formed, all_delivered, IsHonestRun, IsCertified}
 use Rattle.votes_law.proofs.InWorld.{in_world_given}
 use Rattle.votes_law.proofs.Apart.{none-each, none-found, accepted, state-push}
 use Rattle.votes_law.proofs.Backed.{has-either}
 use Rattle.votes_law.proofs.Once.{bytes-equal, digest-same, each-has, has-left, has-push}
-use Rattle.one_owner_law.proofs.Totals.{has-right, flat-each}
+use Rattle.one_owner_law.proofs.Totals.{each-all, has-right, flat-each}
 use Rattle.one_owner_law.proofs.Owner.{owner}
 
 -- ---- lists
@@ -361,6 +361,21 @@ all-front says s (e ∷ front) back w x h = go (has-either (says s w e) (all_of 
     go (inl h) rest = has-left (says s w e) (all_of says s (front ++ back) (happens s w e)) x h
     go (inr h) rest = has-right (says s w e) (all_of says s (front ++ back) (happens s w e)) x (rest h)
 
+all-at : {A : Type 0} (says : Setting → World → Event → List A) (s : Setting) (front back : List Event) (e : Event) (w : World) (x : A) → Has (says s (run s front w) e) x → Has (all_of says s (front ++ e ∷ back) w) x
+all-at says s [] back e w x h = has-left (says s w e) (all_of says s back (happens s w e)) x h
+all-at says s (f ∷ front) back e w x h = has-right (says s w f) (all_of says s (front ++ e ∷ back) (happens s w f)) x (all-at says s front back e (happens s w f) x h)
+
+has-flat : {A B : Type 0} (f : A → List B) (xs : List A) (x : A) (y : B) → Has xs x → Has (f x) y → Has (flat_map f xs) y
+has-flat f [] x y h k = absurd h
+has-flat f (z ∷ xs) x y (inl e) k = has-left (f z) (flat_map f xs) y (subst (λ w. Has (f w) y) (sym e) k)
+has-flat f (z ∷ xs) x y (inr h) k = has-right (f z) (flat_map f xs) y (has-flat f xs x y h k)
+
+-- what a call of a line reads is delivered in the run
+call-given : (s : Setting) (front back : List Event) (e : Event) (call : Call) → Has (calls_of s (world_after s front) e) call → Each (Has (all_of delivered s (front ++ e ∷ back) (new_world s))) (certificates_read s.rules call)
+unfolding delivered world_after
+call-given s front back e call h = each-all (Has (all_of delivered s (front ++ e ∷ back) (new_world s))) (certificates_read s.rules call)
+    (λ c k. all-at delivered s front back e (new_world s) c (has-flat (certificates_read s.rules) (calls_of s (run s front (new_world s)) e) call c h k))
+
 -- ---- no fork
 
 module _ (s : Setting) (events : List Event) (run_is : IsHonestRun s events) (epoch : ℕ) where
@@ -401,3 +416,21 @@ unfolding all_delivered fork_of
 no-fork s front back run_is m seat at =
     let all = held-good s (all_of delivered s (front ++ back) (new_world s)) front (λ c h. all-front delivered s front back (new_world s) c h) m seat at in
     no-fork-in s (front ++ back) run_is (member_in s seat).epoch [] (member_in s seat).held (λ e l. absurd l) all.good all.other
+
+pub no-fork-called : (s : Setting) (front back : List Event) (e : Event) → IsHonestRun s (front ++ e ∷ back) → (m : ℕ) (seat : Seat) → slice_get (world_after s front).seats m ≡ Some seat
+    → (call : Call) → Has (calls_of s (world_after s front) e) call → fork_of (called s.rules (member_in s seat) call) ≡ None
+unfolding all_delivered fork_of
+no-fork-called s front back e run_is m seat at call h = go (due s.rules (member_in s seat) call) refl
+  where
+    total : List Certificate
+    total = all_of delivered s (front ++ e ∷ back) (new_world s)
+
+    before : AreGood total s.rules (member_in s seat).epoch (member_in s seat).held
+    before = held-good s total front (λ c k. all-front delivered s front (e ∷ back) (new_world s) c k) m seat at
+
+    none : (n : Member) → AreGood total s.rules n.epoch n.held → fork_of n ≡ None
+    none n all = no-fork-in s (front ++ e ∷ back) run_is n.epoch [] n.held (λ x l. absurd l) all.good all.other
+
+    go : (x : Option Record) → due s.rules (member_in s seat) call ≡ x → fork_of (after_due s.rules (member_in s seat) x) ≡ None
+    go None d = none (member_in s seat) before
+    go (Some x) d = none (after s.rules (member_in s seat) x) (good-after total s.rules (member_in s seat) call x (call-given s front back e call h) d before)

@@ -38,14 +38,14 @@ has-mapped {A} f (x ∷ xs) y (inr h) = go (has-mapped f xs y h)
     go : (z : A) × Has xs z × (f z ≡ y) → (z : A) × Has (x ∷ xs) z × (f z ≡ y)
     go (z, h, e) = (z, inr h, e)
 
+pub each-all : {A : Type 0} (P : A → Type 0) (xs : List A) → ((x : A) → Has xs x → P x) → Each P xs
+each-all P [] all = tt
+each-all P (x ∷ xs) all = (all x (inl refl), each-all P xs (λ y h. all y (inr h)))
+
 -- what holds of all that the elements give
 pub flat-each : {A B : Type 0} (f : A → List B) (P : B → Type 0) (xs : List A) → ((y : B) → Has (flat_map f xs) y → P y) → Each (λ (x : A). Each P (f x)) xs
 flat-each f P [] all = tt
-flat-each {A} {B} f P (x ∷ xs) all = (each (f x) (λ y h. all y (has-left (f x) (flat_map f xs) y h)), flat-each f P xs (λ y h. all y (has-right (f x) (flat_map f xs) y h)))
-  where
-    each : (ys : List B) → ((y : B) → Has ys y → P y) → Each P ys
-    each [] all = tt
-    each (y ∷ ys) all = (all y (inl refl), each ys (λ z h. all z (inr h)))
+flat-each f P (x ∷ xs) all = (each-all P (f x) (λ y h. all y (has-left (f x) (flat_map f xs) y h)), flat-each f P xs (λ y h. all y (has-right (f x) (flat_map f xs) y h)))
 
 -- ---- what a run hands to its members
 

@@ -32,7 +32,7 @@ use Rattle.one_owner_law.specs.Owners.{is_raw_hold, AreSpellable, callee}
 use Rattle.one_owner_law.proofs.Steps.{Keeps, IsBacked, AllGiven, step-line, named-backed}
 use Rattle.one_owner_law.proofs.Grown.{IsGrown, grown-run, grown-line}
 use Rattle.one_owner_law.proofs.Sound.{IsSound, IsSpoken, IsGiven, IsGivenCall, sound-keeps, entry-in, given-more, get-has}
-use Rattle.one_owner_law.proofs.Totals.{asked-given, sound-new, has-map, given-among, certificate-among}
+use Rattle.one_owner_law.proofs.Totals.{each-all, asked-given, sound-new, has-map, given-among, certificate-among}
 use Rattle.one_owner_law.proofs.Forks.{each-join}
 
 each-flat : {A B : Type 0} (f : A → List B) (P : B → Type 0) (xs : List A) → Each (λ (x : A). Each P (f x)) xs → Each P (flat_map f xs)
@@ -111,7 +111,7 @@ module _ (s : Setting) (all : List Event) (apart : TransactionsApart (all_transa
   formed-among f h = has-map (λ (g : Formed). g.cert) (world_after s all).certs f (grown.certs f h)
 
   backed-unforged : (c : Certificate) → IsBacked w (entry.Cert c) → IsUnforged s w c
-  backed-unforged c (f, h, q) = subst (IsUnforged s w) q (each f.cert.seals (λ x k. k))
+  backed-unforged c (f, h, q) = subst (IsUnforged s w) q (each-all (λ (x : MemberSeal). IsStated s w x.member (vote_of f.cert) x.seal) f.cert.seals (λ x k honest accepted. stated x k))
     where
       stated : (x : MemberSeal) → Has f.cert.seals x → Has w.said (said_by x.member (vote_of f.cert))
       stated x k = epochs (sound.voted f h x k)
@@ -123,10 +123,6 @@ module _ (s : Setting) (all : List Event) (apart : TransactionsApart (all_transa
               go (t, given, d, n) =
                   let one = apart t f.cert.tx (given-among s all t (given-more (all_of asked s all (new_world s)) w.txs (world_after s all).txs grown.txs t given)) (certificate-among s all f.cert (has-left (all_formed s all) (all_delivered s all) f.cert (formed-among f h))) d in
                   subst (λ (k : ℕ). Has w.said (said_by x.member (statement.Vote k (transaction_digest f.cert.tx) f.cert.origins))) (sym n ∙ ap (λ (y : Transaction). y.epoch) one) told
-
-      each : (xs : List MemberSeal) → ((x : MemberSeal) → Has xs x → Has f.cert.seals x) → Each (λ (x : MemberSeal). IsStated s w x.member (vote_of f.cert) x.seal) xs
-      each [] sub = tt
-      each (x ∷ xs) sub = (λ honest accepted. stated x (sub x (inl refl)), each xs (λ y k. sub y (inr k)))
 
   abbrev pub IsHonestCall : Call → Type 0
   IsHonestCall call = Each (IsUnforged s w) (certificates_read s.rules call) × Each (IsUnforgedEnd s w) (ends_read s.rules call)

@@ -27,7 +27,7 @@ use Rattle.votes_law.proofs.Kept.{IsKept, every-vote}
 use Rattle.one_owner_law.specs.Owners.{HasStated, HasKept, all_handed}
 use Rattle.one_owner_law.proofs.Grown.{IsGrown, grown-run}
 use Rattle.one_owner_law.proofs.Sound.{IsSound, IsSpoken}
-use Rattle.one_owner_law.proofs.Totals.{has-mapped, sound-after, given-among, certificate-among, handed-among, has-right}
+use Rattle.one_owner_law.proofs.Totals.{each-all, has-mapped, sound-after, given-among, certificate-among, handed-among, has-right}
 use Rattle.one_owner_law.proofs.Handed.{WasHanded, voted-handed}
 
 -- ---- valid certificates
@@ -61,18 +61,11 @@ module _ (s : Setting) (events : List Event) (apart : TransactionsApart (all_tra
       go (f, l, q) =
           let v = (sound-after s events).voted f l x (subst (λ (d : Certificate). Has d.seals x) (sym q) k) in
           let told : Has (world_after s events).said (said_by x.member (statement.Vote v.0 (transaction_digest c.tx) c.origins)) = subst (λ (d : Certificate). Has (world_after s events).said (said_by x.member (statement.Vote v.0 (transaction_digest d.tx) d.origins))) q v.1 in
-          let same = stated-epoch c.tx (certificate-among s events c (formed-first c h)) x.member v.0 c.origins told in
+          let same = stated-epoch c.tx (certificate-among s events c (has-left (all_formed s events) (all_delivered s events) c h)) x.member v.0 c.origins told in
           subst (λ (n : ℕ). Has (world_after s events).said (said_by x.member (statement.Vote n (transaction_digest c.tx) c.origins))) same told
-        where
-          formed-first : (c : Certificate) → Has (all_formed s events) c → Has (all_formed s events ++ all_delivered s events) c
-          formed-first c h = has-left (all_formed s events) (all_delivered s events) c h
 
 pub each-formed : (s : Setting) (events : List Event) → TransactionsApart (all_transactions s events) → (c : Certificate) → Has (all_formed s events) c → Each (λ (x : MemberSeal). HasStated (world_after s events) c x.member) c.seals
-each-formed s events apart c h = each c.seals (λ x k. formed-stated s events apart c h x k)
-  where
-    each : (xs : List MemberSeal) → ((x : MemberSeal) → Has xs x → HasStated (world_after s events) c x.member) → Each (λ (x : MemberSeal). HasStated (world_after s events) c x.member) xs
-    each [] all = tt
-    each (x ∷ xs) all = (all x (inl refl), each xs (λ y k. all y (inr k)))
+each-formed s events apart c h = each-all (λ (x : MemberSeal). HasStated (world_after s events) c x.member) c.seals (λ x k. formed-stated s events apart c h x k)
 
 -- ---- delivered certificates
 

@@ -13,10 +13,11 @@ use Rattle.schedule_text.specs.declared.words.Event.TheVariants as event
 use Rattle.chain_spec.specs.Words.{Has, Each}
 use Rattle.chain_spec.specs.Certificates.{accepts_sender, vote_of}
 use Rattle.member_spec.specs.Member.{fork_of}
+use Rattle.member_spec.specs.Calls.{Call, called}
 use Rattle.world_spec.specs.Setting.{Setting}
 use Rattle.world_spec.specs.World.{Seat, Said, World, new_world, said_by, member_in, is_honest, entries_at}
 use Rattle.world_spec.specs.Run.{world_after}
-use Rattle.world_spec.specs.Assumptions.{asked, all_of, all_formed, all_transactions, IsCertified, TransactionsApart, NoForgery, IsHonestRun}
+use Rattle.world_spec.specs.Assumptions.{calls_of, asked, all_of, all_formed, all_transactions, IsCertified, TransactionsApart, NoForgery, IsHonestRun}
 
 -- ---- statements
 
@@ -105,6 +106,11 @@ SenderHasSigned = (s : Setting) (events : List Event) → IsHonestRun s events �
 abbrev pub NoForkIsMet : Type 0
 NoForkIsMet = (s : Setting) (front back : List Event) → IsHonestRun s (front ++ back) → (m : ℕ) (seat : Seat) → slice_get (world_after s front).seats m ≡ Some seat
     → fork_of (member_in s seat) ≡ None
+
+-- nor does a call of the next line lead a member to one, also where it stops at the append
+abbrev pub NoCallMeetsAFork : Type 0
+NoCallMeetsAFork = (s : Setting) (front back : List Event) (e : Event) → IsHonestRun s (front ++ e ∷ back) → (m : ℕ) (seat : Seat) → slice_get (world_after s front).seats m ≡ Some seat
+    → (call : Call) → Has (calls_of s (world_after s front) e) call → fork_of (called s.rules (member_in s seat) call) ≡ None
 
 -- ---- schedules without raw certificates
 

@@ -2,7 +2,7 @@
 //! and no digest collision: no two of them consume one object version.
 #![tactic(auto)]
 
-ghost use Rattle.one_owner_law.specs.Owners.{CertifiedIsVotedFor, FormedIsVotedFor, NoForkIsMet, NothingIsForged, OneListOfOrigins, OneOwner, SenderHasSigned, StatementsOnlyGrow};
+ghost use Rattle.one_owner_law.specs.Owners.{CertifiedIsVotedFor, FormedIsVotedFor, NoCallMeetsAFork, NoForkIsMet, NothingIsForged, OneListOfOrigins, OneOwner, SenderHasSigned, StatementsOnlyGrow};
 
 /// What was stated behind some events is stated behind more.
 pub fn statements_only_grow()
@@ -39,6 +39,11 @@ pub fn sender_has_signed()
 /// Behind each front of the events no member holds two certificates that consume one version, so none is halted.
 pub fn no_fork_is_met()
     ensures { NoForkIsMet }
+{}
+
+/// Nor does a call of the next line lead a member to two such certificates, also where it stops at the append.
+pub fn no_call_meets_a_fork()
+    ensures { NoCallMeetsAFork }
 {}
 
 /// Without lines that hand over bytes as a certificate, no statement is forged.
