@@ -24,7 +24,7 @@ use Rattle.member_types.specs.declared.refusals.TurnRefusal.{TurnRefusal}
 use Rattle.schedule_text.specs.declared.words.Event.{Event}
 use Rattle.chain_spec.specs.Words.{Has, Each, first_some, first_of, where_true, refused_or, unless_refused}
 use Rattle.chain_spec.specs.Tests.{has_key}
-use Rattle.chain_spec.specs.Certificates.{Rules, read_signed, read_certificate}
+use Rattle.chain_spec.specs.Certificates.{Rules, accepts_sender, read_signed, read_certificate}
 use Rattle.chain_spec.proofs.ListLemmas.{along-push}
 use Rattle.member_spec.specs.Votes.{Cast, Ballot, vote_refusal, vote_cases, vote_origins, locked, is_lock}
 use Rattle.member_spec.specs.Member.{Member, ballot, vote_for, cast_of, fresh, after, state}
@@ -38,21 +38,21 @@ use Rattle.votes_law.proofs.InWorld.{in_world, each-any}
 
 -- ---- no case applies
 
-none-each : {A : Type 0} (cases : List (Option A)) → first_some cases ≡ None → Each (λ o. o ≡ None) cases
+pub none-each : {A : Type 0} (cases : List (Option A)) → first_some cases ≡ None → Each (λ o. o ≡ None) cases
 none-each [] e = tt
 none-each (Some x ∷ cases) e = absurd (cc)
 none-each (None ∷ cases) e = (refl, none-each cases e)
 
-none-map : {A B : Type 0} (f : A → B) (o : Option A) → option_map f o ≡ None → o ≡ None
+pub none-map : {A B : Type 0} (f : A → B) (o : Option A) → option_map f o ≡ None → o ≡ None
 none-map f None e = refl
 none-map f (Some x) e = absurd (cc)
 
-none-of : {A B : Type 0} (says : A → Option B) (xs : List A) (x : A) → first_of says xs ≡ None → Has xs x → says x ≡ None
+pub none-of : {A B : Type 0} (says : A → Option B) (xs : List A) (x : A) → first_of says xs ≡ None → Has xs x → says x ≡ None
 none-of says [] x e h = absurd h
 none-of says (y ∷ ys) x e (inl h) = subst (λ z. says z ≡ None) h (none-each (says y ∷ first_of says ys ∷ []) e).0
 none-of says (y ∷ ys) x e (inr h) = none-of says ys x (none-each (says y ∷ first_of says ys ∷ []) e).1.0 h
 
-none-found : {A : Type 0} (test : A → Bool) (x : A) (xs : List A) → find test (x ∷ xs) ≡ None → (test x ≡ false) × (find test xs ≡ None)
+pub none-found : {A : Type 0} (test : A → Bool) (x : A) (xs : List A) → find test (x ∷ xs) ≡ None → (test x ≡ false) × (find test xs ≡ None)
 none-found test x xs e = go (test x) refl e
   where
     go : (b : Bool) → test x ≡ b → cond b (Some x) (find test xs) ≡ None → (test x ≡ false) × (find test xs ≡ None)
@@ -85,39 +85,46 @@ not-locked b t origins e = each-apart (cast_of t origins) b.votes (λ key h.
 same-tx : (t u : Transaction) (o p : List (Option Digest)) → Some (record_as.Vote t o) ≡ Some (record_as.Vote u p) → t ≡ u
 same-tx t u o p e = cc
 
--- no case refuses the transaction, it is of the member's epoch, and P holds of it
-pub record IsCastFreely (P : Transaction → Type 0) (m : Member) (t : Transaction) : Type 0 where
+pub accepted : {E : Type 0} (b : Bool) (refusal : E) → where_true (not b) refusal ≡ None → b ≡ true
+accepted true refusal e = refl
+accepted false refusal e = absurd (cc)
+
+-- no case refuses the transaction, it is of the member's epoch, which has no vote for it yet, and it was read
+-- with an accepted seal; P holds of what was read
+pub record IsCastFreely (P : SignedTx → Type 0) (r : Rules) (m : Member) (t : Transaction) : Type 0 where
   pub free : vote_refusal (ballot m) t (transaction_digest t) ≡ None
   pub epoch : (t.epoch == m.epoch) ≡ true
-  pub given : P t
+  pub new : vote_for m (transaction_digest t) ≡ None
+  pub given : (x : SignedTx) × (x.tx ≡ t) × (accepts_sender r x.tx x.seal ≡ true) × P x
 
-module _ (P : Transaction → Type 0) (m : Member) (tx : Transaction) (origins : List (Option Digest)) where
+module _ (P : SignedTx → Type 0) (r : Rules) (m : Member) (tx : Transaction) (origins : List (Option Digest)) where
   abbrev Free : Transaction → Type 0
-  Free t = IsCastFreely P m t
+  Free t = IsCastFreely P r m t
 
-  new-free : (t : Transaction) (seal : Digest) (unsealed : Option VoteRefusal) → P t → (t.epoch == m.epoch) ≡ true → vote_record (Ok (record { tx = t; seal = seal })) (new_vote m t unsealed) ≡ Some (record_as.Vote tx origins) → Free tx
-  new-free t seal unsealed p same e = go (first_some (new_vote_cases m t unsealed)) refl e
+  new-free : (x : SignedTx) → P x → (x.tx.epoch == m.epoch) ≡ true → vote_for m (transaction_digest x.tx) ≡ None → vote_record (Ok x) (new_vote m x.tx (unsealed_of r x)) ≡ Some (record_as.Vote tx origins) → Free tx
+  new-free x p same new e = go (first_some (new_vote_cases m x.tx (unsealed_of r x))) refl e
     where
-      go : (refusal : Option VoteRefusal) → first_some (new_vote_cases m t unsealed) ≡ refusal → vote_record (Ok (record { tx = t; seal = seal })) (unless_refused refusal (voted_as m t (vote_origins (ballot m) t) true)) ≡ Some (record_as.Vote tx origins) → Free tx
+      go : (refusal : Option VoteRefusal) → first_some (new_vote_cases m x.tx (unsealed_of r x)) ≡ refusal → vote_record (Ok x) (unless_refused refusal (voted_as m x.tx (vote_origins (ballot m) x.tx) true)) ≡ Some (record_as.Vote tx origins) → Free tx
       go (Some refusal) none e = absurd (cc)
-      go None none e = subst Free (same-tx t tx (vote_origins (ballot m) t) origins e) (record {
-        free = none-map decided_as (vote_refusal (ballot m) t (transaction_digest t)) (none-each (new_vote_cases m t unsealed) none).1.1.1.0;
+      go None none e = subst Free (same-tx x.tx tx (vote_origins (ballot m) x.tx) origins e) (record {
+        free = none-map decided_as (vote_refusal (ballot m) x.tx (transaction_digest x.tx)) (none-each (new_vote_cases m x.tx (unsealed_of r x)) none).1.1.1.0;
         epoch = same;
-        given = p;
+        new = new;
+        given = (x, refl, accepted (accepts_sender r x.tx x.seal) no_vote.Unsealed (none-each (new_vote_cases m x.tx (unsealed_of r x)) none).1.1.0, p);
       })
 
-  again-free : (t : Transaction) (seal : Digest) (unsealed : Option VoteRefusal) (v : Option Cast) → P t → (t.epoch == m.epoch) ≡ true → vote_record (Ok (record { tx = t; seal = seal })) (vote_again m t unsealed v) ≡ Some (record_as.Vote tx origins) → Free tx
-  again-free t seal unsealed (Some v) p same e = absurd (cc)
-  again-free t seal unsealed None p same e = new-free t seal unsealed p same e
+  again-free : (x : SignedTx) (v : Option Cast) → vote_for m (transaction_digest x.tx) ≡ v → P x → (x.tx.epoch == m.epoch) ≡ true → vote_record (Ok x) (vote_again m x.tx (unsealed_of r x) v) ≡ Some (record_as.Vote tx origins) → Free tx
+  again-free x (Some v) q p same e = absurd (cc)
+  again-free x None q p same e = new-free x p same q e
 
-  on-free : (t : Transaction) (seal : Digest) (unsealed : Option VoteRefusal) (same : Bool) → (t.epoch == m.epoch) ≡ same → P t → vote_record (Ok (record { tx = t; seal = seal })) (refused_or (where_true (not same) (no_vote.WrongEpoch t.epoch m.epoch)) (vote_again m t unsealed (vote_for m (transaction_digest t)))) ≡ Some (record_as.Vote tx origins) → Free tx
-  on-free t seal unsealed false q p e = absurd (cc)
-  on-free t seal unsealed true q p e = again-free t seal unsealed (vote_for m (transaction_digest t)) p q e
+  on-free : (x : SignedTx) (same : Bool) → (x.tx.epoch == m.epoch) ≡ same → P x → vote_record (Ok x) (refused_or (where_true (not same) (no_vote.WrongEpoch x.tx.epoch m.epoch)) (vote_again m x.tx (unsealed_of r x) (vote_for m (transaction_digest x.tx)))) ≡ Some (record_as.Vote tx origins) → Free tx
+  on-free x false q p e = absurd (cc)
+  on-free x true q p e = again-free x (vote_for m (transaction_digest x.tx)) refl p q e
 
-  read-free : (r : Rules) (read : Result SignedTx WireFault) (stopped : Option VoteRefusal) → Each (λ (x : SignedTx). P x.tx) (read_list read) → vote_record read (refused_or stopped (vote_read r m read)) ≡ Some (record_as.Vote tx origins) → Free tx
-  read-free r (Err fault) stopped g e = absurd (cc)
-  read-free r (Ok s) (Some refusal) g e = absurd (cc)
-  read-free r (Ok s) None g e = on-free s.tx s.seal (unsealed_of r s) (s.tx.epoch == m.epoch) refl g.0 e
+  read-free : (read : Result SignedTx WireFault) (stopped : Option VoteRefusal) → Each P (read_list read) → vote_record read (refused_or stopped (vote_read r m read)) ≡ Some (record_as.Vote tx origins) → Free tx
+  read-free (Err fault) stopped g e = absurd (cc)
+  read-free (Ok x) (Some refusal) g e = absurd (cc)
+  read-free (Ok x) None g e = on-free x (x.tx.epoch == m.epoch) refl g.0 e
 
   hold-none : (read : Result Certificate WireFault) (answer : Result Bool HoldRefusal) → hold_record read answer ≡ Some (record_as.Vote tx origins) → ⊥
   hold-none (Err fault) answer e = cc
@@ -148,22 +155,22 @@ module _ (P : Transaction → Type 0) (m : Member) (tx : Transaction) (origins :
   turn-none (Err refusal) e = cc
   turn-none (Ok txs) e = cc
 
-  pub due-free : (r : Rules) (call : Call) → Each (λ (x : SignedTx). P x.tx) (signed_read r call) → due r m call ≡ Some (record_as.Vote tx origins) → Free tx
+  pub due-free : (call : Call) → Each P (signed_read r call) → due r m call ≡ Some (record_as.Vote tx origins) → Free tx
   unfolding due vote_answer
-  due-free r (votes bytes) g e = read-free r (read_signed bytes) (vote_stopped m) g e
-  due-free r (holds bytes) g e = absurd (hold-none (read_certificate bytes) (hold_answer r m bytes) e)
-  due-free r (sees number bytes) g e = absurd (see-none number bytes (first_some (see_cases m number)) e)
-  due-free r runs g e = absurd (run-none (run_answer r m) e)
-  due-free r closes g e = absurd (close-none (close_answer r m) e)
-  due-free r ends g e = absurd (cc)
-  due-free r turns g e = absurd (turn-none (turn_answer r m) e)
-  due-free r (acks d) g e = absurd (cc)
+  due-free (votes bytes) g e = read-free (read_signed bytes) (vote_stopped m) g e
+  due-free (holds bytes) g e = absurd (hold-none (read_certificate bytes) (hold_answer r m bytes) e)
+  due-free (sees number bytes) g e = absurd (see-none number bytes (first_some (see_cases m number)) e)
+  due-free runs g e = absurd (run-none (run_answer r m) e)
+  due-free closes g e = absurd (close-none (close_answer r m) e)
+  due-free ends g e = absurd (cc)
+  due-free turns g e = absurd (turn-none (turn_answer r m) e)
+  due-free (acks d) g e = absurd (cc)
 
 -- ---- each record keeps the votes apart
 
 apart-after : (r : Rules) (m : Member) (call : Call) (x : Record) → due r m call ≡ Some x → AreApart m.votes → AreApart (after r m x).votes
 unfolding after
-apart-after r m call (record_as.Vote tx origins) e apart = along-push (λ before later. Each (IsApartFrom later) before) [] m.votes (cast_of tx origins) apart (not-locked (ballot m) tx origins (due-free (λ _. Unit {0}) m tx origins r call (each-any (signed_read r call)) e).free)
+apart-after r m call (record_as.Vote tx origins) e apart = along-push (λ before later. Each (IsApartFrom later) before) [] m.votes (cast_of tx origins) apart (not-locked (ballot m) tx origins (due-free (λ _. Unit {0}) r m tx origins call (each-any (signed_read r call)) e).free)
 apart-after r m call (record_as.Hold c) e apart = apart
 apart-after r m call (record_as.See bytes) e apart = apart
 apart-after r m call record_as.Close e apart = apart

@@ -23,7 +23,7 @@ use Rattle.world_spec.specs.Assumptions.{calls_of}
 use Rattle.votes_law.proofs.InWorld.{each-get, each-any, kept-called, kept-line, new-seats}
 
 -- the seat at a place, behind a change of one
-get-set : {A : Type 0} (xs : List A) (m n : ℕ) (y q : A) → slice_get (slice_set xs m y) n ≡ Some q → ((n ≡ m) × (y ≡ q)) ⊎ (slice_get xs n ≡ Some q)
+pub get-set : {A : Type 0} (xs : List A) (m n : ℕ) (y q : A) → slice_get (slice_set xs m y) n ≡ Some q → ((n ≡ m) × (y ≡ q)) ⊎ (slice_get xs n ≡ Some q)
 get-set [] m n y q e = inr e
 get-set (x ∷ xs) zero zero y q e = inl (refl, same y q e)
   where
@@ -48,7 +48,7 @@ has-either (x ∷ xs) ys y (inr h) = go (has-either xs ys y h)
     go (inr h) = inr h
 
 -- what was said by one member
-has-said : (m : ℕ) (sts : List Statement) (x : Said) → Has (map (said_by m) sts) x → (x.member ≡ m) × Has sts x.statement
+pub has-said : (m : ℕ) (sts : List Statement) (x : Said) → Has (map (said_by m) sts) x → (x.member ≡ m) × Has sts x.statement
 has-said m [] x h = absurd h
 has-said m (st ∷ sts) x (inl e) = (sym (ap (λ (y : Said). y.member) e), inl (ap (λ (y : Said). y.statement) e))
 has-said m (st ∷ sts) x (inr h) = let rest = has-said m sts x h in (rest.0, inr rest.1)

@@ -47,8 +47,14 @@ NoVersionIsVotedTwice = (s : Setting) (events : List Event) (m : ℕ) (seat : Se
     → t.epoch ≡ u.epoch → (transaction_digest t ≡ transaction_digest u → ⊥)
     → (key : ObjectKey) → Has (consumed_keys t) key → Has (consumed_keys u) key → ⊥
 
--- a vote that an honest member stated stands in its journal, with that transaction and epoch
+-- and two votes of one epoch for one transaction name the same origins
+abbrev pub VotesNameOneOrigins : Type 0
+VotesNameOneOrigins = (s : Setting) (events : List Event) (m : ℕ) (seat : Seat) → slice_get (world_after s events).seats m ≡ Some seat
+    → (t u : Transaction) (origins others : List (Option Digest)) → Has seat.records (record_as.Vote t origins) → Has seat.records (record_as.Vote u others)
+    → t.epoch ≡ u.epoch → transaction_digest t ≡ transaction_digest u → origins ≡ others
+
+-- a vote that an honest member stated stands in its journal, with that transaction, epoch and origins
 abbrev pub EveryVoteIsKept : Type 0
 EveryVoteIsKept = (s : Setting) (events : List Event) (m : ℕ) (seat : Seat) → slice_get (world_after s events).seats m ≡ Some seat → seat.honest ≡ true
     → (epoch : ℕ) (tx : Digest) (origins : List (Option Digest)) → Has (world_after s events).said (said_by m (statement.Vote epoch tx origins))
-    → (t : Transaction) × (others : List (Option Digest)) × Has seat.records (record_as.Vote t others) × (t.epoch ≡ epoch) × (transaction_digest t ≡ tx)
+    → (t : Transaction) × Has seat.records (record_as.Vote t origins) × (t.epoch ≡ epoch) × (transaction_digest t ≡ tx)

@@ -2,7 +2,7 @@
 //! votes of one epoch share no consumed version.
 #![tactic(auto)]
 
-ghost use Rattle.votes_law.specs.Members.{EveryRecordIsDue, EveryVoteIsKept, NoVersionIsVotedTwice, VotesShareNoVersion};
+ghost use Rattle.votes_law.specs.Members.{EveryRecordIsDue, EveryVoteIsKept, NoVersionIsVotedTwice, VotesNameOneOrigins, VotesShareNoVersion};
 
 /// Each record of each member is the one that some call appends in the state of the records before it.
 pub fn every_record_is_due()
@@ -17,6 +17,11 @@ pub fn votes_share_no_version()
 /// Over a member's whole journal, stops and restarts included, no version is voted for twice in an epoch.
 pub fn no_version_is_voted_twice()
     ensures { NoVersionIsVotedTwice }
+{}
+
+/// Over a member's whole journal, the votes of one epoch for one transaction name the same origins.
+pub fn votes_name_one_origins()
+    ensures { VotesNameOneOrigins }
 {}
 
 /// A vote that an honest member stated stands in its journal.
