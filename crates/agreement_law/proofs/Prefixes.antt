@@ -36,6 +36,7 @@ use Rattle.world_spec.specs.World.{Seat, member_in, entries_at}
 use Rattle.world_spec.specs.Run.{world_after}
 use Rattle.votes_law.proofs.Apart.{state-push}
 use Rattle.agreement_law.specs.Agreed.{IsTaken, IsEarlier}
+use Rattle.agreement_law.proofs.Appends.{due-appends}
 use Rattle.agreement_law.proofs.Growth.{Grown, front-all, front-push, front-then}
 use Rattle.agreement_law.proofs.InSequences.{Comes, in_sequences}
 
@@ -177,46 +178,6 @@ IsSee m bytes ends = ⊥
 IsSee m bytes turns = ⊥
 IsSee m bytes (acks tx) = ⊥
 
-kept-see : (bytes : List ℕ) (t : Transaction) (st : Statement) → kept_vote t st ≡ Some (record_as.See bytes) → ⊥
-kept-see bytes t (statement.Vote epoch tx origins) e = cc
-kept-see bytes t (statement.End epoch) e = cc
-kept-see bytes t (statement.Checkpoint epoch number digest) e = cc
-kept-see bytes t (statement.Ack epoch tx effects) e = cc
-
-vote-see : (bytes : List ℕ) (read : Result SignedTx WireFault) (answer : Result Voted VoteRefusal) → vote_record read answer ≡ Some (record_as.See bytes) → ⊥
-vote-see bytes (Err fault) answer e = cc
-vote-see bytes (Ok s) (Err refusal) e = cc
-vote-see bytes (Ok s) (Ok v) e = go v.fresh e
-  where
-    go : (b : Bool) → cond b (kept_vote s.tx v.statement) None ≡ Some (record_as.See bytes) → ⊥
-    go true e = kept-see bytes s.tx v.statement e
-    go false e = cc
-
-hold-see : (bytes : List ℕ) (read : Result Certificate WireFault) (answer : Result Bool HoldRefusal) → hold_record read answer ≡ Some (record_as.See bytes) → ⊥
-hold-see bytes (Err fault) answer e = cc
-hold-see bytes (Ok c) answer e = go (is_hold_kept answer) e
-  where
-    go : (b : Bool) → where_true b (record_as.Hold c) ≡ Some (record_as.See bytes) → ⊥
-    go true e = cc
-    go false e = cc
-
-ran-see : (bytes : List ℕ) (items : List RanItem) → ran_record items ≡ Some (record_as.See bytes) → ⊥
-ran-see bytes [] e = cc
-ran-see bytes (item ∷ items) e = cc
-
-run-see : (m : Member) (bytes : List ℕ) (answer : Result Ran RunRefusal) → run_record m answer ≡ Some (record_as.See bytes) → ⊥
-run-see m bytes (Err refusal) e = cc
-run-see m bytes (Ok ran) e = ran-see bytes (ran_items m) e
-
-close-see : (bytes : List ℕ) (answer : Result Bool CloseRefusal) → close_record answer ≡ Some (record_as.See bytes) → ⊥
-close-see bytes (Err refusal) e = cc
-close-see bytes (Ok true) e = cc
-close-see bytes (Ok false) e = cc
-
-turn-see : (bytes : List ℕ) (answer : Result (List Digest) TurnRefusal) → turn_record answer ≡ Some (record_as.See bytes) → ⊥
-turn-see bytes (Err refusal) e = cc
-turn-see bytes (Ok txs) e = cc
-
 see-see : (m : Member) (number : ℕ) (b bytes : List ℕ) → see_record m number b (first_some (see_cases m number)) ≡ Some (record_as.See bytes) → (b ≡ bytes) × (m.sequence.ended ≡ false)
 see-see m number b bytes e = go (halted no_see.Halted m) (full no_see.Full m) m.sequence.ended refl (where_true (not (number == m.sequence.number)) (no_see.Gap number m.sequence.number)) e
   where
@@ -230,15 +191,16 @@ see-see m number b bytes e = go (halted no_see.Halted m) (full no_see.Full m) m.
     go None None false q (Some z) e = absurd (cc)
     go None None false q None e = (same e, q)
 
+-- only a call with an entry appends an entry
 pub due-see : (r : Rules) (m : Member) (bytes : List ℕ) (call : Call) → due r m call ≡ Some (record_as.See bytes) → IsSee m bytes call
 unfolding due
-due-see r m bytes (votes b) e = vote-see bytes (read_signed b) (vote_answer r m b) e
-due-see r m bytes (holds b) e = hold-see bytes (read_certificate b) (hold_answer r m b) e
+due-see r m bytes (votes b) e = let k = due-appends (record_as.See bytes) r m (votes b) e in absurd (cc)
+due-see r m bytes (holds b) e = let k = due-appends (record_as.See bytes) r m (holds b) e in absurd (cc)
 due-see r m bytes (sees number b) e = see-see m number b bytes e
-due-see r m bytes runs e = run-see m bytes (run_answer r m) e
-due-see r m bytes closes e = close-see bytes (close_answer r m) e
+due-see r m bytes runs e = let k = due-appends (record_as.See bytes) r m runs e in absurd (cc)
+due-see r m bytes closes e = let k = due-appends (record_as.See bytes) r m closes e in absurd (cc)
 due-see r m bytes ends e = absurd (cc)
-due-see r m bytes turns e = turn-see bytes (turn_answer r m) e
+due-see r m bytes turns e = let k = due-appends (record_as.See bytes) r m turns e in absurd (cc)
 due-see r m bytes (acks tx) e = absurd (cc)
 
 -- ---- every record keeps it

@@ -1,6 +1,8 @@
 -- What the sequence of an epoch gives to all members alike.
 use Rattle.std.specs.Prelude.{◌≡◌, ◌⊎◌, ℕ, List, [], ◌++◌, map, length, slice_get, Some, None}
 use Rattle.chain_types.specs.declared.objects.Object.{Object}
+use Rattle.digest_core.specs.declared.Digest.{Digest}
+use Rattle.member_types.specs.declared.answers.Held.{Held}
 use Rattle.chain_messages.specs.declared.messages.Certificate.{Certificate}
 use Rattle.chain_messages.specs.declared.messages.Entry.{Entry}
 use Rattle.chain_messages.specs.Messages as messages
@@ -40,22 +42,28 @@ OneSequence = (s : Setting) (events : List Event) (m n : ℕ) (a b : Seat)
     → (member_in s a).epoch ≡ (member_in s b).epoch → (member_in s a).opening ≡ (member_in s b).opening
     → IsEarlier (member_in s a).sequence (member_in s b).sequence ⊎ IsEarlier (member_in s b).sequence (member_in s a).sequence
 
--- a valid certificate of the epoch, which was delivered
-pub record IsGiven (r : Rules) (delivered : List Certificate) (epoch : ℕ) (c : Certificate) : Type 0 where
+-- under its digest, a valid certificate of the epoch, which was delivered
+pub record IsGiven (r : Rules) (delivered : List Certificate) (epoch : ℕ) (digest : Digest) (c : Certificate) : Type 0 where
+  pub digest_is : digest ≡ transaction_digest c.tx
   pub valid : cert_refusal r c ≡ None
   pub epoch_is : c.tx.epoch ≡ epoch
   pub comes : Has delivered c
 
--- an admitted transaction goes by its digest, and its certificate was given
-pub record IsGivenAs (r : Rules) (delivered : List Certificate) (epoch : ℕ) (a : Admitted) : Type 0 where
-  pub digest_is : a.digest ≡ transaction_digest a.cert.tx
-  pub given : IsGiven r delivered epoch a.cert
+abbrev pub IsAdmittedAsGiven : Rules → List Certificate → ℕ → Admitted → Type 0
+IsAdmittedAsGiven r delivered epoch a = IsGiven r delivered epoch a.digest a.cert
+
+abbrev pub IsHeldAsGiven : Rules → List Certificate → ℕ → Held → Type 0
+IsHeldAsGiven r delivered epoch h = IsGiven r delivered epoch h.digest h.cert
 
 -- what a member admitted: in order, and each was given
 pub record IsAdmittedInOrder (s : Setting) (events : List Event) (m : Member) : Type 0 where
   pub order : Along (IsInOrder m.opening) [] m.sequence.admission.admitted
-  pub given : Each (IsGivenAs s.rules (all_delivered s events) m.epoch) m.sequence.admission.admitted
+  pub given : Each (IsAdmittedAsGiven s.rules (all_delivered s events) m.epoch) m.sequence.admission.admitted
 
 abbrev pub EveryAdmission : Type 0
 EveryAdmission = (s : Setting) (events : List Event) (m : ℕ) (seat : Seat) → slice_get (world_after s events).seats m ≡ Some seat
     → IsAdmittedInOrder s events (member_in s seat)
+
+abbrev pub HeldAsGiven : Type 0
+HeldAsGiven = (s : Setting) (events : List Event) (m : ℕ) (seat : Seat) → slice_get (world_after s events).seats m ≡ Some seat
+    → Each (IsHeldAsGiven s.rules (all_delivered s events) (member_in s seat).epoch) (member_in s seat).held
