@@ -15,7 +15,7 @@ use Rattle.world_spec.specs.Setting.{Name, Setting}
 use Rattle.world_spec.specs.World.{Seat, Made, World, Reached, finds_down, stops, answers, reached_seat, behind, called_seat, called_in, called_if, sees_on, is_honest, member_at, next_call, entries_at}
 use Rattle.world_spec.specs.Names.{made_named, cert_named}
 use Rattle.world_spec.specs.Making.{made_by_line}
-use Rattle.world_spec.specs.Step.{happens, says, voted_on, fvoted, formed, formed_as, votes_collected, Collected, lacks, short, differ, whole, sent, ordered, honest_end, ordered_end, risen_if, has_ended, open_entries, appended_entry, sealed_end, acked, on_seat, armed_seat, started_seat, entries_left, end_in, last_said}
+use Rattle.world_spec.specs.Step.{happens, says, voted_on, fvoted, formed, formed_as, votes_collected, Collected, lacks, short, differ, whole, sent, ordered, honest_end, ordered_end, risen_if, has_ended, appended_entry, sealed_end, acked, on_seat, armed_seat, started_seat, entries_left, end_in, last_said}
 
 -- each epoch's entries are a front of what they become
 abbrev pub Grown : List (List Entry) → List (List Entry) → Type 0

@@ -1,7 +1,7 @@
 -- What holds of no records, is kept by each record that is due, and is kept when the world's sequences grow holds
 -- of every seat of every run, with the sequences at the run's end.
 use Rattle.std.proofs.Common.{refl, sym, subst}
-use Rattle.std.specs.Prelude.{◌≡◌, ℕ, zero, suc, min, Bool, true, false, cond, List, [], ◌∷◌, ◌++◌, map, slice_get, Option, Some, None, option_map, option_and_then, if◌then◌else◌}
+use Rattle.std.specs.Prelude.{◌≡◌, ℕ, zero, suc, min, Bool, true, false, List, [], ◌∷◌, ◌++◌, slice_get, Option, Some, None, option_map, option_and_then, if◌then◌else◌}
 use Rattle.chain_types.specs.Transactions as transactions
 use Rattle.chain_messages.specs.Messages as messages
 use Rattle.chain_messages.specs.declared.messages.Certificate.{Certificate}
@@ -9,7 +9,6 @@ use Rattle.chain_messages.specs.declared.messages.Entry.{Entry}
 use Rattle.journal_core.specs.declared.records.Record.{Record}
 use Rattle.schedule_text.specs.declared.words.Event.{Event}
 use Rattle.schedule_text.specs.declared.words.Event.TheVariants as event
-use Rattle.digest_core.specs.declared.Digest.{Digest}
 use Rattle.chain_spec.specs.Words.{Each}
 use Rattle.member_spec.specs.Member.{Member, state}
 use Rattle.member_spec.specs.Calls.{Call, votes, holds, sees, runs, closes, ends, turns, acks, due}

@@ -1,36 +1,21 @@
 -- Admission and the cuts only grow, and a member has seen a front of its epoch's sequence.
-use Rattle.std.proofs.Common.{inl, inr, refl, sym, subst, ap, ◌∙◌, append-nil, append_assoc, arith}
-use Rattle.std.proofs.lemmas.Bool.{eqb-true}
-use Rattle.std.specs.Prelude.{◌≡◌, ◌⊎◌, ℕ, zero, suc, ◌+◌, Bool, true, false, cond, not, ◌==◌, nat_le, List, [], ◌∷◌, ◌++◌, map, fold, find, length, slice_get, Option, Some, None, Result, Ok, Err}
-use Rattle.wire_bcs.specs.declared.fault.WireFault.{WireFault}
-use Rattle.digest_core.specs.declared.Digest.{Digest}
+use Rattle.std.proofs.Common.{inl, inr, refl, sym, subst, ap, ◌∙◌, append_assoc, arith}
+use Rattle.std.specs.Prelude.{◌≡◌, ◌⊎◌, ℕ, zero, suc, ◌+◌, Bool, true, false, cond, not, ◌==◌, List, [], ◌∷◌, ◌++◌, map, fold, find, length, slice_get, Option, Some, None}
 use Rattle.chain_types.specs.declared.objects.Object.{Object}
-use Rattle.chain_types.specs.declared.transactions.Transaction.{Transaction}
-use Rattle.chain_types.specs.declared.transactions.SignedTx.{SignedTx}
 use Rattle.chain_messages.specs.Messages as messages
-use Rattle.chain_messages.specs.declared.messages.Certificate.{Certificate}
 use Rattle.chain_messages.specs.declared.messages.Entry.{Entry}
-use Rattle.chain_messages.specs.declared.messages.Statement.{Statement}
-use Rattle.chain_messages.specs.declared.messages.Statement.TheVariants as statement
-use Rattle.journal_core.specs.declared.records.RanItem.{RanItem}
 use Rattle.journal_core.specs.declared.records.Record.{Record}
 use Rattle.journal_core.specs.declared.records.Record.TheVariants as record_as
 use Rattle.member_types.specs.declared.answers.Held.{Held}
-use Rattle.member_types.specs.declared.answers.Ran.{Ran}
-use Rattle.member_types.specs.declared.refusals.VoteRefusal.{VoteRefusal}
-use Rattle.member_types.specs.declared.refusals.HoldRefusal.{HoldRefusal}
 use Rattle.member_types.specs.declared.refusals.SeeRefusal.{SeeRefusal}
 use Rattle.member_types.specs.declared.refusals.SeeRefusal.TheVariants as no_see
-use Rattle.member_types.specs.declared.refusals.RunRefusal.{RunRefusal}
-use Rattle.member_types.specs.declared.refusals.CloseRefusal.{CloseRefusal}
-use Rattle.member_types.specs.declared.refusals.TurnRefusal.{TurnRefusal}
 use Rattle.schedule_text.specs.declared.words.Event.{Event}
 use Rattle.chain_spec.specs.Words.{IsFront, first_some, where_true}
-use Rattle.chain_spec.specs.Certificates.{Rules, read_signed, read_certificate}
+use Rattle.chain_spec.specs.Certificates.{Rules}
 use Rattle.member_spec.specs.Admission.{Admission, is_free, taken_as, taken, is_dropped, taken_next, take_free, entered, passed_mark, admit, since_mark}
 use Rattle.member_spec.specs.Sequence.{Sequence, What, takes, commits, counts, ignores, nothing_seen, what_of, cut_of, last_cut, counted_as, ends_with_member, with_what, with_entry, saw, seen}
 use Rattle.member_spec.specs.Member.{Member, after, state}
-use Rattle.member_spec.specs.Calls.{Call, votes, holds, sees, runs, closes, ends, turns, acks, Voted, halted, full, see_cases, kept_vote, vote_record, is_hold_kept, hold_record, see_record, ran_items, ran_record, run_record, close_record, turn_record, vote_answer, hold_answer, run_answer, close_answer, turn_answer, due}
+use Rattle.member_spec.specs.Calls.{Call, votes, holds, sees, runs, closes, ends, turns, acks, halted, full, see_cases, see_record, due}
 use Rattle.world_spec.specs.Setting.{Setting}
 use Rattle.world_spec.specs.World.{Seat, member_in, entries_at}
 use Rattle.world_spec.specs.Run.{world_after}

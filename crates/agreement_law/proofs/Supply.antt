@@ -1,9 +1,8 @@
 -- What members hold and admit was given to them.
 use Rattle.std.proofs.Common.{inl, inr, refl, sym, subst}
 use Rattle.std.proofs.lemmas.Bool.{eqb-true}
-use Rattle.std.specs.Prelude.{◌≡◌, ◌⊎◌, ℕ, zero, suc, Bool, true, false, cond, not, ◌==◌, nat_le, List, [], ◌∷◌, ◌++◌, find, flat_map, length, map, slice_get, Option, Some, None, option_map, is_some, Result, Ok, Err}
+use Rattle.std.specs.Prelude.{◌≡◌, ℕ, zero, suc, Bool, true, false, cond, not, ◌==◌, nat_le, List, [], ◌∷◌, ◌++◌, find, flat_map, length, map, slice_get, Option, Some, None, option_map, is_some, Result, Ok, Err}
 use Rattle.wire_bcs.specs.declared.fault.WireFault.{WireFault}
-use Rattle.digest_core.specs.declared.Digest.{Digest}
 use Rattle.chain_types.specs.declared.objects.Object.{Object}
 use Rattle.chain_types.specs.declared.refusals.CertRefusal.{CertRefusal}
 use Rattle.chain_types.specs.Digests.{transaction_digest}
@@ -17,17 +16,16 @@ use Rattle.journal_core.specs.declared.records.Record.{Record}
 use Rattle.journal_core.specs.declared.records.Record.TheVariants as record_as
 use Rattle.member_types.specs.declared.answers.Held.{Held}
 use Rattle.member_types.specs.declared.answers.Ignore.{Ignore}
-use Rattle.member_types.specs.declared.refusals.HoldRefusal.{HoldRefusal}
 use Rattle.member_types.specs.declared.refusals.HoldRefusal.TheVariants as no_hold
 use Rattle.schedule_text.specs.declared.words.Event.{Event}
 use Rattle.chain_spec.specs.Words.{Has, Each, Along, first_some, where_true, unless_refused, refused_or}
 use Rattle.chain_spec.specs.Certificates.{Rules, read_certificate, read_entry, cert_refusal}
 use Rattle.chain_spec.proofs.ListLemmas.{find-each, filter-each, each-push}
-use Rattle.member_spec.specs.Admission.{Admitted, Admission, is_known, is_free, not_of, taken_as, taken, is_dropped, taken_next, take_free, entered, passed_mark, admit}
-use Rattle.member_spec.specs.Sequence.{Sequence, What, takes, commits, counts, ignores, ignored_or, certificate_cases, end_cases, what_stated, what_read, what_of, counted_as, ends_with_member, with_what, with_entry, saw, held_as}
+use Rattle.member_spec.specs.Admission.{Admission, is_known, is_free, not_of, taken_as, taken, is_dropped, taken_next, take_free, entered, passed_mark, admit}
+use Rattle.member_spec.specs.Sequence.{Sequence, What, takes, commits, counts, ignores, ignored_or, end_cases, what_stated, what_read, what_of, counted_as, ends_with_member, with_what, with_entry, saw, held_as}
 use Rattle.member_spec.specs.Checkpoints.{held_of}
 use Rattle.member_spec.specs.Member.{Member, Fork, fork_of, fork_with, held_with, after, state}
-use Rattle.member_spec.specs.Calls.{Call, votes, holds, sees, runs, closes, ends, turns, acks, record_limit, hold_stopped, new_hold_cases, new_hold, hold_certificate, hold_read, is_hold_kept, hold_record, hold_answer, due}
+use Rattle.member_spec.specs.Calls.{Call, votes, holds, sees, runs, closes, ends, turns, acks, record_limit, new_hold, hold_read, is_hold_kept, hold_record, hold_answer, due}
 use Rattle.world_spec.specs.Setting.{Setting}
 use Rattle.world_spec.specs.World.{Seat, World, new_world, member_in}
 use Rattle.world_spec.specs.Step.{happens}
@@ -63,8 +61,10 @@ Delivers r total call = Each (Has total) (certificates_read r call)
 
 delivers-calls : (r : Rules) (total : List Certificate) (calls : List Call) → ((c : Certificate) → Has (flat_map (certificates_read r) calls) c → Has total c) → Each (Delivers r total) calls
 delivers-calls r total [] h = tt
-delivers-calls r total (call ∷ calls) h = (each-from (Has total) (certificates_read r call) (λ c k. h c (has-left (certificates_read r call) (flat_map (certificates_read r) calls) c k)),
-    delivers-calls r total calls (λ c k. h c (has-right (certificates_read r call) (flat_map (certificates_read r) calls) c k)))
+delivers-calls r total (call ∷ calls) h = (
+  each-from (Has total) (certificates_read r call) (λ c k. h c (has-left (certificates_read r call) (flat_map (certificates_read r) calls) c k)),
+  delivers-calls r total calls (λ c k. h c (has-right (certificates_read r call) (flat_map (certificates_read r) calls) c k)),
+)
 
 delivers-run : (s : Setting) (total : List Certificate) (events : List Event) (w : World) → ((c : Certificate) → Has (all_of delivered s events w) c → Has total c) → Each (Delivers s.rules total) (all_of calls_of s events w)
 unfolding delivered

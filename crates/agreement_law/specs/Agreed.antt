@@ -1,6 +1,5 @@
 -- What the sequence of an epoch gives to all members alike.
-use Rattle.std.specs.Prelude.{◌≡◌, ◌⊎◌, ℕ, List, [], ◌++◌, map, length, slice_get, Some, None}
-use Rattle.chain_types.specs.declared.objects.Object.{Object}
+use Rattle.std.specs.Prelude.{◌≡◌, ◌⊎◌, ℕ, List, [], map, length, slice_get, Some, None}
 use Rattle.digest_core.specs.declared.Digest.{Digest}
 use Rattle.member_types.specs.declared.answers.Held.{Held}
 use Rattle.chain_messages.specs.declared.messages.Certificate.{Certificate}
@@ -11,7 +10,7 @@ use Rattle.chain_types.specs.Digests.{transaction_digest}
 use Rattle.chain_spec.specs.Words.{Has, Each, Along, IsFront}
 use Rattle.chain_spec.specs.Certificates.{Rules, cert_refusal}
 use Rattle.member_spec.specs.Admission.{Admitted}
-use Rattle.member_spec.specs.Sequence.{Cut, Sequence, seen}
+use Rattle.member_spec.specs.Sequence.{Sequence, seen}
 use Rattle.member_spec.specs.Member.{Member}
 use Rattle.world_spec.specs.Setting.{Setting}
 use Rattle.world_spec.specs.World.{Seat, member_in, entries_at}
