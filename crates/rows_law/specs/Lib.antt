@@ -18,3 +18,9 @@ pub mod RunWhatFaultyVotesLeave
 pub mod RunAnEmptyMarkMakesNoCheckpoint
 pub mod RunASecondWriterIsDeferred
 pub mod RunAcknowledgementsMakeItFinal
+pub mod SomeTransaction
+pub mod VersionsAreClocks
+pub mod TheLastVersionIsDropped
+pub mod BlocksHaveLimits
+pub mod JournalsAreKept
+pub mod BadRecordsAreNamed
