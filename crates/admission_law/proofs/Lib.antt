@@ -1,2 +1,2 @@
-mod Tidy
+pub mod Tidy
 mod Deferring

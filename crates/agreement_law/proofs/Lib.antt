@@ -1,0 +1,5 @@
+pub mod Growth
+pub mod InSequences
+pub mod Appends
+pub mod Prefixes
+pub mod Supply

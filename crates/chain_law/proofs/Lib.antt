@@ -1,0 +1,3 @@
+pub mod Standing
+pub mod Touched
+pub mod Reading
