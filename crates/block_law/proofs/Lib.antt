@@ -1,0 +1,12 @@
+pub mod Failing
+pub mod Counts
+pub mod Slots
+pub mod Reading
+pub mod Amounts
+pub mod Kept
+pub mod Steps
+pub mod Natives
+pub mod Blocks
+pub mod Effects
+pub mod Sums
+pub mod Keeping

@@ -1,0 +1,38 @@
+-- What a failed block leaves.
+use Rattle.std.specs.Prelude.{◌≡◌, ◌≢◌, ◌≤◌, ◌-◌, ℕ, true, List, [], ◌∷◌, map, None}
+use Rattle.chain_types.specs.declared.objects.Object.{Object}
+use Rattle.chain_types.specs.declared.objects.Content.TheVariants as content
+use Rattle.chain_types.specs.declared.transactions.Transaction.{Transaction}
+use Rattle.effects_core.specs.declared.effects.Status.TheVariants as status
+use Rattle.block_types.specs.declared.pieces.Executed.{Executed}
+use Rattle.chain_spec.specs.Keys.{fits, version_of}
+use Rattle.chain_spec.specs.Shape.{shape_fault, cost}
+use Rattle.block_spec.specs.Block.{Place}
+use Rattle.block_spec.specs.Execution.{execution, written_inputs}
+
+-- an object at another version
+abbrev pub at_version : ℕ → (Place × Object) → Object
+at_version version x = record x.1 { version = version }
+
+-- a gas coin at another version, and the cost lower
+abbrev pub paid : ℕ → ℕ → ℕ → Object → Object
+paid version balance price coin = record coin { version = version; content = content.Coin 0 (balance - price) }
+
+-- these effects have a failure, draw no id, delete nothing; the gas coin pays, and the inputs that may be written
+-- differ in their version alone
+pub record PaysGas (t : Transaction) (coin : Object) (others : List Object) (x : Executed) : Type 0 where
+  pub balance : ℕ
+  pub held : coin.content ≡ content.Coin 0 balance
+  pub affordable : cost t ≤ balance
+  pub price : x.effects.gas ≡ cost t
+  pub created : x.effects.created ≡ 0
+  pub deleted : x.effects.deleted ≡ []
+  pub objects : x.objects ≡ paid (version_of (coin ∷ others)) balance (cost t) coin ∷ map (at_version (version_of (coin ∷ others))) (written_inputs 0 t.inputs others)
+
+-- for every transaction of valid shape, and all objects that fit it
+abbrev pub AFailedBlockPaysGas : Type 0
+AFailedBlockPaysGas =
+    (t : Transaction) (coin : Object) (others : List Object) →
+    shape_fault t ≡ None → fits t (coin ∷ others) ≡ true →
+    (execution t (coin ∷ others)).effects.status ≢ status.Done →
+    PaysGas t coin others (execution t (coin ∷ others))

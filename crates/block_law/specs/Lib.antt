@@ -1,0 +1,4 @@
+pub mod Failing
+pub mod Money
+pub mod Names
+pub mod Keeping
