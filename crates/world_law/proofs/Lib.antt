@@ -1,2 +1,4 @@
 mod Lines
 mod Seats
+mod Workers
+mod Older
