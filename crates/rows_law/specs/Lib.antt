@@ -18,3 +18,12 @@ pub mod RunWhatFaultyVotesLeave
 pub mod RunAnEmptyMarkMakesNoCheckpoint
 pub mod RunASecondWriterIsDeferred
 pub mod RunAcknowledgementsMakeItFinal
+pub mod SomeTransaction
+pub mod VersionsAreClocks
+pub mod TheLastVersionIsDropped
+pub mod BlocksHaveLimits
+pub mod JournalsAreKept
+pub mod BadRecordsAreNamed
+pub mod RunFourAreSummedUp
+pub mod BytesHaveALimit
+pub mod ALongBlockRuns

@@ -21,6 +21,14 @@ ghost use Rattle.rows_law.specs.RunWhatFaultyVotesLeave.{WhatFaultyVotesLeave};
 ghost use Rattle.rows_law.specs.RunAnEmptyMarkMakesNoCheckpoint.{AnEmptyMarkMakesNoCheckpoint};
 ghost use Rattle.rows_law.specs.RunASecondWriterIsDeferred.{ASecondWriterIsDeferred};
 ghost use Rattle.rows_law.specs.RunAcknowledgementsMakeItFinal.{AcknowledgementsMakeItFinal};
+ghost use Rattle.rows_law.specs.VersionsAreClocks.{VersionsAreClocks};
+ghost use Rattle.rows_law.specs.TheLastVersionIsDropped.{TheLastVersionIsDropped};
+ghost use Rattle.rows_law.specs.BlocksHaveLimits.{BlocksHaveLimits};
+ghost use Rattle.rows_law.specs.JournalsAreKept.{JournalsAreKept};
+ghost use Rattle.rows_law.specs.BadRecordsAreNamed.{BadRecordsAreNamed};
+ghost use Rattle.rows_law.specs.RunFourAreSummedUp.{FourAreSummedUp};
+ghost use Rattle.rows_law.specs.BytesHaveALimit.{BytesHaveALimit};
+ghost use Rattle.rows_law.specs.ALongBlockRuns.{ALongBlockRuns};
 
 /// Three votes make a certificate, and a member executes and shows it.
 pub fn split_is_reported()
@@ -115,4 +123,44 @@ pub fn a_second_writer_is_deferred()
 /// A quorum of acknowledgements of one effects digest makes a transaction final.
 pub fn acknowledgements_make_it_final()
     ensures { AcknowledgementsMakeItFinal }
+{}
+
+/// A transaction writes at one more than the greatest version of its objects.
+pub fn versions_are_clocks()
+    ensures { VersionsAreClocks }
+{}
+
+/// A transaction whose version would be 2 to the 62 is dropped at its admission, and one version lower it is admitted.
+pub fn the_last_version_is_dropped()
+    ensures { TheLastVersionIsDropped }
+{}
+
+/// A transaction has at most 1024 commands of 512 arguments, 256 inputs and 131,072 bytes.
+pub fn blocks_have_limits()
+    ensures { BlocksHaveLimits }
+{}
+
+/// What the members keep of a run: the one that executes its vote, the certificate and the run, two their votes, one nothing.
+pub fn journals_are_kept()
+    ensures { JournalsAreKept }
+{}
+
+/// A record that is none, or that may not stand there, has its fault and its place.
+pub fn bad_records_are_named()
+    ensures { BadRecordsAreNamed }
+{}
+
+/// The summary of the made schedule of four transactions.
+pub fn four_are_summed_up()
+    ensures { FourAreSummedUp }
+{}
+
+/// A transaction has at most 131,072 bytes.
+pub fn bytes_have_a_limit()
+    ensures { BytesHaveALimit }
+{}
+
+/// A block of 128 commands makes 64 counters and freezes each.
+pub fn a_long_block_runs()
+    ensures { ALongBlockRuns }
 {}
