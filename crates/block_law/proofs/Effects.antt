@@ -145,15 +145,15 @@ created-from tx version b (n ∷ ns) y = go (left_in version b.placed (drawn_id 
     go None h rest = omega (arith, rest)
     go (Some o) h rest = let same = ap (λ (i : ObjectId). hit (id_eq i y)) (left-id version b.placed (drawn_id tx n) o h) in omega (arith, rest, same)
 
-rest-ids : (t : Transaction) (os : List Object) → map id_of (with_rest_first t os) ≡ map id_of os
+pub rest-ids : (t : Transaction) (os : List Object) → map id_of (with_rest_first t os) ≡ map id_of os
 rest-ids t [] = refl
 rest-ids t (o ∷ os) = refl
 
-cost-ids : (t : Transaction) (os : List Object) → map id_of (less_cost_first t os) ≡ map id_of os
+pub cost-ids : (t : Transaction) (os : List Object) → map id_of (less_cost_first t os) ≡ map id_of os
 cost-ids t [] = refl
 cost-ids t (o ∷ os) = refl
 
-same-ids : (version : ℕ) (xs : List (Place × Object)) → map id_of (map (λ (x : Place × Object). same_object version x.1) xs) ≡ first_ids xs
+pub same-ids : (version : ℕ) (xs : List (Place × Object)) → map id_of (map (λ (x : Place × Object). same_object version x.1) xs) ≡ first_ids xs
 same-ids version [] = refl
 same-ids version (x ∷ xs) = ap (λ ids. x.1.id ∷ ids) (same-ids version xs)
 

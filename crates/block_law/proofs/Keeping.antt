@@ -25,7 +25,7 @@ use Rattle.block_law.specs.Names.{drawn_ids, touched_ids}
 use Rattle.block_law.specs.Keeping.{MayRun, objects_before, gas_in}
 use Rattle.block_law.proofs.Counts.{hit, times, times-append, id_equal, id_same, id_refl, once-each}
 use Rattle.block_law.proofs.Slots.{placed_weight, block_weight, value_weight, Every}
-use Rattle.block_law.proofs.Amounts.{cond-part, part, part-plus, sum-cons, amount-twice}
+use Rattle.block_law.proofs.Amounts.{cond-part, part-plus, sum-cons, amount-twice}
 use Rattle.block_law.proofs.Kept.{Like, Good, Stands}
 use Rattle.block_law.proofs.Steps.{counts}
 use Rattle.block_law.proofs.Failing.{gas-is, affords}
@@ -91,7 +91,6 @@ gas-left t tx version coin os b balance held is once = go (value_in gas b.slots)
 -- f adds up over coins of the gas currency, as g does
 record IsAdditive (f : Content → ℕ) (g : ℕ → ℕ) : Type 0 where
   adds : (m n : ℕ) → f (content.Coin 0 (m + n)) ≡ f (content.Coin 0 m) + g n
-
 
 money-adds : (c : ℕ) → IsAdditive (money_of c) (λ n. money_of c (content.Coin 0 n))
 money-adds c = record {
@@ -171,7 +170,7 @@ module _ (f : Content → ℕ) (g : ℕ → ℕ) (additive : IsAdditive f g) whe
       back : balance ≡ (balance - cost t) + cost t
       back = omega (arith, enough)
 
-sum-weight : (f : Content → ℕ) (os : List Object) → sum_by (λ (o : Object). f o.content) os ≡ objects_weight f os
+pub sum-weight : (f : Content → ℕ) (os : List Object) → sum_by (λ (o : Object). f o.content) os ≡ objects_weight f os
 sum-weight f [] = refl
 sum-weight f (o ∷ os) = let one = sum-cons (λ (o : Object). f o.content) o os in let rest = sum-weight f os in omega (arith, one, rest)
 
@@ -266,7 +265,7 @@ no-cap c (content.Vault currency balance) e = refl
 no-cap c (content.VaultKey vault) e = refl
 no-cap c (content.Limit value) e = refl
 
-no-supply : (c : ℕ) (os : List Object) → objects_weight (caps_of c) os ≡ 0 → objects_weight (supply_of c) os ≡ 0
+pub no-supply : (c : ℕ) (os : List Object) → objects_weight (caps_of c) os ≡ 0 → objects_weight (supply_of c) os ≡ 0
 no-supply c [] e = refl
 no-supply c (o ∷ os) e = let here = no-cap c o.content (omega (arith, e)) in let rest = no-supply c os (omega (arith, e)) in omega (arith, here, rest)
 

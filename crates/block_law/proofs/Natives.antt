@@ -1,7 +1,7 @@
 -- What a call of a native takes and gives, and what it keeps.
 use Rattle.std.proofs.Common.{refl, ap, sym, subst, ◌∙◌}
 use Rattle.std.proofs.lemmas.Bool.{ltb-false, eqb-true}
-use Rattle.std.specs.Prelude.{◌≡◌, ◌≤◌, ◌+◌, ◌-◌, ℕ, zero, suc, Bool, true, false, cond, not, ◌==◌, nat_lt, nat_le, List, [], ◌∷◌, ◌++◌, map, sum_by, length, Option, Some, None, Ok}
+use Rattle.std.specs.Prelude.{◌≡◌, ◌≤◌, ◌+◌, ◌-◌, ℕ, zero, suc, Bool, true, false, not, ◌==◌, nat_lt, nat_le, List, [], ◌∷◌, ◌++◌, map, sum_by, length, Option, Some, None, Ok}
 use Rattle.std.specs.List.{list_any}
 use native.Mathlib.Omega.{arith}
 use Rattle.digest_core.specs.declared.Digest.{Digest}
@@ -42,7 +42,6 @@ pub record IsEmpty (k : Content) : Type 0 where
   pub money : (c : ℕ) → money_of c k ≡ 0
   pub supply : (c : ℕ) → supply_of c k ≡ 0
   pub caps : (c : ℕ) → caps_of c k ≡ 0
-
 
 new-id : (s : Site) (x : ObjectId) (k : ℕ) (n : ℕ) → n ≡ s.made + k → hit (id_eq (drawn_id s.tx (s.made + k)) x) + times x (drawn_ids s.tx n) ≡ times x (drawn_ids s.tx (suc n))
 new-id s x k n e =

@@ -103,7 +103,6 @@ new-weight : (w : Item → ℕ) (s : Site) (currency from : ℕ) (amounts : List
 new-weight w s currency from [] = refl
 new-weight w s currency from (n ∷ ns) = let rest = new-weight w s currency (from + 1) ns in omega (arith, rest)
 
-
 new-money : (c : ℕ) (s : Site) (currency from : ℕ) (amounts : List ℕ) → items_weight (money c) (new_coins s currency from amounts) ≡ part (currency == c) (sum amounts)
 new-money c s currency from [] = sym (part-zero (currency == c))
 new-money c s currency from (n ∷ ns) =

@@ -122,78 +122,65 @@ module _ (w : Item → ℕ) where
   agrees-here : (t : Transaction) (n : ℕ) (i : Input) (is : List Input) → Agrees t n (i ∷ is) → slice_get t.inputs n ≡ Some i
   agrees-here t n i is agrees = let same : n ≡ n + 0 = omega arith in ap (slice_get t.inputs) same ∙ agrees 0
 
-  -- what is known at input n, whose slots begin here
-  record At (t : Transaction) (first whole : List Slot) (placed : List Placed) (n : ℕ) (is : List Input) (os : List Object) (slots : List Slot) : Type 0 where
+  abbrev slot_at : ℕ → Value → Slot
+  slot_at n v = record { place = input n; value = Some v }
+
+  -- what is known at input n, whose first slots and present slots begin here
+  record At (t : Transaction) (first whole : List Slot) (placed : List Placed) (n : ℕ) (is : List Input) (firsts slots : List Slot) : Type 0 where
     agrees : Agrees t n is
-    firsts : Behind first n (input_slots n is os)
+    before : Behind first n firsts
     behind : Behind whole n slots
-    stands : Stands (map (λ (s : Slot). s.place) (input_slots n is os)) slots
+    stands : Stands (map (λ (s : Slot). s.place) firsts) slots
     good : Every (Good t first placed) slots
     used : list_any is_unused slots ≡ false
 
-  inputs-weight : (t : Transaction) (first whole : List Slot) (placed : List Placed) (n : ℕ) (is : List Input) (os : List Object) (slots : List Slot) → At t first whole placed n is os slots → slots_weight w slots ≡ places_weight whole (written_inputs n is os) + unwritten is os
+  next : (t : Transaction) (first whole : List Slot) (placed : List Placed) (n : ℕ) (i : Input) (is : List Input) (v : Value) (firsts : List Slot) (s : Slot) (slots : List Slot) → At t first whole placed n (i ∷ is) (slot_at n v ∷ firsts) (s ∷ slots) → At t first whole placed (suc n) is firsts slots
+  next t first whole placed n i is v firsts s slots at = record {
+    agrees = agrees-next t n i is at.agrees;
+    before = behind-next first n (slot_at n v) firsts refl at.before;
+    behind = behind-next whole n s slots at.stands.0 at.behind;
+    stands = at.stands.1;
+    good = at.good.1;
+    used = or-second (is_unused s) (list_any is_unused slots) at.used;
+  }
+
+  at-pure : (t : Transaction) (first whole : List Slot) (placed : List Placed) (n : ℕ) (is : List Input) (bytes : List ℕ) (firsts : List Slot) (s : Slot) (slots : List Slot) → At t first whole placed n is (slot_at n (pure bytes) ∷ firsts) (s ∷ slots) → value_weight w s.value ≡ 0
+  at-pure t first whole placed n is bytes firsts s slots at = pure-place t first placed n bytes s.value (behind-here first n (slot_at n (pure bytes)) firsts refl at.before) (subst (λ (p : Place). Good t first placed p s.value) at.stands.0 at.good.0)
+
+  at-written : (t : Transaction) (first whole : List Slot) (placed : List Placed) (n : ℕ) (is : List Input) (v : Value) (firsts : List Slot) (s : Slot) (slots : List Slot) → At t first whole placed n is (slot_at n v ∷ firsts) (s ∷ slots) → value_weight w (value_in (input n) whole) ≡ value_weight w s.value
+  at-written t first whole placed n is v firsts s slots at = ap (value_weight w) (behind-here whole n s slots at.stands.0 at.behind)
+
+  at-read : (t : Transaction) (first whole : List Slot) (placed : List Placed) (n : ℕ) (i : Input) (is : List Input) (item : Item) (firsts : List Slot) (s : Slot) (slots : List Slot) → is_read_only (Some i) ≡ true → is_common (Some i) ≡ true → At t first whole placed n (i ∷ is) (slot_at n (object item) ∷ firsts) (s ∷ slots) → value_weight w s.value ≡ w item
+  at-read t first whole placed n i is item firsts s slots frozen common at = read-place t first placed n i item s.value (agrees-here t n i is at.agrees) frozen common (behind-here first n (slot_at n (object item)) firsts refl at.before) (subst (λ (p : Place). Good t first placed p s.value) at.stands.0 at.good.0)
+
+  inputs-weight : (t : Transaction) (first whole : List Slot) (placed : List Placed) (n : ℕ) (is : List Input) (os : List Object) (slots : List Slot) → At t first whole placed n is (input_slots n is os) slots → slots_weight w slots ≡ places_weight whole (written_inputs n is os) + unwritten is os
   inputs-weight t first whole placed n [] os slots at = results-none slots at.stands at.used
   inputs-weight t first whole placed n (inputs.Pure bytes ∷ is) os [] at = absurd at.stands
   inputs-weight t first whole placed n (inputs.Pure bytes ∷ is) os (s ∷ slots) at =
-      let here : value_weight w s.value ≡ 0 = pure-place t first placed n bytes s.value (behind-here first n (record { place = input n; value = Some (pure bytes) }) (input_slots (suc n) is os) refl at.firsts) (subst (λ (p : Place). Good t first placed p s.value) at.stands.0 at.good.0) in
-      let rest = inputs-weight t first whole placed (suc n) is os slots (record {
-        agrees = agrees-next t n (inputs.Pure bytes) is at.agrees;
-        firsts = behind-next first n (record { place = input n; value = Some (pure bytes) }) (input_slots (suc n) is os) refl at.firsts;
-        behind = behind-next whole n s slots at.stands.0 at.behind;
-        stands = at.stands.1;
-        good = at.good.1;
-        used = or-second (is_unused s) (list_any is_unused slots) at.used;
-      }) in
+      let here = at-pure t first whole placed n (inputs.Pure bytes ∷ is) bytes (input_slots (suc n) is os) s slots at in
+      let rest = inputs-weight t first whole placed (suc n) is os slots (next t first whole placed n (inputs.Pure bytes) is (pure bytes) (input_slots (suc n) is os) s slots at) in
       omega (arith, here, rest)
   inputs-weight t first whole placed n (inputs.Owned r ∷ is) [] slots at = results-none slots at.stands at.used
   inputs-weight t first whole placed n (inputs.Owned r ∷ is) (o ∷ os) [] at = absurd at.stands
   inputs-weight t first whole placed n (inputs.Owned r ∷ is) (o ∷ os) (s ∷ slots) at =
-      let here = ap (value_weight w) (behind-here whole n s slots at.stands.0 at.behind) in
-      let rest = inputs-weight t first whole placed (suc n) is os slots (record {
-        agrees = agrees-next t n (inputs.Owned r) is at.agrees;
-        firsts = behind-next first n (record { place = input n; value = Some (object (item_of o)) }) (input_slots (suc n) is os) refl at.firsts;
-        behind = behind-next whole n s slots at.stands.0 at.behind;
-        stands = at.stands.1;
-        good = at.good.1;
-        used = or-second (is_unused s) (list_any is_unused slots) at.used;
-      }) in
+      let here = at-written t first whole placed n (inputs.Owned r ∷ is) (object (item_of o)) (input_slots (suc n) is os) s slots at in
+      let rest = inputs-weight t first whole placed (suc n) is os slots (next t first whole placed n (inputs.Owned r) is (object (item_of o)) (input_slots (suc n) is os) s slots at) in
       omega (arith, here, rest)
   inputs-weight t first whole placed n (inputs.Immutable r ∷ is) [] slots at = results-none slots at.stands at.used
   inputs-weight t first whole placed n (inputs.Immutable r ∷ is) (o ∷ os) [] at = absurd at.stands
   inputs-weight t first whole placed n (inputs.Immutable r ∷ is) (o ∷ os) (s ∷ slots) at =
-      let here = read-place t first placed n (inputs.Immutable r) (item_of o) s.value (agrees-here t n (inputs.Immutable r) is at.agrees) refl refl (behind-here first n (record { place = input n; value = Some (object (item_of o)) }) (input_slots (suc n) is os) refl at.firsts) (subst (λ (p : Place). Good t first placed p s.value) at.stands.0 at.good.0) in
-      let rest = inputs-weight t first whole placed (suc n) is os slots (record {
-        agrees = agrees-next t n (inputs.Immutable r) is at.agrees;
-        firsts = behind-next first n (record { place = input n; value = Some (object (item_of o)) }) (input_slots (suc n) is os) refl at.firsts;
-        behind = behind-next whole n s slots at.stands.0 at.behind;
-        stands = at.stands.1;
-        good = at.good.1;
-        used = or-second (is_unused s) (list_any is_unused slots) at.used;
-      }) in
+      let here = at-read t first whole placed n (inputs.Immutable r) is (item_of o) (input_slots (suc n) is os) s slots refl refl at in
+      let rest = inputs-weight t first whole placed (suc n) is os slots (next t first whole placed n (inputs.Immutable r) is (object (item_of o)) (input_slots (suc n) is os) s slots at) in
       omega (arith, here, rest)
   inputs-weight t first whole placed n (inputs.Shared id initial mutable ∷ is) [] slots at = results-none slots at.stands at.used
   inputs-weight t first whole placed n (inputs.Shared id initial mutable ∷ is) (o ∷ os) [] at = absurd at.stands
   inputs-weight t first whole placed n (inputs.Shared id initial true ∷ is) (o ∷ os) (s ∷ slots) at =
-      let here = ap (value_weight w) (behind-here whole n s slots at.stands.0 at.behind) in
-      let rest = inputs-weight t first whole placed (suc n) is os slots (record {
-        agrees = agrees-next t n (inputs.Shared id initial true) is at.agrees;
-        firsts = behind-next first n (record { place = input n; value = Some (object (item_of o)) }) (input_slots (suc n) is os) refl at.firsts;
-        behind = behind-next whole n s slots at.stands.0 at.behind;
-        stands = at.stands.1;
-        good = at.good.1;
-        used = or-second (is_unused s) (list_any is_unused slots) at.used;
-      }) in
+      let here = at-written t first whole placed n (inputs.Shared id initial true ∷ is) (object (item_of o)) (input_slots (suc n) is os) s slots at in
+      let rest = inputs-weight t first whole placed (suc n) is os slots (next t first whole placed n (inputs.Shared id initial true) is (object (item_of o)) (input_slots (suc n) is os) s slots at) in
       omega (arith, here, rest)
   inputs-weight t first whole placed n (inputs.Shared id initial false ∷ is) (o ∷ os) (s ∷ slots) at =
-      let here = read-place t first placed n (inputs.Shared id initial false) (item_of o) s.value (agrees-here t n (inputs.Shared id initial false) is at.agrees) refl refl (behind-here first n (record { place = input n; value = Some (object (item_of o)) }) (input_slots (suc n) is os) refl at.firsts) (subst (λ (p : Place). Good t first placed p s.value) at.stands.0 at.good.0) in
-      let rest = inputs-weight t first whole placed (suc n) is os slots (record {
-        agrees = agrees-next t n (inputs.Shared id initial false) is at.agrees;
-        firsts = behind-next first n (record { place = input n; value = Some (object (item_of o)) }) (input_slots (suc n) is os) refl at.firsts;
-        behind = behind-next whole n s slots at.stands.0 at.behind;
-        stands = at.stands.1;
-        good = at.good.1;
-        used = or-second (is_unused s) (list_any is_unused slots) at.used;
-      }) in
+      let here = at-read t first whole placed n (inputs.Shared id initial false) is (item_of o) (input_slots (suc n) is os) s slots refl refl at in
+      let rest = inputs-weight t first whole placed (suc n) is os slots (next t first whole placed n (inputs.Shared id initial false) is (object (item_of o)) (input_slots (suc n) is os) s slots at) in
       omega (arith, here, rest)
 
   -- the same of the whole block
@@ -207,7 +194,7 @@ module _ (w : Item → ℕ) where
           let same = ap (value_weight w) here in
           let rest = inputs-weight t (first_slots t (coin ∷ os)) (s ∷ slots) b.placed 0 t.inputs os slots (record {
             agrees = λ k. let zero_more : 0 + k ≡ k = omega arith in ap (slice_get t.inputs) zero_more;
-            firsts = first-behind t coin os;
+            before = first-behind t coin os;
             behind = λ m above. rw stands.0 refl;
             stands = stands.1;
             good = good.1;

@@ -1,7 +1,7 @@
 -- The journals of a run: the first byte of a record says which it is.
 use Rattle.std.specs.Prelude.{◌≡◌, ℕ, List, [], ◌∷◌, map, Option, Some, None}
 use Rattle.world_spec.specs.Keyed.{keyed, program_secret}
-use Rattle.world_spec.specs.Setting.{Setting, setting_of}
+use Rattle.world_spec.specs.Setting.{setting_of}
 use Rattle.world_spec.specs.Run.{journal}
 use Rattle.rows_law.specs.RunSplitIsReported.{lines, events}
 

@@ -24,3 +24,6 @@ pub mod TheLastVersionIsDropped
 pub mod BlocksHaveLimits
 pub mod JournalsAreKept
 pub mod BadRecordsAreNamed
+pub mod RunFourAreSummedUp
+pub mod BytesHaveALimit
+pub mod ALongBlockRuns

@@ -1,6 +1,5 @@
 -- The admission of a transaction at the limit of versions.
-use Rattle.std.specs.Prelude.{◌≡◌, ℕ, List, [], ◌∷◌, map, None}
-use Rattle.digest_core.specs.declared.Digest.{Digest}
+use Rattle.std.specs.Prelude.{◌≡◌, ℕ, true, [], ◌∷◌, map, None}
 use Rattle.chain_types.specs.declared.objects.Object.{Object}
 use Rattle.chain_types.specs.declared.objects.Content.TheVariants as content
 use Rattle.chain_types.specs.declared.objects.Owner.TheVariants as owner
@@ -18,7 +17,7 @@ abbrev pub counter : ℕ → Object
 counter version = record { id = some_id 4; version = version; owner = owner.Shared 1; content = content.Counter 5 }
 
 abbrev pub adds : Transaction
-adds = transaction_of 2000 (inputs.Shared (some_id 4) 1 true ∷ []) (command.Call 4 [] ∷ [])
+adds = transaction_of 2000 (inputs.Shared (some_id 4) 1 true ∷ []) (command.Call 4 (argument.Input 0 ∷ []) ∷ [])
 
 abbrev pub entry : Held
 entry = record { digest = transaction_digest adds; cert = record { tx = adds; origins = None ∷ None ∷ []; seals = [] } }

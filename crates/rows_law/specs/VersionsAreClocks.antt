@@ -1,5 +1,5 @@
 -- The version at which a transaction writes.
-use Rattle.std.specs.Prelude.{◌≡◌, ℕ, [], ◌∷◌}
+use Rattle.std.specs.Prelude.{◌≡◌, [], ◌∷◌}
 use Rattle.chain_types.specs.Digests.{lamport_version}
 
 pub record VersionsAreClocks : Type 0 where

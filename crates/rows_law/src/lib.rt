@@ -26,6 +26,9 @@ ghost use Rattle.rows_law.specs.TheLastVersionIsDropped.{TheLastVersionIsDropped
 ghost use Rattle.rows_law.specs.BlocksHaveLimits.{BlocksHaveLimits};
 ghost use Rattle.rows_law.specs.JournalsAreKept.{JournalsAreKept};
 ghost use Rattle.rows_law.specs.BadRecordsAreNamed.{BadRecordsAreNamed};
+ghost use Rattle.rows_law.specs.RunFourAreSummedUp.{FourAreSummedUp};
+ghost use Rattle.rows_law.specs.BytesHaveALimit.{BytesHaveALimit};
+ghost use Rattle.rows_law.specs.ALongBlockRuns.{ALongBlockRuns};
 
 /// Three votes make a certificate, and a member executes and shows it.
 pub fn split_is_reported()
@@ -145,4 +148,19 @@ pub fn journals_are_kept()
 /// A record that is none, or that may not stand there, has its fault and its place.
 pub fn bad_records_are_named()
     ensures { BadRecordsAreNamed }
+{}
+
+/// The summary of the made schedule of four transactions.
+pub fn four_are_summed_up()
+    ensures { FourAreSummedUp }
+{}
+
+/// A transaction has at most 131,072 bytes.
+pub fn bytes_have_a_limit()
+    ensures { BytesHaveALimit }
+{}
+
+/// A block of 128 commands makes 64 counters and freezes each.
+pub fn a_long_block_runs()
+    ensures { ALongBlockRuns }
 {}

@@ -1,1 +1,3 @@
-mod Staying
+pub mod Staying
+pub mod Moving
+mod Following

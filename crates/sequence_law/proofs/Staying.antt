@@ -2,11 +2,11 @@
 use Rattle.std.proofs.Common.{refl, ap, subst, ◌∙◌}
 use Rattle.std.specs.Prelude.{◌≡◌, ℕ, Bool, true, false, cond, ◌||◌, List, [], ◌∷◌, ◌++◌, map, fold, Option, Some, None}
 use Rattle.std.specs.FinMap.{get, get-insert, get-remove, nat_cmp-IsAntisymmetric, slice_cmp-IsAntisymmetric}
-use Rattle.std.specs.Ordering.{nat_cmp, is_eq, eq_by_cmp}
+use Rattle.std.specs.Ordering.{is_eq, eq_by_cmp}
 use Rattle.std.specs.declared.cmp.Ordering.{Ordering}
 use Rattle.std.specs.declared.cmp.Ordering.TheVariants.{Less, Equal, Greater}
 use Rattle.std.specs.Cmp.{IsTotalOrder}
-use Rattle.std.specs.Cmp.Lexicographic.{slice_cmp, nat_list_cmp_total}
+use Rattle.std.specs.Cmp.Lexicographic.{nat_list_cmp_total}
 use Rattle.digest_core.specs.declared.Digest.{Digest}
 use Rattle.chain_types.specs.declared.objects.ObjectId.{ObjectId}
 use Rattle.chain_types.specs.declared.objects.Object.{Object}
@@ -28,7 +28,7 @@ use Rattle.sequence_law.specs.Untouched.{NamesNot, DrawsNot}
 
 -- ---- the order of ids
 
-ids-total : IsTotalOrder id_cmp
+pub ids-total : IsTotalOrder id_cmp
 ids-total = record {
   antisymm = λ x y. nat_list_cmp_total.antisymm x.0.0 y.0.0;
   trans = λ x y z. nat_list_cmp_total.trans x.0.0 y.0.0 z.0.0;
@@ -40,12 +40,15 @@ is-equal Less e = absurd (cc)
 is-equal Equal e = refl
 is-equal Greater e = absurd (cc)
 
-ids-tie : (a b : ObjectId) → eq_by_cmp id_cmp a b ≡ true → a ≡ b
-ids-tie a b e =
-    let bytes : a.0.0 ≡ b.0.0 = slice_cmp-IsAntisymmetric nat_cmp-IsAntisymmetric a.0.0 b.0.0 (is-equal (slice_cmp nat_cmp a.0.0 b.0.0) e) in
+pub ids-antisymmetric : (a b : ObjectId) → id_cmp a b ≡ Equal → a ≡ b
+ids-antisymmetric a b e =
+    let bytes : a.0.0 ≡ b.0.0 = slice_cmp-IsAntisymmetric nat_cmp-IsAntisymmetric a.0.0 b.0.0 e in
     ap (λ (x : List ℕ). let d : Digest = record { 0 = x } in let id : ObjectId = record { 0 = d } in id) bytes
 
-ids-apart : (a b : ObjectId) → id_eq a b ≡ false → eq_by_cmp id_cmp a b ≡ false
+ids-tie : (a b : ObjectId) → eq_by_cmp id_cmp a b ≡ true → a ≡ b
+ids-tie a b e = ids-antisymmetric a b (is-equal (id_cmp a b) e)
+
+pub ids-apart : (a b : ObjectId) → id_eq a b ≡ false → eq_by_cmp id_cmp a b ≡ false
 ids-apart a b e = go (eq_by_cmp id_cmp a b) refl
   where
     go : (x : Bool) → eq_by_cmp id_cmp a b ≡ x → x ≡ false

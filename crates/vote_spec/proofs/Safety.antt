@@ -8,14 +8,14 @@ use Rattle.chain_types.specs.declared.objects.Object.{Object}
 use Rattle.chain_types.specs.declared.objects.ObjectKey.{ObjectKey}
 use Rattle.chain_types.specs.declared.refusals.DecideRefusal.{DecideRefusal}
 use Rattle.chain_types.specs.Digests.{consumed_keys}
-use Rattle.lock_table.specs.Locks.{Locks, locked_by, other_lock, with_locks}
+use Rattle.lock_table.specs.Locks.{locked_by, with_locks}
 use Rattle.lock_table.proofs.Locking as locking
 use Rattle.schedule_text.specs.declared.words.Event.{Event}
 use Rattle.schedule_text.specs.declared.words.Event.TheVariants as event
 use Rattle.schedule_text.specs.declared.words.RefWord.{RefWord}
 use Rattle.schedule_text.specs.declared.words.Setup.{Setup}
 use Rattle.vote_spec.specs.declared.answers.Voted.{Voted}
-use Rattle.vote_spec.specs.Votes.{Voter, after_fresh, after_vote, fresh_voter, has_voted, vote_answer}
+use Rattle.vote_spec.specs.Votes.{Voter, after_vote, fresh_voter, has_voted, vote_answer}
 use Rattle.name_map.specs.Named.{named}
 use Rattle.vote_spec.specs.declared.answers.Made.{Made}
 use Rattle.vote_spec.specs.Run.{Step, World, asking, is_member, making, new_world, nothing, object_named, objects_of, recipient_of, step, transfers_gas}

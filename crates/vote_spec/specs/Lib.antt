@@ -1,3 +1,4 @@
 pub mod Votes
 pub mod Run
 pub mod Safety
+pub mod Worked

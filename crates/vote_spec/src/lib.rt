@@ -9,4 +9,4 @@ mod answers;
 mod law;
 
 pub use answers::{Made, Voted};
-pub use law::never_twice;
+pub use law::{never_twice, second_transfer_is_locked};

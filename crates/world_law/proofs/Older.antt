@@ -55,8 +55,8 @@ still-allowed r m record_as.Turn e = e
 still-allowed r m (record_as.Ran2 items) e =
     let front = and-first (is_ok (run_answer r m) && is_some_list items) (list_eq ran_item_eq items (ran_items m)) e in
     both-true (is_ok (run_answer r m) && is_some_list (map tx_of items)) (list_eq digest_eq (map tx_of items) (map tx_of (ran_items m)))
-      (both-true (is_ok (run_answer r m)) (is_some_list (map tx_of items)) (and-first (is_ok (run_answer r m)) (is_some_list items) front) (some-map items (and-second (is_ok (run_answer r m)) (is_some_list items) front)))
-      (same-txs items (ran_items m) (and-second (is_ok (run_answer r m) && is_some_list items) (list_eq ran_item_eq items (ran_items m)) e))
+    (both-true (is_ok (run_answer r m)) (is_some_list (map tx_of items)) (and-first (is_ok (run_answer r m)) (is_some_list items) front) (some-map items (and-second (is_ok (run_answer r m)) (is_some_list items) front)))
+    (same-txs items (ran_items m) (and-second (is_ok (run_answer r m) && is_some_list items) (list_eq ran_item_eq items (ran_items m)) e))
 
 older-from : (r : Rules) (records : List Record) (m last : Member) (place : ℕ) → replayed_from r m place records ≡ Ok last → replayed_from r m place (map as_older records) ≡ Ok last
 older-from r [] m last place e = e

@@ -72,6 +72,7 @@ same-world s n (e ∷ events) w =
 
 pub change_nothing : (s : Setting) (events : List Event) (n : ℕ) → (report s (map (with_workers n) events) ≡ report s events) × ((m : ℕ) → journal s (map (with_workers n) events) m ≡ journal s events m)
 unfolding report journal world_after
-change_nothing s events n =
-    (same-report s n events (new_world s),
-     λ m. ap (λ (w : World). map journals.journal_record.spell (records_of (slice_get w.seats m))) (same-world s n events (new_world s)))
+change_nothing s events n = (
+  same-report s n events (new_world s),
+  λ m. ap (λ (w : World). map journals.journal_record.spell (records_of (slice_get w.seats m))) (same-world s n events (new_world s)),
+)

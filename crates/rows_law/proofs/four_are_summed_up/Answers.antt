@@ -1,0 +1,48 @@
+use Rattle.std.proofs.Common.{refl}
+use Rattle.std.specs.Fmt.{digits}
+use Rattle.sha2.specs.Sha256.{sha256, digest_bytes, hash_after, compress, rounds, schedule, first_words}
+use Rattle.wire_bcs.specs.Digests.{digest}
+use Rattle.wire_bcs.specs.Items.{front_read, number_spell, number_read, bool_spell, bool_read, bytes_spell, bytes_read, text_read}
+use Rattle.wire_bcs.specs.Shapes.{seq_read, seq_spell, option_read, option_spell}
+use Rattle.wire_bcs.specs.Uleb.{uleb, uleb_below}
+use Rattle.wire_bcs.specs.Whole.{whole}
+use Rattle.digest_core.specs.Tagged.{tagged_digest, created_id_of, genesis_id_of, address_of_name}
+use Rattle.chain_types.specs.Digests.{digest_of_object, transaction_digest, consumed_keys, objects_of, lamport_version}
+use Rattle.chain_types.specs.Objects.{object_id, address, object_ref, owner, kind, content, object}
+use Rattle.chain_types.specs.Transactions.{input, argument, command, transaction, signed}
+use Rattle.quorum_core.specs.Signers.{signer}
+use Rattle.chain_messages.specs.Messages.{statement, sealed, member_seal, certificate, entry}
+use Rattle.effects_core.specs.Effects.{status, written, effects, digest_of_effects}
+use Rattle.checkpoint_core.specs.Checkpoints.{item, checkpoint, digest_of_checkpoint}
+use Rattle.journal_core.specs.Records.{ran_item, journal_record}
+use Rattle.chain_spec.specs.Certificates.{read_signed, read_certificate, read_entry, cert_refusal}
+use Rattle.chain_spec.specs.Committee.{weight_of, total_of}
+use Rattle.chain_spec.specs.Keys.{fits, currency_sum}
+use Rattle.chain_spec.specs.Shape.{shape_fault}
+use Rattle.block_spec.specs.Commands.{command_step}
+use Rattle.block_spec.specs.Execution.{outcome, execution}
+use Rattle.block_spec.specs.Natives.{mode_of, native_gives}
+use Rattle.member_spec.specs.Admission.{current, admit, entered, passed_mark, pending_on, deferred_on, assigned_of}
+use Rattle.member_spec.specs.Calls.{vote_answer, hold_answer, see_answer, run_answer, close_answer, end_answer, turn_answer, ack_answer, due}
+use Rattle.member_spec.specs.Checkpoints.{checkpoint_behind}
+use Rattle.member_spec.specs.Member.{built, fork_of, after, state}
+use Rattle.member_spec.specs.Replay.{is_allowed, replayed}
+use Rattle.member_spec.specs.Rounds.{wants_of, present, ready, round_of, rounds as rounds_of_rounds, left}
+use Rattle.member_spec.specs.Sequence.{what_of, with_entry, saw, seen, seen_what}
+use Rattle.member_spec.specs.Sequential.{map_of, fold_one, fold_all}
+use Rattle.member_spec.specs.Versions.{versions, live, live_list}
+use Rattle.member_spec.specs.Votes.{vote_refusal, vote_origins}
+use Rattle.world_spec.specs.Assumptions.{delivered, delivered_ends, asked, all_delivered, all_formed, all_transactions}
+use Rattle.world_spec.specs.Keyed.{keyed_seal}
+use Rattle.world_spec.specs.Making.{made_by_line}
+use Rattle.world_spec.specs.Openings.{opening_at}
+use Rattle.world_spec.specs.Report.{acks_collected, lines_of}
+use Rattle.world_spec.specs.Run.{report, world_after, journal, sums_of, summary, report_of}
+use Rattle.world_spec.specs.Setting.{setting_of}
+use Rattle.world_spec.specs.Step.{votes_collected, happens}
+use Rattle.world_spec.specs.World.{new_world, stated, reached, called_in}
+use Rattle.rows_law.proofs.four_are_summed_up.Goals as goal
+
+pub returns : goal.returns
+unfolding digits sha256 digest_bytes hash_after compress rounds schedule first_words digest front_read number_spell number_read bool_spell bool_read bytes_spell bytes_read text_read seq_read seq_spell option_read option_spell uleb uleb_below whole tagged_digest created_id_of genesis_id_of address_of_name digest_of_object transaction_digest consumed_keys objects_of lamport_version object_id address object_ref owner kind content object input argument command transaction signed signer statement sealed member_seal certificate entry status written effects digest_of_effects item checkpoint digest_of_checkpoint ran_item journal_record read_signed read_certificate read_entry cert_refusal weight_of total_of fits currency_sum shape_fault command_step outcome execution mode_of native_gives current admit entered passed_mark pending_on deferred_on assigned_of vote_answer hold_answer see_answer run_answer close_answer end_answer turn_answer ack_answer due checkpoint_behind built fork_of after state is_allowed replayed wants_of present ready round_of rounds_of_rounds left what_of with_entry saw seen seen_what map_of fold_one fold_all versions live live_list vote_refusal vote_origins delivered delivered_ends asked all_delivered all_formed all_transactions keyed_seal made_by_line opening_at acks_collected lines_of report world_after journal sums_of summary report_of setting_of votes_collected happens new_world stated reached called_in
+returns c = refl
