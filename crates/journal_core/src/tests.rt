@@ -136,25 +136,40 @@ fn vote_bytes(alloc: Global) -> Result<Vec<u8>, AllocError> {
     joined(alloc, [[0; 123].as_slice(), [1, 0].as_slice()].as_slice())
 }
 
+/// Whether it is a vote on a transaction without commands, with one origin, which is none.
+fn is_plain_vote(record: &Record) -> bool {
+    match record {
+        Record::Vote { tx, origins } => {
+            tx.commands.is_empty() && origins.as_slice() == [None].as_slice()
+        }
+        _ => false,
+    }
+}
+
+/// Whether it is a held certificate without origins and seals.
+fn is_plain_hold(record: &Record) -> bool {
+    match record {
+        Record::Hold(cert) => cert.origins.is_empty() && cert.seals.is_empty(),
+        _ => false,
+    }
+}
+
 #[test]
 fn reads_records_of_votes(rt: HostRuntime) -> Result<(), Fail> {
     let alloc = rt.alloc();
-    let good = vote_bytes(alloc)?;
-    match decode_record(alloc, good.as_slice())? {
-        Record::Vote { tx, origins } => {
-            assert!(rt; tx.commands.is_empty());
-            assert_eq!(rt; origins.as_slice(), [None].as_slice());
-        }
-        _ => assert!(rt; false),
-    }
-    // A held certificate with no origins and no seals.
+    let vote = vote_bytes(alloc)?;
+    assert!(rt; is_plain_vote(&decode_record(alloc, vote.as_slice())?));
+    assert!(rt; is_spelling::<Record>(alloc, vote.as_slice()));
     let hold = joined(alloc, [[1].as_slice(), [0; 124].as_slice()].as_slice())?;
+    assert!(rt; is_plain_hold(&decode_record(alloc, hold.as_slice())?));
     assert!(rt; is_spelling::<Record>(alloc, hold.as_slice()));
-    match decode_record(alloc, hold.as_slice())? {
-        Record::Hold(cert) => assert!(rt; cert.origins.is_empty() && cert.seals.is_empty()),
-        _ => assert!(rt; false),
-    }
-    assert!(rt; is_spelling::<Record>(alloc, good.as_slice()));
+    Ok(())
+}
+
+#[test]
+fn refuses_records_of_votes(rt: HostRuntime) -> Result<(), Fail> {
+    let alloc = rt.alloc();
+    let good = vote_bytes(alloc)?;
     let wrong = first_wrong::<Record>(
         alloc,
         good.as_slice(),
