@@ -1,5 +1,5 @@
 -- Which calls of an object in memory are to fail. Source: this profile.
-use Rattle.std.specs.Prelude.{ℕ, ◌+◌, ◌-◌, ◌^◌, ◌==◌, min, Bool}
+use Rattle.std.specs.Prelude.{ℕ, ◌+◌, ◌-◌, ◌^◌, ◌==◌, min, Bool, if◌then◌else◌}
 use Rattle.std.specs.List.{list_any}
 use Rattle.outside.specs.declared.turns.Turns.{Turns}
 
@@ -14,3 +14,7 @@ fails_next turns = list_any (λ n. n == next_number turns) turns.failing
 -- one call was made
 abbrev pub after_call : Turns → Turns
 after_call turns = record turns { calls = next_number turns }
+
+-- the count of faults behind a call: one more where it was to fail, as far as a u64 counts
+abbrev pub faults_after : Turns → ℕ → ℕ
+faults_after turns faults = if fails_next turns then min (faults + 1) (2 ^ 64 - 1) else faults

@@ -3,7 +3,7 @@
 ghost use Rattle.std.specs.Prelude.{◌≡◌, ℕ, ◌<◌, ◌^◌, [], length, replicate, IfOk, OnErr, Option, Some, IsErrOf, true, false};
 ghost use Rattle.outside.specs.Causes.{KeepCause};
 ghost use Rattle.outside.specs.Lists.{Journals, Appended, KeepsJournals, IsRecordAt, IsCountOf, HasMembers, journal_of};
-ghost use Rattle.outside.specs.Turns.{after_call, fails_next};
+ghost use Rattle.outside.specs.Turns.{after_call, fails_next, faults_after};
 ghost use Rattle.outside.specs.declared.faults.OutFault.TheVariants as fault;
 
 use crate::faults::OutFault;
@@ -125,6 +125,7 @@ impl Keeper for MemKeeper {
         ensures width { length self.new.lists ≡ length self.old.lists }
         ensures cause { KeepCause self.old.faults self.new.faults result }
         ensures turns { self.new.turns ≡ after_call self.old.turns }
+        ensures counts { self.new.faults ≡ faults_after self.old.turns self.old.faults }
         ensures fails { fails_next self.old.turns ≡ true → IsErrOf result fault.Failed }
         ensures otherwise { fails_next self.old.turns ≡ false → IsErrOf result fault.Failed → ⊥ }
         ensures kept { OnErr result (self.new.lists ≡ self.old.lists) }
@@ -160,6 +161,7 @@ impl Keeper for MemKeeper {
         ensures width { length self.new.lists ≡ length self.old.lists }
         ensures cause { KeepCause self.old.faults self.new.faults result }
         ensures turns { self.new.turns ≡ after_call self.old.turns }
+        ensures counts { self.new.faults ≡ faults_after self.old.turns self.old.faults }
         ensures fails { fails_next self.old.turns ≡ true → IsErrOf result fault.Failed }
         ensures otherwise { fails_next self.old.turns ≡ false → IsErrOf result fault.Failed → ⊥ }
     {

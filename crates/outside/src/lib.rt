@@ -17,3 +17,6 @@ pub use keeper::{Keeper, MemKeeper};
 pub use sink::{MemSink, Sink};
 pub use source::{FreeSource, MemSource, Source};
 pub use turns::Turns;
+
+#[cfg(test)]
+mod tests;

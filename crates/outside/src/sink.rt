@@ -3,7 +3,7 @@
 ghost use Rattle.std.specs.Prelude.{◌≡◌, ℕ, ◌<◌, ◌≤◌, List, [], length, IfOk, Option, Some, IsErrOf, true, false};
 ghost use Rattle.std.specs.Io.KnownBytes.{WriteAppends};
 ghost use Rattle.outside.specs.Causes.{WriteCause};
-ghost use Rattle.outside.specs.Turns.{after_call, fails_next};
+ghost use Rattle.outside.specs.Turns.{after_call, fails_next, faults_after};
 ghost use Rattle.outside.specs.declared.faults.OutFault.TheVariants as fault;
 
 use crate::faults::OutFault;
@@ -79,6 +79,7 @@ impl Sink for MemSink {
         ensures cause { WriteCause self.old.faults self.new.faults result }
         ensures whole { IfOk result (λ n. n ≡ length bytes.now) }
         ensures turns { self.new.turns ≡ after_call self.old.turns }
+        ensures counts { self.new.faults ≡ faults_after self.old.turns self.old.faults }
         ensures fails { fails_next self.old.turns ≡ true → IsErrOf result fault.Failed }
         ensures otherwise { fails_next self.old.turns ≡ false → IsErrOf result fault.Failed → ⊥ }
     {

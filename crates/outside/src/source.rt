@@ -3,7 +3,7 @@
 ghost use Rattle.std.specs.Prelude.{◌≡◌, ℕ, ◌+◌, ◌<◌, ◌≤◌, ◌++◌, List, [], length, take, drop, IsErr, IfOk, Option, Some, is_err};
 ghost use Rattle.std.specs.Io.KnownBytes.{ReadConsumes};
 ghost use Rattle.outside.specs.Causes.{Rose};
-ghost use Rattle.outside.specs.Turns.{after_call, fails_next};
+ghost use Rattle.outside.specs.Turns.{after_call, fails_next, faults_after};
 
 use crate::faults::Failed;
 use crate::turns::Turns;
@@ -105,6 +105,7 @@ impl Source for MemSource {
         ensures failed { IsErr result → Rose self.old.faults self.new.faults }
         ensures exactly { is_err result ≡ fails_next self.old.turns }
         ensures turns { self.new.turns ≡ after_call self.old.turns }
+        ensures counts { self.new.faults ≡ faults_after self.old.turns self.old.faults }
         ensures most { IfOk result (λ n. n ≤ self.old.piece) }
     {
         if self.turns.next_fails() {

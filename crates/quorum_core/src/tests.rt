@@ -1,33 +1,60 @@
 use crate::{Committee, CommitteeRefusal, KeyedSeal, Sealer, Signer};
 use digest_core::Digest;
-use std::alloc::Global;
+use std::alloc::{AllocError, Global};
 use std::test::Fail;
 use wire_bcs::{Unread, Wire, WireFault, decode, encode};
 
-/// Where and why the bytes are no value of the type.
-fn fault_of<T: Wire>(alloc: Global, bytes: &[u8]) -> Option<(u64, u8)> {
-    let read: Result<T, Unread> = decode(alloc, bytes);
-    match read {
-        Err(Unread::Wire(WireFault { at, why })) => Some((at, why)),
-        _ => None,
+/// So many of the good bytes, and then others; where and why these are no value.
+type Refused<'a> = (usize, &'a [u8], u64, u8);
+
+/// The first row that does not hold of the type.
+fn first_wrong<T: Wire>(
+    alloc: Global,
+    good: &[u8],
+    rows: &[Refused],
+) -> Result<Option<usize>, AllocError> {
+    for (row, (kept, others, at, why)) in rows.iter().enumerate() {
+        let mut bytes = Vec::from_slice(alloc, good.get(..*kept).unwrap_or_default())?;
+        bytes.extend_from_slice(others)?;
+        let read: Result<T, Unread> = decode(alloc, bytes.as_slice());
+        let want = WireFault { at: *at, why: *why };
+        if !matches!(read, Err(Unread::Wire(found)) if found == want) {
+            return Ok(Some(row));
+        }
     }
+    Ok(None)
 }
 
 #[test]
 fn reads_signers(rt: HostRuntime) -> Result<(), Fail> {
     let alloc = rt.alloc();
-    assert_eq!(rt;
-        decode(alloc, [0, 2, 1, 0, 0].as_slice()),
-        Ok(Signer::Member(258))
-    );
+    let member = [0, 2, 1, 0, 0];
+    assert_eq!(rt; decode(alloc, member.as_slice()), Ok(Signer::Member(258)));
     let bytes = encode(alloc, &Signer::Member(258))?;
-    assert_eq!(rt; bytes.as_slice(), [0, 2, 1, 0, 0].as_slice());
-    assert_eq!(rt; fault_of::<Signer>(alloc, [2].as_slice()), Some((0, 6)));
-    assert_eq!(rt; fault_of::<Signer>(alloc, [1, 0].as_slice()), Some((1, 1)));
-    assert_eq!(rt;
-        fault_of::<Signer>(alloc, [0, 0, 0, 0, 0, 0].as_slice()),
-        Some((5, 7))
-    );
+    assert_eq!(rt; bytes.as_slice(), member.as_slice());
+    let mut user = Vec::from_slice(alloc, [1].as_slice())?;
+    user.extend_from_slice([9; 32].as_slice())?;
+    let signer = Signer::User(Digest([9; 32]));
+    assert_eq!(rt; decode(alloc, user.as_slice()), Ok(signer));
+    let bytes = encode(alloc, &signer)?;
+    assert_eq!(rt; bytes.as_slice(), user.as_slice());
+    let wrong = first_wrong::<Signer>(
+        alloc,
+        user.as_slice(),
+        [
+            (0, [].as_slice(), 0, 1),
+            (1, [].as_slice(), 1, 1),
+            (32, [].as_slice(), 1, 1),
+            (33, [0].as_slice(), 33, 7),
+            (0, [0, 2, 1].as_slice(), 1, 1),
+            (0, [0, 2, 1, 0, 0, 0].as_slice(), 5, 7),
+            (0, [2].as_slice(), 0, 6),
+            (0, [0x81, 0].as_slice(), 0, 3),
+            (0, [0xff, 0xff, 0xff, 0xff, 0x10].as_slice(), 0, 4),
+        ]
+        .as_slice(),
+    )?;
+    assert_eq!(rt; wrong, None);
     Ok(())
 }
 
