@@ -2,14 +2,13 @@
 -- owner no two of them consume one version.
 use Rattle.std.proofs.Common.{inl, inr, refl, sym, subst, ap, ◌∙◌}
 use Rattle.std.proofs.lemmas.Bool.{eqb-true}
-use Rattle.std.specs.Prelude.{◌≡◌, ◌⊎◌, ℕ, Bool, true, false, cond, not, ◌&&◌, ◌||◌, ◌==◌, ◌+◌, List, [], ◌∷◌, ◌++◌, find, flat_map, slice_get, Option, Some, None, option_map, is_some, Result, Ok, Err, bytes_eq}
+use Rattle.std.specs.Prelude.{◌≡◌, ◌⊎◌, ℕ, Bool, true, false, cond, not, ◌||◌, ◌==◌, ◌+◌, List, [], ◌∷◌, ◌++◌, find, flat_map, slice_get, Option, Some, None, option_map, is_some, Result, Ok, Err, bytes_eq}
 use Rattle.wire_bcs.specs.declared.fault.WireFault.{WireFault}
 use Rattle.digest_core.specs.declared.Digest.{Digest}
 use Rattle.chain_types.specs.Equal.{digest_eq, key_eq}
 use Rattle.chain_types.specs.declared.objects.ObjectId.{ObjectId}
 use Rattle.chain_types.specs.declared.objects.ObjectKey.{ObjectKey}
 use Rattle.chain_types.specs.declared.objects.Object.{Object}
-use Rattle.chain_types.specs.declared.transactions.Transaction.{Transaction}
 use Rattle.chain_types.specs.declared.transactions.SignedTx.{SignedTx}
 use Rattle.chain_types.specs.declared.refusals.CertRefusal.{CertRefusal}
 use Rattle.chain_types.specs.Digests.{transaction_digest, consumed_keys}
@@ -38,10 +37,10 @@ use Rattle.chain_spec.specs.Words.{Has, Each, Along, first_some, first_of, where
 use Rattle.chain_spec.specs.Tests.{has_key}
 use Rattle.chain_spec.specs.Certificates.{Rules, read_signed, read_certificate, read_entry, cert_refusal}
 use Rattle.chain_spec.proofs.ListLemmas.{along-push, and-first, and-second}
-use Rattle.member_spec.specs.Sequence.{Sequence, What, takes, commits, counts, ignores, ignored_or, certificate_cases, end_cases, what_stated, what_read, what_of, held_as}
+use Rattle.member_spec.specs.Sequence.{What, takes, commits, counts, ignores, ignored_or, certificate_cases, end_cases, what_stated, what_read, what_of, held_as}
 use Rattle.member_spec.specs.Checkpoints.{held_of}
 use Rattle.member_spec.specs.Member.{Member, Fork, consumes, fork_at, fork_with, fork_in, fork_of, held_with, after, state}
-use Rattle.member_spec.specs.Calls.{Call, votes, holds, sees, runs, closes, ends, turns, acks, Voted, record_limit, new_hold_cases, new_hold, hold_certificate, hold_read, hold_stopped, hold_answer, see_cases, vote_answer, run_answer, close_answer, turn_answer, kept_vote, vote_record, is_hold_kept, hold_record, see_record, ran_items, ran_record, run_record, close_record, turn_record, due, after_due, called}
+use Rattle.member_spec.specs.Calls.{Call, votes, holds, sees, runs, closes, ends, turns, acks, Voted, new_hold, hold_certificate, hold_read, hold_stopped, hold_answer, see_cases, vote_answer, run_answer, close_answer, turn_answer, kept_vote, vote_record, is_hold_kept, hold_record, see_record, ran_items, ran_record, run_record, close_record, turn_record, due, after_due, called}
 use Rattle.world_spec.specs.Setting.{Setting}
 use Rattle.world_spec.specs.World.{Seat, World, new_world, member_in}
 use Rattle.world_spec.specs.Step.{happens}

@@ -2,7 +2,7 @@
 -- certificate is over a vote that was stated, and what is ordered was formed or stated.
 use Rattle.std.proofs.Common.{inl, inr, refl, sym, subst, ap, ◌∙◌}
 use Rattle.std.proofs.lemmas.Bool.{eqb-true}
-use Rattle.std.specs.Prelude.{◌≡◌, ◌⊎◌, ℕ, zero, suc, Bool, true, false, cond, not, ◌&&◌, ◌==◌, List, [], ◌∷◌, ◌++◌, map, slice_get, slice_set, Option, Some, None, Result, Ok, Err}
+use Rattle.std.specs.Prelude.{◌≡◌, ◌⊎◌, ℕ, zero, suc, Bool, true, false, not, ◌==◌, List, [], ◌∷◌, ◌++◌, map, slice_get, slice_set, Option, Some, None, Result, Ok, Err}
 use Rattle.wire_bcs.specs.declared.fault.WireFault.{WireFault}
 use Rattle.digest_core.specs.declared.Digest.{Digest}
 use Rattle.chain_types.specs.Equal.{digest_eq}
@@ -24,9 +24,9 @@ use Rattle.chain_spec.proofs.ListLemmas.{and-first, and-second}
 use Rattle.member_spec.specs.Versions.{execution_of}
 use Rattle.member_spec.specs.Votes.{Cast, vote_origins}
 use Rattle.member_spec.specs.Member.{Member, ballot, vote_for}
-use Rattle.member_spec.specs.Calls.{Call, votes, holds, sees, runs, closes, ends, turns, acks, new_vote_cases, voted_as, new_vote, vote_again, unsealed_of, vote_read, vote_stopped, vote_answer, see_answer, run_answer, end_answer, ack_answer, end_cases, halted}
+use Rattle.member_spec.specs.Calls.{Call, votes, holds, sees, runs, closes, ends, turns, acks, new_vote_cases, voted_as, vote_again, unsealed_of, vote_read, vote_stopped, vote_answer, see_answer, run_answer, end_answer, ack_answer, end_cases, halted}
 use Rattle.world_spec.specs.Setting.{Setting}
-use Rattle.world_spec.specs.World.{Seat, Said, Made, Formed, World, Reached, finds_down, stops, answers, said_by, with_seat, stopped_seat, appended, stated, voted_statement, reached_seat, behind, called_seat, called_in, is_honest, entries_at, list_or_none}
+use Rattle.world_spec.specs.World.{Seat, Said, Made, Formed, World, Reached, finds_down, stops, answers, said_by, with_seat, stopped_seat, stated, voted_statement, reached_seat, behind, called_seat, called_in, is_honest, entries_at, list_or_none}
 use Rattle.world_spec.specs.Step.{says, vote_in, last_said, first_origins, vote_statement, sealed_by, Collected, differ, whole, lacks_where, differ_from, differs_among, too_short, whole_or, votes_collected, appended_entry, open_entries, risen_if}
 use Rattle.world_spec.specs.Making.{TxLine, with_made}
 use Rattle.world_spec.specs.Assumptions.{read_list, signed_read}
@@ -146,14 +146,13 @@ is-vote tx (statement.Vote e t p) o q = go (digest_eq t tx) refl q
     go false d q = absurd (cc)
 
 module _ (s : Setting) (w : World) (tx : Digest) where
-
   firsts : (ms : List ℕ) (m : ℕ) → votes_collected s w tx ms ≡ whole → Has ms m → last_said (vote_in tx) m w.said ≡ Some (first_origins w tx ms)
   unfolding votes_collected
   firsts [] m e h = absurd h
   firsts (a ∷ ms) m e h =
       let reads : ℕ → Option (List (Option Digest)) = λ k. last_said (vote_in tx) k w.said in
       let none = whole-none (first_of (λ k. lacks_where k (reads k)) (a ∷ ms)) (too_short s.rules.stakes (a ∷ ms)) (differs_among origins_eq reads (a ∷ ms))
-          (never-first (λ k. lacks_where k (reads k)) whole (no-lack reads) (a ∷ ms)) (no-short reads s.rules.stakes (a ∷ ms)) (no-differs reads (a ∷ ms)) e in
+      (never-first (λ k. lacks_where k (reads k)) whole (no-lack reads) (a ∷ ms)) (no-short reads s.rules.stakes (a ∷ ms)) (no-differs reads (a ∷ ms)) e in
       agreed reads a ms none.0 none.1 m h
 
   pub collected-said : (ms : List ℕ) (m : ℕ) → votes_collected s w tx ms ≡ whole → Has ms m → (e : ℕ) × Has w.said (said_by m (statement.Vote e tx (first_origins w tx ms)))

@@ -1,10 +1,9 @@
 -- Each certified transaction was voted for: a formed certificate by each of its members, a delivered one by each
 -- honest one; and an honest member's vote stands in its journal.
 use Rattle.std.proofs.Common.{inl, inr, refl, sym, subst, ap, ◌∙◌}
-use Rattle.std.specs.Prelude.{◌≡◌, ◌⊎◌, ◌==◌, ℕ, Bool, true, false, not, List, [], ◌∷◌, ◌++◌, map, length, slice_get, Option, Some, None}
+use Rattle.std.specs.Prelude.{◌≡◌, ◌⊎◌, ℕ, true, List, [], ◌∷◌, slice_get, Option, Some, None}
 use Rattle.digest_core.specs.declared.Digest.{Digest}
 use Rattle.chain_types.specs.declared.transactions.Transaction.{Transaction}
-use Rattle.chain_types.specs.declared.transactions.SignedTx.{SignedTx}
 use Rattle.chain_types.specs.declared.refusals.CertRefusal.TheVariants as refused
 use Rattle.chain_types.specs.Digests.{transaction_digest}
 use Rattle.chain_messages.specs.declared.messages.Statement.TheVariants as statement
@@ -12,11 +11,11 @@ use Rattle.chain_messages.specs.declared.messages.MemberSeal.{MemberSeal}
 use Rattle.chain_messages.specs.declared.messages.Certificate.{Certificate}
 use Rattle.journal_core.specs.declared.records.Record.TheVariants as record_as
 use Rattle.schedule_text.specs.declared.words.Event.{Event}
-use Rattle.chain_spec.specs.Words.{Has, Each, first_of}
+use Rattle.chain_spec.specs.Words.{Has, Each}
 use Rattle.chain_spec.specs.Committee.{weight, total_of, is_quorum}
 use Rattle.chain_spec.specs.Certificates.{Rules, accepts_statement, vote_of, members_of, bad_seal, cert_cases, cert_refusal}
 use Rattle.world_spec.specs.Setting.{Setting}
-use Rattle.world_spec.specs.World.{Seat, Made, Formed, World, new_world, said_by, honest_seat, is_honest}
+use Rattle.world_spec.specs.World.{Seat, Formed, World, new_world, said_by, honest_seat, is_honest}
 use Rattle.world_spec.specs.Step.{happens}
 use Rattle.world_spec.specs.Run.{run, world_after}
 use Rattle.world_spec.specs.Assumptions.{asked, delivered, all_of, all_formed, all_delivered, all_transactions, IsCertified, IsUnforged, NoForgery, TransactionsApart, IsHonestRun, IsStated}
@@ -26,8 +25,8 @@ use Rattle.votes_law.proofs.Once.{each-has, has-left}
 use Rattle.votes_law.proofs.Kept.{IsKept, every-vote}
 use Rattle.one_owner_law.specs.Owners.{HasStated, HasKept, all_handed}
 use Rattle.one_owner_law.proofs.Grown.{IsGrown, grown-run}
-use Rattle.one_owner_law.proofs.Sound.{IsSound, IsSpoken}
-use Rattle.one_owner_law.proofs.Totals.{each-all, has-mapped, sound-after, given-among, certificate-among, handed-among, has-right}
+use Rattle.one_owner_law.proofs.Sound.{IsSpoken}
+use Rattle.one_owner_law.proofs.Totals.{each-all, has-mapped, sound-after, given-among, certificate-among, handed-among}
 use Rattle.one_owner_law.proofs.Handed.{WasHanded, voted-handed}
 
 -- ---- valid certificates
