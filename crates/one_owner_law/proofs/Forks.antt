@@ -352,7 +352,7 @@ module _ (s : Setting) (total : List Certificate) where
       (λ records call x g d all. subst (λ (n : Member). AreGood total s.rules n.epoch n.held) (sym (state-push s.rules s.opening records x)) (good-after total s.rules (state s.rules s.opening records) call x g d all))
       (good-fresh total s.rules s.opening) events (delivered-given events (new_world s) sub) m seat at
 
-all-front : {A : Type 0} (says : Setting → World → Event → List A) (s : Setting) (front back : List Event) (w : World) (x : A) → Has (all_of says s front w) x → Has (all_of says s (front ++ back) w) x
+pub all-front : {A : Type 0} (says : Setting → World → Event → List A) (s : Setting) (front back : List Event) (w : World) (x : A) → Has (all_of says s front w) x → Has (all_of says s (front ++ back) w) x
 all-front says s [] back w x h = absurd h
 all-front says s (e ∷ front) back w x h = go (has-either (says s w e) (all_of says s front (happens s w e)) x h) (all-front says s front back (happens s w e) x)
   where

@@ -7,3 +7,4 @@ pub mod Voted
 pub mod Owner
 pub mod Forks
 pub mod Unforged
+pub mod Fronts

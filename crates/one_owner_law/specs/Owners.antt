@@ -137,7 +137,8 @@ is_raw_hold (event.RawHold m bytes) = true
 is_raw_hold (event.Ack m tx spoiled) = false
 is_raw_hold (event.Final tx members) = false
 
--- the certificates that the lines formed and the entries that they ordered are in the ranges of their spelling
+-- the certificates that the lines formed and the entries that they ordered are values of their Rust types, with no
+-- list too long to be spelled
 pub record AreSpellable (s : Setting) (events : List Event) : Type 0 where
   pub certificates : Each messages.certificate.fits (all_formed s events)
   pub entries : (epoch : ℕ) → Each messages.entry.fits (entries_at (world_after s events).sequences epoch)
@@ -147,3 +148,9 @@ pub record AreSpellable (s : Setting) (events : List Event) : Type 0 where
 abbrev pub NothingIsForged : Type 0
 NothingIsForged = (s : Setting) (events : List Event) → Each (λ (e : Event). is_raw_hold e ≡ false) events
     → TransactionsApart (all_transactions s events) → AreSpellable s events → NoForgery s events (new_world s)
+
+-- ---- fronts
+
+-- the assumptions on a run hold of each front of its events
+abbrev pub FrontsAreHonest : Type 0
+FrontsAreHonest = (s : Setting) (front back : List Event) → IsHonestRun s (front ++ back) → IsHonestRun s front

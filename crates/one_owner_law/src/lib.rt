@@ -2,7 +2,7 @@
 //! and no digest collision: no two of them consume one object version.
 #![tactic(auto)]
 
-ghost use Rattle.one_owner_law.specs.Owners.{CertifiedIsVotedFor, FormedIsVotedFor, NoCallMeetsAFork, NoForkIsMet, NothingIsForged, OneListOfOrigins, OneOwner, SenderHasSigned, StatementsOnlyGrow};
+ghost use Rattle.one_owner_law.specs.Owners.{CertifiedIsVotedFor, FormedIsVotedFor, FrontsAreHonest, NoCallMeetsAFork, NoForkIsMet, NothingIsForged, OneListOfOrigins, OneOwner, SenderHasSigned, StatementsOnlyGrow};
 
 /// What was stated behind some events is stated behind more.
 pub fn statements_only_grow()
@@ -49,4 +49,9 @@ pub fn no_call_meets_a_fork()
 /// Without lines that hand over bytes as a certificate, no statement is forged.
 pub fn nothing_is_forged()
     ensures { NothingIsForged }
+{}
+
+/// The assumptions on a run hold of each front of its events.
+pub fn fronts_are_honest()
+    ensures { FrontsAreHonest }
 {}
