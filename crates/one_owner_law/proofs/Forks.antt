@@ -45,11 +45,12 @@ use Rattle.world_spec.specs.Setting.{Setting}
 use Rattle.world_spec.specs.World.{Seat, World, new_world, member_in}
 use Rattle.world_spec.specs.Step.{happens}
 use Rattle.world_spec.specs.Run.{run, world_after}
-use Rattle.world_spec.specs.Assumptions.{calls_of, read_list, entry_certificates, certificates_read, delivered, all_of, all_formed, all_delivered, IsHonestRun, IsCertified}
+use Rattle.world_spec.specs.Assumptions.{calls_of, read_list, entry_certificates, certificates_read, delivered, all_of, all_formed, all_delivered, IsHonestRun}
 use Rattle.votes_law.proofs.InWorld.{in_world_given}
 use Rattle.votes_law.proofs.Apart.{none-each, none-found, accepted, state-push}
 use Rattle.votes_law.proofs.Backed.{has-either}
 use Rattle.votes_law.proofs.Once.{bytes-equal, digest-same, each-has, has-left, has-push}
+use Rattle.one_owner_law.specs.Owners.{IsFormedOrValid}
 use Rattle.one_owner_law.proofs.Totals.{each-all, has-right, flat-each}
 use Rattle.one_owner_law.proofs.Owner.{owner}
 
@@ -381,8 +382,8 @@ module _ (s : Setting) (events : List Event) (run_is : IsHonestRun s events) (ep
   abbrev Good : Held → Type 0
   Good = IsGood (all_delivered s events) s.rules epoch
 
-  certified : (h : Held) → Good h → IsCertified s events h.cert
-  certified h good = record { comes = has-right (all_formed s events) (all_delivered s events) h.cert good.comes; valid = good.valid }
+  certified : (h : Held) → Good h → IsFormedOrValid s events h.cert
+  certified h good = inr (good.comes, good.valid)
 
   no-key : (e h : Held) → Good e → Good h → digest_eq e.digest h.digest ≡ false → (key : ObjectKey) → Has (consumed_keys h.cert.tx) key → consumes key e ≡ false
   no-key e h good_e good_h other key k = go (has_key (consumed_keys e.cert.tx) key) refl
