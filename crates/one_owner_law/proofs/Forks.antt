@@ -45,7 +45,7 @@ use Rattle.world_spec.specs.Setting.{Setting}
 use Rattle.world_spec.specs.World.{Seat, World, new_world, member_in}
 use Rattle.world_spec.specs.Step.{happens}
 use Rattle.world_spec.specs.Run.{run, world_after}
-use Rattle.world_spec.specs.Assumptions.{calls_of, read_list, entry_certificates, certificates_read, delivered, all_of, all_formed, all_delivered, IsHonestRun}
+use Rattle.world_spec.specs.Assumptions.{calls_of, read_list, entry_certificates, certificates_read, delivered, all_of, all_delivered, IsHonestRun}
 use Rattle.votes_law.proofs.InWorld.{in_world_given}
 use Rattle.votes_law.proofs.Apart.{none-each, none-found, accepted, state-push}
 use Rattle.votes_law.proofs.Backed.{has-either}

@@ -10,7 +10,7 @@ use Rattle.world_spec.specs.Setting.{Setting}
 use Rattle.world_spec.specs.World.{Made, Formed, World, new_world}
 use Rattle.world_spec.specs.Step.{happens}
 use Rattle.world_spec.specs.Run.{world_after}
-use Rattle.world_spec.specs.Assumptions.{asked, delivered, all_of, all_formed, all_delivered, all_transactions, IsHonestRun, IdsApart, NoForgery}
+use Rattle.world_spec.specs.Assumptions.{asked, delivered, all_of, all_formed, all_delivered, all_transactions, IsHonestRun, NoForgery}
 use Rattle.votes_law.proofs.Backed.{has-either}
 use Rattle.votes_law.proofs.Once.{has-left}
 use Rattle.one_owner_law.proofs.Grown.{IsGrown, grown-run, world-append}

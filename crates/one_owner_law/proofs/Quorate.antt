@@ -1,7 +1,6 @@
 -- Each certificate that a line formed has the seals of a quorum.
 use Rattle.std.proofs.Common.{inl, inr, refl, sym, subst, ap}
-use Rattle.std.specs.Prelude.{◌≡◌, ◌⊎◌, ℕ, Bool, true, List, [], ◌∷◌, ◌++◌, map, slice_get, Option, Some, None}
-use Rattle.digest_core.specs.declared.Digest.{Digest}
+use Rattle.std.specs.Prelude.{◌≡◌, ◌⊎◌, ℕ, true, List, [], ◌∷◌, map, slice_get, Option, Some, None}
 use Rattle.chain_messages.specs.declared.messages.Statement.{Statement}
 use Rattle.chain_messages.specs.declared.messages.MemberSeal.{MemberSeal}
 use Rattle.schedule_text.specs.declared.words.Event.{Event}
