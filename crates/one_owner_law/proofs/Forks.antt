@@ -2,14 +2,13 @@
 -- owner no two of them consume one version.
 use Rattle.std.proofs.Common.{inl, inr, refl, sym, subst, ap, ◌∙◌}
 use Rattle.std.proofs.lemmas.Bool.{eqb-true}
-use Rattle.std.specs.Prelude.{◌≡◌, ◌⊎◌, ℕ, Bool, true, false, cond, not, ◌&&◌, ◌||◌, ◌==◌, ◌+◌, List, [], ◌∷◌, ◌++◌, find, flat_map, slice_get, Option, Some, None, option_map, is_some, Result, Ok, Err, bytes_eq}
+use Rattle.std.specs.Prelude.{◌≡◌, ◌⊎◌, ℕ, Bool, true, false, cond, not, ◌||◌, ◌==◌, ◌+◌, List, [], ◌∷◌, ◌++◌, find, flat_map, slice_get, Option, Some, None, option_map, is_some, Result, Ok, Err, bytes_eq}
 use Rattle.wire_bcs.specs.declared.fault.WireFault.{WireFault}
 use Rattle.digest_core.specs.declared.Digest.{Digest}
 use Rattle.chain_types.specs.Equal.{digest_eq, key_eq}
 use Rattle.chain_types.specs.declared.objects.ObjectId.{ObjectId}
 use Rattle.chain_types.specs.declared.objects.ObjectKey.{ObjectKey}
 use Rattle.chain_types.specs.declared.objects.Object.{Object}
-use Rattle.chain_types.specs.declared.transactions.Transaction.{Transaction}
 use Rattle.chain_types.specs.declared.transactions.SignedTx.{SignedTx}
 use Rattle.chain_types.specs.declared.refusals.CertRefusal.{CertRefusal}
 use Rattle.chain_types.specs.Digests.{transaction_digest, consumed_keys}
@@ -38,19 +37,20 @@ use Rattle.chain_spec.specs.Words.{Has, Each, Along, first_some, first_of, where
 use Rattle.chain_spec.specs.Tests.{has_key}
 use Rattle.chain_spec.specs.Certificates.{Rules, read_signed, read_certificate, read_entry, cert_refusal}
 use Rattle.chain_spec.proofs.ListLemmas.{along-push, and-first, and-second}
-use Rattle.member_spec.specs.Sequence.{Sequence, What, takes, commits, counts, ignores, ignored_or, certificate_cases, end_cases, what_stated, what_read, what_of, held_as}
+use Rattle.member_spec.specs.Sequence.{What, takes, commits, counts, ignores, ignored_or, certificate_cases, end_cases, what_stated, what_read, what_of, held_as}
 use Rattle.member_spec.specs.Checkpoints.{held_of}
 use Rattle.member_spec.specs.Member.{Member, Fork, consumes, fork_at, fork_with, fork_in, fork_of, held_with, after, state}
-use Rattle.member_spec.specs.Calls.{Call, votes, holds, sees, runs, closes, ends, turns, acks, Voted, record_limit, new_hold_cases, new_hold, hold_certificate, hold_read, hold_stopped, hold_answer, see_cases, vote_answer, run_answer, close_answer, turn_answer, kept_vote, vote_record, is_hold_kept, hold_record, see_record, ran_items, ran_record, run_record, close_record, turn_record, due, after_due, called}
+use Rattle.member_spec.specs.Calls.{Call, votes, holds, sees, runs, closes, ends, turns, acks, Voted, new_hold, hold_certificate, hold_read, hold_stopped, hold_answer, see_cases, vote_answer, run_answer, close_answer, turn_answer, kept_vote, vote_record, is_hold_kept, hold_record, see_record, ran_items, ran_record, run_record, close_record, turn_record, due, after_due, called}
 use Rattle.world_spec.specs.Setting.{Setting}
 use Rattle.world_spec.specs.World.{Seat, World, new_world, member_in}
 use Rattle.world_spec.specs.Step.{happens}
 use Rattle.world_spec.specs.Run.{run, world_after}
-use Rattle.world_spec.specs.Assumptions.{calls_of, read_list, entry_certificates, certificates_read, delivered, all_of, all_formed, all_delivered, IsHonestRun, IsCertified}
+use Rattle.world_spec.specs.Assumptions.{calls_of, read_list, entry_certificates, certificates_read, delivered, all_of, all_delivered, IsHonestRun}
 use Rattle.votes_law.proofs.InWorld.{in_world_given}
 use Rattle.votes_law.proofs.Apart.{none-each, none-found, accepted, state-push}
 use Rattle.votes_law.proofs.Backed.{has-either}
 use Rattle.votes_law.proofs.Once.{bytes-equal, digest-same, each-has, has-left, has-push}
+use Rattle.one_owner_law.specs.Owners.{IsFormedOrValid}
 use Rattle.one_owner_law.proofs.Totals.{each-all, has-right, flat-each}
 use Rattle.one_owner_law.proofs.Owner.{owner}
 
@@ -353,7 +353,7 @@ module _ (s : Setting) (total : List Certificate) where
       (λ records call x g d all. subst (λ (n : Member). AreGood total s.rules n.epoch n.held) (sym (state-push s.rules s.opening records x)) (good-after total s.rules (state s.rules s.opening records) call x g d all))
       (good-fresh total s.rules s.opening) events (delivered-given events (new_world s) sub) m seat at
 
-all-front : {A : Type 0} (says : Setting → World → Event → List A) (s : Setting) (front back : List Event) (w : World) (x : A) → Has (all_of says s front w) x → Has (all_of says s (front ++ back) w) x
+pub all-front : {A : Type 0} (says : Setting → World → Event → List A) (s : Setting) (front back : List Event) (w : World) (x : A) → Has (all_of says s front w) x → Has (all_of says s (front ++ back) w) x
 all-front says s [] back w x h = absurd h
 all-front says s (e ∷ front) back w x h = go (has-either (says s w e) (all_of says s front (happens s w e)) x h) (all-front says s front back (happens s w e) x)
   where
@@ -382,8 +382,8 @@ module _ (s : Setting) (events : List Event) (run_is : IsHonestRun s events) (ep
   abbrev Good : Held → Type 0
   Good = IsGood (all_delivered s events) s.rules epoch
 
-  certified : (h : Held) → Good h → IsCertified s events h.cert
-  certified h good = record { comes = has-right (all_formed s events) (all_delivered s events) h.cert good.comes; valid = good.valid }
+  certified : (h : Held) → Good h → IsFormedOrValid s events h.cert
+  certified h good = inr (good.comes, good.valid)
 
   no-key : (e h : Held) → Good e → Good h → digest_eq e.digest h.digest ≡ false → (key : ObjectKey) → Has (consumed_keys h.cert.tx) key → consumes key e ≡ false
   no-key e h good_e good_h other key k = go (has_key (consumed_keys e.cert.tx) key) refl

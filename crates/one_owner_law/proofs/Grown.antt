@@ -1,8 +1,8 @@
 -- A world only grows along a run: its statements, its transactions and its certificates; and who is honest stays.
 use Rattle.std.proofs.Common.{refl, sym, subst, ap, ◌∙◌}
-use Rattle.std.specs.Prelude.{◌≡◌, ℕ, zero, suc, Bool, true, false, List, [], ◌∷◌, ◌++◌, map, slice_get, slice_set, Option, Some, None}
+use Rattle.std.specs.Prelude.{◌≡◌, ℕ, zero, suc, List, [], ◌∷◌, ◌++◌, map, slice_get, slice_set, Option, Some, None}
 use Rattle.schedule_text.specs.declared.words.Event.{Event}
-use Rattle.chain_spec.specs.Words.{Has, Each}
+use Rattle.chain_spec.specs.Words.{Has}
 use Rattle.member_spec.specs.Calls.{Call}
 use Rattle.world_spec.specs.Setting.{Setting}
 use Rattle.world_spec.specs.World.{Seat, Said, Made, Formed, World, Reached, finds_down, stops, answers, new_world, said_by, with_seat, stopped_seat, appended, stated, reached_seat, behind, called_seat, called_in, honest_seat, is_honest}
@@ -11,7 +11,7 @@ use Rattle.world_spec.specs.Run.{run, world_after}
 use Rattle.world_spec.specs.Assumptions.{calls_of}
 use Rattle.votes_law.proofs.InWorld.{each-any}
 use Rattle.votes_law.proofs.Once.{has-left}
-use Rattle.one_owner_law.proofs.Steps.{Keeps, step-line, step-run, AllGiven}
+use Rattle.one_owner_law.proofs.Steps.{Keeps, step-line}
 
 pub record IsGrown (w v : World) : Type 0 where
   pub said : (x : Said) → Has w.said x → Has v.said x

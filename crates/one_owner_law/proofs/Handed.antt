@@ -1,7 +1,7 @@
 -- Each vote in a member's journal is for a transaction that the member was handed, with an accepted seal of its
 -- sender.
 use Rattle.std.proofs.Common.{inl, inr, refl, sym, subst, ap, ◌∙◌}
-use Rattle.std.specs.Prelude.{◌≡◌, ◌⊎◌, ℕ, zero, suc, Bool, true, false, List, [], ◌∷◌, ◌++◌, map, slice_get, slice_set, Option, Some, None}
+use Rattle.std.specs.Prelude.{◌≡◌, ◌⊎◌, ℕ, zero, suc, Bool, true, false, List, [], ◌∷◌, ◌++◌, map, slice_get, Option, Some, None}
 use Rattle.digest_core.specs.declared.Digest.{Digest}
 use Rattle.chain_types.specs.declared.transactions.Transaction.{Transaction}
 use Rattle.chain_types.specs.declared.transactions.SignedTx.{SignedTx}
@@ -50,7 +50,6 @@ module _ (s : Setting) (total : ℕ → List SignedTx) where
       go : ((n ≡ m) × (new ≡ seat)) ⊎ (slice_get w.seats n ≡ Some seat) → WasHanded n t
       go (inl p) = subst (λ (k : ℕ). WasHanded k t) (sym p.0) (one t o (subst (λ (y : Seat). Has y.records (record_as.Vote t o)) (sym p.1) h))
       go (inr a) = all n seat a t o h
-
 
   handed-stop : (m : ℕ) (seat : Seat) (call : Call) (kept : Bool) (x : Record) → Each (Has (total m)) (signed_read s.rules call) → due s.rules (member_in s seat) call ≡ Some x → VotesHanded m seat.records → VotesHanded m (stopped_seat seat kept x).records
   handed-stop m seat call true x g d old = handed-due m seat call x g d old

@@ -3,7 +3,9 @@ pub mod Grown
 pub mod Sound
 pub mod Totals
 pub mod Handed
+pub mod Quorate
 pub mod Voted
 pub mod Owner
 pub mod Forks
 pub mod Unforged
+pub mod Fronts

@@ -2,7 +2,7 @@
 -- voter was handed was signed by the sender.
 use Rattle.std.proofs.Common.{inl, inr, refl, sym, subst, ap, ◌∙◌}
 use Rattle.std.proofs.lemmas.Bool.{eqb-true}
-use Rattle.std.specs.Prelude.{◌≡◌, ◌⊎◌, ◌<◌, ◌==◌, ◌||◌, ℕ, zero, suc, Bool, true, false, not, List, [], ◌∷◌, map, length, slice_get, Option, Some, None}
+use Rattle.std.specs.Prelude.{◌≡◌, ◌<◌, ◌==◌, ◌||◌, ℕ, zero, suc, Bool, true, false, List, [], ◌∷◌, map, length, slice_get, Some}
 use Rattle.digest_core.specs.declared.Digest.{Digest}
 use Rattle.chain_types.specs.Equal.{digest_eq}
 use Rattle.chain_types.specs.declared.objects.ObjectKey.{ObjectKey}
@@ -19,13 +19,13 @@ use Rattle.chain_spec.specs.Certificates.{accepts_sender, members_of}
 use Rattle.world_spec.specs.Setting.{Setting}
 use Rattle.world_spec.specs.World.{Seat, new_seat, new_world, honest_seat, is_honest}
 use Rattle.world_spec.specs.Run.{world_after}
-use Rattle.world_spec.specs.Assumptions.{IsCertified, IsHonestRun, is_faulty_in}
+use Rattle.world_spec.specs.Assumptions.{IsHonestRun, is_faulty_in}
 use Rattle.quorum_law.proofs.Meeting.{two_meet}
 use Rattle.votes_law.proofs.Once.{equal, digest-same, voted-once, voted-alike}
-use Rattle.one_owner_law.specs.Owners.{HasStated, all_handed}
+use Rattle.one_owner_law.specs.Owners.{IsFormedOrValid, HasStated, all_handed}
 use Rattle.one_owner_law.proofs.Grown.{grown-run}
 use Rattle.one_owner_law.proofs.Handed.{WasHanded, voted-handed}
-use Rattle.one_owner_law.proofs.Voted.{valid-quorum, certified-among, certified-stated, stated-kept, seat-of}
+use Rattle.one_owner_law.proofs.Voted.{certified-quorum, certified-among, certified-stated, stated-kept, seat-of}
 
 -- a member among the seals has one of them
 among-seal : (xs : List MemberSeal) (m : ℕ) → is_among (map (λ (x : MemberSeal). x.member) xs) m ≡ true → (x : MemberSeal) × Has xs x × (x.member ≡ m)
@@ -64,7 +64,7 @@ pub record IsVoter (s : Setting) (events : List Event) (c d : Certificate) : Typ
   pub second : Has seat.records (record_as.Vote d.tx d.origins)
 
 module _ (s : Setting) (events : List Event) (run_is : IsHonestRun s events) where
-  kept-vote : (c : Certificate) → IsCertified s events c → (m : ℕ) (seat : Seat) → slice_get (world_after s events).seats m ≡ Some seat → is_honest (world_after s events) m ≡ true → seat.honest ≡ true → is_among (members_of c) m ≡ true → Has seat.records (record_as.Vote c.tx c.origins)
+  kept-vote : (c : Certificate) → IsFormedOrValid s events c → (m : ℕ) (seat : Seat) → slice_get (world_after s events).seats m ≡ Some seat → is_honest (world_after s events) m ≡ true → seat.honest ≡ true → is_among (members_of c) m ≡ true → Has seat.records (record_as.Vote c.tx c.origins)
   kept-vote c certified m seat at honest is among = go (among-seal c.seals m among)
     where
       go : (x : MemberSeal) × Has c.seals x × (x.member ≡ m) → Has seat.records (record_as.Vote c.tx c.origins)
@@ -72,8 +72,8 @@ module _ (s : Setting) (events : List Event) (run_is : IsHonestRun s events) whe
           let told = certified-stated s events run_is c certified x h (subst (λ (n : ℕ). is_honest (world_after s events) n ≡ true) (sym q) honest) in
           stated-kept s events run_is c certified m seat at is (subst (λ (n : ℕ). HasStated (world_after s events) c n) q told)
 
-  pub voter : (c d : Certificate) → IsCertified s events c → IsCertified s events d → IsVoter s events c d
-  voter c d is_c is_d = found (two_meet s.rules.stakes (is_among (members_of c)) (is_among (members_of d)) (is_faulty_in s.honest) (valid-quorum s.rules c is_c.valid) (valid-quorum s.rules d is_d.valid) run_is.few_faulty)
+  pub voter : (c d : Certificate) → IsFormedOrValid s events c → IsFormedOrValid s events d → IsVoter s events c d
+  voter c d is_c is_d = found (two_meet s.rules.stakes (is_among (members_of c)) (is_among (members_of d)) (is_faulty_in s.honest) (certified-quorum s events run_is c is_c) (certified-quorum s events run_is d is_d) run_is.few_faulty)
     where
       found : (m : ℕ) × (m < length s.rules.stakes) × (is_among (members_of c) m ≡ true) × (is_among (members_of d) m ≡ true) × (is_faulty_in s.honest m ≡ false) → IsVoter s events c d
       found (m, low, in_c, in_d, sound) =
@@ -88,7 +88,7 @@ module _ (s : Setting) (events : List Event) (run_is : IsHonestRun s events) whe
             second = kept-vote d is_d m at.0 at.1 honest at.2 in_d;
           }
 
-  pub owner : (c d : Certificate) → IsCertified s events c → IsCertified s events d → c.tx.epoch ≡ d.tx.epoch → (key : ObjectKey) → Has (consumed_keys c.tx) key → Has (consumed_keys d.tx) key → c.tx ≡ d.tx
+  pub owner : (c d : Certificate) → IsFormedOrValid s events c → IsFormedOrValid s events d → c.tx.epoch ≡ d.tx.epoch → (key : ObjectKey) → Has (consumed_keys c.tx) key → Has (consumed_keys d.tx) key → c.tx ≡ d.tx
   owner c d is_c is_d same key k l = go (digest_eq (transaction_digest c.tx) (transaction_digest d.tx)) refl
     where
       both : IsVoter s events c d
@@ -101,13 +101,13 @@ module _ (s : Setting) (events : List Event) (run_is : IsHonestRun s events) whe
       go true e = run_is.transactions c.tx d.tx (certified-among s events run_is c is_c) (certified-among s events run_is d is_d) (equal (transaction_digest c.tx) (transaction_digest d.tx) e)
       go false e = absurd (voted-once s events both.member both.seat both.at c.tx d.tx c.origins d.origins both.first both.second same (differ e) key k l)
 
-  pub origins : (c d : Certificate) → IsCertified s events c → IsCertified s events d → transaction_digest c.tx ≡ transaction_digest d.tx → c.origins ≡ d.origins
+  pub origins : (c d : Certificate) → IsFormedOrValid s events c → IsFormedOrValid s events d → transaction_digest c.tx ≡ transaction_digest d.tx → c.origins ≡ d.origins
   origins c d is_c is_d same =
       let both = voter c d is_c is_d in
       let one = run_is.transactions c.tx d.tx (certified-among s events run_is c is_c) (certified-among s events run_is d is_d) same in
       voted-alike s events both.member both.seat both.at c.tx d.tx c.origins d.origins both.first both.second (ap (λ (t : Transaction). t.epoch) one) same
 
-  pub signed : (c : Certificate) → IsCertified s events c → (m : ℕ) × (x : SignedTx) × (is_honest (world_after s events) m ≡ true) × Has (all_handed s events m) x × (x.tx ≡ c.tx) × (accepts_sender s.rules x.tx x.seal ≡ true)
+  pub signed : (c : Certificate) → IsFormedOrValid s events c → (m : ℕ) × (x : SignedTx) × (is_honest (world_after s events) m ≡ true) × Has (all_handed s events m) x × (x.tx ≡ c.tx) × (accepts_sender s.rules x.tx x.seal ≡ true)
   signed c is_c = go (voter c c is_c is_c)
     where
       go : IsVoter s events c c → (m : ℕ) × (x : SignedTx) × (is_honest (world_after s events) m ≡ true) × Has (all_handed s events m) x × (x.tx ≡ c.tx) × (accepts_sender s.rules x.tx x.seal ≡ true)

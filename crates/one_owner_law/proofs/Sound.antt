@@ -2,7 +2,7 @@
 -- certificate is over a vote that was stated, and what is ordered was formed or stated.
 use Rattle.std.proofs.Common.{inl, inr, refl, sym, subst, ap, ◌∙◌}
 use Rattle.std.proofs.lemmas.Bool.{eqb-true}
-use Rattle.std.specs.Prelude.{◌≡◌, ◌⊎◌, ℕ, zero, suc, Bool, true, false, cond, not, ◌&&◌, ◌==◌, List, [], ◌∷◌, ◌++◌, map, slice_get, slice_set, Option, Some, None, Result, Ok, Err}
+use Rattle.std.specs.Prelude.{◌≡◌, ◌⊎◌, ℕ, zero, suc, Bool, true, false, not, ◌==◌, List, [], ◌∷◌, ◌++◌, map, slice_get, slice_set, Option, Some, None, Result, Ok, Err}
 use Rattle.wire_bcs.specs.declared.fault.WireFault.{WireFault}
 use Rattle.digest_core.specs.declared.Digest.{Digest}
 use Rattle.chain_types.specs.Equal.{digest_eq}
@@ -19,15 +19,16 @@ use Rattle.member_types.specs.declared.refusals.VoteRefusal.TheVariants as no_vo
 use Rattle.member_types.specs.declared.refusals.AckRefusal.TheVariants as no_ack
 use Rattle.chain_spec.specs.Words.{Has, Each, first_some, first_of, where_true, refused_or, unless_refused}
 use Rattle.chain_spec.specs.Tests.{origin_eq, origins_eq, list_eq}
+use Rattle.chain_spec.specs.Committee.{weight, total_of, is_quorum}
 use Rattle.chain_spec.specs.Certificates.{Rules, read_signed}
 use Rattle.chain_spec.proofs.ListLemmas.{and-first, and-second}
 use Rattle.member_spec.specs.Versions.{execution_of}
 use Rattle.member_spec.specs.Votes.{Cast, vote_origins}
 use Rattle.member_spec.specs.Member.{Member, ballot, vote_for}
-use Rattle.member_spec.specs.Calls.{Call, votes, holds, sees, runs, closes, ends, turns, acks, new_vote_cases, voted_as, new_vote, vote_again, unsealed_of, vote_read, vote_stopped, vote_answer, see_answer, run_answer, end_answer, ack_answer, end_cases, halted}
+use Rattle.member_spec.specs.Calls.{Call, votes, holds, sees, runs, closes, ends, turns, acks, new_vote_cases, voted_as, vote_again, unsealed_of, vote_read, vote_stopped, vote_answer, see_answer, run_answer, end_answer, ack_answer, end_cases, halted}
 use Rattle.world_spec.specs.Setting.{Setting}
-use Rattle.world_spec.specs.World.{Seat, Said, Made, Formed, World, Reached, finds_down, stops, answers, said_by, with_seat, stopped_seat, appended, stated, voted_statement, reached_seat, behind, called_seat, called_in, is_honest, entries_at, list_or_none}
-use Rattle.world_spec.specs.Step.{says, vote_in, last_said, first_origins, vote_statement, sealed_by, Collected, differ, whole, lacks_where, differ_from, differs_among, too_short, whole_or, votes_collected, appended_entry, open_entries, risen_if}
+use Rattle.world_spec.specs.World.{Seat, Said, Made, Formed, World, Reached, finds_down, stops, answers, said_by, with_seat, stopped_seat, stated, voted_statement, reached_seat, behind, called_seat, called_in, is_honest, entries_at, list_or_none}
+use Rattle.world_spec.specs.Step.{says, vote_in, last_said, first_origins, vote_statement, sealed_by, Collected, short, differ, whole, lacks_where, differ_from, differs_among, too_short, whole_or, votes_collected, appended_entry, open_entries, risen_if}
 use Rattle.world_spec.specs.Making.{TxLine, with_made}
 use Rattle.world_spec.specs.Assumptions.{read_list, signed_read}
 use Rattle.votes_law.proofs.Apart.{none-of, accepted}
@@ -69,11 +70,11 @@ never-first {A} {B} says bad not (x ∷ xs) e = go (says x) refl e (never-first 
     go (Some b) q e rest = not x (q ∙ e)
     go None q e rest = rest (only (first_of says xs) bad e)
 
-whole-none : (a b c : Option Collected) → (a ≡ Some whole → ⊥) → (b ≡ Some whole → ⊥) → (c ≡ Some whole → ⊥) → whole_or (first_some (a ∷ b ∷ c ∷ [])) ≡ whole → (a ≡ None) × (c ≡ None)
+whole-none : (a b c : Option Collected) → (a ≡ Some whole → ⊥) → (b ≡ Some whole → ⊥) → (c ≡ Some whole → ⊥) → whole_or (first_some (a ∷ b ∷ c ∷ [])) ≡ whole → (a ≡ None) × (b ≡ None) × (c ≡ None)
 whole-none (Some x) b c p q r e = absurd (p (ap (λ (y : Collected). Some y) e))
 whole-none None (Some x) c p q r e = absurd (q (ap (λ (y : Collected). Some y) e))
 whole-none None None (Some x) p q r e = absurd (r (ap (λ (y : Collected). Some y) e))
-whole-none None None None p q r e = (refl, refl)
+whole-none None None None p q r e = (refl, refl, refl)
 
 module _ (reads : ℕ → Option (List (Option Digest))) where
   no-lack : (m : ℕ) → lacks_where m (reads m) ≡ Some whole → ⊥
@@ -146,15 +147,21 @@ is-vote tx (statement.Vote e t p) o q = go (digest_eq t tx) refl q
     go false d q = absurd (cc)
 
 module _ (s : Setting) (w : World) (tx : Digest) where
+  abbrev said_of : ℕ → Option (List (Option Digest))
+  said_of m = last_said (vote_in tx) m w.said
 
-  firsts : (ms : List ℕ) (m : ℕ) → votes_collected s w tx ms ≡ whole → Has ms m → last_said (vote_in tx) m w.said ≡ Some (first_origins w tx ms)
+  -- none of the causes applies
+  free : (ms : List ℕ) → votes_collected s w tx ms ≡ whole → (first_of (λ k. lacks_where k (said_of k)) ms ≡ None) × (too_short s.rules.stakes ms ≡ None) × (differs_among origins_eq said_of ms ≡ None)
   unfolding votes_collected
+  free ms e = whole-none (first_of (λ k. lacks_where k (said_of k)) ms) (too_short s.rules.stakes ms) (differs_among origins_eq said_of ms)
+      (never-first (λ k. lacks_where k (said_of k)) whole (no-lack said_of) ms) (no-short said_of s.rules.stakes ms) (no-differs said_of ms) e
+
+  firsts : (ms : List ℕ) (m : ℕ) → votes_collected s w tx ms ≡ whole → Has ms m → said_of m ≡ Some (first_origins w tx ms)
   firsts [] m e h = absurd h
-  firsts (a ∷ ms) m e h =
-      let reads : ℕ → Option (List (Option Digest)) = λ k. last_said (vote_in tx) k w.said in
-      let none = whole-none (first_of (λ k. lacks_where k (reads k)) (a ∷ ms)) (too_short s.rules.stakes (a ∷ ms)) (differs_among origins_eq reads (a ∷ ms))
-          (never-first (λ k. lacks_where k (reads k)) whole (no-lack reads) (a ∷ ms)) (no-short reads s.rules.stakes (a ∷ ms)) (no-differs reads (a ∷ ms)) e in
-      agreed reads a ms none.0 none.1 m h
+  firsts (a ∷ ms) m e h = let none = free (a ∷ ms) e in agreed said_of a ms none.0 none.2 m h
+
+  pub collected-quorum : (ms : List ℕ) → votes_collected s w tx ms ≡ whole → is_quorum s.rules.stakes (weight s.rules.stakes ms) ≡ true
+  collected-quorum ms e = accepted (is_quorum s.rules.stakes (weight s.rules.stakes ms)) (short (weight s.rules.stakes ms) (total_of s.rules.stakes)) (free ms e).1
 
   pub collected-said : (ms : List ℕ) (m : ℕ) → votes_collected s w tx ms ≡ whole → Has ms m → (e : ℕ) × Has w.said (said_by m (statement.Vote e tx (first_origins w tx ms)))
   collected-said ms m e h = go (last-said (vote_in tx) m w.said (first_origins w tx ms) (firsts ms m e h))

@@ -2,7 +2,7 @@
 -- rise of the epoch, a transaction made, a certificate formed. What each step keeps, a run keeps.
 use Rattle.std.proofs.Common.{refl, subst, ap, inl, inr, ◌∙◌}
 use Rattle.std.proofs.lemmas.Bool.{eqb-true}
-use Rattle.std.specs.Prelude.{◌≡◌, ◌⊎◌, ℕ, zero, suc, min, Bool, true, false, cond, ◌==◌, List, [], ◌∷◌, ◌++◌, find, slice_get, Option, Some, None, option_map, bytes_eq}
+use Rattle.std.specs.Prelude.{◌≡◌, ℕ, zero, suc, min, Bool, true, false, cond, ◌==◌, List, [], ◌∷◌, ◌++◌, slice_get, Option, Some, None, option_map, bytes_eq}
 use Rattle.chain_types.specs.Transactions as transactions
 use Rattle.chain_types.specs.Digests.{transaction_digest}
 use Rattle.chain_messages.specs.Messages as messages

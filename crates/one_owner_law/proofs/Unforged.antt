@@ -1,13 +1,10 @@
 -- What a line without raw bytes delivers was formed of stated votes, or is an End that its member stated.
-use Rattle.std.proofs.Common.{inl, inr, refl, sym, subst, ap, ◌∙◌}
-use Rattle.std.specs.Prelude.{◌≡◌, ◌⊎◌, ℕ, zero, suc, min, Bool, true, false, cond, List, [], ◌∷◌, ◌++◌, map, flat_map, slice_get, slice_set, Option, Some, None, option_map, option_and_then, Result, Ok, Err}
+use Rattle.std.proofs.Common.{refl, sym, subst, ap, ◌∙◌}
+use Rattle.std.specs.Prelude.{◌≡◌, ℕ, zero, suc, min, Bool, true, false, cond, List, [], ◌∷◌, ◌++◌, flat_map, slice_get, slice_set, Option, Some, None, option_map, option_and_then, Result, Ok}
 use Rattle.wire_bcs.specs.declared.fault.WireFault.{WireFault}
-use Rattle.wire_bcs.specs.Whole.{whole, whole-only}
-use Rattle.digest_core.specs.declared.Digest.{Digest}
-use Rattle.chain_types.specs.Transactions as transactions
+use Rattle.wire_bcs.specs.Whole.{whole-only}
 use Rattle.chain_types.specs.Digests.{transaction_digest}
 use Rattle.chain_types.specs.declared.transactions.Transaction.{Transaction}
-use Rattle.chain_types.specs.declared.transactions.SignedTx.{SignedTx}
 use Rattle.chain_messages.specs.Messages as messages
 use Rattle.chain_messages.specs.declared.messages.Statement.TheVariants as statement
 use Rattle.chain_messages.specs.declared.messages.MemberSeal.{MemberSeal}
@@ -19,19 +16,19 @@ use Rattle.schedule_text.specs.declared.words.Event.TheVariants as event
 use Rattle.chain_spec.specs.Words.{Has, Each}
 use Rattle.chain_spec.specs.Certificates.{read_as, read_certificate, read_entry, vote_of}
 use Rattle.member_spec.specs.Member.{Member}
-use Rattle.member_spec.specs.Calls.{Call, votes, holds, sees, runs, closes, ends, turns, acks}
+use Rattle.member_spec.specs.Calls.{Call, holds, sees}
 use Rattle.world_spec.specs.Setting.{Setting}
-use Rattle.world_spec.specs.World.{Seat, Made, Formed, World, Reached, finds_down, stops, answers, new_world, said_by, reached_seat, behind, called_seat, called_in, called_if, entries_at, list_or_none, member_at, next_entry, next_call_of, next_call, numbered_call}
-use Rattle.world_spec.specs.Names.{made_named, cert_named, cert_in}
+use Rattle.world_spec.specs.World.{Seat, Made, Formed, World, Reached, finds_down, stops, answers, new_world, said_by, reached_seat, behind, called_seat, called_in, called_if, entries_at, member_at, next_entry, next_call_of, next_call, numbered_call}
+use Rattle.world_spec.specs.Names.{made_named, cert_named}
 use Rattle.world_spec.specs.Step.{happens, open_entries, entries_left}
 use Rattle.world_spec.specs.Run.{run, world_after}
 use Rattle.world_spec.specs.Assumptions.{vote_call, send_call, call_list, see_calls, ack_call, calls_of, read_list, entry_certificates, entry_ends, certificates_read, ends_read, asked, delivered, delivered_ends, all_of, all_formed, all_delivered, all_transactions, IsStated, IsUnforged, IsUnforgedEnd, NoForgery, TransactionsApart}
 use Rattle.votes_law.proofs.InWorld.{each-any}
 use Rattle.votes_law.proofs.Once.{each-has, has-left}
-use Rattle.one_owner_law.specs.Owners.{is_raw_hold, AreSpellable, callee}
+use Rattle.one_owner_law.specs.Owners.{is_raw_hold, AreSpellable}
 use Rattle.one_owner_law.proofs.Steps.{Keeps, IsBacked, AllGiven, step-line, named-backed}
-use Rattle.one_owner_law.proofs.Grown.{IsGrown, grown-run, grown-line}
-use Rattle.one_owner_law.proofs.Sound.{IsSound, IsSpoken, IsGiven, IsGivenCall, sound-keeps, entry-in, given-more, get-has}
+use Rattle.one_owner_law.proofs.Grown.{IsGrown, grown-run}
+use Rattle.one_owner_law.proofs.Sound.{IsSound, IsSpoken, IsGivenCall, sound-keeps, entry-in, given-more, get-has}
 use Rattle.one_owner_law.proofs.Totals.{each-all, asked-given, sound-new, has-map, given-among, certificate-among}
 use Rattle.one_owner_law.proofs.Forks.{each-join}
 

@@ -1,10 +1,9 @@
 -- Each certified transaction was voted for: a formed certificate by each of its members, a delivered one by each
 -- honest one; and an honest member's vote stands in its journal.
 use Rattle.std.proofs.Common.{inl, inr, refl, sym, subst, ap, ◌∙◌}
-use Rattle.std.specs.Prelude.{◌≡◌, ◌⊎◌, ◌==◌, ℕ, Bool, true, false, not, List, [], ◌∷◌, ◌++◌, map, length, slice_get, Option, Some, None}
+use Rattle.std.specs.Prelude.{◌≡◌, ◌⊎◌, ℕ, true, List, [], ◌∷◌, slice_get, Option, Some, None}
 use Rattle.digest_core.specs.declared.Digest.{Digest}
 use Rattle.chain_types.specs.declared.transactions.Transaction.{Transaction}
-use Rattle.chain_types.specs.declared.transactions.SignedTx.{SignedTx}
 use Rattle.chain_types.specs.declared.refusals.CertRefusal.TheVariants as refused
 use Rattle.chain_types.specs.Digests.{transaction_digest}
 use Rattle.chain_messages.specs.declared.messages.Statement.TheVariants as statement
@@ -12,11 +11,11 @@ use Rattle.chain_messages.specs.declared.messages.MemberSeal.{MemberSeal}
 use Rattle.chain_messages.specs.declared.messages.Certificate.{Certificate}
 use Rattle.journal_core.specs.declared.records.Record.TheVariants as record_as
 use Rattle.schedule_text.specs.declared.words.Event.{Event}
-use Rattle.chain_spec.specs.Words.{Has, Each, first_of}
+use Rattle.chain_spec.specs.Words.{Has, Each}
 use Rattle.chain_spec.specs.Committee.{weight, total_of, is_quorum}
 use Rattle.chain_spec.specs.Certificates.{Rules, accepts_statement, vote_of, members_of, bad_seal, cert_cases, cert_refusal}
 use Rattle.world_spec.specs.Setting.{Setting}
-use Rattle.world_spec.specs.World.{Seat, Made, Formed, World, new_world, said_by, honest_seat, is_honest}
+use Rattle.world_spec.specs.World.{Seat, Formed, World, new_world, said_by, honest_seat, is_honest}
 use Rattle.world_spec.specs.Step.{happens}
 use Rattle.world_spec.specs.Run.{run, world_after}
 use Rattle.world_spec.specs.Assumptions.{asked, delivered, all_of, all_formed, all_delivered, all_transactions, IsCertified, IsUnforged, NoForgery, TransactionsApart, IsHonestRun, IsStated}
@@ -24,10 +23,11 @@ use Rattle.votes_law.proofs.Apart.{none-each, none-of, accepted}
 use Rattle.votes_law.proofs.Backed.{has-either}
 use Rattle.votes_law.proofs.Once.{each-has, has-left}
 use Rattle.votes_law.proofs.Kept.{IsKept, every-vote}
-use Rattle.one_owner_law.specs.Owners.{HasStated, HasKept, all_handed}
+use Rattle.one_owner_law.specs.Owners.{IsFormedOrValid, HasStated, HasKept, all_handed}
 use Rattle.one_owner_law.proofs.Grown.{IsGrown, grown-run}
-use Rattle.one_owner_law.proofs.Sound.{IsSound, IsSpoken}
-use Rattle.one_owner_law.proofs.Totals.{each-all, has-mapped, sound-after, given-among, certificate-among, handed-among, has-right}
+use Rattle.one_owner_law.proofs.Sound.{IsSpoken}
+use Rattle.one_owner_law.proofs.Totals.{each-all, has-right, has-mapped, sound-after, given-among, certificate-among, handed-among}
+use Rattle.one_owner_law.proofs.Quorate.{quorate-after}
 use Rattle.one_owner_law.proofs.Handed.{WasHanded, voted-handed}
 
 -- ---- valid certificates
@@ -89,18 +89,23 @@ delivered-stated s events none c h valid x k honest = go (unforged-at s c events
 -- ---- certified transactions
 
 module _ (s : Setting) (events : List Event) (run_is : IsHonestRun s events) where
-  pub certified-among : (c : Certificate) → IsCertified s events c → Has (all_transactions s events) c.tx
-  certified-among c certified = certificate-among s events c certified.comes
+  pub certified-among : (c : Certificate) → IsFormedOrValid s events c → Has (all_transactions s events) c.tx
+  certified-among c (inl h) = certificate-among s events c (has-left (all_formed s events) (all_delivered s events) c h)
+  certified-among c (inr d) = certificate-among s events c (has-right (all_formed s events) (all_delivered s events) c d.0)
 
-  pub certified-stated : (c : Certificate) → IsCertified s events c → (x : MemberSeal) → Has c.seals x → is_honest (world_after s events) x.member ≡ true → HasStated (world_after s events) c x.member
-  certified-stated c certified x k honest = go (has-either (all_formed s events) (all_delivered s events) c certified.comes)
+  pub certified-quorum : (c : Certificate) → IsFormedOrValid s events c → is_quorum s.rules.stakes (weight s.rules.stakes (members_of c)) ≡ true
+  certified-quorum c (inr d) = valid-quorum s.rules c d.1
+  certified-quorum c (inl h) = go (formed-of s events c h)
     where
-      go : Has (all_formed s events) c ⊎ Has (all_delivered s events) c → HasStated (world_after s events) c x.member
-      go (inl h) = formed-stated s events run_is.transactions c h x k
-      go (inr h) = delivered-stated s events run_is.no_forgery c h certified.valid x k honest
+      go : (f : Formed) × Has (world_after s events).certs f × (f.cert ≡ c) → is_quorum s.rules.stakes (weight s.rules.stakes (members_of c)) ≡ true
+      go (f, l, q) = subst (λ (d : Certificate). is_quorum s.rules.stakes (weight s.rules.stakes (members_of d)) ≡ true) q (quorate-after s events f l)
+
+  pub certified-stated : (c : Certificate) → IsFormedOrValid s events c → (x : MemberSeal) → Has c.seals x → is_honest (world_after s events) x.member ≡ true → HasStated (world_after s events) c x.member
+  certified-stated c (inl h) x k honest = formed-stated s events run_is.transactions c h x k
+  certified-stated c (inr d) x k honest = delivered-stated s events run_is.no_forgery c d.0 d.1 x k honest
 
   -- the vote stands in the member's journal
-  pub stated-kept : (c : Certificate) → IsCertified s events c → (m : ℕ) (seat : Seat) → slice_get (world_after s events).seats m ≡ Some seat → seat.honest ≡ true → HasStated (world_after s events) c m → Has seat.records (record_as.Vote c.tx c.origins)
+  pub stated-kept : (c : Certificate) → IsFormedOrValid s events c → (m : ℕ) (seat : Seat) → slice_get (world_after s events).seats m ≡ Some seat → seat.honest ≡ true → HasStated (world_after s events) c m → Has seat.records (record_as.Vote c.tx c.origins)
   stated-kept c certified m seat at honest told = go (every-vote s events m seat at honest c.tx.epoch (transaction_digest c.tx) c.origins told)
     where
       among : (t : Transaction) → WasHanded s (all_handed s events) m t → Has (all_transactions s events) t
@@ -116,9 +121,16 @@ module _ (s : Setting) (events : List Event) (run_is : IsHonestRun s events) whe
       go None e h = absurd (cc)
       go (Some seat) e h = (seat, e, h)
 
-  pub certified-voted : (c : Certificate) → IsCertified s events c → (x : MemberSeal) → Has c.seals x → is_honest (world_after s events) x.member ≡ true
+  pub certified-voted : (c : Certificate) → IsFormedOrValid s events c → (x : MemberSeal) → Has c.seals x → is_honest (world_after s events) x.member ≡ true
       → HasStated (world_after s events) c x.member × HasKept (world_after s events) c x.member
   certified-voted c certified x k honest =
       let told = certified-stated c certified x k honest in
       let at = seat-of x.member honest in
       (told, (at.0, at.1, stated-kept c certified x.member at.0 at.1 at.2 told))
+
+pub certified-is : (s : Setting) (events : List Event) (c : Certificate) → IsCertified s events c → IsFormedOrValid s events c
+certified-is s events c certified = go (has-either (all_formed s events) (all_delivered s events) c certified.comes)
+  where
+    go : Has (all_formed s events) c ⊎ Has (all_delivered s events) c → IsFormedOrValid s events c
+    go (inl h) = inl h
+    go (inr h) = inr (h, certified.valid)

@@ -1,6 +1,6 @@
 -- What the certified transactions of an epoch have in common, in every run under the run assumptions: under a
 -- third of the stake is faulty, no statement is forged, no digests collide. Source: Sui Lutris.
-use Rattle.std.specs.Prelude.{◌≡◌, ℕ, Bool, true, false, ◌==◌, List, [], ◌∷◌, ◌++◌, slice_get, Option, Some, None, if◌then◌else◌}
+use Rattle.std.specs.Prelude.{◌≡◌, ◌⊎◌, ℕ, Bool, true, false, ◌==◌, List, [], ◌∷◌, ◌++◌, slice_get, Option, Some, None, if◌then◌else◌}
 use Rattle.chain_types.specs.declared.objects.ObjectKey.{ObjectKey}
 use Rattle.chain_types.specs.declared.transactions.SignedTx.{SignedTx}
 use Rattle.chain_types.specs.Digests.{transaction_digest, consumed_keys}
@@ -11,13 +11,13 @@ use Rattle.journal_core.specs.declared.records.Record.TheVariants as record_as
 use Rattle.schedule_text.specs.declared.words.Event.{Event}
 use Rattle.schedule_text.specs.declared.words.Event.TheVariants as event
 use Rattle.chain_spec.specs.Words.{Has, Each}
-use Rattle.chain_spec.specs.Certificates.{accepts_sender, vote_of}
+use Rattle.chain_spec.specs.Certificates.{accepts_sender, vote_of, cert_refusal}
 use Rattle.member_spec.specs.Member.{fork_of}
 use Rattle.member_spec.specs.Calls.{Call, called}
 use Rattle.world_spec.specs.Setting.{Setting}
 use Rattle.world_spec.specs.World.{Seat, Said, World, new_world, said_by, member_in, is_honest, entries_at}
 use Rattle.world_spec.specs.Run.{world_after}
-use Rattle.world_spec.specs.Assumptions.{calls_of, asked, all_of, all_formed, all_transactions, IsCertified, TransactionsApart, NoForgery, IsHonestRun}
+use Rattle.world_spec.specs.Assumptions.{calls_of, asked, all_of, all_formed, all_delivered, all_transactions, IsCertified, TransactionsApart, NoForgery, IsHonestRun}
 
 -- ---- statements
 
@@ -34,6 +34,14 @@ abbrev pub FormedIsVotedFor : Type 0
 FormedIsVotedFor = (s : Setting) (events : List Event) → TransactionsApart (all_transactions s events) → (c : Certificate) → Has (all_formed s events) c
     → Each (λ (x : MemberSeal). HasStated (world_after s events) c x.member) c.seals
 
+-- a certificate that a line formed, valid or not, or a valid one that a line delivered
+abbrev pub IsFormedOrValid : Setting → List Event → Certificate → Type 0
+IsFormedOrValid s events c = Has (all_formed s events) c ⊎ (Has (all_delivered s events) c × (cert_refusal s.rules c ≡ None))
+
+-- so is each certificate that is certified; the laws below are of all of these
+abbrev pub CertifiedIsFormedOrValid : Type 0
+CertifiedIsFormedOrValid = (s : Setting) (events : List Event) (c : Certificate) → IsCertified s events c → IsFormedOrValid s events c
+
 -- the member's journal has a vote for the certificate's transaction, with its origins
 abbrev pub HasKept : World → Certificate → ℕ → Type 0
 HasKept w c m = (seat : Seat) × (slice_get w.seats m ≡ Some seat) × Has seat.records (record_as.Vote c.tx c.origins)
@@ -41,7 +49,7 @@ HasKept w c m = (seat : Seat) × (slice_get w.seats m ≡ Some seat) × Has seat
 -- of each certified transaction, each honest member whose seal the certificate has stated that vote, and has it
 -- in its journal
 abbrev pub CertifiedIsVotedFor : Type 0
-CertifiedIsVotedFor = (s : Setting) (events : List Event) → IsHonestRun s events → (c : Certificate) → IsCertified s events c
+CertifiedIsVotedFor = (s : Setting) (events : List Event) → IsHonestRun s events → (c : Certificate) → IsFormedOrValid s events c
     → (x : MemberSeal) → Has c.seals x → is_honest (world_after s events) x.member ≡ true
     → HasStated (world_after s events) c x.member × HasKept (world_after s events) c x.member
 
@@ -49,12 +57,12 @@ CertifiedIsVotedFor = (s : Setting) (events : List Event) → IsHonestRun s even
 
 -- two certificates of one epoch that consume one version are of one transaction
 abbrev pub OneOwner : Type 0
-OneOwner = (s : Setting) (events : List Event) → IsHonestRun s events → (c d : Certificate) → IsCertified s events c → IsCertified s events d
+OneOwner = (s : Setting) (events : List Event) → IsHonestRun s events → (c d : Certificate) → IsFormedOrValid s events c → IsFormedOrValid s events d
     → c.tx.epoch ≡ d.tx.epoch → (key : ObjectKey) → Has (consumed_keys c.tx) key → Has (consumed_keys d.tx) key → c.tx ≡ d.tx
 
 -- two certificates of one transaction name the same origins
 abbrev pub OneListOfOrigins : Type 0
-OneListOfOrigins = (s : Setting) (events : List Event) → IsHonestRun s events → (c d : Certificate) → IsCertified s events c → IsCertified s events d
+OneListOfOrigins = (s : Setting) (events : List Event) → IsHonestRun s events → (c d : Certificate) → IsFormedOrValid s events c → IsFormedOrValid s events d
     → transaction_digest c.tx ≡ transaction_digest d.tx → c.origins ≡ d.origins
 
 -- ---- the sender
@@ -97,7 +105,7 @@ all_handed s events m = all_of (handed m) s events (new_world s)
 -- of each certified transaction, some honest member was handed the transaction with a seal of its sender that is
 -- accepted
 abbrev pub SenderHasSigned : Type 0
-SenderHasSigned = (s : Setting) (events : List Event) → IsHonestRun s events → (c : Certificate) → IsCertified s events c
+SenderHasSigned = (s : Setting) (events : List Event) → IsHonestRun s events → (c : Certificate) → IsFormedOrValid s events c
     → (m : ℕ) × (x : SignedTx) × (is_honest (world_after s events) m ≡ true) × Has (all_handed s events m) x × (x.tx ≡ c.tx) × (accepts_sender s.rules x.tx x.seal ≡ true)
 
 -- ---- forks
@@ -137,7 +145,8 @@ is_raw_hold (event.RawHold m bytes) = true
 is_raw_hold (event.Ack m tx spoiled) = false
 is_raw_hold (event.Final tx members) = false
 
--- the certificates that the lines formed and the entries that they ordered are in the ranges of their spelling
+-- the certificates that the lines formed and the entries that they ordered are values of their Rust types, with no
+-- list too long to be spelled
 pub record AreSpellable (s : Setting) (events : List Event) : Type 0 where
   pub certificates : Each messages.certificate.fits (all_formed s events)
   pub entries : (epoch : ℕ) → Each messages.entry.fits (entries_at (world_after s events).sequences epoch)
@@ -147,3 +156,9 @@ pub record AreSpellable (s : Setting) (events : List Event) : Type 0 where
 abbrev pub NothingIsForged : Type 0
 NothingIsForged = (s : Setting) (events : List Event) → Each (λ (e : Event). is_raw_hold e ≡ false) events
     → TransactionsApart (all_transactions s events) → AreSpellable s events → NoForgery s events (new_world s)
+
+-- ---- fronts
+
+-- the assumptions on a run hold of each front of its events
+abbrev pub FrontsAreHonest : Type 0
+FrontsAreHonest = (s : Setting) (front back : List Event) → IsHonestRun s (front ++ back) → IsHonestRun s front

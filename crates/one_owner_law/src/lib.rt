@@ -2,7 +2,7 @@
 //! and no digest collision: no two of them consume one object version.
 #![tactic(auto)]
 
-ghost use Rattle.one_owner_law.specs.Owners.{CertifiedIsVotedFor, FormedIsVotedFor, NoCallMeetsAFork, NoForkIsMet, NothingIsForged, OneListOfOrigins, OneOwner, SenderHasSigned, StatementsOnlyGrow};
+ghost use Rattle.one_owner_law.specs.Owners.{CertifiedIsFormedOrValid, CertifiedIsVotedFor, FormedIsVotedFor, FrontsAreHonest, NoCallMeetsAFork, NoForkIsMet, NothingIsForged, OneListOfOrigins, OneOwner, SenderHasSigned, StatementsOnlyGrow};
 
 /// What was stated behind some events is stated behind more.
 pub fn statements_only_grow()
@@ -12,6 +12,12 @@ pub fn statements_only_grow()
 /// Each member whose seal a certificate has that a line formed stated that vote.
 pub fn formed_is_voted_for()
     ensures { FormedIsVotedFor }
+{}
+
+/// Each certificate that is certified was formed by a line, or is a valid one that a line delivered. The laws that
+/// follow are of all of these.
+pub fn certified_is_formed_or_valid()
+    ensures { CertifiedIsFormedOrValid }
 {}
 
 /// Of each certified transaction, each honest member whose seal the certificate has stated that vote, and has it in
@@ -49,4 +55,9 @@ pub fn no_call_meets_a_fork()
 /// Without lines that hand over bytes as a certificate, no statement is forged.
 pub fn nothing_is_forged()
     ensures { NothingIsForged }
+{}
+
+/// The assumptions on a run hold of each front of its events.
+pub fn fronts_are_honest()
+    ensures { FrontsAreHonest }
 {}
