@@ -1,0 +1,50 @@
+//! Natives on counters and limits.
+
+ghost use Rattle.std.specs.Prelude.{◌≡◌, IfOk};
+ghost use Rattle.block_spec.specs.Natives.{counter_add, counter_require, counter_add_limited};
+ghost use Rattle.native_calls.specs.Sites.{site_of};
+
+use crate::contents::{amount_of, holding};
+use crate::gives::gives_nothing;
+use crate::place::Place;
+use block_types::{Gave, Item};
+use std::alloc::Global;
+
+/// Raises a counter. Aborts with 1 where the sum is no amount.
+pub(crate) fn counter_add(alloc: Global, place: &Place, counter: &Item, amount: u64) -> Gave
+    ensures { result ≡ counter_add (site_of place.now) counter.now amount }
+{
+    let Some(sum) = amount_of(&counter.content).checked_add(amount) else {
+        return Gave::Abort(1);
+    };
+    gives_nothing(alloc, place, Some(holding(sum, counter)))
+}
+
+/// Aborts with 1 where the counter is below a number.
+pub(crate) fn counter_require(alloc: Global, place: &Place, counter: &Item, least: u64) -> Gave
+    ensures { result ≡ counter_require (site_of place.now) counter.now least }
+{
+    if amount_of(&counter.content) < least {
+        return Gave::Abort(1);
+    }
+    gives_nothing(alloc, place, None)
+}
+
+/// Raises a counter up to a limit. Aborts with 1 where the sum is no amount, with 2 where it is above the limit.
+pub(crate) fn counter_add_limited(
+    alloc: Global,
+    place: &Place,
+    counter: &Item,
+    amount: u64,
+    limit: &Item,
+) -> Gave
+    ensures { result ≡ counter_add_limited (site_of place.now) counter.now amount limit.now }
+{
+    let Some(sum) = amount_of(&counter.content).checked_add(amount) else {
+        return Gave::Abort(1);
+    };
+    if amount_of(&limit.content) < sum {
+        return Gave::Abort(2);
+    }
+    gives_nothing(alloc, place, Some(holding(sum, counter)))
+}
