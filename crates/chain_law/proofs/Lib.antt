@@ -1,3 +1,5 @@
 pub mod Standing
 pub mod Touched
 pub mod Reading
+pub mod Newest
+pub mod Live

@@ -1,7 +1,7 @@
 -- What an execution writes stands in the map behind it, and what it does not touch stays there.
 use Rattle.std.proofs.Common.{inl, inr, refl, ap, subst, sym, ◌∙◌}
 use Rattle.std.specs.Prelude.{◌≡◌, Bool, true, false, cond, ◌||◌, List, [], ◌∷◌, ◌++◌, map, fold, Option, Some, None, ℕ}
-use Rattle.std.specs.FinMap.{get, empty, get-insert, get-remove, nat_cmp-IsAntisymmetric, slice_cmp-IsAntisymmetric}
+use Rattle.std.specs.FinMap.{get, empty, get-empty, get-insert, get-remove, nat_cmp-IsAntisymmetric, slice_cmp-IsAntisymmetric}
 use Rattle.std.specs.Ordering.{nat_cmp, is_eq, eq_by_cmp}
 use Rattle.std.specs.declared.cmp.Ordering.{Ordering}
 use Rattle.std.specs.declared.cmp.Ordering.TheVariants.{Less, Equal, Greater}
@@ -51,7 +51,7 @@ ids-same a = (eq_by_cmp_equiv ids-total).refl a
 
 -- ---- other entries
 
-stays-with : (m : Objects) (os : List Object) (id : ObjectId) → has_id (map id_of os) id ≡ false → get (fold with_object m os) id ≡ get m id
+pub stays-with : (m : Objects) (os : List Object) (id : ObjectId) → has_id (map id_of os) id ≡ false → get (fold with_object m os) id ≡ get m id
 stays-with m [] id none = refl
 stays-with m (o ∷ os) id none =
     stays-with (with_object m o) os id (or-second (id_eq id o.id) (has_id (map id_of os) id) none)
@@ -65,7 +65,7 @@ stays-without m (i ∷ ids) id none =
     ∙ get-remove ids-total m i id
     ∙ ap (λ b. cond b None (get m id)) (ids-apart id i (or-first (id_eq id i) (has_id ids id) none))
 
-any-parts : (id : ObjectId) (xs ys : List ObjectId) → has_id (xs ++ ys) id ≡ false → (has_id xs id ≡ false) × (has_id ys id ≡ false)
+pub any-parts : (id : ObjectId) (xs ys : List ObjectId) → has_id (xs ++ ys) id ≡ false → (has_id xs id ≡ false) × (has_id ys id ≡ false)
 any-parts id [] ys none = (refl, none)
 any-parts id (x ∷ xs) ys none = go (id_eq id x) none (any-parts id xs ys (or-second (id_eq id x) (has_id (xs ++ ys) id) none))
   where
@@ -98,10 +98,33 @@ stands-after m x o apart h =
     let stands = stands-with m x.objects x.effects.deleted o apart h in
     stays-without (fold with_object m x.objects) x.effects.deleted o.id stands.1 ∙ stands.0
 
-append-none : {A : Type 0} (xs : List A) → xs ++ [] ≡ xs
+pub append-none : {A : Type 0} (xs : List A) → xs ++ [] ≡ xs
 append-none [] = refl
 append-none (x ∷ xs) = ap (λ ys. x ∷ ys) (append-none xs)
 
 pub stands-opening : (opening : List Object) (o : Object) → AreApart opening → Has opening o → get (map_of opening) o.id ≡ Some o
 unfolding map_of
 stands-opening opening o apart h = (stands-with empty opening [] o (subst (λ ids. repeats id_eq ids ≡ false) (sym (append-none (map id_of opening))) apart) h).0
+
+-- ---- deleted entries
+
+none-stays : (m : Objects) (ids : List ObjectId) (id : ObjectId) → get m id ≡ None → get (fold without_id m ids) id ≡ None
+none-stays m [] id none = none
+none-stays m (i ∷ ids) id none = none-stays (without_id m i) ids id (get-remove ids-total m i id ∙ go (eq_by_cmp id_cmp id i))
+  where
+    go : (b : Bool) → cond b None (get m id) ≡ None
+    go true = refl
+    go false = none
+
+gone : (m : Objects) (ids : List ObjectId) (id : ObjectId) → Has ids id → get (fold without_id m ids) id ≡ None
+gone m [] id h = absurd h
+gone m (i ∷ ids) id (inl e) = none-stays (without_id m i) ids id (get-remove ids-total m i id ∙ ap (λ b. cond b None (get m id)) (subst (λ (z : ObjectId). eq_by_cmp id_cmp id z ≡ true) (sym e) (ids-same id)))
+gone m (i ∷ ids) id (inr h) = gone (without_id m i) ids id h
+
+pub gone-after : (m : Objects) (x : Executed) (id : ObjectId) → Has x.effects.deleted id → get (map_after m x) id ≡ None
+gone-after m x id h = gone (fold with_object m x.objects) x.effects.deleted id h
+
+-- no opening object has the id
+pub none-opening : (opening : List Object) (id : ObjectId) → has_id (map id_of opening) id ≡ false → get (map_of opening) id ≡ None
+unfolding map_of
+none-opening opening id none = stays-with empty opening id none ∙ get-empty id_cmp id
