@@ -3,3 +3,4 @@ pub mod Touched
 pub mod Reading
 pub mod Newest
 pub mod Live
+pub mod LiveMap

@@ -368,3 +368,17 @@ live-is-map opening steps executed distinct orderly of id =
     let over = goes-over opening distinct steps [] (record { orderly = tt; finds = tt; known = tt }) orderly in
     live-fact opening steps executed of id (get (after_steps opening steps) id) (all-facts opening distinct id steps [] (record { orderly = tt; finds = tt; known = tt }) orderly (first-fact opening distinct id))
     ∙ ap (λ (f : Folded). get f.map id) (sym (thread-is opening steps orderly over.finds))
+
+-- a live object has its id, and is of a version with it
+pub live-there : (opening : List Object) (steps : List Step) (executed : List Execution) → AreApart opening → AreOrderly opening steps → IsOfSteps steps executed
+    → (id : ObjectId) (o : Object) → live opening executed id ≡ Some o → (o.id ≡ id) × ((v : Version) × Has (versions opening executed) v × (v.object.id ≡ id))
+live-there opening steps executed distinct orderly of id o e = (top.there.0, (v.0, (has-passed (is_id id) (versions opening executed) v.0 v.1).0, ap id_of v.2 ∙ top.there.0))
+  where
+    fact : Fact opening steps id (get (after_steps opening steps) id)
+    fact = all-facts opening distinct id steps [] (record { orderly = tt; finds = tt; known = tt }) orderly (first-fact opening distinct id)
+
+    top : IsTop opening steps id o
+    top = subst (Fact opening steps id) (sym (live-fact opening steps executed of id (get (after_steps opening steps) id) fact) ∙ e) fact
+
+    v : (v : Version) × Has (filter (is_id id) (versions opening executed)) v × (v.object ≡ o)
+    v = has-mapped object_in (filter (is_id id) (versions opening executed)) o (there-candidate opening steps executed of id o top.there)

@@ -22,7 +22,7 @@ use Rattle.chain_law.specs.Orderly.{id_of, AreApart}
 
 -- ---- the order of ids
 
-ids-total : IsTotalOrder id_cmp
+pub ids-total : IsTotalOrder id_cmp
 ids-total = record {
   antisymm = λ x y. nat_list_cmp_total.antisymm x.0.0 y.0.0;
   trans = λ x y z. nat_list_cmp_total.trans x.0.0 y.0.0 z.0.0;
@@ -34,10 +34,13 @@ is-equal Less e = absurd (cc)
 is-equal Equal e = refl
 is-equal Greater e = absurd (cc)
 
-ids-tie : (a b : ObjectId) → eq_by_cmp id_cmp a b ≡ true → a ≡ b
-ids-tie a b e =
-    let bytes : a.0.0 ≡ b.0.0 = slice_cmp-IsAntisymmetric nat_cmp-IsAntisymmetric a.0.0 b.0.0 (is-equal (slice_cmp nat_cmp a.0.0 b.0.0) e) in
+pub ids-unique : (a b : ObjectId) → id_cmp a b ≡ Equal → a ≡ b
+ids-unique a b e =
+    let bytes : a.0.0 ≡ b.0.0 = slice_cmp-IsAntisymmetric nat_cmp-IsAntisymmetric a.0.0 b.0.0 e in
     ap (λ (x : List ℕ). let d : Digest = record { 0 = x } in let id : ObjectId = record { 0 = d } in id) bytes
+
+ids-tie : (a b : ObjectId) → eq_by_cmp id_cmp a b ≡ true → a ≡ b
+ids-tie a b e = ids-unique a b (is-equal (slice_cmp nat_cmp a.0.0 b.0.0) e)
 
 ids-apart : (a b : ObjectId) → id_eq a b ≡ false → eq_by_cmp id_cmp a b ≡ false
 ids-apart a b e = go (eq_by_cmp id_cmp a b) refl
@@ -81,8 +84,11 @@ stays-after m x id none =
 
 -- ---- written entries
 
-here : (m : Objects) (o : Object) → get (with_object m o) o.id ≡ Some o
+pub here : (m : Objects) (o : Object) → get (with_object m o) o.id ≡ Some o
 here m o = get-insert ids-total m o.id o o.id ∙ ap (λ b. cond b (Some o) (get m o.id)) (ids-same o.id)
+
+pub elsewhere : (m : Objects) (o : Object) (id : ObjectId) → id_eq id o.id ≡ false → get (with_object m o) id ≡ get m id
+elsewhere m o id e = get-insert ids-total m o.id o id ∙ ap (λ b. cond b (Some o) (get m id)) (ids-apart id o.id e)
 
 -- of objects with different ids each stands under its own
 stands-with : (m : Objects) (os : List Object) (more : List ObjectId) (o : Object) → repeats id_eq (map id_of os ++ more) ≡ false → Has os o → (get (fold with_object m os) o.id ≡ Some o) × (has_id more o.id ≡ false)

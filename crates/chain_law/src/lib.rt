@@ -3,7 +3,7 @@
 //! it leaves the objects that were left there.
 #![tactic(auto)]
 
-ghost use Rattle.chain_law.specs.Leaving.{LiveIsMap};
+ghost use Rattle.chain_law.specs.Leaving.{LiveIsMap, LiveListIsMap};
 ghost use Rattle.chain_law.specs.Orderly.{ChainReads};
 
 /// One thread that goes over orderly steps reads at each step exactly that step's objects, and so gives its effects.
@@ -14,4 +14,9 @@ pub fn chain_reads()
 /// After executions of orderly steps, in any order, the live object of each id is what one thread's map has.
 pub fn live_is_map()
     ensures { LiveIsMap }
+{}
+
+/// So the list of live objects is that of one thread's map.
+pub fn live_list_is_map()
+    ensures { LiveListIsMap }
 {}
