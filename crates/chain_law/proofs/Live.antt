@@ -5,21 +5,20 @@ use Rattle.std.specs.List.{list_any}
 use Rattle.std.specs.FinMap.{get}
 use Rattle.chain_types.specs.declared.objects.ObjectId.{ObjectId}
 use Rattle.chain_types.specs.declared.objects.Object.{Object}
-use Rattle.chain_types.specs.declared.transactions.Input.{Input}
 use Rattle.block_types.specs.declared.pieces.Executed.{Executed}
 use Rattle.chain_types.specs.Equal.{id_eq}
 use Rattle.chain_spec.specs.Words.{Has, Along}
 use Rattle.chain_spec.specs.Tests.{has_id}
-use Rattle.chain_spec.specs.Keys.{objects_of, version_of}
+use Rattle.chain_spec.specs.Keys.{objects_of}
 use Rattle.chain_spec.proofs.ListLemmas.{or-second}
 use Rattle.member_spec.specs.Versions.{Execution, Version, opened, written, written_by, versions, is_id, object_in, newer, newest, is_deleted, live}
 use Rattle.member_spec.specs.Sequential.{Objects, map_of, map_after, Folded, fold_all}
 use Rattle.block_law.proofs.Counts.{id_same, id_refl}
-use Rattle.chain_law.specs.Orderly.{Step, gave, tx_of, id_of, Makes, IsKnown, IsOrderly, AreApart, AreOrderly}
+use Rattle.chain_law.specs.Orderly.{Step, gave, tx_of, id_of, IsKnown, IsOrderly, AreApart, AreOrderly}
 use Rattle.chain_law.specs.Leaving.{IsOfSteps}
-use Rattle.chain_law.proofs.Standing.{any-parts, stays-after, stands-after, stands-opening, gone-after, none-opening}
-use Rattle.chain_law.proofs.Touched.{has-parts, has-mapped, IsReplaced, IsTouched, touched-object, touched-deleted, written-version, above}
-use Rattle.chain_law.proofs.Reading.{has-left, has-right, has-id, has-mapped-id, given_ids, object-given, Reads, after_steps, after-push, Finds, WroteKnown, IsGoneOver, given-once, finds-next, over-next, thread-is, goes-over, known-more}
+use Rattle.chain_law.proofs.Standing.{stays-after, stands-after, stands-opening, gone-after, none-opening}
+use Rattle.chain_law.proofs.Touched.{has-parts, has-mapped, IsReplaced, IsTouched, touched-object, written-version, above}
+use Rattle.chain_law.proofs.Reading.{has-left, has-right, has-id, has-mapped-id, given_ids, object-given, after_steps, after-push, WroteKnown, IsGoneOver, given-once, finds-next, over-next, thread-is, goes-over, known-more}
 use Rattle.chain_law.proofs.Newest.{IsUpTo, newest-is}
 
 -- ---- elements

@@ -1,16 +1,15 @@
 -- The list of live objects is that of one thread's map.
 use Rattle.std.proofs.Common.{inl, inr, refl, ap, subst, sym, ◌∙◌}
-use Rattle.std.specs.Prelude.{◌≡◌, ◌⊎◌, Bool, true, false, cond, List, [], ◌∷◌, map, fold, length, Option, Some, None}
-use Rattle.std.specs.FinMap.{get, empty, entries, values, insert, entries-insert, len-empty, len-entries, get-empty, get-insert, same_map}
-use Rattle.std.specs.Ordering.{eq_by_cmp}
+use Rattle.std.specs.Prelude.{◌≡◌, ◌⊎◌, Bool, true, false, List, [], ◌∷◌, map, fold, length, Option, Some, None}
+use Rattle.std.specs.FinMap.{get, empty, entries, values, entries-insert, len-empty, len-entries, get-empty, same_map}
 use Rattle.chain_types.specs.declared.objects.ObjectId.{ObjectId}
 use Rattle.chain_types.specs.declared.objects.Object.{Object}
 use Rattle.chain_types.specs.Equal.{id_eq}
 use Rattle.chain_spec.specs.Words.{Has}
-use Rattle.member_spec.specs.Versions.{Execution, Version, object_in, id_cmp, with_live, versions, live, live_list}
+use Rattle.member_spec.specs.Versions.{Execution, Version, id_cmp, with_live, versions, live, live_list}
 use Rattle.member_spec.specs.Sequential.{Objects, with_object, map_of, fold_all}
 use Rattle.block_law.proofs.Counts.{id_same, id_refl}
-use Rattle.chain_law.specs.Orderly.{tx_of, id_of, Step, AreApart, AreOrderly}
+use Rattle.chain_law.specs.Orderly.{tx_of, Step, AreApart, AreOrderly}
 use Rattle.chain_law.specs.Leaving.{IsOfSteps}
 use Rattle.chain_law.proofs.Standing.{ids-total, ids-unique, here, elsewhere}
 use Rattle.chain_law.proofs.Live.{live-is-map, live-there}

@@ -1,7 +1,7 @@
 -- The newest of some objects is the one that no other exceeds.
 use Rattle.std.proofs.Common.{inl, inr, refl, ap, subst, sym, ◌∙◌, arith}
-use Rattle.std.proofs.lemmas.Bool.{ltb-true, ltb-false, lt-ltb, le-ltb}
-use Rattle.std.specs.Prelude.{◌≡◌, ◌⊎◌, ◌<◌, ◌≤◌, Bool, true, false, cond, nat_lt, List, [], ◌∷◌, fold, Option, Some, None}
+use Rattle.std.proofs.lemmas.Bool.{lt-ltb, le-ltb}
+use Rattle.std.specs.Prelude.{◌≡◌, ◌⊎◌, ◌<◌, Bool, true, false, cond, nat_lt, List, [], ◌∷◌, fold, Option, Some, None}
 use Rattle.chain_types.specs.declared.objects.Object.{Object}
 use Rattle.chain_spec.specs.Words.{Has}
 use Rattle.member_spec.specs.Versions.{newer}

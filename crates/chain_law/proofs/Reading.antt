@@ -1,10 +1,9 @@
 -- One thread over orderly steps reads at each step that step's objects.
 use Rattle.std.proofs.Common.{inl, inr, refl, ap, subst, sym, ◌∙◌, append_assoc, append-nil}
-use Rattle.std.proofs.lemmas.Bool.{eqb-true, eq-eqb}
-use Rattle.std.specs.Prelude.{◌≡◌, ◌⊎◌, ℕ, Bool, true, false, cond, ◌&&◌, ◌||◌, ◌==◌, nat_lt, List, [], ◌∷◌, ◌++◌, map, fold, zip, filter, filter_map, Option, Some, None, if◌then◌else◌}
-use Rattle.std.specs.List.{list_any, cons_option}
+use Rattle.std.proofs.lemmas.Bool.{eqb-true}
+use Rattle.std.specs.Prelude.{◌≡◌, ◌⊎◌, ℕ, Bool, true, false, cond, ◌&&◌, ◌||◌, ◌==◌, nat_lt, List, [], ◌∷◌, ◌++◌, map, fold, zip, filter, filter_map, Option, Some, None}
+use Rattle.std.specs.List.{cons_option}
 use Rattle.std.specs.FinMap.{get}
-use Rattle.digest_core.specs.declared.Digest.{Digest}
 use Rattle.chain_types.specs.declared.objects.ObjectId.{ObjectId}
 use Rattle.chain_types.specs.declared.objects.ObjectKey.{ObjectKey}
 use Rattle.chain_types.specs.declared.objects.ObjectRef.{ObjectRef}
@@ -15,23 +14,21 @@ use Rattle.chain_types.specs.declared.objects.Address.{Address}
 use Rattle.chain_types.specs.declared.transactions.Input.{Input}
 use Rattle.chain_types.specs.declared.transactions.Input.TheVariants as inputs
 use Rattle.chain_types.specs.declared.transactions.Transaction.{Transaction}
-use Rattle.effects_core.specs.declared.effects.Effects.{Effects}
 use Rattle.effects_core.specs.declared.effects.Written.{Written}
-use Rattle.block_types.specs.declared.pieces.Executed.{Executed}
 use Rattle.chain_types.specs.Equal.{digest_eq, id_eq}
 use Rattle.chain_types.specs.Digests.{is_object, key_of, consumed_key, consumed_keys, digest_of_object}
-use Rattle.chain_spec.specs.Words.{Has, Each, Along, repeats, all_some, onto_some}
+use Rattle.chain_spec.specs.Words.{Has, Along, repeats, all_some, onto_some}
 use Rattle.chain_spec.specs.Tests.{has_id}
 use Rattle.chain_spec.specs.Keys.{object_key, objects_of, mutable_id, is_owned_by, is_shared_since, is_immutable, fits_input, fit_inputs, pays_gas, fits, version_of, version_limit}
 use Rattle.chain_spec.proofs.ListLemmas.{along-push, and-first, and-second}
-use Rattle.block_spec.specs.Execution.{execution, is_written, written_of}
+use Rattle.block_spec.specs.Execution.{execution, is_written}
 use Rattle.member_spec.specs.Sequential.{Objects, map_of, at_version, named_in, read_by, map_after, Folded, without_effects, with_execution, executed_on, fold_one, fold_all}
-use Rattle.block_law.specs.Names.{effect_ids, touched_ids}
+use Rattle.block_law.specs.Names.{touched_ids}
 use Rattle.block_law.proofs.Counts.{id_same, id_refl}
 use Rattle.block_law.proofs.Effects.{written-ids, written-are, name_once}
-use Rattle.chain_law.specs.Orderly.{Step, gave, tx_of, id_of, Makes, IsKnown, MutatesNot, IsLeftAlone, IsOpened, IsWritten, IsSource, IsOrderly, AreApart, ReadsSame, effects_in, IsOneThread}
+use Rattle.chain_law.specs.Orderly.{Step, gave, tx_of, id_of, Makes, IsKnown, IsLeftAlone, IsOpened, IsWritten, IsSource, IsOrderly, AreApart, ReadsSame, effects_in, IsOneThread}
 use Rattle.chain_law.proofs.Standing.{stays-after, stands-after, stands-opening}
-use Rattle.chain_law.proofs.Touched.{has-parts, IsReplaced, IsTouched, touched-object, touched-deleted}
+use Rattle.chain_law.proofs.Touched.{has-parts, IsTouched, touched-object, touched-deleted}
 
 -- ---- elements
 

@@ -1,6 +1,6 @@
 -- What an execution writes stands in the map behind it, and what it does not touch stays there.
 use Rattle.std.proofs.Common.{inl, inr, refl, ap, subst, sym, ◌∙◌}
-use Rattle.std.specs.Prelude.{◌≡◌, Bool, true, false, cond, ◌||◌, List, [], ◌∷◌, ◌++◌, map, fold, Option, Some, None, ℕ}
+use Rattle.std.specs.Prelude.{◌≡◌, Bool, true, false, cond, ◌||◌, List, [], ◌∷◌, ◌++◌, map, fold, Some, None, ℕ}
 use Rattle.std.specs.FinMap.{get, empty, get-empty, get-insert, get-remove, nat_cmp-IsAntisymmetric, slice_cmp-IsAntisymmetric}
 use Rattle.std.specs.Ordering.{nat_cmp, is_eq, eq_by_cmp}
 use Rattle.std.specs.declared.cmp.Ordering.{Ordering}
@@ -17,7 +17,7 @@ use Rattle.chain_spec.specs.Tests.{has_id}
 use Rattle.chain_spec.proofs.ListLemmas.{or-first, or-second}
 use Rattle.member_spec.specs.Versions.{id_cmp}
 use Rattle.member_spec.specs.Sequential.{Objects, with_object, without_id, map_of, map_after}
-use Rattle.block_law.proofs.Counts.{id_equal, id_refl}
+use Rattle.block_law.proofs.Counts.{id_equal}
 use Rattle.chain_law.specs.Orderly.{id_of, AreApart}
 
 -- ---- the order of ids
