@@ -3,3 +3,4 @@ pub mod InSequences
 pub mod Appends
 pub mod Prefixes
 pub mod Supply
+pub mod Executing

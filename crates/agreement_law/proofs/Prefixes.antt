@@ -100,7 +100,7 @@ earlier-what r opening q commits = record { admitted = grows-mark r.writers open
 earlier-what r opening q (counts m) = earlier-counted (ends_with_member r q m) q m
 earlier-what r opening q (ignores cause) = earlier-same q
 
-earlier-saw : (r : Rules) (opening : List Object) (epoch : ℕ) (q : Sequence) (bytes : List ℕ) → IsEarlier q (saw r opening epoch q bytes)
+pub earlier-saw : (r : Rules) (opening : List Object) (epoch : ℕ) (q : Sequence) (bytes : List ℕ) → IsEarlier q (saw r opening epoch q bytes)
 unfolding saw with_entry
 earlier-saw r opening epoch q bytes = go q.ended (earlier-what r opening q (what_of r epoch q bytes))
   where

@@ -2,6 +2,7 @@
 //! equal objects admit the same transactions in the same order, and cut the same checkpoints.
 #![tactic(auto)]
 
+ghost use Rattle.agreement_law.specs.Explained.{ExecutionsExplained};
 ghost use Rattle.agreement_law.specs.Agreed.{EveryAdmission, HeldAsGiven, MembersFollowTheSequence, OneSequence};
 
 /// What a member has of its sequence is what the first entries of the world's sequence of its epoch give.
@@ -24,4 +25,10 @@ pub fn every_admission()
 /// Each certificate that a member holds was delivered in the run, is valid and of the member's epoch.
 pub fn held_as_given()
     ensures { HeldAsGiven }
+{}
+
+/// Each execution of a member is that of a certificate that it holds, on the objects that the certificate wants, which
+/// were there and fit it.
+pub fn executions_explained()
+    ensures { ExecutionsExplained }
 {}

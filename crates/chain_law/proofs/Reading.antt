@@ -1,10 +1,9 @@
 -- One thread over orderly steps reads at each step that step's objects.
 use Rattle.std.proofs.Common.{inl, inr, refl, ap, subst, sym, ◌∙◌, append_assoc, append-nil}
-use Rattle.std.proofs.lemmas.Bool.{eqb-true, eq-eqb}
-use Rattle.std.specs.Prelude.{◌≡◌, ◌⊎◌, ℕ, Bool, true, false, cond, ◌&&◌, ◌||◌, ◌==◌, nat_lt, List, [], ◌∷◌, ◌++◌, map, fold, zip, filter, filter_map, Option, Some, None, if◌then◌else◌}
-use Rattle.std.specs.List.{list_any, cons_option}
+use Rattle.std.proofs.lemmas.Bool.{eqb-true}
+use Rattle.std.specs.Prelude.{◌≡◌, ◌⊎◌, ℕ, Bool, true, false, cond, ◌&&◌, ◌||◌, ◌==◌, nat_lt, List, [], ◌∷◌, ◌++◌, map, fold, zip, filter, filter_map, Option, Some, None}
+use Rattle.std.specs.List.{cons_option}
 use Rattle.std.specs.FinMap.{get}
-use Rattle.digest_core.specs.declared.Digest.{Digest}
 use Rattle.chain_types.specs.declared.objects.ObjectId.{ObjectId}
 use Rattle.chain_types.specs.declared.objects.ObjectKey.{ObjectKey}
 use Rattle.chain_types.specs.declared.objects.ObjectRef.{ObjectRef}
@@ -15,36 +14,34 @@ use Rattle.chain_types.specs.declared.objects.Address.{Address}
 use Rattle.chain_types.specs.declared.transactions.Input.{Input}
 use Rattle.chain_types.specs.declared.transactions.Input.TheVariants as inputs
 use Rattle.chain_types.specs.declared.transactions.Transaction.{Transaction}
-use Rattle.effects_core.specs.declared.effects.Effects.{Effects}
 use Rattle.effects_core.specs.declared.effects.Written.{Written}
-use Rattle.block_types.specs.declared.pieces.Executed.{Executed}
 use Rattle.chain_types.specs.Equal.{digest_eq, id_eq}
 use Rattle.chain_types.specs.Digests.{is_object, key_of, consumed_key, consumed_keys, digest_of_object}
-use Rattle.chain_spec.specs.Words.{Has, Each, Along, repeats, all_some, onto_some}
+use Rattle.chain_spec.specs.Words.{Has, Along, repeats, all_some, onto_some}
 use Rattle.chain_spec.specs.Tests.{has_id}
 use Rattle.chain_spec.specs.Keys.{object_key, objects_of, mutable_id, is_owned_by, is_shared_since, is_immutable, fits_input, fit_inputs, pays_gas, fits, version_of, version_limit}
 use Rattle.chain_spec.proofs.ListLemmas.{along-push, and-first, and-second}
-use Rattle.block_spec.specs.Execution.{execution, is_written, written_of}
+use Rattle.block_spec.specs.Execution.{execution, is_written}
 use Rattle.member_spec.specs.Sequential.{Objects, map_of, at_version, named_in, read_by, map_after, Folded, without_effects, with_execution, executed_on, fold_one, fold_all}
-use Rattle.block_law.specs.Names.{effect_ids, touched_ids}
+use Rattle.block_law.specs.Names.{touched_ids}
 use Rattle.block_law.proofs.Counts.{id_same, id_refl}
 use Rattle.block_law.proofs.Effects.{written-ids, written-are, name_once}
-use Rattle.chain_law.specs.Orderly.{Step, gave, tx_of, id_of, Makes, IsKnown, MutatesNot, IsLeftAlone, IsOpened, IsWritten, IsSource, IsOrderly, AreApart, ReadsSame, effects_in, IsOneThread}
+use Rattle.chain_law.specs.Orderly.{Step, gave, tx_of, id_of, Makes, IsKnown, IsLeftAlone, IsOpened, IsWritten, IsSource, IsOrderly, AreApart, ReadsSame, effects_in, IsOneThread}
 use Rattle.chain_law.proofs.Standing.{stays-after, stands-after, stands-opening}
-use Rattle.chain_law.proofs.Touched.{has-parts, IsReplaced, IsTouched, touched-object, touched-deleted}
+use Rattle.chain_law.proofs.Touched.{has-parts, IsTouched, touched-object, touched-deleted}
 
 -- ---- elements
 
-has-left : {A : Type 0} (xs ys : List A) (y : A) → Has xs y → Has (xs ++ ys) y
+pub has-left : {A : Type 0} (xs ys : List A) (y : A) → Has xs y → Has (xs ++ ys) y
 has-left [] ys y h = absurd h
 has-left (x ∷ xs) ys y (inl e) = inl e
 has-left (x ∷ xs) ys y (inr h) = inr (has-left xs ys y h)
 
-has-right : {A : Type 0} (xs ys : List A) (y : A) → Has ys y → Has (xs ++ ys) y
+pub has-right : {A : Type 0} (xs ys : List A) (y : A) → Has ys y → Has (xs ++ ys) y
 has-right [] ys y h = h
 has-right (x ∷ xs) ys y h = inr (has-right xs ys y h)
 
-has-zip : {A B : Type 0} (xs : List A) (ys : List B) (x : A) (y : B) → Has (zip xs ys) (x, y) → Has xs x
+pub has-zip : {A B : Type 0} (xs : List A) (ys : List B) (x : A) (y : B) → Has (zip xs ys) (x, y) → Has xs x
 has-zip [] ys x y h = absurd h
 has-zip (a ∷ xs) [] x y h = absurd h
 has-zip {A = A} {B = B} (a ∷ xs) (b ∷ ys) x y (inl e) = inl (ap (λ (z : A × B). z.0) e)
@@ -75,7 +72,7 @@ has-picked f (z ∷ xs) x y (inr h) e = go (f z) (has-picked f xs x y h e)
     go None h = h
     go (Some w) h = inr h
 
-has-id : (ids : List ObjectId) (id : ObjectId) → Has ids id → has_id ids id ≡ true
+pub has-id : (ids : List ObjectId) (id : ObjectId) → Has ids id → has_id ids id ≡ true
 has-id [] id h = absurd h
 has-id (i ∷ ids) id (inl e) = subst (λ (z : ObjectId). (id_eq id z || has_id ids id) ≡ true) (sym e) (rw (id_refl id) refl)
 has-id (i ∷ ids) id (inr h) = go (id_eq id i) (has-id ids id h)
@@ -85,7 +82,7 @@ has-id (i ∷ ids) id (inr h) = go (id_eq id i) (has-id ids id h)
     go false e = e
 
 -- an id is not among these, where none of them is it
-no-id : (ids : List ObjectId) (id : ObjectId) → ((i : ObjectId) → Has ids i → i ≡ id → ⊥) → has_id ids id ≡ false
+pub no-id : (ids : List ObjectId) (id : ObjectId) → ((i : ObjectId) → Has ids i → i ≡ id → ⊥) → has_id ids id ≡ false
 no-id [] id none = refl
 no-id (i ∷ ids) id none = go (id_eq id i) refl (no-id ids id (λ j h e. none j (inr h) e))
   where
@@ -151,7 +148,7 @@ fits-each t (j ∷ is) [] i o e h = absurd h
 fits-each t (j ∷ is) (p ∷ os) i o e (inl q) = subst (λ (x : Input × Object). fits_input t x.0 x.1 ≡ true) q (and-first (fits_input t j p) (fit_inputs t is os) e)
 fits-each t (j ∷ is) (p ∷ os) i o e (inr h) = fits-each t is os i o (and-second (fits_input t j p) (fit_inputs t is os) e) h
 
-fits-inputs : (t : Transaction) (os : List Object) → fits t os ≡ true → fit_inputs t (objects_of t) os ≡ true
+pub fits-inputs : (t : Transaction) (os : List Object) → fits t os ≡ true → fit_inputs t (objects_of t) os ≡ true
 unfolding fits
 fits-inputs t os e = and-first (fit_inputs t (objects_of t) os) (pays_gas t os) (and-first (fit_inputs t (objects_of t) os && pays_gas t os) (nat_lt (version_of os) version_limit) e)
 
@@ -217,11 +214,11 @@ module _ (y x : Step) (j i : Input) (p : Object) (keys : NoSharedKey y x) (write
       go (inputs.Shared id initial false) e may = cc
 
 -- the objects that a step names stand in the map
-abbrev Reads : Objects → Step → Type 0
+abbrev pub Reads : Objects → Step → Type 0
 Reads m y = (i : Input) (o : Object) → Has (zip (objects_of y.tx) y.inputs) (i, o) → get m o.id ≡ Some o
 
 -- the ids of written and deleted objects
-abbrev given_ids : Step → List ObjectId
+abbrev pub given_ids : Step → List ObjectId
 given_ids y = map id_of (gave y).objects ++ (gave y).effects.deleted
 
 object-id : (P : ObjectId → Type 0) (os : List Object) (id : ObjectId) → ((o : Object) → Has os o → P o.id) → Has (map id_of os) id → P id
@@ -229,12 +226,20 @@ object-id P [] id each h = absurd h
 object-id P (o ∷ os) id each (inl e) = subst P e (each o (inl refl))
 object-id P (o ∷ os) id each (inr h) = object-id P os id (λ q k. each q (inr k)) h
 
-given-touched : (y : Step) (id : ObjectId) → Has (given_ids y) id → IsTouched y id
+pub given-touched : (y : Step) (id : ObjectId) → Has (given_ids y) id → IsTouched y id
 given-touched y id h = go (has-parts (map id_of (gave y).objects) (gave y).effects.deleted id h)
   where
     go : Has (map id_of (gave y).objects) id ⊎ Has (gave y).effects.deleted id → IsTouched y id
     go (inl h) = object-id (IsTouched y) (gave y).objects id (touched-object y) h
     go (inr h) = touched-deleted y id h
+
+pub has-mapped-id : (os : List Object) (o : Object) → Has os o → Has (map id_of os) o.id
+has-mapped-id [] o h = absurd h
+has-mapped-id (p ∷ os) o (inl e) = inl (ap id_of e)
+has-mapped-id (p ∷ os) o (inr h) = inr (has-mapped-id os o h)
+
+pub object-given : (y : Step) (o : Object) → Has (gave y).objects o → Has (given_ids y) o.id
+object-given y o h = has-left (map id_of (gave y).objects) (gave y).effects.deleted o.id (has-mapped-id (gave y).objects o h)
 
 -- an object that stands, and that a later step reads, still stands behind this one
 still-stands : (m : Objects) (y x : Step) (i : Input) (o : Object) → Reads m y → fits y.tx y.inputs ≡ true → fits_input x.tx i o ≡ true → Has (objects_of x.tx) i → NoSharedKey y x → AloneOf i y → (Makes y o.id → ⊥) → get m o.id ≡ Some o → get (map_after m (gave y)) o.id ≡ Some o
@@ -254,21 +259,21 @@ still-stands m y x i o reads fit fitting needs keys alone fresh stands = stays-a
 
 module _ (opening : List Object) where
   -- the map behind these steps
-  abbrev after_steps : List Step → Objects
+  abbrev pub after_steps : List Step → Objects
   after_steps before = fold (λ (m : Objects) (y : Step). map_after m (gave y)) (map_of opening) before
 
-  after-push : (m : Objects) (before : List Step) (y : Step) → fold (λ (m : Objects) (y : Step). map_after m (gave y)) m (before ++ y ∷ []) ≡ map_after (fold (λ (m : Objects) (y : Step). map_after m (gave y)) m before) (gave y)
+  pub after-push : (m : Objects) (before : List Step) (y : Step) → fold (λ (m : Objects) (y : Step). map_after m (gave y)) m (before ++ y ∷ []) ≡ map_after (fold (λ (m : Objects) (y : Step). map_after m (gave y)) m before) (gave y)
   after-push m [] y = refl
   after-push m (z ∷ before) y = after-push (map_after m (gave z)) before y
 
-  abbrev Finds : List Step → Step → Type 0
+  abbrev pub Finds : List Step → Step → Type 0
   Finds before y = Reads (after_steps before) y
 
-  along-back : (P : List Step → Step → Type 0) (before front back : List Step) → Along P before (front ++ back) → Along P (before ++ front) back
+  pub along-back : (P : List Step → Step → Type 0) (before front back : List Step) → Along P before (front ++ back) → Along P (before ++ front) back
   along-back P before [] back along = subst (λ (xs : List Step). Along P xs back) (sym (append-nil before)) along
   along-back P before (y ∷ front) back along = subst (λ (xs : List Step). Along P xs back) (append_assoc before (y ∷ []) front) (along-back P (before ++ y ∷ []) front back along.1)
 
-  known-more : (before more : List Step) (id : ObjectId) → IsKnown opening before id → IsKnown opening (before ++ more) id
+  pub known-more : (before more : List Step) (id : ObjectId) → IsKnown opening before id → IsKnown opening (before ++ more) id
   known-more before more id (inl o) = inl o
   known-more before more id (inr (y, h, makes)) = inr (y, has-left before more y h, makes)
 
@@ -294,16 +299,16 @@ module _ (opening : List Object) where
       (subst (λ (m : Objects). get m o.id ≡ Some o) (sym (after-push (map_of opening) front y))
       (still-stands (after_steps front) y x i o finds.0 orderly.0.fit fitting needs (keys y (inl refl)) (alone-first i y back alone) (λ makes. orderly.0.fresh o.id makes known) stands)))
 
-  -- the ids of what a step wrote are known behind it
-  abbrev WroteKnown : List Step → Step → Type 0
-  WroteKnown before y = (o : Object) → Has (gave y).objects o → IsKnown opening (before ++ y ∷ []) o.id
+  -- the ids that a step wrote or deleted are known behind it
+  abbrev pub WroteKnown : List Step → Step → Type 0
+  WroteKnown before y = (id : ObjectId) → Has (given_ids y) id → IsKnown opening (before ++ y ∷ []) id
 
-  record IsGoneOver (before : List Step) : Type 0 where
-    orderly : Along (IsOrderly opening) [] before
-    finds : Along Finds [] before
-    known : Along WroteKnown [] before
+  pub record IsGoneOver (before : List Step) : Type 0 where
+    pub orderly : Along (IsOrderly opening) [] before
+    pub finds : Along Finds [] before
+    pub known : Along WroteKnown [] before
 
-  given-once : (y : Step) → fits y.tx y.inputs ≡ true → repeats id_eq (touched_ids y.tx (gave y).effects) ≡ false → repeats id_eq (given_ids y) ≡ false
+  pub given-once : (y : Step) → fits y.tx y.inputs ≡ true → repeats id_eq (touched_ids y.tx (gave y).effects) ≡ false → repeats id_eq (given_ids y) ≡ false
   given-once y fit once = subst (λ (ids : List ObjectId). repeats id_eq (ids ++ (gave y).effects.deleted) ≡ false)
       (ap (map (λ (w : Written). w.id)) (written-are y.tx y.inputs) ∙ written-ids (gave y).objects) (name_once y.tx y.inputs fit once)
 
@@ -313,7 +318,7 @@ module _ (opening : List Object) where
     source-known i o (inr from) =
         let known = along-back WroteKnown [] from.front (from.writer ∷ from.back) (subst (λ (ys : List Step). Along WroteKnown [] ys) from.split over.known) in
         let whole : (from.front ++ from.writer ∷ []) ++ from.back ≡ before = append_assoc from.front (from.writer ∷ []) from.back ∙ sym from.split in
-        subst (λ (ys : List Step). IsKnown opening ys o.id) whole (known-more (from.front ++ from.writer ∷ []) from.back o.id (known.0 o from.written))
+        subst (λ (ys : List Step). IsKnown opening ys o.id) whole (known-more (from.front ++ from.writer ∷ []) from.back o.id (known.0 o.id (object-given from.writer o from.written)))
 
     module _ (i : Input) (o : Object) (named : Has (zip (objects_of x.tx) x.inputs) (i, o)) where
       fitting : fits_input x.tx i o ≡ true
@@ -331,7 +336,7 @@ module _ (opening : List Object) where
           subst (λ (ys : List Step). get (after_steps ys) o.id ≡ Some o) (sym whole)
           (stays x i o fitting (has-zip (objects_of x.tx) x.inputs i o named) (from.front ++ from.writer ∷ []) from.back orderly.1 finds.1
           (λ y h. next.apart y (subst (λ (ys : List Step). Has ys y) (sym from.split) (has-right from.front (from.writer ∷ from.back) y (inr h)))) from.alone
-          (known.0 o from.written)
+          (known.0 o.id (object-given from.writer o from.written))
           (subst (λ (m : Objects). get m o.id ≡ Some o) (sym (after-push (map_of opening) from.front from.writer))
           (stands-after (after_steps from.front) (gave from.writer) o (given-once from.writer orderly.0.fit orderly.0.once) from.written)))
 
@@ -339,30 +344,30 @@ module _ (opening : List Object) where
       found (inl from) = from-opening from
       found (inr from) = from-writer from
 
-    finds-next : Finds before x
+    pub finds-next : Finds before x
     finds-next i o named = found i o named (next.sources i o named)
 
     known-next : WroteKnown before x
-    known-next o h = go (touched-object x o h)
+    known-next id h = go (given-touched x id h)
       where
-        go : IsTouched x o.id → IsKnown opening (before ++ x ∷ []) o.id
+        go : IsTouched x id → IsKnown opening (before ++ x ∷ []) id
         go (inr makes) = inr (x, has-right before (x ∷ []) x (inl refl), makes)
         go (inl it) = subst (IsKnown opening (before ++ x ∷ [])) it.same (known-more before (x ∷ []) it.old.id (source-known it.of it.old (next.sources it.of it.old it.named)))
 
-    over-next : IsGoneOver (before ++ x ∷ [])
+    pub over-next : IsGoneOver (before ++ x ∷ [])
     over-next = record {
       orderly = along-push (IsOrderly opening) [] before x over.orderly next;
       finds = along-push Finds [] before x over.finds finds-next;
       known = along-push WroteKnown [] before x over.known known-next;
     }
 
-  goes-over : AreApart opening → (xs before : List Step) → IsGoneOver before → Along (IsOrderly opening) before xs → IsGoneOver (before ++ xs)
+  pub goes-over : AreApart opening → (xs before : List Step) → IsGoneOver before → Along (IsOrderly opening) before xs → IsGoneOver (before ++ xs)
   goes-over distinct [] before over next = subst IsGoneOver (sym (append-nil before)) over
   goes-over distinct (x ∷ xs) before over next = subst IsGoneOver (append_assoc before (x ∷ []) xs) (goes-over distinct xs (before ++ x ∷ []) (over-next distinct before over x next.0) next.1)
 
   -- ---- one thread
 
-  abbrev thread_after : List Step → Folded
+  abbrev pub thread_after : List Step → Folded
   thread_after before = record { map = after_steps before; effects = map effects_in before }
 
   read-all : (m : Objects) (t : Transaction) (is : List Input) (os : List Object) → fit_inputs t is os ≡ true → ((i : Input) (o : Object) → Has (zip is os) (i, o) → get m o.id ≡ Some o) → all_some (map (named_in m) is) ≡ Some os
@@ -419,7 +424,7 @@ module _ (opening : List Object) where
       ∙ thread-all xs (before ++ x ∷ []) orderly.1 finds.1
       ∙ ap thread_after (append_assoc before (x ∷ []) xs)
 
-  thread-is : (steps : List Step) → Along (IsOrderly opening) [] steps → Along Finds [] steps → fold_all (map_of opening) (map tx_of steps) ≡ thread_after steps
+  pub thread-is : (steps : List Step) → Along (IsOrderly opening) [] steps → Along Finds [] steps → fold_all (map_of opening) (map tx_of steps) ≡ thread_after steps
   unfolding fold_all
   thread-is steps orderly finds = thread-all steps [] orderly finds
 

@@ -1,6 +1,6 @@
 -- An execution touches the objects of the inputs that it may write, and what it creates, and nothing else.
 use Rattle.std.proofs.Common.{inl, inr, refl, ap, subst, sym, ◌∙◌, arith}
-use Rattle.std.specs.Prelude.{◌≡◌, ◌⊎◌, ◌<◌, ℕ, zero, suc, Bool, true, false, cond, List, [], ◌∷◌, ◌++◌, map, zip, filter, filter_map, Option, Some, None, Result, Ok, Err}
+use Rattle.std.specs.Prelude.{◌≡◌, ◌⊎◌, ◌<◌, ◌≤◌, max, ℕ, zero, suc, Bool, true, false, cond, List, [], ◌∷◌, ◌++◌, map, zip, filter, filter_map, find, fold, option_map, Option, Some, None, Result, Ok, Err}
 use Rattle.std.specs.List.{cons_option}
 use Rattle.digest_core.specs.declared.Digest.{Digest}
 use Rattle.chain_types.specs.declared.objects.ObjectId.{ObjectId}
@@ -8,11 +8,15 @@ use Rattle.chain_types.specs.declared.objects.Object.{Object}
 use Rattle.chain_types.specs.declared.transactions.Input.{Input}
 use Rattle.chain_types.specs.declared.transactions.Input.TheVariants as inputs
 use Rattle.chain_types.specs.declared.transactions.Transaction.{Transaction}
-use Rattle.chain_types.specs.Digests.{transaction_digest, is_object}
+use Rattle.chain_types.specs.Digests.{transaction_digest, is_object, lamport_version}
+use Rattle.chain_types.specs.Equal.{id_eq}
+use Rattle.block_types.specs.declared.pieces.Item.{Item}
+use Rattle.block_types.specs.declared.pieces.Placed.{Placed}
+use Rattle.block_spec.specs.Commands.{piece_of}
 use Rattle.chain_spec.specs.Words.{Has, Each, numbers_below}
 use Rattle.chain_spec.specs.Keys.{objects_of, version_of}
-use Rattle.block_spec.specs.Block.{Place, Block}
-use Rattle.block_spec.specs.Execution.{Failure, first_slots, outcome, left_in, after_block, is_written, written_inputs, written_places, created_objects, with_rest_first, is_none_left, deleted_id, same_object, less_cost_first, execution, executed_by}
+use Rattle.block_spec.specs.Block.{Place, Block, value_in}
+use Rattle.block_spec.specs.Execution.{Failure, first_slots, outcome, left_in, object_at, now_in, after_block, is_written, written_inputs, written_places, created_objects, with_rest_first, is_none_left, deleted_id, same_object, less_cost_first, execution, executed_by}
 use Rattle.block_law.specs.Names.{drawn_id}
 use Rattle.block_law.proofs.Blocks.{done-is}
 use Rattle.block_law.proofs.Effects.{IsOrigin, origins, left-id, after-id}
@@ -38,7 +42,7 @@ has-chosen {A = A} {B = B} f (x ∷ xs) y h = go (f x) refl h (has-chosen f xs y
     go (Some z) e (inl q) rest = (x, inl refl, e ∙ ap Some q)
     go (Some z) e (inr h) rest = let r = rest h in (r.0, inr r.1, r.2)
 
-has-mapped : {A B : Type 0} (f : A → B) (xs : List A) (y : B) → Has (map f xs) y → (x : A) × Has xs x × (f x ≡ y)
+pub has-mapped : {A B : Type 0} (f : A → B) (xs : List A) (y : B) → Has (map f xs) y → (x : A) × Has xs x × (f x ≡ y)
 has-mapped f [] y h = absurd h
 has-mapped f (x ∷ xs) y (inl e) = (x, inl refl, e)
 has-mapped f (x ∷ xs) y (inr h) = let r = has-mapped f xs y h in (r.0, inr r.1, r.2)
@@ -172,3 +176,69 @@ module _ (x : Step) where
       go (Ok b) h =
           let from = has-chosen (deleted_id (version_of x.inputs) b) (written_places x.tx x.inputs) id h in
           inl (replaced x from.0.1 id (places x.tx x.inputs from.0 from.1) (which (is_none_left (after_block (version_of x.inputs) b from.0.0 from.0.1)) from.0 from.2))
+
+-- ---- what is written has the version of the transaction
+
+left-version : (version : ℕ) (placed : List Placed) (id : ObjectId) (o : Object) → left_in version placed id ≡ Some o → o.version ≡ version
+left-version version placed id o e = go (find (λ (p : Placed). id_eq p.item.id id) placed) e
+  where
+    go : (f : Option Placed) → option_map (λ (p : Placed). object_at version p.owner p.item) f ≡ Some o → o.version ≡ version
+    go None e = absurd (cc)
+    go (Some p) e = sym (ap (λ (x : Object). x.version) (same e))
+      where
+        same : Some (object_at version p.owner p.item) ≡ Some o → object_at version p.owner p.item ≡ o
+        same e = cc
+
+after-version : (version : ℕ) (b : Block) (p : Place) (old o : Object) → after_block version b p old ≡ Some o → o.version ≡ version
+after-version version b p old o e = go (piece_of (value_in p b.slots)) e
+  where
+    go : (item : Option Item) → now_in version b.placed old item ≡ Some o → o.version ≡ version
+    go None e = left-version version b.placed old.id o e
+    go (Some item) e = sym (ap (λ (x : Object). x.version) (same e))
+      where
+        same : Some (object_at version old.owner item) ≡ Some o → object_at version old.owner item ≡ o
+        same e = cc
+
+rest-version : (t : Transaction) (os : List Object) (o : Object) → Has (with_rest_first t os) o → (q : Object) × Has os q × (q.version ≡ o.version)
+rest-version t [] o h = absurd h
+rest-version t (q ∷ os) o (inl e) = (q, inl refl, ap (λ (y : Object). y.version) e)
+rest-version t (q ∷ os) o (inr h) = (o, inr h, refl)
+
+cost-version : (t : Transaction) (os : List Object) (o : Object) → Has (less_cost_first t os) o → (q : Object) × Has os q × (q.version ≡ o.version)
+cost-version t [] o h = absurd h
+cost-version t (q ∷ os) o (inl e) = (q, inl refl, ap (λ (y : Object). y.version) e)
+cost-version t (q ∷ os) o (inr h) = (o, inr h, refl)
+
+pub written-version : (x : Step) (o : Object) → Has (gave x).objects o → o.version ≡ version_of x.inputs
+unfolding execution
+written-version x o h = go (outcome x.tx (transaction_digest x.tx) x.inputs) h
+  where
+    parts : (b : Block) → Has (with_rest_first x.tx (filter_map (λ (y : Place × Object). after_block (version_of x.inputs) b y.0 y.1) (written_places x.tx x.inputs))) o ⊎ Has (created_objects (transaction_digest x.tx) (version_of x.inputs) b) o → o.version ≡ version_of x.inputs
+    parts b (inl h) =
+        let r = rest-version x.tx (filter_map (λ (y : Place × Object). after_block (version_of x.inputs) b y.0 y.1) (written_places x.tx x.inputs)) o h in
+        let from = has-chosen (λ (y : Place × Object). after_block (version_of x.inputs) b y.0 y.1) (written_places x.tx x.inputs) r.0 r.1 in
+        sym r.2 ∙ after-version (version_of x.inputs) b from.0.0 from.0.1 r.0 from.2
+    parts b (inr h) =
+        let from = has-chosen (λ n. left_in (version_of x.inputs) b.placed (drawn_id (transaction_digest x.tx) n)) (numbers_below b.made) o h in
+        left-version (version_of x.inputs) b.placed (drawn_id (transaction_digest x.tx) from.0) o from.2
+
+    go : (r : Result Block Failure) → Has (executed_by x.tx (transaction_digest x.tx) x.inputs r).objects o → o.version ≡ version_of x.inputs
+    go (Ok b) h = parts b (has-parts (with_rest_first x.tx (filter_map (λ (y : Place × Object). after_block (version_of x.inputs) b y.0 y.1) (written_places x.tx x.inputs))) (created_objects (transaction_digest x.tx) (version_of x.inputs) b) o h)
+    go (Err failure) h =
+        let r = cost-version x.tx (map (λ (y : Place × Object). same_object (version_of x.inputs) y.1) (written_places x.tx x.inputs)) o h in
+        let from = has-mapped (λ (y : Place × Object). same_object (version_of x.inputs) y.1) (written_places x.tx x.inputs) r.0 r.1 in
+        sym r.2 ∙ sym (ap (λ (y : Object). y.version) from.2)
+
+-- it is above the version of each object
+max-start : (a : ℕ) (os : List Object) → a ≤ fold max a (map (λ (o : Object). o.version) os)
+max-start a [] = omega arith
+max-start a (o ∷ os) = let rest = max-start (max a o.version) os in omega (arith, rest)
+
+max-each : (a : ℕ) (os : List Object) (o : Object) → Has os o → o.version ≤ fold max a (map (λ (o : Object). o.version) os)
+max-each a [] o h = absurd h
+max-each a (p ∷ os) o (inl e) = let rest = max-start (max a p.version) os in subst (λ (q : Object). q.version ≤ fold max a (map (λ (o : Object). o.version) (p ∷ os))) e (omega (arith, rest))
+max-each a (p ∷ os) o (inr h) = max-each (max a p.version) os o h
+
+pub above : (os : List Object) (o : Object) → Has os o → o.version < version_of os
+unfolding lamport_version
+above os o h = let e = max-each 0 os o h in omega (arith, e)

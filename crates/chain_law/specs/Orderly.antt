@@ -1,7 +1,6 @@
 -- Steps of a chain: transactions with the objects on which they were executed, in an order in which each object
 -- comes from the opening objects or from an earlier step.
 use Rattle.std.specs.Prelude.{◌≡◌, ◌⊎◌, ◌<◌, ℕ, true, false, List, [], ◌∷◌, ◌++◌, map, zip, filter_map, Option, Some}
-use Rattle.digest_core.specs.declared.Digest.{Digest}
 use Rattle.chain_types.specs.declared.objects.ObjectId.{ObjectId}
 use Rattle.chain_types.specs.declared.objects.ObjectKey.{ObjectKey}
 use Rattle.chain_types.specs.declared.objects.Object.{Object}
@@ -16,7 +15,7 @@ use Rattle.chain_spec.specs.Words.{Has, Each, Along, repeats}
 use Rattle.chain_spec.specs.Tests.{has_id}
 use Rattle.chain_spec.specs.Keys.{objects_of, mutable_id, fits}
 use Rattle.block_spec.specs.Execution.{execution}
-use Rattle.member_spec.specs.Sequential.{Objects, map_of, read_by, Folded, fold_all}
+use Rattle.member_spec.specs.Sequential.{map_of, read_by, fold_all}
 use Rattle.block_law.specs.Names.{drawn_id, touched_ids}
 
 -- a transaction, and the objects on which it was executed
