@@ -32,6 +32,7 @@ fn key(byte: u8, version: u64) -> ObjectKey {
 }
 
 /// A store that opens with these objects, where none stands there twice.
+#[tactic(auto, unfolding(member_spec::specs::Versions::versions))]
 fn opened(alloc: Global, objects: &[Object]) -> Result<Option<Store>, OutOfMemory> {
     let objects = Seq::from_slice(alloc, objects)?;
     let empty = Store::opening(alloc, &Seq::new(alloc))?;

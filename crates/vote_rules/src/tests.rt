@@ -69,6 +69,7 @@ fn unknown() -> ObjectRef {
 }
 
 /// A store that opens with these five.
+#[tactic(auto, unfolding(member_spec::specs::Versions::versions))]
 fn opened(alloc: Global) -> Result<Store, Fail> {
     let objects = Seq::from_slice(alloc, [gas(), hers(), his(), fixed(), shared()].as_slice())?;
     if !Store::opening(alloc, &Seq::new(alloc))?.are_new(&objects)? {
