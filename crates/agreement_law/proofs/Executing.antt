@@ -160,7 +160,13 @@ may-more a b h (rest, q) may = go (not (has_shared_input h.cert.tx)) (is_admitte
 explained-more : (b : Books) (before more : List Execution) (x : Execution) → IsExplained b before x → IsExplained b (before ++ more) x
 unfolding present
 explained-more b before more x it = record {
-  of = it.of; inputs = it.inputs; is_held = it.is_held; may = it.may; fit = it.fit; is = it.is; once = it.once;
+  of = it.of;
+  inputs = it.inputs;
+  is_held = it.is_held;
+  may = it.may;
+  fit = it.fit;
+  is = it.is;
+  once = it.once;
   were_there = subst (λ (held : List Version). all_some (map (found held) (wants_of b.admission it.of)) ≡ Some it.inputs) (sym (versions-more b.opening before more)) (all-found (versions b.opening before) (flat_map written_by more) (wants_of b.admission it.of) it.inputs it.were_there);
 }
 
@@ -168,7 +174,13 @@ explained-books : (opening : List Object) (held longer : List Held) (a b : Admis
     → IsExplained (record { opening = opening; held = held; admission = a }) before x → IsExplained (record { opening = opening; held = longer; admission = b }) before x
 unfolding present
 explained-books opening held longer a b more front before x it = record {
-  of = it.of; inputs = it.inputs; is_held = more it.of it.is_held; may = may-more a b it.of front it.may; fit = it.fit; is = it.is; once = it.once;
+  of = it.of;
+  inputs = it.inputs;
+  is_held = more it.of it.is_held;
+  may = may-more a b it.of front it.may;
+  fit = it.fit;
+  is = it.is;
+  once = it.once;
   were_there = subst (λ (ws : List Wanted). all_some (map (found (versions opening before)) ws) ≡ Some it.inputs) (sym (wants-same a b it.of front it.may)) it.were_there;
 }
 
@@ -183,7 +195,13 @@ module _ (b : Books) where
           → where_true w (executes_as h (execution h.cert.tx objects)) ≡ Some x → IsExplained b executed x
       writing objects false w may were fit e = absurd (cc)
       writing objects true w may were fit e = record {
-        of = h; inputs = objects; is_held = there; may = may; were_there = were; fit = fit; is = same e;
+        of = h;
+        inputs = objects;
+        is_held = there;
+        may = may;
+        were_there = were;
+        fit = fit;
+        is = same e;
         once = not-true (repeats key_eq (written_keys (execution h.cert.tx objects))) (and-second (not (list_any (holds_key (versions b.opening executed)) (written_keys (execution h.cert.tx objects)))) (not (repeats key_eq (written_keys (execution h.cert.tx objects)))) w);
       }
         where
