@@ -6,7 +6,6 @@ use chain_types::{
     object_digest,
 };
 use digest_core::Digest;
-use effects_core::{Effects, Status};
 use lock_table::LockTable;
 use std::alloc::Global;
 use std::test::Fail;
@@ -52,10 +51,6 @@ fn his() -> Object {
     object(3, Owner::Address(BOB), 0, 10)
 }
 
-fn fixed() -> Object {
-    object(4, Owner::Immutable, 0, 10)
-}
-
 fn shared() -> Object {
     object(5, Owner::Shared(1), 0, 10)
 }
@@ -68,14 +63,22 @@ fn unknown() -> ObjectRef {
     }
 }
 
-/// A store that opens with these five.
+/// A store that opens with these objects, where none stands there twice.
 #[tactic(auto, unfolding(member_spec::specs::Versions::versions))]
-fn opened(alloc: Global) -> Result<Store, Fail> {
-    let objects = Seq::from_slice(alloc, [gas(), hers(), his(), fixed(), shared()].as_slice())?;
-    if !Store::opening(alloc, &Seq::new(alloc))?.are_new(&objects)? {
-        return Err(Fail::new("the objects are distinct"));
+fn opened(alloc: Global, objects: &[Object]) -> Result<Option<Store>, OutOfMemory> {
+    let objects = Seq::from_slice(alloc, objects)?;
+    let empty = Store::opening(alloc, &Seq::new(alloc))?;
+    if !empty.are_new(&objects)? {
+        return Ok(None);
     }
-    Ok(Store::opening(alloc, &objects)?)
+    Ok(Some(Store::opening(alloc, &objects)?))
+}
+
+fn store_of(alloc: Global, objects: &[Object]) -> Result<Store, Fail> {
+    match opened(alloc, objects)? {
+        Some(store) => Ok(store),
+        None => Err(Fail::new("the objects are distinct")),
+    }
 }
 
 /// A transaction of Alice's with one input.
@@ -97,236 +100,159 @@ fn transaction(
     })
 }
 
-/// Why there is no vote for a transaction of Alice's with one input and a budget of 2000.
-fn refusal(alloc: Global, gas: ObjectRef, input: Input) -> Result<Option<DecideRefusal>, Fail> {
-    let store = opened(alloc)?;
-    let tx = transaction(alloc, gas, 2000, input)?;
-    Ok(decide(alloc, &store, &LockTable::new(alloc), &tx, &THIS_TX).err())
+/// Why there is no vote.
+fn refusal_by(
+    alloc: Global,
+    store: &Store,
+    locks: &LockTable,
+    tx: &Transaction,
+) -> Option<DecideRefusal> {
+    match decide(alloc, store, locks, tx, &THIS_TX) {
+        Ok(_origins) => None,
+        Err(refusal) => Some(refusal),
+    }
 }
 
-#[test]
-fn a_vote_names_an_origin_for_each_object(rt: HostRuntime) -> Result<(), Fail> {
-    let alloc = rt.alloc();
-    let store = opened(alloc)?;
-    let tx = transaction(
-        alloc,
-        reference(&gas()),
-        5000,
-        Input::Owned(reference(&hers())),
-    )?;
-    let Ok(origins) = decide(alloc, &store, &LockTable::new(alloc), &tx, &THIS_TX) else {
-        return Err(Fail::new("there is a vote"));
-    };
-    assert_eq!(rt; origins.as_slice(), [None, None].as_slice());
-    Ok(())
+/// Why there is no vote for a transaction with this gas and one input, where these objects are held.
+fn refusal(
+    alloc: Global,
+    held: &[Object],
+    gas: ObjectRef,
+    input: Input,
+) -> Result<Option<DecideRefusal>, Fail> {
+    let tx = transaction(alloc, gas, 2000, input)?;
+    let store = store_of(alloc, held)?;
+    Ok(refusal_by(alloc, &store, &LockTable::new(alloc), &tx))
 }
 
 #[test]
 fn what_is_not_held_is_absent(rt: HostRuntime) -> Result<(), Fail> {
-    let alloc = rt.alloc();
-    let absent = Some(DecideRefusal::Absent(unknown().key()));
-    assert_eq!(rt;
-        refusal(alloc, reference(&gas()), Input::Owned(unknown()))?,
-        absent
-    );
-    assert_eq!(rt;
-        refusal(alloc, unknown(), Input::Owned(reference(&his())))?,
-        absent
-    );
+    let input = Input::Owned(unknown());
+    let found = refusal(rt.alloc(), [gas()].as_slice(), reference(&gas()), input)?;
+    assert_eq!(rt; found, Some(DecideRefusal::Absent(unknown().key())));
     Ok(())
 }
 
 #[test]
-fn another_digest_is_refused(rt: HostRuntime) -> Result<(), Fail> {
+fn another_digest_comes_before_another_owner(rt: HostRuntime) -> Result<(), Fail> {
     let altered = ObjectRef {
         digest: OTHER_TX,
         ..reference(&his())
     };
-    let refused = Some(DecideRefusal::WrongDigest(altered.key()));
-    assert_eq!(rt;
-        refusal(rt.alloc(), reference(&gas()), Input::Owned(altered))?,
-        refused
-    );
+    let held = [gas(), his()];
+    let found = refusal(
+        rt.alloc(),
+        held.as_slice(),
+        reference(&gas()),
+        Input::Owned(altered),
+    )?;
+    assert_eq!(rt; found, Some(DecideRefusal::WrongDigest(altered.key())));
     Ok(())
 }
 
 #[test]
 fn what_is_anothers_is_refused(rt: HostRuntime) -> Result<(), Fail> {
-    let refused = Some(DecideRefusal::WrongOwner(reference(&his()).key()));
+    let input = Input::Owned(reference(&his()));
+    let held = [gas(), his()];
+    let found = refusal(rt.alloc(), held.as_slice(), reference(&gas()), input)?;
     assert_eq!(rt;
-        refusal(
-            rt.alloc(),
-            reference(&gas()),
-            Input::Owned(reference(&his()))
-        )?,
-        refused
+        found,
+        Some(DecideRefusal::WrongOwner(reference(&his()).key()))
     );
     Ok(())
 }
 
 #[test]
 fn gas_is_of_the_gas_currency(rt: HostRuntime) -> Result<(), Fail> {
-    let refused = Some(DecideRefusal::WrongKind(reference(&hers()).key()));
+    let input = Input::Owned(reference(&gas()));
+    let held = [gas(), hers()];
+    let found = refusal(rt.alloc(), held.as_slice(), reference(&hers()), input)?;
     assert_eq!(rt;
-        refusal(
-            rt.alloc(),
-            reference(&hers()),
-            Input::Owned(reference(&gas()))
-        )?,
-        refused
+        found,
+        Some(DecideRefusal::WrongKind(reference(&hers()).key()))
     );
     Ok(())
 }
 
 #[test]
-fn each_input_is_of_its_kind(rt: HostRuntime) -> Result<(), Fail> {
-    let alloc = rt.alloc();
-    let owned = Some(DecideRefusal::WrongKind(reference(&fixed()).key()));
-    let immutable = Some(DecideRefusal::WrongKind(reference(&hers()).key()));
+fn an_immutable_input_is_immutable(rt: HostRuntime) -> Result<(), Fail> {
+    let input = Input::Immutable(reference(&hers()));
+    let held = [gas(), hers()];
+    let found = refusal(rt.alloc(), held.as_slice(), reference(&gas()), input)?;
     assert_eq!(rt;
-        refusal(alloc, reference(&gas()), Input::Owned(reference(&fixed())))?,
-        owned
-    );
-    assert_eq!(rt;
-        refusal(
-            alloc,
-            reference(&gas()),
-            Input::Immutable(reference(&hers()))
-        )?,
-        immutable
+        found,
+        Some(DecideRefusal::WrongKind(reference(&hers()).key()))
     );
     Ok(())
-}
-
-/// The shared object, as shared since this version.
-fn since(initial: u64) -> Input {
-    Input::Shared {
-        id: shared().id,
-        initial,
-        mutable: true,
-    }
 }
 
 #[test]
 fn a_shared_object_is_shared_since(rt: HostRuntime) -> Result<(), Fail> {
-    let alloc = rt.alloc();
     let key = ObjectKey {
         id: shared().id,
         version: 2,
     };
-    assert_eq!(rt; refusal(alloc, reference(&gas()), since(1))?, None);
-    assert_eq!(rt;
-        refusal(alloc, reference(&gas()), since(2))?,
-        Some(DecideRefusal::WrongKind(key))
-    );
+    let input = Input::Shared {
+        id: key.id,
+        initial: key.version,
+        mutable: true,
+    };
+    let held = [gas(), shared()];
+    let found = refusal(rt.alloc(), held.as_slice(), reference(&gas()), input)?;
+    assert_eq!(rt; found, Some(DecideRefusal::WrongKind(key)));
     Ok(())
 }
 
 #[test]
 fn gas_holds_the_budget(rt: HostRuntime) -> Result<(), Fail> {
     let alloc = rt.alloc();
-    let store = opened(alloc)?;
-    let tx = transaction(
-        alloc,
-        reference(&gas()),
-        5001,
-        Input::Immutable(reference(&fixed())),
-    )?;
-    let refused = decide(alloc, &store, &LockTable::new(alloc), &tx, &THIS_TX).err();
-    assert_eq!(rt;
-        refused,
-        Some(DecideRefusal::PoorGas {
-            had: 5000,
-            want: 5001
-        })
-    );
+    let tx = transaction(alloc, reference(&gas()), 5001, Input::Pure(Seq::new(alloc)))?;
+    let store = store_of(alloc, [gas()].as_slice())?;
+    let poor = DecideRefusal::PoorGas {
+        had: 5000,
+        want: 5001,
+    };
+    let found = refusal_by(alloc, &store, &LockTable::new(alloc), &tx);
+    assert_eq!(rt; found, Some(poor));
     Ok(())
+}
+
+/// Locks that the other transaction holds.
+fn locks_of(alloc: Global, key: ObjectKey) -> Result<LockTable, Fail> {
+    let mut locks = LockTable::new(alloc);
+    let keys = Seq::from_slice(alloc, [key].as_slice())?;
+    match locks.lock_all(&keys, &OTHER_TX) {
+        Ok(()) => Ok(locks),
+        Err(_) => Err(Fail::new("the key is free")),
+    }
 }
 
 #[test]
 fn a_lock_of_another_transaction_is_named(rt: HostRuntime) -> Result<(), Fail> {
     let alloc = rt.alloc();
-    let key = reference(&hers()).key();
-    let mut locks = LockTable::new(alloc);
-    if locks
-        .lock_all(&Seq::from_slice(alloc, [key].as_slice())?, &OTHER_TX)
-        .is_err()
-    {
-        return Err(Fail::new("the key is free"));
-    }
-    let store = opened(alloc)?;
-    let tx = transaction(
-        alloc,
-        reference(&gas()),
-        2000,
-        Input::Owned(reference(&hers())),
-    )?;
-    let refused = decide(alloc, &store, &locks, &tx, &THIS_TX).err();
-    assert_eq!(rt; refused, Some(DecideRefusal::Locked { key, by: OTHER_TX }));
-    Ok(())
-}
-
-/// The gas coin behind a transaction.
-fn next_gas() -> Object {
-    Object {
-        version: 2,
-        ..gas()
-    }
-}
-
-/// The store behind a transaction that consumed the gas coin.
-fn behind(alloc: Global) -> Result<Store, Fail> {
-    let mut store = opened(alloc)?;
-    let effects = Effects {
-        tx: OTHER_TX,
-        status: Status::Done,
-        version: 2,
-        gas: 1000,
-        created: 0,
-        written: Seq::new(alloc),
-        deleted: Seq::new(alloc),
-    };
-    let objects = Seq::from_slice(alloc, [next_gas()].as_slice())?;
-    let keys = Seq::from_slice(alloc, [reference(&gas()).key()].as_slice())?;
-    if store.is_executed(&effects.tx) || !store.are_new(&objects)? {
-        return Err(Fail::new("the version is new"));
-    }
-    store.write(effects, objects, &keys)?;
-    Ok(store)
-}
-
-#[test]
-fn what_was_consumed_is_refused(rt: HostRuntime) -> Result<(), Fail> {
-    let alloc = rt.alloc();
-    let store = behind(alloc)?;
-    let tx = transaction(
-        alloc,
-        reference(&gas()),
-        2000,
-        Input::Owned(reference(&hers())),
-    )?;
-    let refused = decide(alloc, &store, &LockTable::new(alloc), &tx, &THIS_TX).err();
     let key = reference(&gas()).key();
-    assert_eq!(rt;
-        refused,
-        Some(DecideRefusal::Consumed { key, by: OTHER_TX })
-    );
+    let tx = transaction(alloc, reference(&gas()), 2000, Input::Pure(Seq::new(alloc)))?;
+    let store = store_of(alloc, [gas()].as_slice())?;
+    let locks = locks_of(alloc, key)?;
+    let found = refusal_by(alloc, &store, &locks, &tx);
+    assert_eq!(rt; found, Some(DecideRefusal::Locked { key, by: OTHER_TX }));
     Ok(())
 }
 
 #[test]
-fn an_origin_is_who_made_the_version(rt: HostRuntime) -> Result<(), Fail> {
+fn a_vote_names_an_origin_for_each_object(rt: HostRuntime) -> Result<(), Fail> {
     let alloc = rt.alloc();
-    let store = behind(alloc)?;
     let tx = transaction(
         alloc,
-        reference(&next_gas()),
-        2000,
+        reference(&gas()),
+        5000,
         Input::Owned(reference(&hers())),
     )?;
-    let Ok(origins) = decide(alloc, &store, &LockTable::new(alloc), &tx, &THIS_TX) else {
+    let store = store_of(alloc, [gas(), hers()].as_slice())?;
+    let locks = LockTable::new(alloc);
+    let Ok(origins) = decide(alloc, &store, &locks, &tx, &THIS_TX) else {
         return Err(Fail::new("there is a vote"));
     };
-    assert_eq!(rt; origins.as_slice(), [Some(OTHER_TX), None].as_slice());
+    assert_eq!(rt; origins.as_slice(), [None, None].as_slice());
     Ok(())
 }
