@@ -6,6 +6,7 @@ use chain_types::{
     object_digest,
 };
 use digest_core::Digest;
+use effects_core::{Effects, Status};
 use lock_table::LockTable;
 use std::alloc::Global;
 use std::test::Fail;
@@ -254,5 +255,69 @@ fn a_vote_names_an_origin_for_each_object(rt: HostRuntime) -> Result<(), Fail> {
         return Err(Fail::new("there is a vote"));
     };
     assert_eq!(rt; origins.as_slice(), [None, None].as_slice());
+    Ok(())
+}
+
+/// The gas coin behind a transaction.
+fn next_gas() -> Object {
+    Object {
+        version: 2,
+        ..gas()
+    }
+}
+
+/// What a transaction did that wrote the next version of the gas coin.
+fn effects(alloc: Global) -> Effects {
+    Effects {
+        tx: OTHER_TX,
+        status: Status::Done,
+        version: 2,
+        gas: 1000,
+        created: 0,
+        written: Seq::new(alloc),
+        deleted: Seq::new(alloc),
+    }
+}
+
+/// Whether the store took that transaction.
+fn spends_gas(alloc: Global, store: &mut Store) -> Result<bool, OutOfMemory> {
+    let objects = Seq::from_slice(alloc, [next_gas()].as_slice())?;
+    let keys = Seq::from_slice(alloc, [reference(&gas()).key()].as_slice())?;
+    let effects = effects(alloc);
+    if store.is_executed(&effects.tx) || !store.are_new(&objects)? {
+        return Ok(false);
+    }
+    store.write(effects, objects, &keys)?;
+    Ok(true)
+}
+
+#[test]
+fn what_was_consumed_is_refused(rt: HostRuntime) -> Result<(), Fail> {
+    let alloc = rt.alloc();
+    let mut store = store_of(alloc, [gas()].as_slice())?;
+    assert!(rt; spends_gas(alloc, &mut store)?);
+    let tx = transaction(alloc, reference(&gas()), 2000, Input::Pure(Seq::new(alloc)))?;
+    let found = refusal_by(alloc, &store, &LockTable::new(alloc), &tx);
+    let key = reference(&gas()).key();
+    assert_eq!(rt; found, Some(DecideRefusal::Consumed { key, by: OTHER_TX }));
+    Ok(())
+}
+
+#[test]
+fn an_origin_is_who_made_the_version(rt: HostRuntime) -> Result<(), Fail> {
+    let alloc = rt.alloc();
+    let mut store = store_of(alloc, [gas()].as_slice())?;
+    assert!(rt; spends_gas(alloc, &mut store)?);
+    let tx = transaction(
+        alloc,
+        reference(&next_gas()),
+        2000,
+        Input::Pure(Seq::new(alloc)),
+    )?;
+    let locks = LockTable::new(alloc);
+    let Ok(origins) = decide(alloc, &store, &locks, &tx, &THIS_TX) else {
+        return Err(Fail::new("there is a vote"));
+    };
+    assert_eq!(rt; origins.as_slice(), [Some(OTHER_TX)].as_slice());
     Ok(())
 }
