@@ -38,7 +38,7 @@ use Rattle.text_law.specs.Sayable.{IsNumber, IsRef, IsInput, IsArg, IsCommand}
 use Rattle.votes_law.proofs.Once.{each-has}
 use Rattle.votes_law.proofs.Kept.{find-has}
 use Rattle.honest_text_law.proofs.Members.{IsDigest, IsOrigin, AreOrigins, tagged-digest}
-use Rattle.honest_text_law.proofs.Texts.{IsShortInput, IsShortCommand}
+use Rattle.honest_text_law.proofs.Texts.{most_words, IsShortInput, IsShortCommand}
 
 -- ---- digests
 
@@ -67,7 +67,7 @@ unfolding digest_of_object
 object-digest o = tagged-digest _ _
 
 abbrev pub IsFitMade : Made → Type 0
-IsFitMade t = signed.fits t.signed × IsDigest t.digest × (length t.signed.tx.inputs ≤ 16777217)
+IsFitMade t = signed.fits t.signed × IsDigest t.digest × (length t.signed.tx.inputs ≤ most_words)
 
 abbrev pub AreThings : List Thing → Type 0
 AreThings things = Each (λ (t : Thing). IsDigest t.id.0) things
@@ -120,7 +120,7 @@ module _ (s : Setting) (w : World) (things : AreThings s.things) (txs : Each IsF
   reference-fits r is =
       (id-digest r.object, (is.1, spoiled-digest r.spoiled (reference_digest s w (record { id = id_of s w r.object; version = r.version })) (reference-digest s w (record { id = id_of s w r.object; version = r.version }))))
 
-  input-fits : (x : InputWord) → IsInput x → IsShortInput 16777217 x → input.fits (input_of s w x)
+  input-fits : (x : InputWord) → IsInput x → IsShortInput most_words x → input.fits (input_of s w x)
   unfolding input object_id digest
   input-fits (input_word.Number n) is short = omega arith
   input-fits (input_word.Address name) is short = let same = address-digest name in omega (arith, same)
@@ -129,7 +129,7 @@ module _ (s : Setting) (w : World) (things : AreThings s.things) (txs : Each IsF
   input-fits (input_word.Immutable r) is short = reference-fits r is
   input-fits (input_word.Shared o initial mutable) is short = (id-digest o, (is.1, tt))
 
-  inputs-fit : (xs : List InputWord) → AllByRecursion IsInput xs → AllByRecursion (IsShortInput 16777217) xs → AllByRecursion input.fits (map (input_of s w) xs) × (length (map (input_of s w) xs) ≡ length xs)
+  inputs-fit : (xs : List InputWord) → AllByRecursion IsInput xs → AllByRecursion (IsShortInput most_words) xs → AllByRecursion input.fits (map (input_of s w) xs) × (length (map (input_of s w) xs) ≡ length xs)
   inputs-fit [] is short = (tt, refl)
   inputs-fit (x ∷ xs) is short =
       let rest = inputs-fit xs is.1 short.1 in
@@ -174,7 +174,7 @@ before-fit [] is = (omega arith, tt)
 before-fit (a ∷ []) is = (omega arith, tt)
 before-fit (a ∷ b ∷ words) is = let rest = before-fit (b ∷ words) is.1 in let few = rest.0 in (omega (arith, few), (argument-fits a is.0, rest.1))
 
-spelled-arguments : (n : ℕ) (args : List Argument) → n ≤ 16777217 → AreArguments n args → (seq argument).fits args
+spelled-arguments : (n : ℕ) (args : List Argument) → n ≤ most_words → AreArguments n args → (seq argument).fits args
 spelled-arguments n args le are = let few = are.0 in (omega (arith, le, few), All-from_recursion argument.fits args are.1)
 
 kind-fits : (k : Kind) → kind.fits k
@@ -186,7 +186,7 @@ kind-fits kinds_of.Vault = tt
 kind-fits kinds_of.VaultKey = tt
 kind-fits kinds_of.Limit = tt
 
-command-fits : (c : CommandWord) → IsCommand c → IsShortCommand 16777217 c → command.fits (command_of c)
+command-fits : (c : CommandWord) → IsCommand c → IsShortCommand most_words c → command.fits (command_of c)
 unfolding command
 command-fits (command_word.Split words) is short = (first-fits words is.1, spelled-arguments (length words) (words_behind words) short (behind-fit words is.1))
 command-fits (command_word.Merge words) is short = (first-fits words is.1, spelled-arguments (length words) (words_behind words) short (behind-fit words is.1))
@@ -194,7 +194,7 @@ command-fits (command_word.Transfer words) is short = (spelled-arguments (length
 command-fits (command_word.MakeVec n values) is short = (kind-fits (kind_or (slice_get kinds n)), spelled-arguments (length values) (map argument_of values) short (arguments-fit values is.1))
 command-fits (command_word.Call native words) is short = let known = is.0 in (omega (arith, known), spelled-arguments (length words) (map argument_of words) short (arguments-fit words is.1))
 
-commands-fit : (cs : List CommandWord) → AllByRecursion IsCommand cs → AllByRecursion (IsShortCommand 16777217) cs → AllByRecursion command.fits (map command_of cs) × (length (map command_of cs) ≡ length cs)
+commands-fit : (cs : List CommandWord) → AllByRecursion IsCommand cs → AllByRecursion (IsShortCommand most_words) cs → AllByRecursion command.fits (map command_of cs) × (length (map command_of cs) ≡ length cs)
 commands-fit [] is short = (tt, refl)
 commands-fit (c ∷ cs) is short =
     let rest = commands-fit cs is.1 short.1 in
@@ -203,7 +203,7 @@ commands-fit (c ∷ cs) is short =
 
 -- ---- the transaction
 
-spelled-list : {A : Type 0} (c : Codec A) (xs : List A) (n : ℕ) → length xs ≡ n → n ≤ 16777217 → AllByRecursion c.fits xs → (seq c).fits xs
+spelled-list : {A : Type 0} (c : Codec A) (xs : List A) (n : ℕ) → length xs ≡ n → n ≤ most_words → AllByRecursion c.fits xs → (seq c).fits xs
 spelled-list c xs n same le each = (omega (arith, same, le), All-from_recursion c.fits xs each)
 
 -- the words of a line that a text can say
@@ -213,12 +213,12 @@ pub record IsFitLine (l : TxLine) : Type 0 where
   pub budget : IsNumber l.budget
   pub inputs : AllByRecursion IsInput l.inputs
   pub commands : AllByRecursion IsCommand l.commands
-  pub few_inputs : length l.inputs ≤ 16777217
-  pub short_inputs : AllByRecursion (IsShortInput 16777217) l.inputs
-  pub few_commands : length l.commands ≤ 16777217
-  pub short_commands : AllByRecursion (IsShortCommand 16777217) l.commands
+  pub few_inputs : length l.inputs ≤ most_words
+  pub short_inputs : AllByRecursion (IsShortInput most_words) l.inputs
+  pub few_commands : length l.commands ≤ most_words
+  pub short_commands : AllByRecursion (IsShortCommand most_words) l.commands
 
-pub few-made : (s : Setting) (w : World) (l : TxLine) → IsFitLine l → length (transaction_of s w l).inputs ≤ 16777217
+pub few-made : (s : Setting) (w : World) (l : TxLine) → IsFitLine l → length (transaction_of s w l).inputs ≤ most_words
 few-made s w l is = let same = length-map l.inputs (input_of s w) in let few = is.few_inputs in omega (arith, same, few)
 
 pub transaction-fits : (s : Setting) (w : World) (l : TxLine) → AreThings s.things → Each IsFitMade w.txs → IsFitLine l → transaction.fits (transaction_of s w l)

@@ -21,7 +21,7 @@ use Rattle.one_owner_law.specs.Owners.{is_raw_hold, AreSpellable}
 use Rattle.one_owner_law.proofs.Unforged.{unforged}
 use Rattle.honest_text_law.specs.HonestTexts.{keyed_setting}
 use Rattle.honest_text_law.proofs.Members.{tagged-digest}
-use Rattle.honest_text_law.proofs.Texts.{IsShortEvent}
+use Rattle.honest_text_law.proofs.Texts.{most_words, IsShortEvent}
 use Rattle.honest_text_law.proofs.TextLines.{text-short}
 use Rattle.honest_text_law.proofs.Fits.{IsFitMade, AreThings, genesis-digest}
 use Rattle.honest_text_law.proofs.Runs.{IsFitEvent, AreSeals, IsFit, world-fit, entries-fit}
@@ -54,7 +54,7 @@ all-back : {A : Type 0} (P : A → Type 0) (xs ys : List A) → AllByRecursion P
 all-back P [] ys all = all
 all-back P (x ∷ xs) ys all = all-back P xs ys all.1
 
-fit-events : (events : List Event) → AllByRecursion IsStatement (map (λ e. statement.Event e) events) → AllByRecursion (IsShortEvent 16777217) events → AllByRecursion IsFitEvent events
+fit-events : (events : List Event) → AllByRecursion IsStatement (map (λ e. statement.Event e) events) → AllByRecursion (IsShortEvent most_words) events → AllByRecursion IsFitEvent events
 fit-events [] said short = tt
 fit-events (e ∷ events) said short = ((said.0, short.0), fit-events events said.1 short.1)
 

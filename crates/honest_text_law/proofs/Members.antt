@@ -5,6 +5,7 @@ use Rattle.std.proofs.lemmas.Bool.{ltb-false}
 use Rattle.std.specs.Prelude.{◌≡◌, ℕ, ◌≤◌, ◌<◌, zero, suc, Bool, true, false, cond, not, ◌&&◌, ◌==◌, nat_lt, List, [], ◌∷◌, ◌++◌, map, flat_map, filter, length, Option, Some, None, is_some, Result, Ok, Err}
 use Rattle.sha2.proofs.Facts256.{length-sha256}
 use Rattle.wire_bcs.specs.declared.fault.WireFault.{WireFault}
+use Rattle.wire_bcs.specs.Items.{length_limit}
 use Rattle.digest_core.specs.declared.Digest.{Digest}
 use Rattle.digest_core.specs.declared.TheConstants.{TAG_TRANSACTION}
 use Rattle.digest_core.specs.Tagged.{tagged_digest}
@@ -70,7 +71,7 @@ IsOrigin (Some d) = IsDigest d
 
 -- origins that a certificate can spell
 abbrev pub AreOrigins : List (Option Digest) → Type 0
-AreOrigins origins = (length origins < 2147483648) × Each IsOrigin origins
+AreOrigins origins = (length origins < length_limit) × Each IsOrigin origins
 
 abbrev pub IsFitStatement : Statement → Type 0
 IsFitStatement (statement.Vote epoch tx origins) = AreOrigins origins

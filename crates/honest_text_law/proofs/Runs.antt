@@ -41,12 +41,12 @@ use Rattle.votes_law.proofs.Kept.{find-has}
 use Rattle.one_owner_law.proofs.Steps.{last-said, last-has}
 use Rattle.one_owner_law.proofs.Forks.{each-join}
 use Rattle.honest_text_law.proofs.Members.{IsDigest, IsOrigin, AreOrigins, IsFitStatement, IsFitMember, digest-of, filter-short, stated-fit, fit-step, fit-none}
-use Rattle.honest_text_law.proofs.Texts.{IsShortEvent}
+use Rattle.honest_text_law.proofs.Texts.{most_words, IsShortEvent}
 use Rattle.honest_text_law.proofs.Fits.{IsFitMade, AreThings, IsFitLine, spoiled-digest, named-digest, few-made, transaction-fits, signed-fits, origins-fit}
 
 -- an event that a text can say, of at most so many words
 abbrev pub IsFitEvent : Event → Type 0
-IsFitEvent e = IsEvent e × IsShortEvent 16777217 e
+IsFitEvent e = IsEvent e × IsShortEvent most_words e
 
 abbrev pub AreSeals : (Signer → List ℕ → Digest) → Type 0
 AreSeals seal = (signer : Signer) (bytes : List ℕ) → IsDigest (seal signer bytes)
@@ -162,7 +162,7 @@ module _ (s : Setting) (seals : AreSeals s.seal) (things : AreThings s.things) w
   none-origins [] = (tt, refl)
   none-origins (i ∷ is) = let rest = none-origins is in let same = rest.1 in ((tt, rest.0), omega (arith, same))
 
-  no-origins : (t : Transaction) → length t.inputs ≤ 16777217 → AreOrigins (no_origins t)
+  no-origins : (t : Transaction) → length t.inputs ≤ most_words → AreOrigins (no_origins t)
   no-origins t few =
       let all = none-origins (objects_of t) in
       let same = all.1 in
@@ -197,13 +197,13 @@ module _ (s : Setting) (seals : AreSeals s.seal) (things : AreThings s.things) w
   or-origins none None are some = are
   or-origins none (Some os) are some = some os refl
 
-  fvote-origins : (w : World) (t : Made) (words : List (Option Name)) → length words ≤ 16777217 → IsFitMade t → Each IsFitMade w.txs → Each (λ (y : Said). IsFitStatement y.statement) w.said → AreOrigins (fvote_origins w t words)
+  fvote-origins : (w : World) (t : Made) (words : List (Option Name)) → length words ≤ most_words → IsFitMade t → Each IsFitMade w.txs → Each (λ (y : Said). IsFitStatement y.statement) w.said → AreOrigins (fvote_origins w t words)
   fvote-origins w t [] few made txs said =
       or-origins (no_origins t.signed.tx) (first_of (honest_vote w t.digest) (enumerate_from 0 w.seats)) (no-origins t.signed.tx made.2)
       (λ os e. first-found AreOrigins (honest_vote w t.digest) (enumerate_from 0 w.seats) os (λ x ps q. honest-origins w t.digest x ps said q) e)
   fvote-origins w t (word ∷ words) few made txs said = let all = word-origins w (word ∷ words) txs in let same = all.1 in (omega (arith, same, few), all.0)
 
-  fvoted-fit : (n : ℕ) (w : World) (m : ℕ) (words : List (Option Name)) (t : Option Made) → length words ≤ 16777217 → ((x : Made) → t ≡ Some x → IsFitMade x) → IsFit s n w → IsFit s n (fvoted w m words t)
+  fvoted-fit : (n : ℕ) (w : World) (m : ℕ) (words : List (Option Name)) (t : Option Made) → length words ≤ most_words → ((x : Made) → t ≡ Some x → IsFitMade x) → IsFit s n w → IsFit s n (fvoted w m words t)
   fvoted-fit n w m words None few made f = f
   fvoted-fit n w m words (Some t) few made f =
       if-fit n (is_honest w m) w (says w m (statement.Vote t.signed.tx.epoch t.digest (fvote_origins w t words))) f
@@ -224,14 +224,14 @@ module _ (s : Setting) (seals : AreSeals s.seal) (things : AreThings s.things) w
   seals-fit st [] is = tt
   seals-fit st (m ∷ ms) is = ((is.0, seals (signers.Member m) (statement_codec.spell st)), seals-fit st ms is.1)
 
-  certificate-fits : (t : Made) (os : List (Option Digest)) (ms : List ℕ) → IsFitMade t → AreOrigins os → AllByRecursion IsMember ms → length ms ≤ 16777217 → certificate.fits (certificate_of s t os ms)
+  certificate-fits : (t : Made) (os : List (Option Digest)) (ms : List ℕ) → IsFitMade t → AreOrigins os → AllByRecursion IsMember ms → length ms ≤ most_words → certificate.fits (certificate_of s t os ms)
   unfolding certificate signed
   certificate-fits t os ms made are is few =
       let st = vote_statement t.signed.tx t.digest os in
       let same = length-map ms (sealed_by s st) in
       (made.0.0, (origins-fit os are, (omega (arith, same, few), All-from_recursion member_seal.fits (map (sealed_by s st) ms) (seals-fit st ms is))))
 
-  formed-as-fit : (n : ℕ) (w : World) (t : Made) (ms : List ℕ) (c : Collected) → IsFitMade t → AllByRecursion IsMember ms → length ms ≤ 16777217 → IsFit s n w → IsFit s n (formed_as s w t ms c)
+  formed-as-fit : (n : ℕ) (w : World) (t : Made) (ms : List ℕ) (c : Collected) → IsFitMade t → AllByRecursion IsMember ms → length ms ≤ most_words → IsFit s n w → IsFit s n (formed_as s w t ms c)
   formed-as-fit n w t ms (lacks m) made is few f = f
   formed-as-fit n w t ms (short weight total) made is few f = f
   formed-as-fit n w t ms (differ a b) made is few f = f
@@ -245,7 +245,7 @@ module _ (s : Setting) (seals : AreSeals s.seal) (things : AreThings s.things) w
     epoch = f.epoch;
   }
 
-  formed-fit : (n : ℕ) (w : World) (ms : List ℕ) (t : Option Made) → ((x : Made) → t ≡ Some x → IsFitMade x) → AllByRecursion IsMember ms → length ms ≤ 16777217 → IsFit s n w → IsFit s n (formed s w ms t)
+  formed-fit : (n : ℕ) (w : World) (ms : List ℕ) (t : Option Made) → ((x : Made) → t ≡ Some x → IsFitMade x) → AllByRecursion IsMember ms → length ms ≤ most_words → IsFit s n w → IsFit s n (formed s w ms t)
   formed-fit n w ms None made is few f = f
   formed-fit n w ms (Some t) made is few f = formed-as-fit n w t ms (votes_collected s w t.digest ms) (made t refl) is few f
 
@@ -277,7 +277,7 @@ module _ (s : Setting) (seals : AreSeals s.seal) (things : AreThings s.things) w
   unfolding entry_codec
   commit-entry = tt
 
-  end-entry : (m epoch : ℕ) → IsMember m → epoch ≤ 16777217 → entry_codec.fits (sealed_end s m epoch)
+  end-entry : (m epoch : ℕ) → IsMember m → epoch ≤ most_words → entry_codec.fits (sealed_end s m epoch)
   unfolding entry_codec sealed statement_codec digest
   end-entry m epoch is le = (is, (omega (arith, le), seals (signers.Member m) (statement_codec.spell (statement.End epoch))))
 
@@ -298,11 +298,11 @@ module _ (s : Setting) (seals : AreSeals s.seal) (things : AreThings s.things) w
       }
   risen-fit n false w f = weaker n w f
 
-  end-fit : (n : ℕ) (w : World) (m epoch : ℕ) → IsMember m → epoch ≤ 16777217 → IsFit s n w → IsFit s (suc n) (ordered_end s w m epoch)
+  end-fit : (n : ℕ) (w : World) (m epoch : ℕ) → IsMember m → epoch ≤ most_words → IsFit s n w → IsFit s (suc n) (ordered_end s w m epoch)
   end-fit n w m epoch is le f =
       risen-fit n (has_ended s (appended_entry w (sealed_end s m epoch))) (appended_entry w (sealed_end s m epoch)) (enter-fit n w (sealed_end s m epoch) (end-entry m epoch is le) f)
 
-  honest-end-fit : (n : ℕ) (w : World) (m : ℕ) (epoch : Option ℕ) → IsMember m → n ≤ 16777217 → IsFit s n w → IsFit s (suc n) (honest_end s w m epoch)
+  honest-end-fit : (n : ℕ) (w : World) (m : ℕ) (epoch : Option ℕ) → IsMember m → n ≤ most_words → IsFit s n w → IsFit s (suc n) (honest_end s w m epoch)
   honest-end-fit n w m None is few f = weaker n w f
   honest-end-fit n w m (Some epoch) is few f = go (epoch == w.epoch) refl
     where
@@ -310,7 +310,7 @@ module _ (s : Setting) (seals : AreSeals s.seal) (things : AreThings s.things) w
       go true e = let same = eqb-true epoch w.epoch e in let le = f.epoch in end-fit n w m epoch is (omega (arith, same, le, few)) f
       go false e = weaker n w f
 
-  end-ordered-fit : (n : ℕ) (w : World) (m : ℕ) → IsMember m → n ≤ 16777217 → IsFit s n w → IsFit s (suc n) (end_ordered s w m)
+  end-ordered-fit : (n : ℕ) (w : World) (m : ℕ) → IsMember m → n ≤ most_words → IsFit s n w → IsFit s (suc n) (end_ordered s w m)
   end-ordered-fit n w m is few f =
       let le = f.epoch in
       if-fit (suc n) (is_honest w m) (honest_end s w m (last_said end_in m w.said)) (ordered_end s (says w m (statement.End w.epoch)) m w.epoch)
@@ -378,7 +378,7 @@ module _ (s : Setting) (seals : AreSeals s.seal) (things : AreThings s.things) w
 
   -- ---- each line, and all
 
-  line-fit : (n : ℕ) (w : World) (e : Event) → n ≤ 16777217 → IsFitEvent e → IsFit s n w → IsFit s (suc n) (happens s w e)
+  line-fit : (n : ℕ) (w : World) (e : Event) → n ≤ most_words → IsFitEvent e → IsFit s n w → IsFit s (suc n) (happens s w e)
   unfolding happens
   line-fit n w (event.Tx name sender spoiled epoch gas budget inputs commands) few is f =
       let l : TxLine = record { name = name; sender = sender; spoiled = spoiled; epoch = epoch; gas = gas; budget = budget; inputs = inputs; commands = commands } in
@@ -413,7 +413,7 @@ module _ (s : Setting) (seals : AreSeals s.seal) (things : AreThings s.things) w
   line-fit n w (event.Ack m tx spoiled) few is f = weaker n _ (acked-fit n w m spoiled (made_named w tx) f)
   line-fit n w (event.Final tx members) few is f = weaker n w f
 
-  run-fit : (n : ℕ) (events : List Event) (w : World) → n + length events ≤ 16777217 → AllByRecursion IsFitEvent events → IsFit s n w → IsFit s (n + length events) (run s events w)
+  run-fit : (n : ℕ) (events : List Event) (w : World) → n + length events ≤ most_words → AllByRecursion IsFitEvent events → IsFit s n w → IsFit s (n + length events) (run s events w)
   run-fit n [] w few is f = let same : n ≡ n + 0 = omega arith in subst (λ (k : ℕ). IsFit s k w) same f
   run-fit n (e ∷ events) w few is f =
       let same : suc n + length events ≡ n + suc (length events) = omega arith in
@@ -430,7 +430,7 @@ module _ (s : Setting) (seals : AreSeals s.seal) (things : AreThings s.things) w
     epoch = omega arith;
   }
 
-  pub world-fit : (events : List Event) → length events ≤ 16777217 → AllByRecursion IsFitEvent events → IsFit s (0 + length events) (world_after s events)
+  pub world-fit : (events : List Event) → length events ≤ most_words → AllByRecursion IsFitEvent events → IsFit s (0 + length events) (world_after s events)
   unfolding world_after
   world-fit events few is = run-fit 0 events (new_world s) (omega (arith, few)) is new-fit
 

@@ -24,7 +24,7 @@ use Rattle.schedule_text.specs.Schedule.{Refused, longest_text, lines_of, is_ski
 use Rattle.text_law.proofs.Ranges.{all-append}
 use Rattle.text_law.proofs.Said.{map_said, then_said, both_said, form_said, make_said}
 use Rattle.text_law.proofs.SaidWords.{choose}
-use Rattle.honest_text_law.proofs.Texts.{IsShortCommand, IsShortEvent, AreWords, more-words, parts-short, inputs-short, after-short, each-short, each-many, command-short}
+use Rattle.honest_text_law.proofs.Texts.{most_words, IsShortCommand, IsShortEvent, AreWords, more-words, parts-short, inputs-short, after-short, each-short, each-many, command-short}
 
 none : {A : Type 0} → (P : Type 0) (c : Cause) (x : A) → Err c ≡ Ok x → P
 none P c x h = absurd (cc)
@@ -320,7 +320,7 @@ lines-short n most k t s (line ∷ lines) short r h =
     subst (λ (m : ℕ). Reads (suc n) m s) all (lines-short n (suc most) (k + 1) next.0 s lines short.1 (line-short n most t next.0 line short.0 r next.1) next.2)
 
 abbrev Whole : Schedule → Type 0
-Whole s = AllByRecursion (IsShortEvent 16777217) s.events × (length s.events ≤ 16777217)
+Whole s = AllByRecursion (IsShortEvent most_words) s.events × (length s.events ≤ most_words)
 
 empty-short : (n : ℕ) → Reads n 0 no_lines
 empty-short n = record { short = tt; few = omega arith }
@@ -333,7 +333,7 @@ lines-whole text s le h =
     let events = read.few in
     (read.short, omega (arith, few, events, le))
 
-pub text-short : (text : List ℕ) (s : Schedule) → schedule_of text ≡ Ok s → AllByRecursion (IsShortEvent 16777217) s.events × (length s.events ≤ 16777217)
+pub text-short : (text : List ℕ) (s : Schedule) → schedule_of text ≡ Ok s → AllByRecursion (IsShortEvent most_words) s.events × (length s.events ≤ most_words)
 unfolding schedule_of
 text-short text s h =
     elim (cases_Bool (nat_lt longest_text (length text))) [

@@ -16,8 +16,13 @@ use Rattle.schedule_text.specs.Refs.{ref_of}
 use Rattle.schedule_text.specs.Inputs.{hex_of, of_kind, input_kind, input_parts, is_input, input_of, value_of_parts, shared_input}
 use Rattle.schedule_text.specs.Commands.{arg_of, comma_parts, call_words, kind_of, native_of, command_kind, of_command_kind, command_parts, vector_value, command_parts_value, command_of}
 use Rattle.schedule_text.specs.Lines.{after_inputs, front_inputs}
+use Rattle.schedule_text.specs.Schedule.{longest_text}
 use Rattle.text_law.proofs.Said.{map_said, both_said}
 use Rattle.text_law.proofs.SaidWords.{hex_said}
+
+-- the words of a line of the longest text, at most
+abbrev pub most_words : ℕ
+most_words = suc longest_text
 
 -- ---- events whose lists have at most so many elements
 
