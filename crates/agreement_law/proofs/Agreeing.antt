@@ -1,7 +1,7 @@
 -- A transaction gives the same wherever it is executed.
 use Rattle.std.proofs.Common.{inl, inr, refl, sym, subst, ap, ◌∙◌, append_assoc, append-nil}
 use Rattle.std.proofs.lemmas.Bool.{eqb-true}
-use Rattle.std.specs.Prelude.{◌≡◌, ◌⊎◌, ℕ, Bool, true, false, cond, ◌&&◌, ◌||◌, ◌==◌, List, [], ◌∷◌, ◌++◌, map, find, flat_map, zip, slice_get, Option, Some, None, option_map}
+use Rattle.std.specs.Prelude.{◌≡◌, ◌⊎◌, ℕ, Bool, true, false, cond, ◌==◌, List, [], ◌∷◌, ◌++◌, map, find, flat_map, zip, slice_get, Option, Some, None, option_map}
 use Rattle.std.specs.List.{list_any}
 use Rattle.digest_core.specs.declared.Digest.{Digest}
 use Rattle.chain_types.specs.declared.objects.ObjectId.{ObjectId}
@@ -13,16 +13,16 @@ use Rattle.chain_types.specs.declared.transactions.Transaction.{Transaction}
 use Rattle.block_types.specs.declared.pieces.Executed.{Executed}
 use Rattle.member_types.specs.declared.answers.Held.{Held}
 use Rattle.schedule_text.specs.declared.words.Event.{Event}
-use Rattle.chain_types.specs.Equal.{digest_eq, id_eq, key_eq}
+use Rattle.chain_types.specs.Equal.{id_eq, key_eq}
 use Rattle.chain_spec.specs.Words.{Has, Along, IsFront, all_some, repeats}
 use Rattle.chain_spec.specs.Tests.{producer_eq}
 use Rattle.chain_spec.specs.Keys.{object_key, objects_of}
 use Rattle.chain_spec.proofs.ListLemmas.{find-test, and-first, and-second, or-first, or-second}
-use Rattle.block_spec.specs.Execution.{execution, written_keys}
+use Rattle.block_spec.specs.Execution.{execution}
 use Rattle.member_spec.specs.Versions.{Execution, Version, opened, written, written_by, versions, object_in}
-use Rattle.member_spec.specs.Admission.{Admission, joined_inputs, assigned_of}
-use Rattle.member_spec.specs.Rounds.{Books, Wanted, wanted_by, wants_of, is_wanted, found, present, executes_as}
-use Rattle.member_spec.specs.Member.{Member, books}
+use Rattle.member_spec.specs.Admission.{Admission, assigned_of}
+use Rattle.member_spec.specs.Rounds.{Books, Wanted, wanted_by, wants_of, is_wanted, found, present}
+use Rattle.member_spec.specs.Member.{books}
 use Rattle.world_spec.specs.Setting.{Setting}
 use Rattle.world_spec.specs.World.{Seat, member_in}
 use Rattle.world_spec.specs.Run.{world_after}
@@ -232,9 +232,9 @@ module _ (opening : List Object) (p q : Books) (at_p : p.opening ≡ opening) (a
         let d : one.of.digest ≡ two.of.digest = sym (ap (λ (z : Execution). z.digest) one.is) ∙ e ∙ ap (λ (z : Execution). z.digest) two.is in
         let same = alike one.of two.of one.is_held two.is_held d in
         let os = all-one (wants_of p.admission one.of) one.inputs two.inputs
-            (subst (λ (o : List Object). all_some (map (found (versions o before)) (wants_of p.admission one.of)) ≡ Some one.inputs) at_p one.were_there)
-            (subst (λ (ws : List Wanted). all_some (map (found (versions opening front)) ws) ≡ Some two.inputs) (sym (same-wanted x y one two d same.0 same.1))
-            (subst (λ (o : List Object). all_some (map (found (versions o front)) (wants_of q.admission two.of)) ≡ Some two.inputs) at_q two.were_there)) in
+        (subst (λ (o : List Object). all_some (map (found (versions o before)) (wants_of p.admission one.of)) ≡ Some one.inputs) at_p one.were_there)
+        (subst (λ (ws : List Wanted). all_some (map (found (versions opening front)) ws) ≡ Some two.inputs) (sym (same-wanted x y one two d same.0 same.1))
+        (subst (λ (o : List Object). all_some (map (found (versions o front)) (wants_of q.admission two.of)) ≡ Some two.inputs) at_q two.were_there)) in
         ap (λ (z : Execution). z.gave) one.is ∙ ap (λ (t : Transaction). execution t one.inputs) same.0 ∙ ap (execution two.of.cert.tx) os ∙ sym (ap (λ (z : Execution). z.gave) two.is)
 
   next-agrees : (before : List Execution) (x : Execution) → Agrees before → IsExplained p before x → Agrees (before ++ x ∷ [])
