@@ -5,3 +5,4 @@ pub mod Prefixes
 pub mod Supply
 pub mod Executing
 pub mod Agreeing
+pub mod Same

@@ -2,7 +2,7 @@
 //! equal objects admit the same transactions in the same order, and cut the same checkpoints.
 #![tactic(auto)]
 
-ghost use Rattle.agreement_law.specs.Alike.{ExecutionsAgree};
+ghost use Rattle.agreement_law.specs.Alike.{ExecutionsAgree, OneTransaction};
 ghost use Rattle.agreement_law.specs.Explained.{ExecutionsExplained};
 ghost use Rattle.agreement_law.specs.Agreed.{EveryAdmission, HeldAsGiven, MembersFollowTheSequence, OneSequence};
 
@@ -38,4 +38,9 @@ pub fn executions_explained()
 /// same for each transaction that both executed, in whatever order they executed.
 pub fn executions_agree()
     ensures { ExecutionsAgree }
+{}
+
+/// Under the run assumptions, certificates of one digest have one transaction, at whichever members they are held.
+pub fn one_transaction()
+    ensures { OneTransaction }
 {}
