@@ -1,14 +1,12 @@
 -- Each execution of a member is explained by what it held and executed before.
 use Rattle.std.proofs.Common.{inl, inr, refl, sym, subst, ap, ◌∙◌, append_assoc, append-nil}
-use Rattle.std.specs.Prelude.{◌≡◌, ◌⊎◌, ℕ, zero, suc, Bool, true, false, cond, not, ◌&&◌, ◌||◌, List, [], ◌∷◌, ◌++◌, map, filter, find, flat_map, zip, length, slice_get, Option, Some, None, option_map, is_some}
+use Rattle.std.specs.Prelude.{◌≡◌, ℕ, zero, suc, Bool, true, false, cond, not, ◌&&◌, ◌||◌, List, [], ◌∷◌, ◌++◌, map, filter, find, flat_map, zip, length, slice_get, Option, Some, None, option_map, is_some}
 use Rattle.std.specs.List.{list_any}
 use Rattle.digest_core.specs.declared.Digest.{Digest}
-use Rattle.chain_types.specs.declared.objects.ObjectKey.{ObjectKey}
 use Rattle.chain_types.specs.declared.objects.Object.{Object}
 use Rattle.chain_types.specs.declared.transactions.Input.{Input}
 use Rattle.chain_types.specs.declared.transactions.Input.TheVariants as inputs
 use Rattle.chain_types.specs.declared.transactions.Transaction.{Transaction}
-use Rattle.block_types.specs.declared.pieces.Executed.{Executed}
 use Rattle.journal_core.specs.declared.records.Record.{Record}
 use Rattle.journal_core.specs.declared.records.Record.TheVariants as record_as
 use Rattle.member_types.specs.declared.answers.Assigned.{Assigned}
@@ -19,7 +17,7 @@ use Rattle.chain_types.specs.Digests.{is_object}
 use Rattle.chain_spec.specs.Words.{Has, Along, IsFront, all_some, onto_some, where_true, repeats}
 use Rattle.chain_spec.specs.Keys.{objects_of, is_shared_input, has_shared_input, fits}
 use Rattle.chain_spec.specs.Certificates.{Rules}
-use Rattle.chain_spec.proofs.ListLemmas.{along-push, and-first, and-second, not-true, or-first, or-second}
+use Rattle.chain_spec.proofs.ListLemmas.{along-push, and-second, not-true}
 use Rattle.block_spec.specs.Execution.{execution, written_keys}
 use Rattle.member_spec.specs.Versions.{Execution, Version, opened, written_by, versions, object_in, is_executed}
 use Rattle.member_spec.specs.Admission.{Admitted, Admission, is_admitted, joined_inputs, assigned_in, assigned_of}
@@ -27,7 +25,6 @@ use Rattle.member_spec.specs.Sequence.{What, takes, commits, counts, ignores, wh
 use Rattle.member_spec.specs.Rounds.{Books, Wanted, wanted_by, wants_of, is_wanted, found, present, may_run, holds_key, writes_new, executes_as, ready_as, ready_on, ready, clashes, round_add, round_among, round_of, rounds_within, rounds}
 use Rattle.member_spec.specs.Checkpoints.{held_of}
 use Rattle.member_spec.specs.Member.{Member, books, held_with, after, state}
-use Rattle.member_spec.specs.Calls.{Call, due}
 use Rattle.world_spec.specs.Setting.{Setting}
 use Rattle.world_spec.specs.World.{Seat, member_in}
 use Rattle.world_spec.specs.Run.{world_after}
@@ -35,7 +32,7 @@ use Rattle.votes_law.proofs.InWorld.{in_world}
 use Rattle.votes_law.proofs.Once.{has-left}
 use Rattle.votes_law.proofs.Apart.{state-push}
 use Rattle.agreement_law.specs.Explained.{IsExplained}
-use Rattle.agreement_law.proofs.Growth.{front-all, front-push}
+use Rattle.agreement_law.proofs.Growth.{front-all}
 use Rattle.agreement_law.proofs.Prefixes.{earlier-saw}
 
 -- ---- lists
@@ -49,7 +46,7 @@ along-map P Q h before [] along = tt
 along-map P Q h before (x ∷ xs) along = (h before x along.0, along-map P Q h (before ++ x ∷ []) xs along.1)
 
 -- what is found in a front is found in the whole
-find-more : {A : Type 0} (test : A → Bool) (xs ys : List A) (x : A) → find test xs ≡ Some x → find test (xs ++ ys) ≡ Some x
+pub find-more : {A : Type 0} (test : A → Bool) (xs ys : List A) (x : A) → find test xs ≡ Some x → find test (xs ++ ys) ≡ Some x
 find-more test [] ys x e = absurd (cc)
 find-more test (z ∷ xs) ys x e = go (test z) e (find-more test xs ys x)
   where
@@ -91,7 +88,7 @@ found-more held more w o e = go (find (is_wanted w.key w.producer) held) refl e
     go (Some v) h e = ap (option_map object_in) (find-more (is_wanted w.key w.producer) held more v h) ∙ e
 
 -- the parts of a list of values that are all there
-some-parts : {A : Type 0} (f : Option A) (fs : List (Option A)) (os : List A) → all_some (f ∷ fs) ≡ Some os → (o : A) × (rest : List A) × (f ≡ Some o) × (all_some fs ≡ Some rest) × (Some (o ∷ rest) ≡ Some os)
+pub some-parts : {A : Type 0} (f : Option A) (fs : List (Option A)) (os : List A) → all_some (f ∷ fs) ≡ Some os → (o : A) × (rest : List A) × (f ≡ Some o) × (all_some fs ≡ Some rest) × (Some (o ∷ rest) ≡ Some os)
 some-parts None fs os e = absurd (cc)
 some-parts {A = A} (Some o) fs os e = go (all_some fs) refl e
   where
@@ -135,10 +132,10 @@ same-assigned a b tx (rest, e) there =
     ap (λ (admitted : List Admitted). option_map assigned_in (find (λ (y : Admitted). digest_eq y.digest tx) admitted)) e
     ∙ ap (option_map assigned_in) (find-more (λ (y : Admitted). digest_eq y.digest tx) a.admitted rest x.0 x.1 ∙ sym x.1)
 
-abbrev May : Admission → Held → Type 0
+abbrev pub May : Admission → Held → Type 0
 May a h = (not (has_shared_input h.cert.tx) || is_admitted a.admitted h.digest) ≡ true
 
-wants-same : (a b : Admission) (h : Held) → IsFront a.admitted b.admitted → May a h → wants_of b h ≡ wants_of a h
+pub wants-same : (a b : Admission) (h : Held) → IsFront a.admitted b.admitted → May a h → wants_of b h ≡ wants_of a h
 unfolding wants_of
 wants-same a b h front may = go (has_shared_input h.cert.tx) refl (is_admitted a.admitted h.digest) refl may
   where
@@ -160,7 +157,13 @@ may-more a b h (rest, q) may = go (not (has_shared_input h.cert.tx)) (is_admitte
 explained-more : (b : Books) (before more : List Execution) (x : Execution) → IsExplained b before x → IsExplained b (before ++ more) x
 unfolding present
 explained-more b before more x it = record {
-  of = it.of; inputs = it.inputs; is_held = it.is_held; may = it.may; fit = it.fit; is = it.is; once = it.once;
+  of = it.of;
+  inputs = it.inputs;
+  is_held = it.is_held;
+  may = it.may;
+  fit = it.fit;
+  is = it.is;
+  once = it.once;
   were_there = subst (λ (held : List Version). all_some (map (found held) (wants_of b.admission it.of)) ≡ Some it.inputs) (sym (versions-more b.opening before more)) (all-found (versions b.opening before) (flat_map written_by more) (wants_of b.admission it.of) it.inputs it.were_there);
 }
 
@@ -168,7 +171,13 @@ explained-books : (opening : List Object) (held longer : List Held) (a b : Admis
     → IsExplained (record { opening = opening; held = held; admission = a }) before x → IsExplained (record { opening = opening; held = longer; admission = b }) before x
 unfolding present
 explained-books opening held longer a b more front before x it = record {
-  of = it.of; inputs = it.inputs; is_held = more it.of it.is_held; may = may-more a b it.of front it.may; fit = it.fit; is = it.is; once = it.once;
+  of = it.of;
+  inputs = it.inputs;
+  is_held = more it.of it.is_held;
+  may = may-more a b it.of front it.may;
+  fit = it.fit;
+  is = it.is;
+  once = it.once;
   were_there = subst (λ (ws : List Wanted). all_some (map (found (versions opening before)) ws) ≡ Some it.inputs) (sym (wants-same a b it.of front it.may)) it.were_there;
 }
 
@@ -183,7 +192,13 @@ module _ (b : Books) where
           → where_true w (executes_as h (execution h.cert.tx objects)) ≡ Some x → IsExplained b executed x
       writing objects false w may were fit e = absurd (cc)
       writing objects true w may were fit e = record {
-        of = h; inputs = objects; is_held = there; may = may; were_there = were; fit = fit; is = same e;
+        of = h;
+        inputs = objects;
+        is_held = there;
+        may = may;
+        were_there = were;
+        fit = fit;
+        is = same e;
         once = not-true (repeats key_eq (written_keys (execution h.cert.tx objects))) (and-second (not (list_any (holds_key (versions b.opening executed)) (written_keys (execution h.cert.tx objects)))) (not (repeats key_eq (written_keys (execution h.cert.tx objects)))) w);
       }
         where

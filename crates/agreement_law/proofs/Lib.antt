@@ -4,3 +4,5 @@ pub mod Appends
 pub mod Prefixes
 pub mod Supply
 pub mod Executing
+pub mod Agreeing
+pub mod Same

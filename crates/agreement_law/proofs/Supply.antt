@@ -43,7 +43,7 @@ use Rattle.agreement_law.proofs.Prefixes.{IsSee, due-see, follows}
 
 -- ---- what the calls of a run deliver
 
-has-right : {A : Type 0} (xs ys : List A) (y : A) → Has ys y → Has (xs ++ ys) y
+pub has-right : {A : Type 0} (xs ys : List A) (y : A) → Has ys y → Has (xs ++ ys) y
 has-right [] ys y h = h
 has-right (x ∷ xs) ys y h = inr (has-right xs ys y h)
 

@@ -4,7 +4,6 @@ use Rattle.chain_types.specs.declared.objects.Object.{Object}
 use Rattle.member_types.specs.declared.answers.Held.{Held}
 use Rattle.schedule_text.specs.declared.words.Event.{Event}
 use Rattle.chain_types.specs.Equal.{key_eq}
-use Rattle.chain_types.specs.Digests.{consumed_keys}
 use Rattle.chain_spec.specs.Words.{Has, Along, repeats}
 use Rattle.chain_spec.specs.Keys.{fits}
 use Rattle.block_spec.specs.Execution.{execution, written_keys}

@@ -2,6 +2,7 @@
 //! equal objects admit the same transactions in the same order, and cut the same checkpoints.
 #![tactic(auto)]
 
+ghost use Rattle.agreement_law.specs.Alike.{ExecutionsAgree, OneTransaction};
 ghost use Rattle.agreement_law.specs.Explained.{ExecutionsExplained};
 ghost use Rattle.agreement_law.specs.Agreed.{EveryAdmission, HeldAsGiven, MembersFollowTheSequence, OneSequence};
 
@@ -31,4 +32,15 @@ pub fn held_as_given()
 /// were there and fit it.
 pub fn executions_explained()
     ensures { ExecutionsExplained }
+{}
+
+/// Where the certificates of one digest are alike, two members of one epoch that opened it with equal objects give the
+/// same for each transaction that both executed, in whatever order they executed.
+pub fn executions_agree()
+    ensures { ExecutionsAgree }
+{}
+
+/// Under the run assumptions, certificates of one digest have one transaction, at whichever members they are held.
+pub fn one_transaction()
+    ensures { OneTransaction }
 {}

@@ -1,0 +1,35 @@
+-- Held certificates of one digest have one transaction.
+use Rattle.std.proofs.Common.{inl, inr, sym, ap, ◌∙◌}
+use Rattle.std.specs.Prelude.{◌≡◌, ℕ, List, [], ◌∷◌, ◌++◌, map, slice_get, Some}
+use Rattle.chain_types.specs.declared.transactions.SignedTx.{SignedTx}
+use Rattle.chain_messages.specs.declared.messages.Certificate.{Certificate}
+use Rattle.member_types.specs.declared.answers.Held.{Held}
+use Rattle.schedule_text.specs.declared.words.Event.{Event}
+use Rattle.chain_spec.specs.Words.{Has}
+use Rattle.world_spec.specs.Setting.{Setting}
+use Rattle.world_spec.specs.World.{Seat, Made, new_world, member_in}
+use Rattle.world_spec.specs.Run.{world_after}
+use Rattle.world_spec.specs.Assumptions.{IsHonestRun, asked, all_of, all_formed, all_delivered, all_transactions}
+use Rattle.votes_law.proofs.Once.{each-has}
+use Rattle.agreement_law.specs.Agreed.{IsHeldAsGiven}
+use Rattle.agreement_law.proofs.Supply.{has-right, every-held}
+
+map-has : {A B : Type 0} (f : A → B) (xs : List A) (x : A) → Has xs x → Has (map f xs) (f x)
+map-has f [] x h = absurd h
+map-has f (y ∷ xs) x (inl e) = inl (ap f e)
+map-has f (y ∷ xs) x (inr h) = inr (map-has f xs x h)
+
+-- the transaction of a delivered certificate is one of the run
+of-run : (s : Setting) (events : List Event) (c : Certificate) → Has (all_delivered s events) c → Has (all_transactions s events) c.tx
+unfolding all_transactions
+of-run s events c h =
+    has-right (map (λ (t : Made). t.signed.tx) (world_after s events).txs) (map (λ (x : SignedTx). x.tx) (all_of asked s events (new_world s)) ++ map (λ (d : Certificate). d.tx) (all_formed s events ++ all_delivered s events)) c.tx
+    (has-right (map (λ (x : SignedTx). x.tx) (all_of asked s events (new_world s))) (map (λ (d : Certificate). d.tx) (all_formed s events ++ all_delivered s events)) c.tx
+    (map-has (λ (d : Certificate). d.tx) (all_formed s events ++ all_delivered s events) c (has-right (all_formed s events) (all_delivered s events) c h)))
+
+pub one-transaction : (s : Setting) (events : List Event) → IsHonestRun s events → (m n : ℕ) (a b : Seat) → slice_get (world_after s events).seats m ≡ Some a → slice_get (world_after s events).seats n ≡ Some b
+    → (h k : Held) → Has (member_in s a).held h → Has (member_in s b).held k → h.digest ≡ k.digest → h.cert.tx ≡ k.cert.tx
+one-transaction s events honest m n a b at by h k there also e =
+    let one = each-has (IsHeldAsGiven s.rules (all_delivered s events) (member_in s a).epoch) (member_in s a).held h (every-held s events m a at) there in
+    let two = each-has (IsHeldAsGiven s.rules (all_delivered s events) (member_in s b).epoch) (member_in s b).held k (every-held s events n b by) also in
+    honest.transactions h.cert.tx k.cert.tx (of-run s events h.cert one.comes) (of-run s events k.cert two.comes) (sym one.digest_is ∙ e ∙ two.digest_is)
