@@ -154,7 +154,7 @@ may-more a b h (rest, q) may = go (not (has_shared_input h.cert.tx)) (is_admitte
 
 -- ---- an explanation stays
 
-explained-more : (b : Books) (before more : List Execution) (x : Execution) → IsExplained b before x → IsExplained b (before ++ more) x
+pub explained-more : (b : Books) (before more : List Execution) (x : Execution) → IsExplained b before x → IsExplained b (before ++ more) x
 unfolding present
 explained-more b before more x it = record {
   of = it.of;

@@ -20,7 +20,7 @@ map-has f (y ∷ xs) x (inl e) = inl (ap f e)
 map-has f (y ∷ xs) x (inr h) = inr (map-has f xs x h)
 
 -- the transaction of a delivered certificate is one of the run
-of-run : (s : Setting) (events : List Event) (c : Certificate) → Has (all_delivered s events) c → Has (all_transactions s events) c.tx
+pub of-run : (s : Setting) (events : List Event) (c : Certificate) → Has (all_delivered s events) c → Has (all_transactions s events) c.tx
 unfolding all_transactions
 of-run s events c h =
     has-right (map (λ (t : Made). t.signed.tx) (world_after s events).txs) (map (λ (x : SignedTx). x.tx) (all_of asked s events (new_world s)) ++ map (λ (d : Certificate). d.tx) (all_formed s events ++ all_delivered s events)) c.tx

@@ -1,0 +1,17 @@
+//! What a member executes of its sequence, under the run assumptions, is what one thread executes that goes over the
+//! admitted transactions in order.
+#![tactic(auto)]
+
+ghost use Rattle.current_law.specs.Same.{ExecutionsSame};
+ghost use Rattle.current_law.specs.Steps.{ExecutedIsStep};
+
+/// Under the run assumptions, two members of one epoch that opened it with equal objects give the same for each
+/// transaction that both executed.
+pub fn executions_same()
+    ensures { ExecutionsSame }
+{}
+
+/// An admitted transaction that a member executed was executed on the objects that its certificate wants.
+pub fn executed_is_step()
+    ensures { ExecutedIsStep }
+{}
