@@ -19,6 +19,7 @@ use Rattle.chain_spec.specs.Keys.{objects_of}
 use Rattle.member_spec.specs.Versions.{Execution, versions}
 use Rattle.member_spec.specs.Admission.{Admitted, Admission, Standing, is_admitted, joined_inputs, writes, cert_of, begins, beginning, beginning_by, standing_after, standing_or, current, assigned_of, assignments}
 use Rattle.member_spec.specs.Rounds.{Wanted, wanted_by, wanted_version, wants_of, found, present, producer_of, executes_as}
+use Rattle.member_spec.specs.Votes.{shared_key}
 use Rattle.member_spec.specs.Member.{Member, books}
 use Rattle.votes_law.proofs.Once.{equal, has-left}
 use Rattle.admission_law.specs.Admitted.{held_again, is_origin_in, IsInOrder}
@@ -166,7 +167,7 @@ module _ (m : Member) (agree : (x y : Execution) → Has m.executed x → Has m.
 
   source-at : (i : Input) (d : Option Digest) (o : Object) → Has (zip (objects_of a.cert.tx) a.cert.origins) (i, d) → found (versions m.opening m.executed) (wanted_by (Some (assignments m.opening before a.cert)) (i, d)) ≡ Some o → IsSource m.opening earlier i o
   unfolding current
-  source-at (inputs.Pure bytes) d o h e = absurd (nobody (versions m.opening m.executed) _ o e)
+  source-at (inputs.Pure bytes) d o h e = absurd (nobody (versions m.opening m.executed) (shared_key (record { 0 = record { 0 = [] } }) 0) o e)
   source-at (inputs.Owned r) d o h e = named-source (inputs.Owned r) (key_of r) d o (λ ys. tt) h e
   source-at (inputs.Immutable r) d o h e = named-source (inputs.Immutable r) (key_of r) d o (λ ys. tt) h e
   source-at (inputs.Shared id initial mutable) d o h e =
