@@ -64,6 +64,15 @@ begun-by opening id certs st e =
     go c h i None k e = inl e
     go c h i (Some origin) k e = inr (origin, e, record { cert = c; among = h; names = has-second (objects_of c.tx) c.origins i (Some origin) k })
 
+-- what each of its objects was found for
+module _ (m : Member) (before back : List Admitted) (a : Admitted) (split : m.sequence.admission.admitted ≡ before ++ (a ∷ back))
+    (next : IsInOrder m.opening before a) (step : IsStepOf m a) where
+  pub wanted-of : (i : Input) (o : Object) → Has (zip (objects_of a.cert.tx) (step_of m a).inputs) (i, o) → (d : Option Digest) × Has (zip (objects_of a.cert.tx) a.cert.origins) (i, d) × (found (versions m.opening m.executed) (wanted_by (Some (assignments m.opening before a.cert)) (i, d)) ≡ Some o)
+  unfolding present wants_of
+  wanted-of i o h = wanted-at (found (versions m.opening m.executed)) (wanted_by (Some (assignments m.opening before a.cert))) (objects_of a.cert.tx) a.cert.origins (step_of m a).inputs i o
+      (subst (λ (asg : Option (List Assigned)). all_some (map (found (versions m.opening m.executed)) (map (wanted_by asg) (zip (objects_of a.cert.tx) a.cert.origins))) ≡ Some (step_of m a).inputs)
+      (assigned-is m.opening before back m.sequence.admission a split next) step.there) h
+
 module _ (m : Member) (agree : (x y : Execution) → Has m.executed x → Has m.executed y → x.digest ≡ y.digest → x.gave ≡ y.gave)
     (before back : List Admitted) (a : Admitted) (split : m.sequence.admission.admitted ≡ before ++ (a ∷ back))
     (ordered : Along (IsInOrder m.opening) [] before) (next : IsInOrder m.opening before a)
@@ -159,12 +168,6 @@ module _ (m : Member) (agree : (x y : Execution) → Has m.executed x → Has m.
 
   -- ---- all of them
 
-  pub wanted-of : (i : Input) (o : Object) → Has (zip (objects_of a.cert.tx) (step_of m a).inputs) (i, o) → (d : Option Digest) × Has (zip (objects_of a.cert.tx) a.cert.origins) (i, d) × (found (versions m.opening m.executed) (wanted_by (Some (assignments m.opening before a.cert)) (i, d)) ≡ Some o)
-  unfolding present wants_of
-  wanted-of i o h = wanted-at (found (versions m.opening m.executed)) (wanted_by (Some (assignments m.opening before a.cert))) (objects_of a.cert.tx) a.cert.origins (step_of m a).inputs i o
-      (subst (λ (asg : Option (List Assigned)). all_some (map (found (versions m.opening m.executed)) (map (wanted_by asg) (zip (objects_of a.cert.tx) a.cert.origins))) ≡ Some (step_of m a).inputs)
-      (assigned-is m.opening before back m.sequence.admission a split next) step.there) h
-
   source-at : (i : Input) (d : Option Digest) (o : Object) → Has (zip (objects_of a.cert.tx) a.cert.origins) (i, d) → found (versions m.opening m.executed) (wanted_by (Some (assignments m.opening before a.cert)) (i, d)) ≡ Some o → IsSource m.opening earlier i o
   unfolding current
   source-at (inputs.Pure bytes) d o h e = absurd (nobody (versions m.opening m.executed) (shared_key (record { 0 = record { 0 = [] } }) 0) o e)
@@ -175,4 +178,4 @@ module _ (m : Member) (agree : (x y : Execution) → Has m.executed x → Has m.
       (subst (λ (w : Wanted). found (versions m.opening m.executed) w ≡ Some o) (shared-wanted m.opening before back m.sequence.admission a split next id initial mutable d (has-zip (objects_of a.cert.tx) a.cert.origins (inputs.Shared id initial mutable) d h)) e)
 
   pub sources : (i : Input) (o : Object) → Has (zip (objects_of a.cert.tx) (step_of m a).inputs) (i, o) → IsSource m.opening earlier i o
-  sources i o h = let w = wanted-of i o h in source-at i w.0 o w.1 w.2
+  sources i o h = let w = wanted-of m before back a split next step i o h in source-at i w.0 o w.1 w.2

@@ -4,6 +4,8 @@
 
 ghost use Rattle.current_law.specs.Same.{ExecutionsSame};
 ghost use Rattle.current_law.specs.Steps.{ExecutedIsStep};
+ghost use Rattle.current_law.specs.Orderly.{StepsOrderly};
+ghost use Rattle.current_law.specs.Thread.{EffectsOfFold};
 
 /// Under the run assumptions, two members of one epoch that opened it with equal objects give the same for each
 /// transaction that both executed.
@@ -14,4 +16,14 @@ pub fn executions_same()
 /// An admitted transaction that a member executed was executed on the objects that its certificate wants.
 pub fn executed_is_step()
     ensures { ExecutedIsStep }
+{}
+
+/// A member's executions of the transactions that it admitted first, in the order of admission, are orderly steps.
+pub fn steps_orderly()
+    ensures { StepsOrderly }
+{}
+
+/// Their effects, and their items in checkpoints, are those of one thread that executes these transactions in order.
+pub fn effects_of_fold()
+    ensures { EffectsOfFold }
 {}
