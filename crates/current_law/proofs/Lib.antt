@@ -6,3 +6,4 @@ pub mod Sources
 pub mod Drawn
 pub mod Ordered
 pub mod Thread
+pub mod Versions

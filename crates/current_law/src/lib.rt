@@ -3,7 +3,7 @@
 #![tactic(auto)]
 
 ghost use Rattle.current_law.specs.Same.{ExecutionsSame};
-ghost use Rattle.current_law.specs.Steps.{ExecutedIsStep};
+ghost use Rattle.current_law.specs.Steps.{ExecutedIsStep, VersionsSame};
 ghost use Rattle.current_law.specs.Orderly.{StepsOrderly};
 ghost use Rattle.current_law.specs.Thread.{EffectsOfFold};
 
@@ -16,6 +16,11 @@ pub fn executions_same()
 /// An admitted transaction that a member executed was executed on the objects that its certificate wants.
 pub fn executed_is_step()
     ensures { ExecutedIsStep }
+{}
+
+/// It was executed at the version with which it was admitted.
+pub fn versions_same()
+    ensures { VersionsSame }
 {}
 
 /// A member's executions of the transactions that it admitted first, in the order of admission, are orderly steps.
