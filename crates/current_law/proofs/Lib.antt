@@ -7,3 +7,6 @@ pub mod Drawn
 pub mod Ordered
 pub mod Thread
 pub mod Versions
+pub mod Lives
+pub mod Known
+pub mod SetUp

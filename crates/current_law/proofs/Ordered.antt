@@ -61,7 +61,7 @@ effects-tx t objects = go (outcome t (transaction_digest t) objects)
     go (Ok b) = refl
     go (Err failure) = refl
 
-repeats-append : (xs ys : List ObjectId) → repeats id_eq xs ≡ false → repeats id_eq ys ≡ false → ((x y : ObjectId) → Has xs x → Has ys y → x ≡ y → ⊥) → repeats id_eq (xs ++ ys) ≡ false
+pub repeats-append : (xs ys : List ObjectId) → repeats id_eq xs ≡ false → repeats id_eq ys ≡ false → ((x y : ObjectId) → Has xs x → Has ys y → x ≡ y → ⊥) → repeats id_eq (xs ++ ys) ≡ false
 repeats-append [] ys one two apart = two
 repeats-append (x ∷ xs) ys one two apart =
     go (list_any (id_eq x) (xs ++ ys)) (none-append xs (or-first (list_any (id_eq x) xs) (repeats id_eq xs) one)) (repeats-append xs ys (or-second (list_any (id_eq x) xs) (repeats id_eq xs) one) two (λ z y h. apart z y (inr h)))

@@ -33,7 +33,7 @@ use Rattle.current_law.proofs.Lists.{some-same, find-past}
 
 -- ---- where a found version comes from
 
-found-as : (vs : List Version) (w : Wanted) (o : Object) → found vs w ≡ Some o → (v : Version) × (find (is_wanted w.key w.producer) vs ≡ Some v) × (v.object ≡ o)
+pub found-as : (vs : List Version) (w : Wanted) (o : Object) → found vs w ≡ Some o → (v : Version) × (find (is_wanted w.key w.producer) vs ≡ Some v) × (v.object ≡ o)
 found-as vs w o e = go (find (is_wanted w.key w.producer) vs) refl e
   where
     go : (f : Option Version) → find (is_wanted w.key w.producer) vs ≡ f → option_map object_in f ≡ Some o → (v : Version) × (find (is_wanted w.key w.producer) vs ≡ Some v) × (v.object ≡ o)

@@ -14,7 +14,8 @@ use Rattle.world_spec.specs.Setting.{Setting}
 use Rattle.world_spec.specs.World.{Seat, member_in}
 use Rattle.world_spec.specs.Run.{world_after}
 use Rattle.world_spec.specs.Assumptions.{IsHonestRun}
-use Rattle.current_law.specs.Orderly.{IsExecutedFront, OpensApart}
+use Rattle.chain_law.specs.Orderly.{AreApart}
+use Rattle.current_law.specs.Orderly.{IsExecutedFront}
 
 abbrev pub transaction_of : Admitted → Transaction
 transaction_of a = a.cert.tx
@@ -41,5 +42,5 @@ pub record GivesOneThread (m : Member) (front : List Admitted) : Type 0 where
   pub items : map item_with (zip front (thread_effects m front)) ≡ map (item_of m.executed) front
 
 abbrev pub EffectsOfFold : Type 0
-EffectsOfFold = (s : Setting) (events : List Event) → IsHonestRun s events → (m : ℕ) (seat : Seat) → slice_get (world_after s events).seats m ≡ Some seat
-    → OpensApart s events (member_in s seat) → (front : List Admitted) → IsExecutedFront (member_in s seat) front → GivesOneThread (member_in s seat) front
+EffectsOfFold = (s : Setting) (events : List Event) → IsHonestRun s events → AreApart s.opening
+    → (m : ℕ) (seat : Seat) → slice_get (world_after s events).seats m ≡ Some seat → (front : List Admitted) → IsExecutedFront (member_in s seat) front → GivesOneThread (member_in s seat) front

@@ -4,7 +4,7 @@
 
 ghost use Rattle.current_law.specs.Same.{ExecutionsSame};
 ghost use Rattle.current_law.specs.Steps.{ExecutedIsStep, VersionsSame};
-ghost use Rattle.current_law.specs.Orderly.{StepsOrderly};
+ghost use Rattle.current_law.specs.Orderly.{EpochsOpenApart, SetUpApart, StepsOrderly};
 ghost use Rattle.current_law.specs.Thread.{EffectsOfFold};
 
 /// Under the run assumptions, two members of one epoch that opened it with equal objects give the same for each
@@ -21,6 +21,17 @@ pub fn executed_is_step()
 /// It was executed at the version with which it was admitted.
 pub fn versions_same()
     ensures { VersionsSame }
+{}
+
+/// The set-up of a schedule opens with objects of different ids.
+pub fn set_up_apart()
+    ensures { SetUpApart }
+{}
+
+/// From such a set-up every epoch of every member opens with objects of different ids, none of which a transaction of
+/// that epoch can draw.
+pub fn epochs_open_apart()
+    ensures { EpochsOpenApart }
 {}
 
 /// A member's executions of the transactions that it admitted first, in the order of admission, are orderly steps.
