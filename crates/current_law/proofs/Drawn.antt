@@ -1,6 +1,6 @@
 -- An execution creates no more than its commands can draw.
-use Rattle.std.proofs.Common.{refl, sym, subst, ap, ◌∙◌, arith}
-use Rattle.std.specs.Prelude.{◌≡◌, ◌≤◌, ◌<◌, ◌+◌, ◌-◌, ℕ, zero, suc, sum, sum_by, Bool, true, false, cond, not, nat_lt, nat_le, List, [], ◌∷◌, map, fold, length, slice_get, Option, Some, None, option_map, Result, Ok, Err}
+use Rattle.std.proofs.Common.{refl, subst, ap, arith}
+use Rattle.std.specs.Prelude.{◌≡◌, ◌≤◌, ◌+◌, ◌-◌, ℕ, suc, sum, sum_by, Bool, true, false, cond, not, nat_lt, nat_le, List, [], ◌∷◌, map, length, slice_get, Option, Some, None, option_map, Result, Ok, Err}
 use Rattle.std.specs.List.{list_any}
 use Rattle.digest_core.specs.declared.Digest.{Digest}
 use Rattle.chain_types.specs.declared.objects.Content.{Content}
@@ -81,22 +81,49 @@ limited-most : (s : Site) (counter : Item) (n : ℕ) (limit : Item) → MakesMos
 limited-most s counter n limit = twice-most (nat_le amount_limit (amount_of counter.content + n)) (nat_lt (amount_of limit.content) (amount_of counter.content + n)) 1 2 s (gives s [] (Some (holding (amount_of counter.content + n) counter))) (gives-most s [] (Some (holding (amount_of counter.content + n) counter)))
 
 all-most : (s : Site) (args : List Given) → Each (MakesMost (most s)) (natives s args)
-all-most s args =
-    (gives-most s (content.Coin (number_at args 0) 0 ∷ []) None,
-    (mint-most s (item_at args 0) (number_at args 1),
-    (burn-most s (item_at args 0) (item_at args 1),
-    (joined-most s (items_at args 0),
-    (gives-most s (content.Counter (number_at args 0) ∷ []) None,
-    (add-most s (item_at args 0) (number_at args 1),
-    (require-most s (item_at args 0) (number_at args 1),
-    (omega arith,
-    (deposit-most s (item_at args 0) (item_at args 1),
-    (withdraw-most s (item_at args 0) (item_at args 1) (number_at args 2),
-    (share-most s (item_at args 0),
-    (same-most s,
-    (gives-most s (content.Limit (number_at args 0) ∷ []) None,
-    (limited-most s (item_at args 0) (number_at args 1) (item_at args 2),
-    tt))))))))))))))
+all-most s args = (
+  gives-most s (content.Coin (number_at args 0) 0 ∷ []) None,
+  (
+    mint-most s (item_at args 0) (number_at args 1),
+    (
+      burn-most s (item_at args 0) (item_at args 1),
+      (
+        joined-most s (items_at args 0),
+        (
+          gives-most s (content.Counter (number_at args 0) ∷ []) None,
+          (
+            add-most s (item_at args 0) (number_at args 1),
+            (
+              require-most s (item_at args 0) (number_at args 1),
+              (
+                omega arith,
+                (
+                  deposit-most s (item_at args 0) (item_at args 1),
+                  (
+                    withdraw-most s (item_at args 0) (item_at args 1) (number_at args 2),
+                    (
+                      share-most s (item_at args 0),
+                      (
+                        same-most s,
+                        (
+                          gives-most s (content.Limit (number_at args 0) ∷ []) None,
+                          (
+                            limited-most s (item_at args 0) (number_at args 1) (item_at args 2),
+                            tt,
+                          ),
+                        ),
+                      ),
+                    ),
+                  ),
+                ),
+              ),
+            ),
+          ),
+        ),
+      ),
+    ),
+  ),
+)
 
 native-most : (native : ℕ) (s : Site) (args : List Given) → MakesMost (most s) (native_gives native s args)
 unfolding native_gives

@@ -1,6 +1,6 @@
 -- An admitted transaction that a member executed was executed on the objects that it wants.
-use Rattle.std.proofs.Common.{inl, inr, refl, sym, subst, ap, ◌∙◌}
-use Rattle.std.specs.Prelude.{◌≡◌, ℕ, Bool, true, false, List, [], ◌∷◌, ◌++◌, zip, map, find, slice_get, Option, Some, None, is_some}
+use Rattle.std.proofs.Common.{refl, sym, subst, ap, ◌∙◌}
+use Rattle.std.specs.Prelude.{◌≡◌, ℕ, true, List, [], ◌∷◌, zip, map, slice_get, Option, Some, None, is_some}
 use Rattle.digest_core.specs.declared.Digest.{Digest}
 use Rattle.chain_types.specs.declared.objects.Object.{Object}
 use Rattle.chain_types.specs.declared.transactions.Transaction.{Transaction}
@@ -28,7 +28,6 @@ use Rattle.agreement_law.specs.Agreed.{IsGiven, IsHeldAsGiven, IsAdmittedAsGiven
 use Rattle.agreement_law.specs.Explained.{IsExplained}
 use Rattle.agreement_law.proofs.Supply.{every-held, every-admission}
 use Rattle.agreement_law.proofs.Executing.{executions-explained, explained-more}
-use Rattle.chain_law.specs.Orderly.{Step, gave}
 use Rattle.current_law.specs.Steps.{step_of, IsStepOf}
 use Rattle.current_law.proofs.Lists.{along-split}
 use Rattle.current_law.proofs.Same.{given-alike, executions-same}
@@ -72,7 +71,7 @@ module _ (s : Setting) (events : List Event) (honest : IsHonestRun s events) (n 
   from-explained a h x there same it =
       let digest : it.of.digest ≡ a.digest = sym (ap (λ (z : Execution). z.digest) it.is) ∙ same in
       let alike = given-alike s events honest here.epoch here.epoch it.of.digest a.digest it.of.cert a.cert
-          (each-has (IsHeldAsGiven s.rules (all_delivered s events) here.epoch) here.held it.of (every-held s events n seat at) it.is_held) (admitted-given a h) digest in
+      (each-has (IsHeldAsGiven s.rules (all_delivered s events) here.epoch) here.held it.of (every-held s events n seat at) it.is_held) (admitted-given a h) digest in
       let objects = same-present (books here) here.executed it.of (held_again a) it.inputs digest alike.0 alike.1 it.were_there in
       let inputs : (step_of here a).inputs ≡ it.inputs = ap list_or_none objects in
       record {

@@ -1,20 +1,16 @@
 -- The objects with which an epoch opens have different ids, which no transaction of the epoch draws.
 use Rattle.std.proofs.Common.{inl, inr, refl, sym, subst, ap, ◌∙◌, arith, append_assoc, append-nil}
-use Rattle.std.specs.Prelude.{◌≡◌, ◌⊎◌, ◌<◌, ◌≤◌, ◌+◌, ℕ, suc, Bool, true, List, [], ◌∷◌, ◌++◌, map, zip, slice_get, Option, Some, None}
+use Rattle.std.specs.Prelude.{◌≡◌, ◌⊎◌, ◌<◌, ◌≤◌, ◌+◌, ℕ, suc, List, [], ◌∷◌, ◌++◌, map, slice_get, Some}
 use Rattle.chain_types.specs.declared.objects.ObjectId.{ObjectId}
 use Rattle.chain_types.specs.declared.objects.Object.{Object}
-use Rattle.chain_types.specs.declared.transactions.Input.{Input}
 use Rattle.chain_types.specs.declared.transactions.Transaction.{Transaction}
-use Rattle.chain_types.specs.Digests.{transaction_digest}
-use Rattle.chain_messages.specs.declared.messages.Certificate.{Certificate}
 use Rattle.block_types.specs.declared.pieces.Executed.{Executed}
 use Rattle.journal_core.specs.declared.records.Record.{Record}
 use Rattle.journal_core.specs.declared.records.Record.TheVariants as record_as
 use Rattle.member_types.specs.declared.answers.Held.{Held}
 use Rattle.schedule_text.specs.declared.words.Event.{Event}
-use Rattle.chain_spec.specs.Words.{Has, Each, Along, all_some}
+use Rattle.chain_spec.specs.Words.{Has, Along, all_some}
 use Rattle.chain_spec.specs.Keys.{objects_of}
-use Rattle.block_spec.specs.Execution.{execution}
 use Rattle.member_spec.specs.Versions.{Execution, Version, versions, live_list}
 use Rattle.member_spec.specs.Checkpoints.{is_cut}
 use Rattle.member_spec.specs.Rounds.{Wanted, is_wanted, wants_of, found, present}
@@ -34,8 +30,8 @@ use Rattle.agreement_law.specs.Explained.{IsExplained}
 use Rattle.agreement_law.proofs.Supply.{Delivers, delivers-run, Stocked, after-stocked, none-stocked}
 use Rattle.agreement_law.proofs.Executing.{AllExplained, explained-after, none-explained, some-parts}
 use Rattle.agreement_law.proofs.Same.{of-run}
-use Rattle.chain_law.specs.Orderly.{Step, gave, Makes, IsOpening, AreApart}
-use Rattle.chain_law.proofs.Touched.{has-parts, IsReplaced, IsTouched}
+use Rattle.chain_law.specs.Orderly.{Step, IsOpening, AreApart}
+use Rattle.chain_law.proofs.Touched.{has-parts, IsTouched}
 use Rattle.chain_law.proofs.Reading.{given-touched, object-given}
 use Rattle.current_law.specs.Orderly.{OpensApart}
 use Rattle.current_law.proofs.Lists.{some-same, has-second}

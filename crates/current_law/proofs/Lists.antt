@@ -1,6 +1,6 @@
 -- Lemmas on lists.
 use Rattle.std.proofs.Common.{inl, inr, refl, sym, subst, ap, ◌∙◌, append_assoc, append-nil}
-use Rattle.std.specs.Prelude.{◌≡◌, ◌⊎◌, Bool, true, false, cond, not, ◌&&◌, ◌||◌, List, [], ◌∷◌, ◌++◌, map, zip, find, Option, Some, None}
+use Rattle.std.specs.Prelude.{◌≡◌, Bool, true, false, cond, ◌&&◌, ◌||◌, List, [], ◌∷◌, ◌++◌, map, zip, find, Option, Some, None}
 use Rattle.std.specs.List.{list_any, list_all}
 use Rattle.chain_spec.specs.Words.{Has, Each, Along, first_some, first_of, where_true, last_where}
 

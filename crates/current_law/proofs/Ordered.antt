@@ -1,6 +1,6 @@
 -- The steps of an executed front are orderly.
-use Rattle.std.proofs.Common.{inl, inr, refl, sym, subst, ap, ◌∙◌, append_assoc, append-nil, arith}
-use Rattle.std.specs.Prelude.{◌≡◌, ◌⊎◌, ◌<◌, ◌≤◌, ℕ, zero, suc, Bool, true, false, ◌||◌, List, [], ◌∷◌, ◌++◌, map, zip, slice_get, Option, Some, None, Result, Ok, Err}
+use Rattle.std.proofs.Common.{inl, inr, refl, sym, subst, ap, ◌∙◌, append_assoc, arith}
+use Rattle.std.specs.Prelude.{◌≡◌, ◌⊎◌, ◌<◌, ◌≤◌, ℕ, zero, suc, Bool, true, false, ◌||◌, List, [], ◌∷◌, ◌++◌, map, zip, slice_get, Some, None, Result, Ok, Err}
 use Rattle.std.specs.List.{list_any}
 use Rattle.digest_core.specs.declared.Digest.{Digest}
 use Rattle.chain_types.specs.declared.objects.ObjectId.{ObjectId}
@@ -12,22 +12,21 @@ use Rattle.chain_types.specs.Equal.{id_eq, digest_eq}
 use Rattle.chain_types.specs.Digests.{transaction_digest, consumed_keys}
 use Rattle.chain_messages.specs.declared.messages.Certificate.{Certificate}
 use Rattle.schedule_text.specs.declared.words.Event.{Event}
-use Rattle.chain_spec.specs.Words.{Has, Each, Along, IsFront, numbers_below, repeats}
-use Rattle.chain_spec.specs.Tests.{has_id}
-use Rattle.chain_spec.specs.Keys.{objects_of, named_ids, fits_input, fit_inputs, fits}
+use Rattle.chain_spec.specs.Words.{Has, Along, numbers_below, repeats}
+use Rattle.chain_spec.specs.Keys.{objects_of, named_ids, fits_input, fit_inputs}
 use Rattle.chain_spec.specs.Shape.{shape_cases, shape_fault}
 use Rattle.chain_spec.specs.Certificates.{Rules, cert_cases, cert_refusal}
 use Rattle.chain_spec.proofs.ListLemmas.{along-push, and-second, or-first, or-second}
 use Rattle.block_spec.specs.Block.{Block}
 use Rattle.block_spec.specs.Execution.{Failure, outcome, execution, executed_by}
-use Rattle.member_spec.specs.Versions.{Execution, is_executed}
-use Rattle.member_spec.specs.Admission.{Admitted, is_admitted}
+use Rattle.member_spec.specs.Versions.{is_executed}
+use Rattle.member_spec.specs.Admission.{Admitted}
 use Rattle.member_spec.specs.Member.{Member}
 use Rattle.world_spec.specs.Setting.{Setting}
 use Rattle.world_spec.specs.World.{Seat, member_in}
 use Rattle.world_spec.specs.Names.{draws}
 use Rattle.world_spec.specs.Run.{world_after}
-use Rattle.world_spec.specs.Assumptions.{IsHonestRun, all_delivered, all_transactions, created}
+use Rattle.world_spec.specs.Assumptions.{IsHonestRun, all_delivered, all_transactions}
 use Rattle.votes_law.proofs.Once.{each-has, digest-same, has-left}
 use Rattle.votes_law.proofs.Apart.{none-each, none-map}
 use Rattle.admission_law.specs.Admitted.{IsInOrder}
@@ -35,12 +34,12 @@ use Rattle.block_law.specs.Names.{drawn_id, drawn_ids, touched_ids}
 use Rattle.block_law.proofs.Reading.{where-false}
 use Rattle.block_law.proofs.Effects.{objects-ids}
 use Rattle.block_law.proofs.Steps.{map-append}
-use Rattle.block_law.proofs.Counts.{id_same, id_refl}
+use Rattle.block_law.proofs.Counts.{id_same}
 use Rattle.agreement_law.specs.Agreed.{IsGiven}
 use Rattle.agreement_law.proofs.Supply.{every-admission}
 use Rattle.agreement_law.proofs.Same.{of-run}
 use Rattle.one_owner_law.proofs.Owner.{owner}
-use Rattle.chain_law.specs.Orderly.{Step, gave, id_of, Makes, IsKnown, IsOpening, IsMadeIn, IsOpened, IsWritten, IsSource, IsOrderly, AreOrderly}
+use Rattle.chain_law.specs.Orderly.{Step, gave, id_of, Makes, IsKnown, IsSource, IsOrderly, AreOrderly}
 use Rattle.chain_law.proofs.Reading.{fits-inputs, object-given, along-back, known-more, WroteKnown, IsGoneOver, goes-over}
 use Rattle.chain_law.proofs.Touched.{has-parts, has-mapped, below}
 use Rattle.current_law.specs.Steps.{step_of, IsStepOf}
@@ -198,11 +197,13 @@ module _ (s : Setting) (events : List Event) (honest : IsHonestRun s events) (n 
       → AreOrderly m.opening (map (step_of m) before) → Along (IsOrderly m.opening) (map (step_of m) before) (map (step_of m) xs)
   along-steps before [] back split ordered next done todo orderly = tt
   along-steps before (a ∷ xs) back split ordered next done todo orderly =
-      let here = orderly-at before (xs ++ back) a (split ∙ append_assoc before (a ∷ xs) back) ordered next.0 done (todo a (inl refl)) orderly in
-      (here, subst (λ (ys : List Step). Along (IsOrderly m.opening) ys (map (step_of m) xs)) (map-append (step_of m) before (a ∷ []))
-      (along-steps (before ++ a ∷ []) xs back (split ∙ ap (λ (zs : List Admitted). zs ++ back) (sym (append_assoc before (a ∷ []) xs))) (along-push (IsInOrder m.opening) [] before a ordered next.0) next.1
-      (λ b h. both b (has-parts before (a ∷ []) b h)) (λ b h. todo b (inr h))
-      (subst (λ (ys : List Step). Along (IsOrderly m.opening) [] ys) (sym (map-append (step_of m) before (a ∷ []))) (along-push (IsOrderly m.opening) [] (map (step_of m) before) (step_of m a) orderly here))))
+      let here = orderly-at before (xs ++ back) a (split ∙ append_assoc before (a ∷ xs) back) ordered next.0 done (todo a (inl refl)) orderly in (
+        here,
+        subst (λ (ys : List Step). Along (IsOrderly m.opening) ys (map (step_of m) xs)) (map-append (step_of m) before (a ∷ []))
+            (along-steps (before ++ a ∷ []) xs back (split ∙ ap (λ (zs : List Admitted). zs ++ back) (sym (append_assoc before (a ∷ []) xs))) (along-push (IsInOrder m.opening) [] before a ordered next.0) next.1
+            (λ b h. both b (has-parts before (a ∷ []) b h)) (λ b h. todo b (inr h))
+            (subst (λ (ys : List Step). Along (IsOrderly m.opening) [] ys) (sym (map-append (step_of m) before (a ∷ []))) (along-push (IsOrderly m.opening) [] (map (step_of m) before) (step_of m a) orderly here))),
+      )
     where
       both : (b : Admitted) → Has before b ⊎ Has (a ∷ []) b → IsStepOf m b
       both b (inl h) = done b h

@@ -1,14 +1,12 @@
 -- Executions of one transaction agree, under the run assumptions.
-use Rattle.std.proofs.Common.{inl, inr, refl, sym, ap, ◌∙◌}
-use Rattle.std.specs.Prelude.{◌≡◌, ℕ, List, slice_get, Some, None}
+use Rattle.std.proofs.Common.{inr, sym, ◌∙◌}
+use Rattle.std.specs.Prelude.{◌≡◌, ℕ, List, slice_get, Some}
 use Rattle.chain_types.specs.Digests.{transaction_digest}
 use Rattle.chain_messages.specs.declared.messages.Certificate.{Certificate}
 use Rattle.digest_core.specs.declared.Digest.{Digest}
 use Rattle.schedule_text.specs.declared.words.Event.{Event}
 use Rattle.chain_spec.specs.Words.{Has}
-use Rattle.member_types.specs.declared.answers.Held.{Held}
 use Rattle.member_spec.specs.Versions.{Execution}
-use Rattle.member_spec.specs.Admission.{Admitted}
 use Rattle.world_spec.specs.Setting.{Setting}
 use Rattle.world_spec.specs.World.{Seat, member_in}
 use Rattle.world_spec.specs.Run.{world_after}
@@ -31,9 +29,10 @@ module _ (s : Setting) (events : List Event) (honest : IsHonestRun s events) whe
   -- certificates that were given under one digest have one transaction and the same origins
   pub given-alike : (epoch other : ℕ) (d e : Digest) (c k : Certificate) → IsGivenHere epoch d c → IsGivenHere other e k → d ≡ e → (c.tx ≡ k.tx) × (c.origins ≡ k.origins)
   given-alike epoch other d e c k one two same =
-      let digests : transaction_digest c.tx ≡ transaction_digest k.tx = sym one.digest_is ∙ same ∙ two.digest_is in
-      (honest.transactions c.tx k.tx (of-run s events c one.comes) (of-run s events k two.comes) digests,
-      origins s events honest c k (was-formed epoch d c one) (was-formed other e k two) digests)
+      let digests : transaction_digest c.tx ≡ transaction_digest k.tx = sym one.digest_is ∙ same ∙ two.digest_is in (
+        honest.transactions c.tx k.tx (of-run s events c one.comes) (of-run s events k two.comes) digests,
+        origins s events honest c k (was-formed epoch d c one) (was-formed other e k two) digests,
+      )
 
   pub executions-same : (m n : ℕ) (a b : Seat) → slice_get (world_after s events).seats m ≡ Some a → slice_get (world_after s events).seats n ≡ Some b
       → (member_in s a).epoch ≡ (member_in s b).epoch → (member_in s a).opening ≡ (member_in s b).opening

@@ -1,5 +1,5 @@
 -- The set-up of a schedule opens with objects of different ids.
-use Rattle.std.proofs.Common.{inl, inr, refl, sym, subst, ap, ◌∙◌}
+use Rattle.std.proofs.Common.{inl, inr, refl, sym, subst, ◌∙◌}
 use Rattle.std.specs.Prelude.{◌≡◌, Bool, true, false, cond, List, [], ◌∷◌, ◌++◌, map, fold}
 use Rattle.std.specs.List.{list_any}
 use Rattle.chain_types.specs.declared.objects.ObjectId.{ObjectId}

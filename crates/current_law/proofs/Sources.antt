@@ -17,15 +17,15 @@ use Rattle.member_types.specs.declared.answers.Assigned.{Assigned}
 use Rattle.chain_spec.specs.Words.{Has, Each, Along, all_some, first_some, first_of, where_true, last_where}
 use Rattle.chain_spec.specs.Keys.{objects_of}
 use Rattle.member_spec.specs.Versions.{Execution, versions}
-use Rattle.member_spec.specs.Admission.{Admitted, Admission, Standing, is_admitted, joined_inputs, writes, cert_of, begins, beginning, beginning_by, standing_after, standing_or, current, assigned_of, assignments}
+use Rattle.member_spec.specs.Admission.{Admitted, Standing, is_admitted, joined_inputs, writes, cert_of, begins, beginning, beginning_by, standing_after, standing_or, current, assignments}
 use Rattle.member_spec.specs.Rounds.{Wanted, wanted_by, wanted_version, wants_of, found, present, producer_of, executes_as}
 use Rattle.member_spec.specs.Votes.{shared_key}
-use Rattle.member_spec.specs.Member.{Member, books}
+use Rattle.member_spec.specs.Member.{Member}
 use Rattle.votes_law.proofs.Once.{equal, has-left}
 use Rattle.admission_law.specs.Admitted.{held_again, is_origin_in, IsInOrder}
 use Rattle.block_law.proofs.Steps.{map-append}
 use Rattle.agreement_law.proofs.Agreeing.{IsFrom}
-use Rattle.chain_law.specs.Orderly.{Step, gave, MutatesNot, IsLeftAlone, IsOpened, IsWritten, IsSource}
+use Rattle.chain_law.specs.Orderly.{Step, gave, MutatesNot, IsLeftAlone, IsWritten, IsSource}
 use Rattle.chain_law.proofs.Touched.{has-parts, has-mapped}
 use Rattle.chain_law.proofs.Reading.{has-zip}
 use Rattle.current_law.specs.Steps.{step_of, IsStepOf}

@@ -1,11 +1,9 @@
 -- The effects of a member are those of one thread.
-use Rattle.std.proofs.Common.{inl, inr, refl, sym, subst, ap, ◌∙◌}
-use Rattle.std.specs.Prelude.{◌≡◌, ℕ, Bool, true, List, [], ◌∷◌, map, zip, find, slice_get, Option, Some, None, option_map, is_some}
-use Rattle.digest_core.specs.declared.Digest.{Digest}
+use Rattle.std.proofs.Common.{inl, inr, refl, sym, ap, ◌∙◌}
+use Rattle.std.specs.Prelude.{◌≡◌, ℕ, true, List, [], ◌∷◌, map, zip, slice_get, Option, Some, None, option_map, is_some}
 use Rattle.chain_types.specs.declared.transactions.Transaction.{Transaction}
 use Rattle.chain_types.specs.Equal.{digest_eq}
 use Rattle.effects_core.specs.declared.effects.Effects.{Effects}
-use Rattle.effects_core.specs.Effects.{digest_of_effects}
 use Rattle.block_types.specs.declared.pieces.Executed.{Executed}
 use Rattle.checkpoint_core.specs.declared.checkpoints.Item.{Item}
 use Rattle.schedule_text.specs.declared.words.Event.{Event}
@@ -24,11 +22,11 @@ use Rattle.world_spec.specs.Assumptions.{IsHonestRun}
 use Rattle.votes_law.proofs.Once.{each-has, equal}
 use Rattle.votes_law.proofs.Kept.{find-has}
 use Rattle.admission_law.specs.Admitted.{held_again}
-use Rattle.chain_law.specs.Orderly.{Step, gave, tx_of, effects_in}
+use Rattle.chain_law.specs.Orderly.{gave, tx_of, effects_in}
 use Rattle.chain_law.proofs.Reading.{chain-reads}
 use Rattle.current_law.specs.Steps.{step_of, IsStepOf}
 use Rattle.current_law.specs.Orderly.{IsExecutedFront, OpensApart}
-use Rattle.current_law.specs.Thread.{transaction_of, effects_in_execution, effects_at, item_with, thread_effects, GivesOneThread}
+use Rattle.current_law.specs.Thread.{effects_in_execution, effects_at, item_with, thread_effects, GivesOneThread}
 use Rattle.current_law.proofs.Executed.{one-gave}
 use Rattle.current_law.proofs.Ordered.{front-step, steps-orderly}
 

@@ -1,6 +1,6 @@
 -- An admitted transaction is executed at the version with which it was admitted.
-use Rattle.std.proofs.Common.{inl, inr, refl, sym, subst, ap, ◌∙◌}
-use Rattle.std.specs.Prelude.{◌≡◌, ℕ, Bool, true, ◌&&◌, List, [], ◌∷◌, ◌++◌, map, zip, slice_get, Option, Some, None, Result, Ok, Err}
+use Rattle.std.proofs.Common.{inl, inr, refl, sym, ap, ◌∙◌}
+use Rattle.std.specs.Prelude.{◌≡◌, ℕ, true, List, [], ◌∷◌, ◌++◌, map, zip, slice_get, Option, Some, Result, Ok, Err}
 use Rattle.digest_core.specs.declared.Digest.{Digest}
 use Rattle.chain_types.specs.declared.objects.Object.{Object}
 use Rattle.chain_types.specs.declared.transactions.Input.{Input}
@@ -15,7 +15,7 @@ use Rattle.chain_spec.proofs.ListLemmas.{and-second}
 use Rattle.block_spec.specs.Block.{Block}
 use Rattle.block_spec.specs.Execution.{Failure, outcome, execution, executed_by}
 use Rattle.member_spec.specs.Versions.{Execution, versions}
-use Rattle.member_spec.specs.Admission.{Admitted, assignments, taken_version, version_at_admission, admit, current}
+use Rattle.member_spec.specs.Admission.{Admitted, assignments, taken_version, admit}
 use Rattle.member_spec.specs.Rounds.{Wanted, wanted_by, wanted_version, found, executes_as}
 use Rattle.member_spec.specs.Votes.{shared_key}
 use Rattle.member_spec.specs.Member.{Member}

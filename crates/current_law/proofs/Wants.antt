@@ -1,8 +1,7 @@
 -- What an admitted transaction wants: the versions that its certificate names, and those that admission assigned.
 use Rattle.std.proofs.Common.{inl, inr, refl, sym, subst, ap, ◌∙◌}
 use Rattle.std.proofs.lemmas.Bool.{eqb-true}
-use Rattle.std.specs.Prelude.{◌≡◌, ◌⊎◌, ℕ, Bool, true, false, cond, ◌&&◌, ◌==◌, List, [], ◌∷◌, ◌++◌, map, zip, filter_map, find, Option, Some, None, option_map}
-use Rattle.std.specs.List.{cons_option}
+use Rattle.std.specs.Prelude.{◌≡◌, ℕ, Bool, true, false, cond, ◌==◌, List, [], ◌∷◌, ◌++◌, map, zip, filter_map, find, Option, Some, None, option_map}
 use Rattle.digest_core.specs.declared.Digest.{Digest}
 use Rattle.chain_types.specs.declared.objects.ObjectId.{ObjectId}
 use Rattle.chain_types.specs.declared.objects.ObjectKey.{ObjectKey}
@@ -12,19 +11,18 @@ use Rattle.chain_types.specs.declared.objects.Producer.TheVariants as producers
 use Rattle.chain_types.specs.declared.transactions.Input.{Input}
 use Rattle.chain_types.specs.declared.transactions.Input.TheVariants as inputs
 use Rattle.chain_types.specs.Equal.{id_eq, key_eq, digest_eq}
-use Rattle.chain_types.specs.Digests.{lamport_version, key_of}
 use Rattle.chain_messages.specs.declared.messages.Certificate.{Certificate}
 use Rattle.member_types.specs.declared.answers.Assigned.{Assigned}
-use Rattle.chain_spec.specs.Words.{Has, all_some, onto_some}
+use Rattle.chain_spec.specs.Words.{Has, all_some}
 use Rattle.chain_spec.specs.Tests.{producer_eq}
 use Rattle.chain_spec.specs.Keys.{object_key, objects_of}
 use Rattle.chain_spec.proofs.ListLemmas.{find-test, and-first, and-second}
 use Rattle.member_spec.specs.Versions.{Execution, Version, opened, versions, object_in}
-use Rattle.member_spec.specs.Admission.{Admitted, Admission, is_admitted, assigned_in, assigned_of, assigned_to, assignment, assignments, current, admit, taken_version}
-use Rattle.member_spec.specs.Rounds.{Wanted, wanted_by, wanted_as, assigned_id, is_of_id, is_wanted, found, producer_of}
+use Rattle.member_spec.specs.Admission.{Admitted, Admission, assigned_in, assigned_of, assigned_to, assignment, assignments, current, admit}
+use Rattle.member_spec.specs.Rounds.{Wanted, wanted_by, wanted_as, is_of_id, is_wanted, found}
 use Rattle.votes_law.proofs.Once.{digest-same}
 use Rattle.votes_law.proofs.Kept.{find-has}
-use Rattle.admission_law.specs.Admitted.{held_again, IsInOrder}
+use Rattle.admission_law.specs.Admitted.{IsInOrder}
 use Rattle.block_law.proofs.Counts.{id_same, id_refl}
 use Rattle.agreement_law.proofs.Executing.{some-parts}
 use Rattle.agreement_law.proofs.Agreeing.{IsFrom, never-found, among-opening, among-written}

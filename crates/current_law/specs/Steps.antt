@@ -1,8 +1,7 @@
 -- What a member executes of its admitted transactions, as steps of one thread.
-use Rattle.std.specs.Prelude.{◌≡◌, ℕ, true, List, map, slice_get, Some}
-use Rattle.chain_types.specs.declared.objects.Object.{Object}
+use Rattle.std.specs.Prelude.{◌≡◌, ℕ, true, List, slice_get, Some}
 use Rattle.schedule_text.specs.declared.words.Event.{Event}
-use Rattle.chain_spec.specs.Words.{Has, Each, IsFront}
+use Rattle.chain_spec.specs.Words.{Has}
 use Rattle.chain_spec.specs.Keys.{fits}
 use Rattle.member_spec.specs.Versions.{Execution, is_executed}
 use Rattle.member_spec.specs.Admission.{Admitted}
