@@ -10,3 +10,5 @@ pub mod Versions
 pub mod Lives
 pub mod Known
 pub mod SetUp
+pub mod Cuts
+pub mod Checkpointed

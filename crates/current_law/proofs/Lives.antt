@@ -122,7 +122,7 @@ newest-from (p ∷ ps) b o e = go (newest-from ps (newer b p) o e)
 abbrev pub IsThere : List Object → List Execution → Object → Type 0
 IsThere opening executed o = Has opening o ⊎ ((x : Execution) × Has executed x × Has x.gave.objects o)
 
-has-flat : {A B : Type 0} (f : A → List B) (xs : List A) (y : B) → Has (flat_map f xs) y → (x : A) × Has xs x × Has (f x) y
+pub has-flat : {A B : Type 0} (f : A → List B) (xs : List A) (y : B) → Has (flat_map f xs) y → (x : A) × Has xs x × Has (f x) y
 has-flat f [] y h = absurd h
 has-flat {A = A} f (x ∷ xs) y h = go (has-parts (f x) (flat_map f xs) y h) (has-flat f xs y)
   where

@@ -6,6 +6,7 @@ ghost use Rattle.current_law.specs.Same.{ExecutionsSame};
 ghost use Rattle.current_law.specs.Steps.{ExecutedIsStep, VersionsSame};
 ghost use Rattle.current_law.specs.Orderly.{EpochsOpenApart, SetUpApart, StepsOrderly};
 ghost use Rattle.current_law.specs.Thread.{EffectsOfFold};
+ghost use Rattle.current_law.specs.Checkpointed.{CheckpointsOfFold};
 
 /// Under the run assumptions, two members of one epoch that opened it with equal objects give the same for each
 /// transaction that both executed.
@@ -42,4 +43,10 @@ pub fn steps_orderly()
 /// Their effects, and their items in checkpoints, are those of one thread that executes these transactions in order.
 pub fn effects_of_fold()
     ensures { EffectsOfFold }
+{}
+
+/// So the effects and items in the checkpoints that a member has built are those of one thread that executes the
+/// transactions of its cuts in order.
+pub fn checkpoints_of_fold()
+    ensures { CheckpointsOfFold }
 {}
