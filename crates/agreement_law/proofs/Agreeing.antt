@@ -83,7 +83,7 @@ along-at {A = A} P before (y ∷ ys) x along (inr h) =
 
 -- ---- keys
 
-id-same : (a b : ObjectId) → id_eq a b ≡ true → a ≡ b
+pub id-same : (a b : ObjectId) → id_eq a b ≡ true → a ≡ b
 id-same a b e = ap (λ (d : Digest). let id : ObjectId = record { 0 = d } in id) (equal a.0 b.0 e)
 
 -- of objects with different keys two with one key are one
@@ -108,7 +108,7 @@ both-key a b key e f =
 
 -- ---- a wanted version
 
-never-found : (key : ObjectKey) (held : List Version) → find (is_wanted key None) held ≡ None
+pub never-found : (key : ObjectKey) (held : List Version) → find (is_wanted key None) held ≡ None
 never-found key [] = refl
 never-found key (v ∷ held) = never-found key held
 
@@ -119,7 +119,7 @@ written-not : (v : Version) (tx : Digest) (o : Object) → written tx o ≡ v �
 written-not v tx o e f = let g : producer_eq (written tx o).producer producers.Opening ≡ true = subst (λ (u : Version). producer_eq u.producer producers.Opening ≡ true) (sym e) f in cc
 
 -- an opening version is found among the opening objects
-among-opening : (opening : List Object) (executed : List Execution) (key : ObjectKey) (v : Version) → find (is_wanted key (Some producers.Opening)) (versions opening executed) ≡ Some v → find (is_wanted key (Some producers.Opening)) (map opened opening) ≡ Some v
+pub among-opening : (opening : List Object) (executed : List Execution) (key : ObjectKey) (v : Version) → find (is_wanted key (Some producers.Opening)) (versions opening executed) ≡ Some v → find (is_wanted key (Some producers.Opening)) (map opened opening) ≡ Some v
 unfolding versions
 among-opening opening executed key v e = go (find (is_wanted key (Some producers.Opening)) (map opened opening)) refl
   where
@@ -132,13 +132,13 @@ among-opening opening executed key v e = go (find (is_wanted key (Some producers
         absurd (written-not v x.0.digest o.0 o.2 (and-second (key_eq (object_key v.object) key) (producer_eq v.producer producers.Opening) (find-test (is_wanted key (Some producers.Opening)) (flat_map written_by executed) v f)))
 
 -- a version that a transaction made is written by its execution
-record IsFrom (executed : List Execution) (tx : Digest) (o : Object) : Type 0 where
-  by : Execution
-  there : Has executed by
-  named : by.digest ≡ tx
-  written : Has by.gave.objects o
+pub record IsFrom (executed : List Execution) (tx : Digest) (o : Object) : Type 0 where
+  pub by : Execution
+  pub there : Has executed by
+  pub named : by.digest ≡ tx
+  pub written : Has by.gave.objects o
 
-among-written : (opening : List Object) (executed : List Execution) (key : ObjectKey) (tx : Digest) (v : Version) → find (is_wanted key (Some (producers.Tx tx))) (versions opening executed) ≡ Some v → IsFrom executed tx v.object
+pub among-written : (opening : List Object) (executed : List Execution) (key : ObjectKey) (tx : Digest) (v : Version) → find (is_wanted key (Some (producers.Tx tx))) (versions opening executed) ≡ Some v → IsFrom executed tx v.object
 unfolding versions
 among-written opening executed key tx v e = go (has-either (map opened opening) (flat_map written_by executed) v (find-has (is_wanted key (Some (producers.Tx tx))) (map opened opening ++ flat_map written_by executed) v e))
   where

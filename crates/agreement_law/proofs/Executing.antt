@@ -154,7 +154,7 @@ may-more a b h (rest, q) may = go (not (has_shared_input h.cert.tx)) (is_admitte
 
 -- ---- an explanation stays
 
-explained-more : (b : Books) (before more : List Execution) (x : Execution) → IsExplained b before x → IsExplained b (before ++ more) x
+pub explained-more : (b : Books) (before more : List Execution) (x : Execution) → IsExplained b before x → IsExplained b (before ++ more) x
 unfolding present
 explained-more b before more x it = record {
   of = it.of;
@@ -244,7 +244,7 @@ module _ (b : Books) where
 
 -- ---- every record keeps it
 
-abbrev AllExplained : Member → Type 0
+abbrev pub AllExplained : Member → Type 0
 AllExplained m = Along (IsExplained (books m)) [] m.executed
 
 still-held : (held : List Held) (what : What) (h : Held) → Has held h → Has (held_with held what) h
@@ -257,7 +257,7 @@ still-held held commits h there = there
 still-held held (counts m) h there = there
 still-held held (ignores cause) h there = there
 
-explained-after : (r : Rules) (m : Member) (x : Record) → AllExplained m → AllExplained (after r m x)
+pub explained-after : (r : Rules) (m : Member) (x : Record) → AllExplained m → AllExplained (after r m x)
 unfolding after
 explained-after r m (record_as.Vote tx origins) all = all
 explained-after r m (record_as.Hold c) all = along-map (IsExplained (books m)) (IsExplained (books (after r m (record_as.Hold c))))
@@ -269,7 +269,7 @@ explained-after r m (record_as.Ran txs) all = run-explained (books m) m.executed
 explained-after r m record_as.Turn all = tt
 explained-after r m (record_as.Ran2 items) all = run-explained (books m) m.executed all
 
-none-explained : (r : Rules) (opening : List Object) → AllExplained (state r opening [])
+pub none-explained : (r : Rules) (opening : List Object) → AllExplained (state r opening [])
 unfolding state
 none-explained r opening = tt
 

@@ -16,7 +16,7 @@ use Rattle.agreement_law.proofs.Agreeing.{map-has}
 use Rattle.agreement_law.proofs.Supply.{has-right, every-held}
 
 -- the transaction of a delivered certificate is one of the run
-of-run : (s : Setting) (events : List Event) (c : Certificate) → Has (all_delivered s events) c → Has (all_transactions s events) c.tx
+pub of-run : (s : Setting) (events : List Event) (c : Certificate) → Has (all_delivered s events) c → Has (all_transactions s events) c.tx
 unfolding all_transactions
 of-run s events c h =
     has-right (map (λ (t : Made). t.signed.tx) (world_after s events).txs) (map (λ (x : SignedTx). x.tx) (all_of asked s events (new_world s)) ++ map (λ (d : Certificate). d.tx) (all_formed s events ++ all_delivered s events)) c.tx

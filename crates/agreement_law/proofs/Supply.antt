@@ -66,7 +66,7 @@ delivers-calls r total (call ∷ calls) h = (
   delivers-calls r total calls (λ c k. h c (has-right (certificates_read r call) (flat_map (certificates_read r) calls) c k)),
 )
 
-delivers-run : (s : Setting) (total : List Certificate) (events : List Event) (w : World) → ((c : Certificate) → Has (all_of delivered s events w) c → Has total c) → Each (Delivers s.rules total) (all_of calls_of s events w)
+pub delivers-run : (s : Setting) (total : List Certificate) (events : List Event) (w : World) → ((c : Certificate) → Has (all_of delivered s events w) c → Has total c) → Each (Delivers s.rules total) (all_of calls_of s events w)
 unfolding delivered
 delivers-run s total [] w h = tt
 delivers-run s total (e ∷ events) w h = each-append (Delivers s.rules total) (calls_of s w e) (all_of calls_of s events (happens s w e))
@@ -119,7 +119,7 @@ module _ (r : Rules) (total : List Certificate) where
 
   -- ---- what an entry gives
 
-  abbrev Given : ℕ → Held → Type 0
+  abbrev pub Given : ℕ → Held → Type 0
   Given = IsHeldAsGiven r total
 
   it-takes : (x h : Held) → takes x ≡ takes h → x ≡ h
@@ -154,9 +154,9 @@ module _ (r : Rules) (total : List Certificate) where
 
   -- ---- admission
 
-  record IsSupplied (epoch : ℕ) (a : Admission) : Type 0 where
-    admitted : Each (IsAdmittedAsGiven r total epoch) a.admitted
-    pending : Each (Given epoch) a.pending
+  pub record IsSupplied (epoch : ℕ) (a : Admission) : Type 0 where
+    pub admitted : Each (IsAdmittedAsGiven r total epoch) a.admitted
+    pub pending : Each (Given epoch) a.pending
 
   module _ (epoch : ℕ) (opening : List Object) where
     supplied-taken_as : (b : Bool) (a : Admission) (h : Held) → IsSupplied epoch a → Given epoch h → IsSupplied epoch (taken_as b opening a h)
@@ -214,11 +214,11 @@ module _ (r : Rules) (total : List Certificate) where
 
   -- ---- members
 
-  record IsStocked (epoch : ℕ) (held : List Held) (a : Admission) : Type 0 where
-    in_hand : Each (Given epoch) held
-    supplied : IsSupplied epoch a
+  pub record IsStocked (epoch : ℕ) (held : List Held) (a : Admission) : Type 0 where
+    pub in_hand : Each (Given epoch) held
+    pub supplied : IsSupplied epoch a
 
-  abbrev Stocked : Member → Type 0
+  abbrev pub Stocked : Member → Type 0
   Stocked m = IsStocked m.epoch m.held m.sequence.admission
 
   see-stocked : (m : Member) (bytes : List ℕ) → Each (Has total) (flat_map entry_certificates (read_list (read_entry bytes))) → Stocked m → Stocked (after r m (record_as.See bytes))
@@ -238,7 +238,7 @@ module _ (r : Rules) (total : List Certificate) where
   call-stocked m bytes turns k see stocked = absurd see
   call-stocked m bytes (acks tx) k see stocked = absurd see
 
-  after-stocked : (m : Member) (call : Call) (x : Record) → Delivers r total call → due r m call ≡ Some x → Stocked m → Stocked (after r m x)
+  pub after-stocked : (m : Member) (call : Call) (x : Record) → Delivers r total call → due r m call ≡ Some x → Stocked m → Stocked (after r m x)
   unfolding after
   after-stocked m call (record_as.Vote tx origins) k d stocked = record { in_hand = stocked.in_hand; supplied = stocked.supplied }
   after-stocked m call (record_as.Hold c) k d stocked = record { in_hand = each-push (Given m.epoch) m.held (held_as c) stocked.in_hand (hold-given m c call k d); supplied = stocked.supplied }
@@ -248,11 +248,11 @@ module _ (r : Rules) (total : List Certificate) where
   after-stocked m call record_as.Turn k d stocked = record { in_hand = tt; supplied = record { admitted = tt; pending = tt } }
   after-stocked m call (record_as.Ran2 items) k d stocked = record { in_hand = stocked.in_hand; supplied = stocked.supplied }
 
-  none-stocked : (opening : List Object) → Stocked (state r opening [])
+  pub none-stocked : (opening : List Object) → Stocked (state r opening [])
   unfolding state
   none-stocked opening = record { in_hand = tt; supplied = record { admitted = tt; pending = tt } }
 
-stocked : (s : Setting) (events : List Event) (m : ℕ) (seat : Seat) → slice_get (world_after s events).seats m ≡ Some seat → Stocked s.rules (all_delivered s events) (member_in s seat)
+pub stocked : (s : Setting) (events : List Event) (m : ℕ) (seat : Seat) → slice_get (world_after s events).seats m ≡ Some seat → Stocked s.rules (all_delivered s events) (member_in s seat)
 unfolding all_delivered
 stocked s events m seat e =
     in_world_given s (Delivers s.rules (all_delivered s events)) (λ records. Stocked s.rules (all_delivered s events) (state s.rules s.opening records))

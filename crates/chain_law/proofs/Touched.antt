@@ -52,7 +52,7 @@ each-has P [] x each h = absurd h
 each-has P (y ∷ ys) x each (inl e) = subst P e each.0
 each-has P (y ∷ ys) x each (inr h) = each-has P ys x each.1 h
 
-below : (k n : ℕ) → Has (numbers_below k) n → n < k
+pub below : (k n : ℕ) → Has (numbers_below k) n → n < k
 below zero n h = absurd h
 below (suc k) n h = go (has-parts (numbers_below k) (k ∷ []) n h) (below k n)
   where

@@ -1,0 +1,14 @@
+pub mod Lists
+pub mod Same
+pub mod Executed
+pub mod Wants
+pub mod Sources
+pub mod Drawn
+pub mod Ordered
+pub mod Thread
+pub mod Versions
+pub mod Lives
+pub mod Known
+pub mod SetUp
+pub mod Cuts
+pub mod Checkpointed

@@ -1,0 +1,28 @@
+-- The checkpoints that a member has built against one thread.
+use Rattle.std.specs.Prelude.{◌≡◌, ℕ, true, List, flat_map, slice_get, Some}
+use Rattle.std.specs.List.{list_all}
+use Rattle.schedule_text.specs.declared.words.Event.{Event}
+use Rattle.chain_spec.specs.Words.{Each, IsFront}
+use Rattle.member_spec.specs.Admission.{Admitted}
+use Rattle.member_spec.specs.Sequence.{Cut}
+use Rattle.member_spec.specs.Checkpoints.{is_done}
+use Rattle.member_spec.specs.Member.{Member}
+use Rattle.world_spec.specs.Setting.{Setting}
+use Rattle.world_spec.specs.World.{Seat, member_in}
+use Rattle.world_spec.specs.Run.{world_after}
+use Rattle.world_spec.specs.Assumptions.{IsHonestRun}
+use Rattle.chain_law.specs.Orderly.{AreApart}
+use Rattle.current_law.specs.Thread.{GivesOneThread}
+
+abbrev pub admitted_in : Cut → List Admitted
+admitted_in c = c.txs
+
+-- the member built the checkpoint of this cut, if it built those of the cuts before it
+abbrev pub IsBuilt : Member → Cut → Type 0
+IsBuilt m c = list_all (is_done m.held m.executed) c.txs ≡ true
+
+-- the effects and items in the checkpoints of these cuts, which are its first ones, are those of one thread
+abbrev pub CheckpointsOfFold : Type 0
+CheckpointsOfFold = (s : Setting) (events : List Event) → IsHonestRun s events → AreApart s.opening
+    → (m : ℕ) (seat : Seat) → slice_get (world_after s events).seats m ≡ Some seat
+    → (cuts : List Cut) → IsFront cuts (member_in s seat).sequence.cuts → Each (IsBuilt (member_in s seat)) cuts → GivesOneThread (member_in s seat) (flat_map admitted_in cuts)
