@@ -1,15 +1,14 @@
 -- The checkpoints of a member are those of one thread.
-use Rattle.std.proofs.Common.{refl, sym, subst, ap, ◌∙◌, append_assoc}
+use Rattle.std.proofs.Common.{sym, subst, ap, ◌∙◌, append_assoc}
 use Rattle.std.specs.Prelude.{◌≡◌, ℕ, true, List, ◌++◌, flat_map, map, slice_get, Some}
 use Rattle.chain_messages.specs.Messages as messages
 use Rattle.schedule_text.specs.declared.words.Event.{Event}
-use Rattle.chain_spec.specs.Words.{Has, Each, IsFront}
+use Rattle.chain_spec.specs.Words.{Each, IsFront}
 use Rattle.chain_spec.proofs.ListLemmas.{and-first}
 use Rattle.member_spec.specs.Versions.{is_executed}
 use Rattle.member_spec.specs.Admission.{Admitted}
 use Rattle.member_spec.specs.Sequence.{Cut, Sequence}
 use Rattle.member_spec.specs.Checkpoints.{held_of, is_done, names_same_origins}
-use Rattle.member_spec.specs.Member.{Member}
 use Rattle.world_spec.specs.Setting.{Setting}
 use Rattle.world_spec.specs.World.{Seat, member_in}
 use Rattle.world_spec.specs.Run.{world_after}
@@ -33,11 +32,13 @@ module _ (s : Setting) (events : List Event) (n : ℕ) (seat : Seat) (at : slice
       subst (λ (q : Sequence). IsFront (flat_map admitted_in q.cuts) q.admission.admitted) (sym taken.gives)
       (cut-seen s.rules (member_in s seat).opening (member_in s seat).epoch (map messages.entry.spell taken.front))
 
-  built-front : (cuts : List Cut) → IsFront cuts (member_in s seat).sequence.cuts → Each (IsBuilt (member_in s seat)) cuts → IsExecutedFront (member_in s seat) (flat_map admitted_in cuts)
+  pub built-front : (cuts : List Cut) → IsFront cuts (member_in s seat).sequence.cuts → Each (IsBuilt (member_in s seat)) cuts → IsExecutedFront (member_in s seat) (flat_map admitted_in cuts)
   built-front cuts (rest, e) built = record {
-    is_front = (flat_map admitted_in rest ++ all-cut.0,
+    is_front = (
+      flat_map admitted_in rest ++ all-cut.0,
       all-cut.1 ∙ ap (λ (cs : List Cut). flat_map admitted_in cs ++ all-cut.0) e
-      ∙ ap (λ (zs : List Admitted). zs ++ all-cut.0) (flat-append admitted_in cuts rest) ∙ append_assoc (flat_map admitted_in cuts) (flat_map admitted_in rest) all-cut.0);
+          ∙ ap (λ (zs : List Admitted). zs ++ all-cut.0) (flat-append admitted_in cuts rest) ∙ append_assoc (flat_map admitted_in cuts) (flat_map admitted_in rest) all-cut.0,
+    );
     executed = each-all (λ (a : Admitted). is_executed (member_in s seat).executed a.digest ≡ true) (flat_map admitted_in cuts) (λ a h.
         let c = has-flat admitted_in cuts a h in
         and-first (is_executed (member_in s seat).executed a.digest) (names_same_origins (held_of (member_in s seat).held a.digest) a)

@@ -1,6 +1,6 @@
 -- The transactions of the cuts are admitted first.
 use Rattle.std.proofs.Common.{refl, sym, subst, ap, ◌∙◌, append_assoc, append-nil}
-use Rattle.std.specs.Prelude.{◌≡◌, ℕ, zero, suc, ◌+◌, Bool, true, false, cond, List, [], ◌∷◌, ◌++◌, map, drop, fold, find, flat_map, length, Option, Some, None}
+use Rattle.std.specs.Prelude.{◌≡◌, ℕ, zero, suc, Bool, true, false, cond, List, [], ◌∷◌, ◌++◌, drop, fold, find, flat_map, length, Option, Some, None}
 use Rattle.chain_types.specs.declared.objects.Object.{Object}
 use Rattle.member_types.specs.declared.answers.Held.{Held}
 use Rattle.chain_spec.specs.Words.{IsFront}

@@ -12,3 +12,4 @@ pub mod Known
 pub mod SetUp
 pub mod Cuts
 pub mod Checkpointed
+pub mod Turning

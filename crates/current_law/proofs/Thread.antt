@@ -30,7 +30,7 @@ use Rattle.current_law.specs.Thread.{effects_in_execution, effects_at, item_with
 use Rattle.current_law.proofs.Executed.{one-gave}
 use Rattle.current_law.proofs.Ordered.{front-step, steps-orderly}
 
-map-twice : {A B C : Type 0} (f : A → B) (g : B → C) (xs : List A) → map g (map f xs) ≡ map (λ (x : A). g (f x)) xs
+pub map-twice : {A B C : Type 0} (f : A → B) (g : B → C) (xs : List A) → map g (map f xs) ≡ map (λ (x : A). g (f x)) xs
 map-twice f g [] = refl
 map-twice f g (x ∷ xs) = ap (λ zs. g (f x) ∷ zs) (map-twice f g xs)
 

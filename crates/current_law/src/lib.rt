@@ -6,7 +6,7 @@ ghost use Rattle.current_law.specs.Same.{ExecutionsSame};
 ghost use Rattle.current_law.specs.Steps.{ExecutedIsStep, VersionsSame};
 ghost use Rattle.current_law.specs.Orderly.{EpochsOpenApart, SetUpApart, StepsOrderly};
 ghost use Rattle.current_law.specs.Thread.{EffectsOfFold};
-ghost use Rattle.current_law.specs.Checkpointed.{CheckpointsOfFold};
+ghost use Rattle.current_law.specs.Checkpointed.{CheckpointsOfFold, TurnsToFold};
 
 /// Under the run assumptions, two members of one epoch that opened it with equal objects give the same for each
 /// transaction that both executed.
@@ -49,4 +49,10 @@ pub fn effects_of_fold()
 /// transactions of its cuts in order.
 pub fn checkpoints_of_fold()
     ensures { CheckpointsOfFold }
+{}
+
+/// A member that turns with all its checkpoints built opens the next epoch with what that one thread leaves; what stands
+/// in no checkpoint leaves no trace.
+pub fn turns_to_fold()
+    ensures { TurnsToFold }
 {}
