@@ -1,0 +1,172 @@
+//! The state of a block between two commands.
+
+ghost use Rattle.std.specs.Prelude.{◌≡◌, ◌<◌, ◌∷◌, [], length, map, IfOk, OnOk, true};
+ghost use Rattle.std.specs.List.{list_all};
+ghost use Rattle.block_spec.specs.Block as block;
+ghost use Rattle.block_spec.specs.Commands.{address_in, all_by, bytes_of, has_no_result, item_in, items_in, number_in, place_of, put_back, spend, spend_all};
+ghost use Rattle.ptb_run.specs.Blocks.{block_of};
+ghost use Rattle.block_spec.specs.Commands as commands;
+ghost use Rattle.ptb_run.specs.Gathering.{items_after, numbers_after};
+ghost use Rattle.ptb_run.specs.Takes.{is_taken};
+
+use crate::slots::Slots;
+use crate::value::{Value, spot_of};
+use block_types::{Item, Placed};
+use chain_types::{Address, Argument};
+use digest_core::Digest;
+use std::alloc::Global;
+use wire_bcs::{OutOfMemory, Seq};
+
+/// The places, the objects that left the block to an owner, and the number of the next creation.
+#[derive(Debug, Drop)]
+pub(crate) struct Block {
+    pub(crate) slots: Slots,
+    pub(crate) placed: Seq<Placed>,
+    pub(crate) made: u32,
+}
+
+impl Block {
+    /// Whether an argument names a result that there is not.
+    #[tactic(auto, unfolding(crate::specs::Blocks::block_of))]
+    pub(crate) fn has_no_result(&self, argument: &Argument) -> bool
+        ensures { result ≡ has_no_result (block_of self.now) argument.now }
+    {
+        match argument {
+            Argument::Gas | Argument::Input(_) => false,
+            Argument::Result(command) => self.slots.result_count(*command) != 1,
+            Argument::Nested(command, number) => {
+                self.slots.result_count(*command) <= u64::from(*number)
+            }
+        }
+    }
+
+    /// The object in the place of an argument.
+    #[tactic(auto, unfolding(crate::specs::Blocks::block_of))]
+    pub(crate) fn item_in(&self, argument: &Argument) -> Option<Item>
+        ensures { result ≡ item_in (block_of self.now) argument.now }
+    {
+        match self.slots.at(spot_of(argument)) {
+            Some(Value::Object(item)) => Some(*item),
+            Some(Value::Pure(_)) | Some(Value::Vector { .. }) | None => None,
+        }
+    }
+
+    /// The pure bytes in the place of an argument.
+    #[tactic(auto, unfolding(crate::specs::Blocks::block_of))]
+    fn bytes_in(&self, argument: &Argument) -> &[u8]
+        ensures { result.now ≡ bytes_of (block.value_in (place_of argument.now) (block_of self.now).slots) }
+    {
+        match self.slots.at(spot_of(argument)) {
+            Some(Value::Pure(bytes)) => bytes.as_slice(),
+            Some(Value::Object(_)) | Some(Value::Vector { .. }) | None => &[],
+        }
+    }
+
+    /// The number that the 8 bytes in the place of an argument spell.
+    #[tactic(auto, using(crate::proofs::Taken::eight_bytes))]
+    pub(crate) fn number_in(&self, argument: &Argument) -> u64
+        requires { is_taken (block_of self.now) (argument.now, commands.number) ≡ true }
+        ensures { result ≡ number_in (block_of self.now) argument.now }
+    {
+        match <[u8; 8]>::try_from(self.bytes_in(argument)) {
+            Ok(bytes) => u64::from_le_bytes(bytes),
+            Err(_) => unreachable!(),
+        }
+    }
+
+    /// The address that the 32 bytes in the place of an argument are.
+    #[tactic(auto, using(crate::proofs::Taken::thirty_two_bytes))]
+    pub(crate) fn address_in(&self, argument: &Argument) -> Address
+        requires { is_taken (block_of self.now) (argument.now, commands.address) ≡ true }
+        ensures { result ≡ address_in (block_of self.now) argument.now }
+    {
+        match <[u8; 32]>::try_from(self.bytes_in(argument)) {
+            Ok(bytes) => Address(Digest(bytes)),
+            Err(_) => unreachable!(),
+        }
+    }
+
+    /// The objects in the places of arguments, gathered one after the other.
+    fn gather(&self, alloc: Global, args: &[Argument]) -> Result<Seq<Item>, OutOfMemory>
+        ensures { IfOk result (λ items. items ≡ items_after (block_of self.now) [] args.now) }
+    {
+        let mut items = Seq::new(alloc);
+        let mut rest = args;
+        while let [argument, after @ ..] = rest {
+            if let Some(item) = self.item_in(argument) {
+                items.push(item)?;
+            }
+            rest = after;
+        }
+        Ok(items)
+    }
+
+    /// The objects in the places of arguments.
+    #[tactic(auto, using(crate::proofs::Gathered::items_are))]
+    pub(crate) fn items_in(
+        &self,
+        alloc: Global,
+        args: &[Argument],
+    ) -> Result<Seq<Item>, OutOfMemory>
+        ensures { IfOk result (λ items. items ≡ items_in (block_of self.now) args.now) }
+    {
+        self.gather(alloc, args)
+    }
+
+    /// The numbers that the bytes in the places of arguments spell, gathered one after the other.
+    fn gather_numbers(&self, alloc: Global, args: &[Argument]) -> Result<Seq<u64>, OutOfMemory>
+        requires { list_all (is_taken (block_of self.now)) (all_by commands.number args.now) ≡ true }
+        ensures { IfOk result (λ numbers. numbers ≡ numbers_after (block_of self.now) [] args.now) }
+    {
+        let mut numbers = Seq::new(alloc);
+        let mut rest = args;
+        while let [argument, after @ ..] = rest {
+            numbers.push(self.number_in(argument))?;
+            rest = after;
+        }
+        Ok(numbers)
+    }
+
+    /// The numbers that the bytes in the places of arguments spell.
+    #[tactic(auto, using(crate::proofs::Gathered::numbers_are))]
+    pub(crate) fn numbers_in(
+        &self,
+        alloc: Global,
+        args: &[Argument],
+    ) -> Result<Seq<u64>, OutOfMemory>
+        requires { list_all (is_taken (block_of self.now)) (all_by commands.number args.now) ≡ true }
+        ensures { IfOk result (λ numbers. numbers ≡ map (number_in (block_of self.now)) args.now) }
+    {
+        self.gather_numbers(alloc, args)
+    }
+
+    /// Spends the place of an argument.
+    #[tactic(auto, unfolding(crate::specs::Blocks::block_of))]
+    pub(crate) fn spend(&mut self, argument: &Argument)
+        ensures after { block_of self.new ≡ spend argument.now (block_of self.old) }
+        ensures rows { length self.new.slots.results.items ≡ length self.old.slots.results.items }
+    {
+        self.slots.put(spot_of(argument), None);
+    }
+
+    /// Spends the places of arguments.
+    pub(crate) fn spend_all(&mut self, args: &[Argument])
+        ensures after { block_of self.new ≡ spend_all args.now (block_of self.old) }
+        ensures rows { length self.new.slots.results.items ≡ length self.old.slots.results.items }
+    {
+        let mut rest = args;
+        while let [argument, after @ ..] = rest {
+            self.spend(argument);
+            rest = after;
+        }
+    }
+
+    /// Puts an object into the place of an argument.
+    #[tactic(auto, unfolding(crate::specs::Blocks::block_of))]
+    pub(crate) fn put_back(&mut self, argument: &Argument, item: Item)
+        ensures after { block_of self.new ≡ put_back argument.now item (block_of self.old) }
+        ensures rows { length self.new.slots.results.items ≡ length self.old.slots.results.items }
+    {
+        self.slots.put(spot_of(argument), Some(Value::Object(item)));
+    }
+}
