@@ -6,3 +6,4 @@ pub mod Adding
 pub mod ByNeed
 pub mod Taken
 pub mod Gathered
+pub mod Aliases

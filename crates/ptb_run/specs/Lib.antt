@@ -5,3 +5,6 @@ pub mod Blocks
 pub mod Needs
 pub mod Gathering
 pub mod Takes
+pub mod Causes
+pub mod Outcomes
+pub mod Rows

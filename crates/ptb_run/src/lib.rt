@@ -4,7 +4,10 @@
 #![tactic(auto)]
 
 mod block;
+mod causes;
+mod commands;
 mod fitting;
+mod halt;
 mod needs;
 mod slots;
 mod value;

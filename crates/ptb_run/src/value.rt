@@ -2,7 +2,7 @@
 
 ghost use Rattle.std.specs.Prelude.{◌≡◌};
 ghost use Rattle.block_spec.specs.Commands.{place_of};
-ghost use Rattle.ptb_run.specs.Values.{spot_of};
+ghost use Rattle.ptb_run.specs.Values.{spot_at, spot_of};
 
 use block_types::Item;
 use chain_types::{Argument, Kind};
@@ -27,7 +27,8 @@ pub(crate) enum Spot {
 
 /// Where the value of an argument lies: the one result of a command is its first.
 pub(crate) fn spot_of(argument: &Argument) -> Spot
-    ensures { spot_of result ≡ place_of argument.now }
+    ensures place { spot_of result ≡ place_of argument.now }
+    ensures spot { result ≡ spot_at argument.now }
 {
     match argument {
         Argument::Gas => Spot::Gas,
