@@ -7,3 +7,5 @@ pub mod ByNeed
 pub mod Taken
 pub mod Gathered
 pub mod Aliases
+pub mod Leaving
+pub mod Merging

@@ -1,10 +1,11 @@
 //! The state of a block between two commands.
 
-ghost use Rattle.std.specs.Prelude.{◌≡◌, ◌<◌, ◌∷◌, [], length, map, IfOk, OnOk, true};
+ghost use Rattle.std.specs.Prelude.{◌≡◌, ◌+◌, ◌<◌, ◌∷◌, ◌++◌, [], length, map, IfOk, OnOk, true};
 ghost use Rattle.std.specs.List.{list_all};
 ghost use Rattle.block_spec.specs.Block as block;
-ghost use Rattle.block_spec.specs.Commands.{address_in, all_by, bytes_of, has_no_result, item_in, items_in, number_in, place_of, put_back, spend, spend_all};
-ghost use Rattle.ptb_run.specs.Blocks.{block_of};
+ghost use Rattle.block_spec.specs.Commands.{address_in, all_by, bytes_of, has_no_result, item_in, items_in, number_in, place_of, placed_at, put_back, spend, spend_all};
+ghost use Rattle.ptb_run.specs.Blocks.{block_of, rows_of, with_row};
+ghost use Rattle.ptb_run.specs.Rows.{placed_after};
 ghost use Rattle.block_spec.specs.Commands as commands;
 ghost use Rattle.ptb_run.specs.Gathering.{items_after, numbers_after};
 ghost use Rattle.ptb_run.specs.Takes.{is_taken};
@@ -12,7 +13,7 @@ ghost use Rattle.ptb_run.specs.Takes.{is_taken};
 use crate::slots::Slots;
 use crate::value::{Value, spot_of};
 use block_types::{Item, Placed};
-use chain_types::{Address, Argument};
+use chain_types::{Address, Argument, Owner};
 use digest_core::Digest;
 use std::alloc::Global;
 use wire_bcs::{OutOfMemory, Seq};
@@ -141,10 +142,10 @@ impl Block {
     }
 
     /// Spends the place of an argument.
-    #[tactic(auto, unfolding(crate::specs::Blocks::block_of))]
+    #[tactic(auto, unfolding(crate::specs::Blocks::block_of, crate::specs::Blocks::rows_of))]
     pub(crate) fn spend(&mut self, argument: &Argument)
         ensures after { block_of self.new ≡ spend argument.now (block_of self.old) }
-        ensures rows { length self.new.slots.results.items ≡ length self.old.slots.results.items }
+        ensures rows { rows_of self.new ≡ rows_of self.old }
     {
         self.slots.put(spot_of(argument), None);
     }
@@ -152,7 +153,7 @@ impl Block {
     /// Spends the places of arguments.
     pub(crate) fn spend_all(&mut self, args: &[Argument])
         ensures after { block_of self.new ≡ spend_all args.now (block_of self.old) }
-        ensures rows { length self.new.slots.results.items ≡ length self.old.slots.results.items }
+        ensures rows { rows_of self.new ≡ rows_of self.old }
     {
         let mut rest = args;
         while let [argument, after @ ..] = rest {
@@ -162,11 +163,76 @@ impl Block {
     }
 
     /// Puts an object into the place of an argument.
-    #[tactic(auto, unfolding(crate::specs::Blocks::block_of))]
+    #[tactic(auto, unfolding(crate::specs::Blocks::block_of, crate::specs::Blocks::rows_of))]
     pub(crate) fn put_back(&mut self, argument: &Argument, item: Item)
         ensures after { block_of self.new ≡ put_back argument.now item (block_of self.old) }
-        ensures rows { length self.new.slots.results.items ≡ length self.old.slots.results.items }
+        ensures rows { rows_of self.new ≡ rows_of self.old }
     {
         self.slots.put(spot_of(argument), Some(Value::Object(item)));
     }
+
+    /// The number of the next creation.
+    #[tactic(auto, unfolding(crate::specs::Blocks::block_of))]
+    pub(crate) fn made(&self) -> u32
+        ensures { result ≡ (block_of self.now).made }
+    {
+        self.made
+    }
+
+    /// The number of the next creation is now this one.
+    #[tactic(auto, unfolding(crate::specs::Blocks::block_of, crate::specs::Blocks::rows_of))]
+    pub(crate) fn set_made(&mut self, made: u32)
+        ensures after { block_of self.new ≡ record (block_of self.old) { made = made } }
+        ensures rows { rows_of self.new ≡ rows_of self.old }
+    {
+        self.made = made;
+    }
+
+    /// Objects leave the block to an owner.
+    #[tactic(auto, unfolding(crate::specs::Blocks::block_of, crate::specs::Blocks::rows_of))]
+    fn place_each(&mut self, owner: Owner, items: &[Item]) -> Result<(), OutOfMemory>
+        ensures after { OnOk result (block_of self.new ≡ record (block_of self.old) { placed = placed_after (block_of self.old).placed owner items.now }) }
+        ensures rows { rows_of self.new ≡ rows_of self.old }
+    {
+        place_all(&mut self.placed, owner, items)
+    }
+
+    /// Objects leave the block to an owner.
+    #[tactic(auto, using(crate::proofs::Leaving::placed_are))]
+    pub(crate) fn place_all(&mut self, owner: Owner, items: &[Item]) -> Result<(), OutOfMemory>
+        ensures after { OnOk result (block_of self.new ≡ record (block_of self.old) { placed = (block_of self.old).placed ++ map (placed_at owner) items.now }) }
+        ensures rows { rows_of self.new ≡ rows_of self.old }
+    {
+        self.place_each(owner, items)
+    }
+
+    /// Adds the results of the next command.
+    #[tactic(auto, unfolding(crate::specs::Blocks::block_of, crate::specs::Blocks::rows_of))]
+    pub(crate) fn add_results(&mut self, row: Seq<Option<Value>>) -> Result<(), OutOfMemory>
+        ensures after { OnOk result (block_of self.new ≡ with_row (rows_of self.old) row (block_of self.old)) }
+        ensures rows { OnOk result (rows_of self.new ≡ rows_of self.old + 1) }
+    {
+        self.slots.add_results(row)
+    }
+
+    /// The next command has no results.
+    #[tactic(auto, using(crate::proofs::Leaving::no_row))]
+    pub(crate) fn add_nothing(&mut self, alloc: Global) -> Result<(), OutOfMemory>
+        ensures after { OnOk result (block_of self.new ≡ block_of self.old) }
+        ensures rows { OnOk result (rows_of self.new ≡ rows_of self.old + 1) }
+    {
+        self.add_results(Seq::new(alloc))
+    }
+}
+
+/// Adds items that leave the block to an owner.
+fn place_all(placed: &mut Seq<Placed>, owner: Owner, items: &[Item]) -> Result<(), OutOfMemory>
+    ensures { OnOk result (placed.new ≡ placed_after placed.old owner items.now) }
+{
+    let mut rest = items;
+    while let [item, after @ ..] = rest {
+        placed.push(Placed { item: *item, owner })?;
+        rest = after;
+    }
+    Ok(())
 }
