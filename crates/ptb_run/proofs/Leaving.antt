@@ -1,6 +1,6 @@
 -- What leaves a block, and the rows of results that it gains.
-use Rattle.std.proofs.Common.{◌≡◌, ℕ, zero, suc, ◌+◌, ◌-◌, List, [], ◌∷◌, ◌++◌, length, map, Option, Some, None, refl, ap, sym, ◌∙◌, append-nil, append_assoc, add-one, arith}
-use Rattle.std.specs.Prelude.{sum}
+use Rattle.std.proofs.Common.{◌≡◌, ℕ, zero, suc, Bool, true, false, ◌+◌, ◌-◌, List, [], ◌∷◌, ◌++◌, length, map, Option, Some, None, refl, ap, sym, ◌∙◌, append-nil, append_assoc, add-one, arith}
+use Rattle.std.specs.Prelude.{sum, if◌then◌else◌}
 use Rattle.std.specs.List.{enumerate_from}
 use Rattle.digest_core.specs.declared.Digest.{Digest}
 use Rattle.chain_types.specs.declared.objects.Kind.{Kind}
@@ -87,3 +87,50 @@ vector_is c b b1 b2 kind args items row are is spent added =
     added
     ∙ ap (λ (x : block.Block). with_row c row x) spent
     ∙ ap (λ (r : List (Option Value)). with_row c r (commands.spend_all args b)) (is ∙ ap (λ (l : List Item). Some (values.Vector kind l) ∷ []) are)
+
+pub none_leaves : (placed : List Placed) → placed ≡ placed ++ []
+none_leaves placed = sym (append-nil placed)
+
+-- the row of items is the list of their places
+items_cells : List Item → List (Option Value)
+items_cells [] = []
+items_cells (i ∷ rest) = Some (values.Object i) ∷ items_cells rest
+
+items_from : (row : List (Option Value)) (items : List Item) → items_row_after row items ≡ row ++ items_cells items
+unfolding items_cells
+items_from row [] = sym (append-nil row)
+items_from row (i ∷ rest) = items_from (row ++ Some (values.Object i) ∷ []) rest ∙ append_assoc row (Some (values.Object i) ∷ []) (items_cells rest)
+
+items_slots : (c j : ℕ) (items : List Item) → result_row c j (items_cells items) ≡ map (λ (v : ℕ × block.Value). record { place = block.result c v.0; value = Some v.1 }) (enumerate_from j (map block.object items))
+unfolding items_cells
+items_slots c j [] = refl
+items_slots c j (i ∷ rest) = ap (λ (l : List block.Slot). record { place = block.result c j; value = Some (block.object i) } ∷ l) (items_slots c (j + 1) rest)
+
+spent_placed : (needs : List (Argument × commands.Need)) (b : block.Block) → (commands.spend_taken needs b).placed ≡ b.placed
+spent_placed [] b = refl
+spent_placed (x ∷ rest) b = go (λ (d : block.Block). spent_placed rest d) (commands.takes_value x.1)
+  where
+    go : ((d : block.Block) → (commands.spend_taken rest d).placed ≡ d.placed) → (t : Bool) → (commands.spend_taken rest (if t then commands.spend x.0 b else b)).placed ≡ b.placed
+    go others true = others (commands.spend x.0 b)
+    go others false = others b
+
+changed_placed : (needs : List (Argument × commands.Need)) (changed : Option Item) (b : block.Block) → (commands.put_changed needs changed b).placed ≡ b.placed
+changed_placed [] changed b = refl
+changed_placed (x ∷ rest) None b = refl
+changed_placed (x ∷ rest) (Some item) b = refl
+
+pub called_is : (c : ℕ) (b b1 b2 b3 b4 b5 : block.Block) (needs : List (Argument × commands.Need)) (results : List Item) (changed : Option Item) (left : Option Placed) (made : ℕ) (row : List (Option Value))
+    → b1 ≡ commands.spend_taken needs b
+    → b2 ≡ commands.put_changed needs changed b1
+    → b3 ≡ record b2 { placed = b2.placed ++ commands.placed_list left }
+    → b4 ≡ record b3 { made = made }
+    → row ≡ items_row_after [] results
+    → b5 ≡ with_row c row b4
+    → b5 ≡ commands.called_block c b needs results changed left made
+called_is c b b1 b2 b3 b4 b5 needs results changed left made row spent put left_it raised is_row added =
+    added
+    ∙ ap (λ (x : block.Block). with_row c row x) (raised ∙ ap (λ (x : block.Block). record x { made = made }) (left_it ∙ ap (λ (x : block.Block). record x { placed = x.placed ++ commands.placed_list left }) (put ∙ ap (λ (x : block.Block). commands.put_changed needs changed x) spent)))
+    ∙ ap (λ (l : List Placed). record { slots = (commands.put_changed needs changed (commands.spend_taken needs b)).slots ++ result_row c 0 row; placed = l ++ commands.placed_list left; made = made })
+    (changed_placed needs changed (commands.spend_taken needs b) ∙ spent_placed needs b)
+    ∙ ap (λ (l : List block.Slot). record { slots = (commands.put_changed needs changed (commands.spend_taken needs b)).slots ++ l; placed = b.placed ++ commands.placed_list left; made = made })
+    (ap (λ (r : List (Option Value)). result_row c 0 r) (is_row ∙ items_from [] results) ∙ items_slots c 0 results)

@@ -9,3 +9,5 @@ pub mod Gathered
 pub mod Aliases
 pub mod Leaving
 pub mod Merging
+pub mod Given
+pub mod Stepping

@@ -3,16 +3,16 @@
 ghost use Rattle.std.specs.Prelude.{◌≡◌, ◌+◌, ◌<◌, ◌∷◌, ◌++◌, [], length, map, IfOk, OnOk, true};
 ghost use Rattle.std.specs.List.{list_all};
 ghost use Rattle.block_spec.specs.Block as block;
-ghost use Rattle.block_spec.specs.Commands.{address_in, all_by, bytes_of, has_no_result, item_in, items_in, number_in, place_of, placed_at, put_back, spend, spend_all};
+ghost use Rattle.block_spec.specs.Commands.{address_in, all_by, bytes_of, has_no_result, item_in, items_in, number_in, place_of, placed_at, placed_list, put_back, spend, spend_all};
 ghost use Rattle.ptb_run.specs.Blocks.{block_of, rows_of, with_row};
 ghost use Rattle.ptb_run.specs.Rows.{placed_after};
 ghost use Rattle.block_spec.specs.Commands as commands;
 ghost use Rattle.ptb_run.specs.Gathering.{items_after, numbers_after};
-ghost use Rattle.ptb_run.specs.Takes.{is_taken};
+ghost use Rattle.ptb_run.specs.Takes.{is_taken, value_given};
 
 use crate::slots::Slots;
 use crate::value::{Value, spot_of};
-use block_types::{Item, Placed};
+use block_types::{Given, Item, Placed};
 use chain_types::{Address, Argument, Owner};
 use digest_core::Digest;
 use std::alloc::Global;
@@ -169,6 +169,36 @@ impl Block {
         ensures rows { rows_of self.new ≡ rows_of self.old }
     {
         self.slots.put(spot_of(argument), Some(Value::Object(item)));
+    }
+
+    /// The object or the vector in the place of an argument, as a native takes it.
+    #[tactic(auto, unfolding(crate::specs::Blocks::block_of))]
+    pub(crate) fn value_given(
+        &self,
+        alloc: Global,
+        argument: &Argument,
+    ) -> Result<Given, OutOfMemory>
+        ensures { IfOk result (λ given. given ≡ value_given (block.value_in (place_of argument.now) (block_of self.now).slots)) }
+    {
+        match self.slots.at(spot_of(argument)) {
+            Some(Value::Object(item)) => Ok(Given::Item(*item)),
+            Some(Value::Vector { items, .. }) => {
+                Ok(Given::Items(Seq::from_slice(alloc, items.as_slice())?))
+            }
+            Some(Value::Pure(_)) | None => Ok(Given::Number(0)),
+        }
+    }
+
+    /// An object leaves the block to an owner, where there is one that does.
+    #[tactic(auto, unfolding(crate::specs::Blocks::block_of, crate::specs::Blocks::rows_of), using(crate::proofs::Leaving::none_leaves))]
+    pub(crate) fn leave(&mut self, placed: Option<Placed>) -> Result<(), OutOfMemory>
+        ensures after { OnOk result (block_of self.new ≡ record (block_of self.old) { placed = (block_of self.old).placed ++ placed_list placed }) }
+        ensures rows { rows_of self.new ≡ rows_of self.old }
+    {
+        if let Some(placed) = placed {
+            self.placed.push(placed)?;
+        }
+        Ok(())
     }
 
     /// The number of the next creation.

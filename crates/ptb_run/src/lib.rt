@@ -4,12 +4,14 @@
 #![tactic(auto)]
 
 mod block;
+mod calls;
 mod causes;
 mod commands;
 mod fitting;
 mod halt;
 mod needs;
 mod slots;
+mod step;
 mod value;
 
 pub use fitting::fits;
