@@ -102,5 +102,5 @@ pub forms_of : (b : block.Block) (x : Command) (native : ℕ) (args : List Argum
     → have_forms (parameters_of native) (commands.given_all b needs) ≡ true
 forms_of b x native args needs at same is taken =
     forms_are b native args needs (is ∙ ap commands.needs_of at)
-        (counted (length args) (length (parameters_of native)) (sym (ap commands.wrong_count at) ∙ same))
-        (ap (λ (l : List (Argument × commands.Need)). list_all (is_taken b) l) is ∙ taken)
+    (counted (length args) (length (parameters_of native)) (sym (ap commands.wrong_count at) ∙ same))
+    (ap (λ (l : List (Argument × commands.Need)). list_all (is_taken b) l) is ∙ taken)

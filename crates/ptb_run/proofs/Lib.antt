@@ -11,3 +11,4 @@ pub mod Leaving
 pub mod Merging
 pub mod Given
 pub mod Stepping
+pub mod Drawing

@@ -28,3 +28,11 @@ impl From<OutOfMemory> for Halt {
         Halt::OutOfMemory
     }
 }
+
+/// Why a block does not end well.
+#[derive(Clone, Copy, Debug, PartialEq, Eq)]
+pub(crate) enum Failed {
+    /// The command of this number fails, or at the end of the block its number is that of the commands.
+    At { command: u16, fault: Fault },
+    OutOfMemory,
+}
