@@ -12,3 +12,5 @@ pub mod Merging
 pub mod Given
 pub mod Stepping
 pub mod Drawing
+pub mod Openings
+pub mod Unused

@@ -8,3 +8,4 @@ pub mod Takes
 pub mod Causes
 pub mod Outcomes
 pub mod Rows
+pub mod Opening

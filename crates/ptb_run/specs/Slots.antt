@@ -1,5 +1,6 @@
 -- The places of the code in one list, as the definition of a block has them.
-use Rattle.std.specs.Prelude.{ℕ, suc, ◌+◌, List, [], ◌∷◌, ◌++◌, slice_get, Option, Some, None, option_map}
+use Rattle.std.specs.Prelude.{ℕ, Bool, is_some, ◌+◌, List, [], ◌∷◌, ◌++◌, slice_get, Option, Some, None, option_map}
+use Rattle.std.specs.List.{list_any}
 use Rattle.std.specs.Borrow.{Bor}
 use Rattle.ptb_run.specs.declared.value.Value.{Value}
 use Rattle.ptb_run.specs.declared.slots.Slots.{Slots}
@@ -36,3 +37,7 @@ cell_of row n = joined (slice_get row n)
 abbrev pub seen : Option (Bor Value) → Option block.Value
 seen None = None
 seen (Some v) = Some (value_of v.now)
+
+-- a place of the row still holds a value
+abbrev pub is_row_left : List (Option Value) → Bool
+is_row_left row = list_any is_some row

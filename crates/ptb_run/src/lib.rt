@@ -10,6 +10,7 @@ mod commands;
 mod fitting;
 mod halt;
 mod needs;
+mod opening;
 mod run;
 mod slots;
 mod step;

@@ -1,9 +1,11 @@
 //! The places of a block with what they hold: the gas coin, the inputs, and the results of each command.
 
 ghost use Rattle.std.specs.Prelude.{◌≡◌, ◌+◌, ◌∷◌, ◌++◌, [], length, slice_set, MatchResult, IfOk, OnOk};
+ghost use Rattle.std.specs.List.{list_any};
 ghost use Rattle.block_spec.specs.Block.{value_in, put_in, result_count};
+ghost use Rattle.block_spec.specs.Execution.{is_unused};
 ghost use Rattle.ptb_run.specs.Values.{spot_of, held};
-ghost use Rattle.ptb_run.specs.Slots.{cell_of, seen, slots_of, result_row};
+ghost use Rattle.ptb_run.specs.Slots.{cell_of, is_row_left, seen, slots_of, result_row};
 
 use crate::value::{Spot, Value};
 use std::alloc::Global;
@@ -88,4 +90,36 @@ impl Slots {
         self.results.push(row)?;
         Ok(())
     }
+
+    /// Whether a result place still holds a value.
+    #[tactic(auto, using(crate::proofs::Unused::unused_is))]
+    pub(crate) fn any_unused(&self) -> bool
+        ensures { result ≡ list_any is_unused (slots_of self.now) }
+    {
+        any_row_left(self.results.as_slice())
+    }
+}
+
+/// Whether a place of the row still holds a value.
+fn is_row_left(row: &Seq<Option<Value>>) -> bool
+    ensures { result ≡ is_row_left row.now }
+{
+    for value in row.as_slice() {
+        if value.is_some() {
+            return true;
+        }
+    }
+    false
+}
+
+/// Whether a place of one of the rows still holds a value.
+fn any_row_left(rows: &[Seq<Option<Value>>]) -> bool
+    ensures { result ≡ list_any is_row_left rows.now }
+{
+    for row in rows {
+        if is_row_left(row) {
+            return true;
+        }
+    }
+    false
 }
