@@ -9,3 +9,4 @@ pub mod Causes
 pub mod Outcomes
 pub mod Rows
 pub mod Opening
+pub mod Ends

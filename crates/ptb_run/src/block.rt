@@ -1,7 +1,8 @@
 //! The state of a block between two commands.
 
 ghost use Rattle.std.specs.Prelude.{◌≡◌, ◌+◌, ◌<◌, ◌∷◌, ◌++◌, [], length, map, IfOk, OnOk, true};
-ghost use Rattle.std.specs.List.{list_all};
+ghost use Rattle.std.specs.List.{list_all, list_any};
+ghost use Rattle.block_spec.specs.Execution.{is_unused};
 ghost use Rattle.block_spec.specs.Block as block;
 ghost use Rattle.block_spec.specs.Commands.{address_in, all_by, bytes_of, has_no_result, item_in, items_in, number_in, place_of, placed_at, placed_list, put_back, spend, spend_all};
 ghost use Rattle.ptb_run.specs.Blocks.{block_of, rows_of, with_row};
@@ -199,6 +200,14 @@ impl Block {
             self.placed.push(placed)?;
         }
         Ok(())
+    }
+
+    /// Whether a result place still holds a value.
+    #[tactic(auto, unfolding(crate::specs::Blocks::block_of))]
+    pub(crate) fn any_unused(&self) -> bool
+        ensures { result ≡ list_any is_unused (block_of self.now).slots }
+    {
+        self.slots.any_unused()
     }
 
     /// The number of the next creation.

@@ -1,6 +1,7 @@
 //! Why a block stops.
 
 ghost use Rattle.std.specs.Prelude.{◌≡◌};
+ghost use Rattle.ptb_run.specs.declared.halt.Failed.TheVariants as failed;
 ghost use Rattle.ptb_run.specs.declared.halt.Halt.TheVariants as halt;
 
 use wire_bcs::OutOfMemory;
@@ -35,4 +36,12 @@ pub(crate) enum Failed {
     /// The command of this number fails, or at the end of the block its number is that of the commands.
     At { command: u16, fault: Fault },
     OutOfMemory,
+}
+
+impl From<OutOfMemory> for Failed {
+    ghost from_gives = { λ _ given. given ≡ failed.OutOfMemory };
+
+    fn from(_error: OutOfMemory) -> Self {
+        Failed::OutOfMemory
+    }
 }

@@ -1,18 +1,21 @@
 //! The commands of a block, one after the other.
 
-ghost use Rattle.std.specs.Prelude.{◌≡◌, ◌+◌, ◌*◌, ◌<◌, ◌≤◌, length, OnOk, false};
+ghost use Rattle.std.specs.Prelude.{◌≡◌, ◌+◌, ◌*◌, ◌<◌, ◌≤◌, ◌∷◌, length, OnOk, false};
 ghost use Rattle.std.specs.List.{list_any};
 ghost use Rattle.block_spec.specs.Commands.{command_step};
-ghost use Rattle.block_spec.specs.Execution.{commands_from};
+ghost use Rattle.block_spec.specs.Execution.{commands_from, outcome};
+ghost use Rattle.chain_spec.specs.Keys.{version_of};
 ghost use Rattle.chain_spec.specs.Shape.{is_no_native};
 ghost use Rattle.ptb_run.specs.Blocks.{block_of, rows_of};
+ghost use Rattle.ptb_run.specs.Ends.{Ends};
 ghost use Rattle.ptb_run.specs.Outcomes.{Runs, StepsAt, is_wide};
 
 use crate::block::Block;
 use crate::commands::Site;
 use crate::halt::{Failed, Fault, Halt};
+use crate::opening::first_block;
 use crate::step::step;
-use chain_types::{Command, Transaction};
+use chain_types::{Command, Object, Transaction};
 use std::alloc::Global;
 
 /// The command of this number.
@@ -67,4 +70,30 @@ pub(crate) fn run_commands(
         rest = after;
     }
     Ok(())
+}
+
+/// The block after its commands, or why it failed.
+#[tactic(auto, unfolding(block_spec::specs::Execution::outcome))]
+pub(crate) fn outcome(
+    alloc: Global,
+    tx: &Transaction,
+    site: &Site,
+    gas: &Object,
+    others: &[Object],
+) -> Result<Block, Failed>
+    requires known { list_any is_no_native tx.now.commands ≡ false }
+    requires few { list_any is_wide tx.now.commands ≡ false }
+    requires short { length tx.now.commands ≤ 1024 }
+    requires version { site.now.version ≡ version_of (gas.now ∷ others.now) }
+    ensures { Ends result (outcome tx.now site.now.tx (gas.now ∷ others.now)) }
+{
+    let mut block = first_block(alloc, tx, gas, others)?;
+    run_commands(alloc, &mut block, tx, site, tx.commands.as_slice())?;
+    if block.any_unused() {
+        return Err(Failed::At {
+            command: tx.commands.len() as u16,
+            fault: Fault::Cause(12),
+        });
+    }
+    Ok(block)
 }
