@@ -1,5 +1,5 @@
 -- Kinds of what is needed, by cases.
-use Rattle.std.proofs.Common.{◌≡◌, ℕ, true, false, List, Option, Some, None, refl}
+use Rattle.std.proofs.Common.{◌≡◌, ℕ, false, List, Option, Some, None, refl}
 use Rattle.chain_types.specs.declared.objects.Kind.{Kind}
 use Rattle.block_types.specs.declared.pieces.Item.{Item}
 use Rattle.block_spec.specs.Natives.{kind_of}

@@ -1,5 +1,5 @@
 -- What leaves a block, and the rows of results that it gains.
-use Rattle.std.proofs.Common.{◌≡◌, ℕ, zero, suc, Bool, true, false, ◌+◌, ◌-◌, List, [], ◌∷◌, ◌++◌, length, map, Option, Some, None, refl, ap, sym, ◌∙◌, append-nil, append_assoc, add-one, arith}
+use Rattle.std.proofs.Common.{◌≡◌, ℕ, Bool, true, false, ◌+◌, ◌-◌, List, [], ◌∷◌, ◌++◌, length, map, Option, Some, None, refl, ap, sym, ◌∙◌, append-nil, append_assoc}
 use Rattle.std.specs.Prelude.{sum, if◌then◌else◌}
 use Rattle.std.specs.List.{enumerate_from}
 use Rattle.digest_core.specs.declared.Digest.{Digest}
@@ -16,7 +16,6 @@ use Rattle.ptb_run.specs.declared.value.Value.TheVariants as values
 use Rattle.ptb_run.specs.Blocks.{with_row}
 use Rattle.ptb_run.specs.Slots.{result_row}
 use Rattle.ptb_run.specs.Rows.{coins_after, items_row_after, new_coin, placed_after}
-use Rattle.ptb_run.specs.Values.{value_of}
 
 placed_from : (placed : List Placed) (who : Owner) (items : List Item) → placed_after placed who items ≡ placed ++ map (commands.placed_at who) items
 placed_from placed who [] = sym (append-nil placed)

@@ -1,6 +1,6 @@
 -- What lies in a place of the list is what the code's rows hold.
-use Rattle.std.proofs.Common.{◌≡◌, ℕ, zero, suc, ◌+◌, ◌<◌, ◌≤◌, Bool, true, false, ◌&&◌, List, [], ◌∷◌, ◌++◌, length, Option, Some, None, refl, sym, ap, ◌∙◌, arith}
-use Rattle.std.specs.Prelude.{◌==◌, find, option_and_then, slice_get}
+use Rattle.std.proofs.Common.{◌≡◌, ℕ, zero, suc, ◌+◌, ◌<◌, ◌≤◌, true, false, List, [], ◌∷◌, ◌++◌, length, Option, Some, None, refl, sym, ap, ◌∙◌, arith}
+use Rattle.std.specs.Prelude.{◌==◌, slice_get}
 use Rattle.std.specs.Prelude.{slice_index_or}
 use Rattle.std.proofs.lemmas.Option.{slice_get_past, slice_get_read}
 use Rattle.ptb_run.specs.declared.value.Spot.{Spot}
@@ -9,7 +9,7 @@ use Rattle.ptb_run.specs.declared.value.Value.{Value}
 use Rattle.ptb_run.specs.declared.slots.Slots.{Slots}
 use Rattle.block_spec.specs.Block as block
 use Rattle.ptb_run.specs.Values.{held, spot_of}
-use Rattle.ptb_run.specs.Slots.{input_row, result_row, result_rows, all_slots, slots_of, joined, cell_of}
+use Rattle.ptb_run.specs.Slots.{input_row, result_row, result_rows, slots_of, cell_of}
 use Rattle.ptb_run.proofs.Tests.{same_number, other_number}
 
 -- the first slot of a list, by the test of its place

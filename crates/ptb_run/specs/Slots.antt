@@ -1,5 +1,5 @@
 -- The places of the code in one list, as the definition of a block has them.
-use Rattle.std.specs.Prelude.{ℕ, Bool, is_some, ◌+◌, List, [], ◌∷◌, ◌++◌, slice_get, Option, Some, None, option_map}
+use Rattle.std.specs.Prelude.{ℕ, Bool, is_some, ◌+◌, List, [], ◌∷◌, ◌++◌, slice_get, Option, Some, None}
 use Rattle.std.specs.List.{list_any}
 use Rattle.std.specs.Borrow.{Bor}
 use Rattle.ptb_run.specs.declared.value.Value.{Value}

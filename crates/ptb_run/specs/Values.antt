@@ -1,5 +1,5 @@
 -- The values of the code as the definitions have them.
-use Rattle.std.specs.Prelude.{ℕ, Bool, true, false, ◌==◌, ◌&&◌, List, Option, Some, None, option_map}
+use Rattle.std.specs.Prelude.{Bool, true, false, ◌==◌, ◌&&◌, Option, option_map}
 use Rattle.ptb_run.specs.declared.value.Value.{Value}
 use Rattle.ptb_run.specs.declared.value.Value.TheVariants as values
 use Rattle.ptb_run.specs.declared.value.Spot.{Spot}

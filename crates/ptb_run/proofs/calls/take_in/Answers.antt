@@ -1,4 +1,4 @@
-use Rattle.std.proofs.Common.{◌≡◌, map}
+use Rattle.std.proofs.Common.{map}
 use Rattle.ptb_run.specs.Blocks.{block_of, rows_of}
 use Rattle.ptb_run.specs.Needs.{wanted_of}
 use Rattle.ptb_run.proofs.Leaving.{called_is}

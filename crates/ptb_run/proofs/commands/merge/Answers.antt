@@ -1,4 +1,4 @@
-use Rattle.std.proofs.Common.{◌≡◌, ◌+◌, ◌∙◌}
+use Rattle.std.proofs.Common.{◌+◌, ◌∙◌}
 use Rattle.block_spec.specs.Natives.{amount_of}
 use Rattle.block_spec.specs.Commands as commands
 use Rattle.ptb_run.specs.Blocks.{block_of}

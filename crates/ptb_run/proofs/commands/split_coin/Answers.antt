@@ -1,4 +1,3 @@
-use Rattle.std.proofs.Common.{◌≡◌}
 use Rattle.ptb_run.specs.Blocks.{block_of, rows_of}
 use Rattle.ptb_run.proofs.Leaving.{split_is}
 use Rattle.ptb_run.proofs.commands.split_coin.Goals as goal

@@ -1,4 +1,3 @@
-use Rattle.std.proofs.Common.{◌≡◌, ◌∙◌}
 use Rattle.ptb_run.specs.Blocks.{block_of, rows_of}
 use Rattle.ptb_run.proofs.Drawing.{step_draws}
 use Rattle.ptb_run.proofs.run.step_at.Goals as goal
