@@ -14,3 +14,4 @@ pub mod Stepping
 pub mod Drawing
 pub mod Openings
 pub mod Unused
+pub mod WrittenPlaces

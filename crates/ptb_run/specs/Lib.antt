@@ -10,3 +10,4 @@ pub mod Outcomes
 pub mod Rows
 pub mod Opening
 pub mod Ends
+pub mod Written

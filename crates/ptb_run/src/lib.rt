@@ -15,6 +15,7 @@ mod run;
 mod slots;
 mod step;
 mod value;
+mod written;
 
 pub use fitting::fits;
 
