@@ -11,3 +11,5 @@ pub mod Rows
 pub mod Opening
 pub mod Ends
 pub mod Written
+pub mod Left
+pub mod Remains
