@@ -15,3 +15,6 @@ pub mod Drawing
 pub mod Openings
 pub mod Unused
 pub mod WrittenPlaces
+pub mod FirstLeft
+pub mod Remaining
+pub mod Executing

@@ -13,3 +13,4 @@ pub mod Ends
 pub mod Written
 pub mod Left
 pub mod Remains
+pub mod Bounded
