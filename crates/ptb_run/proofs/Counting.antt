@@ -9,7 +9,7 @@ use Rattle.ptb_run.specs.declared.slots.Slots.{Slots}
 use Rattle.block_spec.specs.Block as block
 use Rattle.ptb_run.specs.Values.{held}
 use Rattle.ptb_run.specs.Slots.{input_row, result_row, result_rows, slots_of}
-use Rattle.ptb_run.proofs.Tests.{same_number, other_number}
+use Rattle.ptb_run.proofs.SameNumber.{same_number, other_number}
 use Rattle.ptb_run.proofs.Reading.{row_of}
 
 count_here : (c : ℕ) (s : block.Slot) (rest : List block.Slot) (b : Bool) → block.is_result_of c s.place ≡ b → block.result_count c (s ∷ rest) ≡ cond b 1 0 + block.result_count c rest

@@ -1,4 +1,4 @@
-pub mod Tests
+pub mod SameNumber
 pub mod Reading
 pub mod Writing
 pub mod Counting

@@ -10,7 +10,7 @@ use Rattle.ptb_run.specs.declared.slots.Slots.{Slots}
 use Rattle.block_spec.specs.Block as block
 use Rattle.ptb_run.specs.Values.{held, spot_of}
 use Rattle.ptb_run.specs.Slots.{input_row, result_row, result_rows, slots_of, cell_of}
-use Rattle.ptb_run.proofs.Tests.{same_number, other_number}
+use Rattle.ptb_run.proofs.SameNumber.{same_number, other_number}
 
 -- the first slot of a list, by the test of its place
 first_here : (p : block.Place) (s : block.Slot) (rest : List block.Slot) → block.place_eq s.place p ≡ true → block.value_in p (s ∷ rest) ≡ s.value

@@ -10,7 +10,7 @@ use Rattle.ptb_run.specs.declared.value.Spot.{Spot}
 use Rattle.ptb_run.specs.declared.value.Spot.TheVariants as spots
 use Rattle.ptb_run.specs.Values.{held, spot_of}
 use Rattle.ptb_run.specs.Slots.{input_row, result_row, result_rows, all_slots, slots_of}
-use Rattle.ptb_run.proofs.Tests.{same_number, other_number}
+use Rattle.ptb_run.proofs.SameNumber.{same_number, other_number}
 
 put_here : (p : block.Place) (x : Option block.Value) (s : block.Slot) (rest : List block.Slot) → block.place_eq s.place p ≡ true → block.put_in p x (s ∷ rest) ≡ record s { value = x } ∷ rest
 put_here p x s rest e = rw e

@@ -81,7 +81,15 @@ fn executed_done(
     let left = firsts_of(alloc, block.placed.as_slice())?;
     let objects = done_objects(alloc, tx, site, &left, block, moved.as_slice())?;
     let deleted = drop_each(alloc, site.version, &left, block, moved.as_slice())?;
-    executed_as(alloc, tx, site, Status::Done, block.made(), objects, deleted)
+    executed_as(
+        alloc,
+        tx,
+        site,
+        Status::Done,
+        block.made(),
+        objects,
+        deleted,
+    )
 }
 
 /// What is executed where the block fails.

@@ -16,9 +16,9 @@ returns c =
     c.executed_as.ensures
     c.made.ensures
     (c.in_ok-objects.ensures
-        ∙ ap (λ (l : List Moved). bounded_rest_first c.args.tx.now (kept_after c.args.site.now.version c.in_ok-left.left.entries (block_of c.args.block.now) [] l)
-        ++ created_below c.args.site.now.tx c.args.site.now.version c.in_ok-left.left.entries (block_of c.args.block.now).made)
-        c.as_slice-2.ensures.value)
+    ∙ ap (λ (l : List Moved). bounded_rest_first c.args.tx.now (kept_after c.args.site.now.version c.in_ok-left.left.entries (block_of c.args.block.now) [] l)
+    ++ created_below c.args.site.now.tx c.args.site.now.version c.in_ok-left.left.entries (block_of c.args.block.now).made)
+    c.as_slice-2.ensures.value)
     (c.in_ok-deleted.ensures ∙ ap (λ (l : List Moved). gone_after c.args.site.now.version c.in_ok-left.left.entries (block_of c.args.block.now) [] l) c.as_slice-3.ensures.value)
     (c.in_ok-left.ensures ∙ ap (λ (l : List Placed). firsts_after [] l) c.as_slice.ensures.value)
     c.in_ok-moved.ensures
