@@ -19,7 +19,7 @@ mod place;
 mod vaults;
 
 pub use dispatch::call;
-pub use modes::mode;
+pub use modes::{mode, parameter_count};
 
 #[cfg(test)]
 mod tests;

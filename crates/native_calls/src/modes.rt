@@ -1,7 +1,7 @@
 //! How natives take their parameters.
 
-ghost use Rattle.std.specs.Prelude.{◌≡◌, ◌≤◌, slice_get};
-ghost use Rattle.block_spec.specs.Natives.{mode_of};
+ghost use Rattle.std.specs.Prelude.{◌≡◌, ◌≤◌, length, slice_get};
+ghost use Rattle.block_spec.specs.Natives.{mode_of, parameters_of};
 
 use crate::native::{Native, native_of};
 use block_types::Mode;
@@ -51,5 +51,27 @@ pub fn mode(native: u8, place: u16) -> Option<Mode>
             &[Mode::ByMut(Kind::Counter), number, Mode::ByRef(Kind::Limit)],
             place,
         ),
+    }
+}
+
+/// How many parameters the native, of number 13 at most, has.
+pub fn parameter_count(native: u8) -> u64
+    requires { native ≤ 13 }
+    ensures { result ≡ length (parameters_of native) }
+{
+    match native_of(native) {
+        Native::CoinZero
+        | Native::CoinJoinAll
+        | Native::CounterNew
+        | Native::VaultNew
+        | Native::Share
+        | Native::Freeze
+        | Native::LimitNew => 1,
+        Native::CoinMint
+        | Native::CoinBurn
+        | Native::CounterAdd
+        | Native::CounterRequire
+        | Native::VaultDeposit => 2,
+        Native::VaultWithdraw | Native::CounterAddLimited => 3,
     }
 }

@@ -1,1 +1,16 @@
 pub mod Versions
+pub mod Values
+pub mod Slots
+pub mod Blocks
+pub mod Needs
+pub mod Gathering
+pub mod Takes
+pub mod Causes
+pub mod Outcomes
+pub mod Rows
+pub mod Opening
+pub mod Ends
+pub mod Written
+pub mod Left
+pub mod Remains
+pub mod Bounded

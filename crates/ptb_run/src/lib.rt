@@ -1,12 +1,30 @@
-//! When objects fit a transaction (Sui documentation).
+//! Execution of programmable transaction blocks (Sui documentation).
 //!
-//! [`fits`] says whether objects are those that a transaction names, and may be taken as it says; what
-//! it promises is one equation by the definition. It takes no memory, and its time is linear in the
-//! inputs.
+//! [`fits`] says whether objects are those that a transaction names, and takes no memory. [`execute`]
+//! gives the effects of a transaction of valid shape on objects that fit it, and the objects that it
+//! writes. What fails in the block is told by the status of the effects; the only error of a call is that
+//! memory is refused. Both cost time in proportion to the commands, their arguments and the objects, and
+//! each argument and each object is found without a scan.
 #![tactic(auto)]
 
+mod block;
+mod calls;
+mod causes;
+mod commands;
+mod execution;
 mod fitting;
+mod halt;
+mod left;
+mod needs;
+mod opening;
+mod remains;
+mod run;
+mod slots;
+mod step;
+mod value;
+mod written;
 
+pub use execution::execute;
 pub use fitting::fits;
 
 #[cfg(test)]

@@ -1,0 +1,123 @@
+-- The causes with the places that were seen are those with the earlier arguments.
+use Rattle.std.proofs.Common.{◌≡◌, ℕ, Bool, true, false, ◌&&◌, ◌||◌, List, [], ◌∷◌, ◌++◌, map, Option, Some, None, refl, ap, sym, ◌∙◌, cond}
+use Rattle.std.specs.Prelude.{◌==◌}
+use Rattle.std.specs.List.{list_any}
+use Rattle.std.proofs.lemmas.Bool.{and_parts, eqb-true, eq-eqb, ne_eqb}
+use Rattle.chain_types.specs.declared.transactions.Argument.{Argument}
+use Rattle.chain_types.specs.declared.transactions.Argument.TheVariants as argument
+use Rattle.chain_types.specs.declared.transactions.Command.{Command}
+use Rattle.chain_types.specs.declared.transactions.Transaction.{Transaction}
+use Rattle.chain_spec.specs.Words.{first_some, where_true}
+use Rattle.block_spec.specs.Block as block
+use Rattle.block_spec.specs.Commands as commands
+use Rattle.ptb_run.specs.declared.value.Spot.{Spot}
+use Rattle.ptb_run.specs.declared.value.Spot.TheVariants as spots
+use Rattle.ptb_run.specs.declared.needs.Wanted.{Wanted}
+use Rattle.ptb_run.specs.Values.{spot_at, spot_eq, spot_of}
+use Rattle.ptb_run.specs.Needs.{need_meant, wanted_of}
+use Rattle.ptb_run.specs.Causes.{cause_of, causes_after, is_seen, named_place_cause, named_value_cause, noted}
+
+lies_at : (a : Argument) → spot_of (spot_at a) ≡ commands.place_of a
+lies_at argument.Gas = refl
+lies_at (argument.Input n) = refl
+lies_at (argument.Result c) = refl
+lies_at (argument.Nested c k) = refl
+
+turned : (a b : ℕ) → (a == b) ≡ (b == a)
+turned a b = go (a == b) refl
+  where
+    go : (t : Bool) → (a == b) ≡ t → (a == b) ≡ (b == a)
+    go true e = e ∙ sym (eq-eqb b a (sym (eqb-true a b e)))
+    go false e = e ∙ sym (ne_eqb b a (λ (s : b ≡ a). let clash = sym e ∙ eq-eqb a b (sym s) in absurd (cc)))
+
+-- the test of the code is that of the definitions, turned
+same_test : (p s : Spot) → spot_eq p s ≡ block.place_eq (spot_of s) (spot_of p)
+same_test spots.Gas spots.Gas = refl
+same_test spots.Gas (spots.Input b) = refl
+same_test spots.Gas (spots.Result b j) = refl
+same_test (spots.Input a) spots.Gas = refl
+same_test (spots.Input a) (spots.Input b) = turned a b
+same_test (spots.Input a) (spots.Result b j) = refl
+same_test (spots.Result a i) spots.Gas = refl
+same_test (spots.Result a i) (spots.Input b) = refl
+same_test (spots.Result a i) (spots.Result b j) = ap (λ t. t && (i == j)) (turned a b) ∙ ap (λ t. (b == a) && t) (turned i j)
+
+-- places that pass the test are one
+one_place : (p s : Spot) → spot_eq p s ≡ true → p ≡ s
+one_place spots.Gas spots.Gas e = refl
+one_place spots.Gas (spots.Input b) e = absurd (cc)
+one_place spots.Gas (spots.Result b j) e = absurd (cc)
+one_place (spots.Input a) spots.Gas e = absurd (cc)
+one_place (spots.Input a) (spots.Input b) e = ap (λ (n : ℕ). spots.Input n) (eqb-true a b e)
+one_place (spots.Input a) (spots.Result b j) e = absurd (cc)
+one_place (spots.Result a i) spots.Gas e = absurd (cc)
+one_place (spots.Result a i) (spots.Input b) e = absurd (cc)
+one_place (spots.Result a i) (spots.Result b j) e =
+    let parts = and_parts (a == b) (i == j) e in
+    ap (λ (n : ℕ). spots.Result n i) (eqb-true a b parts.0) ∙ ap (λ (n : ℕ). spots.Result b n) (eqb-true i j parts.1)
+
+any_last : {A : Type 0} (test : A → Bool) (xs : List A) (x : A) → list_any test (xs ++ x ∷ []) ≡ (list_any test xs || test x)
+any_last test [] x = go (test x)
+  where
+    go : (b : Bool) → (b || false) ≡ b
+    go true = refl
+    go false = refl
+any_last test (y ∷ ys) x = ap (λ t. test y || t) (any_last test ys x) ∙ go (test y) (list_any test ys) (test x)
+  where
+    go : (a b c : Bool) → (a || (b || c)) ≡ ((a || b) || c)
+    go true b c = refl
+    go false b c = refl
+
+or_false : (b : Bool) → b ≡ (b || false)
+or_false true = refl
+or_false false = refl
+
+-- what was seen, with one more place
+one_more : (seen : List Spot) (s p : Spot) → is_seen (noted seen s) p ≡ (is_seen seen p || spot_eq p s)
+one_more seen s p = go (is_seen seen s) refl
+  where
+    met : (b : Bool) → spot_eq p s ≡ b → is_seen seen s ≡ true → is_seen seen p ≡ (is_seen seen p || b)
+    met false e is = or_false (is_seen seen p)
+    met true e is = let same : is_seen seen p ≡ true = ap (λ (q : Spot). is_seen seen q) (one_place p s e) ∙ is in same ∙ sym (ap (λ t. t || true) same)
+
+    go : (b : Bool) → is_seen seen s ≡ b → is_seen (cond b seen (seen ++ s ∷ [])) p ≡ (is_seen seen p || spot_eq p s)
+    go true is = met (spot_eq p s) refl is
+    go false is = any_last (λ (other : Spot). spot_eq p other) seen s
+
+value_same : (t : Transaction) (c : Command) (earlier : List Argument) (a : Argument) (need : commands.Need) (v : Option block.Value)
+    → named_place_cause t c (list_any (λ (e : Argument). block.place_eq (commands.place_of e) (commands.place_of a)) earlier) (commands.place_of a) need v ≡ commands.value_cause t c earlier a need v
+unfolding named_value_cause
+value_same t c earlier a need None = refl
+value_same t c earlier a need (Some value) = refl
+
+cause_same : (t : Transaction) (b : block.Block) (c : Command) (earlier : List Argument) (w : Wanted)
+    → cause_of t b c (list_any (λ (e : Argument). block.place_eq (commands.place_of e) (commands.place_of w.argument)) earlier) w ≡ commands.argument_cause t b c earlier w.argument (need_meant w.need)
+unfolding cause_of
+cause_same t b c earlier w =
+    ap (λ (v : Option ℕ). first_some (where_true (commands.has_no_result b w.argument) 2 ∷ v ∷ []))
+    (value_same t c earlier w.argument (need_meant w.need) (block.value_in (commands.place_of w.argument) b.slots))
+
+agrees_more : (seen : List Spot) (earlier : List Argument) (a : Argument)
+    → ((p : Spot) → is_seen seen p ≡ list_any (λ (e : Argument). block.place_eq (commands.place_of e) (spot_of p)) earlier)
+    → (p : Spot) → is_seen (noted seen (spot_at a)) p ≡ list_any (λ (e : Argument). block.place_eq (commands.place_of e) (spot_of p)) (earlier ++ a ∷ [])
+agrees_more seen earlier a agrees p =
+    one_more seen (spot_at a) p
+    ∙ ap (λ t. t || spot_eq p (spot_at a)) (agrees p)
+    ∙ ap (λ t. list_any (λ (e : Argument). block.place_eq (commands.place_of e) (spot_of p)) earlier || t) (same_test p (spot_at a) ∙ ap (λ (q : block.Place). block.place_eq q (spot_of p)) (lies_at a))
+    ∙ sym (any_last (λ (e : Argument). block.place_eq (commands.place_of e) (spot_of p)) earlier a)
+
+causes_from : (t : Transaction) (b : block.Block) (c : Command) (seen : List Spot) (earlier : List Argument)
+    → ((p : Spot) → is_seen seen p ≡ list_any (λ (e : Argument). block.place_eq (commands.place_of e) (spot_of p)) earlier)
+    → (wanted : List Wanted) → causes_after t b c seen wanted ≡ commands.arguments_cause t b c earlier (map wanted_of wanted)
+causes_from t b c seen earlier agrees [] = refl
+causes_from t b c seen earlier agrees (w ∷ rest) =
+    let named : is_seen seen (spot_at w.argument) ≡ list_any (λ (e : Argument). block.place_eq (commands.place_of e) (commands.place_of w.argument)) earlier
+    = agrees (spot_at w.argument) ∙ ap (λ (q : block.Place). list_any (λ (e : Argument). block.place_eq (commands.place_of e) q) earlier) (lies_at w.argument) in
+    let first : cause_of t b c (is_seen seen (spot_at w.argument)) w ≡ commands.argument_cause t b c earlier w.argument (need_meant w.need)
+    = ap (λ (n : Bool). cause_of t b c n w) named ∙ cause_same t b c earlier w in
+    let others = causes_from t b c (noted seen (spot_at w.argument)) (earlier ++ w.argument ∷ []) (agrees_more seen earlier w.argument agrees) rest in
+    ap (λ (x : Option ℕ). first_some (x ∷ causes_after t b c (noted seen (spot_at w.argument)) rest ∷ [])) first
+    ∙ ap (λ (x : Option ℕ). first_some (commands.argument_cause t b c earlier w.argument (need_meant w.need) ∷ x ∷ [])) others
+
+pub causes_are : (t : Transaction) (b : block.Block) (c : Command) (wanted : List Wanted) → causes_after t b c [] wanted ≡ commands.arguments_cause t b c [] (map wanted_of wanted)
+causes_are t b c wanted = causes_from t b c [] [] (λ p. refl) wanted

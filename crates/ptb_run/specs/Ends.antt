@@ -1,0 +1,15 @@
+-- How a block ended in the code against what the definition says.
+use Rattle.std.specs.Prelude.{◌≡◌, Result, Ok, Err}
+use Rattle.block_spec.specs.Block as block
+use Rattle.block_spec.specs.Execution.{Failure}
+use Rattle.ptb_run.specs.declared.block.Block.{Block}
+use Rattle.ptb_run.specs.declared.halt.Failed.{Failed}
+use Rattle.ptb_run.specs.declared.halt.Failed.TheVariants as failed
+use Rattle.ptb_run.specs.Blocks.{block_of}
+use Rattle.ptb_run.specs.Outcomes.{fault_of}
+
+-- memory was refused, or the block is the one that is said, or it fails as is said
+abbrev pub Ends : Result Block Failed → Result block.Block Failure → Type 0
+Ends (Ok b) says = says ≡ Ok (block_of b)
+Ends (Err (failed.At command fault)) says = says ≡ Err (command, fault_of fault)
+Ends (Err failed.OutOfMemory) says = Unit {0}

@@ -1,0 +1,39 @@
+-- What a step of the code answered against what the definition says.
+use Rattle.std.specs.Prelude.{◌≡◌, ℕ, Bool, nat_lt, length, Result, Ok, Err}
+use Rattle.block_spec.specs.Block.{Block}
+use Rattle.block_spec.specs.Commands as commands
+use Rattle.chain_types.specs.declared.transactions.Command.{Command}
+use Rattle.chain_spec.specs.Shape.{arguments_of}
+use Rattle.block_spec.specs.Execution.{Failure}
+use Rattle.ptb_run.specs.declared.halt.Failed.{Failed}
+use Rattle.ptb_run.specs.declared.halt.Failed.TheVariants as failed
+use Rattle.ptb_run.specs.declared.halt.Fault.{Fault}
+use Rattle.ptb_run.specs.declared.halt.Fault.TheVariants as faults
+use Rattle.ptb_run.specs.declared.halt.Halt.{Halt}
+use Rattle.ptb_run.specs.declared.halt.Halt.TheVariants as halt
+
+abbrev pub fault_of : Fault → commands.Fault
+fault_of (faults.Cause n) = commands.cause n
+fault_of (faults.Abort n) = commands.abort n
+
+-- memory was refused, or the block is now as is said, or the fault is the one that is said
+abbrev pub Steps : {X : Type 0} → Result X Halt → Result Block commands.Fault → Block → Type 0
+Steps (Ok x) says b = says ≡ Ok b
+Steps (Err (halt.Fault fault)) says b = says ≡ Err (fault_of fault)
+Steps (Err halt.OutOfMemory) says b = Unit {0}
+
+-- the same of one command, by its number
+abbrev pub StepsAt : {X : Type 0} → Result X Failed → ℕ → Result Block commands.Fault → Block → Type 0
+StepsAt (Ok x) number says b = says ≡ Ok b
+StepsAt (Err (failed.At command fault)) number says b = (command ≡ number) × (says ≡ Err (fault_of fault))
+StepsAt (Err failed.OutOfMemory) number says b = Unit {0}
+
+-- the same of all commands
+abbrev pub Runs : {X : Type 0} → Result X Failed → Result Block Failure → Block → Type 0
+Runs (Ok x) says b = says ≡ Ok b
+Runs (Err (failed.At command fault)) says b = says ≡ Err (command, fault_of fault)
+Runs (Err failed.OutOfMemory) says b = Unit {0}
+
+-- the command has more than 512 arguments
+abbrev pub is_wide : Command → Bool
+is_wide c = nat_lt 512 (length (arguments_of c))

@@ -1,0 +1,26 @@
+-- What is added one after the other: results of commands, and objects that leave the block.
+use Rattle.std.specs.Prelude.{ℕ, ◌+◌, List, [], ◌∷◌, ◌++◌, Option, Some, true}
+use Rattle.digest_core.specs.declared.Digest.{Digest}
+use Rattle.digest_core.specs.Tagged.{created_id_of}
+use Rattle.chain_types.specs.declared.objects.Content.TheVariants as content
+use Rattle.chain_types.specs.declared.objects.Owner.{Owner}
+use Rattle.block_types.specs.declared.pieces.Item.{Item}
+use Rattle.block_types.specs.declared.pieces.Placed.{Placed}
+use Rattle.ptb_run.specs.declared.value.Value.{Value}
+use Rattle.ptb_run.specs.declared.value.Value.TheVariants as values
+
+-- the new coin of this amount, so many behind the next number
+abbrev pub new_coin : Digest → ℕ → ℕ → ℕ → ℕ → Item
+new_coin tx made currency k amount = record { id = record { 0 = created_id_of tx (made + k) }; content = content.Coin currency amount; fresh = true }
+
+abbrev pub coins_after : Digest → ℕ → ℕ → List (Option Value) → ℕ → List ℕ → List (Option Value)
+coins_after tx made currency row k [] = row
+coins_after tx made currency row k (amount ∷ rest) = coins_after tx made currency (row ++ Some (values.Object (new_coin tx made currency k amount)) ∷ []) (k + 1) rest
+
+abbrev pub items_row_after : List (Option Value) → List Item → List (Option Value)
+items_row_after row [] = row
+items_row_after row (item ∷ rest) = items_row_after (row ++ Some (values.Object item) ∷ []) rest
+
+abbrev pub placed_after : List Placed → Owner → List Item → List Placed
+placed_after placed who [] = placed
+placed_after placed who (item ∷ rest) = placed_after (placed ++ record { item = item; owner = who } ∷ []) who rest

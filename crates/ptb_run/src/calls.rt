@@ -1,0 +1,169 @@
+//! The call of a native by a command.
+
+ghost use Rattle.std.specs.Prelude.{◌≡◌, ◌+◌, ◌<◌, ◌≤◌, [], map, IfOk, OnOk, IsTrue, if◌then◌else◌, true};
+ghost use Rattle.std.specs.List.{list_all};
+ghost use Rattle.block_spec.specs.Natives.{native_gives, parameters_of};
+ghost use Rattle.block_spec.specs.Block.{value_in};
+ghost use Rattle.block_spec.specs.Commands as commands;
+ghost use Rattle.native_calls.specs.Forms.{have_forms};
+ghost use Rattle.ptb_run.specs.Blocks.{block_of, rows_of};
+ghost use Rattle.ptb_run.specs.Needs.{need_meant, wanted_of};
+ghost use Rattle.ptb_run.specs.Outcomes.{Steps};
+ghost use Rattle.ptb_run.specs.Rows.{items_row_after};
+ghost use Rattle.ptb_run.specs.Takes.{givens_after, is_taken};
+
+use crate::block::Block;
+use crate::commands::Site;
+use crate::halt::{Fault, Halt};
+use crate::needs::{Need, Wanted, takes_value};
+use crate::value::Value;
+use block_types::{Gave, Given, Item, Placed};
+use native_calls::call;
+use std::alloc::Global;
+use wire_bcs::{OutOfMemory, Seq};
+
+/// An argument as the native takes it.
+#[tactic(auto, using(crate::proofs::Given::given_by_value, crate::proofs::Given::given_by_mut, crate::proofs::Given::given_by_ref, crate::proofs::Given::given_coins))]
+fn given(alloc: Global, block: &Block, wanted: &Wanted) -> Result<Given, OutOfMemory>
+    requires { is_taken (block_of block.now) (wanted_of wanted.now) ≡ true }
+    ensures { IfOk result (λ given. given ≡ commands.given_as (need_meant wanted.now.need) (value_in (commands.place_of wanted.now.argument) (block_of block.now).slots)) }
+{
+    match wanted.need {
+        Need::Number => Ok(Given::Number(block.number_in(&wanted.argument))),
+        Need::Address => Ok(Given::Number(0)),
+        Need::ByValue(_) => block.value_given(alloc, &wanted.argument),
+        Need::ByMut(_) => block.value_given(alloc, &wanted.argument),
+        Need::ByRef(_) => block.value_given(alloc, &wanted.argument),
+        Need::Coins => block.value_given(alloc, &wanted.argument),
+    }
+}
+
+/// The arguments as the native takes them, one after the other.
+fn give_each(alloc: Global, block: &Block, wanted: &[Wanted]) -> Result<Seq<Given>, OutOfMemory>
+    requires { list_all (is_taken (block_of block.now)) (map wanted_of wanted.now) ≡ true }
+    ensures { IfOk result (λ givens. givens ≡ givens_after (block_of block.now) [] wanted.now) }
+{
+    let mut givens = Seq::new(alloc);
+    let mut rest = wanted;
+    while let [one, after @ ..] = rest {
+        givens.push(given(alloc, block, one)?)?;
+        rest = after;
+    }
+    Ok(givens)
+}
+
+/// The arguments as the native takes them.
+#[tactic(auto, using(crate::proofs::Given::givens_are))]
+fn give_all(alloc: Global, block: &Block, wanted: &[Wanted]) -> Result<Seq<Given>, OutOfMemory>
+    requires { list_all (is_taken (block_of block.now)) (map wanted_of wanted.now) ≡ true }
+    ensures { IfOk result (λ givens. givens ≡ commands.given_all (block_of block.now) (map wanted_of wanted.now)) }
+{
+    give_each(alloc, block, wanted)
+}
+
+/// What goes by value is spent.
+fn spend_one(block: &mut Block, wanted: &Wanted)
+    ensures after { block_of block.new ≡ (if commands.takes_value (need_meant wanted.now.need) then commands.spend wanted.now.argument (block_of block.old) else block_of block.old) }
+    ensures rows { rows_of block.new ≡ rows_of block.old }
+{
+    if takes_value(wanted.need) {
+        block.spend(&wanted.argument);
+    }
+}
+
+/// All that goes by value is spent.
+fn spend_taken(block: &mut Block, wanted: &[Wanted])
+    ensures after { block_of block.new ≡ commands.spend_taken (map wanted_of wanted.now) (block_of block.old) }
+    ensures rows { rows_of block.new ≡ rows_of block.old }
+{
+    let mut rest = wanted;
+    while let [one, after @ ..] = rest {
+        spend_one(block, one);
+        rest = after;
+    }
+}
+
+/// What the native changed is put back into the place of its first argument.
+fn put_changed(block: &mut Block, wanted: &[Wanted], changed: Option<Item>)
+    ensures after { block_of block.new ≡ commands.put_changed (map wanted_of wanted.now) changed (block_of block.old) }
+    ensures rows { rows_of block.new ≡ rows_of block.old }
+{
+    if let [first, ..] = wanted {
+        if let Some(item) = changed {
+            block.put_back(&first.argument, item);
+        }
+    }
+}
+
+/// A row of objects.
+fn items_row(alloc: Global, items: &[Item]) -> Result<Seq<Option<Value>>, OutOfMemory>
+    ensures { IfOk result (λ row. row ≡ items_row_after [] items.now) }
+{
+    let mut row = Seq::new(alloc);
+    let mut rest = items;
+    while let [item, after @ ..] = rest {
+        row.push(Some(Value::Object(*item)))?;
+        rest = after;
+    }
+    Ok(row)
+}
+
+/// What a native gave comes into the block.
+fn take_in(
+    alloc: Global,
+    block: &mut Block,
+    wanted: &[Wanted],
+    results: &[Item],
+    changed: Option<Item>,
+    placed: Option<Placed>,
+    made: u32,
+) -> Result<(), OutOfMemory>
+    ensures after { OnOk result (block_of block.new ≡ commands.called_block (rows_of block.old) (block_of block.old) (map wanted_of wanted.now) results.now changed placed made) }
+    ensures rows { OnOk result (rows_of block.new ≡ rows_of block.old + 1) }
+{
+    let row = items_row(alloc, results)?;
+    spend_taken(block, wanted);
+    put_changed(block, wanted, changed);
+    block.leave(placed)?;
+    block.set_made(made);
+    block.add_results(row)?;
+    Ok(())
+}
+
+/// Calls a native on arguments that may be taken.
+pub(crate) fn call_native(
+    alloc: Global,
+    block: &mut Block,
+    site: &Site,
+    native: u8,
+    wanted: &[Wanted],
+) -> Result<(), Halt>
+    requires known { native ≤ 13 }
+    requires room { (block_of block.old).made < 2147483136 }
+    requires taken { list_all (is_taken (block_of block.old)) (map wanted_of wanted.now) ≡ true }
+    requires forms { have_forms (parameters_of native) (commands.given_all (block_of block.old) (map wanted_of wanted.now)) ≡ true }
+    ensures steps { Steps result (commands.called (rows_of block.old) (block_of block.old) (map wanted_of wanted.now) (native_gives native (commands.site site.now.tx site.now.version (block_of block.old)) (commands.given_all (block_of block.old) (map wanted_of wanted.now)))) (block_of block.new) }
+    ensures rows { OnOk result (rows_of block.new ≡ rows_of block.old + 1) }
+{
+    let givens = give_all(alloc, block, wanted)?;
+    match call(alloc, native, &site.tx, site.version, block.made(), givens)? {
+        Gave::Abort(code) => Err(Halt::Fault(Fault::Abort(code))),
+        Gave::Done {
+            results,
+            changed,
+            placed,
+            made,
+        } => {
+            take_in(
+                alloc,
+                block,
+                wanted,
+                results.as_slice(),
+                changed,
+                placed,
+                made,
+            )?;
+            Ok(())
+        }
+    }
+}

@@ -1,0 +1,274 @@
+//! What each command does, where its arguments may be taken.
+
+ghost use Rattle.std.specs.Prelude.{◌≡◌, ◌+◌, ◌-◌, ◌<◌, ◌≤◌, ◌^◌, ◌∷◌, [], not, ◌==◌, nat_le, nat_lt, if◌then◌else◌, length, map, sum, IfOk, OnOk, SomeIff, true};
+ghost use Rattle.std.specs.List.{list_all, list_any};
+ghost use Rattle.block_spec.specs.Natives.{amount_limit, amount_of, currency_of};
+ghost use Rattle.block_spec.specs.Commands as commands;
+ghost use Rattle.block_spec.specs.Commands.{item_in, merge, number_in, sum_of, transfer_block, vector_block, withheld};
+ghost use Rattle.ptb_run.specs.Blocks.{block_of, rows_of};
+ghost use Rattle.ptb_run.specs.Outcomes.{Steps};
+ghost use Rattle.ptb_run.specs.Rows.{coins_after};
+ghost use Rattle.ptb_run.specs.Takes.{is_taken};
+
+use crate::block::Block;
+use crate::halt::{Fault, Halt};
+use crate::value::Value;
+use block_types::Item;
+use chain_types::{Argument, Content, Kind, ObjectId, Owner, Transaction};
+use digest_core::{Digest, created_id};
+use native_calls::contents::{amount_of, currency_of, holding};
+use std::alloc::Global;
+use wire_bcs::{OutOfMemory, Seq};
+
+/// The sum of amounts, where it is an amount.
+fn sum_of_numbers(numbers: &[u64]) -> Option<u64>
+    ensures { SomeIff result (sum numbers.now < 2 ^ 64) (sum numbers.now) }
+{
+    let mut total: u64 = 0;
+    let mut rest = numbers;
+    while let [number, after @ ..] = rest {
+        total = total.checked_add(*number)?;
+        rest = after;
+    }
+    Some(total)
+}
+
+/// The sum of this amount and of what the items hold, where it is an amount.
+fn sum_from(start: u64, items: &[Item]) -> Option<u64>
+    ensures { let total = start + sum_of items.now in SomeIff result (total < 2 ^ 64) total }
+{
+    let mut total = start;
+    let mut rest = items;
+    while let [item, after @ ..] = rest {
+        total = total.checked_add(amount_of(&item.content))?;
+        rest = after;
+    }
+    Some(total)
+}
+
+/// Whether one of the sources has another currency than the target.
+fn any_other_currency(target: &Item, sources: &[Item]) -> bool
+    ensures { result ≡ list_any (λ i. not (currency_of i.content == currency_of target.now.content)) sources.now }
+{
+    for source in sources {
+        if currency_of(&source.content) != currency_of(&target.content) {
+            return true;
+        }
+    }
+    false
+}
+
+/// New coins of the currency, one for each amount, gathered one after the other.
+fn new_coins(
+    alloc: Global,
+    tx: &Digest,
+    made: u32,
+    currency: u64,
+    amounts: &[u64],
+) -> Result<Seq<Option<Value>>, OutOfMemory>
+    requires few { length amounts.now ≤ 512 }
+    requires room { made < 2147483648 }
+    ensures { IfOk result (λ row. row ≡ coins_after tx.now made currency [] 0 amounts.now) }
+{
+    let mut row = Seq::new(alloc);
+    let mut ahead = 0;
+    let mut rest = amounts;
+    while let [amount, after @ ..] = rest {
+        row.push(Some(Value::Object(Item {
+            id: ObjectId(created_id(tx, u64::from(made + ahead))),
+            content: Content::Coin {
+                currency,
+                balance: *amount,
+            },
+            fresh: true,
+        })))?;
+        ahead += 1;
+        rest = after;
+    }
+    Ok(row)
+}
+
+/// Where a block writes: its transaction, and the version.
+#[derive(Clone, Copy, Debug)]
+pub(crate) struct Site {
+    pub(crate) tx: Digest,
+    pub(crate) version: u64,
+}
+
+/// What a coin shows less the amounts, where it has them.
+fn left_of(coin: &Item, amounts: &[u64]) -> Option<u64>
+    ensures { result ≡ (if nat_lt (amount_of coin.now.content) (sum amounts.now) then None else Some (amount_of coin.now.content - sum amounts.now)) }
+{
+    let balance = amount_of(&coin.content);
+    let sum = sum_of_numbers(amounts)?;
+    if balance < sum {
+        None
+    } else {
+        Some(balance - sum)
+    }
+}
+
+/// Splits a coin of which so much is left.
+fn split_coin(
+    alloc: Global,
+    block: &mut Block,
+    site: &Site,
+    coin: &Argument,
+    item: &Item,
+    left: u64,
+    amounts: &[u64],
+) -> Result<(), OutOfMemory>
+    requires left { left ≡ amount_of item.now.content - sum amounts.now }
+    requires few { length amounts.now ≤ 512 }
+    requires room { (block_of block.old).made < 2147483136 }
+    ensures after { OnOk result (block_of block.new ≡ commands.split_block (commands.site site.now.tx site.now.version (block_of block.old)) (rows_of block.old) (block_of block.old) coin.now item.now amounts.now) }
+    ensures rows { OnOk result (rows_of block.new ≡ rows_of block.old + 1) }
+{
+    let made = block.made();
+    let row = new_coins(alloc, &site.tx, made, currency_of(&item.content), amounts)?;
+    block.put_back(coin, holding(left, item));
+    block.set_made(made + amounts.len() as u32);
+    block.add_results(row)?;
+    Ok(())
+}
+
+/// Gives one new coin for each amount, out of a coin: 8 where it shows less than their sum.
+pub(crate) fn split(
+    alloc: Global,
+    block: &mut Block,
+    site: &Site,
+    coin: &Argument,
+    amounts: &[Argument],
+) -> Result<(), Halt>
+    requires taken { list_all (is_taken (block_of block.old)) (commands.all_by commands.number amounts.now) ≡ true }
+    requires few { length amounts.now ≤ 512 }
+    requires room { (block_of block.old).made < 2147483136 }
+    ensures steps { Steps result (commands.split (commands.site site.now.tx site.now.version (block_of block.old)) (rows_of block.old) (block_of block.old) coin.now (item_in (block_of block.old) coin.now) (map (number_in (block_of block.old)) amounts.now)) (block_of block.new) }
+    ensures rows { OnOk result (rows_of block.new ≡ rows_of block.old + 1) }
+{
+    let Some(item) = block.item_in(coin) else {
+        return Err(Halt::Fault(Fault::Cause(4)));
+    };
+    let numbers = block.numbers_in(alloc, amounts)?;
+    let Some(left) = left_of(&item, numbers.as_slice()) else {
+        return Err(Halt::Fault(Fault::Cause(8)));
+    };
+    split_coin(alloc, block, site, coin, &item, left, numbers.as_slice())?;
+    Ok(())
+}
+
+/// The budget, which is withheld from the gas coin.
+fn withheld(tx: &Transaction, argument: &Argument) -> u64
+    ensures { result ≡ withheld tx.now argument.now }
+{
+    match argument {
+        Argument::Gas => tx.budget,
+        Argument::Input(_) | Argument::Result(_) | Argument::Nested(_, _) => 0,
+    }
+}
+
+/// What a coin shows with what the sources hold, where this and the withheld budget are an amount.
+fn merged(tx: &Transaction, target: &Argument, item: &Item, sources: &[Item]) -> Option<u64>
+    ensures { let total = amount_of item.now.content + sum_of sources.now in result ≡ (if nat_le amount_limit (amount_of item.now.content + withheld tx.now target.now + sum_of sources.now) then None else Some total) }
+{
+    let total = sum_from(amount_of(&item.content), sources)?;
+    match total.checked_add(withheld(tx, target)) {
+        Some(_) => Some(total),
+        None => None,
+    }
+}
+
+/// Merges sources into a coin that then shows so much.
+fn merge_coins(
+    alloc: Global,
+    block: &mut Block,
+    target: &Argument,
+    item: &Item,
+    total: u64,
+    sources: &[Argument],
+) -> Result<(), OutOfMemory>
+    requires { total ≡ amount_of item.now.content + sum_of (commands.items_in (block_of block.old) sources.now) }
+    ensures after { OnOk result (block_of block.new ≡ commands.merge_block (block_of block.old) target.now item.now sources.now) }
+    ensures rows { OnOk result (rows_of block.new ≡ rows_of block.old + 1) }
+{
+    block.spend_all(sources);
+    block.put_back(target, holding(total, item));
+    block.add_nothing(alloc)?;
+    Ok(())
+}
+
+/// Adds coins to a coin and deletes them: 10 where one has another currency, 9 where the sum is no
+/// amount.
+pub(crate) fn merge(
+    alloc: Global,
+    block: &mut Block,
+    tx: &Transaction,
+    target: &Argument,
+    sources: &[Argument],
+) -> Result<(), Halt>
+    ensures steps { Steps result (merge tx.now (block_of block.old) target.now (item_in (block_of block.old) target.now) sources.now) (block_of block.new) }
+    ensures rows { OnOk result (rows_of block.new ≡ rows_of block.old + 1) }
+{
+    let Some(item) = block.item_in(target) else {
+        return Err(Halt::Fault(Fault::Cause(4)));
+    };
+    let items = block.items_in(alloc, sources)?;
+    if any_other_currency(&item, items.as_slice()) {
+        return Err(Halt::Fault(Fault::Cause(10)));
+    }
+    let Some(total) = merged(tx, target, &item, items.as_slice()) else {
+        return Err(Halt::Fault(Fault::Cause(9)));
+    };
+    merge_coins(alloc, block, target, &item, total, sources)?;
+    Ok(())
+}
+
+/// The values leave the block to an address.
+pub(crate) fn transfer(
+    alloc: Global,
+    block: &mut Block,
+    values: &[Argument],
+    to: &Argument,
+) -> Result<(), OutOfMemory>
+    requires { is_taken (block_of block.old) (to.now, commands.address) ≡ true }
+    ensures after { OnOk result (block_of block.new ≡ transfer_block (block_of block.old) values.now (commands.address_in (block_of block.old) to.now)) }
+    ensures rows { OnOk result (rows_of block.new ≡ rows_of block.old + 1) }
+{
+    let owner = Owner::Address(block.address_in(to));
+    let items = block.items_in(alloc, values)?;
+    block.place_all(owner, items.as_slice())?;
+    block.spend_all(values);
+    block.add_nothing(alloc)?;
+    Ok(())
+}
+
+/// A row of one vector.
+fn vector_row(
+    alloc: Global,
+    kind: Kind,
+    items: Seq<Item>,
+) -> Result<Seq<Option<Value>>, OutOfMemory>
+    ensures { IfOk result (λ row. row ≡ Some (Value.Vector kind items) ∷ []) }
+{
+    let mut row = Seq::new(alloc);
+    row.push(Some(Value::Vector { kind, items }))?;
+    Ok(row)
+}
+
+/// Makes one vector of the values.
+#[tactic(auto, using(crate::proofs::Leaving::vector_is))]
+pub(crate) fn make_vector(
+    alloc: Global,
+    block: &mut Block,
+    kind: Kind,
+    values: &[Argument],
+) -> Result<(), OutOfMemory>
+    ensures after { OnOk result (block_of block.new ≡ vector_block (rows_of block.old) (block_of block.old) kind values.now) }
+    ensures rows { OnOk result (rows_of block.new ≡ rows_of block.old + 1) }
+{
+    let items = block.items_in(alloc, values)?;
+    let row = vector_row(alloc, kind, items)?;
+    block.spend_all(values);
+    block.add_results(row)?;
+    Ok(())
+}
