@@ -96,6 +96,16 @@ impl Committee {
         })
     }
 
+    /// The same committee once more. Takes no memory.
+    pub fn copy(&self) -> Committee
+        ensures { result ≡ self.now }
+    {
+        Committee {
+            stakes: self.stakes,
+            count: self.count,
+        }
+    }
+
     /// The stakes, lent.
     fn stakes(&self) -> &[u32]
         ensures value { result.now ≡ self.now }
