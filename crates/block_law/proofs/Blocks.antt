@@ -30,11 +30,11 @@ use Rattle.block_law.proofs.Natives.{call-step}
 
 -- ---- one command
 
-refused-ok : {A E : Type 0} (r : Option E) (rest : Result A E) (y : A) → refused_or r rest ≡ Ok y → (r ≡ None) × (rest ≡ Ok y)
+pub refused-ok : {A E : Type 0} (r : Option E) (rest : Result A E) (y : A) → refused_or r rest ≡ Ok y → (r ≡ None) × (rest ≡ Ok y)
 refused-ok None rest y e = (refl, e)
 refused-ok (Some refusal) rest y e = absurd (cc)
 
-map-none : {A B : Type 0} (f : A → B) (o : Option A) → option_map f o ≡ None → o ≡ None
+pub map-none : {A B : Type 0} (f : A → B) (o : Option A) → option_map f o ≡ None → o ≡ None
 map-none f None e = refl
 map-none f (Some x) e = absurd (cc)
 

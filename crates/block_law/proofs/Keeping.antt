@@ -1,6 +1,6 @@
 -- Of each currency, what is held moves with the supplies of its caps and with the gas.
 use Rattle.std.proofs.Common.{refl, ap, sym, subst, ◌∙◌, inl, inr}
-use Rattle.std.specs.Prelude.{◌≡◌, ◌≤◌, ◌+◌, ◌-◌, ℕ, Bool, true, false, cond, ◌==◌, List, [], ◌∷◌, ◌++◌, map, filter_map, find, sum_by, option_map, Option, Some, None, Result, Ok, Err}
+use Rattle.std.specs.Prelude.{◌≡◌, ◌≤◌, ◌<◌, ◌+◌, ◌-◌, min, ℕ, Bool, true, false, cond, ◌==◌, List, [], ◌∷◌, ◌++◌, map, filter_map, find, sum_by, option_map, Option, Some, None, Result, Ok, Err}
 use Rattle.std.specs.List.{cons_option}
 use native.Mathlib.Omega.{arith}
 use Rattle.digest_core.specs.declared.Digest.{Digest}
@@ -11,25 +11,25 @@ use Rattle.chain_types.specs.declared.objects.Content.TheVariants as content
 use Rattle.chain_types.specs.declared.transactions.Transaction.{Transaction}
 use Rattle.chain_types.specs.Equal.{id_eq}
 use Rattle.chain_types.specs.Digests.{transaction_digest}
-use Rattle.block_types.specs.declared.pieces.Item.{Item}
 use Rattle.block_types.specs.declared.pieces.Placed.{Placed}
 use Rattle.chain_spec.specs.Words.{Each, Has, repeats}
 use Rattle.chain_spec.specs.Keys.{fits, money_of, currency_sum, version_of, named_ids}
 use Rattle.chain_spec.specs.Shape.{cost}
-use Rattle.block_spec.specs.Natives.{amount_of, with_amount}
+use Rattle.block_spec.specs.Natives.{amount_limit, amount_of, with_amount}
 use Rattle.block_spec.specs.Block.{Place, gas, Value, pure, object, vector, Slot, Block, value_in}
 use Rattle.block_spec.specs.Commands.{piece_of}
-use Rattle.block_spec.specs.Execution.{Failure, gas_item, first_slots, first_block, outcome, object_at, now_in, after_block, written_inputs, written_places, created_objects, with_rest_first, done_objects, same_object, failed_objects, execution, executed_by}
+use Rattle.block_spec.specs.Execution.{Failure, first_slots, first_block, outcome, object_at, now_in, after_block, written_inputs, written_places, created_objects, with_rest_first, done_objects, same_object, failed_objects, execution, executed_by}
 use Rattle.block_law.specs.Money.{supply_of, supply_sum, caps_of, cap_count}
 use Rattle.block_law.specs.Names.{drawn_ids, touched_ids}
 use Rattle.block_law.specs.Keeping.{MayRun, objects_before, gas_in}
 use Rattle.block_law.proofs.Counts.{hit, times, times-append, id_equal, id_same, id_refl, once-each}
 use Rattle.block_law.proofs.Slots.{placed_weight, block_weight, value_weight, Every}
-use Rattle.block_law.proofs.Amounts.{cond-part, part-plus, sum-cons, amount-twice}
-use Rattle.block_law.proofs.Kept.{Like, Good, Stands}
+use Rattle.block_law.proofs.Amounts.{cond-part, part-plus, sum-cons}
+use Rattle.block_law.proofs.Kept.{Stands}
 use Rattle.block_law.proofs.Steps.{counts}
 use Rattle.block_law.proofs.Failing.{gas-is, affords}
 use Rattle.block_law.proofs.Blocks.{IsDone, done-is, first-behind}
+use Rattle.block_law.proofs.Payer.{Pays, ends}
 use Rattle.block_law.proofs.Effects.{IsInput, inputs-first, first_ids, places-ids, objects-ids}
 use Rattle.block_law.proofs.Sums.{places_weight, unwritten, whole-weight, holds, objects_weight, objects-append, start-done, placed-times, spent-most, spent_ids, left-weight}
 
@@ -50,40 +50,38 @@ has-found (q ∷ placed) p id (inr has) same once = go (id_eq q.item.id id) refl
     go true h rest = absurd (let here = ap hit (id_equal q.item.id p.item.id (id_same q.item.id id h ∙ sym same)) in let more = has-count placed p has in omega (arith, once, here, more))
     go false h rest = rest (omega (arith, once))
 
--- what became of the gas coin: it is still a coin of its currency
-record IsGasLeft (a : Option Object) : Type 0 where
+-- what became of the gas coin: it is still a coin of its currency, and can hold the budget that was withheld
+record IsGasLeft (t : Transaction) (a : Option Object) : Type 0 where
   coin : Object
   is : a ≡ Some coin
   holds_now : ℕ
   content_is : coin.content ≡ content.Coin 0 holds_now
+  low : holds_now + t.budget < amount_limit
 
-coin-like : (t : Transaction) (coin : Object) (balance : ℕ) (now : Item) → coin.content ≡ content.Coin 0 balance → Like (gas_item t coin) now → (n : ℕ) × (now.content ≡ content.Coin 0 n)
-coin-like t coin balance now held like = (like.1.0, like.1.1 ∙ amount-twice like.1.0 (amount_of coin.content - t.budget) coin.content ∙ ap (with_amount like.1.0) held)
-
-gas-slot : (t : Transaction) (tx : Digest) (coin : Object) (os : List Object) (b : Block) → IsDone t tx (coin ∷ os) b → Good t (first_slots t (coin ∷ os)) b.placed gas (value_in gas b.slots)
-gas-slot t tx coin os b is = go b.slots is.kept.stands is.kept.good
+gas-slot : (t : Transaction) (tx : Digest) (coin : Object) (os : List Object) (b : Block) → IsDone t tx (coin ∷ os) b → Every (Pays t coin.id b.placed) b.slots → Pays t coin.id b.placed gas (value_in gas b.slots)
+gas-slot t tx coin os b is pays = go b.slots is.kept.stands pays
   where
-    go : (slots : List Slot) → Stands (map (λ (s : Slot). s.place) (first_slots t (coin ∷ os))) slots → Every (Good t (first_slots t (coin ∷ os)) b.placed) slots → Good t (first_slots t (coin ∷ os)) b.placed gas (value_in gas slots)
-    go [] stands good = absurd stands
-    go (s ∷ slots) stands good =
+    go : (slots : List Slot) → Stands (map (λ (s : Slot). s.place) (first_slots t (coin ∷ os))) slots → Every (Pays t coin.id b.placed) slots → Pays t coin.id b.placed gas (value_in gas slots)
+    go [] stands pays = absurd stands
+    go (s ∷ slots) stands pays =
         let here : value_in gas (s ∷ slots) ≡ s.value = rw stands.0 refl in
-        subst (λ (v : Option Value). Good t (first_slots t (coin ∷ os)) b.placed gas v) (sym here) (subst (λ (p : Place). Good t (first_slots t (coin ∷ os)) b.placed p s.value) stands.0 good.0)
+        subst (λ (v : Option Value). Pays t coin.id b.placed gas v) (sym here) (subst (λ (p : Place). Pays t coin.id b.placed p s.value) stands.0 pays.0)
 
-gas-left : (t : Transaction) (tx : Digest) (version : ℕ) (coin : Object) (os : List Object) (b : Block) (balance : ℕ) → coin.content ≡ content.Coin 0 balance → IsDone t tx (coin ∷ os) b → ((x : ObjectId) → placed_weight (counts x) b.placed ≤ 1) → IsGasLeft (after_block version b gas coin)
-gas-left t tx version coin os b balance held is once = go (value_in gas b.slots) (gas-slot t tx coin os b is)
+gas-left : (t : Transaction) (version : ℕ) (coin : Object) (b : Block) → Pays t coin.id b.placed gas (value_in gas b.slots) → ((x : ObjectId) → placed_weight (counts x) b.placed ≤ 1) → IsGasLeft t (after_block version b gas coin)
+gas-left t version coin b pays once = go (value_in gas b.slots) pays
   where
-    go : (v : Option Value) → Good t (first_slots t (coin ∷ os)) b.placed gas v → IsGasLeft (now_in version b.placed coin (piece_of v))
-    go (Some (pure bytes)) good = absurd good
-    go (Some (vector k is)) good = absurd good
-    go (Some (object now)) good = let n = coin-like t coin balance now held good in record { coin = object_at version coin.owner now; is = refl; holds_now = n.0; content_is = n.1 }
+    go : (v : Option Value) → Pays t coin.id b.placed gas v → IsGasLeft t (now_in version b.placed coin (piece_of v))
+    go (Some (pure bytes)) pays = absurd pays
+    go (Some (vector k is)) pays = absurd pays
+    go (Some (object now)) pays = record { coin = object_at version coin.owner now; is = refl; holds_now = pays.shows; content_is = pays.is_coin; low = pays.low }
     go None went =
-        let n = coin-like t coin balance went.0.item held went.1.1 in
-        let found = has-found b.placed went.0 coin.id went.1.0 went.1.1.0 (once went.0.item.id) in
+        let found = has-found b.placed went.0 coin.id went.1.0 went.1.1.same (once went.0.item.id) in
         record {
           coin = object_at version went.0.owner went.0.item;
           is = ap (option_map (λ (p : Placed). object_at version p.owner p.item)) found;
-          holds_now = n.0;
-          content_is = n.1;
+          holds_now = went.1.1.shows;
+          content_is = went.1.1.is_coin;
+          low = went.1.1.low;
         }
 
 -- ---- weights of coins that pay gas
@@ -123,25 +121,30 @@ module _ (f : Content → ℕ) (g : ℕ → ℕ) (additive : IsAdditive f g) whe
       back : balance ≡ (balance - t.budget) + t.budget
       back = omega (arith, enough)
 
-  rest-weight : (t : Transaction) (a : Option Object) (os : List Object) → IsGasLeft a → objects_weight f (with_rest_first t (cons_option a os)) ≡ objects_weight f (cons_option a os) + g (t.budget - cost t)
+  -- the rest goes back whole
+  rest-weight : (t : Transaction) (a : Option Object) (os : List Object) → IsGasLeft t a → objects_weight f (with_rest_first t (cons_option a os)) ≡ objects_weight f (cons_option a os) + g (t.budget - cost t)
   rest-weight t None os left = absurd (let is = left.is in cc)
   rest-weight t (Some o) os left =
       let same : o ≡ left.coin = back o left.is in
       let held : o.content ≡ content.Coin 0 left.holds_now = ap (λ (x : Object). x.content) same ∙ left.content_is in
-      let now : f (with_amount (amount_of o.content + (t.budget - cost t)) o.content) ≡ f (content.Coin 0 (left.holds_now + (t.budget - cost t))) = ap (λ (k : Content). f (with_amount (amount_of k + (t.budget - cost t)) k)) held in
+      let now : f (with_amount (min (amount_of o.content + (t.budget - cost t)) (amount_limit - 1)) o.content) ≡ f (content.Coin 0 (min (left.holds_now + (t.budget - cost t)) (amount_limit - 1))) = ap (λ (k : Content). f (with_amount (min (amount_of k + (t.budget - cost t)) (amount_limit - 1)) k)) held in
+      let unmet : f (content.Coin 0 (min (left.holds_now + (t.budget - cost t)) (amount_limit - 1))) ≡ f (content.Coin 0 (left.holds_now + (t.budget - cost t))) = ap (λ n. f (content.Coin 0 n)) (whole left.holds_now left.low) in
       let was : f o.content ≡ f (content.Coin 0 left.holds_now) = ap f held in
       let more = additive.adds left.holds_now (t.budget - cost t) in
-      omega (arith, now, was, more)
+      omega (arith, now, unmet, was, more)
     where
       back : (o : Object) → Some o ≡ Some left.coin → o ≡ left.coin
       back o e = cc
 
-  done-weight : (t : Transaction) (tx : Digest) (coin : Object) (os : List Object) (b : Block) (balance : ℕ) → coin.content ≡ content.Coin 0 balance → IsDone t tx (coin ∷ os) b → ((x : ObjectId) → times x (first_ids (written_places t (coin ∷ os))) + times x (drawn_ids tx b.made) ≤ 1)
+      whole : (n : ℕ) → n + t.budget < amount_limit → min (n + (t.budget - cost t)) (amount_limit - 1) ≡ n + (t.budget - cost t)
+      whole n low = omega (arith, low)
+
+  done-weight : (t : Transaction) (tx : Digest) (coin : Object) (os : List Object) (b : Block) → Every (Pays t coin.id b.placed) b.slots → IsDone t tx (coin ∷ os) b → ((x : ObjectId) → times x (first_ids (written_places t (coin ∷ os))) + times x (drawn_ids tx b.made) ≤ 1)
       → objects_weight f (done_objects t tx (coin ∷ os) b) + unwritten (holds f) t.inputs os ≡ block_weight (holds f) b + g (t.budget - cost t)
-  done-weight t tx coin os b balance held is apart =
+  done-weight t tx coin os b pays is apart =
       let version : ℕ = version_of (coin ∷ os) in
       let left = left-weight f t tx (version_of (coin ∷ os)) coin os b is apart in
-      let rest = rest-weight t (after_block (version_of (coin ∷ os)) b gas coin) (filter_map (λ (x : Place × Object). after_block (version_of (coin ∷ os)) b x.0 x.1) (written_inputs 0 t.inputs os)) (gas-left t tx (version_of (coin ∷ os)) coin os b balance held is once) in
+      let rest = rest-weight t (after_block (version_of (coin ∷ os)) b gas coin) (filter_map (λ (x : Place × Object). after_block (version_of (coin ∷ os)) b x.0 x.1) (written_inputs 0 t.inputs os)) (gas-left t (version_of (coin ∷ os)) coin b (gas-slot t tx coin os b is pays) once) in
       let both = objects-append f (with_rest_first t (filter_map (λ (x : Place × Object). after_block (version_of (coin ∷ os)) b x.0 x.1) (written_places t (coin ∷ os)))) (created_objects tx (version_of (coin ∷ os)) b) in
       omega (arith, left, rest, both)
     where
@@ -188,6 +191,12 @@ no-objects : (t : Transaction) → fits t [] ≡ true → ⊥
 unfolding fits
 no-objects t e = cc
 
+gas-pays : (t : Transaction) (coin : Object) (os : List Object) (b : Block) → MayRun t (coin ∷ os) → (balance : ℕ) × (coin.content ≡ content.Coin 0 balance) × (t.budget ≤ balance) → outcome t (transaction_digest t) (coin ∷ os) ≡ Ok b → Every (Pays t coin.id b.placed) b.slots
+gas-pays t coin os b may coin_is h =
+    let same = ap amount_of coin_is.1 in
+    let held = may.held in
+    ends t (transaction_digest t) coin os coin_is.0 b coin_is.1 coin_is.2 (omega (arith, same, held)) h
+
 weights-move : (t : Transaction) (objects : List Object) → MayRun t objects → (c : ℕ) →
     objects_weight (money_of c) (execution t objects).objects + gas_in c (execution t objects).effects.gas + objects_weight (supply_of c) (objects_before t objects) ≡ objects_weight (money_of c) (objects_before t objects) + objects_weight (supply_of c) (execution t objects).objects
 unfolding execution
@@ -203,11 +212,12 @@ weights-move t (coin ∷ os) may c = go (outcome t (transaction_digest t) (coin 
         omega (arith, moneys, supplies)
     go (Ok b) h apart coin_is enough =
         let is = done-is t (transaction_digest t) (coin ∷ os) b h in
+        let pays = gas-pays t coin os b may coin_is h in
         let ids = apart-of t coin os b may.fit apart in
         let money_then = start-weight (money_of c) (λ n. money_of c (content.Coin 0 n)) (money-adds c) t (transaction_digest t) coin os coin_is.0 coin_is.1 coin_is.2 in
-        let money_now = done-weight (money_of c) (λ n. money_of c (content.Coin 0 n)) (money-adds c) t (transaction_digest t) coin os b coin_is.0 coin_is.1 is ids in
+        let money_now = done-weight (money_of c) (λ n. money_of c (content.Coin 0 n)) (money-adds c) t (transaction_digest t) coin os b pays is ids in
         let supply_then = start-weight (supply_of c) (λ n. 0) (supply-adds c) t (transaction_digest t) coin os coin_is.0 coin_is.1 coin_is.2 in
-        let supply_now = done-weight (supply_of c) (λ n. 0) (supply-adds c) t (transaction_digest t) coin os b coin_is.0 coin_is.1 is ids in
+        let supply_now = done-weight (supply_of c) (λ n. 0) (supply-adds c) t (transaction_digest t) coin os b pays is ids in
         let sums = is.kept.sums c in
         let budget : money_of c (content.Coin 0 t.budget) ≡ money_of c (content.Coin 0 ((t.budget - cost t) + cost t)) = ap (λ n. money_of c (content.Coin 0 n)) back in
         let parts = (money-adds c).adds (t.budget - cost t) (cost t) in
@@ -239,9 +249,10 @@ caps-weight t (coin ∷ os) may c = go (outcome t (transaction_digest t) (coin �
         omega (arith, same)
     go (Ok b) h apart coin_is enough =
         let is = done-is t (transaction_digest t) (coin ∷ os) b h in
+        let pays = gas-pays t coin os b may coin_is h in
         let ids = apart-of t coin os b may.fit apart in
         let then = start-weight (caps_of c) (λ n. 0) (caps-adds c) t (transaction_digest t) coin os coin_is.0 coin_is.1 coin_is.2 in
-        let now = done-weight (caps_of c) (λ n. 0) (caps-adds c) t (transaction_digest t) coin os b coin_is.0 coin_is.1 is ids in
+        let now = done-weight (caps_of c) (λ n. 0) (caps-adds c) t (transaction_digest t) coin os b pays is ids in
         let same = is.kept.all_caps c in
         omega (arith, then, now, same)
 

@@ -7,6 +7,7 @@ pub mod Kept
 pub mod Steps
 pub mod Natives
 pub mod Blocks
+pub mod Payer
 pub mod Effects
 pub mod Sums
 pub mod Keeping

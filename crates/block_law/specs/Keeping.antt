@@ -1,5 +1,5 @@
 -- What a transaction keeps of each currency.
-use Rattle.std.specs.Prelude.{◌≡◌, ◌+◌, ℕ, false, true, List, map, None}
+use Rattle.std.specs.Prelude.{◌≡◌, ◌<◌, ◌+◌, ℕ, false, true, List, [], ◌∷◌, map, None}
 use Rattle.chain_types.specs.declared.objects.Object.{Object}
 use Rattle.chain_types.specs.declared.objects.Content.TheVariants as content
 use Rattle.chain_types.specs.declared.transactions.Transaction.{Transaction}
@@ -7,6 +7,7 @@ use Rattle.chain_types.specs.Equal.{id_eq}
 use Rattle.chain_spec.specs.Words.{repeats}
 use Rattle.chain_spec.specs.Keys.{fits, money_of, currency_sum}
 use Rattle.chain_spec.specs.Shape.{shape_fault}
+use Rattle.block_spec.specs.Natives.{amount_limit, amount_of}
 use Rattle.block_spec.specs.Block.{Place}
 use Rattle.block_spec.specs.Execution.{execution, written_places}
 use Rattle.block_law.specs.Money.{supply_sum, cap_count}
@@ -20,10 +21,16 @@ objects_before t objects = map (λ (x : Place × Object). x.1) (written_places t
 abbrev pub gas_in : ℕ → ℕ → ℕ
 gas_in currency price = money_of currency (content.Coin 0 price)
 
+-- the gas coin, which is the first object, holds an amount: less than 2 ^ 64, as each object of the code does
+abbrev pub GasIsAmount : List Object → Type 0
+GasIsAmount [] = Unit {0}
+GasIsAmount (coin ∷ others) = amount_of coin.content < amount_limit
+
 -- a transaction of valid shape, objects that fit it, and no drawn id that is another or a named one
 pub record MayRun (t : Transaction) (objects : List Object) : Type 0 where
   pub shape : shape_fault t ≡ None
   pub fit : fits t objects ≡ true
+  pub held : GasIsAmount objects
   pub apart : repeats id_eq (touched_ids t (execution t objects).effects) ≡ false
 
 -- of each currency, what coins and vaults hold moves with the supplies of its caps, and with the gas

@@ -1,6 +1,6 @@
 -- The execution of a transaction on the objects that fit it. Source: Sui documentation (programmable
 -- transaction blocks, gas); what a failed block writes is this profile's own.
-use Rattle.std.specs.Prelude.{ℕ, suc, ◌+◌, ◌-◌, Bool, true, false, List, [], ◌∷◌, ◌++◌, map, length, find, filter_map, Option, Some, None, option_map, Result, Ok, Err, if◌then◌else◌}
+use Rattle.std.specs.Prelude.{ℕ, suc, ◌+◌, ◌-◌, min, Bool, true, false, List, [], ◌∷◌, ◌++◌, map, length, find, filter_map, Option, Some, None, option_map, Result, Ok, Err, if◌then◌else◌}
 use Rattle.std.specs.List.{list_any}
 use Rattle.digest_core.specs.declared.Digest.{Digest}
 use Rattle.digest_core.specs.Tagged.{created_id_of}
@@ -23,7 +23,7 @@ use Rattle.chain_types.specs.Digests.{transaction_digest, digest_of_object}
 use Rattle.chain_spec.specs.Words.{numbers_below}
 use Rattle.chain_spec.specs.Keys.{version_of, object_key}
 use Rattle.chain_spec.specs.Shape.{cost}
-use Rattle.block_spec.specs.Natives.{amount_of, with_amount}
+use Rattle.block_spec.specs.Natives.{amount_limit, amount_of, with_amount}
 use Rattle.block_spec.specs.Block.{Place, gas, input, result, Value, pure, object, Slot, Block, value_in}
 use Rattle.block_spec.specs.Commands.{Fault, cause, abort, command_step, piece_of}
 
@@ -124,9 +124,11 @@ written_places t (coin ∷ os) = (gas, coin) ∷ written_inputs 0 t.inputs os
 abbrev pub created_objects : Digest → ℕ → Block → List Object
 created_objects tx version b = filter_map (λ n. left_in version b.placed (record { 0 = created_id_of tx n })) (numbers_below b.made)
 
--- at the end the budget less the cost goes back to the gas coin, whoever owns it then
+-- at the end the budget less the cost goes back to the gas coin, whoever owns it then, up to the largest amount
+-- that there is. A Merge counts the withheld budget, so the bound can be met only where another object has the
+-- gas coin's id: where ids are apart, the conservation of money shows that it is not
 abbrev pub with_rest : Transaction → Object → Object
-with_rest t o = record o { content = with_amount (amount_of o.content + (t.budget - cost t)) o.content }
+with_rest t o = record o { content = with_amount (min (amount_of o.content + (t.budget - cost t)) (amount_limit - 1)) o.content }
 
 abbrev pub with_rest_first : Transaction → List Object → List Object
 with_rest_first t [] = []

@@ -1,13 +1,12 @@
--- What a transaction of valid shape and objects that fit it give for its execution, and how the bound of
--- the rest may be left out.
-use Rattle.std.proofs.Common.{◌≡◌, ◌≤◌, ◌<◌, ◌+◌, ◌-◌, ℕ, zero, suc, Bool, true, false, ◌&&◌, length, get_or, min, List, [], ◌∷◌, ◌++◌, map, Option, Some, None, Result, Ok, Err, IfOk, refl, ap, sym, ◌∙◌, arith, add-one}
+-- What a transaction of valid shape and objects that fit it give for its execution.
+use Rattle.std.proofs.Common.{◌≡◌, ◌≤◌, ◌<◌, ◌+◌, ℕ, zero, suc, Bool, true, false, ◌&&◌, length, get_or, List, [], ◌∷◌, ◌++◌, map, Option, Some, None, Result, Ok, Err, IfOk, refl, ap, ◌∙◌, arith, add-one}
 use Rattle.std.specs.Prelude.{nat_lt}
 use Rattle.std.specs.List.{list_any}
 use Rattle.std.proofs.lemmas.Bool.{ltb-false, ltb-true}
 use Rattle.digest_core.specs.declared.Digest.{Digest}
 use Rattle.chain_types.specs.declared.objects.Object.{Object}
 use Rattle.chain_types.specs.declared.transactions.Transaction.{Transaction}
-use Rattle.chain_types.specs.Digests.{lamport_version, transaction_digest}
+use Rattle.chain_types.specs.Digests.{lamport_version}
 use Rattle.chain_types.specs.declared.objects.ObjectId.{ObjectId}
 use Rattle.effects_core.specs.declared.effects.Status.{Status}
 use Rattle.effects_core.specs.declared.effects.Status.TheVariants as status
@@ -16,9 +15,8 @@ use Rattle.wire_bcs.specs.declared.seq.OutOfMemory.{OutOfMemory}
 use Rattle.chain_spec.specs.Keys.{fit_inputs, fits, objects_of, pays_gas, version_limit, version_of}
 use Rattle.chain_spec.specs.Shape.{is_empty_list, is_no_native, shape_cases, shape_fault}
 use Rattle.chain_spec.specs.Words.{first_some, where_true}
-use Rattle.block_spec.specs.Natives.{amount_limit, with_amount}
 use Rattle.block_spec.specs.Block as block
-use Rattle.block_spec.specs.Execution.{Failure, created_objects, deleted_ids, executed_as, executed_by, execution, failed_objects, failed_status, less_cost_first, outcome, with_rest_first, written_places}
+use Rattle.block_spec.specs.Execution.{Failure, executed_as, executed_by, failed_objects, failed_status, less_cost_first, with_rest_first, written_places}
 use Rattle.ptb_run.specs.Outcomes.{is_wide}
 use Rattle.ptb_run.specs.Versions.{greatest_version}
 use Rattle.ptb_run.specs.declared.written.Moved.{Moved}
@@ -26,7 +24,6 @@ use Rattle.ptb_run.specs.Written.{moved_of}
 use Rattle.ptb_run.specs.Left.{Left, firsts_after}
 use Rattle.ptb_run.specs.Remains.{created_below, gone_after, kept_after, same_after}
 use Rattle.ptb_run.proofs.Remaining.{deleted_are, done_are, failed_are}
-use Rattle.ptb_run.specs.Bounded.{bounded_by, bounded_execution, bounded_rest_first, can_hold, kept_objects, rest_fits, rest_fits_in, sum_with_rest}
 
 -- where there is no fault, no case has one
 none_at : (cases : List (Option ℕ)) (place : ℕ) → first_some cases ≡ None → get_or cases place None ≡ None
@@ -77,27 +74,6 @@ version_is objects g e = add-one g ∙ ap suc e
 pub version_low : (objects : List Object) (g : ℕ) → g ≡ greatest_version objects → nat_lt (version_of objects) version_limit ≡ true → g < 4611686018427387904
 version_low objects g e low = let at = version_is objects g e in let below = ltb-true (version_of objects) version_limit low in omega arith
 
-same_first : (t : Transaction) (objects : List Object) → can_hold t objects ≡ true → bounded_rest_first t objects ≡ with_rest_first t objects
-same_first t [] e = refl
-same_first t (coin ∷ os) e =
-    let below = ltb-true (sum_with_rest t coin) amount_limit e in
-    let same : min (sum_with_rest t coin) (amount_limit - 1) ≡ sum_with_rest t coin = omega arith in
-    ap (λ (n : ℕ). (let o : Object = record coin { content = with_amount n coin.content } in o) ∷ os) same
-
-same_by : (t : Transaction) (tx : Digest) (objects : List Object) (says : Result block.Block Failure) → rest_fits_in t objects says ≡ true → bounded_by t tx objects says ≡ executed_by t tx objects says
-same_by t tx objects (Ok b) e =
-    ap (λ (l : List Object). executed_as t tx (version_of objects) status.Done b.made (l ++ created_objects tx (version_of objects) b) (deleted_ids t objects b)) (same_first t (kept_objects t objects b) e)
-same_by t tx objects (Err failure) e = refl
-
-pub bound_unmet : (t : Transaction) (objects : List Object) → rest_fits t objects ≡ true → bounded_execution t objects ≡ execution t objects
-unfolding bounded_execution execution rest_fits
-bound_unmet t objects e = same_by t (transaction_digest t) objects (outcome t (transaction_digest t) objects) e
-
-pub unbounded : (t : Transaction) (objects : List Object) (r : Result Executed OutOfMemory)
-    → IfOk r (λ executed. executed ≡ bounded_execution t objects) → IfOk r (λ executed. rest_fits t objects ≡ true → executed ≡ execution t objects)
-unbounded t objects (Ok x) is = λ met. is ∙ bound_unmet t objects met
-unbounded t objects (Err e) is = is
-
 -- what is executed as the code puts it together is what is executed as the definition has it
 same_as : (t : Transaction) (tx : Digest) (how : Status) (made : ℕ) (version after : ℕ) (os others : List Object) (ids gone : List ObjectId)
     → version ≡ after → os ≡ others → ids ≡ gone → executed_as t tx version how made os ids ≡ executed_as t tx after how made others gone
@@ -106,8 +82,8 @@ same_as t tx how made version after os others ids gone e f g =
 
 pub executed_as_done : (t : Transaction) (tx : Digest) (objects : List Object) (b : block.Block) (r : Result Executed OutOfMemory) (version made : ℕ) (os : List Object) (ids : List ObjectId) (left : Left) (ms : List Moved)
     → IfOk r (λ x. x ≡ executed_as t tx version status.Done made os ids) → made ≡ b.made
-    → os ≡ bounded_rest_first t (kept_after version left b [] ms) ++ created_below tx version left b.made → ids ≡ gone_after version left b [] ms
-    → left ≡ firsts_after [] b.placed → map moved_of ms ≡ written_places t objects → version ≡ version_of objects → IfOk r (λ x. x ≡ bounded_by t tx objects (Ok b))
+    → os ≡ with_rest_first t (kept_after version left b [] ms) ++ created_below tx version left b.made → ids ≡ gone_after version left b [] ms
+    → left ≡ firsts_after [] b.placed → map moved_of ms ≡ written_places t objects → version ≡ version_of objects → IfOk r (λ x. x ≡ executed_by t tx objects (Ok b))
 executed_as_done t tx objects b (Err e) version made os ids left ms is be oe ie le me ve = is
 executed_as_done t tx objects b (Ok x) version made os ids left ms is be oe ie le me ve =
     is
@@ -116,7 +92,7 @@ executed_as_done t tx objects b (Ok x) version made os ids left ms is be oe ie l
 
 pub executed_as_failed : (t : Transaction) (tx : Digest) (objects : List Object) (failure : Failure) (r : Result Executed OutOfMemory) (version : ℕ) (how : Status) (os : List Object) (none : List ObjectId) (ms : List Moved)
     → IfOk r (λ x. x ≡ executed_as t tx version how 0 os none) → how ≡ failed_status failure → none ≡ [] → os ≡ less_cost_first t (same_after version [] ms)
-    → map moved_of ms ≡ written_places t objects → version ≡ version_of objects → IfOk r (λ x. x ≡ bounded_by t tx objects (Err failure))
+    → map moved_of ms ≡ written_places t objects → version ≡ version_of objects → IfOk r (λ x. x ≡ executed_by t tx objects (Err failure))
 executed_as_failed t tx objects failure (Err e) version how os none ms is he ne oe me ve = is
 executed_as_failed t tx objects failure (Ok x) version how os none ms is he ne oe me ve =
     is

@@ -4,7 +4,6 @@ use Rattle.std.specs.Prelude.{bytes_eq, find}
 use Rattle.std.specs.Map.{lookup}
 use Rattle.std.proofs.lemmas.Slice.Eq.{bytes_eq-Decides}
 use Rattle.chain_types.specs.declared.objects.ObjectId.{ObjectId}
-use Rattle.chain_types.specs.declared.objects.Object.{Object}
 use Rattle.chain_types.specs.Equal.{id_eq}
 use Rattle.block_types.specs.declared.pieces.Item.{Item}
 use Rattle.block_types.specs.declared.pieces.Placed.{Placed}

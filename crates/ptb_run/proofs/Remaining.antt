@@ -13,13 +13,12 @@ use Rattle.block_types.specs.declared.pieces.Placed.{Placed}
 use Rattle.chain_spec.specs.Keys.{version_of}
 use Rattle.chain_spec.specs.Words.{numbers_below}
 use Rattle.block_spec.specs.Block as block
-use Rattle.block_spec.specs.Execution.{after_block, created_objects, deleted_id, deleted_ids, failed_objects, is_none_left, left_in, less_cost_first, same_object, written_of, written_places}
+use Rattle.block_spec.specs.Execution.{after_block, deleted_id, deleted_ids, done_objects, failed_objects, is_none_left, left_in, less_cost_first, same_object, with_rest_first, written_of, written_places}
 use Rattle.ptb_run.specs.declared.written.Moved.{Moved}
 use Rattle.ptb_run.specs.Values.{spot_of}
 use Rattle.ptb_run.specs.Written.{moved_of}
-use Rattle.ptb_run.specs.Left.{Left, firsts_after, moved_now, object_left}
+use Rattle.ptb_run.specs.Left.{Left, firsts_after, moved_now}
 use Rattle.ptb_run.specs.Remains.{created_below, gone_after, kept_after, listed_after, same_after, with_gone, with_object}
-use Rattle.ptb_run.specs.Bounded.{bounded_done, bounded_rest_first, kept_objects}
 use Rattle.ptb_run.proofs.FirstLeft.{same_left, same_now}
 
 abbrev now_of : ℕ → block.Block → (block.Place × Object) → Option Object
@@ -67,13 +66,13 @@ created_from tx version placed (suc n) =
 
 pub done_are : (t : Transaction) (tx : Digest) (objects : List Object) (b : block.Block) (version : ℕ) (left : Left) (ms : List Moved)
     → version ≡ version_of objects → left ≡ firsts_after [] b.placed → map moved_of ms ≡ written_places t objects
-    → bounded_rest_first t (kept_after version left b [] ms) ++ created_below tx version left b.made ≡ bounded_done t tx objects b
+    → with_rest_first t (kept_after version left b [] ms) ++ created_below tx version left b.made ≡ done_objects t tx objects b
 done_are t tx objects b version left ms at is are =
-    ap (λ (v : ℕ). bounded_rest_first t (kept_after v left b [] ms) ++ created_below tx v left b.made) at
-    ∙ ap (λ (l : Left). bounded_rest_first t (kept_after (version_of objects) l b [] ms) ++ created_below tx (version_of objects) l b.made) is
-    ∙ ap (λ (l : List Object). bounded_rest_first t l ++ created_below tx (version_of objects) (firsts_after [] b.placed) b.made)
+    ap (λ (v : ℕ). with_rest_first t (kept_after v left b [] ms) ++ created_below tx v left b.made) at
+    ∙ ap (λ (l : Left). with_rest_first t (kept_after (version_of objects) l b [] ms) ++ created_below tx (version_of objects) l b.made) is
+    ∙ ap (λ (l : List Object). with_rest_first t l ++ created_below tx (version_of objects) (firsts_after [] b.placed) b.made)
     (kept_from (version_of objects) b [] ms ∙ ap (λ (l : List (block.Place × Object)). filter_map (now_of (version_of objects) b) l) are)
-    ∙ ap (λ (l : List Object). bounded_rest_first t (kept_objects t objects b) ++ l) (created_from tx (version_of objects) b.placed b.made)
+    ∙ ap (λ (l : List Object). with_rest_first t (filter_map (now_of (version_of objects) b) (written_places t objects)) ++ l) (created_from tx (version_of objects) b.placed b.made)
 
 pub deleted_are : (t : Transaction) (objects : List Object) (b : block.Block) (version : ℕ) (left : Left) (ms : List Moved)
     → version ≡ version_of objects → left ≡ firsts_after [] b.placed → map moved_of ms ≡ written_places t objects → gone_after version left b [] ms ≡ deleted_ids t objects b

@@ -13,4 +13,3 @@ pub mod Ends
 pub mod Written
 pub mod Left
 pub mod Remains
-pub mod Bounded

@@ -2,12 +2,11 @@
 
 ghost use Rattle.std.specs.Prelude.{◌≡◌, ◌≤◌, ◌∷◌, None, Ok, Err, IfOk, length, nat_lt, true, false};
 ghost use Rattle.std.specs.List.{list_any};
-ghost use Rattle.block_spec.specs.Execution.{executed_as, execution, failed_status, outcome};
+ghost use Rattle.block_spec.specs.Execution.{executed_as, executed_by, execution, failed_status, outcome};
 ghost use Rattle.chain_spec.specs.Keys.{fits, version_limit, version_of};
 ghost use Rattle.chain_spec.specs.Shape.{is_empty_list, is_no_native, shape_fault};
 ghost use Rattle.chain_types.specs.Digests.{transaction_digest};
 ghost use Rattle.ptb_run.specs.Blocks.{block_of};
-ghost use Rattle.ptb_run.specs.Bounded.{bounded_by, bounded_execution, rest_fits};
 ghost use Rattle.ptb_run.specs.Outcomes.{fault_of, is_wide};
 
 use crate::block::Block;
@@ -75,7 +74,7 @@ fn executed_done(
     requires commands { length tx.now.commands ≤ 1024 }
     requires inputs { length tx.now.inputs ≤ 256 }
     requires version { site.now.version ≡ version_of (gas.now ∷ others.now) }
-    ensures { IfOk result (λ executed. executed ≡ bounded_by tx.now site.now.tx (gas.now ∷ others.now) (Ok (block_of block.now))) }
+    ensures { IfOk result (λ executed. executed ≡ executed_by tx.now site.now.tx (gas.now ∷ others.now) (Ok (block_of block.now))) }
 {
     let moved = written_places(alloc, tx, gas, others)?;
     let left = firsts_of(alloc, block.placed.as_slice())?;
@@ -105,7 +104,7 @@ fn executed_failed(
     requires commands { length tx.now.commands ≤ 1024 }
     requires inputs { length tx.now.inputs ≤ 256 }
     requires version { site.now.version ≡ version_of (gas.now ∷ others.now) }
-    ensures { IfOk result (λ executed. executed ≡ bounded_by tx.now site.now.tx (gas.now ∷ others.now) (Err (command, fault_of fault))) }
+    ensures { IfOk result (λ executed. executed ≡ executed_by tx.now site.now.tx (gas.now ∷ others.now) (Err (command, fault_of fault))) }
 {
     let moved = written_places(alloc, tx, gas, others)?;
     let objects = failed_objects(alloc, tx, site.version, moved.as_slice())?;
@@ -126,7 +125,7 @@ fn run_block(
     requires commands { length tx.now.commands ≤ 1024 }
     requires inputs { length tx.now.inputs ≤ 256 }
     requires version { site.now.version ≡ version_of (gas.now ∷ others.now) }
-    ensures { IfOk result (λ executed. executed ≡ bounded_by tx.now site.now.tx (gas.now ∷ others.now) (outcome tx.now site.now.tx (gas.now ∷ others.now))) }
+    ensures { IfOk result (λ executed. executed ≡ executed_by tx.now site.now.tx (gas.now ∷ others.now) (outcome tx.now site.now.tx (gas.now ∷ others.now))) }
 {
     match outcome(alloc, tx, site, gas, others) {
         Ok(block) => executed_done(alloc, tx, site, gas, others, &block),
@@ -150,7 +149,7 @@ fn run_objects(
     requires inputs { length tx.now.inputs ≤ 256 }
     requires version { site.now.version ≡ version_of objects.now }
     requires some { is_empty_list objects.now ≡ false }
-    ensures { IfOk result (λ executed. executed ≡ bounded_by tx.now site.now.tx objects.now (outcome tx.now site.now.tx objects.now)) }
+    ensures { IfOk result (λ executed. executed ≡ executed_by tx.now site.now.tx objects.now (outcome tx.now site.now.tx objects.now)) }
 {
     match objects {
         [gas, others @ ..] => run_block(alloc, tx, site, gas, others),
@@ -172,7 +171,7 @@ fn site_of(digest: &Digest, objects: &[Object]) -> Site
 }
 
 /// What is executed on the objects that fit.
-#[tactic(auto, unfolding(crate::specs::Bounded::bounded_execution), using(crate::proofs::Executing::few_commands, crate::proofs::Executing::few_inputs, crate::proofs::Executing::known_natives, crate::proofs::Executing::none_wide, crate::proofs::Executing::fits_low, crate::proofs::Executing::fits_some))]
+#[tactic(auto, unfolding(block_spec::specs::Execution::execution), using(crate::proofs::Executing::few_commands, crate::proofs::Executing::few_inputs, crate::proofs::Executing::known_natives, crate::proofs::Executing::none_wide, crate::proofs::Executing::fits_low, crate::proofs::Executing::fits_some))]
 fn execute_fitting(
     alloc: Global,
     tx: &Transaction,
@@ -182,7 +181,7 @@ fn execute_fitting(
     requires shape { shape_fault tx.now ≡ None }
     requires fit { fits tx.now objects.now ≡ true }
     requires digest { digest.now ≡ transaction_digest tx.now }
-    ensures { IfOk result (λ executed. executed ≡ bounded_execution tx.now objects.now) }
+    ensures { IfOk result (λ executed. executed ≡ execution tx.now objects.now) }
 {
     let site = site_of(digest, objects);
     run_objects(alloc, tx, &site, objects)
@@ -190,10 +189,7 @@ fn execute_fitting(
 
 /// The effects of a transaction of valid shape on the objects that fit it, and the objects that it
 /// writes; `digest` is the transaction's (Sui documentation, programmable transaction blocks). What
-/// fails in the block is told by the status, and the only error is that memory is refused. The result
-/// is the definition's execution wherever the gas coin can hold the rest of the budget, and in every
-/// case the same with that sum stopping at 2^64 - 1.
-#[tactic(auto, using(crate::proofs::Executing::unbounded))]
+/// fails in the block is told by the status, and the only error is that memory is refused.
 pub fn execute(
     alloc: Global,
     tx: &Transaction,
@@ -203,8 +199,7 @@ pub fn execute(
     requires shape { shape_fault tx.now ≡ None }
     requires fit { fits tx.now inputs.now ≡ true }
     requires digest { digest.now ≡ transaction_digest tx.now }
-    ensures bounded { IfOk result (λ executed. executed ≡ bounded_execution tx.now inputs.now) }
-    ensures executed { IfOk result (λ executed. rest_fits tx.now inputs.now ≡ true → executed ≡ execution tx.now inputs.now) }
+    ensures { IfOk result (λ executed. executed ≡ execution tx.now inputs.now) }
 {
     execute_fitting(alloc, tx, digest, inputs.as_slice())
 }

@@ -1,10 +1,9 @@
 //! The objects that a block leaves.
 
 ghost use Rattle.std.specs.Prelude.{◌≡◌, ◌≤◌, ◌++◌, ◌∷◌, [], IfOk, length, map};
-ghost use Rattle.block_spec.specs.Execution.{less_cost, less_cost_first, same_object, written_of};
+ghost use Rattle.block_spec.specs.Execution.{less_cost, less_cost_first, same_object, with_rest, with_rest_first, written_of};
 ghost use Rattle.chain_spec.specs.Shape.{cost};
 ghost use Rattle.ptb_run.specs.Blocks.{block_of};
-ghost use Rattle.ptb_run.specs.Bounded.{bounded_rest, bounded_rest_first};
 ghost use Rattle.ptb_run.specs.Remains.{created_below, gone_after, kept_after, listed_after, same_after};
 
 use crate::block::Block;
@@ -151,7 +150,7 @@ pub(crate) fn cost(tx: &Transaction) -> u64
 /// The gas coin with the rest of the budget, up to the largest amount.
 fn with_rest(tx: &Transaction, coin: &Object) -> Object
     requires { length tx.now.commands ≤ 1024 }
-    ensures { result ≡ bounded_rest tx.now coin.now }
+    ensures { result ≡ with_rest tx.now coin.now }
 {
     let rest = tx.budget.saturating_sub(cost(tx));
     let amount = amount_of(&coin.content).saturating_add(rest);
@@ -166,7 +165,7 @@ fn with_rest(tx: &Transaction, coin: &Object) -> Object
 /// Gives the rest of the budget back to the first object.
 fn return_rest(tx: &Transaction, objects: &mut Seq<Object>)
     requires { length tx.now.commands ≤ 1024 }
-    ensures { objects.new ≡ bounded_rest_first tx.now objects.old }
+    ensures { objects.new ≡ with_rest_first tx.now objects.old }
 {
     match objects.as_slice() {
         [coin, ..] => {
@@ -216,7 +215,7 @@ pub(crate) fn done_objects(
     moved: &[Moved],
 ) -> Result<Seq<Object>, OutOfMemory>
     requires { length tx.now.commands ≤ 1024 }
-    ensures { IfOk result (λ objects. objects ≡ bounded_rest_first tx.now (kept_after site.now.version left.now.entries (block_of block.now) [] moved.now) ++ created_below site.now.tx site.now.version left.now.entries (block_of block.now).made) }
+    ensures { IfOk result (λ objects. objects ≡ with_rest_first tx.now (kept_after site.now.version left.now.entries (block_of block.now) [] moved.now) ++ created_below site.now.tx site.now.version left.now.entries (block_of block.now).made) }
 {
     let mut objects = keep_each(alloc, site.version, left, block, moved)?;
     return_rest(tx, &mut objects);

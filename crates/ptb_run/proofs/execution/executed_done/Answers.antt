@@ -1,10 +1,10 @@
-use Rattle.std.proofs.Common.{◌≡◌, List, [], ◌∷◌, ◌++◌, ap, ◌∙◌}
+use Rattle.std.proofs.Common.{List, [], ◌∷◌, ◌++◌, ap, ◌∙◌}
 use Rattle.block_types.specs.declared.pieces.Placed.{Placed}
+use Rattle.block_spec.specs.Execution.{with_rest_first}
 use Rattle.ptb_run.specs.declared.written.Moved.{Moved}
 use Rattle.ptb_run.specs.Blocks.{block_of}
 use Rattle.ptb_run.specs.Left.{firsts_after}
 use Rattle.ptb_run.specs.Remains.{created_below, gone_after, kept_after}
-use Rattle.ptb_run.specs.Bounded.{bounded_rest_first}
 use Rattle.ptb_run.proofs.Executing.{executed_as_done}
 use Rattle.ptb_run.proofs.execution.executed_done.Goals as goal
 
@@ -16,7 +16,7 @@ returns c =
     c.executed_as.ensures
     c.made.ensures
     (c.in_ok-objects.ensures
-    ∙ ap (λ (l : List Moved). bounded_rest_first c.args.tx.now (kept_after c.args.site.now.version c.in_ok-left.left.entries (block_of c.args.block.now) [] l)
+    ∙ ap (λ (l : List Moved). with_rest_first c.args.tx.now (kept_after c.args.site.now.version c.in_ok-left.left.entries (block_of c.args.block.now) [] l)
     ++ created_below c.args.site.now.tx c.args.site.now.version c.in_ok-left.left.entries (block_of c.args.block.now).made)
     c.as_slice-2.ensures.value)
     (c.in_ok-deleted.ensures ∙ ap (λ (l : List Moved). gone_after c.args.site.now.version c.in_ok-left.left.entries (block_of c.args.block.now) [] l) c.as_slice-3.ensures.value)

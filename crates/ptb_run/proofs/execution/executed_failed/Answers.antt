@@ -1,4 +1,4 @@
-use Rattle.std.proofs.Common.{◌≡◌, List, [], ◌∷◌, ap, ◌∙◌}
+use Rattle.std.proofs.Common.{List, [], ◌∷◌, ap, ◌∙◌}
 use Rattle.block_spec.specs.Execution.{less_cost_first}
 use Rattle.ptb_run.specs.declared.written.Moved.{Moved}
 use Rattle.ptb_run.specs.Outcomes.{fault_of}
