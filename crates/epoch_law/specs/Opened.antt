@@ -1,0 +1,33 @@
+-- The objects with which honest members open their epochs.
+use Rattle.std.specs.Prelude.{◌≡◌, ◌<◌, ℕ, true, List, ◌++◌, slice_get, Some}
+use Rattle.chain_messages.specs.declared.messages.Entry.{Entry}
+use Rattle.schedule_text.specs.declared.words.Event.{Event}
+use Rattle.member_spec.specs.Member.{Member}
+use Rattle.world_spec.specs.Setting.{Setting}
+use Rattle.world_spec.specs.World.{Seat, World, member_in}
+use Rattle.world_spec.specs.Openings.{sequence_of, opening_at}
+use Rattle.world_spec.specs.Run.{world_after}
+use Rattle.world_spec.specs.Assumptions.{IsHonestRun}
+use Rattle.chain_law.specs.Orderly.{AreApart}
+
+-- the sequence of the epoch ends it, for a member that opened it with what the epochs before left
+abbrev pub IsEnded : Setting → List (List Entry) → ℕ → Type 0
+IsEnded s sequences epoch = (sequence_of s sequences epoch (opening_at s sequences epoch)).ended ≡ true
+
+-- The member opened its epoch with the objects that one thread leaves that executes the checkpointed transactions of the
+-- epochs before, one epoch after the other; and each of those epochs has ended.
+pub record OpensAsLeft (s : Setting) (sequences : List (List Entry)) (m : Member) : Type 0 where
+  pub opening : m.opening ≡ opening_at s sequences m.epoch
+  pub ended : (epoch : ℕ) → epoch < m.epoch → IsEnded s sequences epoch
+
+-- every member does, in every run under the run assumptions, from a set-up with objects of different ids
+abbrev pub EveryOpening : Type 0
+EveryOpening = (s : Setting) (events : List Event) → IsHonestRun s events → AreApart s.opening
+    → (m : ℕ) (seat : Seat) → slice_get (world_after s events).seats m ≡ Some seat
+    → OpensAsLeft s (world_after s events).sequences (member_in s seat)
+
+-- so two members of one epoch opened it with equal objects, at whatever two moments of the run
+abbrev pub OpenedAlike : Type 0
+OpenedAlike = (s : Setting) (front back : List Event) → IsHonestRun s (front ++ back) → AreApart s.opening
+    → (m n : ℕ) (a b : Seat) → slice_get (world_after s front).seats m ≡ Some a → slice_get (world_after s (front ++ back)).seats n ≡ Some b
+    → (member_in s a).epoch ≡ (member_in s b).epoch → (member_in s a).opening ≡ (member_in s b).opening
