@@ -1,7 +1,6 @@
 -- Every member opens each epoch with what the epochs before left: line by line of a run, whose fronts are honest too.
 use Rattle.std.proofs.Common.{refl, sym, subst, ap, ◌∙◌, arith, append_assoc, append-nil}
-use Rattle.std.specs.Prelude.{◌≡◌, ℕ, zero, suc, min, Bool, true, false, List, [], ◌∷◌, ◌++◌, map, slice_get, Option, Some, None, option_map, option_and_then, if◌then◌else◌}
-use Rattle.chain_types.specs.declared.objects.Object.{Object}
+use Rattle.std.specs.Prelude.{◌≡◌, ℕ, zero, suc, min, Bool, true, false, List, [], ◌∷◌, ◌++◌, slice_get, Option, Some, None, option_map, option_and_then}
 use Rattle.chain_messages.specs.declared.messages.Certificate.{Certificate}
 use Rattle.chain_messages.specs.declared.messages.Entry.{Entry}
 use Rattle.journal_core.specs.declared.records.Record.{Record}
@@ -10,7 +9,7 @@ use Rattle.schedule_text.specs.declared.words.Event.{Event}
 use Rattle.schedule_text.specs.declared.words.Event.TheVariants as event
 use Rattle.chain_spec.specs.Words.{Each}
 use Rattle.member_spec.specs.Member.{Member, after, state}
-use Rattle.member_spec.specs.Calls.{Call, votes, holds, sees, runs, closes, ends, turns, acks, due}
+use Rattle.member_spec.specs.Calls.{Call, turns, due}
 use Rattle.world_spec.specs.Setting.{Setting}
 use Rattle.world_spec.specs.World.{Seat, Made, World, Reached, finds_down, stops, answers, new_world, member_in, reached_seat, stopped_seat, appended, behind, called_seat, called_in, called_if, state_of, next_call_of, next_call, next_entry, numbered_call, entries_at, member_at}
 use Rattle.world_spec.specs.Names.{made_named, cert_named}
@@ -24,7 +23,7 @@ use Rattle.one_owner_law.proofs.Grown.{world-append}
 use Rattle.one_owner_law.proofs.Fronts.{honest-front}
 use Rattle.agreement_law.proofs.Growth.{Grown, grown-same, front-then, grows-line}
 use Rattle.agreement_law.proofs.InSequences.{each-map}
-use Rattle.agreement_law.proofs.Appends.{Appended, a_turn, appended_as, appended_by, due-appends}
+use Rattle.agreement_law.proofs.Appends.{a_turn, appended_as, appended_by, due-appends}
 use Rattle.chain_law.specs.Orderly.{AreApart}
 use Rattle.epoch_law.specs.Opened.{OpensAsLeft}
 use Rattle.epoch_law.proofs.Ended.{more-left, same-opening}

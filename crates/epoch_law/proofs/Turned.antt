@@ -1,10 +1,9 @@
 -- A member turns where its epoch has ended and all that it admitted is done; it opens the next epoch with what one thread
 -- leaves.
 use Rattle.std.proofs.Common.{inl, inr, refl, sym, subst, ap, ◌∙◌, arith}
-use Rattle.std.specs.Prelude.{◌≡◌, ◌⊎◌, ◌<◌, ◌+◌, ℕ, zero, suc, Bool, true, false, ◌&&◌, List, [], ◌∷◌, ◌++◌, map, flat_map, slice_get, Option, Some, None, Result, Ok, Err}
+use Rattle.std.specs.Prelude.{◌≡◌, ◌⊎◌, ◌<◌, ◌+◌, ℕ, zero, suc, Bool, true, List, [], ◌∷◌, ◌++◌, map, flat_map, slice_get, Option, Some, None}
 use Rattle.std.specs.FinMap.{values}
 use Rattle.std.specs.List.{list_all}
-use Rattle.digest_core.specs.declared.Digest.{Digest}
 use Rattle.chain_types.specs.declared.objects.Object.{Object}
 use Rattle.chain_types.specs.declared.transactions.Transaction.{Transaction}
 use Rattle.chain_messages.specs.declared.messages.Entry.{Entry}
@@ -17,7 +16,7 @@ use Rattle.schedule_text.specs.declared.words.Event.{Event}
 use Rattle.chain_spec.specs.Words.{Has, Each, IsFront, first_some, unless_refused}
 use Rattle.chain_spec.specs.Certificates.{Rules}
 use Rattle.member_spec.specs.Admission.{Admitted}
-use Rattle.member_spec.specs.Sequence.{Cut, Sequence, seen}
+use Rattle.member_spec.specs.Sequence.{Cut, Sequence}
 use Rattle.member_spec.specs.Checkpoints.{is_done}
 use Rattle.member_spec.specs.Sequential.{map_of, fold_all}
 use Rattle.member_spec.specs.Member.{Member, turned, after}
