@@ -14,7 +14,7 @@ use Rattle.world_spec.specs.Setting.{Setting}
 use Rattle.world_spec.specs.World.{entries_at}
 use Rattle.world_spec.specs.Openings.{checkpointed, sequence_of, opening_at}
 use Rattle.agreement_law.proofs.Growth.{Grown}
-use Rattle.epoch_law.specs.Opened.{IsEnded, OpensAsLeft}
+use Rattle.epoch_law.specs.Opened.{IsOver, IsPast, OpensAsLeft}
 
 module _ (r : Rules) (opening : List Object) (epoch : ℕ) where
   saw-ended : (q : Sequence) (bytes : List ℕ) → q.ended ≡ true → saw r opening epoch q bytes ≡ q
@@ -44,27 +44,29 @@ module _ (r : Rules) (opening : List Object) (epoch : ℕ) where
       ∙ fold-ended (fold (saw r opening epoch) nothing_seen (map messages.entry.spell front)) rest ended
 
 module _ (s : Setting) (old new : List (List Entry)) (grown : Grown old new) where
-  same-sequence : (epoch : ℕ) → IsEnded s old epoch → opening_at s new epoch ≡ opening_at s old epoch → sequence_of s new epoch (opening_at s new epoch) ≡ sequence_of s old epoch (opening_at s old epoch)
-  same-sequence epoch ended same =
+  same-sequence : (epoch : ℕ) → IsPast s old epoch → opening_at s new epoch ≡ opening_at s old epoch → sequence_of s new epoch (opening_at s new epoch) ≡ sequence_of s old epoch (opening_at s old epoch)
+  same-sequence epoch past same =
       ap (sequence_of s new epoch) same
-      ∙ seen-ended s.rules (opening_at s old epoch) epoch (entries_at old epoch) (entries_at new epoch) (grown epoch) ended
+      ∙ seen-ended s.rules (opening_at s old epoch) epoch (entries_at old epoch) (entries_at new epoch) (grown epoch) past.ended
 
-  pub same-opening : (epoch : ℕ) → ((e : ℕ) → e < epoch → IsEnded s old e) → opening_at s new epoch ≡ opening_at s old epoch
+  pub same-opening : (epoch : ℕ) → ((e : ℕ) → e < epoch → IsPast s old e) → opening_at s new epoch ≡ opening_at s old epoch
   unfolding opening_at
-  same-opening zero ended = refl
-  same-opening (suc epoch) ended =
-      let before = same-opening epoch (λ e less. ended e (omega (arith, less))) in
-      let given = same-sequence epoch (ended epoch (omega arith)) before in
+  same-opening zero past = refl
+  same-opening (suc epoch) past =
+      let before = same-opening epoch (λ e less. past e (omega (arith, less))) in
+      let given = same-sequence epoch (past epoch (omega arith)) before in
       ap (λ (os : List Object). values (fold_all (map_of os) (checkpointed (sequence_of s new epoch (opening_at s new epoch)))).map) before
       ∙ ap (λ (q : Sequence). values (fold_all (map_of (opening_at s old epoch)) (checkpointed q)).map) given
 
-  still-ended : (epoch : ℕ) → ((e : ℕ) → e < suc epoch → IsEnded s old e) → IsEnded s new epoch
-  still-ended epoch ended =
-      subst (λ (q : Sequence). q.ended ≡ true)
-      (sym (same-sequence epoch (ended epoch (omega arith)) (same-opening epoch (λ e less. ended e (omega (arith, less)))))) (ended epoch (omega arith))
+  still-past : (epoch : ℕ) → ((e : ℕ) → e < suc epoch → IsPast s old e) → IsPast s new epoch
+  still-past epoch past =
+      let before = same-opening epoch (λ e less. past e (omega (arith, less))) in
+      let given = same-sequence epoch (past epoch (omega arith)) before in
+      subst (IsOver (opening_at s new epoch)) (sym given)
+      (subst (λ (os : List Object). IsOver os (sequence_of s old epoch (opening_at s old epoch))) (sym before) (past epoch (omega arith)))
 
   pub more-left : (m : Member) → OpensAsLeft s old m → OpensAsLeft s new m
   more-left m left = record {
-    opening = left.opening ∙ sym (same-opening m.epoch left.ended);
-    ended = λ epoch less. still-ended epoch (λ e below. left.ended e (omega (arith, less, below)));
+    opening = left.opening ∙ sym (same-opening m.epoch left.past);
+    past = λ epoch less. still-past epoch (λ e below. left.past e (omega (arith, less, below)));
   }

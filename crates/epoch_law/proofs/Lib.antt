@@ -1,3 +1,4 @@
 pub mod Ended
+pub mod Following
 pub mod Turned
 pub mod Opened

@@ -80,7 +80,7 @@ module _ (s : Setting) where
   same-left : (sequences : List (List Entry)) (m n : Member) → n.opening ≡ m.opening → n.epoch ≡ m.epoch → OpensAsLeft s sequences m → OpensAsLeft s sequences n
   same-left sequences m n opening epoch left = record {
     opening = opening ∙ left.opening ∙ ap (opening_at s sequences) (sym epoch);
-    ended = λ e less. left.ended e (omega (arith, less, epoch));
+    past = λ e less. left.past e (omega (arith, less, epoch));
   }
 
   record-left : (sequences : List (List Entry)) (m : Member) (x : Record) → (Some (appended_as x) ≡ Some a_turn → ⊥) → OpensAsLeft s sequences m → OpensAsLeft s sequences (after s.rules m x)
@@ -177,7 +177,7 @@ module _ (s : Setting) where
 
   none-left : Left ([] ∷ []) []
   unfolding state opening_at
-  none-left = record { opening = refl; ended = λ e less. absurd (omega (arith, less)) }
+  none-left = record { opening = refl; past = λ e less. absurd (omega (arith, less)) }
 
   new-left : WorldLeft (world_after s [])
   unfolding world_after new_world
@@ -200,5 +200,5 @@ module _ (s : Setting) where
       let early = every-opening front (honest-front s front back honest) distinct m a at in
       let late = every-opening (front ++ back) honest distinct n b by in
       let grown = subst (λ (v : World). Grown (world_after s front).sequences v.sequences) (sym (world-append s front back)) (grows-run back (world_after s front)) in
-      early.opening ∙ sym (same-opening s (world_after s front).sequences (world_after s (front ++ back)).sequences grown (member_in s a).epoch early.ended)
+      early.opening ∙ sym (same-opening s (world_after s front).sequences (world_after s (front ++ back)).sequences grown (member_in s a).epoch early.past)
       ∙ ap (opening_at s (world_after s (front ++ back)).sequences) epoch ∙ sym late.opening

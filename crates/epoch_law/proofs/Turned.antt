@@ -1,11 +1,12 @@
 -- A member turns where its epoch has ended and all that it admitted is done; it opens the next epoch with what one thread
 -- leaves.
-use Rattle.std.proofs.Common.{inl, inr, refl, sym, subst, ap, ◌∙◌, arith}
+use Rattle.std.proofs.Common.{inl, inr, refl, sym, subst, ap, ◌∙◌, arith, append-nil}
 use Rattle.std.specs.Prelude.{◌≡◌, ◌⊎◌, ◌<◌, ◌+◌, ℕ, zero, suc, Bool, true, List, [], ◌∷◌, ◌++◌, map, flat_map, slice_get, Option, Some, None}
 use Rattle.std.specs.FinMap.{values}
 use Rattle.std.specs.List.{list_all}
 use Rattle.chain_types.specs.declared.objects.Object.{Object}
 use Rattle.chain_types.specs.declared.transactions.Transaction.{Transaction}
+use Rattle.chain_messages.specs.declared.messages.Certificate.{Certificate}
 use Rattle.chain_messages.specs.declared.messages.Entry.{Entry}
 use Rattle.chain_messages.specs.Messages as messages
 use Rattle.journal_core.specs.declared.records.Record.{Record}
@@ -14,7 +15,8 @@ use Rattle.member_types.specs.declared.refusals.TurnRefusal.{TurnRefusal}
 use Rattle.member_types.specs.declared.refusals.TurnRefusal.TheVariants as no_turn
 use Rattle.schedule_text.specs.declared.words.Event.{Event}
 use Rattle.chain_spec.specs.Words.{Has, Each, IsFront, first_some, unless_refused}
-use Rattle.chain_spec.specs.Certificates.{Rules}
+use Rattle.chain_spec.specs.Shape.{shape_fault}
+use Rattle.chain_spec.specs.Certificates.{Rules, cert_cases, cert_refusal}
 use Rattle.member_spec.specs.Admission.{Admitted}
 use Rattle.member_spec.specs.Sequence.{Cut, Sequence}
 use Rattle.member_spec.specs.Checkpoints.{is_done}
@@ -26,20 +28,30 @@ use Rattle.world_spec.specs.World.{Seat, member_in, entries_at}
 use Rattle.world_spec.specs.Openings.{txs_in, checkpointed, sequence_of, opening_at}
 use Rattle.world_spec.specs.Run.{world_after}
 use Rattle.world_spec.specs.Assumptions.{IsHonestRun}
-use Rattle.votes_law.proofs.Apart.{none-each, none-of, accepted}
+use Rattle.votes_law.proofs.Apart.{none-each, none-map, none-of, accepted}
 use Rattle.votes_law.proofs.Once.{has-left}
 use Rattle.agreement_law.specs.Agreed.{IsTaken}
 use Rattle.agreement_law.proofs.Prefixes.{follows}
 use Rattle.block_law.proofs.Steps.{map-append}
-use Rattle.chain_law.specs.Orderly.{AreApart}
+use Rattle.sequence_law.specs.Kept.{Follow, opened_with}
+use Rattle.chain_law.specs.Orderly.{Step, tx_of, AreApart}
+use Rattle.chain_law.proofs.Touched.{has-mapped}
 use Rattle.chain_law.proofs.Reading.{has-right}
+use Rattle.current_law.specs.Steps.{step_of}
+use Rattle.current_law.specs.Orderly.{IsExecutedFront, OpensApart}
 use Rattle.current_law.specs.Thread.{transaction_of}
 use Rattle.current_law.specs.Checkpointed.{admitted_in, IsBuilt}
 use Rattle.current_law.proofs.Lists.{each-all}
 use Rattle.current_law.proofs.Cuts.{cut-seen}
+use Rattle.current_law.proofs.Executed.{admitted-given}
+use Rattle.current_law.proofs.Ordered.{steps-orderly}
+use Rattle.current_law.proofs.Known.{opens-apart}
+use Rattle.current_law.proofs.Thread.{map-twice}
+use Rattle.current_law.proofs.Checkpointed.{built-front}
 use Rattle.current_law.proofs.Turning.{turns-to-fold}
-use Rattle.epoch_law.specs.Opened.{IsEnded, OpensAsLeft}
+use Rattle.epoch_law.specs.Opened.{IsOver, IsPast, OpensAsLeft}
 use Rattle.epoch_law.proofs.Ended.{seen-ended}
+use Rattle.epoch_law.proofs.Following.{steps-follow}
 
 -- ---- lists
 
@@ -55,6 +67,10 @@ flat-has f (z ∷ xs) x y (inr h) k = has-right (f z) (flat_map f xs) y (flat-ha
 txs-cut : (cuts : List Cut) → flat_map txs_in cuts ≡ map transaction_of (flat_map admitted_in cuts)
 txs-cut [] = refl
 txs-cut (c ∷ cuts) = ap (λ (ts : List Transaction). txs_in c ++ ts) (txs-cut cuts) ∙ sym (map-append transaction_of c.txs (flat_map admitted_in cuts))
+
+valid-shape : (r : Rules) (c : Certificate) → cert_refusal r c ≡ None → shape_fault c.tx ≡ None
+unfolding cert_refusal
+valid-shape r c e = none-map _ (shape_fault c.tx) (none-each (cert_cases r c) e).0
 
 -- ---- when a member turns
 
@@ -103,9 +119,9 @@ next-opening s sequences m next opening whole leaves =
     ∙ ap (λ (q : Sequence). values (fold_all (map_of m.opening) (checkpointed q)).map) (sym whole)
     ∙ ap (λ (os : List Object). values (fold_all (map_of os) (checkpointed (sequence_of s sequences m.epoch os))).map) opening
 
-ended-now : (s : Setting) (sequences : List (List Entry)) (m : Member) → m.opening ≡ opening_at s sequences m.epoch → sequence_of s sequences m.epoch m.opening ≡ m.sequence → m.sequence.ended ≡ true → IsEnded s sequences m.epoch
-ended-now s sequences m opening whole ended =
-    subst (λ (os : List Object). (sequence_of s sequences m.epoch os).ended ≡ true) opening (subst (λ (q : Sequence). q.ended ≡ true) (sym whole) ended)
+past-now : (s : Setting) (sequences : List (List Entry)) (m : Member) → m.opening ≡ opening_at s sequences m.epoch → sequence_of s sequences m.epoch m.opening ≡ m.sequence → IsOver m.opening m.sequence → IsPast s sequences m.epoch
+past-now s sequences m opening whole over =
+    subst (λ (os : List Object). IsOver os (sequence_of s sequences m.epoch os)) opening (subst (IsOver m.opening) (sym whole) over)
 
 split-below : (e n : ℕ) → e < suc n → (e < n) ⊎ (e ≡ n)
 split-below zero zero less = inr refl
@@ -139,13 +155,32 @@ module _ (s : Setting) (events : List Event) (n : ℕ) (seat : Seat) (at : slice
       let taken = follows s events n seat at in
       subst (λ (q : Sequence). IsFront (flat_map admitted_in q.cuts) q.admission.admitted) (sym taken.gives) (cut-seen s.rules m.opening m.epoch (map messages.entry.spell taken.front))
 
+  abbrev front : List Admitted
+  front = flat_map admitted_in m.sequence.cuts
+
+  opens : OpensApart s events m
+  opens = opens-apart s events honest distinct n seat at
+
+  shapes : IsExecutedFront m front → (x : Step) → Has (map (step_of m) front) x → shape_fault x.tx ≡ None
+  shapes it x h =
+      let a = has-mapped (step_of m) front x h in
+      let there = subst (λ (zs : List Admitted). Has zs a.0) (sym it.is_front.1) (has-left front it.is_front.0 a.0 a.1) in
+      subst (λ (y : Step). shape_fault y.tx ≡ None) a.2 (valid-shape s.rules a.0.cert (admitted-given s events honest n seat at a.0 there).valid)
+
+  follows-on : IsExecutedFront m front → Follow (opened_with (map_of m.opening)) (checkpointed m.sequence)
+  follows-on it = subst (Follow (opened_with (map_of m.opening))) (map-twice (step_of m) tx_of front ∙ sym (txs-cut m.sequence.cuts))
+      (steps-follow m.opening opens.distinct (map (step_of m) front) (steps-orderly s events honest n seat at opens front it) (shapes it))
+
+  is-over : CanTurn m → IsOver m.opening m.sequence
+  is-over can = record { ended = can.ended; apart = opens.distinct; follow = follows-on (built-front s events n seat at m.sequence.cuts ([], sym (append-nil m.sequence.cuts)) (all-built m can all-cut)) }
+
   turns-left : CanTurn m → OpensAsLeft s qs m → OpensAsLeft s qs (after s.rules m record_as.Turn)
   unfolding after
   turns-left can left =
       let whole = whole-sequence s qs m (follows s events n seat at) can.ended in
       record {
         opening = next-opening s qs m (turned m).opening left.opening whole (turns-to-fold s events n seat at honest distinct (all-built m can all-cut)) ∙ ap (opening_at s qs) (next-epoch m.epoch);
-        ended = below-next (IsEnded s qs) m.epoch left.ended (ended-now s qs m left.opening whole can.ended);
+        past = below-next (IsPast s qs) m.epoch left.past (past-now s qs m left.opening whole (is-over can));
       }
 
   pub turn-left : (x : Record) → due s.rules m turns ≡ Some x → OpensAsLeft s qs m → OpensAsLeft s qs (after s.rules m x)
