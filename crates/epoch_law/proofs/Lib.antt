@@ -2,3 +2,4 @@ pub mod Ended
 pub mod Following
 pub mod Turned
 pub mod Opened
+pub mod Sums

@@ -3,6 +3,7 @@
 #![tactic(auto)]
 
 ghost use Rattle.epoch_law.specs.Opened.{EveryOpening, OpenedAlike};
+ghost use Rattle.epoch_law.specs.Sums.{CurrenciesAreBacked, OnlyGasLeaves, SetUpHasNoGasCap, SetUpIsBacked};
 
 /// Under the run assumptions, from a set-up with objects of different ids, every member opened its epoch with the
 /// objects that one thread leaves that executes the checkpointed transactions of the epochs before, one epoch after the
@@ -14,4 +15,25 @@ pub fn every_opening()
 /// So two members of one epoch opened it with equal objects, at whatever two moments of the run.
 pub fn opened_alike()
     ensures { OpenedAlike }
+{}
+
+/// In each epoch that a member has left, all that went of the currency that pays gas is the gas of the checkpointed
+/// transactions.
+pub fn only_gas_leaves()
+    ensures { OnlyGasLeaves }
+{}
+
+/// Of each other currency the opening objects of every member hold as much as their caps say.
+pub fn currencies_are_backed()
+    ensures { CurrenciesAreBacked }
+{}
+
+/// The set-up of every schedule opens so.
+pub fn set_up_is_backed()
+    ensures { SetUpIsBacked }
+{}
+
+/// Where no line of the set-up makes a cap of the currency of gas, it has none.
+pub fn set_up_has_no_gas_cap()
+    ensures { SetUpHasNoGasCap }
 {}
