@@ -2,4 +2,5 @@ pub mod Ended
 pub mod Following
 pub mod Turned
 pub mod Opened
+pub mod Agreed
 pub mod Sums

@@ -64,7 +64,7 @@ flat-has f [] x y h k = absurd h
 flat-has f (z ∷ xs) x y (inl e) k = has-left (f z) (flat_map f xs) y (subst (λ w. Has (f w) y) (sym e) k)
 flat-has f (z ∷ xs) x y (inr h) k = has-right (f z) (flat_map f xs) y (flat-has f xs x y h k)
 
-txs-cut : (cuts : List Cut) → flat_map txs_in cuts ≡ map transaction_of (flat_map admitted_in cuts)
+pub txs-cut : (cuts : List Cut) → flat_map txs_in cuts ≡ map transaction_of (flat_map admitted_in cuts)
 txs-cut [] = refl
 txs-cut (c ∷ cuts) = ap (λ (ts : List Transaction). txs_in c ++ ts) (txs-cut cuts) ∙ sym (map-append transaction_of c.txs (flat_map admitted_in cuts))
 

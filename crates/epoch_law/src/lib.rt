@@ -3,6 +3,7 @@
 #![tactic(auto)]
 
 ghost use Rattle.epoch_law.specs.Opened.{EveryOpening, OpenedAlike};
+ghost use Rattle.epoch_law.specs.Agreed.{EveryCheckpoint, MembersAgree};
 ghost use Rattle.epoch_law.specs.Sums.{CurrenciesAreBacked, OnlyGasLeaves, SetUpHasNoGasCap, SetUpIsBacked};
 
 /// Under the run assumptions, from a set-up with objects of different ids, every member opened its epoch with the
@@ -15,6 +16,18 @@ pub fn every_opening()
 /// So two members of one epoch opened it with equal objects, at whatever two moments of the run.
 pub fn opened_alike()
     ensures { OpenedAlike }
+{}
+
+/// The effects and items in the checkpoints that a member has built are those of one thread that executes the
+/// transactions of the first cuts of the world's sequences in order, on these objects.
+pub fn every_checkpoint()
+    ensures { EveryCheckpoint }
+{}
+
+/// Of two members of one epoch, the one admitted and cut what the other did or will, and what both executed gave the
+/// same, in whatever order they executed.
+pub fn members_agree()
+    ensures { MembersAgree }
 {}
 
 /// In each epoch that a member has left, all that went of the currency that pays gas is the gas of the checkpointed
