@@ -3,4 +3,5 @@ pub mod Following
 pub mod Turned
 pub mod Opened
 pub mod Agreed
+pub mod Chains
 pub mod Sums

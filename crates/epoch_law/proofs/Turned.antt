@@ -34,9 +34,9 @@ use Rattle.agreement_law.specs.Agreed.{IsTaken}
 use Rattle.agreement_law.proofs.Prefixes.{follows}
 use Rattle.block_law.proofs.Steps.{map-append}
 use Rattle.sequence_law.specs.Kept.{Follow, opened_with}
-use Rattle.chain_law.specs.Orderly.{Step, tx_of, AreApart}
+use Rattle.chain_law.specs.Orderly.{Step, tx_of, effects_in, AreApart}
 use Rattle.chain_law.proofs.Touched.{has-mapped}
-use Rattle.chain_law.proofs.Reading.{has-right}
+use Rattle.chain_law.proofs.Reading.{has-right, chain-reads}
 use Rattle.current_law.specs.Steps.{step_of}
 use Rattle.current_law.specs.Orderly.{IsExecutedFront, OpensApart}
 use Rattle.current_law.specs.Thread.{transaction_of}
@@ -49,7 +49,7 @@ use Rattle.current_law.proofs.Known.{opens-apart}
 use Rattle.current_law.proofs.Thread.{map-twice}
 use Rattle.current_law.proofs.Checkpointed.{built-front}
 use Rattle.current_law.proofs.Turning.{turns-to-fold}
-use Rattle.epoch_law.specs.Opened.{IsOver, IsPast, OpensAsLeft}
+use Rattle.epoch_law.specs.Opened.{HasEffects, IsOver, IsPast, OpensAsLeft}
 use Rattle.epoch_law.proofs.Ended.{seen-ended}
 use Rattle.epoch_law.proofs.Following.{steps-follow}
 
@@ -167,12 +167,26 @@ module _ (s : Setting) (events : List Event) (n : ℕ) (seat : Seat) (at : slice
       let there = subst (λ (zs : List Admitted). Has zs a.0) (sym it.is_front.1) (has-left front it.is_front.0 a.0 a.1) in
       subst (λ (y : Step). shape_fault y.tx ≡ None) a.2 (valid-shape s.rules a.0.cert (admitted-given s events honest n seat at a.0 there).valid)
 
-  follows-on : IsExecutedFront m front → Follow (opened_with (map_of m.opening)) (checkpointed m.sequence)
-  follows-on it = subst (Follow (opened_with (map_of m.opening))) (map-twice (step_of m) tx_of front ∙ sym (txs-cut m.sequence.cuts))
-      (steps-follow m.opening opens.distinct (map (step_of m) front) (steps-orderly s events honest n seat at opens front it) (shapes it))
+  txs-are : map tx_of (map (step_of m) front) ≡ checkpointed m.sequence
+  txs-are = map-twice (step_of m) tx_of front ∙ sym (txs-cut m.sequence.cuts)
+
+  done-front : CanTurn m → IsExecutedFront m front
+  done-front can = built-front s events n seat at m.sequence.cuts ([], sym (append-nil m.sequence.cuts)) (all-built m can all-cut)
+
+  all-effects : (xs : List Step) → Each HasEffects (map effects_in xs)
+  all-effects [] = tt
+  all-effects (x ∷ xs) = (refl, all-effects xs)
 
   is-over : CanTurn m → IsOver m.opening m.sequence
-  is-over can = record { ended = can.ended; apart = opens.distinct; follow = follows-on (built-front s events n seat at m.sequence.cuts ([], sym (append-nil m.sequence.cuts)) (all-built m can all-cut)) }
+  is-over can =
+      let orderly = steps-orderly s events honest n seat at opens front (done-front can) in
+      record {
+        ended = can.ended;
+        apart = opens.distinct;
+        executed = subst (λ (ts : List Transaction). Each HasEffects (fold_all (map_of m.opening) ts).effects) txs-are
+            (subst (Each HasEffects) (sym (chain-reads m.opening (map (step_of m) front) opens.distinct orderly).effects) (all-effects (map (step_of m) front)));
+        follow = subst (Follow (opened_with (map_of m.opening))) txs-are (steps-follow m.opening opens.distinct (map (step_of m) front) orderly (shapes (done-front can)));
+      }
 
   turns-left : CanTurn m → OpensAsLeft s qs m → OpensAsLeft s qs (after s.rules m record_as.Turn)
   unfolding after

@@ -1,3 +1,4 @@
 pub mod Opened
 pub mod Agreed
+pub mod Chains
 pub mod Sums

@@ -1,10 +1,12 @@
 -- The objects with which honest members open their epochs.
-use Rattle.std.specs.Prelude.{◌≡◌, ◌<◌, ℕ, true, List, ◌++◌, slice_get, Some}
+use Rattle.std.specs.Prelude.{◌≡◌, ◌<◌, ℕ, true, List, ◌++◌, slice_get, Option, Some, is_some}
 use Rattle.chain_types.specs.declared.objects.Object.{Object}
+use Rattle.effects_core.specs.declared.effects.Effects.{Effects}
 use Rattle.chain_messages.specs.declared.messages.Entry.{Entry}
 use Rattle.schedule_text.specs.declared.words.Event.{Event}
+use Rattle.chain_spec.specs.Words.{Each}
 use Rattle.member_spec.specs.Sequence.{Sequence}
-use Rattle.member_spec.specs.Sequential.{map_of}
+use Rattle.member_spec.specs.Sequential.{map_of, fold_all}
 use Rattle.member_spec.specs.Member.{Member}
 use Rattle.world_spec.specs.Setting.{Setting}
 use Rattle.world_spec.specs.World.{Seat, member_in}
@@ -14,11 +16,15 @@ use Rattle.world_spec.specs.Assumptions.{IsHonestRun}
 use Rattle.sequence_law.specs.Kept.{Follow, opened_with}
 use Rattle.chain_law.specs.Orderly.{AreApart}
 
+abbrev pub HasEffects : Option Effects → Type 0
+HasEffects e = is_some e ≡ true
+
 -- An epoch that opened with these objects, and what its sequence gave: it has ended, the objects have different ids,
--- and each checkpointed transaction that one thread executes in order may run where it stands, with new ids.
+-- and one thread executes all checkpointed transactions in order; each may run where it stands, with new ids.
 pub record IsOver (opening : List Object) (q : Sequence) : Type 0 where
   pub ended : q.ended ≡ true
   pub apart : AreApart opening
+  pub executed : Each HasEffects (fold_all (map_of opening) (checkpointed q)).effects
   pub follow : Follow (opened_with (map_of opening)) (checkpointed q)
 
 -- so it is of an epoch of the world's sequences, which opens with what the epochs before left

@@ -4,6 +4,7 @@
 
 ghost use Rattle.epoch_law.specs.Opened.{EveryOpening, OpenedAlike};
 ghost use Rattle.epoch_law.specs.Agreed.{EveryCheckpoint, MembersAgree};
+ghost use Rattle.epoch_law.specs.Chains.{VersionsAreChains};
 ghost use Rattle.epoch_law.specs.Sums.{CurrenciesAreBacked, OnlyGasLeaves, SetUpHasNoGasCap, SetUpIsBacked};
 
 /// Under the run assumptions, from a set-up with objects of different ids, every member opened its epoch with the
@@ -28,6 +29,12 @@ pub fn every_checkpoint()
 /// same, in whatever order they executed.
 pub fn members_agree()
     ensures { MembersAgree }
+{}
+
+/// The versions of each object in an epoch form one chain, in the order of the checkpoints: each transaction goes on from
+/// the version that stands, what it writes is greater and stands from then on, and no version is consumed twice.
+pub fn versions_are_chains()
+    ensures { VersionsAreChains }
 {}
 
 /// In each epoch that a member has left, all that went of the currency that pays gas is the gas of the checkpointed
