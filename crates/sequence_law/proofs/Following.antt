@@ -283,3 +283,10 @@ gas_goes m txs follow none =
     let a = sum-weight (supply_of 0) (values m) in
     let b = sum-weight (supply_of 0) (values (fold_all m txs).map) in
     omega (arith, moved, before, after, a, b)
+
+pub caps_stay : (m : Objects) (txs : List Transaction) → Follow (opened_with m) txs → (c : ℕ) → cap_count (values (fold_all m txs).map) c ≡ cap_count (values m) c
+caps_stay m txs follow c =
+    let same = caps-stay c m txs follow in
+    let a = sum-weight (caps_of c) (values (fold_all m txs).map) in
+    let b = sum-weight (caps_of c) (values m) in
+    omega (arith, same, a, b)

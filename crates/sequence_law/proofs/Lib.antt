@@ -1,3 +1,3 @@
 pub mod Staying
 pub mod Moving
-mod Following
+pub mod Following

@@ -59,3 +59,9 @@ OnlyGasGoes =
     (m : Objects) (txs : List Transaction) → Follow (opened_with m) txs →
     cap_count (values m) 0 ≡ 0 →
     held_in (fold_all m txs).map 0 + gas_of 0 (fold_all m txs).effects ≡ held_in m 0
+
+-- of each currency there are as many caps as before
+abbrev pub CapsStayInSequence : Type 0
+CapsStayInSequence =
+    (m : Objects) (txs : List Transaction) → Follow (opened_with m) txs → (currency : ℕ) →
+    cap_count (values (fold_all m txs).map) currency ≡ cap_count (values m) currency

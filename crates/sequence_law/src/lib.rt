@@ -1,7 +1,7 @@
 //! What one thread that executes transactions in order keeps: laws over the definition of sequential execution.
 #![tactic(auto)]
 
-ghost use Rattle.sequence_law.specs.Kept.{BackedCurrenciesStayBacked, MoneyMovesInSequence, OnlyGasGoes};
+ghost use Rattle.sequence_law.specs.Kept.{BackedCurrenciesStayBacked, CapsStayInSequence, MoneyMovesInSequence, OnlyGasGoes};
 ghost use Rattle.sequence_law.specs.Untouched.{UntouchedObjectsStay};
 
 /// Sequential execution leaves every object that no transaction of the list names or creates.
@@ -22,4 +22,9 @@ pub fn backed_currencies_stay_backed()
 /// Of the currency that pays gas nothing is made, and nothing goes but the gas of the executions.
 pub fn only_gas_goes()
     ensures { OnlyGasGoes }
+{}
+
+/// Of each currency there are as many caps as before.
+pub fn caps_stay_in_sequence()
+    ensures { CapsStayInSequence }
 {}

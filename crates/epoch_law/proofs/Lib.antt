@@ -1,0 +1,7 @@
+pub mod Ended
+pub mod Following
+pub mod Turned
+pub mod Opened
+pub mod Agreed
+pub mod Chains
+pub mod Sums

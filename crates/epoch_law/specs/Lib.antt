@@ -1,0 +1,4 @@
+pub mod Opened
+pub mod Agreed
+pub mod Chains
+pub mod Sums

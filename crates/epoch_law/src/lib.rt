@@ -1,0 +1,59 @@
+//! Every honest member opens each epoch with the same objects: those that one thread leaves that executes the
+//! checkpointed transactions of the epochs before, in order.
+#![tactic(auto)]
+
+ghost use Rattle.epoch_law.specs.Opened.{EveryOpening, OpenedAlike};
+ghost use Rattle.epoch_law.specs.Agreed.{EveryCheckpoint, MembersAgree};
+ghost use Rattle.epoch_law.specs.Chains.{VersionsAreChains};
+ghost use Rattle.epoch_law.specs.Sums.{CurrenciesAreBacked, OnlyGasLeaves, SetUpHasNoGasCap, SetUpIsBacked};
+
+/// Under the run assumptions, from a set-up with objects of different ids, every member opened its epoch with the
+/// objects that one thread leaves that executes the checkpointed transactions of the epochs before, one epoch after the
+/// other; what stands in no checkpoint leaves no trace.
+pub fn every_opening()
+    ensures { EveryOpening }
+{}
+
+/// So two members of one epoch opened it with equal objects, at whatever two moments of the run.
+pub fn opened_alike()
+    ensures { OpenedAlike }
+{}
+
+/// The effects and items in the checkpoints that a member has built are those of one thread that executes the
+/// transactions of the first cuts of the world's sequences in order, on these objects.
+pub fn every_checkpoint()
+    ensures { EveryCheckpoint }
+{}
+
+/// Of two members of one epoch, the one admitted and cut what the other did or will, and what both executed gave the
+/// same, in whatever order they executed.
+pub fn members_agree()
+    ensures { MembersAgree }
+{}
+
+/// The versions of each object in an epoch form one chain, in the order of the checkpoints: each transaction goes on from
+/// the version that stands, what it writes is greater and stands from then on, and no version is consumed twice.
+pub fn versions_are_chains()
+    ensures { VersionsAreChains }
+{}
+
+/// In each epoch that a member has left, all that went of the currency that pays gas is the gas of the checkpointed
+/// transactions.
+pub fn only_gas_leaves()
+    ensures { OnlyGasLeaves }
+{}
+
+/// Of each other currency the opening objects of every member hold as much as their caps say.
+pub fn currencies_are_backed()
+    ensures { CurrenciesAreBacked }
+{}
+
+/// The set-up of every schedule opens so.
+pub fn set_up_is_backed()
+    ensures { SetUpIsBacked }
+{}
+
+/// Where no line of the set-up makes a cap of the currency of gas, it has none.
+pub fn set_up_has_no_gas_cap()
+    ensures { SetUpHasNoGasCap }
+{}
