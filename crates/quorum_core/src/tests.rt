@@ -87,7 +87,8 @@ fn refuses_committees(rt: HostRuntime) {
 #[test]
 fn weighs_members(rt: HostRuntime) {
     match Committee::new([1, 1, 4].as_slice()) {
-        Ok(committee) => {
+        Ok(first) => {
+            let committee = first.copy();
             assert_eq!(rt; committee.len(), 3);
             assert_eq!(rt; committee.stake(2), Some(4));
             assert_eq!(rt; committee.stake(3), None);
