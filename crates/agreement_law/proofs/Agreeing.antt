@@ -163,7 +163,7 @@ module _ (opening : List Object) (p q : Books) (at_p : p.opening ≡ opening) (a
     (alike : (h k : Held) → Has p.held h → Has q.held k → h.digest ≡ k.digest → (h.cert.tx ≡ k.cert.tx) × (h.cert.origins ≡ k.cert.origins))
     (along : IsFront p.admission.admitted q.admission.admitted ⊎ IsFront q.admission.admitted p.admission.admitted)
     (ys : List Execution) (explained : Along (IsExplained q) [] ys) where
-  abbrev Agrees : List Execution → Type 0
+  abbrev pub Agrees : List Execution → Type 0
   Agrees xs = (x : Execution) → Has xs x → (y : Execution) → Has ys y → x.digest ≡ y.digest → x.gave ≡ y.gave
 
   once-in : (y : Execution) → Has ys y → repeats key_eq (map object_key y.gave.objects) ≡ false
@@ -247,7 +247,7 @@ module _ (opening : List Object) (p q : Books) (at_p : p.opening ≡ opening) (a
           same-gave before it.0 agrees it.1.1 z y (subst (IsExplained p before) s one) it.1.0 e
       go (inr (inr h)) = absurd h
 
-  all-agree : (xs before : List Execution) → Agrees before → Along (IsExplained p) before xs → Agrees (before ++ xs)
+  pub all-agree : (xs before : List Execution) → Agrees before → Along (IsExplained p) before xs → Agrees (before ++ xs)
   all-agree [] before agrees next = subst Agrees (sym (append-nil before)) agrees
   all-agree (x ∷ xs) before agrees next = subst Agrees (append_assoc before (x ∷ []) xs) (all-agree xs (before ++ x ∷ []) (next-agrees before x agrees next.0) next.1)
 
