@@ -1,7 +1,7 @@
 -- Each vote in a journal was cast behind some front of the run.
-use Rattle.std.proofs.Common.{inl, inr, refl, sym, subst, ap, ◌∙◌, append_assoc, append-nil}
+use Rattle.std.proofs.Common.{inl, inr, sym, subst, ap, ◌∙◌, append_assoc, append-nil}
 use Rattle.std.proofs.lemmas.Bool.{eqb-true}
-use Rattle.std.specs.Prelude.{◌≡◌, ◌⊎◌, ℕ, zero, suc, min, Bool, true, false, not, ◌==◌, List, [], ◌∷◌, ◌++◌, map, slice_get, Option, Some, None, option_map, option_and_then, Result, Ok, Err}
+use Rattle.std.specs.Prelude.{◌≡◌, ◌⊎◌, ℕ, zero, suc, min, true, not, ◌==◌, List, [], ◌∷◌, ◌++◌, slice_get, Option, Some, None, option_map, option_and_then, Result, Ok, Err}
 use Rattle.wire_bcs.specs.declared.fault.WireFault.{WireFault}
 use Rattle.digest_core.specs.declared.Digest.{Digest}
 use Rattle.chain_types.specs.Transactions as transactions
@@ -20,12 +20,12 @@ use Rattle.chain_spec.specs.Words.{Has, Each, first_some, where_true, unless_ref
 use Rattle.chain_spec.specs.Certificates.{Rules, read_signed}
 use Rattle.member_spec.specs.Votes.{Cast, vote_origins}
 use Rattle.member_spec.specs.Member.{Member, ballot, vote_for, state}
-use Rattle.member_spec.specs.Calls.{Call, votes, holds, sees, runs, closes, ends, turns, acks, Voted, new_vote_cases, voted_as, new_vote, vote_again, vote_read, vote_stopped, vote_answer, unsealed_of, vote_record, due}
+use Rattle.member_spec.specs.Calls.{Call, votes, new_vote_cases, voted_as, vote_again, vote_read, vote_stopped, vote_answer, unsealed_of, vote_record, due}
 use Rattle.world_spec.specs.Setting.{Setting}
 use Rattle.world_spec.specs.World.{Seat, Made, World, new_world, member_in, called_if, state_of, next_call_of, next_call, next_entry, numbered_call, member_at}
 use Rattle.world_spec.specs.Names.{made_named, cert_named}
 use Rattle.world_spec.specs.Step.{happens, entries_left, voted_on}
-use Rattle.world_spec.specs.Run.{run, world_after}
+use Rattle.world_spec.specs.Run.{world_after}
 use Rattle.world_spec.specs.Assumptions.{send_call, call_list, see_calls, ack_call, calls_of, signed_read}
 use Rattle.votes_law.proofs.InWorld.{each-get, each-any, kept-line, new-seats}
 use Rattle.votes_law.proofs.Apart.{due-free}

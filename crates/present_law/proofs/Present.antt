@@ -1,15 +1,13 @@
 -- What a voter saw is there for every member of the epoch that executed what made it.
 use Rattle.std.proofs.Common.{inl, inr, refl, sym, subst, ap, ◌∙◌}
-use Rattle.std.specs.Prelude.{◌≡◌, ◌⊎◌, ℕ, Bool, true, false, cond, not, ◌&&◌, List, [], ◌∷◌, ◌++◌, map, zip, find, flat_map, slice_get, Option, Some, None, option_map, is_some}
+use Rattle.std.specs.Prelude.{◌≡◌, ◌⊎◌, ℕ, Bool, true, false, cond, ◌&&◌, List, [], ◌∷◌, map, zip, find, flat_map, slice_get, Option, Some, None, option_map, is_some}
 use Rattle.digest_core.specs.declared.Digest.{Digest}
 use Rattle.chain_types.specs.declared.objects.ObjectKey.{ObjectKey}
 use Rattle.chain_types.specs.declared.objects.Object.{Object}
-use Rattle.chain_types.specs.declared.objects.Producer.{Producer}
 use Rattle.chain_types.specs.declared.objects.Producer.TheVariants as producers
 use Rattle.chain_types.specs.declared.transactions.Input.{Input}
 use Rattle.chain_types.specs.declared.transactions.Input.TheVariants as inputs
 use Rattle.chain_types.specs.declared.transactions.Transaction.{Transaction}
-use Rattle.chain_types.specs.declared.refusals.DecideRefusal.{DecideRefusal}
 use Rattle.chain_types.specs.declared.refusals.DecideRefusal.TheVariants as refused
 use Rattle.chain_types.specs.Equal.{digest_eq, key_eq}
 use Rattle.chain_types.specs.Digests.{key_of, transaction_digest}
@@ -17,7 +15,6 @@ use Rattle.block_types.specs.declared.pieces.Executed.{Executed}
 use Rattle.member_types.specs.declared.answers.Held.{Held}
 use Rattle.schedule_text.specs.declared.words.Event.{Event}
 use Rattle.chain_spec.specs.Words.{Has}
-use Rattle.chain_spec.specs.Tests.{producer_eq}
 use Rattle.chain_spec.specs.Keys.{object_key, objects_of}
 use Rattle.chain_spec.proofs.ListLemmas.{find-test}
 use Rattle.member_spec.specs.Versions.{Execution, Version, opened, written, written_by, versions, is_key, version_at, object_in, execution_of, is_executed}
@@ -33,8 +30,8 @@ use Rattle.votes_law.proofs.Apart.{none-each, none-of, accepted}
 use Rattle.votes_law.proofs.Backed.{has-either}
 use Rattle.votes_law.proofs.Once.{each-has, equal, digest-same, has-left}
 use Rattle.votes_law.proofs.Kept.{find-has}
-use Rattle.one_owner_law.proofs.Owner.{IsVoter, voter}
-use Rattle.agreement_law.specs.Agreed.{IsGiven, IsHeldAsGiven}
+use Rattle.one_owner_law.proofs.Owner.{voter}
+use Rattle.agreement_law.specs.Agreed.{IsHeldAsGiven}
 use Rattle.agreement_law.proofs.Supply.{every-held}
 use Rattle.chain_law.specs.Orderly.{AreApart}
 use Rattle.chain_law.proofs.Touched.{has-mapped}
@@ -42,10 +39,8 @@ use Rattle.chain_law.proofs.Reading.{has-right}
 use Rattle.current_law.proofs.Lists.{map-has}
 use Rattle.current_law.proofs.Lives.{has-flat}
 use Rattle.current_law.proofs.Same.{was-formed}
-use Rattle.epoch_law.specs.Agreed.{Agree}
 use Rattle.epoch_law.proofs.Turned.{flat-has}
 use Rattle.epoch_law.proofs.Agreed.{members-agree}
-use Rattle.present_law.specs.Cast.{WasCast}
 use Rattle.present_law.specs.Present.{IsPresent}
 use Rattle.present_law.proofs.Cast.{every-vote-was-cast}
 
@@ -71,13 +66,13 @@ zip-map f (z ∷ zs) x y (inr h) = let r = zip-map f zs x y h in (inr r.0, r.1)
 
 -- ---- where a version comes from
 
-abbrev IsOpened : List Object → Version → Type 0
+abbrev pub IsOpened : List Object → Version → Type 0
 IsOpened opening u = (o : Object) × Has opening o × (opened o ≡ u)
 
-abbrev IsWrote : List Execution → Version → Type 0
+abbrev pub IsWrote : List Execution → Version → Type 0
 IsWrote executed u = (x : Execution) × Has executed x × (o : Object) × Has x.gave.objects o × (written x.digest o ≡ u)
 
-version-from : (opening : List Object) (executed : List Execution) (u : Version) → Has (versions opening executed) u → IsOpened opening u ⊎ IsWrote executed u
+pub version-from : (opening : List Object) (executed : List Execution) (u : Version) → Has (versions opening executed) u → IsOpened opening u ⊎ IsWrote executed u
 unfolding versions
 version-from opening executed u h = go (has-either (map opened opening) (flat_map written_by executed) u h)
   where
@@ -162,9 +157,18 @@ origin-named : (b : Ballot) (t : Transaction) (origins : List (Option Digest)) �
 unfolding vote_origins
 origin-named b t origins e i d h = zip-map (origin_of b) (objects_of t) i d (subst (λ (ds : List (Option Digest)). Has (zip (objects_of t) ds) (i, d)) (sym e) h)
 
-pub owned-present : (s : Setting) (events : List Event) → IsHonestRun s events → AreApart s.opening → (n : ℕ) (seat : Seat) → slice_get (world_after s events).seats n ≡ Some seat
-    → (h : Held) → Has (member_in s seat).held h → (i : Input) (d : Option Digest) → Has (joined_inputs h.cert) (i, d) → is_origin_done (member_in s seat).executed d ≡ true → IsPresent (member_in s seat) i d
-owned-present s events honest distinct n seat at h held i d joined done =
+-- a voter of the certificate, in a state in which no case refused its vote, agrees with the member
+pub record IsSeen (m : Member) (t : Transaction) (i : Input) (d : Option Digest) : Type 0 where
+  pub voter : Ballot
+  pub openings : voter.opening ≡ m.opening
+  pub same : (x y : Execution) → Has voter.executed x → Has m.executed y → x.digest ≡ y.digest → x.gave ≡ y.gave
+  pub free : vote_refusal voter t (transaction_digest t) ≡ None
+  pub there : Has (objects_of t) i
+  pub origin : origin_of voter i ≡ d
+
+pub seen-by : (s : Setting) (events : List Event) → IsHonestRun s events → AreApart s.opening → (n : ℕ) (seat : Seat) → slice_get (world_after s events).seats n ≡ Some seat
+    → (h : Held) → Has (member_in s seat).held h → (i : Input) (d : Option Digest) → Has (joined_inputs h.cert) (i, d) → IsSeen (member_in s seat) h.cert.tx i d
+seen-by s events honest distinct n seat at h held i d joined =
     let given = each-has (IsHeldAsGiven s.rules (all_delivered s events) (member_in s seat).epoch) (member_in s seat).held h (every-held s events n seat at) held in
     let formed = was-formed s events honest (member_in s seat).epoch h.digest h.cert given in
     let v = voter s events honest h.cert h.cert formed formed in
@@ -172,5 +176,10 @@ owned-present s events honest distinct n seat at h held i d joined done =
     let agree = members-agree s cast.front cast.back (subst (IsHonestRun s) (sym cast.whole) honest) distinct cast.member n cast.seat seat cast.at
     (subst (λ (es : List Event). slice_get (world_after s es).seats n ≡ Some seat) (sym cast.whole) at) (sym cast.epoch ∙ given.epoch_is) in
     let named = origin-named (ballot (member_in s cast.seat)) h.cert.tx h.cert.origins cast.named i d joined in
-    input-found (ballot (member_in s cast.seat)) (member_in s seat) agree.openings agree.executions i d
-    (not-absent (ballot (member_in s cast.seat)) h.cert.tx cast.free i named.0) named.1 done
+    record { voter = ballot (member_in s cast.seat); openings = agree.openings; same = agree.executions; free = cast.free; there = named.0; origin = named.1 }
+
+pub owned-present : (s : Setting) (events : List Event) → IsHonestRun s events → AreApart s.opening → (n : ℕ) (seat : Seat) → slice_get (world_after s events).seats n ≡ Some seat
+    → (h : Held) → Has (member_in s seat).held h → (i : Input) (d : Option Digest) → Has (joined_inputs h.cert) (i, d) → is_origin_done (member_in s seat).executed d ≡ true → IsPresent (member_in s seat) i d
+owned-present s events honest distinct n seat at h held i d joined done =
+    let seen = seen-by s events honest distinct n seat at h held i d joined in
+    input-found seen.voter (member_in s seat) seen.openings seen.same i d (not-absent seen.voter h.cert.tx seen.free i seen.there) seen.origin done

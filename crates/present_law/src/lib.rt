@@ -3,7 +3,7 @@
 #![tactic(auto)]
 
 ghost use Rattle.present_law.specs.Cast.{EveryVoteWasCast};
-ghost use Rattle.present_law.specs.Present.{OwnedInputsArePresent};
+ghost use Rattle.present_law.specs.Present.{OwnedInputsArePresent, OwnedInputsFit};
 
 /// Each vote that stands in a journal was cast behind some front of the run, in a state in which no case refused it, and
 /// names the origins that the rule gives there.
@@ -15,4 +15,10 @@ pub fn every_vote_was_cast()
 /// executed its origin.
 pub fn owned_inputs_are_present()
     ensures { OwnedInputsArePresent }
+{}
+
+/// And the version that is found for it is what the input says: its id, version and digest, and its owner is the sender,
+/// or it is immutable.
+pub fn owned_inputs_fit()
+    ensures { OwnedInputsFit }
 {}
