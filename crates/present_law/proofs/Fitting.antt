@@ -4,26 +4,23 @@ use Rattle.std.specs.Prelude.{◌≡◌, ◌⊎◌, ℕ, Bool, true, false, not,
 use Rattle.digest_core.specs.declared.Digest.{Digest}
 use Rattle.chain_types.specs.declared.objects.ObjectKey.{ObjectKey}
 use Rattle.chain_types.specs.declared.objects.Object.{Object}
-use Rattle.chain_types.specs.declared.objects.Producer.TheVariants as producers
 use Rattle.chain_types.specs.declared.objects.ObjectRef.{ObjectRef}
 use Rattle.chain_types.specs.declared.transactions.Input.{Input}
 use Rattle.chain_types.specs.declared.transactions.Input.TheVariants as inputs
 use Rattle.chain_types.specs.declared.transactions.Transaction.{Transaction}
-use Rattle.chain_types.specs.declared.refusals.DecideRefusal.{DecideRefusal}
 use Rattle.chain_types.specs.declared.refusals.DecideRefusal.TheVariants as refused
 use Rattle.chain_types.specs.Equal.{digest_eq, id_eq, key_eq}
 use Rattle.chain_types.specs.Digests.{digest_of_object, key_of, transaction_digest}
 use Rattle.block_types.specs.declared.pieces.Executed.{Executed}
 use Rattle.member_types.specs.declared.answers.Held.{Held}
 use Rattle.schedule_text.specs.declared.words.Event.{Event}
-use Rattle.chain_spec.specs.Words.{Has, Along, repeats, where_true}
-use Rattle.chain_spec.specs.Tests.{producer_eq}
+use Rattle.chain_spec.specs.Words.{Has, repeats, where_true}
 use Rattle.chain_spec.specs.Keys.{object_key, objects_of, is_address, is_owned_by, is_immutable, fits_input}
 use Rattle.chain_spec.proofs.ListLemmas.{and-first, find-test}
-use Rattle.member_spec.specs.Versions.{Execution, Version, opened, written, versions, is_key, version_at, object_in}
-use Rattle.member_spec.specs.Votes.{Ballot, object_held, of_held, absent, wrong_digest, wrong_owner, wrong_kind, vote_cases, vote_refusal, maker, made_by, origin_of}
+use Rattle.member_spec.specs.Versions.{Execution, Version, versions, is_key, version_at, object_in}
+use Rattle.member_spec.specs.Votes.{Ballot, object_held, of_held, absent, wrong_digest, wrong_owner, wrong_kind, vote_cases, vote_refusal, maker, made_by}
 use Rattle.member_spec.specs.Admission.{joined_inputs}
-use Rattle.member_spec.specs.Rounds.{Wanted, wanted_version, is_wanted, found}
+use Rattle.member_spec.specs.Rounds.{wanted_version, is_wanted, found}
 use Rattle.member_spec.specs.Member.{Member, books}
 use Rattle.world_spec.specs.Setting.{Setting}
 use Rattle.world_spec.specs.World.{Seat, member_in}
@@ -33,7 +30,7 @@ use Rattle.votes_law.proofs.Apart.{none-each, none-of, accepted}
 use Rattle.votes_law.proofs.Kept.{find-has}
 use Rattle.agreement_law.specs.Explained.{IsExplained}
 use Rattle.agreement_law.proofs.Executing.{executions-explained}
-use Rattle.agreement_law.proofs.Agreeing.{id-same, one-key, both-key}
+use Rattle.agreement_law.proofs.Agreeing.{one-key, both-key}
 use Rattle.chain_law.specs.Orderly.{AreApart}
 use Rattle.chain_law.proofs.Standing.{stands-opening}
 use Rattle.current_law.proofs.Lists.{along-split}
@@ -52,7 +49,7 @@ one-id os a b apart h k e = same (sym (stands-opening os a apart h) ∙ ap (get 
     same e = cc
 
 -- no key is written twice by one execution
-abbrev WritesOnce : Execution → Type 0
+abbrev pub WritesOnce : Execution → Type 0
 WritesOnce x = repeats key_eq (map object_key x.gave.objects) ≡ false
 
 module _ (b : Ballot) (m : Member) (openings : b.opening ≡ m.opening) (same : (x y : Execution) → Has b.executed x → Has m.executed y → x.digest ≡ y.digest → x.gave ≡ y.gave)
@@ -139,7 +136,7 @@ is-accepted b t free i h =
       kind = none-of (wrong_kind b) (objects_of t) i cases.1.1.1.1.1.0 h;
     }
 
-held-some : (b : Ballot) (key : ObjectKey) → is_some (object_held b key) ≡ true → (o : Object) × (object_held b key ≡ Some o)
+pub held-some : (b : Ballot) (key : ObjectKey) → is_some (object_held b key) ≡ true → (o : Object) × (object_held b key ≡ Some o)
 held-some b key e = go (object_held b key) refl e
   where
     go : (h : Option Object) → object_held b key ≡ h → is_some h ≡ true → (o : Object) × (object_held b key ≡ Some o)
@@ -147,7 +144,7 @@ held-some b key e = go (object_held b key) refl e
     go (Some o) q e = (o, q)
 
 module _ (m : Member) (t : Transaction) (apart : AreApart m.opening) (once : (y : Execution) → Has m.executed y → WritesOnce y) where
-  input-fits : (i : Input) (d : Option Digest) → IsSeen m t i d → FitsAsNamed m t i d
+  pub input-fits : (i : Input) (d : Option Digest) → IsSeen m t i d → FitsAsNamed m t i d
   input-fits (inputs.Pure bytes) d seen = tt
   input-fits (inputs.Owned r) d seen = λ p f.
       let ok = is-accepted seen.voter t seen.free (inputs.Owned r) seen.there in
@@ -161,7 +158,7 @@ module _ (m : Member) (t : Transaction) (apart : AreApart m.opening) (once : (y 
       frozen-fits seen.voter t p r (o.1 ∙ ap Some one.0) ok.digest ok.kind one.1
   input-fits (inputs.Shared id initial mutable) d seen = tt
 
-writes-once : (s : Setting) (events : List Event) (n : ℕ) (seat : Seat) → slice_get (world_after s events).seats n ≡ Some seat → (y : Execution) → Has (member_in s seat).executed y → WritesOnce y
+pub writes-once : (s : Setting) (events : List Event) (n : ℕ) (seat : Seat) → slice_get (world_after s events).seats n ≡ Some seat → (y : Execution) → Has (member_in s seat).executed y → WritesOnce y
 writes-once s events n seat at y h =
     let it = (along-split (IsExplained (books (member_in s seat))) [] (member_in s seat).executed y (executions-explained s events n seat at) h).3 in
     subst (λ (g : Executed). repeats key_eq (map object_key g.objects) ≡ false) (sym (ap (λ (z : Execution). z.gave) it.is)) it.once

@@ -1,3 +1,4 @@
 pub mod Cast
 pub mod Present
 pub mod Fitting
+pub mod Whole

@@ -166,17 +166,33 @@ pub record IsSeen (m : Member) (t : Transaction) (i : Input) (d : Option Digest)
   pub there : Has (objects_of t) i
   pub origin : origin_of voter i ≡ d
 
-pub seen-by : (s : Setting) (events : List Event) → IsHonestRun s events → AreApart s.opening → (n : ℕ) (seat : Seat) → slice_get (world_after s events).seats n ≡ Some seat
-    → (h : Held) → Has (member_in s seat).held h → (i : Input) (d : Option Digest) → Has (joined_inputs h.cert) (i, d) → IsSeen (member_in s seat) h.cert.tx i d
-seen-by s events honest distinct n seat at h held i d joined =
+-- so of all inputs
+pub record IsVoted (m : Member) (t : Transaction) (origins : List (Option Digest)) : Type 0 where
+  pub voter : Ballot
+  pub openings : voter.opening ≡ m.opening
+  pub same : (x y : Execution) → Has voter.executed x → Has m.executed y → x.digest ≡ y.digest → x.gave ≡ y.gave
+  pub free : vote_refusal voter t (transaction_digest t) ≡ None
+  pub named : vote_origins voter t ≡ origins
+
+pub seen-in : (m : Member) (t : Transaction) (origins : List (Option Digest)) → IsVoted m t origins → (i : Input) (d : Option Digest) → Has (zip (objects_of t) origins) (i, d) → IsSeen m t i d
+seen-in m t origins v i d joined =
+    let named = origin-named v.voter t origins v.named i d joined in
+    record { voter = v.voter; openings = v.openings; same = v.same; free = v.free; there = named.0; origin = named.1 }
+
+pub voted-by : (s : Setting) (events : List Event) → IsHonestRun s events → AreApart s.opening → (n : ℕ) (seat : Seat) → slice_get (world_after s events).seats n ≡ Some seat
+    → (h : Held) → Has (member_in s seat).held h → IsVoted (member_in s seat) h.cert.tx h.cert.origins
+voted-by s events honest distinct n seat at h held =
     let given = each-has (IsHeldAsGiven s.rules (all_delivered s events) (member_in s seat).epoch) (member_in s seat).held h (every-held s events n seat at) held in
     let formed = was-formed s events honest (member_in s seat).epoch h.digest h.cert given in
     let v = voter s events honest h.cert h.cert formed formed in
     let cast = every-vote-was-cast s events v.member v.seat v.at h.cert.tx h.cert.origins v.first in
     let agree = members-agree s cast.front cast.back (subst (IsHonestRun s) (sym cast.whole) honest) distinct cast.member n cast.seat seat cast.at
     (subst (λ (es : List Event). slice_get (world_after s es).seats n ≡ Some seat) (sym cast.whole) at) (sym cast.epoch ∙ given.epoch_is) in
-    let named = origin-named (ballot (member_in s cast.seat)) h.cert.tx h.cert.origins cast.named i d joined in
-    record { voter = ballot (member_in s cast.seat); openings = agree.openings; same = agree.executions; free = cast.free; there = named.0; origin = named.1 }
+    record { voter = ballot (member_in s cast.seat); openings = agree.openings; same = agree.executions; free = cast.free; named = cast.named }
+
+pub seen-by : (s : Setting) (events : List Event) → IsHonestRun s events → AreApart s.opening → (n : ℕ) (seat : Seat) → slice_get (world_after s events).seats n ≡ Some seat
+    → (h : Held) → Has (member_in s seat).held h → (i : Input) (d : Option Digest) → Has (joined_inputs h.cert) (i, d) → IsSeen (member_in s seat) h.cert.tx i d
+seen-by s events honest distinct n seat at h held = seen-in (member_in s seat) h.cert.tx h.cert.origins (voted-by s events honest distinct n seat at h held)
 
 pub owned-present : (s : Setting) (events : List Event) → IsHonestRun s events → AreApart s.opening → (n : ℕ) (seat : Seat) → slice_get (world_after s events).seats n ≡ Some seat
     → (h : Held) → Has (member_in s seat).held h → (i : Input) (d : Option Digest) → Has (joined_inputs h.cert) (i, d) → is_origin_done (member_in s seat).executed d ≡ true → IsPresent (member_in s seat) i d

@@ -1,5 +1,5 @@
 -- What a certificate wants is there.
-use Rattle.std.specs.Prelude.{◌≡◌, ℕ, true, List, slice_get, Option, Some, is_some}
+use Rattle.std.specs.Prelude.{◌≡◌, ℕ, true, false, List, slice_get, Option, Some, is_some}
 use Rattle.digest_core.specs.declared.Digest.{Digest}
 use Rattle.chain_types.specs.declared.objects.Object.{Object}
 use Rattle.chain_types.specs.declared.transactions.Transaction.{Transaction}
@@ -9,11 +9,11 @@ use Rattle.chain_types.specs.Digests.{key_of}
 use Rattle.member_types.specs.declared.answers.Held.{Held}
 use Rattle.schedule_text.specs.declared.words.Event.{Event}
 use Rattle.chain_spec.specs.Words.{Has}
-use Rattle.chain_spec.specs.Keys.{fits_input}
+use Rattle.chain_spec.specs.Keys.{has_shared_input, fits_input, fits}
 use Rattle.member_spec.specs.Versions.{versions}
 use Rattle.member_spec.specs.Admission.{joined_inputs}
-use Rattle.member_spec.specs.Rounds.{wanted_version, found, is_origin_done}
-use Rattle.member_spec.specs.Member.{Member}
+use Rattle.member_spec.specs.Rounds.{wanted_version, found, present, is_origin_done}
+use Rattle.member_spec.specs.Member.{Member, books}
 use Rattle.world_spec.specs.Setting.{Setting}
 use Rattle.world_spec.specs.World.{Seat, member_in}
 use Rattle.world_spec.specs.Run.{world_after}
@@ -47,3 +47,10 @@ OwnedInputsFit = (s : Setting) (events : List Event) → IsHonestRun s events �
     → (m : ℕ) (seat : Seat) → slice_get (world_after s events).seats m ≡ Some seat
     → (h : Held) → Has (member_in s seat).held h → (i : Input) (origin : Option Digest) → Has (joined_inputs h.cert) (i, origin)
     → FitsAsNamed (member_in s seat) h.cert.tx i origin
+
+-- so where all that a certificate without shared inputs wants is there, it fits the transaction
+abbrev pub CertificatesFit : Type 0
+CertificatesFit = (s : Setting) (events : List Event) → IsHonestRun s events → AreApart s.opening
+    → (m : ℕ) (seat : Seat) → slice_get (world_after s events).seats m ≡ Some seat
+    → (h : Held) → Has (member_in s seat).held h → has_shared_input h.cert.tx ≡ false
+    → (objects : List Object) → present (books (member_in s seat)) (member_in s seat).executed h ≡ Some objects → fits h.cert.tx objects ≡ true

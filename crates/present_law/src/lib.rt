@@ -3,7 +3,7 @@
 #![tactic(auto)]
 
 ghost use Rattle.present_law.specs.Cast.{EveryVoteWasCast};
-ghost use Rattle.present_law.specs.Present.{OwnedInputsArePresent, OwnedInputsFit};
+ghost use Rattle.present_law.specs.Present.{CertificatesFit, OwnedInputsArePresent, OwnedInputsFit};
 
 /// Each vote that stands in a journal was cast behind some front of the run, in a state in which no case refused it, and
 /// names the origins that the rule gives there.
@@ -21,4 +21,9 @@ pub fn owned_inputs_are_present()
 /// or it is immutable.
 pub fn owned_inputs_fit()
     ensures { OwnedInputsFit }
+{}
+
+/// So a held certificate without shared inputs, all of whose inputs are present, fits its transaction: it is not unfit.
+pub fn certificates_fit()
+    ensures { CertificatesFit }
 {}
