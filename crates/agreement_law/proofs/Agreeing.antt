@@ -87,7 +87,7 @@ pub id-same : (a b : ObjectId) → id_eq a b ≡ true → a ≡ b
 id-same a b e = ap (λ (d : Digest). let id : ObjectId = record { 0 = d } in id) (equal a.0 b.0 e)
 
 -- of objects with different keys two with one key are one
-one-key : (os : List Object) (a b : Object) → repeats key_eq (map object_key os) ≡ false → Has os a → Has os b → object_key a ≡ object_key b → a ≡ b
+pub one-key : (os : List Object) (a b : Object) → repeats key_eq (map object_key os) ≡ false → Has os a → Has os b → object_key a ≡ object_key b → a ≡ b
 one-key [] a b once h k e = absurd h
 one-key (o ∷ os) a b once (inl p) (inl q) e = sym p ∙ q
 one-key (o ∷ os) a b once (inl p) (inr k) e =
@@ -100,7 +100,7 @@ one-key (o ∷ os) a b once (inr h) (inl q) e =
     absurd (cc)
 one-key (o ∷ os) a b once (inr h) (inr k) e = one-key os a b (or-second (list_any (key_eq (object_key o)) (map object_key os)) (repeats key_eq (map object_key os)) once) h k e
 
-both-key : (a b : Object) (key : ObjectKey) → key_eq (object_key a) key ≡ true → key_eq (object_key b) key ≡ true → object_key a ≡ object_key b
+pub both-key : (a b : Object) (key : ObjectKey) → key_eq (object_key a) key ≡ true → key_eq (object_key b) key ≡ true → object_key a ≡ object_key b
 both-key a b key e f =
     let i : a.id ≡ b.id = id-same a.id key.id (and-first (id_eq a.id key.id) (a.version == key.version) e) ∙ sym (id-same b.id key.id (and-first (id_eq b.id key.id) (b.version == key.version) f)) in
     let v : a.version ≡ b.version = eqb-true a.version key.version (and-second (id_eq a.id key.id) (a.version == key.version) e) ∙ sym (eqb-true b.version key.version (and-second (id_eq b.id key.id) (b.version == key.version) f)) in
@@ -163,7 +163,7 @@ module _ (opening : List Object) (p q : Books) (at_p : p.opening ≡ opening) (a
     (alike : (h k : Held) → Has p.held h → Has q.held k → h.digest ≡ k.digest → (h.cert.tx ≡ k.cert.tx) × (h.cert.origins ≡ k.cert.origins))
     (along : IsFront p.admission.admitted q.admission.admitted ⊎ IsFront q.admission.admitted p.admission.admitted)
     (ys : List Execution) (explained : Along (IsExplained q) [] ys) where
-  abbrev Agrees : List Execution → Type 0
+  abbrev pub Agrees : List Execution → Type 0
   Agrees xs = (x : Execution) → Has xs x → (y : Execution) → Has ys y → x.digest ≡ y.digest → x.gave ≡ y.gave
 
   once-in : (y : Execution) → Has ys y → repeats key_eq (map object_key y.gave.objects) ≡ false
@@ -247,7 +247,7 @@ module _ (opening : List Object) (p q : Books) (at_p : p.opening ≡ opening) (a
           same-gave before it.0 agrees it.1.1 z y (subst (IsExplained p before) s one) it.1.0 e
       go (inr (inr h)) = absurd h
 
-  all-agree : (xs before : List Execution) → Agrees before → Along (IsExplained p) before xs → Agrees (before ++ xs)
+  pub all-agree : (xs before : List Execution) → Agrees before → Along (IsExplained p) before xs → Agrees (before ++ xs)
   all-agree [] before agrees next = subst Agrees (sym (append-nil before)) agrees
   all-agree (x ∷ xs) before agrees next = subst Agrees (append_assoc before (x ∷ []) xs) (all-agree xs (before ++ x ∷ []) (next-agrees before x agrees next.0) next.1)
 

@@ -237,7 +237,7 @@ module _ (r : Rules) (sequences : List (List Entry)) where
   taken-after m call record_as.Turn comes d taken = none-taken (after r m record_as.Turn) refl
   taken-after m call (record_as.Ran2 items) comes d taken = same-sequence m taken (after r m (record_as.Ran2 items)) refl refl refl
 
-more-taken : (r : Rules) (old new : List (List Entry)) (m : Member) → Grown old new → IsTaken r (entries_at old m.epoch) m → IsTaken r (entries_at new m.epoch) m
+pub more-taken : (r : Rules) (old new : List (List Entry)) (m : Member) → Grown old new → IsTaken r (entries_at old m.epoch) m → IsTaken r (entries_at new m.epoch) m
 more-taken r old new m grown taken = record {
   front = taken.front;
   is_front = front-then taken.front (entries_at old m.epoch) (entries_at new m.epoch) taken.is_front (grown m.epoch);
@@ -259,7 +259,7 @@ follows s events m seat e =
 
 -- ---- of two members the one is earlier
 
-alike : (r : Rules) (entries : List Entry) (a b : Member) → IsTaken r entries a → IsTaken r entries b → a.epoch ≡ b.epoch → a.opening ≡ b.opening → IsEarlier a.sequence b.sequence ⊎ IsEarlier b.sequence a.sequence
+pub alike : (r : Rules) (entries : List Entry) (a b : Member) → IsTaken r entries a → IsTaken r entries b → a.epoch ≡ b.epoch → a.opening ≡ b.opening → IsEarlier a.sequence b.sequence ⊎ IsEarlier b.sequence a.sequence
 alike r entries a b one two epoch opening = go (either-front one.front two.front one.is_front.0 two.is_front.0 (sym one.is_front.1 ∙ two.is_front.1))
   where
     -- what the entries give to the first is what they give to the second

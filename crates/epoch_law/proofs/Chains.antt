@@ -1,5 +1,5 @@
 -- Orderly steps are links of chains.
-use Rattle.std.proofs.Common.{inl, inr, refl, sym, subst, ap, ◌∙◌}
+use Rattle.std.proofs.Common.{inl, inr, sym, subst, ap, ◌∙◌}
 use Rattle.std.specs.Prelude.{◌≡◌, ◌<◌, ℕ, true, List, [], ◌∷◌, ◌++◌, map, zip, slice_get, Some}
 use Rattle.std.specs.FinMap.{get}
 use Rattle.chain_types.specs.declared.objects.Object.{Object}
@@ -7,10 +7,10 @@ use Rattle.chain_types.specs.declared.transactions.Input.{Input}
 use Rattle.chain_types.specs.declared.transactions.Transaction.{Transaction}
 use Rattle.schedule_text.specs.declared.words.Event.{Event}
 use Rattle.chain_spec.specs.Words.{Has, Along}
-use Rattle.chain_spec.specs.Keys.{objects_of, version_of, fits_input, fit_inputs}
+use Rattle.chain_spec.specs.Keys.{objects_of, fits_input, fit_inputs}
 use Rattle.chain_spec.proofs.ListLemmas.{and-second}
 use Rattle.member_spec.specs.Admission.{Admitted}
-use Rattle.member_spec.specs.Sequential.{Objects, map_of, map_after, Folded}
+use Rattle.member_spec.specs.Sequential.{Objects, map_of, Folded}
 use Rattle.world_spec.specs.Setting.{Setting}
 use Rattle.world_spec.specs.World.{Seat, member_in}
 use Rattle.world_spec.specs.Run.{world_after}
@@ -18,7 +18,7 @@ use Rattle.world_spec.specs.Assumptions.{IsHonestRun}
 use Rattle.chain_law.specs.Orderly.{Step, gave, IsOrderly, AreOrderly, AreApart}
 use Rattle.chain_law.proofs.Standing.{stands-after}
 use Rattle.chain_law.proofs.Touched.{written-version, above}
-use Rattle.chain_law.proofs.Reading.{fits-inputs, after_steps, after-push, Finds, IsGoneOver, given-once, finds-next, over-next, thread-is}
+use Rattle.chain_law.proofs.Reading.{fits-inputs, after_steps, after-push, IsGoneOver, given-once, finds-next, over-next, thread-is}
 use Rattle.current_law.specs.Steps.{step_of}
 use Rattle.current_law.specs.Orderly.{IsExecutedFront}
 use Rattle.current_law.proofs.Ordered.{steps-orderly}

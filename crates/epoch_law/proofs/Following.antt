@@ -1,6 +1,6 @@
 -- Orderly steps are transactions that may run one after the other on one thread's map.
 use Rattle.std.proofs.Common.{inl, inr, refl, sym, subst, ap, ◌∙◌, append_assoc, append-nil}
-use Rattle.std.specs.Prelude.{◌≡◌, ℕ, true, List, [], ◌∷◌, ◌++◌, map, fold, Option, Some, None, Result, Ok, Err}
+use Rattle.std.specs.Prelude.{◌≡◌, true, List, [], ◌∷◌, ◌++◌, map, fold, Some, None, Result, Ok, Err}
 use Rattle.std.specs.FinMap.{get}
 use Rattle.chain_types.specs.declared.objects.ObjectId.{ObjectId}
 use Rattle.digest_core.specs.declared.Digest.{Digest}
@@ -10,10 +10,9 @@ use Rattle.chain_types.specs.Digests.{transaction_digest}
 use Rattle.chain_spec.specs.Words.{Has, Each, Along, numbers_below}
 use Rattle.chain_spec.specs.Keys.{fits}
 use Rattle.chain_spec.specs.Shape.{shape_fault}
-use Rattle.chain_spec.proofs.ListLemmas.{along-push}
 use Rattle.block_spec.specs.Block.{Block}
 use Rattle.block_spec.specs.Execution.{Failure, outcome, execution, executed_by}
-use Rattle.member_spec.specs.Sequential.{Objects, map_of, read_by, map_after, Folded, fold_one, fold_all}
+use Rattle.member_spec.specs.Sequential.{Objects, map_of, read_by, Folded, fold_one, fold_all}
 use Rattle.block_law.specs.Names.{drawn_id, drawn_ids}
 use Rattle.sequence_law.specs.Kept.{MayFollow, Follow, opened_with}
 use Rattle.chain_law.specs.Orderly.{Step, gave, tx_of, id_of, IsKnown, IsOrderly, AreOrderly, AreApart, ReadsSame}

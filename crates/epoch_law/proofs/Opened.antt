@@ -27,6 +27,7 @@ use Rattle.agreement_law.proofs.Appends.{a_turn, appended_as, appended_by, due-a
 use Rattle.chain_law.specs.Orderly.{AreApart}
 use Rattle.epoch_law.specs.Opened.{OpensAsLeft}
 use Rattle.epoch_law.proofs.Ended.{more-left, same-opening}
+use Rattle.epoch_law.proofs.OneCall.{one-call}
 use Rattle.epoch_law.proofs.Turned.{turn-left}
 
 -- ---- the calls of a line that is no turn
@@ -99,33 +100,9 @@ module _ (s : Setting) where
 
   -- ---- a turn
 
-  module _ (w : World) (m : ℕ) (seat : Seat) (at : slice_get w.seats m ≡ Some seat) (turn : (x : Record) → due s.rules (member_in s seat) turns ≡ Some x → Left w.sequences seat.records → Left w.sequences (seat.records ++ x ∷ [])) where
-    stopped-left : (kept : Bool) (x : Record) → due s.rules (member_in s seat) turns ≡ Some x → Left w.sequences seat.records → Left w.sequences (stopped_seat seat kept x).records
-    stopped-left true x d left = turn x d left
-    stopped-left false x d left = left
-
-    answered-left : (x : Option Record) → due s.rules (member_in s seat) turns ≡ x → Left w.sequences seat.records → Left w.sequences (appended seat.records x)
-    answered-left None d left = left
-    answered-left (Some x) d left = turn x d left
-
-    behind-left : (r : Reached) → reached_seat s turns seat ≡ r → WorldLeft w → AllLeft w.sequences (behind s w m turns seat r).seats
-    behind-left finds_down e all = all
-    behind-left (stops kept x) e all = each-set (λ (y : Seat). Left w.sequences y.records) w.seats m (stopped_seat seat kept x) all
-        (stopped-left kept x (stopped-due s (λ call. Unit {0}) (λ records. Unit {0}) (λ records call x g d p. tt) seat turns kept x e) (each-get (λ (y : Seat). Left w.sequences y.records) w.seats m seat all at))
-    behind-left (answers before x) e all = each-set (λ (y : Seat). Left w.sequences y.records) w.seats m (record seat { records = appended seat.records x }) all
-        (answered-left x (answered-due s (λ call. Unit {0}) (λ records. Unit {0}) (λ records call x g d p. tt) seat turns before x e) (each-get (λ (y : Seat). Left w.sequences y.records) w.seats m seat all at))
-
   -- at these seats a turn opens the next epoch with what is left
   abbrev TurnsLeft : World → Type 0
   TurnsLeft w = (m : ℕ) (seat : Seat) → slice_get w.seats m ≡ Some seat → (x : Record) → due s.rules (member_in s seat) turns ≡ Some x → Left w.sequences seat.records → Left w.sequences (seat.records ++ x ∷ [])
-
-  turned-at : (w : World) → TurnsLeft w → (m : ℕ) (seat : Option Seat) → slice_get w.seats m ≡ seat → WorldLeft w → AllLeft w.sequences (called_seat s w m turns seat).seats
-  turned-at w turn m None at all = all
-  turned-at w turn m (Some seat) at all = behind-left w m seat at (turn m seat at) (reached_seat s turns seat) refl all
-
-  turned-left : (w : World) → TurnsLeft w → (m : ℕ) → WorldLeft w → AllLeft w.sequences (called_in s w m turns).seats
-  unfolding called_in
-  turned-left w turn m all = turned-at w turn m (slice_get w.seats m) refl all
 
   -- ---- a line
 
@@ -138,7 +115,7 @@ module _ (s : Setting) where
 
   turn-line : (w : World) → TurnsLeft w → (m : ℕ) → WorldLeft w → AllLeft w.sequences (happens s w (event.Turn m)).seats
   unfolding happens
-  turn-line w turn m all = turned-left w turn m all
+  turn-line w turn m all = one-call s (Left w.sequences) w turns turn m all
 
   line-left : (w : World) (e : Event) → TurnsLeft w → WorldLeft w → WorldLeft (happens s w e)
   line-left w (event.Tx name sender spoiled epoch gas budget inputs commands) turn all = other-left w (event.Tx name sender spoiled epoch gas budget inputs commands) tt all
@@ -194,11 +171,13 @@ module _ (s : Setting) where
   grows-run (e ∷ events) w epoch =
       front-then (entries_at w.sequences epoch) (entries_at (happens s w e).sequences epoch) (entries_at (run s events (happens s w e)).sequences epoch) (grows-line s w e epoch) (grows-run events (happens s w e) epoch)
 
+  pub grows-after : (front back : List Event) → Grown (world_after s front).sequences (world_after s (front ++ back)).sequences
+  grows-after front back = subst (λ (v : World). Grown (world_after s front).sequences v.sequences) (sym (world-append s front back)) (grows-run back (world_after s front))
+
   pub opened-alike : (front back : List Event) → IsHonestRun s (front ++ back) → AreApart s.opening → (m n : ℕ) (a b : Seat)
       → slice_get (world_after s front).seats m ≡ Some a → slice_get (world_after s (front ++ back)).seats n ≡ Some b → (member_in s a).epoch ≡ (member_in s b).epoch → (member_in s a).opening ≡ (member_in s b).opening
   opened-alike front back honest distinct m n a b at by epoch =
       let early = every-opening front (honest-front s front back honest) distinct m a at in
       let late = every-opening (front ++ back) honest distinct n b by in
-      let grown = subst (λ (v : World). Grown (world_after s front).sequences v.sequences) (sym (world-append s front back)) (grows-run back (world_after s front)) in
-      early.opening ∙ sym (same-opening s (world_after s front).sequences (world_after s (front ++ back)).sequences grown (member_in s a).epoch early.past)
+      early.opening ∙ sym (same-opening s (world_after s front).sequences (world_after s (front ++ back)).sequences (grows-after front back) (member_in s a).epoch early.past)
       ∙ ap (opening_at s (world_after s (front ++ back)).sequences) epoch ∙ sym late.opening

@@ -16,7 +16,7 @@ use Rattle.chain_spec.specs.Words.{Each, repeats}
 use Rattle.chain_spec.specs.Keys.{money_of, currency_sum}
 use Rattle.member_spec.specs.Versions.{id_cmp}
 use Rattle.member_spec.specs.Sequence.{Sequence}
-use Rattle.member_spec.specs.Sequential.{Objects, map_of, fold_all}
+use Rattle.member_spec.specs.Sequential.{map_of, fold_all}
 use Rattle.world_spec.specs.Setting.{Trust, Setting, objects_from, with_new, setting_of}
 use Rattle.world_spec.specs.World.{Seat, member_in}
 use Rattle.world_spec.specs.Openings.{checkpointed, sequence_of, opening_at}
@@ -26,7 +26,7 @@ use Rattle.block_law.specs.Money.{supply_of, caps_of, supply_sum, cap_count}
 use Rattle.block_law.proofs.Sums.{objects_weight, option_weight, objects-append}
 use Rattle.block_law.proofs.Keeping.{sum-weight}
 use Rattle.sequence_law.specs.Kept.{held_in, supplied_in, gas_of}
-use Rattle.sequence_law.proofs.Moving.{map_weight, at_id, ids_at, change-weight}
+use Rattle.sequence_law.proofs.Moving.{map_weight, ids_at, change-weight}
 use Rattle.sequence_law.proofs.Following.{stay_backed, gas_goes, caps_stay}
 use Rattle.chain_law.specs.Orderly.{id_of, AreApart}
 use Rattle.epoch_law.specs.Opened.{IsOver, IsPast}

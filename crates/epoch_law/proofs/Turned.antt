@@ -59,7 +59,7 @@ has-all : {A : Type 0} (test : A → Bool) (xs : List A) → ((x : A) → Has xs
 has-all test [] each = refl
 has-all test (x ∷ xs) each = rw (each x (inl refl)) (has-all test xs (λ y h. each y (inr h)))
 
-flat-has : {A B : Type 0} (f : A → List B) (xs : List A) (x : A) (y : B) → Has xs x → Has (f x) y → Has (flat_map f xs) y
+pub flat-has : {A B : Type 0} (f : A → List B) (xs : List A) (x : A) (y : B) → Has xs x → Has (f x) y → Has (flat_map f xs) y
 flat-has f [] x y h k = absurd h
 flat-has f (z ∷ xs) x y (inl e) k = has-left (f z) (flat_map f xs) y (subst (λ w. Has (f w) y) (sym e) k)
 flat-has f (z ∷ xs) x y (inr h) k = has-right (f z) (flat_map f xs) y (flat-has f xs x y h k)

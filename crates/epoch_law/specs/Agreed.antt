@@ -1,6 +1,5 @@
 -- What honest members of one epoch agree on.
-use Rattle.std.specs.Prelude.{◌≡◌, ◌⊎◌, ℕ, List, map, flat_map, zip, slice_get, Some}
-use Rattle.chain_types.specs.declared.transactions.Transaction.{Transaction}
+use Rattle.std.specs.Prelude.{◌≡◌, ◌⊎◌, ℕ, List, ◌++◌, map, flat_map, zip, slice_get, Some}
 use Rattle.effects_core.specs.declared.effects.Effects.{Effects}
 use Rattle.std.specs.Prelude.{Option}
 use Rattle.chain_messages.specs.declared.messages.Entry.{Entry}
@@ -45,7 +44,8 @@ pub record Agree (a b : Member) : Type 0 where
   pub sequences : IsEarlier a.sequence b.sequence ⊎ IsEarlier b.sequence a.sequence
   pub executions : (x y : Execution) → Has a.executed x → Has b.executed y → x.digest ≡ y.digest → x.gave ≡ y.gave
 
+-- at whatever two moments of the run, the first of which may be the second
 abbrev pub MembersAgree : Type 0
-MembersAgree = (s : Setting) (events : List Event) → IsHonestRun s events → AreApart s.opening
-    → (m n : ℕ) (a b : Seat) → slice_get (world_after s events).seats m ≡ Some a → slice_get (world_after s events).seats n ≡ Some b
+MembersAgree = (s : Setting) (front back : List Event) → IsHonestRun s (front ++ back) → AreApart s.opening
+    → (m n : ℕ) (a b : Seat) → slice_get (world_after s front).seats m ≡ Some a → slice_get (world_after s (front ++ back)).seats n ≡ Some b
     → (member_in s a).epoch ≡ (member_in s b).epoch → Agree (member_in s a) (member_in s b)

@@ -25,8 +25,8 @@ pub fn every_checkpoint()
     ensures { EveryCheckpoint }
 {}
 
-/// Of two members of one epoch, the one admitted and cut what the other did or will, and what both executed gave the
-/// same, in whatever order they executed.
+/// Of two members of one epoch, at whatever two moments of the run, the one admitted and cut what the other did or will,
+/// and what both executed gave the same, in whatever order they executed.
 pub fn members_agree()
     ensures { MembersAgree }
 {}

@@ -1,13 +1,12 @@
 -- A record that is due is allowed, so a start from a member's records goes through all of them.
 use Rattle.std.proofs.Common.{refl, sym, subst, ap, ◌∙◌, append_assoc, append-nil}
 use Rattle.std.proofs.lemmas.Bool.{eq-eqb}
-use Rattle.std.specs.Prelude.{◌≡◌, ℕ, suc, Bool, true, false, cond, not, ◌&&◌, ◌==◌, List, [], ◌∷◌, ◌++◌, slice_get, Option, Some, None, Result, Ok, Err, is_none, is_ok}
+use Rattle.std.specs.Prelude.{◌≡◌, ℕ, suc, Bool, true, false, cond, not, ◌==◌, List, [], ◌∷◌, ◌++◌, slice_get, Option, Some, None, Result, Ok, Err, is_none}
 use Rattle.wire_bcs.specs.declared.fault.WireFault.{WireFault}
 use Rattle.digest_core.specs.declared.Digest.{Digest}
 use Rattle.chain_types.specs.declared.objects.Object.{Object}
 use Rattle.chain_types.specs.declared.transactions.Transaction.{Transaction}
 use Rattle.chain_types.specs.declared.transactions.SignedTx.{SignedTx}
-use Rattle.chain_types.specs.Equal.{digest_eq}
 use Rattle.chain_types.specs.Digests.{transaction_digest}
 use Rattle.chain_messages.specs.declared.messages.Statement.{Statement}
 use Rattle.chain_messages.specs.declared.messages.Statement.TheVariants as statement
@@ -18,7 +17,6 @@ use Rattle.journal_core.specs.declared.records.Record.TheVariants as record_as
 use Rattle.member_types.specs.declared.answers.Ran.{Ran}
 use Rattle.member_types.specs.declared.refusals.VoteRefusal.{VoteRefusal}
 use Rattle.member_types.specs.declared.refusals.VoteRefusal.TheVariants as no_vote
-use Rattle.member_types.specs.declared.refusals.HoldRefusal.{HoldRefusal}
 use Rattle.member_types.specs.declared.refusals.SeeRefusal.{SeeRefusal}
 use Rattle.member_types.specs.declared.refusals.SeeRefusal.TheVariants as no_see
 use Rattle.member_types.specs.declared.refusals.RunRefusal.{RunRefusal}
@@ -26,12 +24,12 @@ use Rattle.member_types.specs.declared.refusals.CloseRefusal.{CloseRefusal}
 use Rattle.member_types.specs.declared.refusals.TurnRefusal.{TurnRefusal}
 use Rattle.schedule_text.specs.declared.words.Event.{Event}
 use Rattle.chain_spec.specs.Words.{Along, first_some, where_true, unless_refused, refused_or}
-use Rattle.chain_spec.specs.Tests.{list_eq, origin_eq, origins_eq}
+use Rattle.chain_spec.specs.Tests.{list_eq, origin_eq}
 use Rattle.chain_spec.specs.Certificates.{Rules, read_signed, read_certificate}
 use Rattle.member_spec.specs.Votes.{Cast}
-use Rattle.member_spec.specs.Member.{Member, fresh, vote_for, after, state}
-use Rattle.member_spec.specs.Calls.{Call, votes, holds, sees, runs, closes, ends, turns, acks, Voted, halted, full, voted_as, new_vote_cases, new_vote, vote_again, vote_on, unsealed_of, vote_read, vote_stopped, vote_answer, hold_certificate, hold_read, hold_stopped, hold_answer, see_cases, run_answer, close_answer, turn_answer, kept_vote, vote_record, is_hold_kept, hold_record, see_record, ran_items, ran_record, run_record, close_record, turn_record, due}
-use Rattle.member_spec.specs.Replay.{states_origins, is_vote_for, ran_item_eq, is_some_list, is_true_answer, is_allowed, replayed_from, replayed}
+use Rattle.member_spec.specs.Member.{Member, vote_for, after, state}
+use Rattle.member_spec.specs.Calls.{Call, votes, holds, sees, runs, closes, ends, turns, acks, Voted, halted, full, vote_again, vote_on, unsealed_of, vote_read, vote_stopped, vote_answer, hold_certificate, hold_read, hold_stopped, hold_answer, see_cases, run_answer, close_answer, turn_answer, kept_vote, vote_record, is_hold_kept, hold_record, see_record, ran_items, ran_record, run_record, close_record, turn_record, due}
+use Rattle.member_spec.specs.Replay.{ran_item_eq, is_allowed, replayed_from, replayed}
 use Rattle.world_spec.specs.Setting.{Setting}
 use Rattle.world_spec.specs.World.{Seat, member_in}
 use Rattle.world_spec.specs.Run.{world_after}

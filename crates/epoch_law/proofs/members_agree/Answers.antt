@@ -2,4 +2,4 @@ use Rattle.epoch_law.proofs.Agreed.{members-agree}
 use Rattle.epoch_law.proofs.members_agree.Goals as goal
 
 pub returns : goal.returns
-returns c = λ s events honest distinct. members-agree s events honest distinct
+returns c = λ s front back honest distinct. members-agree s front back honest distinct

@@ -1,0 +1,4 @@
+pub mod Cast
+pub mod Present
+pub mod Fitting
+pub mod Whole
