@@ -1,6 +1,6 @@
 -- Every member opens each epoch with what the epochs before left: line by line of a run, whose fronts are honest too.
 use Rattle.std.proofs.Common.{refl, sym, subst, ap, ◌∙◌, arith, append_assoc, append-nil}
-use Rattle.std.specs.Prelude.{◌≡◌, ℕ, zero, suc, min, Bool, true, false, List, [], ◌∷◌, ◌++◌, slice_get, Option, Some, None, option_map, option_and_then}
+use Rattle.std.specs.Prelude.{◌≡◌, ℕ, zero, suc, min, List, [], ◌∷◌, ◌++◌, slice_get, Option, Some, None, option_map, option_and_then}
 use Rattle.chain_messages.specs.declared.messages.Certificate.{Certificate}
 use Rattle.chain_messages.specs.declared.messages.Entry.{Entry}
 use Rattle.journal_core.specs.declared.records.Record.{Record}
@@ -11,13 +11,13 @@ use Rattle.chain_spec.specs.Words.{Each}
 use Rattle.member_spec.specs.Member.{Member, after, state}
 use Rattle.member_spec.specs.Calls.{Call, turns, due}
 use Rattle.world_spec.specs.Setting.{Setting}
-use Rattle.world_spec.specs.World.{Seat, Made, World, Reached, finds_down, stops, answers, new_world, member_in, reached_seat, stopped_seat, appended, behind, called_seat, called_in, called_if, state_of, next_call_of, next_call, next_entry, numbered_call, entries_at, member_at}
+use Rattle.world_spec.specs.World.{Seat, Made, World, new_world, member_in, called_if, state_of, next_call_of, next_call, next_entry, numbered_call, entries_at, member_at}
 use Rattle.world_spec.specs.Names.{made_named, cert_named}
 use Rattle.world_spec.specs.Step.{happens, entries_left}
 use Rattle.world_spec.specs.Openings.{opening_at}
 use Rattle.world_spec.specs.Run.{run, world_after}
 use Rattle.world_spec.specs.Assumptions.{vote_call, send_call, call_list, see_calls, ack_call, calls_of, IsHonestRun}
-use Rattle.votes_law.proofs.InWorld.{each-set, each-get, kept-line, new-seats, stopped-due, answered-due}
+use Rattle.votes_law.proofs.InWorld.{each-get, kept-line, new-seats}
 use Rattle.votes_law.proofs.Apart.{state-push}
 use Rattle.one_owner_law.proofs.Grown.{world-append}
 use Rattle.one_owner_law.proofs.Fronts.{honest-front}

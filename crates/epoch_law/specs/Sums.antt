@@ -26,7 +26,7 @@ abbrev pub OnlyGasLeaves : Type 0
 OnlyGasLeaves = (s : Setting) (events : List Event) → IsHonestRun s events → AreApart s.opening → cap_count s.opening 0 ≡ 0
     → (m : ℕ) (seat : Seat) → slice_get (world_after s events).seats m ≡ Some seat → (epoch : ℕ) → epoch < (member_in s seat).epoch
     → currency_sum (opening_at s (world_after s events).sequences (suc epoch)) 0 + epoch_gas s (world_after s events).sequences epoch
-        ≡ currency_sum (opening_at s (world_after s events).sequences epoch) 0
+    ≡ currency_sum (opening_at s (world_after s events).sequences epoch) 0
 
 -- of each other currency the opening objects of every member hold as much as their caps say
 abbrev pub CurrenciesAreBacked : Type 0
