@@ -6,3 +6,4 @@ mod Executions
 mod Kept
 mod Places
 mod News
+mod Makers

@@ -1,0 +1,67 @@
+-- Which places wait behind more executions, and behind one more certificate.
+use Rattle.std.proofs.Common.{◌≡◌, ℕ, zero, suc, ◌+◌, Bool, true, false, cond, not, ◌||◌, List, [], ◌∷◌, ◌++◌, length, Option, Some, None, refl, ap, sym, subst, ◌∙◌, append_assoc, arith}
+use Rattle.std.specs.Prelude.{filter, slice_get}
+use Rattle.member_types.specs.declared.answers.Held.{Held}
+use Rattle.member_spec.specs.Versions.{Execution, is_executed}
+use Rattle.round_run.specs.Steps.{pending_from}
+use Rattle.round_run.specs.Places.{is_pending}
+use Rattle.round_run.proofs.Following.{executed_join}
+use Rattle.round_run.proofs.Rounding.{at_front, longer}
+
+or_true : (a b : Bool) → a ≡ true → (a || b) ≡ true
+or_true a b is = ap (λ c. c || b) is
+
+-- of the places that waited, those of certificates that are still not executed
+module _ (all : List Held) (before more : List Execution) where
+  abbrev waits : ℕ → Bool
+  waits place = is_pending (before ++ more) (slice_get all place)
+
+  still : (front hs : List Held) → all ≡ front ++ hs → filter waits (pending_from before (length front) hs) ≡ pending_from (before ++ more) (length front) hs
+  still front [] is = refl
+  still front (h ∷ hs) is = go (is_executed before h.digest) refl
+    where
+      later : filter waits (pending_from before (suc (length front)) hs) ≡ pending_from (before ++ more) (suc (length front)) hs
+      later = subst (λ n. filter waits (pending_from before n hs) ≡ pending_from (before ++ more) n hs) (longer front h) (still (front ++ h ∷ []) hs (is ∙ sym (append_assoc front (h ∷ []) hs)))
+
+      here : waits (length front) ≡ not (is_executed (before ++ more) h.digest)
+      here = ap (is_pending (before ++ more)) (ap (λ xs. slice_get xs (length front)) is ∙ at_front front h hs)
+
+      split : (e : Bool) → cond (not e) (length front ∷ filter waits (pending_from before (suc (length front)) hs)) (filter waits (pending_from before (suc (length front)) hs))
+          ≡ cond e (pending_from (before ++ more) (suc (length front)) hs) (length front ∷ pending_from (before ++ more) (suc (length front)) hs)
+      split true = later
+      split false = ap (λ ps. length front ∷ ps) later
+
+      go : (b : Bool) → is_executed before h.digest ≡ b → filter waits (cond b (pending_from before (suc (length front)) hs) (length front ∷ pending_from before (suc (length front)) hs))
+          ≡ pending_from (before ++ more) (length front) (h ∷ hs)
+      go true was =
+          later
+          ∙ sym (ap (λ (e : Bool). cond e (pending_from (before ++ more) (suc (length front)) hs) (length front ∷ pending_from (before ++ more) (suc (length front)) hs))
+          (executed_join before more h.digest ∙ or_true (is_executed before h.digest) (is_executed more h.digest) was))
+      go false was =
+          ap (λ (w : Bool). cond w (length front ∷ filter waits (pending_from before (suc (length front)) hs)) (filter waits (pending_from before (suc (length front)) hs))) here
+          ∙ split (is_executed (before ++ more) h.digest)
+
+pub still_pending : (held : List Held) (before more : List Execution) → filter (λ place. is_pending (before ++ more) (slice_get held place)) (pending_from before 0 held) ≡ pending_from (before ++ more) 0 held
+still_pending held before more = still held before more [] held refl
+
+-- one more certificate is held
+one_more : (executed : List Execution) (place : ℕ) (hs : List Held) (h : Held)
+    → pending_from executed place (hs ++ h ∷ []) ≡ cond (is_executed executed h.digest) (pending_from executed place hs) (pending_from executed place hs ++ (place + length hs) ∷ [])
+one_more executed place [] h = ap (λ n. cond (is_executed executed h.digest) [] (n ∷ [])) (omega arith)
+one_more executed place (k ∷ hs) h = go (is_executed executed k.digest) (is_executed executed h.digest)
+    (one_more executed (suc place) hs h ∙ ap (λ n. cond (is_executed executed h.digest) (pending_from executed (suc place) hs) (pending_from executed (suc place) hs ++ n ∷ [])) (omega arith))
+  where
+    go : (b c : Bool)
+        → pending_from executed (suc place) (hs ++ h ∷ []) ≡ cond c (pending_from executed (suc place) hs) (pending_from executed (suc place) hs ++ (place + suc (length hs)) ∷ [])
+        → cond b (pending_from executed (suc place) (hs ++ h ∷ [])) (place ∷ pending_from executed (suc place) (hs ++ h ∷ []))
+        ≡ cond c (cond b (pending_from executed (suc place) hs) (place ∷ pending_from executed (suc place) hs)) (cond b (pending_from executed (suc place) hs) (place ∷ pending_from executed (suc place) hs) ++ (place + suc (length hs)) ∷ [])
+    go true true more = more
+    go true false more = more
+    go false true more = ap (λ ps. place ∷ ps) more
+    go false false more = ap (λ ps. place ∷ ps) more
+
+pub held_executed : (executed : List Execution) (hs : List Held) (h : Held) → is_executed executed h.digest ≡ true → pending_from executed 0 (hs ++ h ∷ []) ≡ pending_from executed 0 hs
+held_executed executed hs h is = one_more executed 0 hs h ∙ ap (λ b. cond b (pending_from executed 0 hs) (pending_from executed 0 hs ++ length hs ∷ [])) is
+
+pub held_pending : (executed : List Execution) (hs : List Held) (h : Held) → is_executed executed h.digest ≡ false → pending_from executed 0 (hs ++ h ∷ []) ≡ pending_from executed 0 hs ++ length hs ∷ []
+held_pending executed hs h is = one_more executed 0 hs h ∙ ap (λ b. cond b (pending_from executed 0 hs) (pending_from executed 0 hs ++ length hs ∷ [])) is

@@ -1,0 +1,103 @@
+//! What a run leaves.
+
+ghost use Rattle.std.specs.Prelude.{◌≡◌, ◌++◌, ◌∷◌, ◌&&◌, not, [], IfOk, slice_get};
+ghost use Rattle.std.specs.List.{list_all};
+ghost use Rattle.member_spec.specs.Rounds.{is_origin_done, left};
+ghost use Rattle.round_run.specs.Books.{books_of, left_in};
+ghost use Rattle.round_run.specs.Steps.{left_after, left_of};
+ghost use Rattle.round_run.specs.Places.{IsWaiting};
+
+use crate::inputs::{first_missing, has_shared_input};
+use crate::waiting::Waiting;
+use digest_core::Digest;
+use member_types::{Held, Left};
+use std::alloc::Global;
+use version_store::Store;
+use wire_bcs::{OutOfMemory, Seq};
+
+/// Whether the transaction that an origin names is executed, where it names one.
+fn is_origin_done(store: &Store, origin: &Option<Digest>) -> bool
+    ensures { result ≡ is_origin_done store.now.executed origin.now }
+{
+    match origin {
+        Some(tx) => store.is_executed(tx),
+        None => true,
+    }
+}
+
+/// Whether the transactions that these origins name are executed.
+fn are_origins_done(store: &Store, origins: &[Option<Digest>]) -> bool
+    ensures { result ≡ list_all (is_origin_done store.now.executed) origins.now }
+{
+    let mut rest = origins;
+    while let [origin, after @ ..] = rest {
+        if !is_origin_done(store, origin) {
+            return false;
+        }
+        rest = after;
+    }
+    true
+}
+
+/// The certificate as it is left, where it is not executed although all its origins are.
+#[tactic(auto, using(crate::proofs::LeftOver::left_so))]
+fn left_one(store: &Store, held: &Held) -> Option<Left>
+    ensures { result ≡ left_in store.now held.now }
+{
+    if store.is_executed(&held.digest)
+        || has_shared_input(&held.cert.tx)
+        || !are_origins_done(store, held.cert.origins.as_slice())
+    {
+        return None;
+    }
+    Some(Left {
+        tx: held.digest,
+        key: first_missing(store, &held.cert),
+    })
+}
+
+/// The same of the certificate at a place, none where there is none.
+fn left_at(store: &Store, held: &[Held], place: usize) -> Option<Left>
+    ensures { result ≡ left_of store.now (slice_get held.now place) }
+{
+    match held.get(place) {
+        Some(held) => left_one(store, held),
+        None => None,
+    }
+}
+
+/// Those of these places that are left.
+fn left_among(
+    alloc: Global,
+    store: &Store,
+    held: &[Held],
+    places: &[usize],
+) -> Result<Seq<Left>, OutOfMemory>
+    ensures { IfOk result (λ left. left ≡ left_after store.now held.now [] places.now) }
+{
+    let mut left = Seq::new(alloc);
+    let mut rest = places;
+    while let [place, after @ ..] = rest {
+        if let Some(one) = left_at(store, held, *place) {
+            left.push(one)?;
+        }
+        rest = after;
+    }
+    Ok(left)
+}
+
+/// The held certificates that are not executed although all that they wait for is, in order of holding:
+/// each with the first version that is not held, or with none where what it needs is held and it does not
+/// fit, or what it writes is not new. Looks at the certificates that are not executed.
+#[tactic(auto, using(crate::proofs::LeftOver::pending_left))]
+pub fn left(
+    alloc: Global,
+    store: &Store,
+    waiting: &Waiting,
+    held: &[Held],
+) -> Result<Seq<Left>, OutOfMemory>
+    requires waiting { IsWaiting store.now.executed held.now waiting.now }
+    ensures { IfOk result (λ all. all ≡ left (books_of store.now held.now) store.now.executed) }
+{
+    left_among(alloc, store, held, waiting.places.as_slice())
+}
