@@ -109,27 +109,28 @@ module _ (b : Books) (executed : List Execution) where
     out_more round x hs (or-second (digest_eq x.digest h.digest) (list_any (digest_eq x.digest) (map digest_of_held hs)) apart) out.1,
   )
 
+  -- one more certificate, which may become a member
+  step_follows : (h : Held) (hs : List Held) (round : List Execution) → AreApart (h ∷ hs) → AreOut round (h ∷ hs) → Along Next executed round → (o : Option Execution) → ready b executed h ≡ o
+      → AreOut (round_add round o) hs × Along Next executed (round_add round o)
+  step_follows h hs round apart out along None is = (out.1, along)
+  step_follows h hs round apart out along (Some x) is = joins (is_ready b executed h x is) (clashes round x) refl
+    where
+      joins : IsReady b executed h x → (c : Bool) → clashes round x ≡ c → AreOut (cond c round (round ++ x ∷ [])) hs × Along Next executed (cond c round (round ++ x ∷ []))
+      joins at true clash = (out.1, along)
+      joins at false clash = (
+        out_more round x hs (ap (λ d. list_any (digest_eq d) (map digest_of_held hs)) at.named ∙ or-first (list_any (digest_eq h.digest) (map digest_of_held hs)) (repeats digest_eq (map digest_of_held hs)) apart) out.1,
+        along-push Next executed round x along (
+          executed_join executed round x.digest
+              ∙ both_false (is_executed executed x.digest) (is_executed round x.digest) (ap (is_executed executed) at.named ∙ at.first) (ap (is_executed round) at.named ∙ out.0),
+          still_new b.opening executed round (written_keys x.gave) at.new clash,
+        ),
+      )
+
   round_follows : (hs : List Held) (round : List Execution) → AreApart hs → AreOut round hs → Along Next executed round → Along Next executed (round_among b executed round hs)
   round_follows [] round apart out along = along
-  round_follows (h ∷ hs) round apart out along = with_one (ready b executed h) refl
-    where
-      later : AreApart hs
-      later = or-second (list_any (digest_eq h.digest) (map digest_of_held hs)) (repeats digest_eq (map digest_of_held hs)) apart
-
-      joins : (x : Execution) → IsReady b executed h x → (c : Bool) → clashes round x ≡ c → Along Next executed (round_among b executed (cond c round (round ++ x ∷ [])) hs)
-      joins x is true clash = round_follows hs round later out.1 along
-      joins x is false clash =
-          round_follows hs (round ++ x ∷ []) later
-          (out_more round x hs (ap (λ d. list_any (digest_eq d) (map digest_of_held hs)) is.named ∙ or-first (list_any (digest_eq h.digest) (map digest_of_held hs)) (repeats digest_eq (map digest_of_held hs)) apart) out.1)
-          (along-push Next executed round x along (
-            executed_join executed round x.digest
-                ∙ both_false (is_executed executed x.digest) (is_executed round x.digest) (ap (is_executed executed) is.named ∙ is.first) (ap (is_executed round) is.named ∙ out.0),
-            still_new b.opening executed round (written_keys x.gave) is.new clash,
-          ))
-
-      with_one : (o : Option Execution) → ready b executed h ≡ o → Along Next executed (round_among b executed (round_add round o) hs)
-      with_one None is = round_follows hs round later out.1 along
-      with_one (Some x) is = joins x (is_ready b executed h x is) (clashes round x) refl
+  round_follows (h ∷ hs) round apart out along =
+      let step : AreOut (round_add round (ready b executed h)) hs × Along Next executed (round_add round (ready b executed h)) = step_follows h hs round apart out along (ready b executed h) refl in
+      round_follows hs (round_add round (ready b executed h)) (or-second (list_any (digest_eq h.digest) (map digest_of_held hs)) (repeats digest_eq (map digest_of_held hs)) apart) step.0 step.1
 
 none_out : (hs : List Held) → Each (λ (h : Held). is_executed [] h.digest ≡ false) hs
 none_out [] = tt

@@ -15,7 +15,9 @@ use Rattle.member_spec.specs.Versions.{Execution, is_executed, versions}
 use Rattle.member_spec.specs.Admission.{assigned_of, joined_inputs, nothing_admitted}
 use Rattle.member_spec.specs.Rounds.{Books, Wanted, is_due, is_maker_done, is_origin_done, left, left_as, may_run, missing, wanted_by, wants_of}
 use Rattle.version_store.specs.Stores.{Stored, held_in}
-use Rattle.round_run.specs.Books.{books_of, first_missing, left_in}
+use Rattle.round_run.specs.Books.{books_of, is_left_over, left_in}
+use Rattle.round_run.specs.Needs.{missing_in, needs_of}
+use Rattle.round_run.proofs.Joined.{missing_so}
 use Rattle.round_run.specs.Steps.{left_add, left_after, left_of, pending_from}
 use Rattle.round_run.specs.Places.{Picks}
 use Rattle.round_run.proofs.Rounding.{at_front, longer, pending_picks, picks_map}
@@ -51,9 +53,6 @@ makers_done executed (inputs.Immutable r ∷ is) (Some tx ∷ os) none done = go
     go false done rest = absurd (cc)
 makers_done executed (inputs.Shared id initial mutable ∷ is) origins none done = absurd (cc)
 
-abbrev is_left_over : List Execution → Held → Bool
-is_left_over executed h = not (is_executed executed h.digest) && not (has_shared_input h.cert.tx) && list_all (is_origin_done executed) h.cert.origins
-
 -- a certificate is due where it is not executed, names no shared object, and its origins are done
 pub due_is : (s : Stored) (h : Held) → is_due (books_of s []) s.executed h ≡ is_left_over s.executed h
 unfolding wants_of assigned_of
@@ -72,18 +71,10 @@ due_is s h =
 
 -- ---- how a certificate is left
 
-first_mapped : {A B C : Type 0} → (f : B → Option C) (g : A → B) (xs : List A) → first_of f (map g xs) ≡ first_of (λ x. f (g x)) xs
-first_mapped f g [] = refl
-first_mapped f g (x ∷ xs) = ap (λ later. first_some (f (g x) ∷ later ∷ [])) (first_mapped f g xs)
-
-key_is : (s : Stored) (h : Held) → first_of (missing (held_in s)) (wants_of nothing_admitted h) ≡ first_missing (held_in s) h.cert
-unfolding wants_of assigned_of
-key_is s h = first_mapped (missing (held_in s)) (wanted_by None) (joined_inputs h.cert)
-
-pub left_so : (s : Stored) (h : Held) → left_in s h ≡ where_true (is_left_over s.executed h) (record { tx = h.digest; key = first_missing (held_in s) h.cert })
+pub left_so : (s : Stored) (h : Held) → left_in s h ≡ where_true (is_left_over s.executed h) (record { tx = h.digest; key = first_of (missing_in (held_in s)) (needs_of h.cert) })
 left_so s h =
     ap (λ (b : Bool). where_true b (left_as (books_of s []) s.executed h)) (due_is s h)
-    ∙ ap (λ (key : Option ObjectKey). where_true (is_left_over s.executed h) (let l : Left = record { tx = h.digest; key = key } in l)) (key_is s h)
+    ∙ ap (λ (key : Option ObjectKey). where_true (is_left_over s.executed h) (let l : Left = record { tx = h.digest; key = key } in l)) (missing_so s h)
 
 -- ---- all that are left
 
@@ -125,7 +116,7 @@ module _ (s : Stored) (all : List Held) where
 executed_stays : (s : Stored) (h : Held) → is_executed s.executed h.digest ≡ true → left_in s h ≡ None
 executed_stays s h is =
     left_so s h
-    ∙ ap (λ (e : Bool). where_true (not e && not (has_shared_input h.cert.tx) && list_all (is_origin_done s.executed) h.cert.origins) (let l : Left = record { tx = h.digest; key = first_missing (held_in s) h.cert } in l)) is
+    ∙ ap (λ (e : Bool). where_true (not e && not (has_shared_input h.cert.tx) && list_all (is_origin_done s.executed) h.cert.origins) (let l : Left = record { tx = h.digest; key = first_of (missing_in (held_in s)) (needs_of h.cert) } in l)) is
 
 -- those left of the pending certificates are all that are left
 pub pending_left : (s : Stored) (held : List Held) → left_after s held [] (pending_from s.executed 0 held) ≡ left (books_of s held) s.executed

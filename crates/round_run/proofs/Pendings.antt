@@ -18,28 +18,30 @@ module _ (all : List Held) (before more : List Execution) where
 
   still : (front hs : List Held) → all ≡ front ++ hs → filter waits (pending_from before (length front) hs) ≡ pending_from (before ++ more) (length front) hs
   still front [] is = refl
-  still front (h ∷ hs) is = go (is_executed before h.digest) refl
+  still front (h ∷ hs) is =
+      go (is_executed before h.digest) refl
+      (subst (λ n. filter waits (pending_from before n hs) ≡ pending_from (before ++ more) n hs) (longer front h) (still (front ++ h ∷ []) hs (is ∙ sym (append_assoc front (h ∷ []) hs))))
     where
-      later : filter waits (pending_from before (suc (length front)) hs) ≡ pending_from (before ++ more) (suc (length front)) hs
-      later = subst (λ n. filter waits (pending_from before n hs) ≡ pending_from (before ++ more) n hs) (longer front h) (still (front ++ h ∷ []) hs (is ∙ sym (append_assoc front (h ∷ []) hs)))
+      Later : Type 0
+      Later = filter waits (pending_from before (suc (length front)) hs) ≡ pending_from (before ++ more) (suc (length front)) hs
 
       here : waits (length front) ≡ not (is_executed (before ++ more) h.digest)
       here = ap (is_pending (before ++ more)) (ap (λ xs. slice_get xs (length front)) is ∙ at_front front h hs)
 
-      split : (e : Bool) → cond (not e) (length front ∷ filter waits (pending_from before (suc (length front)) hs)) (filter waits (pending_from before (suc (length front)) hs))
+      split : (e : Bool) → Later → cond (not e) (length front ∷ filter waits (pending_from before (suc (length front)) hs)) (filter waits (pending_from before (suc (length front)) hs))
           ≡ cond e (pending_from (before ++ more) (suc (length front)) hs) (length front ∷ pending_from (before ++ more) (suc (length front)) hs)
-      split true = later
-      split false = ap (λ ps. length front ∷ ps) later
+      split true later = later
+      split false later = ap (λ ps. length front ∷ ps) later
 
-      go : (b : Bool) → is_executed before h.digest ≡ b → filter waits (cond b (pending_from before (suc (length front)) hs) (length front ∷ pending_from before (suc (length front)) hs))
+      go : (b : Bool) → is_executed before h.digest ≡ b → Later → filter waits (cond b (pending_from before (suc (length front)) hs) (length front ∷ pending_from before (suc (length front)) hs))
           ≡ pending_from (before ++ more) (length front) (h ∷ hs)
-      go true was =
+      go true was later =
           later
           ∙ sym (ap (λ (e : Bool). cond e (pending_from (before ++ more) (suc (length front)) hs) (length front ∷ pending_from (before ++ more) (suc (length front)) hs))
           (executed_join before more h.digest ∙ or_true (is_executed before h.digest) (is_executed more h.digest) was))
-      go false was =
+      go false was later =
           ap (λ (w : Bool). cond w (length front ∷ filter waits (pending_from before (suc (length front)) hs)) (filter waits (pending_from before (suc (length front)) hs))) here
-          ∙ split (is_executed (before ++ more) h.digest)
+          ∙ split (is_executed (before ++ more) h.digest) later
 
 pub still_pending : (held : List Held) (before more : List Execution) → filter (λ place. is_pending (before ++ more) (slice_get held place)) (pending_from before 0 held) ≡ pending_from (before ++ more) 0 held
 still_pending held before more = still held before more [] held refl

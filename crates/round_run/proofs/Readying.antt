@@ -5,13 +5,15 @@ use Rattle.chain_types.specs.declared.objects.Object.{Object}
 use Rattle.block_types.specs.declared.pieces.Executed.{Executed}
 use Rattle.member_types.specs.declared.answers.Held.{Held}
 use Rattle.chain_spec.specs.Words.{where_true}
-use Rattle.chain_spec.specs.Keys.{fits}
+use Rattle.chain_spec.specs.Keys.{fits, has_shared_input}
 use Rattle.chain_spec.proofs.ListLemmas.{and-first, not-true}
 use Rattle.block_spec.specs.Execution.{execution, written_keys}
 use Rattle.member_spec.specs.Versions.{Execution, is_executed, versions}
 use Rattle.member_spec.specs.Rounds.{Books, executes_as, may_run, present, ready, ready_as, ready_on, writes_new}
-use Rattle.version_store.specs.Stores.{Stored}
+use Rattle.version_store.specs.Stores.{Stored, held_in}
 use Rattle.round_run.specs.Books.{books_of, ready_in}
+use Rattle.round_run.specs.Needs.{needs_of, present_after}
+use Rattle.round_run.proofs.Joined.{present_so}
 
 -- a certificate that was executed is not ready
 pub executed_rests : (b : Books) (executed : List Execution) (h : Held) → is_executed executed h.digest ≡ true → ready b executed h ≡ None
@@ -53,3 +55,14 @@ is_ready b executed h x e = go (not (is_executed executed h.digest) && may_run b
     go false may p e = absurd (cc)
     go true may None e = absurd (cc)
     go true may (Some objects) e = fitting objects (fits h.cert.tx objects) (not-true (is_executed executed h.digest) (and-first (not (is_executed executed h.digest)) (may_run b h) may)) e
+
+-- a certificate that names no shared object is ready where what it needs is there, fits it, and gives what is new
+pub ready_step : (s : Stored) (h : Held) → ready_in s h ≡ cond (is_executed s.executed h.digest || has_shared_input h.cert.tx) None (ready_on (books_of s []) s.executed h (present_after (held_in s) [] (needs_of h.cert)))
+unfolding ready
+ready_step s h = go (is_executed s.executed h.digest) (has_shared_input h.cert.tx) ∙ ap (λ (p : Option (List Object)). cond (is_executed s.executed h.digest || has_shared_input h.cert.tx) None (ready_on (books_of s []) s.executed h p)) (present_so s [] h)
+  where
+    go : (e sh : Bool) → cond (not e && (not sh || false)) (ready_on (books_of s []) s.executed h (present (books_of s []) s.executed h)) None
+        ≡ cond (e || sh) None (ready_on (books_of s []) s.executed h (present (books_of s []) s.executed h))
+    go true sh = refl
+    go false true = refl
+    go false false = refl

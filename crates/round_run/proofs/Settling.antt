@@ -121,18 +121,21 @@ is_done_for executed w = is_maker_done executed w.producer
 all_found_later : (opening : List Object) (before more : List Execution) (ws : List Wanted) → Along (IsNext opening) before more → list_all (is_done_for before) ws ≡ true
     → all_some (map (found (versions opening (before ++ more))) ws) ≡ all_some (map (found (versions opening before)) ws)
 all_found_later opening before more [] along done = refl
-all_found_later opening before more (w ∷ ws) along done = go (is_done_for before w) refl done
+all_found_later opening before more (w ∷ ws) along done = go (is_done_for before w) refl done (λ d. all_found_later opening before more ws along d)
   where
-    go : (b : Bool) → is_done_for before w ≡ b → (b && list_all (is_done_for before) ws) ≡ true
+    Rest : Type 0
+    Rest = all_some (map (found (versions opening (before ++ more))) ws) ≡ all_some (map (found (versions opening before)) ws)
+
+    behind : (f : Option Object) → Rest → all_some (f ∷ map (found (versions opening (before ++ more))) ws) ≡ all_some (f ∷ map (found (versions opening before)) ws)
+    behind None rest = refl
+    behind (Some o) rest = ap (onto_some o) rest
+
+    go : (b : Bool) → is_done_for before w ≡ b → (b && list_all (is_done_for before) ws) ≡ true → (list_all (is_done_for before) ws ≡ true → Rest)
         → all_some (found (versions opening (before ++ more)) w ∷ map (found (versions opening (before ++ more))) ws) ≡ all_some (found (versions opening before) w ∷ map (found (versions opening before)) ws)
-    go false is done = absurd (cc)
-    go true is done =
+    go false is done rest = absurd (cc)
+    go true is done rest =
         ap (λ (f : Option Object). all_some (f ∷ map (found (versions opening (before ++ more))) ws)) (found_later opening before more w along is)
-        ∙ behind (found (versions opening before) w)
-      where
-        behind : (f : Option Object) → all_some (f ∷ map (found (versions opening (before ++ more))) ws) ≡ all_some (f ∷ map (found (versions opening before)) ws)
-        behind None = refl
-        behind (Some o) = ap (onto_some o) (all_found_later opening before more ws along done)
+        ∙ behind (found (versions opening before) w) (rest done)
 
 pub present_later : (b : Books) (before more : List Execution) (h : Held) → Along (IsNext b.opening) before more → list_all (is_done_for before) (wants_of b.admission h) ≡ true
     → present b (before ++ more) h ≡ present b before h

@@ -1,4 +1,5 @@
 pub mod Books
+pub mod Needs
 pub mod Steps
 pub mod Written
 pub mod Runs

@@ -1,12 +1,11 @@
 //! The versions that a certificate's inputs need.
 
-ghost use Rattle.std.specs.Prelude.{◌≡◌, ◌∷◌, [], IfOk, None, option_copied, true};
-ghost use Rattle.std.specs.List.{list_any};
+ghost use Rattle.std.specs.Prelude.{◌≡◌, [], IfOk, map, option_copied, true};
 ghost use Rattle.chain_types.specs.Digests.{is_object};
-ghost use Rattle.chain_spec.specs.Keys.{has_shared_input, is_shared_input};
-ghost use Rattle.member_spec.specs.Rounds.{found, missing, producer_of, wanted_by};
-ghost use Rattle.round_run.specs.Books.{first_missing, present_in};
-ghost use Rattle.round_run.specs.Steps.{missing_among, present_after};
+ghost use Rattle.chain_spec.specs.Keys.{has_shared_input, is_shared_input, objects_of};
+ghost use Rattle.chain_spec.specs.Words.{first_of};
+ghost use Rattle.member_spec.specs.Rounds.{found};
+ghost use Rattle.round_run.specs.Needs.{maker_of, missing_in, named_in, needed_after, needed_of, needs_of, present_after, wanted_in};
 ghost use Rattle.version_store.specs.Stores.{held_in};
 
 use chain_messages::Certificate;
@@ -42,140 +41,156 @@ pub(crate) fn has_shared_input(tx: &Transaction) -> bool
     false
 }
 
-/// Who made a version of this origin.
-fn producer_of(origin: &Option<Digest>) -> Producer
-    ensures { result ≡ producer_of origin.now }
-{
-    match origin {
-        Some(tx) => Producer::Tx(*tx),
-        None => Producer::Opening,
-    }
+/// An object that a transaction names: its version, or where it begins if it is shared.
+#[derive(Clone, Copy, Debug)]
+pub(crate) struct Named {
+    key: ObjectKey,
+    is_shared: bool,
 }
 
-/// The version that an input of this origin needs, where it is held. No version is assigned to a shared
+/// What a transaction needs: a version, and who made it; nobody, for no version is assigned to a shared
 /// object.
-#[tactic(auto, using(crate::proofs::Joined::nobody_made))]
-fn object_for<'a>(store: &'a Store, input: &Input, origin: &Option<Digest>) -> Option<&'a Object>
-    ensures { option_copied result ≡ found (held_in store.now) (wanted_by None (input.now, origin.now)) }
-{
-    match input {
-        Input::Owned(reference) => store.found(&reference.key(), &producer_of(origin)),
-        Input::Immutable(reference) => store.found(&reference.key(), &producer_of(origin)),
-        Input::Pure(_) | Input::Shared { .. } => None,
-    }
+#[derive(Clone, Copy, Debug)]
+pub(crate) struct Needed {
+    key: ObjectKey,
+    maker: Option<Producer>,
 }
 
-/// These objects, and behind them those of the inputs, each of its origin; none where one is not held.
-fn present_after(
-    store: &Store,
-    objects: Seq<Object>,
-    inputs: &[Input],
-    origins: &[Option<Digest>],
-) -> Result<Option<Seq<Object>>, OutOfMemory>
-    ensures { IfOk result (λ all. all ≡ present_after (held_in store.now) objects inputs.now origins.now) }
-{
-    let mut objects = objects;
-    let mut left = inputs;
-    let mut rest = origins;
-    while let [input, after @ ..] = left {
-        if is_object(input) {
-            let [origin, others @ ..] = rest else {
-                return Ok(Some(objects));
-            };
-            let Some(object) = object_for(store, input, origin) else {
-                return Ok(None);
-            };
-            objects.push(*object)?;
-            rest = others;
-        }
-        left = after;
-    }
-    Ok(Some(objects))
-}
-
-/// The objects of a certificate's transaction, gas first; none where one is not held.
-#[tactic(auto, using(crate::proofs::Joined::present_none, crate::proofs::Joined::present_absent, crate::proofs::Joined::present_more))]
-pub(crate) fn present(
-    alloc: Global,
-    store: &Store,
-    cert: &Certificate,
-) -> Result<Option<Seq<Object>>, OutOfMemory>
-    ensures { IfOk result (λ all. all ≡ present_in (held_in store.now) cert.now) }
-{
-    let [origin, others @ ..] = cert.origins.as_slice() else {
-        return Ok(Some(Seq::new(alloc)));
-    };
-    let gas = Input::Owned(cert.tx.gas);
-    let Some(coin) = object_for(store, &gas, origin) else {
-        return Ok(None);
-    };
-    let mut objects = Seq::new(alloc);
-    objects.push(*coin)?;
-    present_after(store, objects, cert.tx.inputs.as_slice(), others)
-}
-
-/// The version that an input names, which names an object; of a shared one, where it begins.
-fn named_key(input: &Input) -> ObjectKey
+/// The object that an input names.
+fn name_of(input: &Input) -> Named
     requires { is_object input.now ≡ true }
-    ensures { result ≡ (wanted_by None (input.now, None)).key }
+    ensures { result ≡ named_in input.now }
 {
     match input {
-        Input::Owned(reference) => reference.key(),
-        Input::Immutable(reference) => reference.key(),
-        Input::Shared { id, initial, .. } => ObjectKey {
-            id: *id,
-            version: *initial,
+        Input::Owned(reference) => Named {
+            key: reference.key(),
+            is_shared: false,
+        },
+        Input::Immutable(reference) => Named {
+            key: reference.key(),
+            is_shared: false,
+        },
+        Input::Shared { id, initial, .. } => Named {
+            key: ObjectKey {
+                id: *id,
+                version: *initial,
+            },
+            is_shared: true,
         },
         Input::Pure(_) => unreachable!(),
     }
 }
 
-/// The version that an input of this origin needs, where it is not held.
-#[tactic(auto, using(crate::proofs::Joined::key_by_input))]
-fn missing(store: &Store, input: &Input, origin: &Option<Digest>) -> Option<ObjectKey>
-    requires { is_object input.now ≡ true }
-    ensures { result ≡ missing (held_in store.now) (wanted_by None (input.now, origin.now)) }
+/// The objects that a transaction names, gas first.
+fn all_named(alloc: Global, tx: &Transaction) -> Result<Seq<Named>, OutOfMemory>
+    ensures { IfOk result (λ all. all ≡ map named_in (objects_of tx.now)) }
 {
-    match object_for(store, input, origin) {
-        Some(_) => None,
-        None => Some(named_key(input)),
+    let mut all = Seq::new(alloc);
+    all.push(Named {
+        key: tx.gas.key(),
+        is_shared: false,
+    })?;
+    for input in tx.inputs.as_slice() {
+        if is_object(input) {
+            all.push(name_of(input))?;
+        }
+    }
+    Ok(all)
+}
+
+/// Who makes a version of this origin; nobody, for a shared object.
+fn maker(is_shared: bool, origin: Option<Digest>) -> Option<Producer>
+    ensures { result ≡ maker_of is_shared origin }
+{
+    if is_shared {
+        return None;
+    }
+    match origin {
+        Some(tx) => Some(Producer::Tx(tx)),
+        None => Some(Producer::Opening),
     }
 }
 
-/// The first version that one of these inputs needs and that is not held.
-fn missing_among(store: &Store, inputs: &[Input], origins: &[Option<Digest>]) -> Option<ObjectKey>
-    ensures { result ≡ missing_among (held_in store.now) inputs.now origins.now }
+/// What is needed of an object of this origin.
+fn need_of(named: Named, origin: Option<Digest>) -> Needed
+    ensures { result ≡ needed_of named origin }
 {
-    let mut left = inputs;
+    Needed {
+        key: named.key,
+        maker: maker(named.is_shared, origin),
+    }
+}
+
+/// What is needed of these objects, each of its origin, behind what is needed so far.
+fn needed_after(
+    all: Seq<Needed>,
+    named: &[Named],
+    origins: &[Option<Digest>],
+) -> Result<Seq<Needed>, OutOfMemory>
+    ensures { IfOk result (λ more. more ≡ needed_after all named.now origins.now) }
+{
+    let mut all = all;
+    let mut left = named;
     let mut rest = origins;
-    while let [input, after @ ..] = left {
-        if is_object(input) {
-            let [origin, others @ ..] = rest else {
-                return None;
-            };
-            let key = missing(store, input, origin);
-            if key.is_some() {
-                return key;
-            }
-            rest = others;
-        }
+    while let [named, after @ ..] = left {
+        let [origin, others @ ..] = rest else {
+            return Ok(all);
+        };
+        all.push(need_of(*named, *origin))?;
         left = after;
+        rest = others;
+    }
+    Ok(all)
+}
+
+/// What a certificate's transaction needs, gas first.
+pub(crate) fn needs(alloc: Global, cert: &Certificate) -> Result<Seq<Needed>, OutOfMemory>
+    ensures { IfOk result (λ all. all ≡ needs_of cert.now) }
+{
+    let named = all_named(alloc, &cert.tx)?;
+    needed_after(Seq::new(alloc), named.as_slice(), cert.origins.as_slice())
+}
+
+/// The object that is needed, where it is held.
+fn found<'a>(store: &'a Store, needed: &Needed) -> Option<&'a Object>
+    ensures { option_copied result ≡ found (held_in store.now) (wanted_in needed.now) }
+{
+    match &needed.maker {
+        Some(maker) => store.found(&needed.key, maker),
+        None => None,
+    }
+}
+
+/// All objects that are needed; none where one is not held.
+pub(crate) fn present(
+    alloc: Global,
+    store: &Store,
+    needs: &[Needed],
+) -> Result<Option<Seq<Object>>, OutOfMemory>
+    ensures { IfOk result (λ all. all ≡ present_after (held_in store.now) [] needs.now) }
+{
+    let mut objects = Seq::new(alloc);
+    let mut rest = needs;
+    while let [needed, after @ ..] = rest {
+        let Some(object) = found(store, needed) else {
+            return Ok(None);
+        };
+        objects.push(*object)?;
+        rest = after;
+    }
+    Ok(Some(objects))
+}
+
+/// The first version that is needed and is not held.
+pub(crate) fn first_missing(store: &Store, needs: &[Needed]) -> Option<ObjectKey>
+    ensures { result ≡ first_of (missing_in (held_in store.now)) needs.now }
+{
+    let mut rest = needs;
+    while let [needed, after @ ..] = rest {
+        if found(store, needed).is_none() {
+            return Some(needed.key);
+        }
+        rest = after;
     }
     None
-}
-
-/// The first version that a certificate's transaction needs and that is not held, gas first.
-#[tactic(auto, using(crate::proofs::Joined::missing_none, crate::proofs::Joined::missing_gas))]
-pub(crate) fn first_missing(store: &Store, cert: &Certificate) -> Option<ObjectKey>
-    ensures { result ≡ first_missing (held_in store.now) cert.now }
-{
-    let [origin, others @ ..] = cert.origins.as_slice() else {
-        return None;
-    };
-    let gas = Input::Owned(cert.tx.gas);
-    let key = missing(store, &gas, origin);
-    if key.is_some() {
-        return key;
-    }
-    missing_among(store, cert.tx.inputs.as_slice(), others)
 }

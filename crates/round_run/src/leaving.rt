@@ -1,13 +1,13 @@
 //! What a run leaves.
 
-ghost use Rattle.std.specs.Prelude.{◌≡◌, ◌++◌, ◌∷◌, ◌&&◌, not, [], IfOk, slice_get};
+ghost use Rattle.std.specs.Prelude.{◌≡◌, [], IfOk, OnOk, slice_get};
 ghost use Rattle.std.specs.List.{list_all};
 ghost use Rattle.member_spec.specs.Rounds.{is_origin_done, left};
-ghost use Rattle.round_run.specs.Books.{books_of, left_in};
-ghost use Rattle.round_run.specs.Steps.{left_after, left_of};
+ghost use Rattle.round_run.specs.Books.{books_of, is_left_over, left_in};
+ghost use Rattle.round_run.specs.Steps.{left_add, left_after, left_of};
 ghost use Rattle.round_run.specs.Places.{IsWaiting};
 
-use crate::inputs::{first_missing, has_shared_input};
+use crate::inputs::{first_missing, has_shared_input, needs};
 use crate::waiting::Waiting;
 use digest_core::Digest;
 use member_types::{Held, Left};
@@ -39,30 +39,52 @@ fn are_origins_done(store: &Store, origins: &[Option<Digest>]) -> bool
     true
 }
 
-/// The certificate as it is left, where it is not executed although all its origins are.
-#[tactic(auto, using(crate::proofs::LeftOver::left_so))]
-fn left_one(store: &Store, held: &Held) -> Option<Left>
-    ensures { result ≡ left_in store.now held.now }
+/// Whether a certificate is not executed although all its origins are, and names no shared object.
+fn is_left(store: &Store, held: &Held) -> bool
+    ensures { result ≡ is_left_over store.now.executed held.now }
 {
-    if store.is_executed(&held.digest)
-        || has_shared_input(&held.cert.tx)
-        || !are_origins_done(store, held.cert.origins.as_slice())
-    {
-        return None;
+    !store.is_executed(&held.digest)
+        && !has_shared_input(&held.cert.tx)
+        && are_origins_done(store, held.cert.origins.as_slice())
+}
+
+/// The certificate as it is left, where it is.
+#[tactic(auto, using(crate::proofs::LeftOver::left_so))]
+fn left_one(alloc: Global, store: &Store, held: &Held) -> Result<Option<Left>, OutOfMemory>
+    ensures { IfOk result (λ one. one ≡ left_in store.now held.now) }
+{
+    if !is_left(store, held) {
+        return Ok(None);
     }
-    Some(Left {
+    let needs = needs(alloc, &held.cert)?;
+    Ok(Some(Left {
         tx: held.digest,
-        key: first_missing(store, &held.cert),
-    })
+        key: first_missing(store, needs.as_slice()),
+    }))
 }
 
 /// The same of the certificate at a place, none where there is none.
-fn left_at(store: &Store, held: &[Held], place: usize) -> Option<Left>
-    ensures { result ≡ left_of store.now (slice_get held.now place) }
+fn left_at(
+    alloc: Global,
+    store: &Store,
+    held: &[Held],
+    place: usize,
+) -> Result<Option<Left>, OutOfMemory>
+    ensures { IfOk result (λ one. one ≡ left_of store.now (slice_get held.now place)) }
 {
     match held.get(place) {
-        Some(held) => left_one(store, held),
-        None => None,
+        Some(held) => left_one(alloc, store, held),
+        None => Ok(None),
+    }
+}
+
+/// Those left so far, and one more, where there is one.
+fn add_left(left: &mut Seq<Left>, one: Option<Left>) -> Result<(), OutOfMemory>
+    ensures { OnOk result (left.new ≡ left_add left.old one) }
+{
+    match one {
+        Some(one) => left.push(one),
+        None => Ok(()),
     }
 }
 
@@ -78,9 +100,8 @@ fn left_among(
     let mut left = Seq::new(alloc);
     let mut rest = places;
     while let [place, after @ ..] = rest {
-        if let Some(one) = left_at(store, held, *place) {
-            left.push(one)?;
-        }
+        let one = left_at(alloc, store, held, *place)?;
+        add_left(&mut left, one)?;
         rest = after;
     }
     Ok(left)

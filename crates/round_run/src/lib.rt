@@ -12,6 +12,7 @@ mod leaving;
 mod readiness;
 mod running;
 mod single;
+mod standing;
 mod waiting;
 mod writing;
 

@@ -10,12 +10,12 @@ ghost use Rattle.member_spec.specs.Rounds.{ready_as};
 ghost use Rattle.round_run.specs.Books.{IsSound, books_of, ready_in};
 ghost use Rattle.round_run.specs.Steps.{ready_of};
 
-use crate::inputs::{has_shared_input, present};
+use crate::inputs::{has_shared_input, needs, present};
+use crate::standing::{execute_whole, fits};
 use block_types::Executed;
 use chain_types::{Object, ObjectKey, Transaction, owned_keys};
 use digest_core::Digest;
 use member_types::Held;
-use ptb_run::{execute, fits};
 use std::alloc::Global;
 use std::marker::Model;
 use version_store::Store;
@@ -46,21 +46,6 @@ impl Ran {
     }
 }
 
-/// The execution of a transaction on objects that fit it.
-fn execute_whole(
-    alloc: Global,
-    tx: &Transaction,
-    digest: &Digest,
-    inputs: &Seq<Object>,
-) -> Result<Executed, OutOfMemory>
-    requires shape { shape_fault tx.now ≡ None }
-    requires fit { fits tx.now inputs.now ≡ true }
-    requires digest { digest.now ≡ transaction_digest tx.now }
-    ensures { IfOk result (λ executed. executed ≡ execution tx.now inputs.now) }
-{
-    execute(alloc, tx, digest, inputs)
-}
-
 /// What an execution gave, where all that it writes is new.
 #[tactic(auto, using(crate::proofs::Executing::ran_as_held))]
 fn ran_on(
@@ -83,7 +68,7 @@ fn ran_on(
 
 /// What the execution of a certificate gives, where it is ready in this store: it is not executed, all
 /// versions that it needs are held and fit it, and all that it writes is new.
-#[tactic(auto, unfolding(member_spec::specs::Rounds::ready, member_spec::specs::Rounds::present, member_spec::specs::Rounds::wants_of, member_spec::specs::Admission::assigned_of))]
+#[tactic(auto, using(crate::proofs::Readying::ready_step))]
 pub(crate) fn ready(alloc: Global, store: &Store, held: &Held) -> Result<Option<Ran>, OutOfMemory>
     requires sound { IsSound held.now }
     ensures { IfOk result (λ ran. ran ≡ ready_in store.now held.now) }
@@ -91,7 +76,8 @@ pub(crate) fn ready(alloc: Global, store: &Store, held: &Held) -> Result<Option<
     if store.is_executed(&held.digest) || has_shared_input(&held.cert.tx) {
         return Ok(None);
     }
-    let Some(objects) = present(alloc, store, &held.cert)? else {
+    let needs = needs(alloc, &held.cert)?;
+    let Some(objects) = present(alloc, store, needs.as_slice())? else {
         return Ok(None);
     };
     if !fits(&held.cert.tx, &objects) {

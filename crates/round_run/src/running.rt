@@ -51,7 +51,7 @@ fn run_round(
 {
     let round = next_round(alloc, store, waiting, held)?;
     let more = !round.is_empty();
-    write_all(store, effects, round)?;
+    write_all(store, effects, &round)?;
     waiting.forget(store, held);
     Ok(more)
 }

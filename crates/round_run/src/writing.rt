@@ -31,28 +31,44 @@ fn copy_of(effects: &Effects) -> Result<Effects, OutOfMemory>
 }
 
 /// Writes one execution, and adds a copy of its effects.
-fn write_one(store: &mut Store, effects: &mut Seq<Effects>, ran: Ran) -> Result<(), OutOfMemory>
-    requires next { IsNext store.old.opening store.old.executed ran }
-    ensures written { OnOk result (store.new ≡ with_execution store.old ran) }
-    ensures copied { OnOk result (effects.new ≡ effects.old ++ effects_of ran ∷ []) }
+fn write_one(store: &mut Store, effects: &mut Seq<Effects>, ran: &Ran) -> Result<(), OutOfMemory>
+    requires next { IsNext store.old.opening store.old.executed ran.now }
+    ensures written { OnOk result (store.new ≡ with_execution store.old ran.now) }
+    ensures copied { OnOk result (effects.new ≡ effects.old ++ effects_of ran.now ∷ []) }
 {
-    let Ran { consumed, gave } = ran;
-    effects.push(copy_of(&gave.effects)?)?;
-    store.write(gave.effects, gave.objects, &consumed)
+    effects.push(copy_of(&ran.gave.effects)?)?;
+    let written = copy_of(&ran.gave.effects)?;
+    let objects = ran.gave.objects.copy()?;
+    store.write(written, objects, &ran.consumed)
+}
+
+/// Writes executions in order, and adds copies of their effects.
+fn write_each(
+    store: &mut Store,
+    effects: &mut Seq<Effects>,
+    round: &[Ran],
+) -> Result<(), OutOfMemory>
+    requires next { Along (IsNext store.old.opening) store.old.executed round.now }
+    ensures written { OnOk result (store.new ≡ with_executions store.old round.now) }
+    ensures copied { OnOk result (effects.new ≡ effects.old ++ map effects_of round.now) }
+{
+    let mut rest = round;
+    while let [ran, after @ ..] = rest {
+        write_one(store, effects, ran)?;
+        rest = after;
+    }
+    Ok(())
 }
 
 /// Writes the members of a round in order, and adds copies of their effects.
 pub(crate) fn write_all(
     store: &mut Store,
     effects: &mut Seq<Effects>,
-    round: Round,
+    round: &Round,
 ) -> Result<(), OutOfMemory>
-    requires next { Along (IsNext store.old.opening) store.old.executed round }
-    ensures written { OnOk result (store.new ≡ with_executions store.old round) }
-    ensures copied { OnOk result (effects.new ≡ effects.old ++ map effects_of round) }
+    requires next { Along (IsNext store.old.opening) store.old.executed round.now }
+    ensures written { OnOk result (store.new ≡ with_executions store.old round.now) }
+    ensures copied { OnOk result (effects.new ≡ effects.old ++ map effects_of round.now) }
 {
-    for ran in round.ran {
-        write_one(store, effects, ran)?;
-    }
-    Ok(())
+    write_each(store, effects, round.ran.as_slice())
 }
