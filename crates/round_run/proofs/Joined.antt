@@ -40,7 +40,7 @@ wants_are h = needed_is [] (objects_of h.cert.tx) h.cert.origins
 
 -- ---- all objects
 
-behind : List Object → Option (List Object) → Option (List Object)
+abbrev behind : List Object → Option (List Object) → Option (List Object)
 behind objects None = None
 behind objects (Some more) = Some (objects ++ more)
 

@@ -87,7 +87,7 @@ pub(crate) fn ready(alloc: Global, store: &Store, held: &Held) -> Result<Option<
 }
 
 /// The same of the certificate at a place, none where there is none.
-#[tactic(auto, using(crate::proofs::Executing::sound_at))]
+#[tactic(auto, using(crate::proofs::Executing::each_at))]
 pub(crate) fn ready_at(
     alloc: Global,
     store: &Store,
