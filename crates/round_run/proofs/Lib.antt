@@ -6,3 +6,4 @@ pub mod Following
 pub mod LeftOver
 pub mod Pendings
 pub mod Settling
+pub mod Writers

@@ -1,10 +1,10 @@
 -- Which places wait behind more executions, and behind one more certificate.
-use Rattle.std.proofs.Common.{◌≡◌, ℕ, zero, suc, ◌+◌, Bool, true, false, cond, not, ◌||◌, List, [], ◌∷◌, ◌++◌, length, Option, Some, None, refl, ap, sym, subst, ◌∙◌, append_assoc, arith}
+use Rattle.std.proofs.Common.{◌≡◌, ℕ, zero, suc, ◌+◌, Bool, true, false, cond, not, ◌||◌, List, [], ◌∷◌, ◌++◌, length, Option, Some, None, refl, ap, sym, subst, ◌∙◌, append_assoc, append-nil, arith}
 use Rattle.std.specs.Prelude.{filter, slice_get}
 use Rattle.member_types.specs.declared.answers.Held.{Held}
 use Rattle.member_spec.specs.Versions.{Execution, is_executed}
 use Rattle.round_run.specs.Steps.{pending_from}
-use Rattle.round_run.specs.Places.{is_pending}
+use Rattle.round_run.specs.Places.{is_pending, kept_after}
 use Rattle.round_run.proofs.Following.{executed_join}
 use Rattle.round_run.proofs.Rounding.{at_front, longer}
 
@@ -46,7 +46,30 @@ module _ (all : List Held) (before more : List Execution) where
 pub still_pending : (held : List Held) (before more : List Execution) → filter (λ place. is_pending (before ++ more) (slice_get held place)) (pending_from before 0 held) ≡ pending_from (before ++ more) 0 held
 still_pending held before more = still held before more [] held refl
 
--- one more certificate is held
+-- ---- places that are kept
+
+keeps : (executed : List Execution) (held : List Held) (kept places : List ℕ) → kept_after executed held kept places ≡ kept ++ filter (λ place. is_pending executed (slice_get held place)) places
+keeps executed held kept [] = sym (append-nil kept)
+keeps executed held kept (p ∷ ps) = go (is_pending executed (slice_get held p)) (λ ks. keeps executed held ks ps)
+  where
+    go : (b : Bool) → ((ks : List ℕ) → kept_after executed held ks ps ≡ ks ++ filter (λ place. is_pending executed (slice_get held place)) ps)
+        → kept_after executed held (cond b (kept ++ p ∷ []) kept) ps
+        ≡ kept ++ cond b (p ∷ filter (λ place. is_pending executed (slice_get held place)) ps) (filter (λ place. is_pending executed (slice_get held place)) ps)
+    go true rest = rest (kept ++ p ∷ []) ∙ append_assoc kept (p ∷ []) (filter (λ place. is_pending executed (slice_get held place)) ps)
+    go false rest = rest kept
+
+-- the places that waited, without those of certificates that were executed since, are those that wait
+pub kept_pending : (held : List Held) (before more after : List Execution) (old new : List ℕ) → old ≡ pending_from before 0 held → after ≡ before ++ more → new ≡ kept_after after held [] old → new ≡ pending_from after 0 held
+kept_pending held before more after old new was is kept =
+    kept
+    ∙ ap (kept_after after held []) was
+    ∙ keeps after held [] (pending_from before 0 held)
+    ∙ ap (λ e. filter (λ place. is_pending e (slice_get held place)) (pending_from before 0 held)) is
+    ∙ still_pending held before more
+    ∙ ap (λ e. pending_from e 0 held) (sym is)
+
+-- ---- one more certificate
+
 one_more : (executed : List Execution) (place : ℕ) (hs : List Held) (h : Held)
     → pending_from executed place (hs ++ h ∷ []) ≡ cond (is_executed executed h.digest) (pending_from executed place hs) (pending_from executed place hs ++ (place + length hs) ∷ [])
 one_more executed place [] h = ap (λ n. cond (is_executed executed h.digest) [] (n ∷ [])) (omega arith)

@@ -1,6 +1,6 @@
 //! A run.
 
-ghost use Rattle.std.specs.Prelude.{◌≡◌, ◌++◌, [], IfOk, OnOk, OnTrue, map, not};
+ghost use Rattle.std.specs.Prelude.{◌≡◌, ◌++◌, [], IfOk, OnOk, map, not};
 ghost use Rattle.chain_spec.specs.Shape.{is_empty_list};
 ghost use Rattle.chain_spec.specs.Words.{Each};
 ghost use Rattle.member_spec.specs.Rounds.{round_of, rounds};
@@ -33,7 +33,7 @@ fn next_round(
 }
 
 /// Executes one round, and adds copies of its effects. False where none is ready.
-#[tactic(auto, using(crate::proofs::Following::round_next))]
+#[tactic(auto, using(crate::proofs::Following::round_next, crate::proofs::Pendings::kept_pending))]
 fn run_round(
     alloc: Global,
     store: &mut Store,
@@ -52,7 +52,7 @@ fn run_round(
     let round = next_round(alloc, store, waiting, held)?;
     let more = !round.is_empty();
     write_all(store, effects, &round)?;
-    waiting.forget(store, held);
+    waiting.forget(alloc, store, held)?;
     Ok(more)
 }
 

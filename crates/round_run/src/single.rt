@@ -51,12 +51,22 @@ fn key_of(object: &Object) -> ObjectKey
     }
 }
 
+/// Adds a version.
+fn add_key(written: &mut IndexSet<ObjectKey>, key: ObjectKey) -> Result<(), OutOfMemory>
+    ensures { OnOk result (written.new.keys ≡ insert_key key_eq written.old.keys key) }
+{
+    written.insert(key)?;
+    Ok(())
+}
+
 /// Adds the versions that these objects are.
 fn add_keys(written: &mut IndexSet<ObjectKey>, objects: &[Object]) -> Result<(), OutOfMemory>
     ensures { OnOk result (written.new.keys ≡ insert_all key_eq written.old.keys (map object_key objects.now)) }
 {
-    for object in objects {
-        written.insert(key_of(object))?;
+    let mut rest = objects;
+    while let [object, after @ ..] = rest {
+        add_key(written, key_of(object))?;
+        rest = after;
     }
     Ok(())
 }

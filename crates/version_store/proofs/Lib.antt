@@ -1,4 +1,4 @@
-mod Equality
+pub mod Equality
 mod Lists
 mod Held
 mod Newest
