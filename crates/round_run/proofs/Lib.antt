@@ -7,3 +7,4 @@ pub mod LeftOver
 pub mod Pendings
 pub mod Settling
 pub mod Writers
+pub mod Repeating

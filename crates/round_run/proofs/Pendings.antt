@@ -85,8 +85,14 @@ one_more executed place (k ∷ hs) h = go (is_executed executed k.digest) (is_ex
     go false true more = ap (λ ps. place ∷ ps) more
     go false false more = ap (λ ps. place ∷ ps) more
 
+-- it waits where it was not executed
+at_end : (executed : List Execution) (hs : List Held) (h : Held) → pending_from executed 0 (hs ++ h ∷ []) ≡ cond (is_executed executed h.digest) (pending_from executed 0 hs) (pending_from executed 0 hs ++ length hs ∷ [])
+at_end executed hs h =
+    let start : 0 + length hs ≡ length hs = omega arith in
+    one_more executed 0 hs h ∙ ap (λ n. cond (is_executed executed h.digest) (pending_from executed 0 hs) (pending_from executed 0 hs ++ n ∷ [])) start
+
 pub held_executed : (executed : List Execution) (hs : List Held) (h : Held) → is_executed executed h.digest ≡ true → pending_from executed 0 (hs ++ h ∷ []) ≡ pending_from executed 0 hs
-held_executed executed hs h is = one_more executed 0 hs h ∙ ap (λ b. cond b (pending_from executed 0 hs) (pending_from executed 0 hs ++ length hs ∷ [])) is
+held_executed executed hs h is = at_end executed hs h ∙ ap (λ b. cond b (pending_from executed 0 hs) (pending_from executed 0 hs ++ length hs ∷ [])) is
 
 pub held_pending : (executed : List Execution) (hs : List Held) (h : Held) → is_executed executed h.digest ≡ false → pending_from executed 0 (hs ++ h ∷ []) ≡ pending_from executed 0 hs ++ length hs ∷ []
-held_pending executed hs h is = one_more executed 0 hs h ∙ ap (λ b. cond b (pending_from executed 0 hs) (pending_from executed 0 hs ++ length hs ∷ [])) is
+held_pending executed hs h is = at_end executed hs h ∙ ap (λ b. cond b (pending_from executed 0 hs) (pending_from executed 0 hs ++ length hs ∷ [])) is

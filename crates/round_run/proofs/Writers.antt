@@ -44,8 +44,8 @@ has_all (w ∷ ws) keys k =
     ∙ ap (λ b. b || has_key ws k) (has_one keys w k)
     ∙ or_assoc (has_key keys k) (key_eq k w) (has_key ws k)
 
-pub writers_more : {keys new : List ObjectKey} {round after : List Execution} (x : Execution) → IsWrittenBy keys round → new ≡ insert_all key_eq keys (written_keys x.gave) → after ≡ round ++ x ∷ [] → IsWrittenBy new after
-writers_more {keys} {new} {round} {after} x is added more k =
+pub writers_more : (keys new : List ObjectKey) (round after : List Execution) (x : Execution) → IsWrittenBy keys round → new ≡ insert_all key_eq keys (written_keys x.gave) → after ≡ round ++ x ∷ [] → IsWrittenBy new after
+writers_more keys new round after x is added more k =
     ap (λ ks. has_key ks k) added
     ∙ has_all (written_keys x.gave) keys k
     ∙ ap (λ b. b || has_key (written_keys x.gave) k) (is k)

@@ -1,6 +1,6 @@
 //! A run.
 
-ghost use Rattle.std.specs.Prelude.{◌≡◌, ◌++◌, [], IfOk, OnOk, map, not};
+ghost use Rattle.std.specs.Prelude.{◌≡◌, ◌++◌, [], IfOk, OnOk, map};
 ghost use Rattle.chain_spec.specs.Shape.{is_empty_list};
 ghost use Rattle.chain_spec.specs.Words.{Each};
 ghost use Rattle.member_spec.specs.Rounds.{round_of, rounds};
@@ -32,8 +32,7 @@ fn next_round(
     round_at(alloc, store, held, waiting.places.as_slice())
 }
 
-/// Executes one round, and adds copies of its effects. False where none is ready.
-#[tactic(auto, using(crate::proofs::Following::round_next, crate::proofs::Pendings::kept_pending))]
+/// Executes one round, and adds copies of its effects. True where none is ready.
 fn run_round(
     alloc: Global,
     store: &mut Store,
@@ -44,16 +43,16 @@ fn run_round(
     requires sound { Each IsSound held.now }
     requires apart { AreApart held.now }
     requires waiting { IsWaiting store.old.executed held.now waiting.old }
-    ensures more { IfOk result (λ more. more ≡ not (is_empty_list (round_of (books_of store.old held.now) store.old.executed))) }
+    ensures last { IfOk result (λ last. last ≡ is_empty_list (round_of (books_of store.old held.now) store.old.executed)) }
     ensures written { OnOk result (store.new ≡ with_executions store.old (round_of (books_of store.old held.now) store.old.executed)) }
     ensures copied { OnOk result (effects.new ≡ effects.old ++ map effects_of (round_of (books_of store.old held.now) store.old.executed)) }
     ensures waiting { OnOk result (IsWaiting store.new.executed held.now waiting.new) }
 {
     let round = next_round(alloc, store, waiting, held)?;
-    let more = !round.is_empty();
+    let last = round.is_empty();
     write_all(store, effects, &round)?;
     waiting.forget(alloc, store, held)?;
-    Ok(more)
+    Ok(last)
 }
 
 /// Executes, round after round, all held certificates that are ready, and answers their effects in order
@@ -78,7 +77,8 @@ pub fn run(
     let mut effects = Seq::new(alloc);
     let mut left = held.len();
     while left > 0 {
-        if !run_round(alloc, store, waiting, held, &mut effects)? {
+        let last = run_round(alloc, store, waiting, held, &mut effects)?;
+        if last {
             return Ok(effects);
         }
         left -= 1;
