@@ -60,11 +60,12 @@ none_by key p (x ∷ xs) others =
 -- who was not executed is none of those that were
 not_among : (tx : Digest) (xs : List Execution) → is_executed xs tx ≡ false → AreOthers (producers.Tx tx) xs
 not_among tx [] none = tt
-not_among tx (x ∷ xs) none = go (digest_eq x.digest tx) refl none
+not_among tx (x ∷ xs) none = go (digest_eq x.digest tx) refl none (λ rest. not_among tx xs rest)
   where
-    go : (b : Bool) → digest_eq x.digest tx ≡ b → is_some (cond b (Some x) (find (λ (y : Execution). digest_eq y.digest tx) xs)) ≡ false → AreOthers (producers.Tx tx) (x ∷ xs)
-    go true is none = absurd (cc)
-    go false is none = (is, not_among tx xs none)
+    go : (b : Bool) → digest_eq x.digest tx ≡ b → is_some (cond b (Some x) (find (λ (y : Execution). digest_eq y.digest tx) xs)) ≡ false → (is_executed xs tx ≡ false → AreOthers (producers.Tx tx) xs)
+        → AreOthers (producers.Tx tx) (x ∷ xs)
+    go true is none rest = absurd (cc)
+    go false is none rest = (is, rest none)
 
 -- an opening object is nobody's
 not_opened : (key : ObjectKey) (tx : Digest) (objects : List Object) → find (is_wanted key (Some (producers.Tx tx))) (map opened objects) ≡ None

@@ -12,7 +12,6 @@ mod leaving;
 mod readiness;
 mod running;
 mod single;
-mod standing;
 mod waiting;
 mod writing;
 

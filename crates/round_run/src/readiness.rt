@@ -11,11 +11,11 @@ ghost use Rattle.round_run.specs.Books.{IsSound, books_of, ready_in};
 ghost use Rattle.round_run.specs.Steps.{ready_of};
 
 use crate::inputs::{has_shared_input, needs, present};
-use crate::standing::{execute_whole, fits};
 use block_types::Executed;
 use chain_types::{Object, ObjectKey, Transaction, owned_keys};
 use digest_core::Digest;
 use member_types::Held;
+use ptb_run::{execute, fits};
 use std::alloc::Global;
 use std::marker::Model;
 use version_store::Store;
@@ -58,7 +58,7 @@ fn ran_on(
     requires fit { fits held.now.cert.tx objects.now ≡ true }
     ensures { IfOk result (λ ran. ran ≡ ready_as (books_of store.now []) store.now.executed held.now (execution held.now.cert.tx objects.now)) }
 {
-    let gave = execute_whole(alloc, &held.cert.tx, &held.digest, objects)?;
+    let gave = execute(alloc, &held.cert.tx, &held.digest, objects)?;
     if !store.are_new(&gave.objects)? {
         return Ok(None);
     }
