@@ -18,3 +18,6 @@ mod writing;
 pub use leaving::left;
 pub use running::run;
 pub use waiting::Waiting;
+
+#[cfg(test)]
+mod tests;
