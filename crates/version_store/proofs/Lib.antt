@@ -1,4 +1,4 @@
-mod Equality
+pub mod Equality
 mod Lists
 mod Held
 mod Newest
@@ -6,3 +6,4 @@ mod Executions
 mod Kept
 mod Places
 mod News
+mod Makers

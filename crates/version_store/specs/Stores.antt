@@ -1,12 +1,13 @@
 -- What a store stands for, and the executions that it can take. Source: Sui Lutris.
-use Rattle.std.specs.Prelude.{Bool, List, [], ◌∷◌, ◌++◌, map}
+use Rattle.std.specs.Prelude.{Bool, List, [], ◌∷◌, ◌++◌, map, Some}
 use Rattle.digest_core.specs.declared.Digest.{Digest}
 use Rattle.chain_types.specs.declared.objects.Object.{Object}
 use Rattle.chain_types.specs.declared.objects.ObjectKey.{ObjectKey}
+use Rattle.chain_types.specs.declared.objects.Producer.{Producer}
 use Rattle.effects_core.specs.declared.effects.Effects.{Effects}
 use Rattle.chain_spec.specs.Keys.{object_key}
 use Rattle.member_spec.specs.Versions.{Execution, Version, versions}
-use Rattle.member_spec.specs.Rounds.{writes_new}
+use Rattle.member_spec.specs.Rounds.{Wanted, writes_new}
 
 -- the objects with which the epoch opened, and the transactions executed since, in order
 pub record Stored : Type 0 where
@@ -32,3 +33,7 @@ executed_as effects objects consumed = record {
 -- one more transaction was executed
 abbrev pub with_execution : Stored → Execution → Stored
 with_execution s x = record s { executed = s.executed ++ x ∷ [] }
+
+-- a version of this key, made by this producer
+abbrev pub wanted_of : ObjectKey → Producer → Wanted
+wanted_of key producer = record { key = key; producer = Some producer }

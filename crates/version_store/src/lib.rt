@@ -6,6 +6,7 @@
 //! answer is that of the definitions on this list. Look-ups are by maps: none scans what is held.
 #![tactic(auto)]
 
+mod found;
 mod fresh;
 mod live;
 mod maps;

@@ -1,0 +1,10 @@
+pub mod Joined
+pub mod Executing
+pub mod Readying
+pub mod Rounding
+pub mod Following
+pub mod LeftOver
+pub mod Pendings
+pub mod Settling
+pub mod Writers
+pub mod Repeating

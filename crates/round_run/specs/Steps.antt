@@ -1,0 +1,46 @@
+-- How a run goes over the places of certificates.
+use Rattle.std.specs.Prelude.{ℕ, suc, Bool, true, false, List, [], ◌∷◌, ◌++◌, Option, Some, None, slice_get, if◌then◌else◌}
+use Rattle.digest_core.specs.declared.Digest.{Digest}
+use Rattle.chain_types.specs.declared.objects.Object.{Object}
+use Rattle.chain_types.specs.declared.objects.ObjectKey.{ObjectKey}
+use Rattle.chain_types.specs.declared.transactions.Input.{Input}
+use Rattle.member_types.specs.declared.answers.Held.{Held}
+use Rattle.member_types.specs.declared.answers.Left.{Left}
+use Rattle.chain_types.specs.Digests.{is_object}
+use Rattle.member_spec.specs.Versions.{Execution, Version, is_executed}
+use Rattle.member_spec.specs.Rounds.{found, missing, round_add, wanted_by}
+use Rattle.version_store.specs.Stores.{Stored}
+use Rattle.round_run.specs.Books.{left_in, ready_in}
+
+-- ---- the places of held certificates
+
+-- what the certificate at a place gives, where there is one and it is ready
+abbrev pub ready_of : Stored → Option Held → Option Execution
+ready_of s None = None
+ready_of s (Some h) = ready_in s h
+
+-- the round so far, and behind it the certificates at these places that are ready
+abbrev pub round_at : Stored → List Held → List Execution → List ℕ → List Execution
+round_at s held round [] = round
+round_at s held round (place ∷ places) = round_at s held (round_add round (ready_of s (slice_get held place))) places
+
+-- the places, from this one on, of the certificates that are not executed
+abbrev pub pending_from : List Execution → ℕ → List Held → List ℕ
+pending_from executed place [] = []
+pending_from executed place (h ∷ hs) =
+    if is_executed executed h.digest
+    then pending_from executed (suc place) hs
+    else place ∷ pending_from executed (suc place) hs
+
+abbrev pub left_of : Stored → Option Held → Option Left
+left_of s None = None
+left_of s (Some h) = left_in s h
+
+abbrev pub left_add : List Left → Option Left → List Left
+left_add left None = left
+left_add left (Some one) = left ++ one ∷ []
+
+-- those left so far, and behind them those of these places
+abbrev pub left_after : Stored → List Held → List Left → List ℕ → List Left
+left_after s held left [] = left
+left_after s held left (place ∷ places) = left_after s held (left_add left (left_of s (slice_get held place))) places
