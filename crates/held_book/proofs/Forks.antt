@@ -1,6 +1,7 @@
 -- The first fork, and the first holder of each version, behind one more certificate.
 use Rattle.std.proofs.Common.{◌≡◌, Bool, true, false, cond, ◌||◌, List, [], ◌∷◌, ◌++◌, Option, Some, None, is_some, refl, ap, sym, ◌∙◌, option_map, append_assoc, append-nil}
-use Rattle.std.specs.Prelude.{find, option_or}
+use Rattle.std.specs.Prelude.{find}
+use Rattle.std.specs.Option.{option_or}
 use Rattle.std.specs.Map.{lookup}
 use Rattle.std.proofs.lemmas.List.Folds.{find-append}
 use Rattle.indexmap.specs.IndexMap.{insert_entry}
@@ -14,7 +15,7 @@ use Rattle.chain_spec.specs.Tests.{has_key}
 use Rattle.lock_table.proofs.Keys.{key_same}
 use Rattle.member_types.specs.declared.answers.Held.{Held}
 use Rattle.member_spec.specs.Member.{Fork, consumes, fork_at, fork_in, fork_with}
-use Rattle.held_book.specs.Holders.{fork_by, meets, sides, with_holder, with_holders}
+use Rattle.held_book.specs.Holders.{digest_of, fork_by, meets, sides, with_holder, with_holders}
 
 -- ---- the first fork
 
@@ -36,13 +37,16 @@ forks_behind earlier (g ∷ gs) h =
     regroup None None None = refl
     regroup None None (Some f) = refl
 
+abbrev fork_as : ObjectKey → Held → Held → Fork
+fork_as k h e = record { key = k; first = e.digest; second = h.digest }
+
 -- a certificate's fork, by the version that it meets first
 fork_met : (hs : List Held) (h : Held) (keys : List ObjectKey) → option_map sides (first_of (fork_at hs h) keys) ≡ fork_by h.digest (first_of (meets hs) keys)
 fork_met hs h [] = refl
 fork_met hs h (k ∷ ks) = by (find (consumes k) hs) (first_of (fork_at hs h) ks) (first_of (meets hs) ks) (fork_met hs h ks)
   where
     by : (o : Option Held) (a : Option Fork) (b : Option (ObjectKey × Digest)) → option_map sides a ≡ fork_by h.digest b
-        → option_map sides (first_some (option_map (λ (e : Held). record { key = k; first = e.digest; second = h.digest }) o ∷ a ∷ []))
+        → option_map sides (first_some (option_map (fork_as k h) o ∷ a ∷ []))
         ≡ fork_by h.digest (first_some (option_map (λ (e : Held). (k, e.digest)) o ∷ b ∷ []))
     by (Some e) a b more = refl
     by None a b more = ap (option_map sides) (last a) ∙ more ∙ sym (ap (fork_by h.digest) (last b))
@@ -109,15 +113,15 @@ all_holders tx (k ∷ ks) es key =
     joined None true b = refl
     joined None false b = refl
 
-pub holder_more : (es : List (ObjectKey × Digest)) (hs : List Held) (h : Held) → ((key : ObjectKey) → lookup (key_eq key) es ≡ option_map (λ (x : Held). x.digest) (find (consumes key) hs))
-    → (key : ObjectKey) → lookup (key_eq key) (with_holders h.digest es (consumed_keys h.cert.tx)) ≡ option_map (λ (x : Held). x.digest) (find (consumes key) (hs ++ h ∷ []))
+pub holder_more : (es : List (ObjectKey × Digest)) (hs : List Held) (h : Held) → ((key : ObjectKey) → lookup (key_eq key) es ≡ option_map digest_of (find (consumes key) hs))
+    → (key : ObjectKey) → lookup (key_eq key) (with_holders h.digest es (consumed_keys h.cert.tx)) ≡ option_map digest_of (find (consumes key) (hs ++ h ∷ []))
 holder_more es hs h is key =
     all_holders h.digest (consumed_keys h.cert.tx) es key
     ∙ ap (λ o. option_or o (cond (consumes key h) (Some h.digest) None)) (is key)
     ∙ mapped (find (consumes key) hs) (consumes key h)
-    ∙ sym (ap (option_map (λ (x : Held). x.digest)) (find-append (consumes key) hs (h ∷ [])))
+    ∙ sym (ap (option_map digest_of) (find-append (consumes key) hs (h ∷ [])))
   where
-    mapped : (o : Option Held) (b : Bool) → option_or (option_map (λ (x : Held). x.digest) o) (cond b (Some h.digest) None) ≡ option_map (λ (x : Held). x.digest) (option_or o (cond b (Some h) None))
+    mapped : (o : Option Held) (b : Bool) → option_or (option_map digest_of o) (cond b (Some h.digest) None) ≡ option_map digest_of (option_or o (cond b (Some h) None))
     mapped (Some x) b = refl
     mapped None true = refl
     mapped None false = refl

@@ -17,7 +17,7 @@ use Rattle.chain_spec.specs.Words.{first_of, first_some}
 use Rattle.member_types.specs.declared.answers.Held.{Held}
 use Rattle.member_spec.specs.Checkpoints.{held_of}
 use Rattle.member_spec.specs.Member.{consumes, fork_in}
-use Rattle.held_book.specs.Holders.{IsKept, fork_by, held_as, helds, meets, sides, with_holders}
+use Rattle.held_book.specs.Holders.{IsKept, cert_of, digest_of, entry_of, fork_by, held_as, helds, meets, sides, with_holders}
 use Rattle.held_book.proofs.Forks.{fork_more, holder_more}
 
 -- ---- look-ups
@@ -26,39 +26,39 @@ turned : (a b : Digest) → digest_eq a b ≡ digest_eq b a
 turned a b = same_from_decides (digest_eq a b) (digest_eq b a) (bytes_eq-Decides a.0 b.0) ((λ h. sym ((bytes_eq-Decides b.0 a.0).0 h)), (λ e. (bytes_eq-Decides b.0 a.0).1 (sym e)))
 
 -- a look-up in the map is a search among what is held
-found_as : (certs : List (Digest × Certificate)) (tx : Digest) → lookup (digest_eq tx) certs ≡ option_map (λ (h : Held). h.cert) (held_of (helds certs) tx)
+found_as : (certs : List (Digest × Certificate)) (tx : Digest) → lookup (digest_eq tx) certs ≡ option_map cert_of (held_of (helds certs) tx)
 found_as [] tx = refl
 found_as (e ∷ es) tx = ap (λ b. cond b (Some e.1) (lookup (digest_eq tx) es)) (turned tx e.0) ∙ by (digest_eq e.0 tx) (found_as es tx)
   where
-    by : (b : Bool) → lookup (digest_eq tx) es ≡ option_map (λ (h : Held). h.cert) (held_of (helds es) tx)
-        → cond b (Some e.1) (lookup (digest_eq tx) es) ≡ option_map (λ (h : Held). h.cert) (cond b (Some (held_as e)) (held_of (helds es) tx))
+    by : (b : Bool) → lookup (digest_eq tx) es ≡ option_map cert_of (held_of (helds es) tx)
+        → cond b (Some e.1) (lookup (digest_eq tx) es) ≡ option_map cert_of (cond b (Some (held_as e)) (held_of (helds es) tx))
     by true more = refl
     by false more = more
 
-pub found : (certs : List (Digest × Certificate)) (held : List Held) (tx : Digest) → helds certs ≡ held → lookup (digest_eq tx) certs ≡ option_map (λ (h : Held). h.cert) (held_of held tx)
-found certs held tx view = found_as certs tx ∙ ap (λ hs. option_map (λ (h : Held). h.cert) (held_of hs tx)) view
+pub found : (certs : List (Digest × Certificate)) (held : List Held) (tx : Digest) → helds certs ≡ held → lookup (digest_eq tx) certs ≡ option_map cert_of (held_of held tx)
+found certs held tx view = found_as certs tx ∙ ap (λ hs. option_map cert_of (held_of hs tx)) view
 
 pub has : (certs : List (Digest × Certificate)) (held : List Held) (tx : Digest) → helds certs ≡ held → is_some (lookup (digest_eq tx) certs) ≡ is_some (held_of held tx)
 has certs held tx view = ap is_some (found certs held tx view) ∙ mapped (held_of held tx)
   where
-    mapped : (o : Option Held) → is_some (option_map (λ (h : Held). h.cert) o) ≡ is_some o
+    mapped : (o : Option Held) → is_some (option_map cert_of o) ≡ is_some o
     mapped None = refl
     mapped (Some h) = refl
 
 -- the entry at a place
-pub placed : (certs : List (Digest × Certificate)) (held : List Held) (place : ℕ) → helds certs ≡ held → slice_get certs place ≡ option_map (λ (h : Held). (h.digest, h.cert)) (slice_get held place)
+pub placed : (certs : List (Digest × Certificate)) (held : List Held) (place : ℕ) → helds certs ≡ held → slice_get certs place ≡ option_map entry_of (slice_get held place)
 placed certs held place view =
     by (slice_get certs place)
-    ∙ sym (ap (option_map (λ (h : Held). (h.digest, h.cert))) (slice_get-map held_as certs place))
-    ∙ ap (λ hs. option_map (λ (h : Held). (h.digest, h.cert)) (slice_get hs place)) view
+    ∙ sym (ap (option_map entry_of) (slice_get-map held_as certs place))
+    ∙ ap (λ hs. option_map entry_of (slice_get hs place)) view
   where
-    by : (o : Option (Digest × Certificate)) → o ≡ option_map (λ (h : Held). (h.digest, h.cert)) (option_map held_as o)
+    by : (o : Option (Digest × Certificate)) → o ≡ option_map entry_of (option_map held_as o)
     by None = refl
     by (Some e) = refl
 
 -- ---- one more certificate
 
-module _ {certs after : List (Digest × Certificate)} {holders holding : List (ObjectKey × Digest)} {fork now : Option (Digest × Digest)} {held : List Held} {keys : List ObjectKey} (h : Held)
+module _ (certs : List (Digest × Certificate)) (holders : List (ObjectKey × Digest)) (held : List Held) (keys : List ObjectKey) (h : Held) {after : List (Digest × Certificate)} {holding : List (ObjectKey × Digest)} {fork now : Option (Digest × Digest)}
     (kept : IsKept (helds certs) holders fork) (view : helds certs ≡ held) (new : is_some (held_of held h.digest) ≡ false) (keys_are : keys ≡ consumed_keys h.cert.tx)
     (after_is : after ≡ insert_entry digest_eq certs h.digest h.cert) (holding_is : holding ≡ with_holders h.digest holders keys)
     (now_is : now ≡ first_some (option_map sides (fork_in [] held) ∷ fork_by h.digest (first_of (meets held) keys) ∷ [])) where
@@ -72,8 +72,8 @@ module _ {certs after : List (Digest × Certificate)} {holders holding : List (O
   keeps = record {
     first_holder = λ key.
         ap (lookup (key_eq key)) (holding_is ∙ ap (with_holders h.digest holders) keys_are)
-        ∙ holder_more holders held h (λ k. kept.first_holder k ∙ ap (λ hs. option_map (λ (x : Held). x.digest) (find (consumes k) hs)) view) key
-        ∙ sym (ap (λ hs. option_map (λ (x : Held). x.digest) (find (consumes key) hs)) one_more);
+        ∙ holder_more holders held h (λ k. kept.first_holder k ∙ ap (λ hs. option_map digest_of (find (consumes k) hs)) view) key
+        ∙ sym (ap (λ hs. option_map digest_of (find (consumes key) hs)) one_more);
     first_fork =
         now_is
         ∙ ap (λ ks. first_some (option_map sides (fork_in [] held) ∷ fork_by h.digest (first_of (meets held) ks) ∷ [])) keys_are

@@ -10,6 +10,20 @@ use Rattle.chain_messages.specs.declared.messages.Certificate.{Certificate}
 use Rattle.member_types.specs.declared.answers.Held.{Held}
 use Rattle.member_spec.specs.Member.{Fork, consumes, fork_in}
 
+-- ---- what is held, and its parts
+
+abbrev pub HeldList : Type 0
+HeldList = List Held
+
+abbrev pub digest_of : Held → Digest
+digest_of h = h.digest
+
+abbrev pub cert_of : Held → Certificate
+cert_of h = h.cert
+
+abbrev pub entry_of : Held → Digest × Certificate
+entry_of h = (h.digest, h.cert)
+
 -- ---- what the certificates stand for
 
 abbrev pub held_as : Digest × Certificate → Held
@@ -45,5 +59,5 @@ fork_by tx met = option_map (λ (m : ObjectKey × Digest). (m.1, tx)) met
 
 -- of each version the first held transaction that consumes it is known, and so is the first fork
 pub record IsKept (held : List Held) (holders : List (ObjectKey × Digest)) (fork : Option (Digest × Digest)) : Type 0 where
-  pub first_holder : (key : ObjectKey) → lookup (key_eq key) holders ≡ option_map (λ (h : Held). h.digest) (find (consumes key) held)
+  pub first_holder : (key : ObjectKey) → lookup (key_eq key) holders ≡ option_map digest_of (find (consumes key) held)
   pub first_fork : fork ≡ option_map sides (fork_in [] held)

@@ -4,10 +4,9 @@ ghost use Rattle.std.specs.Prelude.{◌≡◌, ◌+◌, ◌<◌, ◌≤◌, ◌+
 ghost use Rattle.std.specs.Map.Iter.{deref_pair};
 ghost use Rattle.indexmap.specs.IndexMap.{spare};
 ghost use Rattle.chain_spec.specs.Words.{first_of, first_some};
-ghost use Rattle.member_types.specs.declared.answers.Held.{Held};
 ghost use Rattle.member_spec.specs.Checkpoints.{held_of};
-ghost use Rattle.member_spec.specs.Member.{Fork, consumes, fork_in};
-ghost use Rattle.held_book.specs.Holders.{fork_by, meets, sides, with_holder, with_holders};
+ghost use Rattle.member_spec.specs.Member.{consumes, fork_in};
+ghost use Rattle.held_book.specs.Holders.{cert_of, digest_of, entry_of, fork_by, meets, sides, with_holder, with_holders};
 
 use chain_messages::Certificate;
 use chain_types::{ObjectKey, owned_keys};
@@ -52,11 +51,9 @@ pub struct HeldBook {
 }
 
 impl Model for HeldBook {
-    ghost use Rattle.std.specs.Prelude.{List};
-    ghost use Rattle.member_types.specs.declared.answers.Held.{Held};
-    ghost use Rattle.held_book.specs.Holders.{IsKept, helds};
+    ghost use Rattle.held_book.specs.Holders.{HeldList, IsKept, helds};
 
-    ghost Value = { List Held };
+    ghost Value = { HeldList };
 
     ghost view = { λ b. helds b.certs.entries };
 
@@ -92,7 +89,7 @@ impl HeldBook {
 
     /// The held certificate of this transaction; none exactly where none is held. Takes no memory.
     pub fn get(&self, tx: &Digest) -> Option<&Certificate>
-        ensures { option_map (λ (c : _). c.now) result ≡ option_map (λ (h : Held). h.cert) (held_of self.now tx.now) }
+        ensures { option_map (λ (c : _). c.now) result ≡ option_map cert_of (held_of self.now tx.now) }
     {
         self.certs.get(tx)
     }
@@ -100,14 +97,14 @@ impl HeldBook {
     /// The certificate that was held at this place, from 0, with its transaction's digest; none exactly where fewer
     /// are held. Takes no memory.
     pub fn at(&self, place: usize) -> Option<(&Digest, &Certificate)>
-        ensures { option_map deref_pair result ≡ option_map (λ (h : Held). (h.digest, h.cert)) (slice_get self.now place) }
+        ensures { option_map deref_pair result ≡ option_map entry_of (slice_get self.now place) }
     {
         self.certs.get_index(place)
     }
 
     /// The first held transaction that consumes the version. Takes no memory.
     fn holder(&self, key: &ObjectKey) -> Option<Digest>
-        ensures { result ≡ option_map (λ (h : Held). h.digest) (find (consumes key.now) self.now) }
+        ensures { result ≡ option_map digest_of (find (consumes key.now) self.now) }
     {
         self.holders.get(key).copied()
     }
@@ -128,7 +125,7 @@ impl HeldBook {
 
     /// The first fork: the two transactions, the one held before first. Takes no memory.
     pub fn fork(&self) -> Option<(Digest, Digest)>
-        ensures { result ≡ option_map (λ (f : Fork). (f.first, f.second)) (fork_in [] self.now) }
+        ensures { result ≡ option_map sides (fork_in [] self.now) }
     {
         self.fork
     }

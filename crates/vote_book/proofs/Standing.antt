@@ -1,6 +1,7 @@
 -- The locks stand for the votes, also behind one more vote.
 use Rattle.std.proofs.Common.{◌≡◌, Bool, true, false, cond, ◌&&◌, ◌||◌, not, List, [], ◌∷◌, ◌++◌, Option, Some, None, refl, ap, sym, ◌∙◌, option_map, inl, inr}
-use Rattle.std.specs.Prelude.{find, option_or}
+use Rattle.std.specs.Prelude.{find}
+use Rattle.std.specs.Option.{option_or}
 use Rattle.std.proofs.lemmas.List.Folds.{find-append}
 use Rattle.indexmap.specs.IndexMap.{insert_entry}
 use Rattle.digest_core.specs.declared.Digest.{Digest}

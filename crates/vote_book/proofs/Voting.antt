@@ -1,6 +1,6 @@
 -- What a book finds, decides and takes, on the votes that it stands for.
-use Rattle.std.proofs.Common.{◌≡◌, Bool, true, false, cond, List, [], ◌∷◌, ◌++◌, Option, Some, None, Result, is_some, map, refl, ap, sym, ◌∙◌, option_map, subst}
-use Rattle.std.specs.Prelude.{find}
+use Rattle.std.proofs.Common.{◌≡◌, Bool, true, false, cond, List, [], ◌∷◌, ◌++◌, Option, Some, None, is_some, map, refl, ap, sym, ◌∙◌, option_map, subst}
+use Rattle.std.specs.Prelude.{Result, find}
 use Rattle.std.specs.Map.{lookup}
 use Rattle.std.proofs.lemmas.List.{map-append}
 use Rattle.std.proofs.lemmas.Slice.Eq.{bytes_eq-Decides}
@@ -102,14 +102,14 @@ stand_at same view stand tx key =
     ∙ sym (ap (λ xs. option_map (λ (v : Cast). (key, v.digest)) (find (is_lock tx key) xs)) view)
 
 -- no other transaction holds a key that is free
-pub unlocked : {locks : Locks} {held votes : List Cast} {tx : Digest} {keys : List ObjectKey} → StandFor locks held → held ≡ votes → first_of (locked votes tx) keys ≡ None → other_lock locks tx keys ≡ None
-unlocked {locks} {held} {votes} {tx} {keys} stand view free = no_other locks votes tx keys (stand_at refl (sym view) stand) free
+pub unlocked : (locks : Locks) (held votes : List Cast) (tx : Digest) (keys : List ObjectKey) → StandFor locks held → held ≡ votes → first_of (locked votes tx) keys ≡ None → other_lock locks tx keys ≡ None
+unlocked locks held votes tx keys stand view free = no_other locks votes tx keys (stand_at refl (sym view) stand) free
 
 -- the book behind one more vote
-pub voted : {locks l : Locks} {given mid after : List (Digest × Given)} {votes : List Cast} {tx : Digest} {g : Given} → StandFor locks (casts given) → casts given ≡ votes → mid ≡ given
+pub voted : (locks : Locks) (given : List (Digest × Given)) (votes : List Cast) (tx : Digest) (g : Given) {l : Locks} {mid after : List (Digest × Given)} → StandFor locks (casts given) → casts given ≡ votes → mid ≡ given
     → l ≡ with_locks locks g.consumed tx → after ≡ insert_entry digest_eq mid tx g
     → is_some (find (λ (v : Cast). digest_eq v.digest tx) votes) ≡ false → first_of (locked votes tx) g.consumed ≡ None
     → StandFor l (casts after) × (casts after ≡ votes ++ voted_as tx g.consumed g.origins ∷ [])
-voted {locks} {l} {given} {mid} {after} {votes} {tx} {g} stand view same locks_are entries_are new free =
+voted locks given votes tx g {l} {mid} {after} stand view same locks_are entries_are new free =
     let now : casts after ≡ votes ++ voted_as tx g.consumed g.origins ∷ [] = ap casts (entries_are ∙ ap (λ es. insert_entry digest_eq es tx g) same) ∙ taken given votes tx g view new in
     (stand_at locks_are now (stands locks votes (voted_as tx g.consumed g.origins) (stand_at refl (sym view) stand) free), now)
