@@ -1,5 +1,5 @@
 -- What a book finds, and what it is behind one more certificate.
-use Rattle.std.proofs.Common.{◌≡◌, ℕ, Bool, true, false, cond, List, [], ◌∷◌, ◌++◌, Option, Some, None, is_some, map, slice_get, refl, ap, sym, ◌∙◌, option_map, subst}
+use Rattle.std.proofs.Common.{◌≡◌, ℕ, Bool, true, false, cond, List, [], ◌∷◌, ◌++◌, Option, Some, None, is_some, slice_get, refl, ap, sym, ◌∙◌, option_map}
 use Rattle.std.specs.Prelude.{find}
 use Rattle.std.specs.Map.{lookup}
 use Rattle.std.proofs.lemmas.List.{map-append}
@@ -58,25 +58,40 @@ placed certs held place view =
 
 -- ---- one more certificate
 
-module _ (certs : List (Digest × Certificate)) (holders : List (ObjectKey × Digest)) (held : List Held) (keys : List ObjectKey) (h : Held) {after : List (Digest × Certificate)} {holding : List (ObjectKey × Digest)} {fork now : Option (Digest × Digest)}
-    (kept : IsKept (helds certs) holders fork) (view : helds certs ≡ held) (new : is_some (held_of held h.digest) ≡ false) (keys_are : keys ≡ consumed_keys h.cert.tx)
-    (after_is : after ≡ insert_entry digest_eq certs h.digest h.cert) (holding_is : holding ≡ with_holders h.digest holders keys)
-    (now_is : now ≡ first_some (option_map sides (fork_in [] held) ∷ fork_by h.digest (first_of (meets held) keys) ∷ [])) where
-  pub one_more : helds after ≡ held ++ h ∷ []
+-- of a transaction of which none is held: what is held behind it, and that the maps are kept
+module _ (certs : List (Digest × Certificate)) (holders : List (ObjectKey × Digest)) (held : List Held) (h : Held) {after : List (Digest × Certificate)} {holding : List (ObjectKey × Digest)} {fork now : Option (Digest × Digest)}
+    (kept : IsKept (helds certs) holders fork) (view : helds certs ≡ held) (new : is_some (held_of held h.digest) ≡ false)
+    (after_is : after ≡ insert_entry digest_eq certs h.digest h.cert) (holding_is : holding ≡ with_holders h.digest holders (consumed_keys h.cert.tx))
+    (now_is : now ≡ first_some (option_map sides (fork_in [] held) ∷ fork_by h.digest (first_of (meets held) (consumed_keys h.cert.tx)) ∷ [])) where
+  one_more : helds after ≡ held ++ h ∷ []
   one_more =
       ap helds (after_is ∙ goes_last digest_eq certs h.digest h.cert (has certs held h.digest view ∙ new))
       ∙ map-append held_as certs ((h.digest, h.cert) ∷ [])
       ∙ ap (λ hs. hs ++ h ∷ []) view
 
-  pub keeps : IsKept (helds after) holding now
-  keeps = record {
-    first_holder = λ key.
-        ap (lookup (key_eq key)) (holding_is ∙ ap (with_holders h.digest holders) keys_are)
-        ∙ holder_more holders held h (λ k. kept.first_holder k ∙ ap (λ hs. option_map digest_of (find (consumes k) hs)) view) key
-        ∙ sym (ap (λ hs. option_map digest_of (find (consumes key) hs)) one_more);
-    first_fork =
-        now_is
-        ∙ ap (λ ks. first_some (option_map sides (fork_in [] held) ∷ fork_by h.digest (first_of (meets held) ks) ∷ [])) keys_are
-        ∙ fork_more held h
-        ∙ sym (ap (λ hs. option_map sides (fork_in [] hs)) one_more);
-  }
+  both : IsKept (helds after) holding now × (helds after ≡ held ++ h ∷ [])
+  both = (
+    record {
+      first_holder = λ key.
+          ap (lookup (key_eq key)) holding_is
+          ∙ holder_more holders held h (λ k. kept.first_holder k ∙ ap (λ hs. option_map digest_of (find (consumes k) hs)) view) key
+          ∙ sym (ap (λ hs. option_map digest_of (find (consumes key) hs)) one_more);
+      first_fork = now_is ∙ fork_more held h ∙ sym (ap (λ hs. option_map sides (fork_in [] hs)) one_more);
+    },
+    one_more,
+  )
+
+-- the book behind one more certificate, for which room was made in both maps
+pub held_more : (certs : List (Digest × Certificate)) (holders : List (ObjectKey × Digest)) (held : List Held) (h : Held)
+    {mid after : List (Digest × Certificate)} {between holding : List (ObjectKey × Digest)} {looked entered : List ObjectKey} {fork now : Option (Digest × Digest)}
+    → IsKept (helds certs) holders fork → helds certs ≡ held → is_some (held_of held h.digest) ≡ false
+    → looked ≡ consumed_keys h.cert.tx → entered ≡ consumed_keys h.cert.tx
+    → mid ≡ certs → after ≡ insert_entry digest_eq mid h.digest h.cert
+    → between ≡ holders → holding ≡ with_holders h.digest between entered
+    → now ≡ first_some (option_map sides (fork_in [] held) ∷ fork_by h.digest (first_of (meets held) looked) ∷ [])
+    → IsKept (helds after) holding now × (helds after ≡ held ++ h ∷ [])
+held_more certs holders held h {mid} {after} {between} {holding} {looked} {entered} kept view new looked_are entered_are mid_is after_is between_is holding_is now_is =
+    both certs holders held h kept view new
+    (after_is ∙ ap (λ es. insert_entry digest_eq es h.digest h.cert) mid_is)
+    (holding_is ∙ ap (λ es. with_holders h.digest es entered) between_is ∙ ap (with_holders h.digest holders) entered_are)
+    (now_is ∙ ap (λ ks. first_some (option_map sides (fork_in [] held) ∷ fork_by h.digest (first_of (meets held) ks) ∷ [])) looked_are)

@@ -6,7 +6,6 @@ use Rattle.std.proofs.lemmas.List.Folds.{find-append}
 use Rattle.indexmap.specs.IndexMap.{insert_entry}
 use Rattle.digest_core.specs.declared.Digest.{Digest}
 use Rattle.chain_types.specs.declared.objects.ObjectKey.{ObjectKey}
-use Rattle.chain_types.specs.declared.refusals.DecideRefusal.{DecideRefusal}
 use Rattle.chain_types.specs.declared.refusals.DecideRefusal.TheVariants as refused
 use Rattle.chain_types.specs.Equal.{digest_eq, key_eq}
 use Rattle.chain_spec.specs.Words.{first_of, first_some}

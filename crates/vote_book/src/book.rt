@@ -26,11 +26,7 @@ struct Given {
 }
 
 /// Locks keys that no other transaction holds. A refusal changes nothing.
-fn lock_free(
-    locks: &mut LockTable,
-    keys: &Seq<ObjectKey>,
-    tx: &Digest,
-) -> Result<(), OutOfMemory>
+fn lock_free(locks: &mut LockTable, keys: &Seq<ObjectKey>, tx: &Digest) -> Result<(), OutOfMemory>
     requires { other_lock locks.old tx.now keys.now ≡ None }
     ensures ok { OnOk result (locks.new ≡ with_locks locks.old keys.now tx.now) }
     ensures err { OnErr result (locks.new ≡ locks.old) }
