@@ -1,2 +1,2 @@
 mod Forks
-mod Holding
+pub mod Holding

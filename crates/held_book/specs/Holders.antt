@@ -1,11 +1,12 @@
 -- What the maps of a book stand for, and how they are kept. Source: Sui Lutris; that a member halts on a fork is
 -- this profile's own.
-use Rattle.std.specs.Prelude.{◌≡◌, List, [], Option, map, fold, find, is_some, option_map, if◌then◌else◌}
+use Rattle.std.specs.Prelude.{◌≡◌, ℕ, false, List, [], Option, None, Some, map, fold, find, is_some, option_map, slice_get, if◌then◌else◌}
 use Rattle.std.specs.Map.{lookup}
 use Rattle.indexmap.specs.IndexMap.{insert_entry}
 use Rattle.digest_core.specs.declared.Digest.{Digest}
 use Rattle.chain_types.specs.declared.objects.ObjectKey.{ObjectKey}
-use Rattle.chain_types.specs.Equal.{key_eq}
+use Rattle.chain_types.specs.Equal.{digest_eq, key_eq}
+use Rattle.chain_spec.specs.Words.{repeats}
 use Rattle.chain_messages.specs.declared.messages.Certificate.{Certificate}
 use Rattle.member_types.specs.declared.answers.Held.{Held}
 use Rattle.member_spec.specs.Member.{Fork, consumes, fork_in}
@@ -21,16 +22,10 @@ digest_of h = h.digest
 abbrev pub cert_of : Held → Certificate
 cert_of h = h.cert
 
-abbrev pub entry_of : Held → Digest × Certificate
-entry_of h = (h.digest, h.cert)
-
--- ---- what the certificates stand for
-
-abbrev pub held_as : Digest × Certificate → Held
-held_as e = record { digest = e.0; cert = e.1 }
-
-abbrev pub helds : List (Digest × Certificate) → List Held
-helds certs = map held_as certs
+-- the one at a place, from 0
+abbrev pub at_place : List Held → Option ℕ → Option Held
+at_place held None = None
+at_place held (Some place) = slice_get held place
 
 -- ---- who consumes a version
 
@@ -57,7 +52,10 @@ fork_by tx met = option_map (λ (m : ObjectKey × Digest). (m.1, tx)) met
 
 -- ---- how the maps are kept
 
--- of each version the first held transaction that consumes it is known, and so is the first fork
-pub record IsKept (held : List Held) (holders : List (ObjectKey × Digest)) (fork : Option (Digest × Digest)) : Type 0 where
+-- the digests are those of what is held, none twice; of each version the first held transaction that consumes it is
+-- known, and so is the first fork
+pub record IsKept (held : List Held) (digests : List Digest) (holders : List (ObjectKey × Digest)) (fork : Option (Digest × Digest)) : Type 0 where
+  pub digests_of : digests ≡ map digest_of held
+  pub apart : repeats digest_eq (map digest_of held) ≡ false
   pub first_holder : (key : ObjectKey) → lookup (key_eq key) holders ≡ option_map digest_of (find (consumes key) held)
   pub first_fork : fork ≡ option_map sides (fork_in [] held)

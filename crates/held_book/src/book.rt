@@ -1,17 +1,20 @@
 //! The book, and what it answers.
 
-ghost use Rattle.std.specs.Prelude.{◌≡◌, ◌+◌, ◌<◌, ◌≤◌, ◌++◌, ◌∷◌, [], OnErr, OnOk, false, find, is_some, length, option_map, slice_get};
-ghost use Rattle.std.specs.Map.Iter.{deref_pair};
+ghost use Rattle.std.specs.Prelude.{◌≡◌, ◌+◌, ◌<◌, ◌≤◌, ◌++◌, ◌∷◌, [], OnErr, OnOk, false, find, is_some, length, map, option_map, position};
+ghost use Rattle.std.specs.List.{list_any};
+ghost use Rattle.std.specs.Vec.{vec_capacity, vec_len};
 ghost use Rattle.indexmap.specs.IndexMap.{spare};
-ghost use Rattle.chain_spec.specs.Words.{first_of, first_some};
+ghost use Rattle.indexmap.specs.IndexSet.{spare as set_spare};
+ghost use Rattle.chain_types.specs.Equal.{digest_eq};
+ghost use Rattle.chain_spec.specs.Words.{first_of, first_some, repeats};
 ghost use Rattle.member_spec.specs.Checkpoints.{held_of};
 ghost use Rattle.member_spec.specs.Member.{consumes, fork_in};
-ghost use Rattle.held_book.specs.Holders.{cert_of, digest_of, entry_of, fork_by, meets, sides, with_holder, with_holders};
+ghost use Rattle.held_book.specs.Holders.{at_place, cert_of, digest_of, fork_by, meets, sides, with_holder, with_holders};
 
 use chain_messages::Certificate;
 use chain_types::{ObjectKey, owned_keys};
 use digest_core::Digest;
-use indexmap::IndexMap;
+use indexmap::{IndexMap, IndexSet};
 use member_types::Held;
 use name_map::insert_in_room;
 use std::alloc::Global;
@@ -39,10 +42,48 @@ fn add_holders(holders: &mut IndexMap<ObjectKey, Digest>, keys: &[ObjectKey], tx
     }
 }
 
+/// Notes a transaction of which no certificate was held; there is room.
+fn note_digest(digests: &mut IndexSet<Digest>, tx: Digest)
+    requires room { 0 < set_spare digests.old }
+    requires new { list_any (λ d. digest_eq tx d) digests.old.keys ≡ false }
+    ensures { digests.new.keys ≡ digests.old.keys ++ tx ∷ [] }
+{
+    match digests.insert(tx) {
+        Ok(_) => {}
+        Err(_) => unreachable!(),
+    }
+}
+
+/// Puts a certificate behind the others; there is room.
+fn push_in_room(all: &mut Vec<Held>, held: Held)
+    requires { vec_len all.old < vec_capacity all.old }
+    ensures { all.new.items ≡ all.old.items ++ held ∷ [] }
+{
+    match all.push(held) {
+        Ok(()) => {}
+        Err(_) => unreachable!(),
+    }
+}
+
+/// The certificate that is held at this place.
+fn cert_at(held: &[Held], place: Option<usize>) -> Option<&Certificate>
+    ensures { option_map (λ (c : _). c.now) result ≡ option_map cert_of (at_place held.now place) }
+{
+    match place {
+        Some(place) => match held.get(place) {
+            Some(held) => Some(&held.cert),
+            None => None,
+        },
+        None => None,
+    }
+}
+
 /// The certificates that a member holds in one epoch. Contracts see them in the order of holding.
 #[derive(Drop)]
 pub struct HeldBook {
-    certs: IndexMap<Digest, Certificate>,
+    held: Vec<Held>,
+    /// The digests of the held transactions, in the same order.
+    digests: IndexSet<Digest>,
     /// The first held transaction that consumes each version.
     holders: IndexMap<ObjectKey, Digest>,
     /// The first two held transactions that consume one version.
@@ -51,13 +92,13 @@ pub struct HeldBook {
 }
 
 impl Model for HeldBook {
-    ghost use Rattle.held_book.specs.Holders.{HeldList, IsKept, helds};
+    ghost use Rattle.held_book.specs.Holders.{HeldList, IsKept};
 
     ghost Value = { HeldList };
 
-    ghost view = { λ b. helds b.certs.entries };
+    ghost view = { λ b. b.held.items };
 
-    ghost invariant = { λ b. IsKept (helds b.certs.entries) b.holders.entries b.fork };
+    ghost invariant = { λ b. IsKept b.held.items b.digests.keys b.holders.entries b.fork };
 }
 
 impl HeldBook {
@@ -66,40 +107,43 @@ impl HeldBook {
         ensures { result ≡ [] }
     {
         HeldBook {
-            certs: IndexMap::new(alloc),
+            held: Vec::new(alloc),
+            digests: IndexSet::new(alloc),
             holders: IndexMap::new(alloc),
             fork: None,
             alloc,
         }
     }
 
-    /// The number of held certificates. Takes no memory.
-    pub fn len(&self) -> usize
-        ensures { result ≡ length self.now }
+    /// The held certificates, in the order of holding, no transaction twice. Takes no memory.
+    pub fn as_slice(&self) -> &[Held]
+        ensures value { result.now ≡ self.now }
+        ensures apart { repeats digest_eq (map digest_of result.now) ≡ false }
     {
-        self.certs.len()
+        self.held.as_slice()
     }
 
     /// Whether a certificate of this transaction is held. Takes no memory.
     pub fn has(&self, tx: &Digest) -> bool
         ensures { result ≡ is_some (held_of self.now tx.now) }
     {
-        self.certs.contains_key(tx)
+        self.digests.contains(tx)
+    }
+
+    /// The place of this transaction's certificate, from 0; none exactly where none is held. Takes no memory.
+    fn place(&self, tx: &Digest) -> Option<usize>
+        ensures { result ≡ position (digest_eq tx.now) (map digest_of self.now) }
+    {
+        self.digests.get_index_of(tx)
     }
 
     /// The held certificate of this transaction; none exactly where none is held. Takes no memory.
+    #[tactic(auto, using(crate::proofs::Holding::found_cert))]
     pub fn get(&self, tx: &Digest) -> Option<&Certificate>
         ensures { option_map (λ (c : _). c.now) result ≡ option_map cert_of (held_of self.now tx.now) }
     {
-        self.certs.get(tx)
-    }
-
-    /// The certificate that was held at this place, from 0, with its transaction's digest; none exactly where fewer
-    /// are held. Takes no memory.
-    pub fn at(&self, place: usize) -> Option<(&Digest, &Certificate)>
-        ensures { option_map deref_pair result ≡ option_map entry_of (slice_get self.now place) }
-    {
-        self.certs.get_index(place)
+        let place = self.place(tx);
+        cert_at(self.as_slice(), place)
     }
 
     /// The first held transaction that consumes the version. Takes no memory.
@@ -152,10 +196,12 @@ impl HeldBook {
     {
         let keys = owned_keys(self.alloc, &held.cert.tx)?;
         let fork = self.fork_behind(keys.as_slice(), &held.digest);
-        self.certs.reserve(1)?;
+        self.held.reserve(1)?;
+        self.digests.reserve(1)?;
         self.holders.reserve(keys.as_slice().len())?;
         add_holders(&mut self.holders, keys.as_slice(), held.digest);
-        insert_in_room(&mut self.certs, held.digest, held.cert);
+        note_digest(&mut self.digests, held.digest);
+        push_in_room(&mut self.held, held);
         self.fork = fork;
         Ok(())
     }

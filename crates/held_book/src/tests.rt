@@ -72,8 +72,8 @@ fn gas_of(book: &HeldBook, tx: &Digest) -> Option<ObjectRef> {
 
 /// The transaction that was held at a place.
 fn held_at(book: &HeldBook, place: usize) -> Option<Digest> {
-    match book.at(place) {
-        Some((tx, _cert)) => Some(*tx),
+    match book.as_slice().get(place) {
+        Some(held) => Some(held.digest),
         None => None,
     }
 }
@@ -96,7 +96,7 @@ fn keeps_the_order_of_holding(rt: HostRuntime) -> Result<(), Fail> {
     let mut book = HeldBook::new(alloc);
     assert!(rt; holds(alloc, &mut book, TWO, 5, 6)?);
     assert!(rt; holds(alloc, &mut book, ONE, 7, 8)?);
-    assert_eq!(rt; book.len(), 2);
+    assert_eq!(rt; book.as_slice().len(), 2);
     assert_eq!(rt; held_at(&book, 1), Some(ONE));
     assert_eq!(rt; held_at(&book, 2), None);
     Ok(())
