@@ -1,5 +1,8 @@
 //! Votes on a store of two gas coins.
 
+ghost use Rattle.std.specs.Prelude.{◌≡◌, [], IfOk};
+ghost use Rattle.version_store.specs.Stores.{are_new};
+
 use crate::VoteBook;
 use chain_types::{
     Address, Content, DecideRefusal, Input, Object, ObjectId, ObjectRef, Owner, Transaction,
@@ -38,21 +41,27 @@ fn reference(object: &Object) -> ObjectRef {
     }
 }
 
-/// A store that opens with these objects, where none stands there twice.
+/// Whether none of these objects stands there twice.
 #[tactic(auto, unfolding(member_spec::specs::Versions::versions))]
-fn opened(alloc: Global, objects: &[Object]) -> Result<Option<Store>, OutOfMemory> {
-    let objects = Seq::from_slice(alloc, objects)?;
+fn are_apart(alloc: Global, objects: &Seq<Object>) -> Result<bool, OutOfMemory>
+    ensures { IfOk result (λ apart. apart ≡ are_new [] objects.now) }
+{
     let empty = Store::opening(alloc, &Seq::new(alloc))?;
-    if !empty.are_new(&objects)? {
+    empty.are_new(objects)
+}
+
+/// A store that opens with these objects, where none stands there twice.
+fn opened(alloc: Global, objects: &Seq<Object>) -> Result<Option<Store>, OutOfMemory> {
+    if !are_apart(alloc, objects)? {
         return Ok(None);
     }
-    Ok(Some(Store::opening(alloc, &objects)?))
+    Ok(Some(Store::opening(alloc, objects)?))
 }
 
 /// A store of both coins.
 fn store(alloc: Global) -> Result<Store, Fail> {
-    let coins = [coin(5), coin(6)];
-    match opened(alloc, coins.as_slice())? {
+    let coins = Seq::from_slice(alloc, [coin(5), coin(6)].as_slice())?;
+    match opened(alloc, &coins)? {
         Some(store) => Ok(store),
         None => Err(Fail::new("the objects are distinct")),
     }
