@@ -1,0 +1,2 @@
+mod Forks
+pub mod Holding

@@ -1,0 +1,3 @@
+mod Standing
+mod Voting
+pub mod Free
