@@ -1,1 +1,1 @@
-pub mod Votes
+pub mod Casting

@@ -1,1 +1,3 @@
-pub mod Answers
+pub mod Seats
+pub mod Calls
+pub mod Taking

@@ -1,14 +1,14 @@
-//! One member of the committee: it votes for a transaction, or says why not.
+//! One member of the committee.
 //!
-//! A member never gives fresh votes to two transactions that consume one object version, until the
-//! epoch ends: each vote locks the versions that its transaction consumes. The answer of each call
-//! and what stands after it are one equation by the definitions of `vote_spec`; a call that was
-//! refused memory changes nothing.
+//! A [`Validator`] answers each request as the Sui Lutris paper says, from what it holds, and keeps a record of
+//! each answer that binds it: the record is appended to the keeper before the call answers. So its state is a
+//! function of its records, and a member that stopped starts again from them. A member whose record was not
+//! kept, or that was refused memory, is down until it is started again.
 #![tactic(auto)]
 
-mod gas;
+mod calls;
+mod keeping;
 mod validator;
 
-pub use chain_types::DecideRefusal;
+pub use member_types::{HoldRefusal, Voted, VoteRefusal};
 pub use validator::Validator;
-pub use vote_spec::Voted;

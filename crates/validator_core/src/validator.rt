@@ -1,143 +1,136 @@
 //! The member.
 
-ghost use Rattle.std.specs.Prelude.{◌≡◌, ◌+◌, ◌<◌, ◌++◌, ◌∷◌, [], IfOk, IsTrue, OnOk, false, option_copied};
-ghost use Rattle.std.specs.List.{list_any};
-ghost use Rattle.chain_types.specs.Equal.{digest_eq};
-ghost use Rattle.indexmap.specs.IndexSet.{spare};
-ghost use Rattle.vote_spec.specs.Votes.{after_answer, after_vote, fresh_voter, has_voted, object_at, locking_answer, opened, vote_answer, with_object};
-ghost use Rattle.validator_core.specs.Answers.{AnswersAs};
+ghost use Rattle.std.specs.Prelude.{◌≡◌, ◌<◌, ◌≤◌, IfOk, IsErrOf, option_map};
+ghost use Rattle.outside.specs.Causes.{Rose};
+ghost use Rattle.chain_types.specs.Digests.{digest_of_object};
+ghost use Rattle.member_spec.specs.Versions.{Version, version_at, versions as versions_of};
+ghost use Rattle.member_spec.specs.Member.{live_objects};
+ghost use Rattle.member_spec.specs.Calls.{holds, votes};
+ghost use Rattle.member_types.specs.declared.refusals.HoldRefusal.TheVariants as no_hold;
+ghost use Rattle.member_types.specs.declared.refusals.VoteRefusal.TheVariants as no_vote;
+ghost use Rattle.validator_core.specs.Calls.{Holds, Votes, hold_ended, hold_said, vote_ended, vote_said};
+ghost use Rattle.validator_core.specs.Seats.{Behaves, Fell, Journaled, due_at, rules_of_seat};
 
-use crate::gas::{coin_refusal, gas_key, key_of};
-use chain_types::{DecideRefusal, Object, ObjectKey, Transaction, owned_keys};
+use crate::calls;
+use chain_types::{Object, ObjectKey, object_digest};
 use digest_core::Digest;
-use indexmap::{IndexMap, IndexSet};
-use lock_table::{LockRefusal, LockTable};
-use name_map::insert_new;
-use std::alloc::Global;
+use member_core::State;
+use member_types::{HoldRefusal, VoteRefusal, Voted};
+use outside::Keeper;
+use quorum_core::{Committee, Sealer};
 use std::marker::Model;
-use vote_spec::Voted;
 use wire_bcs::{OutOfMemory, Seq};
 
-/// A member, in one epoch. Contracts see what it holds, its locks, and what it voted for.
+/// A member of a committee. Contracts see its number, the committee's stakes, whether it is up, and its state.
 #[derive(Drop)]
 pub struct Validator {
-    held: IndexMap<ObjectKey, Object>,
-    locks: LockTable,
-    voted: IndexSet<Digest>,
-    alloc: Global,
+    pub(crate) member: u32,
+    pub(crate) committee: Committee,
+    pub(crate) up: bool,
+    pub(crate) state: State,
 }
 
 impl Model for Validator {
-    ghost use Rattle.vote_spec.specs.Votes.{Voter};
+    ghost use Rattle.validator_core.specs.Seats.{Seat};
 
-    ghost Value = { Voter };
+    ghost Value = { Seat };
 
-    ghost view = { λ v. record { held = v.held.entries; locks = v.locks; voted = v.voted.keys } };
-}
-
-/// Holds one object more, unless one is held under its key.
-fn hold_object(held: &mut IndexMap<ObjectKey, Object>, object: &Object) -> Result<(), OutOfMemory>
-    ensures { OnOk result (held.new.entries ≡ with_object held.old.entries object.now) }
-{
-    let key = key_of(object);
-    if held.contains_key(&key) {
-        return Ok(());
-    }
-    insert_new(held, key, *object)?;
-    Ok(())
-}
-
-/// What is held when the epoch opens with these objects.
-#[tactic(auto, unfolding(vote_spec::specs::Votes::opened))]
-fn hold_all(alloc: Global, objects: &[Object]) -> Result<IndexMap<ObjectKey, Object>, OutOfMemory>
-    ensures { IfOk result (λ held. held.entries ≡ opened objects.now) }
-{
-    let mut held = IndexMap::new(alloc);
-    for object in objects {
-        hold_object(&mut held, object)?;
-    }
-    Ok(held)
-}
-
-/// Notes a vote that was not given before, for which there is room.
-fn note_vote(voted: &mut IndexSet<Digest>, digest: Digest)
-    requires room { 0 < spare voted.old }
-    requires new { list_any (λ d. digest_eq digest d) voted.old.keys ≡ false }
-    ensures { voted.new.keys ≡ voted.old.keys ++ digest ∷ [] }
-{
-    match voted.insert(digest) {
-        Ok(_) => {}
-        Err(_) => unreachable!(),
-    }
+    ghost view = { λ v. record { member = v.member; stakes = v.committee; up = v.up; state = v.state } };
 }
 
 impl Validator {
-    /// A member at the opening of an epoch with these objects. Where two have one id and version,
-    /// the first is held.
-    pub fn start(alloc: Global, opening: &Seq<Object>) -> Result<Validator, OutOfMemory>
-        ensures { IfOk result (λ v. v ≡ fresh_voter opening.now) }
+    /// Whether the member is up: it answers no request while it is not. Takes no memory.
+    pub fn is_up(&self) -> bool
+        ensures { result ≡ self.now.up }
     {
-        let held = hold_all(alloc, opening.as_slice())?;
-        Ok(Validator {
-            held,
-            locks: LockTable::new(alloc),
-            voted: IndexSet::new(alloc),
-            alloc,
-        })
+        self.up
     }
 
-    /// The object that is held under the key. Takes no memory.
-    pub fn held(&self, key: &ObjectKey) -> Option<&Object>
-        ensures { option_copied result ≡ object_at self.now.held key.now }
+    /// The present epoch. Takes no memory.
+    pub fn epoch(&self) -> u64
+        ensures { result ≡ self.now.state.epoch }
     {
-        self.held.get(key)
+        self.state.epoch()
     }
 
-    /// Whether the member voted for the transaction of this digest. Takes no memory.
-    pub fn has_voted(&self, digest: &Digest) -> bool
-        ensures { result ≡ has_voted self.now digest.now }
+    /// The digest of a held version; none exactly where the version is not held. Takes no memory.
+    pub fn held_digest(&self, key: &ObjectKey) -> Option<Digest>
+        ensures { result ≡ option_map (λ (v : Version). digest_of_object v.object) (version_at (versions_of self.now.state.opening self.now.state.executed) key.now) }
     {
-        self.voted.contains(digest)
+        match self.state.object(key) {
+            Some(object) => Some(object_digest(object)),
+            None => None,
+        }
     }
 
-    /// Votes for the transaction, whose one object is its gas coin and whose digest is handed in:
-    /// what stands in the way of its other inputs is not looked at, though all that it consumes is
-    /// locked. The order of the answers: the vote that was given before, `Absent`, `WrongDigest`,
-    /// `WrongOwner`, `WrongKind`, `PoorGas`, `Locked`, a fresh vote. After any answer but a fresh
-    /// vote the member is as it was.
-    pub fn vote(&mut self, tx: &Transaction, digest: &Digest) -> Result<Voted, DecideRefusal>
-        ensures { AnswersAs result self.old self.new (vote_answer self.old tx.now digest.now) (after_vote self.old tx.now digest.now) }
+    /// The live objects by ascending id.
+    pub fn live_list(&self) -> Result<Seq<Object>, OutOfMemory>
+        ensures { IfOk result (λ objects. objects ≡ live_objects self.now.state) }
     {
-        if self.has_voted(digest) {
-            return Ok(Voted { fresh: false });
-        }
-        let key = gas_key(tx);
-        let Some(object) = self.held(&key) else {
-            return Err(DecideRefusal::Absent(key));
-        };
-        if let Some(refusal) = coin_refusal(object, tx) {
-            return Err(refusal);
-        }
-        self.lock(tx, digest)
+        self.state.live_list()
     }
 
-    /// Locks what the transaction consumes, and notes the vote.
-    fn lock(&mut self, tx: &Transaction, digest: &Digest) -> Result<Voted, DecideRefusal>
-        requires new { has_voted self.old digest.now ≡ false }
-        ensures { AnswersAs result self.old self.new (locking_answer self.old tx.now digest.now) (after_answer self.old tx.now digest.now (locking_answer self.old tx.now digest.now)) }
+    /// Asks the member for its vote for the transaction that the bytes spell (Sui Lutris). Order of the
+    /// refusals: `Down`, `Halted`, `Full`, `Malformed`, `WrongEpoch`; then the vote that was given before comes
+    /// again; `Closed`, `Invalid`, `Unsealed`, the cases of the vote rule, `KeepFault`. A fresh vote's record is
+    /// appended before the vote is given. Behind `KeepFault` and want of memory the member is down.
+    pub fn vote<D: Keeper, S: Sealer>(
+        &mut self,
+        keeper: &mut D,
+        sealer: &S,
+        bytes: &[u8],
+    ) -> Result<Voted, VoteRefusal>
+        requires known { self.old.member < D.width keeper.old }
+        ensures answer { Votes (S.accepts sealer.now) self.old.member (vote_said (rules_of_seat self.old (S.accepts sealer.now)) self.old bytes.now) result }
+        ensures state { Behaves (rules_of_seat self.old (S.accepts sealer.now)) (votes bytes.now) self.old self.new (vote_ended result) }
+        ensures kept { Journaled (D.lists keeper.old) (D.lists keeper.new) self.old.member (due_at (rules_of_seat self.old (S.accepts sealer.now)) self.old (votes bytes.now)) (vote_ended result) }
+        ensures width { D.width keeper.new ≡ D.width keeper.old }
+        ensures later { D.failed keeper.old ≤ D.failed keeper.new }
+        ensures fault { IsErrOf result no_vote.KeepFault → Rose (D.failed keeper.old) (D.failed keeper.new) }
     {
-        let Ok(keys) = owned_keys(self.alloc, tx) else {
-            return Err(DecideRefusal::OutOfMemory);
-        };
-        if self.voted.reserve(1).is_err() {
-            return Err(DecideRefusal::OutOfMemory);
+        if !self.up {
+            return Err(VoteRefusal::Down);
         }
-        match self.locks.lock_all(&keys, digest) {
-            Ok(()) => {}
-            Err(LockRefusal::Locked { key, by }) => return Err(DecideRefusal::Locked { key, by }),
-            Err(LockRefusal::OutOfMemory) => return Err(DecideRefusal::OutOfMemory),
+        let answer = calls::vote(&mut self.state, keeper, sealer, self.member, bytes);
+        if matches!(answer, Err(VoteRefusal::KeepFault | VoteRefusal::OutOfMemory)) {
+            self.up = false;
         }
-        note_vote(&mut self.voted, *digest);
-        Ok(Voted { fresh: true })
+        answer
+    }
+
+    /// Hands a certificate to the member (Sui Lutris): true where it is newly held, false where a certificate of
+    /// its transaction is held already. Order of the refusals: `Down`, `Halted`, `Full`, `Malformed`,
+    /// `WrongEpoch`; then a certificate that is held comes again; `Closed`, `Cert`, `KeepFault`, `Fork`. The record
+    /// is appended before the call answers. Behind `KeepFault` and want of memory the member is down; behind
+    /// `Fork` it is halted.
+    pub fn hold<D: Keeper, S: Sealer>(
+        &mut self,
+        keeper: &mut D,
+        sealer: &S,
+        bytes: &[u8],
+    ) -> Result<bool, HoldRefusal>
+        requires known { self.old.member < D.width keeper.old }
+        ensures answer { Holds (hold_said (rules_of_seat self.old (S.accepts sealer.now)) self.old bytes.now) result }
+        ensures state { Behaves (rules_of_seat self.old (S.accepts sealer.now)) (holds bytes.now) self.old self.new (hold_ended result) }
+        ensures kept { Journaled (D.lists keeper.old) (D.lists keeper.new) self.old.member (due_at (rules_of_seat self.old (S.accepts sealer.now)) self.old (holds bytes.now)) (hold_ended result) }
+        ensures width { D.width keeper.new ≡ D.width keeper.old }
+        ensures later { D.failed keeper.old ≤ D.failed keeper.new }
+        ensures fault { IsErrOf result no_hold.KeepFault → Rose (D.failed keeper.old) (D.failed keeper.new) }
+    {
+        if !self.up {
+            return Err(HoldRefusal::Down);
+        }
+        let answer = calls::hold(
+            &mut self.state,
+            keeper,
+            sealer,
+            &self.committee,
+            self.member,
+            bytes,
+        );
+        if matches!(answer, Err(HoldRefusal::KeepFault | HoldRefusal::OutOfMemory)) {
+            self.up = false;
+        }
+        answer
     }
 }

@@ -7,7 +7,7 @@ ghost use Rattle.world_core.specs.Asked.{RepliesAs, members_after, reply_of, set
 
 use name_map::NameMap;
 use schedule_text::{ArgWord, CommandWord, InputWord};
-use validator_core::{DecideRefusal, Validator};
+use first_validator::{DecideRefusal, Validator};
 use vote_spec::{Made, Voted};
 use wire_bcs::OutOfMemory;
 

@@ -19,7 +19,7 @@ use report_text::Line;
 use schedule_text::{Event, ObjWord, RefWord, Schedule, Setup};
 use std::alloc::Global;
 use std::marker::Model;
-use validator_core::Validator;
+use first_validator::Validator;
 use vote_spec::Made;
 use wire_bcs::{OutOfMemory, Seq};
 

@@ -8,7 +8,7 @@ use Rattle.chain_types.specs.declared.refusals.DecideRefusal.TheVariants as refu
 use Rattle.chain_types.specs.declared.transactions.Transaction.{Transaction}
 use Rattle.vote_spec.specs.declared.answers.Voted.{Voted}
 use Rattle.vote_spec.specs.Votes.{Voter, after_answer, after_vote, coin_refusal, first_some, gas_key, has_voted, locked_refusal, locking_answer, object_at, refusal_at, unless_refused, vote_answer, vote_refusal}
-use Rattle.validator_core.specs.Answers.{AnswersAs}
+use Rattle.first_validator.specs.Answers.{AnswersAs}
 
 only : (x : Option DecideRefusal) → first_some (x ∷ []) ≡ x
 only None = refl

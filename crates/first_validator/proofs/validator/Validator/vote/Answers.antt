@@ -1,5 +1,5 @@
-use Rattle.validator_core.proofs.Votes.{again, absent, bad_coin, locked}
-use Rattle.validator_core.proofs.validator.Validator.vote.Goals as goal
+use Rattle.first_validator.proofs.Votes.{again, absent, bad_coin, locked}
+use Rattle.first_validator.proofs.validator.Validator.vote.Goals as goal
 
 pub returns-then-has_voted : goal.returns-then-has_voted
 returns-then-has_voted c = again c.args.self.now c.args.tx.now c.args.digest.now c.if-has_voted.ensures

@@ -1,0 +1,65 @@
+-- What each call of a member answers, against the definition; want of memory and a fault of the keeper say
+-- nothing here.
+use Rattle.std.specs.Prelude.{◌≡◌, ℕ, Bool, true, List, Result, Ok, Err, if◌then◌else◌}
+use Rattle.digest_core.specs.declared.Digest.{Digest}
+use Rattle.quorum_core.specs.declared.signer.Signer.{Signer}
+use Rattle.quorum_core.specs.declared.signer.Signer.TheVariants as signers
+use Rattle.chain_messages.specs.declared.messages.Sealed.{Sealed}
+use Rattle.chain_messages.specs.Messages as messages
+use Rattle.chain_spec.specs.Certificates.{Rules}
+use Rattle.member_types.specs.declared.answers.Voted.{Voted as Sent}
+use Rattle.member_types.specs.declared.refusals.VoteRefusal.{VoteRefusal}
+use Rattle.member_types.specs.declared.refusals.VoteRefusal.TheVariants as no_vote
+use Rattle.member_types.specs.declared.refusals.HoldRefusal.{HoldRefusal}
+use Rattle.member_types.specs.declared.refusals.HoldRefusal.TheVariants as no_hold
+use Rattle.member_spec.specs.Calls.{Voted, hold_answer, vote_answer}
+use Rattle.validator_core.specs.declared.keeping.Unkept.{Unkept}
+use Rattle.validator_core.specs.declared.keeping.Unkept.TheVariants as unkept
+use Rattle.validator_core.specs.Seats.{Ended, Seat, answered, fell}
+
+-- ---- vote
+
+abbrev pub vote_said : Rules → Seat → List ℕ → Result Voted VoteRefusal
+vote_said r seat bytes = if seat.up then vote_answer r seat.state bytes else Err no_vote.Down
+
+-- the member's seal on the statement is accepted
+pub record IsSealedBy (accepts : Signer → List ℕ → Digest → Bool) (member : ℕ) (s : Sealed) : Type 0 where
+  pub by : s.member ≡ member
+  pub accepted : accepts (signers.Member member) (messages.statement.spell s.statement) s.seal ≡ true
+
+abbrev pub Votes : (Signer → List ℕ → Digest → Bool) → ℕ → Result Voted VoteRefusal → Result Sent VoteRefusal → Type 0
+Votes accepts member said (Ok v) = (said ≡ Ok (record { statement = v.sealed.statement; fresh = v.fresh })) × IsSealedBy accepts member v.sealed
+Votes accepts member said (Err no_vote.OutOfMemory) = Unit {0}
+Votes accepts member said (Err no_vote.KeepFault) = Unit {0}
+Votes accepts member said (Err refusal) = said ≡ Err refusal
+
+abbrev pub unkept_vote : Unkept → VoteRefusal
+unkept_vote unkept.KeepFault = no_vote.KeepFault
+unkept_vote unkept.OutOfMemory = no_vote.OutOfMemory
+
+abbrev pub vote_ended : Result Sent VoteRefusal → Ended
+vote_ended (Ok v) = answered
+vote_ended (Err no_vote.OutOfMemory) = fell
+vote_ended (Err no_vote.KeepFault) = fell
+vote_ended (Err refusal) = answered
+
+-- ---- hold
+
+abbrev pub hold_said : Rules → Seat → List ℕ → Result Bool HoldRefusal
+hold_said r seat bytes = if seat.up then hold_answer r seat.state bytes else Err no_hold.Down
+
+abbrev pub Holds : Result Bool HoldRefusal → Result Bool HoldRefusal → Type 0
+Holds said (Ok new) = said ≡ Ok new
+Holds said (Err no_hold.OutOfMemory) = Unit {0}
+Holds said (Err no_hold.KeepFault) = Unit {0}
+Holds said (Err refusal) = said ≡ Err refusal
+
+abbrev pub unkept_hold : Unkept → HoldRefusal
+unkept_hold unkept.KeepFault = no_hold.KeepFault
+unkept_hold unkept.OutOfMemory = no_hold.OutOfMemory
+
+abbrev pub hold_ended : Result Bool HoldRefusal → Ended
+hold_ended (Ok new) = answered
+hold_ended (Err no_hold.OutOfMemory) = fell
+hold_ended (Err no_hold.KeepFault) = fell
+hold_ended (Err refusal) = answered

@@ -1,0 +1,191 @@
+//! The calls that a member answers, over its state.
+
+ghost use Rattle.std.specs.Prelude.{◌≡◌, ◌<◌, ◌≤◌, IfOk, IsErrOf, OnOk, false, is_some, length, nat_le, true};
+ghost use Rattle.chain_types.specs.Transactions.{transaction};
+ghost use Rattle.chain_types.specs.Digests.{transaction_digest};
+ghost use Rattle.chain_messages.specs.declared.messages.Statement.TheVariants as statements;
+ghost use Rattle.outside.specs.Causes.{Rose};
+ghost use Rattle.journal_core.specs.declared.records.Record.TheVariants as record_as;
+ghost use Rattle.member_spec.specs.Calls.{called, due, hold_answer, holds, record_limit, vote_answer, votes};
+ghost use Rattle.member_types.specs.declared.refusals.HoldRefusal.TheVariants as no_hold;
+ghost use Rattle.member_types.specs.declared.refusals.VoteRefusal.TheVariants as no_vote;
+ghost use Rattle.member_core.specs.Answers.{IsFree, rules_for, sealed_as};
+ghost use Rattle.member_core.specs.Steps.{voted};
+ghost use Rattle.journal_core.specs.Records as journals;
+ghost use Rattle.validator_core.specs.Taking.{MayTake, taken};
+ghost use Rattle.validator_core.specs.declared.keeping.Unkept.TheVariants as unkept;
+ghost use Rattle.validator_core.specs.Calls.{Holds, IsSealedBy, Votes, hold_ended, vote_ended};
+ghost use Rattle.validator_core.specs.Seats.{Appended, Becomes, Journaled};
+
+use crate::keeping::{Unkept, append};
+use chain_messages::{Certificate, Sealed, Statement, encode_statement};
+use chain_types::Transaction;
+use digest_core::Digest;
+use journal_core::Record;
+use member_core::{Decision, Holding, State};
+use member_types::{Held, HoldRefusal, VoteRefusal, Voted};
+use outside::Keeper;
+use quorum_core::{Committee, Sealer, Signer};
+use std::alloc::Global;
+use wire_bcs::{Duplicate, OutOfMemory};
+
+/// The sealed statement of a vote.
+fn seal_vote<S: Sealer>(
+    alloc: Global,
+    sealer: &S,
+    member: u32,
+    epoch: u64,
+    decision: &Decision,
+) -> Result<Sealed, OutOfMemory>
+    requires { length decision.now.origins ≤ 257 }
+    ensures said { IfOk result (λ s. s.statement ≡ statements.Vote epoch decision.now.digest decision.now.origins) }
+    ensures sealed { IfOk result (λ s. IsSealedBy (S.accepts sealer.now) member s) }
+{
+    let statement = Statement::Vote {
+        epoch,
+        tx: decision.digest,
+        origins: decision.origins.copy()?,
+    };
+    let bytes = encode_statement(alloc, &statement)?;
+    let seal = sealer.seal(&Signer::Member(member), bytes.as_slice());
+    Ok(Sealed {
+        member,
+        statement,
+        seal,
+    })
+}
+
+/// Takes a record of the transaction of this digest.
+fn take(state: &mut State, kept: Record, digest: Digest) -> Result<(), OutOfMemory>
+    requires may { MayTake state.old digest kept }
+    requires room { nat_le record_limit state.old.records ≡ false }
+    ensures { OnOk result (state.new ≡ taken state.old kept) }
+{
+    match kept {
+        Record::Vote { tx, origins } => state.take_vote(&tx, digest, origins),
+        Record::Hold(cert) => state.take_hold(Held { digest, cert }),
+        Record::See(_bytes) => unreachable!(),
+        Record::Ran(_txs) => unreachable!(),
+        Record::Ran2(_items) => unreachable!(),
+        Record::Close | Record::Turn => unreachable!(),
+    }
+}
+
+/// Appends a record of the transaction of this digest, and takes it.
+fn keep<D: Keeper>(
+    state: &mut State,
+    keeper: &mut D,
+    member: u32,
+    kept: Record,
+    digest: Digest,
+) -> Result<(), Unkept>
+    requires known { member < D.width keeper.old }
+    requires may { MayTake state.old digest kept }
+    requires short { journals.journal_record.short kept }
+    requires room { nat_le record_limit state.old.records ≡ false }
+    ensures state { OnOk result (state.new ≡ taken state.old kept) }
+    ensures kept { Appended (D.lists keeper.old) (D.lists keeper.new) member kept result }
+    ensures width { D.width keeper.new ≡ D.width keeper.old }
+    ensures later { D.failed keeper.old ≤ D.failed keeper.new }
+    ensures fault { IsErrOf result unkept.KeepFault → Rose (D.failed keeper.old) (D.failed keeper.new) }
+{
+    match append(state.allocator(), keeper, member, &kept) {
+        Ok(()) => {}
+        Err(why) => return Err(why),
+    }
+    match take(state, kept, digest) {
+        Ok(()) => Ok(()),
+        Err(OutOfMemory) => Err(Unkept::OutOfMemory),
+    }
+}
+
+/// Appends the record of a fresh vote, and takes it.
+#[tactic(auto, using(crate::proofs::Casting::vote_may), unfolding(journal_core::specs::Records::journal_record))]
+fn keep_vote<D: Keeper>(
+    state: &mut State,
+    keeper: &mut D,
+    member: u32,
+    tx: Transaction,
+    decision: Decision,
+) -> Result<(), Unkept>
+    requires known { member < D.width keeper.old }
+    requires short { transaction.short tx }
+    requires free { IsFree state.old tx decision }
+    requires fresh { decision.fresh ≡ true }
+    requires room { nat_le record_limit state.old.records ≡ false }
+    ensures state { OnOk result (state.new ≡ voted state.old tx decision.origins) }
+    ensures kept { Appended (D.lists keeper.old) (D.lists keeper.new) member (record_as.Vote tx decision.origins) result }
+    ensures width { D.width keeper.new ≡ D.width keeper.old }
+    ensures later { D.failed keeper.old ≤ D.failed keeper.new }
+    ensures fault { IsErrOf result unkept.KeepFault → Rose (D.failed keeper.old) (D.failed keeper.new) }
+{
+    let digest = decision.digest;
+    let kept = Record::Vote {
+        tx,
+        origins: decision.origins,
+    };
+    keep(state, keeper, member, kept, digest)
+}
+
+/// Asks a member that is up for its vote: the record of a fresh one is appended before the vote is given.
+pub(crate) fn vote<D: Keeper, S: Sealer>(
+    state: &mut State,
+    keeper: &mut D,
+    sealer: &S,
+    member: u32,
+    bytes: &[u8],
+) -> Result<Voted, VoteRefusal>
+    requires known { member < D.width keeper.old }
+    ensures answer { Votes (S.accepts sealer.now) member (vote_answer (sealed_as (S.accepts sealer.now)) state.old bytes.now) result }
+    ensures state { Becomes (called (sealed_as (S.accepts sealer.now)) state.old (votes bytes.now)) state.new (vote_ended result) }
+    ensures kept { Journaled (D.lists keeper.old) (D.lists keeper.new) member (due (sealed_as (S.accepts sealer.now)) state.old (votes bytes.now)) (vote_ended result) }
+    ensures width { D.width keeper.new ≡ D.width keeper.old }
+    ensures later { D.failed keeper.old ≤ D.failed keeper.new }
+    ensures fault { IsErrOf result no_vote.KeepFault → Rose (D.failed keeper.old) (D.failed keeper.new) }
+{
+    let (tx, decision) = state.vote(sealer, bytes)?;
+    let epoch = state.epoch();
+    let Ok(sealed) = seal_vote(state.allocator(), sealer, member, epoch, &decision) else {
+        return Err(VoteRefusal::OutOfMemory);
+    };
+    let fresh = decision.fresh;
+    if fresh {
+        keep_vote(state, keeper, member, tx, decision)?;
+    }
+    Ok(Voted { sealed, fresh })
+}
+
+/// Hands a certificate to a member that is up: its record is appended before the call answers.
+pub(crate) fn hold<D: Keeper, S: Sealer>(
+    state: &mut State,
+    keeper: &mut D,
+    sealer: &S,
+    committee: &Committee,
+    member: u32,
+    bytes: &[u8],
+) -> Result<bool, HoldRefusal>
+    requires known { member < D.width keeper.old }
+    ensures answer { Holds (hold_answer (rules_for committee.now (S.accepts sealer.now)) state.old bytes.now) result }
+    ensures state { Becomes (called (rules_for committee.now (S.accepts sealer.now)) state.old (holds bytes.now)) state.new (hold_ended result) }
+    ensures kept { Journaled (D.lists keeper.old) (D.lists keeper.new) member (due (rules_for committee.now (S.accepts sealer.now)) state.old (holds bytes.now)) (hold_ended result) }
+    ensures width { D.width keeper.new ≡ D.width keeper.old }
+    ensures later { D.failed keeper.old ≤ D.failed keeper.new }
+    ensures fault { IsErrOf result no_hold.KeepFault → Rose (D.failed keeper.old) (D.failed keeper.new) }
+{
+    let (cert, holding) = state.hold(committee, sealer, bytes)?;
+    match holding {
+        Holding::Again => Ok(false),
+        Holding::New(digest) => {
+            keep(state, keeper, member, Record::Hold(cert), digest)?;
+            Ok(true)
+        }
+        Holding::Fork { key, first, digest } => {
+            keep(state, keeper, member, Record::Hold(cert), digest)?;
+            Err(HoldRefusal::Fork {
+                key,
+                first,
+                second: digest,
+            })
+        }
+    }
+}
