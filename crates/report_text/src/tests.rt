@@ -62,59 +62,42 @@ impl Printed {
         Ok(origins)
     }
 
-    fn line(&mut self, line: &Line) -> Result<(), OutOfMemory> {
-        print_line(line, &mut self.out)
+    fn line(&mut self, line: Line) -> Result<(), OutOfMemory> {
+        print_line(&line, &mut self.out)
     }
 
     fn vote(&mut self, text: VoteText) -> Result<(), OutOfMemory> {
-        let tx = self.name("t1")?;
-        let line = Line::Vote {
-            member: 0,
-            tx,
-            text,
-        };
-        self.line(&line)
+        self.line(Line::RawVote { member: 0, text })
     }
 
     fn send(&mut self, text: SendText) -> Result<(), OutOfMemory> {
-        let tx = self.name("t1")?;
-        let line = Line::Send {
-            member: 1,
-            tx,
-            text,
-        };
-        self.line(&line)
+        self.line(Line::RawHold { member: 1, text })
     }
 
     fn cert(&mut self, text: CertText) -> Result<(), OutOfMemory> {
         let tx = self.name("t1")?;
-        let line = Line::Cert { tx, text };
-        self.line(&line)
+        self.line(Line::Cert { tx, text })
     }
 
     fn order(&mut self, text: OrderText) -> Result<(), OutOfMemory> {
         let tx = self.name("t1")?;
-        let line = Line::Order { tx, text };
-        self.line(&line)
+        self.line(Line::Order { tx, text })
     }
 
     fn order_end(&mut self, text: OrderEndText) -> Result<(), OutOfMemory> {
-        let line = Line::OrderEnd { member: 1, text };
-        self.line(&line)
+        self.line(Line::OrderEnd { member: 1, text })
     }
 
     fn see(&mut self, text: SeeText) -> Result<(), OutOfMemory> {
-        let line = Line::See { member: 2, text };
-        self.line(&line)
+        self.line(Line::See { member: 2, text })
     }
 
     fn entry(&mut self, text: EntryText) -> Result<(), OutOfMemory> {
-        let line = Line::SeeEntry {
+        self.line(Line::SeeEntry {
             member: 3,
             entry: 18_446_744_073_709_551_615,
             text,
-        };
-        self.line(&line)
+        })
     }
 
     /// An entry with or without admitted and dropped transactions.
@@ -132,66 +115,56 @@ impl Printed {
     }
 
     fn run(&mut self, text: RunText) -> Result<(), OutOfMemory> {
-        let line = Line::Run { member: 3, text };
-        self.line(&line)
+        self.line(Line::Run { member: 3, text })
     }
 
     fn checkpoint(&mut self, number: u64, tx: Option<&str>, last: bool) -> Result<(), OutOfMemory> {
         let txs = self.names(tx)?;
-        let line = Line::Checkpoint { number, txs, last };
-        self.line(&line)
+        self.line(Line::Checkpoint { number, txs, last })
     }
 
     fn close(&mut self, text: CloseText) -> Result<(), OutOfMemory> {
-        let line = Line::Close { member: 0, text };
-        self.line(&line)
+        self.line(Line::Close { member: 0, text })
     }
 
     fn end(&mut self, text: EndText) -> Result<(), OutOfMemory> {
-        let line = Line::End { member: 0, text };
-        self.line(&line)
+        self.line(Line::End { member: 0, text })
     }
 
     fn turn(&mut self, text: TurnText) -> Result<(), OutOfMemory> {
-        let line = Line::Turn { member: 0, text };
-        self.line(&line)
+        self.line(Line::Turn { member: 0, text })
     }
 
     fn restart(&mut self, text: RestartText) -> Result<(), OutOfMemory> {
-        let line = Line::Restart { member: 0, text };
-        self.line(&line)
+        self.line(Line::Restart { member: 0, text })
     }
 
     fn show(&mut self, text: ShowText) -> Result<(), OutOfMemory> {
-        let line = Line::Show { member: 0, text };
-        self.line(&line)
+        self.line(Line::Show { member: 0, text })
     }
 
     fn object(&mut self, owner: OwnerText, content: ContentText) -> Result<(), OutOfMemory> {
         let object = self.name("t1.0")?;
-        let line = Line::Object {
+        self.line(Line::Object {
             object,
             version: 2,
             owner,
             content,
-        };
-        self.line(&line)
+        })
     }
 
     fn ack(&mut self, text: AckText) -> Result<(), OutOfMemory> {
         let tx = self.name("t1")?;
-        let line = Line::Ack {
+        self.line(Line::Ack {
             member: 2,
             tx,
             text,
-        };
-        self.line(&line)
+        })
     }
 
     fn collected(&mut self, text: FinalText) -> Result<(), OutOfMemory> {
         let tx = self.name("t1")?;
-        let line = Line::Final { tx, text };
-        self.line(&line)
+        self.line(Line::Final { tx, text })
     }
 }
 
@@ -240,7 +213,7 @@ fn votes(rt: HostRuntime) -> Result<(), Fail> {
     votes_for(&mut printed)?;
     votes_of_numbers(&mut printed)?;
     votes_of_words(&mut printed)?;
-    let want = joined(rt.alloc(), "vote 0 t1: ", VOTES)?;
+    let want = joined(rt.alloc(), "raw 0 vote: ", VOTES)?;
     assert_eq!(rt; printed.out.as_slice(), want.as_slice());
     Ok(())
 }
@@ -284,7 +257,7 @@ fn votes_with_names(rt: HostRuntime) -> Result<(), Fail> {
     votes_of_keys(&mut printed)?;
     votes_of_wrong_keys(&mut printed)?;
     votes_of_pairs(&mut printed)?;
-    let want = joined(rt.alloc(), "vote 0 t1: ", NAMED_VOTES)?;
+    let want = joined(rt.alloc(), "raw 0 vote: ", NAMED_VOTES)?;
     assert_eq!(rt; printed.out.as_slice(), want.as_slice());
     Ok(())
 }
@@ -347,17 +320,17 @@ fn sends(rt: HostRuntime) -> Result<(), Fail> {
     sends_of_numbers(&mut printed)?;
     sends_of_names(&mut printed)?;
     sends_where_it_stands(&mut printed)?;
-    let want = joined(rt.alloc(), "send 1 t1: ", SENDS)?;
+    let want = joined(rt.alloc(), "raw 1 hold: ", SENDS)?;
     assert_eq!(rt; printed.out.as_slice(), want.as_slice());
     Ok(())
 }
 
 fn made_lines(printed: &mut Printed) -> Result<(), OutOfMemory> {
     let tx = printed.name("abcdefghijklmno_")?;
-    printed.line(&Line::TxMade { tx })?;
+    printed.line(Line::TxMade { tx })?;
     let tx = printed.name("t1")?;
     let origins = printed.origins("t2")?;
-    printed.line(&Line::Fvote {
+    printed.line(Line::Fvote {
         member: 63,
         tx,
         origins,
@@ -433,7 +406,7 @@ fn order_end_lines(printed: &mut Printed) -> Result<(), OutOfMemory> {
     printed.order_end(OrderEndText::Entry { entry: 5 })?;
     printed.order_end(OrderEndText::NoStatement)?;
     printed.order_end(OrderEndText::NotTaken)?;
-    printed.line(&Line::OrderCommit { entry: 6 })
+    printed.line(Line::OrderCommit { entry: 6 })
 }
 
 fn see_lines(printed: &mut Printed) -> Result<(), OutOfMemory> {
@@ -585,24 +558,27 @@ fn run_lines(printed: &mut Printed) -> Result<(), OutOfMemory> {
 
 fn done_line(printed: &mut Printed) -> Result<(), OutOfMemory> {
     let tx = printed.name("t1")?;
-    printed.line(&Line::Done {
+    printed.line(Line::Done {
         tx,
         version: 2,
         gas: 1200,
     })
 }
 
-fn failed_lines(printed: &mut Printed) -> Result<(), OutOfMemory> {
+fn failed_line(printed: &mut Printed) -> Result<(), OutOfMemory> {
     let tx = printed.name("t2")?;
-    printed.line(&Line::Failed {
+    printed.line(Line::Failed {
         tx,
         command: 1,
         cause: 8,
         version: 3,
         gas: 1100,
-    })?;
+    })
+}
+
+fn aborted_line(printed: &mut Printed) -> Result<(), OutOfMemory> {
     let tx = printed.name("t3")?;
-    printed.line(&Line::Aborted {
+    printed.line(Line::Aborted {
         tx,
         command: 0,
         code: 2,
@@ -613,9 +589,9 @@ fn failed_lines(printed: &mut Printed) -> Result<(), OutOfMemory> {
 
 fn left_lines(printed: &mut Printed) -> Result<(), OutOfMemory> {
     let (tx, key) = printed.pair("t4", "g0@1")?;
-    printed.line(&Line::Absent { tx, key })?;
+    printed.line(Line::Absent { tx, key })?;
     let tx = printed.name("t5")?;
-    printed.line(&Line::Unfit { tx })
+    printed.line(Line::Unfit { tx })
 }
 
 fn checkpoint_lines(printed: &mut Printed) -> Result<(), OutOfMemory> {
@@ -634,8 +610,6 @@ const RUNS: &[&str] = &[
     "  t1 done v2 gas 1200",
     "  t2 failed at 1 cause 8 v3 gas 1100",
     "  t3 aborted at 0 code 2 v4 gas 1100",
-    "  t4 absent g0@1",
-    "  t5 unfit",
 ];
 
 #[test]
@@ -643,20 +617,28 @@ fn runs(rt: HostRuntime) -> Result<(), Fail> {
     let mut printed = Printed::new(rt.alloc());
     run_lines(&mut printed)?;
     done_line(&mut printed)?;
-    failed_lines(&mut printed)?;
-    left_lines(&mut printed)?;
+    failed_line(&mut printed)?;
+    aborted_line(&mut printed)?;
     let want = joined(rt.alloc(), "", RUNS)?;
     assert_eq!(rt; printed.out.as_slice(), want.as_slice());
     Ok(())
 }
 
-const CHECKPOINTS: &[&str] = &["0:", "1: t1", "2: last", "3: t2 last"];
+const CHECKPOINTS: &[&str] = &[
+    "t4 absent g0@1",
+    "t5 unfit",
+    "checkpoint 0:",
+    "checkpoint 1: t1",
+    "checkpoint 2: last",
+    "checkpoint 3: t2 last",
+];
 
 #[test]
 fn checkpoints(rt: HostRuntime) -> Result<(), Fail> {
     let mut printed = Printed::new(rt.alloc());
+    left_lines(&mut printed)?;
     checkpoint_lines(&mut printed)?;
-    let want = joined(rt.alloc(), "  checkpoint ", CHECKPOINTS)?;
+    let want = joined(rt.alloc(), "  ", CHECKPOINTS)?;
     assert_eq!(rt; printed.out.as_slice(), want.as_slice());
     Ok(())
 }
@@ -683,7 +665,7 @@ fn turned_lines(printed: &mut Printed) -> Result<(), OutOfMemory> {
         reverted: 1,
     })?;
     let tx = printed.name("t9")?;
-    printed.line(&Line::Reverted { tx })
+    printed.line(Line::Reverted { tx })
 }
 
 fn turn_lines(printed: &mut Printed) -> Result<(), OutOfMemory> {
@@ -751,39 +733,44 @@ fn halts(rt: HostRuntime) -> Result<(), Fail> {
 }
 
 fn stop_lines(printed: &mut Printed) -> Result<(), OutOfMemory> {
-    printed.line(&Line::Stop {
+    printed.line(Line::Stop {
         member: 0,
         kept: true,
     })?;
     printed.restart(RestartText::Records { count: 3 })?;
     printed.restart(RestartText::BadRecord { place: 2 })?;
-    printed.line(&Line::Stop {
+    printed.line(Line::Stop {
         member: 0,
         kept: false,
     })
 }
 
-fn raw_lines(printed: &mut Printed) -> Result<(), OutOfMemory> {
-    printed.line(&Line::RawVote {
-        member: 1,
+/// The heads of the two lines that share their texts with the raw ones.
+fn call_lines(printed: &mut Printed) -> Result<(), OutOfMemory> {
+    let tx = printed.name("t1")?;
+    printed.line(Line::Vote {
+        member: 0,
+        tx,
         text: VoteText::Malformed { at: 1, why: 2 },
     })?;
-    printed.line(&Line::RawHold {
+    let tx = printed.name("t2")?;
+    printed.line(Line::Send {
         member: 1,
+        tx,
         text: SendText::Order,
     })
 }
 
 /// The greatest sum.
 fn whole_lines(printed: &mut Printed) -> Result<(), OutOfMemory> {
-    printed.line(&Line::Make {
+    printed.line(Line::Make {
         number: 4,
         transactions: 4,
         checkpoints: 1,
         objects: 6,
         sum: 340_282_366_920_938_463_463_374_607_431_768_211_455,
     })?;
-    printed.line(&Line::Refused { line: 7, cause: 11 })
+    printed.line(Line::Refused { line: 7, cause: 11 })
 }
 
 const STOPS: &[&str] = &[
@@ -791,8 +778,8 @@ const STOPS: &[&str] = &[
     "restart 0: records 3",
     "restart 0: bad record 2",
     "stop 0: armed lost",
-    "raw 1 vote: malformed at 1 why 2",
-    "raw 1 hold: order",
+    "vote 0 t1: malformed at 1 why 2",
+    "send 1 t2: order",
     "make 4: transactions 4 checkpoints 1 objects 6 sum 340282366920938463463374607431768211455",
     "refused line 7 cause 11",
 ];
@@ -801,7 +788,7 @@ const STOPS: &[&str] = &[
 fn stops(rt: HostRuntime) -> Result<(), Fail> {
     let mut printed = Printed::new(rt.alloc());
     stop_lines(&mut printed)?;
-    raw_lines(&mut printed)?;
+    call_lines(&mut printed)?;
     whole_lines(&mut printed)?;
     let want = joined(rt.alloc(), "", STOPS)?;
     assert_eq!(rt; printed.out.as_slice(), want.as_slice());
