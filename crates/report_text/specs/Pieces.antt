@@ -1,7 +1,7 @@
 -- What the printer's pieces print.
 use Rattle.std.specs.Prelude.{ℕ, List, decimal}
-use Rattle.report_text.specs.declared.printer.Piece.{Piece}
-use Rattle.report_text.specs.declared.printer.Piece.TheVariants as piece
+use Rattle.report_text.specs.declared.pieces.Piece.{Piece}
+use Rattle.report_text.specs.declared.pieces.Piece.TheVariants as piece
 
 abbrev pub piece_text : Piece → List ℕ
 piece_text (piece.Text text) = text.now

@@ -8,7 +8,9 @@
 #![tactic(auto)]
 
 mod lines;
+mod pieces;
 mod printer;
+mod texts;
 
 pub use lines::{
     AckText, CertText, CloseText, ContentText, EndText, EntryText, FinalText, Line, OrderEndText,

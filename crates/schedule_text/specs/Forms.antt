@@ -1,5 +1,5 @@
 -- Schedules whose lines have certain forms alone. Source: this profile.
-use Rattle.std.specs.Prelude.{ℕ, ◌+◌, Bool, true, false, not, ◌||◌, List, [], ◌∷◌, length, Option, Some, None, Result, Ok, Err, nat_le, nat_lt, if◌then◌else◌}
+use Rattle.std.specs.Prelude.{ℕ, ◌+◌, Bool, false, not, ◌||◌, List, [], ◌∷◌, length, Option, Some, None, Result, Ok, Err, nat_le, nat_lt, if◌then◌else◌}
 use Rattle.std.specs.List.{list_all}
 use Rattle.schedule_text.specs.declared.cause.Cause.{Cause}
 use Rattle.schedule_text.specs.declared.cause.Cause.TheVariants as cause
