@@ -28,4 +28,8 @@ pub use execution::execute;
 pub use fitting::fits;
 
 #[cfg(test)]
+mod faults;
+#[cfg(test)]
+mod runs;
+#[cfg(test)]
 mod tests;
