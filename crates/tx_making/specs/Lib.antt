@@ -1,0 +1,3 @@
+pub mod Making
+pub mod Collected
+pub mod Short
