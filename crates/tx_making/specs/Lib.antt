@@ -1,3 +1,4 @@
 pub mod Making
-pub mod Collected
 pub mod Short
+pub mod Answers
+pub mod Worlds

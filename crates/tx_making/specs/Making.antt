@@ -1,5 +1,5 @@
 -- The transaction of a line, where the digests of versions and the seals are given as functions.
-use Rattle.std.specs.Prelude.{ℕ, List, Bool, map, Option}
+use Rattle.std.specs.Prelude.{ℕ, ◌+◌, ◌-◌, ◌%◌, ◌==◌, List, Bool, map, fold, Option, if◌then◌else◌}
 use Rattle.std.specs.Int.{w64, to_le_bytes}
 use Rattle.digest_core.specs.declared.Digest.{Digest}
 use Rattle.digest_core.specs.Tagged.{address_of_name}
@@ -10,16 +10,18 @@ use Rattle.chain_types.specs.declared.objects.ObjectKey.{ObjectKey}
 use Rattle.chain_types.specs.declared.objects.ObjectRef.{ObjectRef}
 use Rattle.chain_types.specs.declared.transactions.Input.{Input}
 use Rattle.chain_types.specs.declared.transactions.Input.TheVariants as inputs
+use Rattle.chain_types.specs.declared.transactions.Argument.{Argument}
 use Rattle.chain_types.specs.declared.transactions.Transaction.{Transaction}
 use Rattle.chain_types.specs.Digests.{transaction_digest}
 use Rattle.chain_types.specs.Transactions as transactions
 use Rattle.schedule_text.specs.declared.words.ObjWord.{ObjWord}
 use Rattle.schedule_text.specs.declared.words.RefWord.{RefWord}
+use Rattle.schedule_text.specs.declared.words.ArgWord.{ArgWord}
 use Rattle.schedule_text.specs.declared.words.InputWord.{InputWord}
 use Rattle.schedule_text.specs.declared.words.InputWord.TheVariants as input_word
 use Rattle.world_spec.specs.Setting.{Name}
 use Rattle.world_spec.specs.World.{Made}
-use Rattle.world_spec.specs.Making.{TxLine, command_of, digest_or_zero, id_of, spoiled_if}
+use Rattle.world_spec.specs.Making.{TxLine, argument_of, command_of, digest_or_zero, id_of, spoiled_if}
 use Rattle.world_names.specs.Known.{Known, setting_with, world_with}
 
 -- the id that a word names
@@ -62,3 +64,11 @@ made_by seal name spoiled t = record {
 -- the transaction that a line makes
 abbrev pub line_made : Known → (ObjectKey → Option Digest) → (Signer → List ℕ → Digest) → TxLine → Made
 line_made k held seal l = made_by seal l.name l.spoiled (transaction_by k held l)
+
+-- a byte with its last bit turned
+abbrev pub turned : ℕ → ℕ
+turned b = if b % 2 == 0 then b + 1 else b - 1
+
+-- the last word, or what comes before them
+abbrev pub last_after : Argument → List ArgWord → Argument
+last_after before words = fold (λ a word. argument_of word) before words

@@ -1,7 +1,6 @@
--- Transactions whose lists can be spelled: BCS spells a length below 2^31.
-use Rattle.std.specs.Prelude.{ℕ, Bool, true, ◌&&◌, nat_lt, List, length}
-use Rattle.std.specs.List.{list_all}
-use Rattle.wire_bcs.specs.Items.{length_limit}
+-- Transactions with a list that cannot be spelled: BCS spells no length above 2147483647.
+use Rattle.std.specs.Prelude.{ℕ, Bool, true, false, ◌||◌, nat_lt, List, length}
+use Rattle.std.specs.List.{list_any}
 use Rattle.chain_types.specs.declared.transactions.Input.{Input}
 use Rattle.chain_types.specs.declared.transactions.Input.TheVariants as inputs
 use Rattle.chain_types.specs.declared.transactions.Argument.{Argument}
@@ -9,23 +8,21 @@ use Rattle.chain_types.specs.declared.transactions.Command.{Command}
 use Rattle.chain_types.specs.declared.transactions.Command.TheVariants as commands
 use Rattle.chain_types.specs.declared.transactions.Transaction.{Transaction}
 
-abbrev pub input_short : Input → Bool
-input_short (inputs.Pure bytes) = nat_lt (length bytes) length_limit
-input_short (inputs.Owned r) = true
-input_short (inputs.Immutable r) = true
-input_short (inputs.Shared id initial mutable) = true
+abbrev pub is_long_list : {A : Type 0} → List A → Bool
+is_long_list xs = nat_lt 2147483647 (length xs)
 
-abbrev pub command_list : Command → List Argument
-command_list (commands.Call native args) = args
-command_list (commands.Transfer values to) = values
-command_list (commands.Split coin amounts) = amounts
-command_list (commands.Merge target sources) = sources
-command_list (commands.MakeVec kind values) = values
+abbrev pub is_long_input : Input → Bool
+is_long_input (inputs.Pure bytes) = is_long_list bytes
+is_long_input (inputs.Owned r) = false
+is_long_input (inputs.Immutable r) = false
+is_long_input (inputs.Shared id initial mutable) = false
 
-abbrev pub command_short : Command → Bool
-command_short c = nat_lt (length (command_list c)) length_limit
+abbrev pub is_long_command : Command → Bool
+is_long_command (commands.Call native args) = is_long_list args
+is_long_command (commands.Transfer values to) = is_long_list values
+is_long_command (commands.Split coin amounts) = is_long_list amounts
+is_long_command (commands.Merge target sources) = is_long_list sources
+is_long_command (commands.MakeVec of_kind values) = is_long_list values
 
--- whether all lists of a transaction have a length that can be spelled
-abbrev pub is_short : Transaction → Bool
-is_short t =
-    nat_lt (length t.inputs) length_limit && (list_all input_short t.inputs && (nat_lt (length t.commands) length_limit && list_all command_short t.commands))
+abbrev pub has_long_list : Transaction → Bool
+has_long_list t = is_long_list t.inputs || (list_any is_long_input t.inputs || (is_long_list t.commands || list_any is_long_command t.commands))

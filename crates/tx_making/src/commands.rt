@@ -1,8 +1,9 @@
 //! The commands of a line.
 
-ghost use Rattle.std.specs.Prelude.{◌≡◌, IfOk, map};
+ghost use Rattle.std.specs.Prelude.{◌≡◌, IfOk, OnOk, map, slice_get};
 ghost use Rattle.world_spec.specs.Making.{argument_of, command_of, first_word, kind_or, kinds, last_word, words_before, words_behind};
-ghost use Rattle.std.specs.Prelude.{slice_get};
+ghost use Rattle.world_names.specs.Pushed.{each_pushed};
+ghost use Rattle.tx_making.specs.Making.{last_after};
 
 use chain_types::{Argument, Command, Kind};
 use schedule_text::{ArgWord, CommandWord};
@@ -56,16 +57,23 @@ fn words_behind(alloc: Global, words: &[ArgWord]) -> Result<Seq<Argument>, OutOf
     }
 }
 
+/// The argument of the last word; this one where there is none. Takes no memory.
+fn last_after(before: Argument, words: &[ArgWord]) -> Argument
+    ensures { result ≡ last_after before words.now }
+{
+    let mut last = before;
+    for word in words {
+        last = argument_of(*word);
+    }
+    last
+}
+
 /// The argument of the last word; the gas coin where there is none. Takes no memory.
 #[tactic(auto, using(crate::proofs::Words::last_is))]
 fn last_word(words: &[ArgWord]) -> Argument
     ensures { result ≡ last_word words.now }
 {
-    let mut last = Argument::Gas;
-    for word in words {
-        last = argument_of(*word);
-    }
-    last
+    last_after(Argument::Gas, words)
 }
 
 /// The arguments of the words before the last.
@@ -134,8 +142,23 @@ pub(crate) fn command_of(alloc: Global, word: &CommandWord) -> Result<Command, O
     }
 }
 
+/// Adds the commands of words.
+fn add_commands(
+    commands: &mut Seq<Command>,
+    alloc: Global,
+    words: &[CommandWord],
+) -> Result<(), OutOfMemory>
+    ensures { OnOk result (commands.new ≡ each_pushed command_of commands.old words.now) }
+{
+    for word in words {
+        let command = command_of(alloc, word)?;
+        commands.push(command)?;
+    }
+    Ok(())
+}
+
 /// The commands of words, in their order.
-#[tactic(auto, using(crate::proofs::Words::all_pushed))]
+#[tactic(auto, using(world_names::proofs::Pushed::from_none))]
 pub(crate) fn commands_of(
     alloc: Global,
     words: &[CommandWord],
@@ -143,8 +166,6 @@ pub(crate) fn commands_of(
     ensures { IfOk result (λ commands. commands ≡ map command_of words.now) }
 {
     let mut commands = Seq::new(alloc);
-    for word in words {
-        commands.push(command_of(alloc, word)?)?;
-    }
+    add_commands(&mut commands, alloc, words)?;
     Ok(commands)
 }

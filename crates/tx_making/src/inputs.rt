@@ -1,10 +1,12 @@
 //! The objects and inputs of a line.
 
-ghost use Rattle.std.specs.Prelude.{◌≡◌, Option, IfOk, map};
+ghost use Rattle.std.specs.Prelude.{◌≡◌, Option, IfOk, OnOk, bytes_eq, find, map, true};
 ghost use Rattle.digest_core.specs.declared.Digest.{Digest as Sum};
 ghost use Rattle.chain_types.specs.declared.objects.ObjectKey.{ObjectKey as Key};
-ghost use Rattle.world_spec.specs.Making.{spoiled_if};
-ghost use Rattle.tx_making.specs.Making.{input_by, reference_at, reference_by, word_id};
+ghost use Rattle.world_spec.specs.Making.{spoiled_if, thing_at};
+ghost use Rattle.world_spec.specs.Setting.{Thing};
+ghost use Rattle.world_names.specs.Pushed.{each_pushed};
+ghost use Rattle.tx_making.specs.Making.{input_by, reference_at, reference_by, turned, word_id};
 
 use chain_types::{Input, ObjectId, ObjectKey, ObjectRef};
 use digest_core::{Digest, address_of, created_id};
@@ -22,16 +24,20 @@ pub trait HeldDigests {
         ensures { result ≡ held self.now key.now };
 }
 
+/// The byte with its last bit turned. Takes no memory.
+fn turned(byte: u8) -> u8
+    ensures { result ≡ turned byte }
+{
+    if byte % 2 == 0 { byte + 1 } else { byte - 1 }
+}
+
 /// The digest with the last bit of its first byte turned. Takes no memory.
+#[tactic(auto, using(crate::proofs::Words::first_turned))]
 fn spoil(digest: &Digest) -> Digest
     ensures { result ≡ spoiled_if true digest.now }
 {
     let mut bytes = digest.0;
-    bytes[0] = if bytes[0] % 2 == 0 {
-        bytes[0] + 1
-    } else {
-        bytes[0] - 1
-    };
+    bytes[0] = turned(bytes[0]);
     Digest(bytes)
 }
 
@@ -42,15 +48,22 @@ pub(crate) fn spoiled_if(spoiled: bool, digest: &Digest) -> Digest
     if spoiled { spoil(digest) } else { *digest }
 }
 
+/// The id of the set-up's thing of this name; zeros where there is none. Takes no memory.
+fn thing_at(directory: &Directory, name: &[u8]) -> ObjectId
+    ensures { result ≡ thing_at (find (λ (t : Thing). bytes_eq t.name name.now) directory.now.things) }
+{
+    match directory.thing_id(name) {
+        Some(id) => id,
+        None => ObjectId(Digest([0; 32])),
+    }
+}
+
 /// The id that a word names; zeros where no set-up line has the name. Takes no memory.
 fn id_of(directory: &Directory, word: &ObjWord) -> ObjectId
     ensures { result ≡ word_id directory.now word.now }
 {
     match word {
-        ObjWord::Setup(name) => match directory.thing_id(name.as_slice()) {
-            Some(id) => id,
-            None => ObjectId(Digest([0; 32])),
-        },
+        ObjWord::Setup(name) => thing_at(directory, name.as_slice()),
         ObjWord::Created { tx, number } => {
             ObjectId(created_id(&directory.digest_named(tx.as_slice()), *number))
         }
@@ -123,8 +136,25 @@ fn input_of<H: HeldDigests>(
     }
 }
 
+/// Adds the inputs of words.
+fn add_inputs<H: HeldDigests>(
+    inputs: &mut Seq<Input>,
+    alloc: Global,
+    directory: &Directory,
+    held: &H,
+    words: &[InputWord],
+) -> Result<(), OutOfMemory>
+    ensures { OnOk result (inputs.new ≡ each_pushed (input_by directory.now (H.held held.now)) inputs.old words.now) }
+{
+    for word in words {
+        let input = input_of(alloc, directory, held, word)?;
+        inputs.push(input)?;
+    }
+    Ok(())
+}
+
 /// The inputs of words, in their order.
-#[tactic(auto, using(crate::proofs::Words::all_pushed))]
+#[tactic(auto, using(world_names::proofs::Pushed::from_none))]
 pub(crate) fn inputs_of<H: HeldDigests>(
     alloc: Global,
     directory: &Directory,
@@ -134,8 +164,6 @@ pub(crate) fn inputs_of<H: HeldDigests>(
     ensures { IfOk result (λ inputs. inputs ≡ map (input_by directory.now (H.held held.now)) words.now) }
 {
     let mut inputs = Seq::new(alloc);
-    for word in words {
-        inputs.push(input_of(alloc, directory, held, word)?)?;
-    }
+    add_inputs(&mut inputs, alloc, directory, held, words)?;
     Ok(inputs)
 }

@@ -8,10 +8,12 @@
 
 mod commands;
 mod inputs;
+mod law;
 mod making;
 mod short;
 
 pub use inputs::HeldDigests;
+pub use law::made_in_a_world;
 pub use making::{MakeRefusal, MakesSeals, make};
 
 #[cfg(test)]

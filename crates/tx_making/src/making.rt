@@ -1,22 +1,19 @@
 //! Making a transaction.
 
-ghost use Rattle.std.specs.Prelude.{◌≡◌, ℕ, List, IfOk, OnErr, false, true};
-ghost use Rattle.std.specs.Prelude.{MatchResult};
+ghost use Rattle.std.specs.Prelude.{◌≡◌, ℕ, List, IfOk};
 ghost use Rattle.digest_core.specs.declared.Digest.{Digest as Seal};
 ghost use Rattle.quorum_core.specs.declared.signer.Signer.{Signer as Who};
-ghost use Rattle.quorum_core.specs.declared.signer.Signer.TheVariants as signers;
 ghost use Rattle.quorum_core.specs.Seals.{keyed_seal};
 ghost use Rattle.chain_types.specs.Transactions as codecs;
-ghost use Rattle.world_spec.specs.Making.{spoiled_if};
 ghost use Rattle.world_names.specs.Lines.{line_of};
 ghost use Rattle.world_names.specs.Rows.{made_as};
-ghost use Rattle.tx_making.specs.Making.{line_made, transaction_by};
-ghost use Rattle.tx_making.specs.Short.{is_short};
-ghost use Rattle.tx_making.specs.declared.making.MakeRefusal.TheVariants as refusal;
+ghost use Rattle.tx_making.specs.Making.{line_made, made_by, transaction_by};
+ghost use Rattle.tx_making.specs.Short.{has_long_list};
+ghost use Rattle.tx_making.specs.Answers.{Says};
 
 use crate::commands::commands_of;
 use crate::inputs::{HeldDigests, inputs_of, reference_of, spoiled_if};
-use crate::short::is_short;
+use crate::short::has_long_list;
 use chain_types::{Address, SignedTx, Transaction, encode_tx};
 use digest_core::{Digest, TAG_TRANSACTION, address_of, digest_of};
 use quorum_core::{KeyedSeal, Sealer, Signer};
@@ -49,14 +46,6 @@ pub enum MakeRefusal {
     OutOfMemory,
 }
 
-impl From<OutOfMemory> for MakeRefusal {
-    ghost from_gives = { λ _ given. given ≡ refusal.OutOfMemory };
-
-    fn from(_error: OutOfMemory) -> Self {
-        MakeRefusal::OutOfMemory
-    }
-}
-
 /// The transaction of a line.
 fn transaction_of<H: HeldDigests>(
     alloc: Global,
@@ -77,7 +66,7 @@ fn transaction_of<H: HeldDigests>(
 }
 
 /// The digest and the seal of a transaction that can be spelled.
-#[tactic(auto, unfolding(chain_types::specs::Digests::transaction_digest))]
+#[tactic(auto, unfolding(chain_types::specs::Digests::transaction_digest, chain_types::specs::Transactions::signed, wire_bcs::specs::Digests::digest))]
 fn sign<S: MakesSeals>(
     alloc: Global,
     sealer: &S,
@@ -87,6 +76,7 @@ fn sign<S: MakesSeals>(
 ) -> Result<MadeTx, OutOfMemory>
     requires { codecs.transaction.short tx }
     ensures made { IfOk result (λ t. made_as t ≡ made_by (S.made sealer.now) name.now spoiled tx) }
+    ensures short { IfOk result (λ t. codecs.signed.short t.signed) }
 {
     let bytes = encode_tx(alloc, &tx)?;
     let digest = digest_of(TAG_TRANSACTION, bytes.as_slice());
@@ -103,7 +93,7 @@ fn sign<S: MakesSeals>(
 
 /// The transaction that a line makes, by the digests that are held and the sealer's seals; it can be spelled.
 /// `TooLong` comes exactly where one of its lists is too long for that.
-#[tactic(auto, using(crate::proofs::Short::short_fits))]
+#[tactic(auto, using(crate::proofs::Spelled::short_lists))]
 pub fn make<H: HeldDigests, S: MakesSeals>(
     alloc: Global,
     directory: &Directory,
@@ -113,11 +103,16 @@ pub fn make<H: HeldDigests, S: MakesSeals>(
 ) -> Result<MadeTx, MakeRefusal>
     ensures made { IfOk result (λ t. made_as t ≡ line_made directory.now (H.held held.now) (S.made sealer.now) (line_of line.now)) }
     ensures short { IfOk result (λ t. codecs.signed.short t.signed) }
-    ensures long { IsLongOrStarved result (is_short (transaction_by directory.now (H.held held.now) (line_of line.now))) }
+    ensures long { Says result (has_long_list (transaction_by directory.now (H.held held.now) (line_of line.now))) }
 {
-    let tx = transaction_of(alloc, directory, held, line)?;
-    if !is_short(&tx) {
+    let Ok(tx) = transaction_of(alloc, directory, held, line) else {
+        return Err(MakeRefusal::OutOfMemory);
+    };
+    if has_long_list(&tx) {
         return Err(MakeRefusal::TooLong);
     }
-    Ok(sign(alloc, sealer, line.name, line.spoiled, tx)?)
+    match sign(alloc, sealer, line.name, line.spoiled, tx) {
+        Ok(made) => Ok(made),
+        Err(OutOfMemory) => Err(MakeRefusal::OutOfMemory),
+    }
 }

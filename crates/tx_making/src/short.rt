@@ -1,57 +1,64 @@
 //! Which transactions can be spelled.
 
 ghost use Rattle.std.specs.Prelude.{◌≡◌};
-ghost use Rattle.std.specs.List.{list_all};
-ghost use Rattle.tx_making.specs.Short.{command_short, input_short, is_short};
+ghost use Rattle.std.specs.List.{list_any};
+ghost use Rattle.tx_making.specs.Short.{has_long_list, is_long_command, is_long_input};
 
 use chain_types::{Command, Input, Transaction};
 
-/// BCS spells no length from here on.
-const LENGTH_LIMIT: u64 = 2147483648;
-
-/// Whether the list of an input can be spelled. Takes no memory.
-fn input_is_short(input: &Input) -> bool
-    ensures { result ≡ input_short input.now }
+/// Whether the list of an input is too long to be spelled. Takes no memory.
+fn is_long_input(input: &Input) -> bool
+    ensures { result ≡ is_long_input input.now }
 {
     match input {
-        Input::Pure(bytes) => bytes.len() < LENGTH_LIMIT,
-        Input::Owned(_) | Input::Immutable(_) | Input::Shared { .. } => true,
+        Input::Pure(bytes) => bytes.len() > 2147483647,
+        Input::Owned(_) | Input::Immutable(_) | Input::Shared { .. } => false,
     }
 }
 
-/// Whether the list of a command can be spelled. Takes no memory.
-fn command_is_short(command: &Command) -> bool
-    ensures { result ≡ command_short command.now }
+/// Whether the list of a command is too long to be spelled. Takes no memory.
+fn is_long_command(command: &Command) -> bool
+    ensures { result ≡ is_long_command command.now }
 {
     match command {
-        Command::Call { args, .. } => args.len() < LENGTH_LIMIT,
-        Command::Transfer { values, .. } => values.len() < LENGTH_LIMIT,
-        Command::Split { amounts, .. } => amounts.len() < LENGTH_LIMIT,
-        Command::Merge { sources, .. } => sources.len() < LENGTH_LIMIT,
-        Command::MakeVec { values, .. } => values.len() < LENGTH_LIMIT,
+        Command::Call { args, .. } => args.len() > 2147483647,
+        Command::Transfer { values, .. } => values.len() > 2147483647,
+        Command::Split { amounts, .. } => amounts.len() > 2147483647,
+        Command::Merge { sources, .. } => sources.len() > 2147483647,
+        Command::MakeVec { values, .. } => values.len() > 2147483647,
     }
 }
 
-/// Whether the lists of all inputs can be spelled. Takes no memory.
-fn inputs_are_short(inputs: &[Input]) -> bool
-    ensures { result ≡ list_all input_short inputs.now }
+/// Whether one of the inputs has a list that is too long. Takes no memory.
+fn any_long_input(inputs: &[Input]) -> bool
+    ensures { result ≡ list_any is_long_input inputs.now }
 {
-    inputs.iter().all(|input| input_is_short(input))
+    for input in inputs {
+        if is_long_input(input) {
+            return true;
+        }
+    }
+    false
 }
 
-/// Whether the lists of all commands can be spelled. Takes no memory.
-fn commands_are_short(commands: &[Command]) -> bool
-    ensures { result ≡ list_all command_short commands.now }
+/// Whether one of the commands has a list that is too long. Takes no memory.
+fn any_long_command(commands: &[Command]) -> bool
+    ensures { result ≡ list_any is_long_command commands.now }
 {
-    commands.iter().all(|command| command_is_short(command))
+    for command in commands {
+        if is_long_command(command) {
+            return true;
+        }
+    }
+    false
 }
 
-/// Whether all lists of a transaction can be spelled. Takes no memory.
-pub(crate) fn is_short(tx: &Transaction) -> bool
-    ensures { result ≡ is_short tx.now }
+/// Whether one of the lists of a transaction is too long to be spelled. Takes no memory.
+pub(crate) fn has_long_list(tx: &Transaction) -> bool
+    ensures { result ≡ has_long_list tx.now }
 {
-    tx.inputs.len() < LENGTH_LIMIT
-        && inputs_are_short(tx.inputs.as_slice())
-        && tx.commands.len() < LENGTH_LIMIT
-        && commands_are_short(tx.commands.as_slice())
+    tx.inputs.len() > 2147483647
+        || any_long_input(tx.inputs.as_slice())
+        || tx.commands.len() > 2147483647
+        || any_long_command(tx.commands.as_slice())
 }

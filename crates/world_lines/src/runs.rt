@@ -5,7 +5,7 @@ ghost use Rattle.checkpoint_core.specs.declared.checkpoints.Item.{Item};
 ghost use Rattle.world_spec.specs.Names.{tx_name};
 ghost use Rattle.world_spec.specs.Report.{checkpoint_line, effects_line, left_line, run_answered, status_line};
 ghost use Rattle.world_names.specs.Known.{setting_with, world_with};
-ghost use Rattle.world_lines.specs.Pushed.{each_pushed};
+ghost use Rattle.world_names.specs.Pushed.{each_pushed};
 
 use crate::words::{tx_text, version_text};
 use checkpoint_core::{Checkpoint, Item};
@@ -76,7 +76,7 @@ fn add_items(
 }
 
 /// The line for a checkpoint.
-#[tactic(auto, using(crate::proofs::Pushed::from_none))]
+#[tactic(auto, using(world_names::proofs::Pushed::from_none))]
 pub fn checkpoint_line(
     directory: &Directory,
     checkpoint: &Checkpoint,
@@ -147,7 +147,7 @@ fn one_line(directory: &Directory, line: Line) -> Result<Seq<Line>, OutOfMemory>
 }
 
 /// The lines for what a run did: how many it executed, each of these, what it left, and the checkpoints.
-#[tactic(auto, using(crate::proofs::Pushed::three_behind))]
+#[tactic(auto, using(world_names::proofs::Pushed::three_behind))]
 fn ran_lines(directory: &Directory, member: u32, ran: &Ran) -> Result<Seq<Line>, OutOfMemory>
     ensures { IfOk result (λ lines. lines ≡ run_answered (setting_with directory.now) (world_with directory.now) member (Ok ran.now)) }
 {

@@ -4,7 +4,7 @@ ghost use Rattle.std.specs.Prelude.{◌≡◌, IfOk, OnOk, map};
 ghost use Rattle.world_spec.specs.Names.{key_name, object_name, tx_name};
 ghost use Rattle.world_spec.specs.Report.{origin_name, origin_names, tx_names};
 ghost use Rattle.world_names.specs.Known.{setting_with, world_with};
-ghost use Rattle.world_lines.specs.Pushed.{each_pushed};
+ghost use Rattle.world_names.specs.Pushed.{each_pushed};
 
 use chain_types::{ObjectId, ObjectKey};
 use digest_core::Digest;
@@ -48,7 +48,7 @@ fn add_names(
 }
 
 /// The names of transactions, in their order.
-#[tactic(auto, using(crate::proofs::Pushed::from_none))]
+#[tactic(auto, using(world_names::proofs::Pushed::from_none))]
 pub fn tx_names(directory: &Directory, txs: &[Digest]) -> Result<Seq<Seq<u8>>, OutOfMemory>
     ensures { IfOk result (λ names. names ≡ tx_names (world_with directory.now) txs.now) }
 {
@@ -89,7 +89,7 @@ fn add_origins(
 }
 
 /// The names of origins, in their order.
-#[tactic(auto, using(crate::proofs::Pushed::from_none))]
+#[tactic(auto, using(world_names::proofs::Pushed::from_none))]
 pub fn origin_names(
     directory: &Directory,
     origins: &[Option<Digest>],

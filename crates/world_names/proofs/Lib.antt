@@ -4,3 +4,4 @@ pub mod Names
 pub mod Collected
 pub mod ShownOrder
 pub mod Worlds
+pub mod Pushed

@@ -4,3 +4,4 @@ pub mod SetUp
 pub mod Lines
 pub mod Collected
 pub mod Shown
+pub mod Pushed

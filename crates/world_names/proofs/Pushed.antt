@@ -1,6 +1,6 @@
 -- Lists that are collected one item after the other are those of what each item gives.
 use Rattle.std.proofs.Common.{◌≡◌, ◌∙◌, ap, sym, refl, List, [], ◌∷◌, ◌++◌, map, append_assoc, append-nil}
-use Rattle.world_lines.specs.Pushed.{each_pushed}
+use Rattle.world_names.specs.Pushed.{each_pushed}
 
 pub all_pushed : {A B : Type 0} → (f : A → B) (ys : List B) (xs : List A) → each_pushed f ys xs ≡ ys ++ map f xs
 all_pushed f ys [] = sym (append-nil ys)
