@@ -7,6 +7,7 @@
 
 mod certs;
 mod holds;
+mod law;
 mod runs;
 mod shows;
 mod votes;
@@ -14,6 +15,7 @@ mod words;
 
 pub use certs::{Collected, cert_text};
 pub use holds::hold_text;
+pub use law::lines_in_a_world;
 pub use runs::{checkpoint_line, effects_line, left_line, run_lines};
 pub use shows::{object_line, shown_lines};
 pub use votes::vote_text;
