@@ -159,10 +159,7 @@ fn add_commands(
 
 /// The commands of words, in their order.
 #[tactic(auto, using(world_names::proofs::Pushed::from_none))]
-pub(crate) fn commands_of(
-    alloc: Global,
-    words: &[CommandWord],
-) -> Result<Seq<Command>, OutOfMemory>
+pub(crate) fn commands_of(alloc: Global, words: &[CommandWord]) -> Result<Seq<Command>, OutOfMemory>
     ensures { IfOk result (λ commands. commands ≡ map command_of words.now) }
 {
     let mut commands = Seq::new(alloc);

@@ -12,5 +12,4 @@ ghost use Rattle.tx_making.specs.Worlds.{held_in};
 pub fn made_in_a_world()
     ensures transaction { (s : Setting) (w : World) (l : TxLine) → transaction_of s w l ≡ transaction_by (names_of s w) (held_in s w) l }
     ensures made { (s : Setting) (w : World) (l : TxLine) → made_as s l.name l.spoiled (transaction_of s w l) ≡ line_made (names_of s w) (held_in s w) s.seal l }
-{
-}
+{}

@@ -14,6 +14,7 @@ use wire_bcs::{OutOfMemory, Seq};
 use world_names::{Directory, MadeTx, TxLine};
 
 /// One version is held.
+#[derive(Drop)]
 struct OneHeld {
     key: ObjectKey,
     digest: Digest,
@@ -106,9 +107,16 @@ fn makes_inputs(rt: HostRuntime) -> Result<(), Fail> {
     let gas = coin_word(alloc, false)?;
     let made = made(alloc, &gas, false, words.as_slice(), [].as_slice())?;
     match made.signed.tx.inputs.as_slice() {
-        [Input::Pure(number), Input::Pure(address), Input::Pure(bytes)] => {
+        [
+            Input::Pure(number),
+            Input::Pure(address),
+            Input::Pure(bytes),
+        ] => {
             assert_eq!(rt; number.as_slice(), [2, 1, 0, 0, 0, 0, 0, 0].as_slice());
-            assert_eq!(rt; address.as_slice(), address_of(b"eve".as_slice()).0.as_slice());
+            assert_eq!(rt;
+                address.as_slice(),
+                address_of(b"eve".as_slice()).0.as_slice()
+            );
             assert_eq!(rt; bytes.as_slice(), [9].as_slice());
         }
         _ => assert!(rt; false),
@@ -139,7 +147,11 @@ fn makes_objects(rt: HostRuntime) -> Result<(), Fail> {
     let mut spoiled = [6; 32];
     spoiled[0] = 7;
     match made.signed.tx.inputs.as_slice() {
-        [Input::Owned(owned), Input::Immutable(frozen), Input::Shared { id, .. }] => {
+        [
+            Input::Owned(owned),
+            Input::Immutable(frozen),
+            Input::Shared { id, .. },
+        ] => {
             assert_eq!(rt; owned.digest, Digest(spoiled));
             assert_eq!(rt; frozen.id.0, created_id(&Digest([0; 32]), 2));
             assert_eq!(rt; frozen.digest, Digest([0; 32]));
@@ -168,7 +180,11 @@ fn makes_commands_on_coins(rt: HostRuntime) -> Result<(), Fail> {
     let gas = coin_word(alloc, false)?;
     let made = made(alloc, &gas, false, [].as_slice(), words.as_slice())?;
     match made.signed.tx.commands.as_slice() {
-        [Command::Split { coin, amounts }, Command::Merge { sources, .. }, Command::Transfer { values, to }] => {
+        [
+            Command::Split { coin, amounts },
+            Command::Merge { sources, .. },
+            Command::Transfer { values, to },
+        ] => {
             assert_eq!(rt; *coin, Argument::Gas);
             assert_eq!(rt; amounts.as_slice(), [Argument::Input(0)].as_slice());
             assert_eq!(rt; sources.as_slice(), [Argument::Input(0)].as_slice());
@@ -196,7 +212,10 @@ fn makes_lists_and_calls(rt: HostRuntime) -> Result<(), Fail> {
     let gas = coin_word(alloc, false)?;
     let made = made(alloc, &gas, false, [].as_slice(), words.as_slice())?;
     match made.signed.tx.commands.as_slice() {
-        [Command::MakeVec { kind, .. }, Command::Call { native, args }] => {
+        [
+            Command::MakeVec { kind, .. },
+            Command::Call { native, args },
+        ] => {
             assert_eq!(rt; *kind, Kind::VaultKey);
             assert_eq!(rt; *native, 12);
             assert_eq!(rt; args.as_slice(), [Argument::Nested(1, 2)].as_slice());

@@ -18,5 +18,4 @@ pub fn lines_in_a_world()
     ensures holds { (s : Setting) (w : World) (answer : Result Bool HoldRefusal) → hold_answered s w answer ≡ hold_answered (setting_with (names_of s w)) (world_with (names_of s w)) answer }
     ensures runs { (s : Setting) (w : World) (m : ℕ) (answer : Result Ran RunRefusal) → run_answered s w m answer ≡ run_answered (setting_with (names_of s w)) (world_with (names_of s w)) m answer }
     ensures shows { (s : Setting) (w : World) (m epoch : ℕ) (objects : List Object) → shown s w m epoch objects ≡ shown (setting_with (names_of s w)) (world_with (names_of s w)) m epoch objects }
-{
-}
+{}

@@ -77,10 +77,7 @@ fn add_items(
 
 /// The line for a checkpoint.
 #[tactic(auto, using(world_names::proofs::Pushed::from_none))]
-pub fn checkpoint_line(
-    directory: &Directory,
-    checkpoint: &Checkpoint,
-) -> Result<Line, OutOfMemory>
+pub fn checkpoint_line(directory: &Directory, checkpoint: &Checkpoint) -> Result<Line, OutOfMemory>
     ensures { IfOk result (λ line. line ≡ checkpoint_line (world_with directory.now) checkpoint.now) }
 {
     let mut txs = Seq::new(directory.allocator());
@@ -108,11 +105,7 @@ fn add_effects(
 }
 
 /// Adds the lines of transactions that were left.
-fn add_left(
-    directory: &Directory,
-    lines: &mut Seq<Line>,
-    left: &[Left],
-) -> Result<(), OutOfMemory>
+fn add_left(directory: &Directory, lines: &mut Seq<Line>, left: &[Left]) -> Result<(), OutOfMemory>
     ensures { OnOk result (lines.new ≡ each_pushed (left_line (setting_with directory.now) (world_with directory.now)) lines.old left.now) }
 {
     for one in left {

@@ -128,10 +128,24 @@ fn says_what_a_run_did(rt: HostRuntime) -> Result<(), Fail> {
     let answer: Result<Ran, RunRefusal> = Ok(ran(alloc)?);
     let lines = run_lines(&directory, 2, &answer)?;
     match lines.as_slice() {
-        [Line::Run { member, .. }, Line::Aborted { code, .. }, Line::Absent { key, .. }, rest @ ..] => {
+        [
+            Line::Run { member, .. },
+            Line::Aborted { code, .. },
+            Line::Absent { key, .. },
+            rest @ ..,
+        ] => {
             assert_eq!(rt; (*member, *code), (2, 2));
             assert_eq!(rt; key.as_slice(), b"c@4".as_slice());
-            assert!(rt; matches!(rest, [Line::Checkpoint { number: 3, last: true, .. }]));
+            assert!(rt;
+                matches!(
+                    rest,
+                    [Line::Checkpoint {
+                        number: 3,
+                        last: true,
+                        ..
+                    }]
+                )
+            );
         }
         _ => assert!(rt; false),
     }
@@ -168,7 +182,15 @@ fn shows_objects(rt: HostRuntime) -> Result<(), Fail> {
     };
     let lines = shown_lines(&directory, 0, 1, [key].as_slice())?;
     match lines.as_slice() {
-        [Line::Show { .. }, Line::Object { object, owner: OwnerText::Frozen, content: ContentText::Key { object: vault }, .. }] => {
+        [
+            Line::Show { .. },
+            Line::Object {
+                object,
+                owner: OwnerText::Frozen,
+                content: ContentText::Key { object: vault },
+                ..
+            },
+        ] => {
             assert_eq!(rt; object.as_slice(), b"?".as_slice());
             assert_eq!(rt; vault.as_slice(), b"c".as_slice());
         }

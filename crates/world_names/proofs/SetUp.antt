@@ -13,7 +13,7 @@ behind k lines = record k { things = k.things ++ things_from (length k.things) l
 
 thing_more : (k : Known) (name : Name) (rest : ℕ → List Thing)
     → (k.things ++ record { name = name; id = thing_id (length k.things) } ∷ []) ++ rest (length (k.things ++ record { name = name; id = thing_id (length k.things) } ∷ []))
-      ≡ k.things ++ record { name = name; id = thing_id (length k.things) } ∷ rest (length k.things + 1)
+    ≡ k.things ++ record { name = name; id = thing_id (length k.things) } ∷ rest (length k.things + 1)
 thing_more k name rest =
     ap (λ n. (k.things ++ record { name = name; id = thing_id (length k.things) } ∷ []) ++ rest n) (length-append k.things (record { name = name; id = thing_id (length k.things) } ∷ []))
     ∙ append_assoc k.things (record { name = name; id = thing_id (length k.things) } ∷ []) (rest (length k.things + 1))

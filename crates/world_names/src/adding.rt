@@ -53,11 +53,7 @@ fn add_user_word(
 
 /// The users that the words of a line name: its sender and the addresses.
 #[tactic(auto, using(crate::proofs::Collected::all_added))]
-fn users_of(
-    alloc: Global,
-    sender: &[u8],
-    words: &[InputWord],
-) -> Result<Vec<UserRow>, OutOfMemory>
+fn users_of(alloc: Global, sender: &[u8], words: &[InputWord]) -> Result<Vec<UserRow>, OutOfMemory>
     ensures { IfOk result (λ users. map user_as users.items ≡ users_in sender.now words.now) }
 {
     let mut users = Vec::new(alloc);
@@ -118,11 +114,7 @@ fn add_numbers(rows: &mut Vec<DrawnRow>, tx: &Digest, count: usize) -> Result<()
 }
 
 /// The ids that the commands of a transaction draw at most.
-fn drawn_by(
-    alloc: Global,
-    tx: &Digest,
-    commands: &[Command],
-) -> Result<Vec<DrawnRow>, OutOfMemory>
+fn drawn_by(alloc: Global, tx: &Digest, commands: &[Command]) -> Result<Vec<DrawnRow>, OutOfMemory>
     ensures drawn { IfOk result (λ rows. AreDrawn tx.now rows.items) }
     ensures count { IfOk result (λ rows. length rows.items ≡ draws commands.now) }
 {

@@ -23,5 +23,4 @@ pub fn names_of_a_world()
     ensures key { (s : Setting) (w : World) (key : ObjectKey) → key_name s w key ≡ key_name (setting_with (names_of s w)) (world_with (names_of s w)) key }
     ensures order { (s : Setting) (w : World) (objects : List Object) → shown_order s w objects ≡ shown_order (setting_with (names_of s w)) (world_with (names_of s w)) objects }
     ensures line { (s : Setting) (w : World) (l : TxLine) (t : Made) → names_of s (with_made w l t) ≡ with_line (names_of s w) l t }
-{
-}
+{}

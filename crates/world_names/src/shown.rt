@@ -81,11 +81,7 @@ impl Directory {
     }
 
     /// Puts an object into its place behind those that are there.
-    fn show(
-        &self,
-        shown: &mut BTreeMap<Place, Object>,
-        object: &Object,
-    ) -> Result<(), OutOfMemory>
+    fn show(&self, shown: &mut BTreeMap<Place, Object>, object: &Object) -> Result<(), OutOfMemory>
         ensures { OnOk result (shown.new.entries ≡ with_shown self.now shown.old.entries object.now) }
     {
         let place = Place {

@@ -124,7 +124,10 @@ fn names_a_created_version(rt: HostRuntime) -> Result<(), Fail> {
         id: ObjectId(created_id(&Digest([9; 32]), 2)),
         version: 12,
     };
-    assert_eq!(rt; directory.key_name(&second)?.as_slice(), b"t.1@12".as_slice());
+    assert_eq!(rt;
+        directory.key_name(&second)?.as_slice(),
+        b"t.1@12".as_slice()
+    );
     assert_eq!(rt; directory.key_name(&third)?.as_slice(), b"?@12".as_slice());
     Ok(())
 }
@@ -149,6 +152,9 @@ fn shows_in_order(rt: HostRuntime) -> Result<(), Fail> {
     let coin = object(genesis_id(0));
     let objects = [unnamed, second, other, coin, first];
     let order = directory.shown_order(objects.as_slice())?;
-    assert_eq!(rt; order.as_slice(), [coin, first, second, unnamed, other].as_slice());
+    assert_eq!(rt;
+        order.as_slice(),
+        [coin, first, second, unnamed, other].as_slice()
+    );
     Ok(())
 }
