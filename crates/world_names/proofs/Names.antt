@@ -1,5 +1,5 @@
 -- Names, by the rows that were found.
-use Rattle.std.proofs.Common.{◌≡◌, ◌∙◌, ap, sym, refl, ℕ, Bool, true, false, List, [], ◌∷◌, ◌++◌, length, Option, Some, None, option_map, map}
+use Rattle.std.proofs.Common.{◌≡◌, ◌∙◌, ap, sym, refl, ℕ, List, [], ◌∷◌, ◌++◌, length, Option, Some, None, option_map, map}
 use Rattle.std.specs.Prelude.{position, find, bytes_eq, decimal}
 use Rattle.std.proofs.lemmas.List.{length-map}
 use Rattle.digest_core.specs.declared.Digest.{Digest}
@@ -10,7 +10,7 @@ use Rattle.chain_types.specs.Equal.{digest_eq, id_eq}
 use Rattle.chain_spec.specs.Words.{first_of, first_some}
 use Rattle.world_spec.specs.Setting.{Name, Thing, User}
 use Rattle.world_spec.specs.World.{Made, Drawn}
-use Rattle.world_spec.specs.Names.{address_name, drawn_name, drawn_rank, made_name, made_named, name_or, object_name, place_or, rank, rank_or, thing_name, tx_name, user_name}
+use Rattle.world_spec.specs.Names.{address_name, drawn_name, drawn_rank, made_name, made_named, name_or, object_name, rank, rank_or, tx_name}
 use Rattle.world_names.specs.declared.rows.ThingRow.{ThingRow}
 use Rattle.world_names.specs.declared.rows.UserRow.{UserRow}
 use Rattle.world_names.specs.declared.rows.MadeTx.{MadeTx}

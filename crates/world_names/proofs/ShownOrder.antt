@@ -10,9 +10,8 @@ use Rattle.chain_types.specs.declared.objects.Object.{Object}
 use Rattle.chain_spec.specs.Words.{Each}
 use Rattle.world_spec.specs.Names.{rank, rank_lt, shown_among, shown_order}
 use Rattle.world_names.specs.Known.{Known, setting_with, world_with}
-use Rattle.world_names.specs.declared.shown.Rank.{Rank}
 use Rattle.world_names.specs.declared.shown.Place.{Place}
-use Rattle.world_names.specs.Shown.{all_shown, place_cmp, place_of, rank_as, with_shown}
+use Rattle.world_names.specs.Shown.{all_shown, place_cmp, rank_as, with_shown}
 
 -- ---- numbers
 

@@ -1,5 +1,5 @@
 -- Names in a world are those of what is known in it.
-use Rattle.std.proofs.Common.{◌≡◌, refl, ℕ, List, Option}
+use Rattle.std.proofs.Common.{◌≡◌, refl, List}
 use Rattle.digest_core.specs.declared.Digest.{Digest}
 use Rattle.chain_types.specs.declared.objects.Address.{Address}
 use Rattle.chain_types.specs.declared.objects.Object.{Object}
@@ -7,9 +7,9 @@ use Rattle.chain_types.specs.declared.objects.ObjectId.{ObjectId}
 use Rattle.chain_types.specs.declared.objects.ObjectKey.{ObjectKey}
 use Rattle.world_spec.specs.Setting.{Name, Setting}
 use Rattle.world_spec.specs.World.{Made, World}
-use Rattle.world_spec.specs.Names.{address_name, key_name, made_named, object_name, rank, shown_order, tx_name}
+use Rattle.world_spec.specs.Names.{address_name, key_name, made_named, object_name, shown_order, tx_name}
 use Rattle.world_spec.specs.Making.{TxLine, digest_named, with_made}
-use Rattle.world_names.specs.Known.{Known, names_of, setting_with, with_line, world_with}
+use Rattle.world_names.specs.Known.{names_of, setting_with, with_line, world_with}
 
 module _ (s : Setting) (w : World) where
   pub made_as_known : (name : Name) → made_named w name ≡ made_named (world_with (names_of s w)) name

@@ -1,5 +1,5 @@
 -- Lists that are collected one after the other.
-use Rattle.std.specs.Prelude.{◌≡◌, ℕ, List, [], ◌∷◌, ◌++◌, length, fold, map, Option, Some, None}
+use Rattle.std.specs.Prelude.{◌≡◌, List, [], ◌∷◌, ◌++◌, length, fold, map, Option, Some, None}
 use Rattle.digest_core.specs.declared.Digest.{Digest}
 use Rattle.chain_spec.specs.Words.{numbers_below}
 use Rattle.world_spec.specs.Names.{drawn_as}

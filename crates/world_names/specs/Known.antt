@@ -1,6 +1,6 @@
 -- What is known under names in a run: the set-up's things, and the users, transactions and drawn ids so far.
 -- The definitions of names look at nothing else of a setting and its world.
-use Rattle.std.specs.Prelude.{ℕ, ◌+◌, false, List, [], ◌∷◌, ◌++◌, length, filter_map, None}
+use Rattle.std.specs.Prelude.{false, List, [], ◌∷◌, ◌++◌, length, filter_map, None}
 use Rattle.member_spec.specs.Checkpoints.{zero_digest}
 use Rattle.schedule_text.specs.declared.words.RefWord.{RefWord}
 use Rattle.schedule_text.specs.declared.words.InputWord.{InputWord}

@@ -1,5 +1,5 @@
 -- Objects in the order in which they are shown, put into their places one after the other.
-use Rattle.std.specs.Prelude.{ℕ, List, [], length, fold}
+use Rattle.std.specs.Prelude.{ℕ, List, length, fold}
 use Rattle.std.specs.BTreeMap.{insert_entry}
 use Rattle.std.specs.Ordering.{ordering_then, nat_cmp}
 use Rattle.std.specs.declared.cmp.Ordering.{Ordering}

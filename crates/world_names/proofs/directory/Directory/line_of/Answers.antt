@@ -1,4 +1,4 @@
-use Rattle.std.proofs.Common.{◌≡◌, ◌∙◌, ap, sym, length, None, Some, subst}
+use Rattle.std.proofs.Common.{◌∙◌, ap, sym, length}
 use Rattle.world_spec.specs.Names.{place_or}
 use Rattle.world_names.proofs.Names.{count_txs, line_found}
 use Rattle.world_names.proofs.directory.Directory.line_of.Goals as goal

@@ -1,4 +1,4 @@
-use Rattle.std.specs.Prelude.{option_copied, IfOk}
+use Rattle.std.specs.Prelude.{option_copied}
 use Rattle.world_names.proofs.Names.{made_found}
 use Rattle.world_names.proofs.directory.Directory.made.Goals as goal
 

@@ -1,5 +1,5 @@
-use Rattle.std.proofs.Common.{◌≡◌, ◌∙◌, ap, sym, option_map, None, Some, subst}
-use Rattle.std.specs.Prelude.{option_copied, IfOk}
+use Rattle.std.proofs.Common.{◌∙◌, sym}
+use Rattle.std.specs.Prelude.{option_copied}
 use Rattle.world_names.proofs.Names.{other_rank, thing_rank}
 use Rattle.world_names.proofs.directory.Directory.rank.Goals as goal
 

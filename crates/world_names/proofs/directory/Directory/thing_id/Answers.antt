@@ -1,5 +1,5 @@
-use Rattle.std.proofs.Common.{◌≡◌, ◌∙◌, ap, sym, option_map, None, Some, subst}
-use Rattle.std.specs.Prelude.{option_copied, IfOk}
+use Rattle.std.proofs.Common.{◌∙◌, ap, sym, option_map}
+use Rattle.std.specs.Prelude.{option_copied}
 use Rattle.world_spec.specs.Setting.{Thing}
 use Rattle.world_names.specs.Rows.{thing_as}
 use Rattle.world_names.proofs.Names.{thing_found}
