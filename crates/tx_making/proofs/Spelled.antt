@@ -1,6 +1,6 @@
 -- Transactions whose lists are short enough can be spelled.
-use Rattle.std.proofs.Common.{◌≡◌, ℕ, suc, zero, ◌+◌, ◌<◌, Bool, true, false, ◌||◌, List, [], ◌∷◌, length, refl, arith}
-use Rattle.std.specs.Prelude.{nat_lt, All, slice_index_or}
+use Rattle.std.proofs.Common.{◌≡◌, ℕ, suc, zero, ◌<◌, Bool, true, false, ◌||◌, List, [], ◌∷◌, length, refl, arith}
+use Rattle.std.specs.Prelude.{All, slice_index_or}
 use Rattle.std.specs.List.{list_any}
 use Rattle.std.proofs.lemmas.Bool.{ltb-false}
 use Rattle.wire_bcs.specs.Items.{length_limit}

@@ -1,6 +1,5 @@
 -- The first and the last of words and bytes.
 use Rattle.std.proofs.Common.{◌≡◌, ◌∙◌, ap, sym, refl, ℕ, suc, ◌-◌, ◌<◌, List, [], ◌∷◌, Option, Some, None, option_map, length, map, take, slice_index_or, slice_set, arith}
-use Rattle.chain_types.specs.declared.transactions.Argument.{Argument}
 use Rattle.chain_types.specs.declared.transactions.Argument.TheVariants as argument
 use Rattle.chain_types.specs.declared.objects.ObjectId.{ObjectId}
 use Rattle.schedule_text.specs.declared.words.ArgWord.{ArgWord}

@@ -1,8 +1,6 @@
 -- The transaction of a line in a world is that by what is known and held in it.
-use Rattle.std.proofs.Common.{◌≡◌, ◌∙◌, ap, refl, List, Option, map, Bool}
-use Rattle.digest_core.specs.declared.Digest.{Digest}
+use Rattle.std.proofs.Common.{◌≡◌, ap, refl, map}
 use Rattle.digest_core.specs.Tagged.{address_of_name}
-use Rattle.chain_types.specs.declared.objects.ObjectKey.{ObjectKey}
 use Rattle.chain_types.specs.declared.transactions.Input.{Input}
 use Rattle.chain_types.specs.declared.transactions.Transaction.{Transaction}
 use Rattle.schedule_text.specs.declared.words.InputWord.{InputWord}

@@ -1,9 +1,8 @@
 -- Transactions with a list that cannot be spelled: BCS spells no length above 2147483647.
-use Rattle.std.specs.Prelude.{ℕ, Bool, true, false, ◌||◌, nat_lt, List, length}
+use Rattle.std.specs.Prelude.{Bool, false, ◌||◌, nat_lt, List, length}
 use Rattle.std.specs.List.{list_any}
 use Rattle.chain_types.specs.declared.transactions.Input.{Input}
 use Rattle.chain_types.specs.declared.transactions.Input.TheVariants as inputs
-use Rattle.chain_types.specs.declared.transactions.Argument.{Argument}
 use Rattle.chain_types.specs.declared.transactions.Command.{Command}
 use Rattle.chain_types.specs.declared.transactions.Command.TheVariants as commands
 use Rattle.chain_types.specs.declared.transactions.Transaction.{Transaction}

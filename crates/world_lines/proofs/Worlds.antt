@@ -27,7 +27,7 @@ use Rattle.report_text.specs.declared.lines.ShowText.TheVariants as show_text
 use Rattle.world_spec.specs.Setting.{Setting}
 use Rattle.world_spec.specs.World.{World}
 use Rattle.world_spec.specs.Names.{object_name, shown_order}
-use Rattle.world_spec.specs.Report.{checkpoint_lines, effects_line, hold_answered, left_line, left_line_of, object_line, run_answered, shown, shown_content, shown_owner, vote_answered, voted_text}
+use Rattle.world_spec.specs.Report.{checkpoint_lines, effects_line, hold_answered, left_line_of, object_line, run_answered, shown, shown_content, shown_owner, vote_answered, voted_text}
 use Rattle.world_names.specs.Known.{names_of, setting_with, world_with}
 
 module _ (s : Setting) (w : World) where
