@@ -1,0 +1,4 @@
+pub mod Making
+pub mod Short
+pub mod Answers
+pub mod Worlds

@@ -1,0 +1,11 @@
+-- What is held in a world.
+use Rattle.std.specs.Prelude.{Option}
+use Rattle.digest_core.specs.declared.Digest.{Digest}
+use Rattle.chain_types.specs.declared.objects.ObjectKey.{ObjectKey}
+use Rattle.world_spec.specs.Setting.{Setting}
+use Rattle.world_spec.specs.World.{World, says_first}
+use Rattle.world_spec.specs.Making.{held_digest}
+
+-- the digest that the lowest-numbered honest member has that is up and holds the version
+abbrev pub held_in : Setting → World → ObjectKey → Option Digest
+held_in s w key = says_first s (held_digest key) w.seats

@@ -1,0 +1,65 @@
+//! What collecting votes gives.
+
+ghost use Rattle.std.specs.Prelude.{◌≡◌, IfOk, map};
+ghost use Rattle.world_spec.specs.Report.{cert_collected};
+ghost use Rattle.world_lines.specs.Answers.{collected_as};
+
+use report_text::CertText;
+use std::alloc::Global;
+use wire_bcs::{OutOfMemory, Seq};
+
+/// What collecting the statements of members gives, in the order in which the cases are tried.
+#[derive(Clone, Copy, Debug, PartialEq, Eq)]
+pub enum Collected {
+    /// This member, the first such, made no statement.
+    Lacks(u32),
+    /// Their stake is no quorum.
+    Short { weight: u64, total: u64 },
+    /// The first two that differ.
+    Differ { a: u32, b: u32 },
+    /// All agree.
+    Whole,
+}
+
+/// The numbers of members, as a report has them.
+fn number_vec(alloc: Global, members: &[u32]) -> Result<Vec<u64>, OutOfMemory>
+    ensures { IfOk result (λ numbers. numbers.items ≡ map (λ m. m) members.now) }
+{
+    Ok(members.iter().map(|member| *member as u64).collect(alloc)?)
+}
+
+/// The numbers of members, as a report has them.
+#[tactic(auto, using(world_names::proofs::Pushed::same_items))]
+fn numbers(alloc: Global, members: &[u32]) -> Result<Seq<u64>, OutOfMemory>
+    ensures { IfOk result (λ numbers. numbers ≡ members.now) }
+{
+    let numbers = number_vec(alloc, members)?;
+    Ok(Seq::from_vec(numbers))
+}
+
+/// The ending for what collecting the votes of these members gave.
+pub fn cert_text(
+    alloc: Global,
+    members: &[u32],
+    collected: &Collected,
+) -> Result<CertText, OutOfMemory>
+    ensures { IfOk result (λ text. text ≡ cert_collected members.now (collected_as collected.now)) }
+{
+    match collected {
+        Collected::Lacks(member) => Ok(CertText::NoVote {
+            member: *member as u64,
+        }),
+        Collected::Short { weight, total } => Ok(CertText::Short {
+            weight: *weight,
+            total: *total,
+        }),
+        Collected::Differ { a, b } => Ok(CertText::Differ {
+            a: *a as u64,
+            b: *b as u64,
+        }),
+        Collected::Whole => {
+            let members = numbers(alloc, members)?;
+            Ok(CertText::Formed { members })
+        }
+    }
+}

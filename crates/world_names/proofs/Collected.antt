@@ -1,0 +1,45 @@
+-- Lists that are collected one after the other.
+use Rattle.std.proofs.Common.{◌≡◌, ◌∙◌, ap, sym, ℕ, suc, ◌+◌, List, [], ◌∷◌, ◌++◌, length, Option, Some, None, map, append_assoc, append-nil, arith}
+use Rattle.std.specs.Prelude.{filter_map}
+use Rattle.std.specs.List.{cons_option}
+use Rattle.std.proofs.lemmas.List.{map-append, length-append}
+use Rattle.digest_core.specs.declared.Digest.{Digest}
+use Rattle.chain_spec.specs.Words.{numbers_below}
+use Rattle.world_spec.specs.World.{Drawn}
+use Rattle.world_spec.specs.Names.{drawn_as}
+use Rattle.world_spec.specs.Making.{drawn_list}
+use Rattle.world_names.specs.declared.rows.DrawnRow.{DrawnRow}
+use Rattle.world_names.specs.Rows.{drawn_of}
+use Rattle.world_names.specs.Collected.{AreDrawn, all_some, with_some}
+
+pub map_push : {A B : Type 0} → (f : A → B) (xs : List A) (x : A) → map f (xs ++ x ∷ []) ≡ map f xs ++ f x ∷ []
+map_push f xs x = map-append f xs (x ∷ [])
+
+-- what the words say, behind what is there
+pub all_added : {A W : Type 0} → (says : W → Option A) (xs : List A) (words : List W) → all_some says xs words ≡ xs ++ filter_map says words
+all_added says xs [] = sym (append-nil xs)
+all_added {A} says xs (w ∷ ws) = by (says w) (λ ys. all_added says ys ws)
+  where
+    by : (o : Option A) → ((ys : List A) → all_some says ys ws ≡ ys ++ filter_map says ws) → all_some says (with_some xs o) ws ≡ xs ++ cons_option o (filter_map says ws)
+    by None more = more xs
+    by (Some x) more = more (xs ++ x ∷ []) ∙ append_assoc xs (x ∷ []) (filter_map says ws)
+
+-- the same behind one that may be there
+pub words_added : {W : Type 0} → (says : W → Option Drawn) (o : Option Drawn) (words : List W) → all_some says (with_some [] o) words ≡ drawn_list o ++ filter_map says words
+words_added says None words = all_added says [] words
+words_added says (Some d) words = all_added says (d ∷ []) words
+
+pub one_longer : {A : Type 0} → (xs : List A) (x : A) → length (xs ++ x ∷ []) ≡ length xs + 1
+one_longer xs x = length-append xs (x ∷ [])
+
+-- one more id
+pub one_drawn : (tx : Digest) (rows : List DrawnRow) (row : DrawnRow) → AreDrawn tx rows → drawn_of row ≡ drawn_as tx (length rows) → AreDrawn tx (rows ++ row ∷ [])
+one_drawn tx rows row drawn is =
+    map_push drawn_of rows row
+    ∙ ap (λ xs. xs ++ drawn_of row ∷ []) drawn
+    ∙ ap (λ x. map (drawn_as tx) (numbers_below (length rows)) ++ x ∷ []) is
+    ∙ sym (map_push (drawn_as tx) (numbers_below (length rows)) (length rows))
+    ∙ ap (λ n. map (drawn_as tx) (numbers_below n)) (sym (one_longer rows row ∙ later (length rows)))
+  where
+    later : (n : ℕ) → n + 1 ≡ suc n
+    later n = omega arith

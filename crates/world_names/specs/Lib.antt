@@ -1,0 +1,7 @@
+pub mod Known
+pub mod Rows
+pub mod SetUp
+pub mod Lines
+pub mod Collected
+pub mod Shown
+pub mod Pushed

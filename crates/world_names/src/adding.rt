@@ -1,0 +1,206 @@
+//! The names that a line gives.
+
+ghost use Rattle.std.specs.Prelude.{◌≡◌, ◌+◌, ◌∷◌, ◌++◌, [], IfOk, OnErr, OnOk, length, map, option_map};
+ghost use Rattle.world_spec.specs.Setting.{user_of};
+ghost use Rattle.world_spec.specs.Names.{draws, draws_of, drawn_by};
+ghost use Rattle.world_spec.specs.Making.{drawn_input, drawn_word, user_word};
+ghost use Rattle.world_names.specs.Known.{drawn_words, users_in, with_line, world_with};
+ghost use Rattle.world_names.specs.Rows.{drawn_of, made_as, user_as};
+ghost use Rattle.world_names.specs.Lines.{line_of};
+ghost use Rattle.world_names.specs.Collected.{AreDrawn, all_some, with_some};
+
+use crate::directory::Directory;
+use crate::line::TxLine;
+use crate::rows::{DrawnRow, MadeTx, UserRow};
+use chain_types::Command;
+use digest_core::{Digest, address_of};
+use schedule_text::{InputWord, ObjWord};
+use std::alloc::Global;
+use wire_bcs::{OutOfMemory, Seq};
+
+/// A user of this name.
+pub(crate) fn user_row(alloc: Global, name: &[u8]) -> Result<UserRow, OutOfMemory>
+    ensures { IfOk result (λ row. user_as row ≡ user_of name.now) }
+{
+    Ok(UserRow {
+        name: Seq::from_slice(alloc, name)?,
+        address: address_of(name),
+    })
+}
+
+/// Adds the user that a word names, if it names one.
+#[tactic(auto, using(crate::proofs::Collected::map_push))]
+fn add_user_word(
+    alloc: Global,
+    users: &mut Vec<UserRow>,
+    word: &InputWord,
+) -> Result<(), OutOfMemory>
+    ensures { OnOk result (map user_as users.new.items ≡ with_some (map user_as users.old.items) (user_word word.now)) }
+{
+    match word {
+        InputWord::Address(name) => {
+            let row = user_row(alloc, name.as_slice())?;
+            users.push(row)?;
+            Ok(())
+        }
+        InputWord::Number(_)
+        | InputWord::Bytes(_)
+        | InputWord::Owned(_)
+        | InputWord::Immutable(_)
+        | InputWord::Shared { .. } => Ok(()),
+    }
+}
+
+/// The users that the words of a line name: its sender and the addresses.
+#[tactic(auto, using(crate::proofs::Collected::all_added))]
+fn users_of(alloc: Global, sender: &[u8], words: &[InputWord]) -> Result<Vec<UserRow>, OutOfMemory>
+    ensures { IfOk result (λ users. map user_as users.items ≡ users_in sender.now words.now) }
+{
+    let mut users = Vec::new(alloc);
+    users.push(user_row(alloc, sender)?)?;
+    for word in words {
+        add_user_word(alloc, &mut users, word)?;
+    }
+    Ok(users)
+}
+
+/// Adds a row, if there is one.
+#[tactic(auto, using(crate::proofs::Collected::map_push))]
+fn add_drawn(rows: &mut Vec<DrawnRow>, row: Option<DrawnRow>) -> Result<(), OutOfMemory>
+    ensures { OnOk result (map drawn_of rows.new.items ≡ with_some (map drawn_of rows.old.items) (option_map drawn_of row)) }
+{
+    match row {
+        Some(row) => {
+            rows.push(row)?;
+            Ok(())
+        }
+        None => Ok(()),
+    }
+}
+
+/// How many ids a command draws at most. Takes no memory.
+fn draws_of(command: &Command) -> usize
+    ensures { result ≡ draws_of command.now }
+{
+    match command {
+        Command::Call { .. } => 2,
+        Command::Split { amounts, .. } => amounts.as_slice().len(),
+        Command::Transfer { .. } | Command::Merge { .. } | Command::MakeVec { .. } => 0,
+    }
+}
+
+/// Adds the id of the next creation number.
+#[tactic(auto, using(crate::proofs::Collected::one_drawn, crate::proofs::Collected::one_longer))]
+fn add_next(rows: &mut Vec<DrawnRow>, tx: &Digest) -> Result<(), OutOfMemory>
+    requires { AreDrawn tx.now rows.old.items }
+    ensures drawn { OnOk result (AreDrawn tx.now rows.new.items) }
+    ensures count { OnOk result (length rows.new.items ≡ length rows.old.items + 1) }
+{
+    let number = rows.as_slice().len() as u64;
+    rows.push(DrawnRow::new(tx, number))?;
+    Ok(())
+}
+
+/// Adds the ids of so many creation numbers more.
+fn add_numbers(rows: &mut Vec<DrawnRow>, tx: &Digest, count: usize) -> Result<(), OutOfMemory>
+    requires { AreDrawn tx.now rows.old.items }
+    ensures drawn { OnOk result (AreDrawn tx.now rows.new.items) }
+    ensures count { OnOk result (length rows.new.items ≡ length rows.old.items + count) }
+{
+    for _number in 0..count {
+        add_next(rows, tx)?;
+    }
+    Ok(())
+}
+
+/// The ids that the commands of a transaction draw at most.
+fn drawn_by(alloc: Global, tx: &Digest, commands: &[Command]) -> Result<Vec<DrawnRow>, OutOfMemory>
+    ensures drawn { IfOk result (λ rows. AreDrawn tx.now rows.items) }
+    ensures count { IfOk result (λ rows. length rows.items ≡ draws commands.now) }
+{
+    let mut rows = Vec::new(alloc);
+    for command in commands {
+        add_numbers(&mut rows, tx, draws_of(command))?;
+    }
+    Ok(rows)
+}
+
+impl Directory {
+    /// The id that a word draws, where it names a created object. Takes no memory.
+    fn drawn_word(&self, word: &ObjWord) -> Option<DrawnRow>
+        ensures { option_map drawn_of result ≡ drawn_word (world_with self.now) word.now }
+    {
+        match word {
+            ObjWord::Created { tx, number } => {
+                let digest = self.digest_named(tx.as_slice());
+                Some(DrawnRow::new(&digest, *number))
+            }
+            ObjWord::Setup(_) => None,
+        }
+    }
+
+    /// The id that an input's word draws, where it names a created object. Takes no memory.
+    fn drawn_input(&self, word: &InputWord) -> Option<DrawnRow>
+        ensures { option_map drawn_of result ≡ drawn_input (world_with self.now) word.now }
+    {
+        match word {
+            InputWord::Owned(reference) => self.drawn_word(&reference.object),
+            InputWord::Immutable(reference) => self.drawn_word(&reference.object),
+            InputWord::Shared { object, .. } => self.drawn_word(object),
+            InputWord::Number(_) | InputWord::Address(_) | InputWord::Bytes(_) => None,
+        }
+    }
+
+    /// The ids that the words of a line draw: of its gas coin and its inputs.
+    #[tactic(auto, using(crate::proofs::Collected::words_added))]
+    fn drawn_words(&self, line: &TxLine<'_>) -> Result<Vec<DrawnRow>, OutOfMemory>
+        ensures { IfOk result (λ rows. map drawn_of rows.items ≡ drawn_words self.now (line_of line.now).gas (line_of line.now).inputs) }
+    {
+        let mut rows = Vec::new(self.alloc);
+        add_drawn(&mut rows, self.drawn_word(&line.gas.object))?;
+        for word in line.inputs {
+            add_drawn(&mut rows, self.drawn_input(word))?;
+        }
+        Ok(rows)
+    }
+
+    /// All ids that a line names or draws.
+    fn drawn_of(&self, line: &TxLine<'_>, made: &MadeTx) -> Result<Vec<DrawnRow>, OutOfMemory>
+        ensures { IfOk result (λ rows. map drawn_of rows.items ≡ drawn_words self.now (line_of line.now).gas (line_of line.now).inputs ++ drawn_by made.now.digest made.now.signed.tx) }
+    {
+        let mut rows = self.drawn_words(line)?;
+        let commands = made.signed.tx.commands.as_slice();
+        let mut more = drawn_by(self.alloc, &made.digest, commands)?;
+        rows.append(&mut more)?;
+        Ok(rows)
+    }
+
+    /// Adds a transaction, with the users and ids of its line. A refusal changes nothing.
+    fn add_rows(
+        &mut self,
+        made: MadeTx,
+        users: Vec<UserRow>,
+        drawn: Vec<DrawnRow>,
+    ) -> Result<(), OutOfMemory>
+        ensures ok { OnOk result (self.new ≡ record { things = self.old.things; users = self.old.users ++ map user_as users.items; txs = self.old.txs ++ made_as made ∷ []; drawn = self.old.drawn ++ map drawn_of drawn.items }) }
+        ensures err { OnErr result (self.new ≡ self.old) }
+    {
+        self.users.make_room(users.as_slice().len())?;
+        self.drawn.make_room(drawn.as_slice().len())?;
+        self.txs.add(made)?;
+        self.users.add_all(users);
+        self.drawn.add_all(drawn);
+        Ok(())
+    }
+
+    /// Adds the transaction that a line makes, and the names of the line: its sender and addresses, the
+    /// created objects that it names, and those that its commands can create. A refusal changes nothing.
+    pub fn add_made(&mut self, line: &TxLine<'_>, made: MadeTx) -> Result<(), OutOfMemory>
+        ensures ok { OnOk result (self.new ≡ with_line self.old (line_of line.now) (made_as made)) }
+        ensures err { OnErr result (self.new ≡ self.old) }
+    {
+        let users = users_of(self.alloc, line.sender, line.inputs)?;
+        let drawn = self.drawn_of(line, &made)?;
+        self.add_rows(made, users, drawn)
+    }
+}
