@@ -1,11 +1,8 @@
 -- The state behind one more record of each kind. Source: this profile.
-use Rattle.std.specs.Prelude.{ℕ, ◌+◌, true, List, [], ◌∷◌, ◌++◌, Option}
+use Rattle.std.specs.Prelude.{ℕ, ◌+◌, List, [], ◌∷◌, ◌++◌, Option}
 use Rattle.digest_core.specs.declared.Digest.{Digest}
 use Rattle.chain_types.specs.declared.transactions.Transaction.{Transaction}
 use Rattle.chain_messages.specs.declared.messages.Certificate.{Certificate}
-use Rattle.effects_core.specs.declared.effects.Effects.{Effects}
-use Rattle.effects_core.specs.Effects.{digest_of_effects}
-use Rattle.journal_core.specs.declared.records.RanItem.{RanItem}
 use Rattle.member_spec.specs.Sequence.{held_as}
 use Rattle.member_spec.specs.Member.{Member, cast_of}
 
@@ -16,15 +13,3 @@ voted m t origins = record m { votes = m.votes ++ cast_of t origins ∷ []; reco
 -- a certificate more
 abbrev pub holding : Member → Certificate → Member
 holding m c = record m { held = m.held ++ held_as c ∷ []; records = m.records + 1 }
-
--- a run's record is counted
-abbrev pub counted : Member → Member
-counted m = record m { records = m.records + 1 }
-
--- a run that executed these effects, as its record lists them
-abbrev pub item_of : Effects → RanItem
-item_of e = record { tx = e.tx; effects = digest_of_effects e }
-
--- the member closed its epoch
-abbrev pub closing : Member → Member
-closing m = record m { closed = true; records = m.records + 1 }

@@ -1,6 +1,6 @@
 //! What a member answers to a certificate.
 
-ghost use Rattle.std.specs.Prelude.{◌≡◌, None, false, is_some, IfOk, IsErrOf};
+ghost use Rattle.std.specs.Prelude.{◌≡◌, None, false, is_some, nat_le, IfOk, IsErrOf};
 ghost use Rattle.chain_types.specs.Transactions.{transaction};
 ghost use Rattle.chain_types.specs.Digests.{transaction_digest};
 ghost use Rattle.chain_spec.specs.Words.{unless_refused};
@@ -8,7 +8,7 @@ ghost use Rattle.member_spec.specs.Checkpoints.{held_of};
 ghost use Rattle.member_types.specs.declared.refusals.HoldRefusal.TheVariants as no_hold;
 ghost use Rattle.chain_messages.specs.Messages.{certificate};
 ghost use Rattle.member_spec.specs.Member.{fork_of};
-ghost use Rattle.member_spec.specs.Calls.{due, hold_answer, hold_certificate, hold_stopped, holds, new_hold};
+ghost use Rattle.member_spec.specs.Calls.{due, hold_answer, hold_certificate, hold_stopped, holds, new_hold, record_limit};
 ghost use Rattle.member_core.specs.Answers.{HoldDue, HoldsAs, IsHeldAs, holding_in, rules_for};
 
 use crate::state::State;
@@ -38,7 +38,9 @@ pub enum Holding {
 impl State {
     /// Whether a certificate may be handed in.
     pub(crate) fn check_hold(&self) -> Result<(), HoldRefusal>
-        ensures { result ≡ unless_refused (hold_stopped self.now) tt }
+        ensures value { result ≡ unless_refused (hold_stopped self.now) tt }
+        ensures room { IfOk result (λ _. nat_le record_limit self.now.records ≡ false) }
+        ensures never { IsErrOf result no_hold.KeepFault → ⊥ }
     {
         if let Some((first, second)) = self.fork() {
             return Err(HoldRefusal::Halted { first, second });
@@ -61,6 +63,7 @@ impl State {
         requires new { is_some (held_of self.now.held digest) ≡ false }
         ensures answer { HoldsAs (new_hold (rules_for committee.now (S.accepts sealer.now)) self.now cert.now) result }
         ensures held { IfOk result (λ h. IsHeldAs self.now cert.now h) }
+        ensures never { IsErrOf result no_hold.KeepFault → ⊥ }
     {
         if self.is_closed() {
             return Err(HoldRefusal::Closed);
@@ -89,6 +92,7 @@ impl State {
         requires { transaction.short cert.now.tx }
         ensures answer { HoldsAs (hold_certificate (rules_for committee.now (S.accepts sealer.now)) self.now cert.now) result }
         ensures held { IfOk result (λ h. IsHeldAs self.now cert.now h) }
+        ensures never { IsErrOf result no_hold.KeepFault → ⊥ }
     {
         let want = self.epoch();
         if cert.tx.epoch != want {
@@ -119,6 +123,8 @@ impl State {
         ensures due { HoldDue (due (rules_for committee.now (S.accepts sealer.now)) self.now (holds bytes.now)) result }
         ensures held { IfOk result (λ h. IsHeldAs self.now h.0 h.1) }
         ensures short { IfOk result (λ h. certificate.short h.0) }
+        ensures room { IfOk result (λ _. nat_le record_limit self.now.records ≡ false) }
+        ensures never { IsErrOf result no_hold.KeepFault → ⊥ }
         ensures able { IsErrOf result no_hold.OutOfMemory → fork_of self.now ≡ None }
     {
         self.check_hold()?;

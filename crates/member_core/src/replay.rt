@@ -6,7 +6,10 @@ ghost use Rattle.chain_types.specs.Transactions.{transaction};
 ghost use Rattle.chain_messages.specs.Messages.{certificate};
 ghost use Rattle.chain_spec.specs.Tests.{origins_eq};
 ghost use Rattle.journal_core.specs.declared.records.Record.TheVariants as record_as;
+ghost use Rattle.journal_core.specs.Records as journals;
+ghost use Rattle.member_spec.specs.Member.{after};
 ghost use Rattle.member_spec.specs.Replay.{is_allowed};
+ghost use Rattle.member_core.specs.Replay.{is_taken};
 ghost use Rattle.member_core.specs.Answers.{OnTaken, rules_for, sealed_as};
 ghost use Rattle.member_core.specs.Steps.{holding, voted};
 
@@ -15,6 +18,7 @@ use crate::state::State;
 use chain_messages::Certificate;
 use chain_types::Transaction;
 use digest_core::Digest;
+use journal_core::Record;
 use member_types::{Held, HoldRefusal, VoteRefusal};
 use quorum_core::{Committee, Sealer};
 use wire_bcs::{OutOfMemory, Seq};
@@ -90,6 +94,29 @@ impl State {
                 | HoldRefusal::KeepFault
                 | HoldRefusal::Fork { .. },
             ) => Ok(false),
+        }
+    }
+
+    /// Takes a record that was read back, where a request would append it in this state; else false. Where false
+    /// is answered or memory is refused the state is not to be used.
+    #[tactic(auto, unfolding(crate::specs::Replay::is_taken, member_spec::specs::Replay::is_allowed, member_spec::specs::Member::after, journal_core::specs::Records::journal_record))]
+    pub fn take<S: Sealer>(
+        &mut self,
+        committee: &Committee,
+        sealer: &S,
+        kept: Record,
+    ) -> Result<bool, OutOfMemory>
+        requires { journals.journal_record.short kept }
+        ensures taken { IfOk result (λ taken. taken ≡ is_taken (rules_for committee.now (S.accepts sealer.now)) self.old kept) }
+        ensures state { OnTaken result (self.new ≡ after (rules_for committee.now (S.accepts sealer.now)) self.old kept) }
+    {
+        match kept {
+            Record::Vote { tx, origins } => self.take_vote_back(sealer, &tx, origins),
+            Record::Hold(cert) => self.take_hold_back(committee, sealer, cert),
+            Record::See(_bytes) => Ok(false),
+            Record::Ran(_txs) => Ok(false),
+            Record::Ran2(_items) => Ok(false),
+            Record::Close | Record::Turn => Ok(false),
         }
     }
 }

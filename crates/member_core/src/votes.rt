@@ -1,13 +1,13 @@
 //! What a member answers to the request for a vote.
 
-ghost use Rattle.std.specs.Prelude.{◌≡◌, ◌≤◌, None, IfOk, IsErrOf, length};
+ghost use Rattle.std.specs.Prelude.{◌≡◌, None, IfOk, IsErrOf, false, nat_le};
 ghost use Rattle.chain_types.specs.Transactions.{transaction};
 ghost use Rattle.chain_types.specs.Digests.{transaction_digest};
 ghost use Rattle.chain_spec.specs.Words.{unless_refused};
 ghost use Rattle.chain_spec.specs.Certificates.{accepts_sender};
 ghost use Rattle.member_types.specs.declared.refusals.VoteRefusal.TheVariants as no_vote;
 ghost use Rattle.member_spec.specs.Member.{fork_of, vote_for};
-ghost use Rattle.member_spec.specs.Calls.{decided_as, due, new_vote, vote_answer, vote_on, vote_stopped, votes};
+ghost use Rattle.member_spec.specs.Calls.{decided_as, due, new_vote, record_limit, vote_answer, vote_on, vote_stopped, votes};
 ghost use Rattle.member_core.specs.Answers.{IsFree, Repeats, VoteDue, VotesAs, decision_in, sealed_as, unsealed_where};
 
 use crate::state::State;
@@ -29,7 +29,8 @@ pub struct Decision {
 
 /// The vote rule's refusal, as an answer to the request.
 fn decided_as(refusal: DecideRefusal) -> VoteRefusal
-    ensures { result ≡ decided_as refusal }
+    ensures value { result ≡ decided_as refusal }
+    ensures never { result ≡ no_vote.KeepFault → ⊥ }
 {
     match refusal {
         DecideRefusal::Absent(key) => VoteRefusal::Absent(key),
@@ -45,7 +46,8 @@ fn decided_as(refusal: DecideRefusal) -> VoteRefusal
 
 /// The vote that was given before.
 fn again(digest: Digest, origins: &Seq<Option<Digest>>) -> Result<Decision, VoteRefusal>
-    ensures { Repeats digest origins.now result }
+    ensures value { Repeats digest origins.now result }
+    ensures never { IsErrOf result no_vote.KeepFault → ⊥ }
 {
     let Ok(origins) = origins.copy() else {
         return Err(VoteRefusal::OutOfMemory);
@@ -60,7 +62,9 @@ fn again(digest: Digest, origins: &Seq<Option<Digest>>) -> Result<Decision, Vote
 impl State {
     /// Whether a vote may be asked for.
     pub(crate) fn check_vote(&self) -> Result<(), VoteRefusal>
-        ensures { result ≡ unless_refused (vote_stopped self.now) tt }
+        ensures value { result ≡ unless_refused (vote_stopped self.now) tt }
+        ensures room { IfOk result (λ _. nat_le record_limit self.now.records ≡ false) }
+        ensures never { IsErrOf result no_vote.KeepFault → ⊥ }
     {
         if let Some((first, second)) = self.fork() {
             return Err(VoteRefusal::Halted { first, second });
@@ -92,6 +96,7 @@ impl State {
         requires new { vote_for self.now digest ≡ None }
         ensures answer { VotesAs self.now.epoch (new_vote self.now tx.now (unsealed_where sealed)) result }
         ensures free { IfOk result (λ d. IsFree self.now tx.now d) }
+        ensures never { IsErrOf result no_vote.KeepFault → ⊥ }
     {
         if self.is_closed() {
             return Err(VoteRefusal::Closed);
@@ -120,6 +125,7 @@ impl State {
         requires { transaction.short tx.now }
         ensures answer { VotesAs self.now.epoch (vote_on self.now tx.now (unsealed_where sealed)) result }
         ensures free { IfOk result (λ d. IsFree self.now tx.now d) }
+        ensures never { IsErrOf result no_vote.KeepFault → ⊥ }
     {
         let want = self.epoch();
         if tx.epoch != want {
@@ -149,6 +155,8 @@ impl State {
         ensures due { VoteDue (due (sealed_as (S.accepts sealer.now)) self.now (votes bytes.now)) result }
         ensures free { IfOk result (λ v. IsFree self.now v.0 v.1) }
         ensures short { IfOk result (λ v. transaction.short v.0) }
+        ensures room { IfOk result (λ _. nat_le record_limit self.now.records ≡ false) }
+        ensures never { IsErrOf result no_vote.KeepFault → ⊥ }
         ensures able { IsErrOf result no_vote.OutOfMemory → fork_of self.now ≡ None }
     {
         self.check_vote()?;

@@ -1,11 +1,52 @@
--- A fresh vote may be kept.
-use Rattle.std.proofs.Common.{◌≡◌, true}
+-- What may be kept, and the state behind it.
+use Rattle.std.proofs.Common.{◌≡◌, ◌≤◌, ℕ, true, false, List, Option, Some, None, length, refl, ap, sym, ◌∙◌}
+use Rattle.std.specs.Prelude.{Bool}
+use Rattle.digest_core.specs.declared.Digest.{Digest}
 use Rattle.chain_types.specs.declared.transactions.Transaction.{Transaction}
+use Rattle.chain_types.specs.Digests.{transaction_digest}
 use Rattle.chain_types.specs.Transactions.{transaction}
-use Rattle.member_spec.specs.Member.{Member}
-use Rattle.member_core.specs.Answers.{IsFree}
+use Rattle.chain_messages.specs.declared.messages.Certificate.{Certificate}
+use Rattle.chain_messages.specs.declared.messages.Statement.TheVariants as statements
+use Rattle.chain_messages.specs.Messages.{certificate, statement}
+use Rattle.chain_spec.specs.Certificates.{Rules}
+use Rattle.journal_core.specs.declared.records.Record.TheVariants as record_as
+use Rattle.journal_core.specs.Records.{journal_record}
+use Rattle.cert_rules.proofs.Whole.{vote_short}
+use Rattle.member_spec.specs.Member.{Member, after}
+use Rattle.member_spec.specs.Calls.{Call, after_due, called, due}
+use Rattle.member_core.specs.Answers.{IsFree, MayHold}
+use Rattle.member_core.specs.Steps.{holding, voted}
 use Rattle.member_core.specs.declared.votes.Decision.{Decision}
-use Rattle.validator_core.specs.Taking.{MayCast}
+use Rattle.validator_core.specs.Taking.{MayCast, MayTake}
+
+-- ---- what may be kept
 
 pub vote_may : (m : Member) (t : Transaction) (d : Decision) → IsFree m t d → d.fresh ≡ true → transaction.short t → MayCast m t d.digest d.origins
 vote_may m t d free fresh short = record { is = free.digest; new = free.new fresh; few = free.few; free = free.free fresh; spelled = short }
+
+pub hold_may : (m : Member) (c : Certificate) (digest : Digest) → MayHold m c digest → certificate.short c → MayTake m digest (record_as.Hold c)
+hold_may m c digest may short = (may, short)
+
+pub statement_short : (epoch : ℕ) (tx : Digest) (origins : List (Option Digest)) → length origins ≤ 257 → statement.short (statements.Vote epoch tx origins)
+statement_short epoch tx origins few = vote_short _ _ _ few
+
+pub kept_vote_short : (t : Transaction) (origins : List (Option Digest)) → transaction.short t → length origins ≤ 257 → journal_record.short (record_as.Vote t origins)
+unfolding journal_record statement
+kept_vote_short t origins short few = (short, (vote_short 0 (transaction_digest t) origins few).1.1)
+
+pub hold_short : (c : Certificate) → certificate.short c → journal_record.short (record_as.Hold c)
+unfolding journal_record
+hold_short c short = short
+
+-- ---- the state behind a call
+
+pub idle_called : (r : Rules) (m : Member) (call : Call) → due r m call ≡ None → m ≡ called r m call
+idle_called r m call none = ap (after_due r m) (sym none)
+
+pub vote_called : (r : Rules) (m next : Member) (call : Call) (t : Transaction) (origins : List (Option Digest)) → due r m call ≡ Some (record_as.Vote t origins) → next ≡ voted m t origins → next ≡ called r m call
+unfolding after
+vote_called r m next call t origins this step = step ∙ ap (after_due r m) (sym this)
+
+pub hold_called : (r : Rules) (m next : Member) (call : Call) (c : Certificate) → due r m call ≡ Some (record_as.Hold c) → next ≡ holding m c → next ≡ called r m call
+unfolding after
+hold_called r m next call c this step = step ∙ ap (after_due r m) (sym this)

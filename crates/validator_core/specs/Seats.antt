@@ -1,5 +1,5 @@
 -- A member at its seat: its state, and whether it is up. What a call does to it and to its records.
-use Rattle.std.specs.Prelude.{◌≡◌, ◌⊎◌, ℕ, Bool, false, List, Option, Some, None, Result, Ok, Err, if◌then◌else◌}
+use Rattle.std.specs.Prelude.{◌≡◌, ◌⊎◌, ℕ, Bool, true, false, List, Option, Some, None, Result, Ok, Err, if◌then◌else◌}
 use Rattle.digest_core.specs.declared.Digest.{Digest}
 use Rattle.quorum_core.specs.declared.signer.Signer.{Signer}
 use Rattle.journal_core.specs.declared.records.Record.{Record}
@@ -35,6 +35,10 @@ due_at r seat call = if seat.up then due r seat.state call else None
 pub data Ended : Type 0 where
   answered : Ended
   fell : Ended
+
+abbrev pub has_fallen : Ended → Bool
+has_fallen answered = false
+has_fallen fell = true
 
 -- a member that fell
 pub record Fell (old new : Seat) : Type 0 where

@@ -15,7 +15,7 @@ ghost use Rattle.journal_core.specs.Records as journals;
 ghost use Rattle.validator_core.specs.Taking.{MayTake, taken};
 ghost use Rattle.validator_core.specs.declared.keeping.Unkept.TheVariants as unkept;
 ghost use Rattle.validator_core.specs.Calls.{Holds, IsSealedBy, Votes, hold_ended, vote_ended};
-ghost use Rattle.validator_core.specs.Seats.{Appended, Becomes, Journaled};
+ghost use Rattle.validator_core.specs.Seats.{Appended, Becomes, Journaled, has_fallen};
 
 use crate::keeping::{Unkept, append};
 use chain_messages::{Certificate, Sealed, Statement, encode_statement};
@@ -30,6 +30,7 @@ use std::alloc::Global;
 use wire_bcs::{Duplicate, OutOfMemory};
 
 /// The sealed statement of a vote.
+#[tactic(auto, using(crate::proofs::Casting::statement_short))]
 fn seal_vote<S: Sealer>(
     alloc: Global,
     sealer: &S,
@@ -100,7 +101,7 @@ fn keep<D: Keeper>(
 }
 
 /// Appends the record of a fresh vote, and takes it.
-#[tactic(auto, using(crate::proofs::Casting::vote_may), unfolding(journal_core::specs::Records::journal_record))]
+#[tactic(auto, using(crate::proofs::Casting::vote_may, crate::proofs::Casting::kept_vote_short))]
 fn keep_vote<D: Keeper>(
     state: &mut State,
     keeper: &mut D,
@@ -128,6 +129,7 @@ fn keep_vote<D: Keeper>(
 }
 
 /// Asks a member that is up for its vote: the record of a fresh one is appended before the vote is given.
+#[tactic(auto, using(crate::proofs::Casting::vote_called, crate::proofs::Casting::idle_called))]
 pub(crate) fn vote<D: Keeper, S: Sealer>(
     state: &mut State,
     keeper: &mut D,
@@ -148,14 +150,48 @@ pub(crate) fn vote<D: Keeper, S: Sealer>(
     let Ok(sealed) = seal_vote(state.allocator(), sealer, member, epoch, &decision) else {
         return Err(VoteRefusal::OutOfMemory);
     };
-    let fresh = decision.fresh;
-    if fresh {
-        keep_vote(state, keeper, member, tx, decision)?;
+    if !decision.fresh {
+        return Ok(Voted {
+            sealed,
+            fresh: false,
+        });
     }
-    Ok(Voted { sealed, fresh })
+    keep_vote(state, keeper, member, tx, decision)?;
+    Ok(Voted {
+        sealed,
+        fresh: true,
+    })
+}
+
+/// Whether the member is down behind this answer.
+pub(crate) fn vote_fell(answer: &Result<Voted, VoteRefusal>) -> bool
+    ensures { result ≡ has_fallen (vote_ended answer.now) }
+{
+    match answer {
+        Err(VoteRefusal::KeepFault | VoteRefusal::OutOfMemory) => true,
+        Ok(_) => false,
+        Err(
+            VoteRefusal::Down
+            | VoteRefusal::Halted { .. }
+            | VoteRefusal::Full
+            | VoteRefusal::Malformed(_)
+            | VoteRefusal::WrongEpoch { .. }
+            | VoteRefusal::Closed
+            | VoteRefusal::Invalid(_)
+            | VoteRefusal::Unsealed
+            | VoteRefusal::Absent(_)
+            | VoteRefusal::Consumed { .. }
+            | VoteRefusal::WrongDigest(_)
+            | VoteRefusal::WrongOwner(_)
+            | VoteRefusal::WrongKind(_)
+            | VoteRefusal::PoorGas { .. }
+            | VoteRefusal::Locked { .. },
+        ) => false,
+    }
 }
 
 /// Hands a certificate to a member that is up: its record is appended before the call answers.
+#[tactic(auto, using(crate::proofs::Casting::hold_called, crate::proofs::Casting::idle_called, crate::proofs::Casting::hold_may, crate::proofs::Casting::hold_short))]
 pub(crate) fn hold<D: Keeper, S: Sealer>(
     state: &mut State,
     keeper: &mut D,
@@ -187,5 +223,25 @@ pub(crate) fn hold<D: Keeper, S: Sealer>(
                 second: digest,
             })
         }
+    }
+}
+
+/// Whether the member is down behind this answer.
+pub(crate) fn hold_fell(answer: &Result<bool, HoldRefusal>) -> bool
+    ensures { result ≡ has_fallen (hold_ended answer.now) }
+{
+    match answer {
+        Err(HoldRefusal::KeepFault | HoldRefusal::OutOfMemory) => true,
+        Ok(_) => false,
+        Err(
+            HoldRefusal::Down
+            | HoldRefusal::Halted { .. }
+            | HoldRefusal::Full
+            | HoldRefusal::Malformed(_)
+            | HoldRefusal::WrongEpoch { .. }
+            | HoldRefusal::Closed
+            | HoldRefusal::Cert(_)
+            | HoldRefusal::Fork { .. },
+        ) => false,
     }
 }

@@ -74,6 +74,7 @@ impl Validator {
     /// refusals: `Down`, `Halted`, `Full`, `Malformed`, `WrongEpoch`; then the vote that was given before comes
     /// again; `Closed`, `Invalid`, `Unsealed`, the cases of the vote rule, `KeepFault`. A fresh vote's record is
     /// appended before the vote is given. Behind `KeepFault` and want of memory the member is down.
+    #[tactic(auto, using(crate::proofs::Settling::vote_settles, crate::proofs::Settling::vote_at, crate::proofs::Settling::vote_due_at, crate::proofs::Settling::down_keeps))]
     pub fn vote<D: Keeper, S: Sealer>(
         &mut self,
         keeper: &mut D,
@@ -92,9 +93,7 @@ impl Validator {
             return Err(VoteRefusal::Down);
         }
         let answer = calls::vote(&mut self.state, keeper, sealer, self.member, bytes);
-        if matches!(answer, Err(VoteRefusal::KeepFault | VoteRefusal::OutOfMemory)) {
-            self.up = false;
-        }
+        self.up = !calls::vote_fell(&answer);
         answer
     }
 
@@ -103,6 +102,7 @@ impl Validator {
     /// `WrongEpoch`; then a certificate that is held comes again; `Closed`, `Cert`, `KeepFault`, `Fork`. The record
     /// is appended before the call answers. Behind `KeepFault` and want of memory the member is down; behind
     /// `Fork` it is halted.
+    #[tactic(auto, using(crate::proofs::Settling::hold_settles, crate::proofs::Settling::hold_at, crate::proofs::Settling::hold_due_at, crate::proofs::Settling::down_keeps))]
     pub fn hold<D: Keeper, S: Sealer>(
         &mut self,
         keeper: &mut D,
@@ -128,9 +128,7 @@ impl Validator {
             self.member,
             bytes,
         );
-        if matches!(answer, Err(HoldRefusal::KeepFault | HoldRefusal::OutOfMemory)) {
-            self.up = false;
-        }
+        self.up = !calls::hold_fell(&answer);
         answer
     }
 }
