@@ -118,9 +118,9 @@ pub refused_due : (r : Rules) (m : Member) (bytes : List ℕ) (c : Certificate) 
 unfolding due hold_answer read_certificate
 refused_due r m bytes c e goes read h =
     let said : refused_or (hold_stopped m) (hold_read r m (read_as (whole messages.certificate bytes))) ≡ hold_certificate r m c =
-        ap (λ o. refused_or o (hold_read r m (read_as (whole messages.certificate bytes)))) (none_refused (hold_stopped m) goes) ∙ ap (λ x. hold_read r m (read_as x)) read in
+    ap (λ o. refused_or o (hold_read r m (read_as (whole messages.certificate bytes)))) (none_refused (hold_stopped m) goes) ∙ ap (λ x. hold_read r m (read_as x)) read in
     let is : hold_record (read_as (whole messages.certificate bytes)) (refused_or (hold_stopped m) (hold_read r m (read_as (whole messages.certificate bytes)))) ≡ where_true (is_hold_kept (hold_certificate r m c)) (record_as.Hold c) =
-        ap (λ x. hold_record (read_as x) (refused_or (hold_stopped m) (hold_read r m (read_as (whole messages.certificate bytes))))) read ∙ ap (hold_record (Ok c)) said in
+    ap (λ x. hold_record (read_as x) (refused_or (hold_stopped m) (hold_read r m (read_as (whole messages.certificate bytes))))) read ∙ ap (hold_record (Ok c)) said in
     subst (λ d. HoldDue d (Err e)) (sym is) (refused_unkept c (hold_certificate r m c) e h)
 
 -- ---- votes

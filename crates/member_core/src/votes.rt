@@ -81,7 +81,11 @@ impl State {
         ensures { IfOk result (λ sealed. sealed ≡ accepts_sender (sealed_as (S.accepts sealer.now)) signed.now.tx signed.now.seal) }
     {
         let bytes = encode_tx(self.alloc, &signed.tx)?;
-        Ok(sealer.check(&Signer::User(signed.tx.sender.0), bytes.as_slice(), &signed.seal))
+        Ok(sealer.check(
+            &Signer::User(signed.tx.sender.0),
+            bytes.as_slice(),
+            &signed.seal,
+        ))
     }
 
     /// A vote that was not given before.

@@ -1,7 +1,8 @@
 -- What may be kept, and the state behind it.
-use Rattle.std.proofs.Common.{◌≡◌, ◌≤◌, ℕ, true, false, List, Option, Some, None, length, refl, ap, sym, ◌∙◌}
-use Rattle.std.specs.Prelude.{Bool}
+use Rattle.std.proofs.Common.{◌≡◌, ◌≤◌, ℕ, true, cond, List, Option, Some, None, length, ap, sym, ◌∙◌, subst}
+use Rattle.std.specs.Prelude.{Bool, Ok}
 use Rattle.digest_core.specs.declared.Digest.{Digest}
+use Rattle.chain_types.specs.declared.objects.ObjectKey.{ObjectKey}
 use Rattle.chain_types.specs.declared.transactions.Transaction.{Transaction}
 use Rattle.chain_types.specs.Digests.{transaction_digest}
 use Rattle.chain_types.specs.Transactions.{transaction}
@@ -9,12 +10,15 @@ use Rattle.chain_messages.specs.declared.messages.Certificate.{Certificate}
 use Rattle.chain_messages.specs.declared.messages.Statement.TheVariants as statements
 use Rattle.chain_messages.specs.Messages.{certificate, statement}
 use Rattle.chain_spec.specs.Certificates.{Rules}
+use Rattle.journal_core.specs.declared.records.Record.{Record}
 use Rattle.journal_core.specs.declared.records.Record.TheVariants as record_as
 use Rattle.journal_core.specs.Records.{journal_record}
 use Rattle.cert_rules.proofs.Whole.{vote_short}
 use Rattle.member_spec.specs.Member.{Member, after}
 use Rattle.member_spec.specs.Calls.{Call, after_due, called, due}
-use Rattle.member_core.specs.Answers.{IsFree, MayHold}
+use Rattle.member_core.specs.Answers.{HoldDue, IsFree, MayHold}
+use Rattle.member_core.specs.declared.holds.Holding.{Holding}
+use Rattle.member_core.specs.declared.holds.Holding.TheVariants as holdings
 use Rattle.member_core.specs.Steps.{holding, voted}
 use Rattle.member_core.specs.declared.votes.Decision.{Decision}
 use Rattle.validator_core.specs.Taking.{MayCast, MayTake}
@@ -37,6 +41,17 @@ kept_vote_short t origins short few = (short, (vote_short 0 (transaction_digest 
 pub hold_short : (c : Certificate) → certificate.short c → journal_record.short (record_as.Hold c)
 unfolding journal_record
 hold_short c short = short
+
+-- ---- the record that is due
+
+pub new_due : (d : Option Record) (c : Certificate) (h : Holding) (digest : Digest) → HoldDue d (Ok (c, h)) → h ≡ holdings.New digest → d ≡ Some (record_as.Hold c)
+new_due d c h digest due_ is = subst (λ (x : Holding). HoldDue d (Ok (c, x))) is due_
+
+pub fork_due : (d : Option Record) (c : Certificate) (h : Holding) (key : ObjectKey) (first digest : Digest) → HoldDue d (Ok (c, h)) → h ≡ holdings.Fork key first digest → d ≡ Some (record_as.Hold c)
+fork_due d c h key first digest due_ is = subst (λ (x : Holding). HoldDue d (Ok (c, x))) is due_
+
+pub fresh_due : (d x : Option Record) (b : Bool) → d ≡ cond b x None → b ≡ true → d ≡ x
+fresh_due d x b due_ fresh = due_ ∙ ap (λ (f : Bool). cond f x None) fresh
 
 -- ---- the state behind a call
 

@@ -1,2 +1,3 @@
 pub mod Casting
 pub mod Settling
+pub mod Starting

@@ -129,7 +129,7 @@ fn keep_vote<D: Keeper>(
 }
 
 /// Asks a member that is up for its vote: the record of a fresh one is appended before the vote is given.
-#[tactic(auto, using(crate::proofs::Casting::vote_called, crate::proofs::Casting::idle_called))]
+#[tactic(auto, using(crate::proofs::Casting::idle_called))]
 pub(crate) fn vote<D: Keeper, S: Sealer>(
     state: &mut State,
     keeper: &mut D,
@@ -191,7 +191,7 @@ pub(crate) fn vote_fell(answer: &Result<Voted, VoteRefusal>) -> bool
 }
 
 /// Hands a certificate to a member that is up: its record is appended before the call answers.
-#[tactic(auto, using(crate::proofs::Casting::hold_called, crate::proofs::Casting::idle_called, crate::proofs::Casting::hold_may, crate::proofs::Casting::hold_short))]
+#[tactic(auto, using(crate::proofs::Casting::idle_called, crate::proofs::Casting::hold_may, crate::proofs::Casting::hold_short))]
 pub(crate) fn hold<D: Keeper, S: Sealer>(
     state: &mut State,
     keeper: &mut D,

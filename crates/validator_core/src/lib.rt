@@ -8,7 +8,8 @@
 
 mod calls;
 mod keeping;
+mod start;
 mod validator;
 
-pub use member_types::{HoldRefusal, Voted, VoteRefusal};
+pub use member_types::{HoldRefusal, StartRefusal, VoteRefusal, Voted};
 pub use validator::Validator;

@@ -1,6 +1,6 @@
 //! The member.
 
-ghost use Rattle.std.specs.Prelude.{◌≡◌, ◌<◌, ◌≤◌, IfOk, IsErrOf, option_map};
+ghost use Rattle.std.specs.Prelude.{◌≡◌, ◌<◌, ◌≤◌, ◌^◌, [], IfOk, IsErrOf, length, option_map, true};
 ghost use Rattle.outside.specs.Causes.{Rose};
 ghost use Rattle.chain_types.specs.Digests.{digest_of_object};
 ghost use Rattle.member_spec.specs.Versions.{Version, version_at, versions as versions_of};
@@ -9,15 +9,20 @@ ghost use Rattle.member_spec.specs.Calls.{holds, votes};
 ghost use Rattle.member_types.specs.declared.refusals.HoldRefusal.TheVariants as no_hold;
 ghost use Rattle.member_types.specs.declared.refusals.VoteRefusal.TheVariants as no_vote;
 ghost use Rattle.validator_core.specs.Calls.{Holds, Votes, hold_ended, hold_said, vote_ended, vote_said};
+ghost use Rattle.member_core.specs.Answers.{rules_for};
+ghost use Rattle.version_store.specs.Stores.{are_new};
+ghost use Rattle.validator_core.specs.Starts.{Starts, started};
 ghost use Rattle.validator_core.specs.Seats.{Behaves, Fell, Journaled, due_at, rules_of_seat};
 
 use crate::calls;
+use crate::start::take_all;
 use chain_types::{Object, ObjectKey, object_digest};
 use digest_core::Digest;
 use member_core::State;
-use member_types::{HoldRefusal, VoteRefusal, Voted};
+use member_types::{HoldRefusal, StartRefusal, VoteRefusal, Voted};
 use outside::Keeper;
 use quorum_core::{Committee, Sealer};
+use std::alloc::Global;
 use std::marker::Model;
 use wire_bcs::{OutOfMemory, Seq};
 
@@ -39,6 +44,39 @@ impl Model for Validator {
 }
 
 impl Validator {
+    /// Starts the member of this number from the records that it kept, of which none are those of a new member, in
+    /// an epoch 0 that opens with these objects. `BadRecord` comes exactly at the first record that does not decode
+    /// (1) or that no request would have appended (2): records of votes and of certificates are taken, and no others
+    /// yet.
+    #[tactic(auto, unfolding(crate::specs::Starts::started))]
+    pub fn start<S: Sealer>(
+        alloc: Global,
+        member: u32,
+        committee: &Committee,
+        opening: &Seq<Object>,
+        kept: &Seq<Seq<u8>>,
+        sealer: &S,
+    ) -> Result<Validator, StartRefusal>
+        requires apart { are_new [] opening.now ≡ true }
+        requires count { length kept.now < 2 ^ 64 }
+        ensures { Starts (started (rules_for committee.now (S.accepts sealer.now)) opening.now kept.now) member committee.now result }
+    {
+        let Ok(mut state) = State::fresh(alloc, opening) else {
+            return Err(StartRefusal::OutOfMemory);
+        };
+        match take_all(&mut state, committee, sealer, kept.as_slice()) {
+            Ok(()) => Ok(Validator {
+                member,
+                committee: committee.copy(),
+                up: true,
+                state,
+            }),
+            Err(StartRefusal::BadRecord { place, why }) => {
+                Err(StartRefusal::BadRecord { place, why })
+            }
+            Err(StartRefusal::OutOfMemory) => Err(StartRefusal::OutOfMemory),
+        }
+    }
     /// Whether the member is up: it answers no request while it is not. Takes no memory.
     pub fn is_up(&self) -> bool
         ensures { result ≡ self.now.up }

@@ -1,0 +1,14 @@
+use Rattle.std.proofs.Common.{◌≡◌, ◌+◌, length}
+use Rattle.member_core.specs.Answers.{rules_for}
+use Rattle.validator_core.specs.Starts.{started_from}
+use Rattle.validator_core.proofs.start.take_all.Given as goal
+
+-- the records that are left come to what all come to
+abbrev pub invariant-loop-rest : goal.invariant-loop-rest
+invariant-loop-rest g l = record {
+  same : started_from (rules_for l.committee (g.S.Sealer.accepts l.sealer)) l.state l.place l.rest ≡ started_from (rules_for l.committee (g.S.Sealer.accepts l.sealer)) l.fn.state 0 l.kept;
+  count : l.place + length l.rest ≡ length l.kept;
+}
+
+abbrev pub decreases-loop-rest : goal.decreases-loop-rest
+decreases-loop-rest g l = length l.rest

@@ -1,0 +1,54 @@
+//! The start of a member.
+
+ghost use Rattle.std.specs.Prelude.{◌<◌, ◌^◌, length};
+ghost use Rattle.member_core.specs.Answers.{rules_for};
+ghost use Rattle.validator_core.specs.Starts.{StateAs, read_record, started_from, taken_at};
+
+use journal_core::decode_record;
+use member_core::State;
+use member_types::StartRefusal;
+use quorum_core::{Committee, Sealer};
+use wire_bcs::{Seq, Unread};
+
+/// Takes the record at a place.
+fn take_one<S: Sealer>(
+    state: &mut State,
+    committee: &Committee,
+    sealer: &S,
+    place: u64,
+    bytes: &[u8],
+) -> Result<(), StartRefusal>
+    ensures { StateAs (taken_at (rules_for committee.now (S.accepts sealer.now)) state.old place (read_record bytes.now)) state.new result }
+{
+    let record = match decode_record(state.allocator(), bytes) {
+        Ok(record) => record,
+        Err(Unread::Wire(_)) => return Err(StartRefusal::BadRecord { place, why: 1 }),
+        Err(Unread::OutOfMemory) => return Err(StartRefusal::OutOfMemory),
+    };
+    match state.take(committee, sealer, record) {
+        Ok(true) => Ok(()),
+        Ok(false) => Err(StartRefusal::BadRecord { place, why: 2 }),
+        Err(_) => Err(StartRefusal::OutOfMemory),
+    }
+}
+
+/// Takes records, one behind the other.
+#[tactic(auto, using(crate::proofs::Starting::taken_on, crate::proofs::Starting::stopped_on))]
+pub(crate) fn take_all<S: Sealer>(
+    state: &mut State,
+    committee: &Committee,
+    sealer: &S,
+    kept: &[Seq<u8>],
+) -> Result<(), StartRefusal>
+    requires { length kept.now < 2 ^ 64 }
+    ensures { StateAs (started_from (rules_for committee.now (S.accepts sealer.now)) state.old 0 kept.now) state.new result }
+{
+    let mut place = 0;
+    let mut rest = kept;
+    while let [bytes, after @ ..] = rest {
+        take_one(state, committee, sealer, place, bytes.as_slice())?;
+        place += 1;
+        rest = after;
+    }
+    Ok(())
+}
