@@ -44,10 +44,10 @@ impl Model for Validator {
 }
 
 impl Validator {
-    /// Starts the member of this number from the records that it kept, of which none are those of a new member, in
-    /// an epoch 0 that opens with these objects. `BadRecord` comes exactly at the first record that does not decode
-    /// (1) or that no request would have appended (2): records of votes and of certificates are taken, and no others
-    /// yet.
+    /// Starts the member of this number from the records that it kept, none for a new one, in an epoch 0 that opens
+    /// with these objects, none of them twice. `BadRecord` comes exactly at the first record that does not decode
+    /// (1), or that no request would have appended (2). Records of votes and of certificates are taken, and no
+    /// others yet.
     #[tactic(auto, unfolding(crate::specs::Starts::started))]
     pub fn start<S: Sealer>(
         alloc: Global,
