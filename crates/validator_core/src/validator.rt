@@ -77,6 +77,7 @@ impl Validator {
             Err(StartRefusal::OutOfMemory) => Err(StartRefusal::OutOfMemory),
         }
     }
+
     /// Whether the member is up: it answers no request while it is not. Takes no memory.
     pub fn is_up(&self) -> bool
         ensures { result ≡ self.now.up }
