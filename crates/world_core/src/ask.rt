@@ -5,9 +5,9 @@ ghost use Rattle.name_map.specs.Named.{named};
 ghost use Rattle.vote_spec.specs.Run.{recipient_of, transfers_gas};
 ghost use Rattle.world_core.specs.Asked.{RepliesAs, members_after, reply_of, settled};
 
+use first_validator::{DecideRefusal, Validator};
 use name_map::NameMap;
 use schedule_text::{ArgWord, CommandWord, InputWord};
-use first_validator::{DecideRefusal, Validator};
 use vote_spec::{Made, Voted};
 use wire_bcs::OutOfMemory;
 

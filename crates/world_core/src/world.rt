@@ -14,12 +14,12 @@ use chain_types::{
     Transaction, object_digest, tx_digest,
 };
 use digest_core::{Digest, address_of, genesis_id};
+use first_validator::Validator;
 use name_map::{FirstNames, NameMap};
 use report_text::Line;
 use schedule_text::{Event, ObjWord, RefWord, Schedule, Setup};
 use std::alloc::Global;
 use std::marker::Model;
-use first_validator::Validator;
 use vote_spec::Made;
 use wire_bcs::{OutOfMemory, Seq};
 
