@@ -4,7 +4,7 @@ use Rattle.std.specs.Prelude.{filter, slice_get}
 use Rattle.member_types.specs.declared.answers.Held.{Held}
 use Rattle.member_spec.specs.Versions.{Execution, is_executed}
 use Rattle.round_run.specs.Steps.{pending_from}
-use Rattle.round_run.specs.Places.{is_pending, kept_after}
+use Rattle.round_run.specs.Places.{is_pending, kept_after, pending_after}
 use Rattle.round_run.proofs.Following.{executed_join}
 use Rattle.round_run.proofs.Rounding.{at_front, longer}
 
@@ -96,3 +96,20 @@ held_executed executed hs h is = at_end executed hs h ∙ ap (λ b. cond b (pend
 
 pub held_pending : (executed : List Execution) (hs : List Held) (h : Held) → is_executed executed h.digest ≡ false → pending_from executed 0 (hs ++ h ∷ []) ≡ pending_from executed 0 hs ++ length hs ∷ []
 held_pending executed hs h is = at_end executed hs h ∙ ap (λ b. cond b (pending_from executed 0 hs) (pending_from executed 0 hs ++ length hs ∷ [])) is
+
+-- ---- places that are collected
+
+collects : (executed : List Execution) (places : List ℕ) (place : ℕ) (hs : List Held) → pending_after executed places place hs ≡ places ++ pending_from executed place hs
+collects executed places place [] = sym (append-nil places)
+collects executed places place (h ∷ hs) = go (is_executed executed h.digest) (λ ps. collects executed ps (place + 1) hs ∙ ap (λ n. ps ++ pending_from executed n hs) next)
+  where
+    next : place + 1 ≡ suc place
+    next = omega arith
+
+    go : (b : Bool) → ((ps : List ℕ) → pending_after executed ps (place + 1) hs ≡ ps ++ pending_from executed (suc place) hs)
+        → pending_after executed (cond (not b) (places ++ place ∷ []) places) (place + 1) hs ≡ places ++ cond b (pending_from executed (suc place) hs) (place ∷ pending_from executed (suc place) hs)
+    go true rest = rest places
+    go false rest = rest (places ++ place ∷ []) ∙ append_assoc places (place ∷ []) (pending_from executed (suc place) hs)
+
+pub pending_so : (executed : List Execution) (held : List Held) → pending_after executed [] 0 held ≡ pending_from executed 0 held
+pending_so executed held = collects executed [] 0 held

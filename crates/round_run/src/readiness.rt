@@ -1,10 +1,8 @@
 //! What a certificate's execution gives, where it is ready.
 
-ghost use Rattle.std.specs.Prelude.{◌≡◌, [], IfOk, None, slice_get, true};
+ghost use Rattle.std.specs.Prelude.{◌≡◌, [], IfOk, slice_get, true};
 ghost use Rattle.block_spec.specs.Execution.{execution};
-ghost use Rattle.chain_types.specs.Digests.{transaction_digest};
 ghost use Rattle.chain_spec.specs.Keys.{fits};
-ghost use Rattle.chain_spec.specs.Shape.{shape_fault};
 ghost use Rattle.chain_spec.specs.Words.{Each};
 ghost use Rattle.member_spec.specs.Rounds.{ready_as};
 ghost use Rattle.round_run.specs.Books.{IsSound, books_of, ready_in};
@@ -12,8 +10,7 @@ ghost use Rattle.round_run.specs.Steps.{ready_of};
 
 use crate::inputs::{has_shared_input, needs, present};
 use block_types::Executed;
-use chain_types::{Object, ObjectKey, Transaction, owned_keys};
-use digest_core::Digest;
+use chain_types::{Object, ObjectKey, owned_keys};
 use member_types::Held;
 use ptb_run::{execute, fits};
 use std::alloc::Global;

@@ -1,8 +1,9 @@
 //! Runs over a store of two coins. Alice sends a coin to bob and bob sends it back, so each transaction
 //! moves its gas coin and costs 1100.
 
-ghost use Rattle.std.specs.Prelude.{◌≡◌, [], IfOk};
-ghost use Rattle.round_run.specs.Books.{IsSound};
+ghost use Rattle.std.specs.Prelude.{IfOk};
+ghost use Rattle.chain_spec.specs.Words.{Each};
+ghost use Rattle.round_run.specs.Books.{AreApart, IsSound};
 
 use crate::{Waiting, left, run};
 use chain_messages::Certificate;
@@ -136,17 +137,23 @@ fn sends_back(alloc: Global, origin: Digest) -> Result<Held, Fail>
     sends(alloc, &coin_between(), BOB, ALICE, Some(origin))
 }
 
-/// A store that opens with alice's coin.
+/// A store that opens with these objects, where none stands there twice.
 #[tactic(auto, unfolding(member_spec::specs::Versions::versions))]
-fn opened(alloc: Global) -> Result<Store, Fail>
-    ensures { IfOk result (λ s. s.executed ≡ []) }
-{
-    let objects = Seq::from_slice(alloc, [coin_before()].as_slice())?;
+fn opened(alloc: Global, objects: &[Object]) -> Result<Option<Store>, OutOfMemory> {
+    let objects = Seq::from_slice(alloc, objects)?;
     let empty = Store::opening(alloc, &Seq::new(alloc))?;
     if !empty.are_new(&objects)? {
-        return Err(Fail::new("one version is new"));
+        return Ok(None);
     }
-    Ok(Store::opening(alloc, &objects)?)
+    Ok(Some(Store::opening(alloc, &objects)?))
+}
+
+/// A store that opens with alice's coin.
+fn store_of_alice(alloc: Global) -> Result<Store, Fail> {
+    match opened(alloc, [coin_before()].as_slice())? {
+        Some(store) => Ok(store),
+        None => Err(Fail::new("the versions are new")),
+    }
 }
 
 /// What a run executed, what it left, and what a second run executed.
@@ -157,20 +164,13 @@ struct Outcome {
     again: Seq<Effects>,
 }
 
-/// Holds two certificates, in this order, over a store of alice's coin, and runs twice.
-fn run_twice(alloc: Global, first: Held, second: Held) -> Result<Outcome, Fail>
-    requires first { IsSound first }
-    requires second { IsSound second }
+/// Runs twice over a store of alice's coin, with these certificates held.
+fn run_held(alloc: Global, held: &[Held]) -> Result<Outcome, Fail>
+    requires sound { Each IsSound held.now }
+    requires apart { AreApart held.now }
 {
-    if first.digest == second.digest {
-        return Err(Fail::new("the transactions differ"));
-    }
-    let mut store = opened(alloc)?;
-    let mut waiting = Waiting::new(alloc);
-    let pair = [first, second];
-    let held = pair.as_slice();
-    waiting.hold(&store, &held[..0], &held[0])?;
-    waiting.hold(&store, &held[..1], &held[1])?;
+    let mut store = store_of_alice(alloc)?;
+    let mut waiting = Waiting::of(alloc, &store, held)?;
     let executed = run(alloc, &mut store, &mut waiting, held)?;
     let left = left(alloc, &store, &waiting, held)?;
     let again = run(alloc, &mut store, &mut waiting, held)?;
@@ -179,6 +179,18 @@ fn run_twice(alloc: Global, first: Held, second: Held) -> Result<Outcome, Fail>
         left,
         again,
     })
+}
+
+/// Runs twice with two certificates held, in this order.
+fn run_twice(alloc: Global, first: Held, second: Held) -> Result<Outcome, Fail>
+    requires first { IsSound first }
+    requires second { IsSound second }
+{
+    if first.digest == second.digest {
+        return Err(Fail::new("the transactions differ"));
+    }
+    let held = [first, second];
+    run_held(alloc, held.as_slice())
 }
 
 /// The digests of the executed transactions, in order.

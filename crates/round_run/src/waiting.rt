@@ -2,7 +2,7 @@
 
 ghost use Rattle.std.specs.Prelude.{◌≡◌, ◌++◌, ◌∷◌, [], List, IfOk, OnOk, OnErr, slice_get};
 ghost use Rattle.member_spec.specs.Versions.{Execution};
-ghost use Rattle.round_run.specs.Places.{IsWaiting, is_pending, kept_after};
+ghost use Rattle.round_run.specs.Places.{IsWaiting, is_pending, kept_after, pending_after};
 
 use member_types::Held;
 use std::alloc::Global;
@@ -45,6 +45,23 @@ fn pending_among(
     Ok(kept)
 }
 
+/// The places of those of these certificates that are not executed.
+fn pending_places(alloc: Global, store: &Store, held: &[Held]) -> Result<Vec<usize>, OutOfMemory>
+    ensures { IfOk result (λ places. places.items ≡ pending_after store.now.executed [] 0 held.now) }
+{
+    let mut places = Vec::new(alloc);
+    let mut place = 0;
+    let mut rest = held;
+    while let [held, after @ ..] = rest {
+        if !store.is_executed(&held.digest) {
+            places.push(place)?;
+        }
+        place += 1;
+        rest = after;
+    }
+    Ok(places)
+}
+
 impl Waiting {
     /// Nothing waits where nothing is held. Takes no memory.
     pub fn new(alloc: Global) -> Waiting
@@ -53,6 +70,16 @@ impl Waiting {
         Waiting {
             places: Vec::new(alloc),
         }
+    }
+
+    /// What waits of these held certificates.
+    #[tactic(auto, using(crate::proofs::Pendings::pending_so))]
+    pub fn of(alloc: Global, store: &Store, held: &[Held]) -> Result<Waiting, OutOfMemory>
+        ensures { IfOk result (IsWaiting store.now.executed held.now) }
+    {
+        Ok(Waiting {
+            places: pending_places(alloc, store, held)?,
+        })
     }
 
     /// One more certificate is held, behind these. After a refusal all that waited waits.

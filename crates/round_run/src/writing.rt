@@ -1,8 +1,7 @@
 //! Writing a round to the store.
 
-ghost use Rattle.std.specs.Prelude.{◌≡◌, ◌++◌, ◌∷◌, [], IfOk, OnOk, false, map, true};
+ghost use Rattle.std.specs.Prelude.{◌≡◌, ◌++◌, ◌∷◌, [], IfOk, OnOk, map};
 ghost use Rattle.chain_spec.specs.Words.{Along};
-ghost use Rattle.member_spec.specs.Versions.{is_executed};
 ghost use Rattle.round_run.specs.Books.{effects_of};
 ghost use Rattle.round_run.specs.Runs.{IsNext, with_executions};
 ghost use Rattle.version_store.specs.Stores.{with_execution};

@@ -1,4 +1,4 @@
-use Rattle.std.proofs.Common.{◌≡◌, ◌∙◌, ap, map}
+use Rattle.std.proofs.Common.{◌∙◌, ap, map}
 use Rattle.indexmap.specs.IndexSet.{insert_all}
 use Rattle.chain_types.specs.Equal.{key_eq}
 use Rattle.chain_spec.specs.Keys.{object_key}

@@ -1,4 +1,4 @@
-use Rattle.std.proofs.Common.{◌≡◌, ◌∙◌, ◌++◌, ◌∷◌, [], ap, length, sym}
+use Rattle.std.proofs.Common.{◌∙◌, ◌++◌, ◌∷◌, [], ap, length, sym}
 use Rattle.round_run.proofs.Pendings.{held_executed, held_pending}
 use Rattle.round_run.proofs.waiting.Waiting.hold.Goals as goal
 
