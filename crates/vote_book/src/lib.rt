@@ -8,6 +8,3 @@
 mod book;
 
 pub use book::VoteBook;
-
-#[cfg(test)]
-mod tests;
