@@ -14,7 +14,9 @@ use Rattle.block_spec.specs.Block.{Block}
 use Rattle.block_spec.specs.Execution.{Failure, outcome, execution, executed_by}
 use Rattle.member_spec.specs.Sequential.{Objects, map_of, read_by, Folded, fold_one, fold_all}
 use Rattle.block_law.specs.Names.{drawn_id, drawn_ids}
+use Rattle.block_law.specs.Keeping.{GasIsAmount}
 use Rattle.sequence_law.specs.Kept.{MayFollow, Follow, opened_with}
+use Rattle.epoch_law.specs.Opened.{GasHolds}
 use Rattle.chain_law.specs.Orderly.{Step, gave, tx_of, id_of, IsKnown, IsOrderly, AreOrderly, AreApart, ReadsSame}
 use Rattle.chain_law.proofs.Standing.{stays-after, none-opening}
 use Rattle.chain_law.proofs.Touched.{has-mapped, below}
@@ -76,21 +78,23 @@ module _ (opening : List Object) (distinct : AreApart opening) where
         subst (λ (m : Objects). get m id ≡ None) (sym map-is)
         (none-known before over id (next.fresh id (k.0, below (gave x).effects.created k.0 k.1, ap (λ (d : Digest). drawn_id d k.0) (sym (effects-tx x.tx x.inputs)) ∙ k.2))))
 
-    may-follow : ReadsSame opening before x → (objects : List Object) → read_by (fold_all (map_of opening) (map tx_of before)).map x.tx ≡ Some objects → fits x.tx objects ≡ true → MayFollow (fold_all (map_of opening) (map tx_of before)).map x.tx objects
-    may-follow reads objects read fit = subst (MayFollow (fold_all (map_of opening) (map tx_of before)).map x.tx) (same (sym reads ∙ read)) (record { may = record { shape = shape; fit = next.fit; apart = next.once }; new = new-ids })
+    may-follow : GasIsAmount x.inputs → ReadsSame opening before x → (objects : List Object) → read_by (fold_all (map_of opening) (map tx_of before)).map x.tx ≡ Some objects → fits x.tx objects ≡ true → MayFollow (fold_all (map_of opening) (map tx_of before)).map x.tx objects
+    may-follow held reads objects read fit = subst (MayFollow (fold_all (map_of opening) (map tx_of before)).map x.tx) (same (sym reads ∙ read)) (record { may = record { shape = shape; fit = next.fit; held = held; apart = next.once }; new = new-ids })
       where
         same : Some x.inputs ≡ Some objects → x.inputs ≡ objects
         same e = cc
 
   follow-on : (xs before : List Step) → IsGoneOver opening before → Along (IsOrderly opening) before xs → Along (ReadsSame opening) before xs → ((x : Step) → Has xs x → shape_fault x.tx ≡ None)
-      → Follow (fold_all (map_of opening) (map tx_of before)) (map tx_of xs)
-  follow-on [] before over next reads shapes = tt
-  follow-on (x ∷ xs) before over next reads shapes = (
-    may-follow before over x next.0 (shapes x (inl refl)) reads.0,
+      → GasHolds (fold_all (map_of opening) (map tx_of before)) (map tx_of xs) → Follow (fold_all (map_of opening) (map tx_of before)) (map tx_of xs)
+  follow-on [] before over next reads shapes amounts = tt
+  follow-on (x ∷ xs) before over next reads shapes amounts = (
+    may-follow before over x next.0 (shapes x (inl refl)) (amounts.0 x.inputs reads.0) reads.0,
     subst (λ (f : Folded). Follow f (map tx_of xs)) (thread-push (map_of opening) before x)
-        (follow-on xs (before ++ x ∷ []) (over-next opening distinct before over x next.0) next.1 reads.1 (λ y h. shapes y (inr h))),
+        (follow-on xs (before ++ x ∷ []) (over-next opening distinct before over x next.0) next.1 reads.1 (λ y h. shapes y (inr h))
+        (subst (λ (f : Folded). GasHolds f (map tx_of xs)) (sym (thread-push (map_of opening) before x)) amounts.1)),
   )
 
-  pub steps-follow : (steps : List Step) → AreOrderly opening steps → ((x : Step) → Has steps x → shape_fault x.tx ≡ None) → Follow (opened_with (map_of opening)) (map tx_of steps)
+  pub steps-follow : (steps : List Step) → AreOrderly opening steps → ((x : Step) → Has steps x → shape_fault x.tx ≡ None) → GasHolds (opened_with (map_of opening)) (map tx_of steps)
+      → Follow (opened_with (map_of opening)) (map tx_of steps)
   unfolding fold_all
-  steps-follow steps orderly shapes = follow-on steps [] (record { orderly = tt; finds = tt; known = tt }) orderly (chain-reads opening steps distinct orderly).reads shapes
+  steps-follow steps orderly shapes amounts = follow-on steps [] (record { orderly = tt; finds = tt; known = tt }) orderly (chain-reads opening steps distinct orderly).reads shapes amounts

@@ -29,8 +29,8 @@ use Rattle.sequence_law.specs.Kept.{held_in, supplied_in, gas_of}
 use Rattle.sequence_law.proofs.Moving.{map_weight, ids_at, change-weight}
 use Rattle.sequence_law.proofs.Following.{stay_backed, gas_goes, caps_stay}
 use Rattle.chain_law.specs.Orderly.{id_of, AreApart}
-use Rattle.epoch_law.specs.Opened.{IsOver, IsPast}
-use Rattle.epoch_law.specs.Sums.{NamesOther, epoch_gas}
+use Rattle.epoch_law.specs.Opened.{GasHoldsIn, IsOver, IsPast}
+use Rattle.epoch_law.specs.Sums.{GasHeldBefore, NamesOther, epoch_gas}
 use Rattle.epoch_law.proofs.Opened.{every-opening}
 
 -- ---- the map of objects with different ids holds what they hold
@@ -81,52 +81,53 @@ map-caps c os apart =
 
 -- ---- one epoch
 
-module _ (opening : List Object) (q : Sequence) (over : IsOver opening q) where
+module _ (opening : List Object) (q : Sequence) (over : IsOver opening q) (amounts : GasHoldsIn opening q) where
   abbrev next : List Object
   next = values (fold_all (map_of opening) (checkpointed q)).map
 
   caps-next : (c : ℕ) → cap_count next c ≡ cap_count opening c
-  caps-next c = caps_stay (map_of opening) (checkpointed q) over.follow c ∙ map-caps c opening over.apart
+  caps-next c = caps_stay (map_of opening) (checkpointed q) (over.follow amounts) c ∙ map-caps c opening over.apart
 
   gas-next : cap_count opening 0 ≡ 0 → currency_sum next 0 + gas_of 0 (fold_all (map_of opening) (checkpointed q)).effects ≡ currency_sum opening 0
-  gas-next none = gas_goes (map_of opening) (checkpointed q) over.follow (map-caps 0 opening over.apart ∙ none) ∙ map-sum 0 opening over.apart
+  gas-next none = gas_goes (map_of opening) (checkpointed q) (over.follow amounts) (map-caps 0 opening over.apart ∙ none) ∙ map-sum 0 opening over.apart
 
   backed-next : (c : ℕ) → c ≢ 0 → currency_sum opening c ≡ supply_sum opening c → currency_sum next c ≡ supply_sum next c
-  backed-next c other backed = stay_backed (map_of opening) (checkpointed q) over.follow c other (map-sum c opening over.apart ∙ backed ∙ sym (map-supply c opening over.apart))
+  backed-next c other backed = stay_backed (map_of opening) (checkpointed q) (over.follow amounts) c other (map-sum c opening over.apart ∙ backed ∙ sym (map-supply c opening over.apart))
 
 -- ---- all epochs
 
 module _ (s : Setting) (qs : List (List Entry)) where
-  caps-at : (n : ℕ) → ((e : ℕ) → e < n → IsPast s qs e) → cap_count (opening_at s qs n) 0 ≡ cap_count s.opening 0
+  caps-at : (n : ℕ) → ((e : ℕ) → e < n → IsPast s qs e) → GasHeldBefore s qs n → cap_count (opening_at s qs n) 0 ≡ cap_count s.opening 0
   unfolding opening_at
-  caps-at zero past = refl
-  caps-at (suc n) past =
-      caps-next (opening_at s qs n) (sequence_of s qs n (opening_at s qs n)) (past n (omega arith)) 0
-      ∙ caps-at n (λ e less. past e (omega (arith, less)))
+  caps-at zero past amounts = refl
+  caps-at (suc n) past amounts =
+      caps-next (opening_at s qs n) (sequence_of s qs n (opening_at s qs n)) (past n (omega arith)) (amounts n (omega arith)) 0
+      ∙ caps-at n (λ e less. past e (omega (arith, less))) (λ e less. amounts e (omega (arith, less)))
 
-  gas-at : (n : ℕ) → IsPast s qs n → cap_count (opening_at s qs n) 0 ≡ 0 → currency_sum (opening_at s qs (suc n)) 0 + epoch_gas s qs n ≡ currency_sum (opening_at s qs n) 0
+  gas-at : (n : ℕ) → IsPast s qs n → GasHoldsIn (opening_at s qs n) (sequence_of s qs n (opening_at s qs n)) → cap_count (opening_at s qs n) 0 ≡ 0 → currency_sum (opening_at s qs (suc n)) 0 + epoch_gas s qs n ≡ currency_sum (opening_at s qs n) 0
   unfolding opening_at
-  gas-at n past none = gas-next (opening_at s qs n) (sequence_of s qs n (opening_at s qs n)) past none
+  gas-at n past amounts none = gas-next (opening_at s qs n) (sequence_of s qs n (opening_at s qs n)) past amounts none
 
-  backed-at : (c : ℕ) → c ≢ 0 → currency_sum s.opening c ≡ supply_sum s.opening c → (n : ℕ) → ((e : ℕ) → e < n → IsPast s qs e) → currency_sum (opening_at s qs n) c ≡ supply_sum (opening_at s qs n) c
+  backed-at : (c : ℕ) → c ≢ 0 → currency_sum s.opening c ≡ supply_sum s.opening c → (n : ℕ) → ((e : ℕ) → e < n → IsPast s qs e) → GasHeldBefore s qs n → currency_sum (opening_at s qs n) c ≡ supply_sum (opening_at s qs n) c
   unfolding opening_at
-  backed-at c other backed zero past = backed
-  backed-at c other backed (suc n) past =
-      backed-next (opening_at s qs n) (sequence_of s qs n (opening_at s qs n)) (past n (omega arith)) c other (backed-at c other backed n (λ e less. past e (omega (arith, less))))
+  backed-at c other backed zero past amounts = backed
+  backed-at c other backed (suc n) past amounts =
+      backed-next (opening_at s qs n) (sequence_of s qs n (opening_at s qs n)) (past n (omega arith)) (amounts n (omega arith)) c other
+      (backed-at c other backed n (λ e less. past e (omega (arith, less))) (λ e less. amounts e (omega (arith, less))))
 
 module _ (s : Setting) (events : List Event) (honest : IsHonestRun s events) (distinct : AreApart s.opening) where
-  pub only-gas : cap_count s.opening 0 ≡ 0 → (m : ℕ) (seat : Seat) → slice_get (world_after s events).seats m ≡ Some seat → (epoch : ℕ) → epoch < (member_in s seat).epoch
+  pub only-gas : cap_count s.opening 0 ≡ 0 → (m : ℕ) (seat : Seat) → slice_get (world_after s events).seats m ≡ Some seat → GasHeldBefore s (world_after s events).sequences (member_in s seat).epoch → (epoch : ℕ) → epoch < (member_in s seat).epoch
       → currency_sum (opening_at s (world_after s events).sequences (suc epoch)) 0 + epoch_gas s (world_after s events).sequences epoch ≡ currency_sum (opening_at s (world_after s events).sequences epoch) 0
-  only-gas none m seat at epoch less =
+  only-gas none m seat at amounts epoch less =
       let left = every-opening s events honest distinct m seat at in
-      gas-at s (world_after s events).sequences epoch (left.past epoch less)
-      (caps-at s (world_after s events).sequences epoch (λ e below. left.past e (omega (arith, below, less))) ∙ none)
+      gas-at s (world_after s events).sequences epoch (left.past epoch less) (amounts epoch less)
+      (caps-at s (world_after s events).sequences epoch (λ e below. left.past e (omega (arith, below, less))) (λ e below. amounts e (omega (arith, below, less))) ∙ none)
 
-  pub are-backed : (c : ℕ) → c ≢ 0 → currency_sum s.opening c ≡ supply_sum s.opening c → (m : ℕ) (seat : Seat) → slice_get (world_after s events).seats m ≡ Some seat
+  pub are-backed : (c : ℕ) → c ≢ 0 → currency_sum s.opening c ≡ supply_sum s.opening c → (m : ℕ) (seat : Seat) → slice_get (world_after s events).seats m ≡ Some seat → GasHeldBefore s (world_after s events).sequences (member_in s seat).epoch
       → currency_sum (member_in s seat).opening c ≡ supply_sum (member_in s seat).opening c
-  are-backed c other backed m seat at =
+  are-backed c other backed m seat at amounts =
       let left = every-opening s events honest distinct m seat at in
-      subst (λ (os : List Object). currency_sum os c ≡ supply_sum os c) (sym left.opening) (backed-at s (world_after s events).sequences c other backed (member_in s seat).epoch left.past)
+      subst (λ (os : List Object). currency_sum os c ≡ supply_sum os c) (sym left.opening) (backed-at s (world_after s events).sequences c other backed (member_in s seat).epoch left.past amounts)
 
 -- ---- set-ups
 

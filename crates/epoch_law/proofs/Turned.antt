@@ -49,7 +49,7 @@ use Rattle.current_law.proofs.Known.{opens-apart}
 use Rattle.current_law.proofs.Thread.{map-twice}
 use Rattle.current_law.proofs.Checkpointed.{built-front}
 use Rattle.current_law.proofs.Turning.{turns-to-fold}
-use Rattle.epoch_law.specs.Opened.{HasEffects, IsOver, IsPast, OpensAsLeft}
+use Rattle.epoch_law.specs.Opened.{GasHolds, HasEffects, IsOver, IsPast, OpensAsLeft}
 use Rattle.epoch_law.proofs.Ended.{seen-ended}
 use Rattle.epoch_law.proofs.Following.{steps-follow}
 
@@ -185,7 +185,8 @@ module _ (s : Setting) (events : List Event) (n : ℕ) (seat : Seat) (at : slice
         apart = opens.distinct;
         executed = subst (λ (ts : List Transaction). Each HasEffects (fold_all (map_of m.opening) ts).effects) txs-are
             (subst (Each HasEffects) (sym (chain-reads m.opening (map (step_of m) front) opens.distinct orderly).effects) (all-effects (map (step_of m) front)));
-        follow = subst (Follow (opened_with (map_of m.opening))) txs-are (steps-follow m.opening opens.distinct (map (step_of m) front) orderly (shapes (done-front can)));
+        follow = λ amounts. subst (Follow (opened_with (map_of m.opening))) txs-are
+            (steps-follow m.opening opens.distinct (map (step_of m) front) orderly (shapes (done-front can)) (subst (GasHolds (opened_with (map_of m.opening))) (sym txs-are) amounts));
       }
 
   turns-left : CanTurn m → OpensAsLeft s qs m → OpensAsLeft s qs (after s.rules m record_as.Turn)

@@ -1,31 +1,42 @@
 -- The objects with which honest members open their epochs.
-use Rattle.std.specs.Prelude.{◌≡◌, ◌<◌, ℕ, true, List, ◌++◌, slice_get, Option, Some, is_some}
+use Rattle.std.specs.Prelude.{◌≡◌, ◌<◌, ℕ, true, List, [], ◌∷◌, ◌++◌, slice_get, Option, Some, is_some}
 use Rattle.chain_types.specs.declared.objects.Object.{Object}
+use Rattle.chain_types.specs.declared.transactions.Transaction.{Transaction}
 use Rattle.effects_core.specs.declared.effects.Effects.{Effects}
 use Rattle.chain_messages.specs.declared.messages.Entry.{Entry}
 use Rattle.schedule_text.specs.declared.words.Event.{Event}
 use Rattle.chain_spec.specs.Words.{Each}
 use Rattle.member_spec.specs.Sequence.{Sequence}
-use Rattle.member_spec.specs.Sequential.{map_of, fold_all}
+use Rattle.member_spec.specs.Sequential.{Folded, map_of, read_by, fold_one, fold_all}
 use Rattle.member_spec.specs.Member.{Member}
 use Rattle.world_spec.specs.Setting.{Setting}
 use Rattle.world_spec.specs.World.{Seat, member_in}
 use Rattle.world_spec.specs.Openings.{checkpointed, sequence_of, opening_at}
 use Rattle.world_spec.specs.Run.{world_after}
 use Rattle.world_spec.specs.Assumptions.{IsHonestRun}
+use Rattle.block_law.specs.Keeping.{GasIsAmount}
 use Rattle.sequence_law.specs.Kept.{Follow, opened_with}
 use Rattle.chain_law.specs.Orderly.{AreApart}
 
 abbrev pub HasEffects : Option Effects → Type 0
 HasEffects e = is_some e ≡ true
 
+-- wherever one of these transactions is executed, its gas coin holds an amount: less than 2 ^ 64, as each object of
+-- the code does
+abbrev pub GasHolds : Folded → List Transaction → Type 0
+GasHolds f [] = Unit {0}
+GasHolds f (t ∷ txs) = ((objects : List Object) → read_by f.map t ≡ Some objects → GasIsAmount objects) × GasHolds (fold_one f t) txs
+
+abbrev pub GasHoldsIn : List Object → Sequence → Type 0
+GasHoldsIn opening q = GasHolds (opened_with (map_of opening)) (checkpointed q)
+
 -- An epoch that opened with these objects, and what its sequence gave: it has ended, the objects have different ids,
--- and one thread executes all checkpointed transactions in order; each may run where it stands, with new ids.
+-- and one thread executes all checkpointed transactions in order; where gas coins hold amounts, each may run where it stands, with new ids.
 pub record IsOver (opening : List Object) (q : Sequence) : Type 0 where
   pub ended : q.ended ≡ true
   pub apart : AreApart opening
   pub executed : Each HasEffects (fold_all (map_of opening) (checkpointed q)).effects
-  pub follow : Follow (opened_with (map_of opening)) (checkpointed q)
+  pub follow : GasHoldsIn opening q → Follow (opened_with (map_of opening)) (checkpointed q)
 
 -- so it is of an epoch of the world's sequences, which opens with what the epochs before left
 abbrev pub IsPast : Setting → List (List Entry) → ℕ → Type 0

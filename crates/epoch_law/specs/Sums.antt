@@ -15,16 +15,21 @@ use Rattle.world_spec.specs.Assumptions.{IsHonestRun}
 use Rattle.block_law.specs.Money.{cap_count, supply_sum}
 use Rattle.sequence_law.specs.Kept.{gas_of}
 use Rattle.chain_law.specs.Orderly.{AreApart}
+use Rattle.epoch_law.specs.Opened.{GasHoldsIn}
 
 -- the gas of the checkpointed transactions of an epoch, as one thread executes them
 abbrev pub epoch_gas : Setting → List (List Entry) → ℕ → ℕ
 epoch_gas s sequences epoch =
     gas_of 0 (fold_all (map_of (opening_at s sequences epoch)) (checkpointed (sequence_of s sequences epoch (opening_at s sequences epoch)))).effects
 
+-- in each epoch before this one, every gas coin that pays holds an amount
+abbrev pub GasHeldBefore : Setting → List (List Entry) → ℕ → Type 0
+GasHeldBefore s sequences n = (epoch : ℕ) → epoch < n → GasHoldsIn (opening_at s sequences epoch) (sequence_of s sequences epoch (opening_at s sequences epoch))
+
 -- in each epoch that a member has left, all that went of the currency that pays gas is that gas; it has no cap
 abbrev pub OnlyGasLeaves : Type 0
 OnlyGasLeaves = (s : Setting) (events : List Event) → IsHonestRun s events → AreApart s.opening → cap_count s.opening 0 ≡ 0
-    → (m : ℕ) (seat : Seat) → slice_get (world_after s events).seats m ≡ Some seat → (epoch : ℕ) → epoch < (member_in s seat).epoch
+    → (m : ℕ) (seat : Seat) → slice_get (world_after s events).seats m ≡ Some seat → GasHeldBefore s (world_after s events).sequences (member_in s seat).epoch → (epoch : ℕ) → epoch < (member_in s seat).epoch
     → currency_sum (opening_at s (world_after s events).sequences (suc epoch)) 0 + epoch_gas s (world_after s events).sequences epoch
     ≡ currency_sum (opening_at s (world_after s events).sequences epoch) 0
 
@@ -32,7 +37,7 @@ OnlyGasLeaves = (s : Setting) (events : List Event) → IsHonestRun s events →
 abbrev pub CurrenciesAreBacked : Type 0
 CurrenciesAreBacked = (s : Setting) (events : List Event) → IsHonestRun s events → AreApart s.opening
     → (currency : ℕ) → currency ≢ 0 → currency_sum s.opening currency ≡ supply_sum s.opening currency
-    → (m : ℕ) (seat : Seat) → slice_get (world_after s events).seats m ≡ Some seat
+    → (m : ℕ) (seat : Seat) → slice_get (world_after s events).seats m ≡ Some seat → GasHeldBefore s (world_after s events).sequences (member_in s seat).epoch
     → currency_sum (member_in s seat).opening currency ≡ supply_sum (member_in s seat).opening currency
 
 -- ---- set-ups
