@@ -18,6 +18,3 @@ mod writing;
 pub use leaving::left;
 pub use running::run;
 pub use waiting::Waiting;
-
-#[cfg(test)]
-mod tests;
