@@ -1,0 +1,27 @@
+-- The votes that count: a member's last, and that of the first honest member. Source: this profile; votes are those
+-- of Sui Lutris.
+use Rattle.std.specs.Prelude.{ℕ, Bool, List, map, Option, None, if◌then◌else◌}
+use Rattle.std.specs.List.{enumerate_from}
+use Rattle.digest_core.specs.declared.Digest.{Digest}
+use Rattle.chain_spec.specs.Words.{first_of}
+use Rattle.world_spec.specs.World.{Said, Seat}
+use Rattle.world_spec.specs.Step.{last_said, vote_in}
+
+-- the origins of a member's last vote for the transaction
+abbrev pub vote_by : List Said → Digest → ℕ → Option (List (Option Digest))
+vote_by said tx m = last_said (vote_in tx) m said
+
+-- the same, where the member is honest
+abbrev pub vote_if : List Said → Digest → (ℕ × Bool) → Option (List (Option Digest))
+vote_if said tx flag = if flag.1 then vote_by said tx flag.0 else None
+
+-- the last vote of the lowest-numbered honest member that has one, where these members are honest
+abbrev pub first_vote : List Said → Digest → List Bool → Option (List (Option Digest))
+first_vote said tx honest = first_of (vote_if said tx) (enumerate_from 0 honest)
+
+abbrev pub is_honest : Seat → Bool
+is_honest seat = seat.honest
+
+-- which members of a world are honest, by number
+abbrev pub flags_of : List Seat → List Bool
+flags_of seats = map is_honest seats
