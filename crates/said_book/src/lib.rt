@@ -6,6 +6,7 @@
 //! member that stated it. Contracts see both lists, and each answer is that of the definitions on them.
 #![tactic(auto)]
 
+mod collecting;
 mod formed;
 mod forming;
 mod law;
@@ -16,3 +17,5 @@ pub use forming::certificate;
 pub use law::said_in_a_world;
 pub use said::SaidBook;
 
+#[cfg(test)]
+mod tests;
