@@ -1,5 +1,5 @@
 -- What the books find, and what they are behind one more row.
-use Rattle.std.proofs.Common.{◌≡◌, ◌∙◌, ap, sym, refl, ℕ, suc, ◌+◌, ◌&&◌, ◌==◌, Bool, true, false, cond, List, [], ◌∷◌, ◌++◌, length, map, Option, Some, None, option_map, slice_get, subst, Vec, Global}
+use Rattle.std.proofs.Common.{◌≡◌, ◌∙◌, ap, sym, refl, ℕ, ◌&&◌, ◌==◌, Bool, true, false, cond, List, [], ◌∷◌, ◌++◌, length, Option, Some, None, option_map, slice_get, subst, Vec, Global}
 use Rattle.std.specs.Prelude.{bytes_eq, option_and_then}
 use Rattle.std.specs.Map.{lookup}
 use Rattle.indexmap.specs.IndexMap.{insert_entry}
@@ -20,7 +20,7 @@ use Rattle.said_book.specs.declared.said.SaidRow.{SaidRow}
 use Rattle.said_book.specs.declared.said.VoteKey.{VoteKey}
 use Rattle.said_book.specs.declared.formed.FormedRow.{FormedRow}
 use Rattle.said_book.specs.Places.{LastPlaced}
-use Rattle.said_book.specs.Rows.{formed_as, formed_list, is_named, is_vote_of, origins_in, row_cert, row_origins, said_as, said_list, vote_key, vote_key_eq, voted_tx, votes_on, with_vote}
+use Rattle.said_book.specs.Rows.{formed_as, formed_list, is_named, is_vote_of, row_cert, row_origins, said_as, said_list, vote_key, vote_key_eq, voted_tx, with_vote}
 use Rattle.said_book.proofs.Places.{found, placed_more, placed_same}
 
 turned : (a b : List ℕ) → bytes_eq a b ≡ bytes_eq b a

@@ -1,5 +1,5 @@
 -- The weight of a set, one member after the other.
-use Rattle.std.proofs.Common.{◌≡◌, ◌∙◌, ap, sym, refl, ℕ, zero, suc, ◌+◌, ◌<◌, ◌≤◌, List, [], ◌∷◌, length, drop, arith}
+use Rattle.std.proofs.Common.{◌≡◌, ◌∙◌, ap, refl, ℕ, zero, suc, ◌+◌, ◌<◌, ◌≤◌, List, [], ◌∷◌, length, drop, arith}
 use Rattle.std.specs.Prelude.{slice_get, unwrap_or}
 use Rattle.quorum_core.specs.Committee.{is_among, weight_from}
 use Rattle.said_book.specs.Votes.{stake_in}

@@ -1,5 +1,5 @@
 -- What is said of flags, statements and seals is what is said in a world that has them.
-use Rattle.std.proofs.Common.{◌≡◌, ◌∙◌, ap, refl, ℕ, ◌+◌, Bool, List, [], ◌∷◌, Option}
+use Rattle.std.proofs.Common.{◌≡◌, ap, refl, ℕ, ◌+◌, List, [], ◌∷◌}
 use Rattle.std.specs.List.{enumerate_from}
 use Rattle.digest_core.specs.declared.Digest.{Digest}
 use Rattle.chain_spec.specs.Words.{first_of, first_some}

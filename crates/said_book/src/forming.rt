@@ -52,7 +52,12 @@ fn seals_of<S: MakesSeals>(
 ) -> Result<Vec<MemberSeal>, OutOfMemory>
     ensures { IfOk result (λ seals. seals.items ≡ map (sealed_with (S.made sealer.now) bytes.now) members.now) }
 {
-    Ok(members.iter().map(|member| seal_of(sealer, bytes, *member)).collect(alloc)?)
+    Ok(
+        members
+            .iter()
+            .map(|member| seal_of(sealer, bytes, *member))
+            .collect(alloc)?,
+    )
 }
 
 /// The certificate of these members' votes for a transaction, which name these origins: each member seals the same

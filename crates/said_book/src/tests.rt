@@ -21,8 +21,8 @@ const ONE: Digest = Digest([1; 32]);
 /// then `ONE`: computed elsewhere.
 const SEALS: [[u8; 32]; 2] = [
     [
-        225, 227, 116, 187, 131, 240, 200, 177, 132, 111, 88, 78, 32, 249, 190, 61, 225, 38, 93, 106,
-        62, 131, 130, 4, 186, 99, 128, 108, 219, 53, 40, 59,
+        225, 227, 116, 187, 131, 240, 200, 177, 132, 111, 88, 78, 32, 249, 190, 61, 225, 38, 93,
+        106, 62, 131, 130, 4, 186, 99, 128, 108, 219, 53, 40, 59,
     ],
     [
         80, 203, 175, 16, 178, 68, 38, 154, 202, 135, 64, 92, 180, 205, 226, 215, 3, 98, 231, 147,
@@ -127,8 +127,14 @@ fn the_lowest_honest_member_is_asked_first(rt: HostRuntime) -> Result<(), Fail> 
     vote(alloc, &mut book, 2, TX, Some(ONE))?;
     vote(alloc, &mut book, 0, TX, None)?;
     let behind = [false, true, true];
-    assert_eq!(rt; origin(book.first_vote(behind.as_slice(), &TX)), Some(Some(ONE)));
-    assert_eq!(rt; origin(book.first_vote([true, true, true].as_slice(), &TX)), Some(None));
+    assert_eq!(rt;
+        origin(book.first_vote(behind.as_slice(), &TX)),
+        Some(Some(ONE))
+    );
+    assert_eq!(rt;
+        origin(book.first_vote([true, true, true].as_slice(), &TX)),
+        Some(None)
+    );
     assert_eq!(rt; origin(book.first_vote(&behind[..2], &TX)), None);
     Ok(())
 }
@@ -140,7 +146,13 @@ fn votes_are_collected_in_the_order_of_the_causes(rt: HostRuntime) -> Result<(),
     let lacks = collected(&book, equal.as_slice(), [2, 3, 0].as_slice());
     assert_eq!(rt; lacks, Some(Collected::Lacks(3)));
     let short = collected(&book, equal.as_slice(), [0, 2].as_slice());
-    assert_eq!(rt; short, Some(Collected::Short { weight: 2, total: 4 }));
+    assert_eq!(rt;
+        short,
+        Some(Collected::Short {
+            weight: 2,
+            total: 4
+        })
+    );
     let differ = collected(&book, equal.as_slice(), [0, 1, 2].as_slice());
     assert_eq!(rt; differ, Some(Collected::Differ { a: 0, b: 2 }));
     let whole = collected(&book, [2, 2, 1].as_slice(), [1, 0].as_slice());
@@ -153,9 +165,21 @@ fn a_member_named_twice_weighs_once(rt: HostRuntime) -> Result<(), Fail> {
     let book = three_votes(rt.alloc())?;
     let twice = collected(&book, [1, 1, 1].as_slice(), [0, 1, 0].as_slice());
     // Exactly two thirds are no quorum.
-    assert_eq!(rt; twice, Some(Collected::Short { weight: 2, total: 3 }));
+    assert_eq!(rt;
+        twice,
+        Some(Collected::Short {
+            weight: 2,
+            total: 3
+        })
+    );
     let nobody = collected(&book, [1, 1, 1].as_slice(), [].as_slice());
-    assert_eq!(rt; nobody, Some(Collected::Short { weight: 0, total: 3 }));
+    assert_eq!(rt;
+        nobody,
+        Some(Collected::Short {
+            weight: 0,
+            total: 3
+        })
+    );
     Ok(())
 }
 

@@ -1,5 +1,4 @@
-use Rattle.std.proofs.Common.{◌∙◌, ap, sym}
-use Rattle.std.specs.Prelude.{option_copied}
+use Rattle.std.proofs.Common.{◌∙◌}
 use Rattle.said_book.proofs.Books.{vote_found}
 use Rattle.said_book.proofs.said.SaidBook.vote_of.Goals as goal
 
