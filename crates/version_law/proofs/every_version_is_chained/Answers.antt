@@ -1,0 +1,5 @@
+use Rattle.version_law.proofs.Linked.{all-passed}
+use Rattle.version_law.proofs.every_version_is_chained.Goals as goal
+
+pub returns : goal.returns
+returns c = ?
