@@ -61,11 +61,16 @@ taken-below x p o h i named =
     let at = written-version x p h in
     omega (arith, low, at)
 
-same-version : (x y : Step) → IsSame x y → (p q : Object) → Has (gave x).objects p → Has (gave y).objects q → p.version ≡ q.version
-same-version x y same p q h k = written-version x p h ∙ sym (written-version x q (subst (λ (g : Executed). Has g.objects q) (sym same.given) k))
+effects-version : (t : Transaction) (objects : List Object) → (execution t objects).effects.version ≡ version_of objects
+unfolding execution
+effects-version t objects = go (outcome t (transaction_digest t) objects)
+  where
+    go : (r : Result Block Failure) → (executed_by t (transaction_digest t) objects r).effects.version ≡ version_of objects
+    go (Ok b) = refl
+    go (Err failure) = refl
 
-back : (x y : Step) → IsSame x y → IsSame y x
-back x y e = record { digest = sym e.digest; given = sym e.given }
+same-version : (x y : Step) → IsSame x y → version_of x.inputs ≡ version_of y.inputs
+same-version x y same = sym (effects-version x.tx x.inputs) ∙ ap (λ (g : Executed). g.effects.version) same.given ∙ effects-version y.tx y.inputs
 
 module _ (opening : List Object) (Among : Step → Type 0) (f : IsFamily opening Among) where
   abbrev pub There : Object → Type 0
@@ -73,19 +78,20 @@ module _ (opening : List Object) (Among : Step → Type 0) (f : IsFamily opening
 
   -- ---- what a transaction made, or was there as the epoch opened, is the least version of its id
 
-  made-least : (n : ℕ) (x : Step) → Among x → (id : ObjectId) → Makes x id → (o p : Object) → Has (gave x).objects p → There o → o.id ≡ id → o.version < n → p.version ≤ o.version
-  made-least zero x ax id makes o p wrote there e less = absurd (omega (arith, less))
-  made-least (suc n) x ax id makes o p wrote (inl h) e less = absurd (f.fresh x ax id makes (o, h, e))
-  made-least (suc n) x ax id makes o p wrote (inr (y, ay, h)) e less = go (touched-object y o h) (λ q k i. made-least n x ax id makes q p wrote k i)
+  made-least : (n : ℕ) (x : Step) → Among x → (id : ObjectId) → Makes x id → (o : Object) → There o → o.id ≡ id → o.version < n → version_of x.inputs ≤ o.version
+  made-least zero x ax id makes o there e less = absurd (omega (arith, less))
+  made-least (suc n) x ax id makes o (inl h) e less = absurd (f.fresh x ax id makes (o, h, e))
+  made-least (suc n) x ax id makes o (inr (y, ay, h)) e less = go (touched-object y o h) (λ q k i. made-least n x ax id makes q k i)
     where
-      go : IsTouched y o.id → ((q : Object) → There q → q.id ≡ id → q.version < n → p.version ≤ q.version) → p.version ≤ o.version
+      go : IsTouched y o.id → ((q : Object) → There q → q.id ≡ id → q.version < n → version_of x.inputs ≤ q.version) → version_of x.inputs ≤ o.version
       go (inl r) before =
           let low = taken-below y o r.old h r.of r.named in
           let rest = before r.old (f.sources y ay r.of r.old r.named) (r.same ∙ e) (omega (arith, low, less)) in
           omega (arith, low, rest)
       go (inr also) before =
-          let one = same-version x y (f.makers x y ax ay id makes (subst (Makes y) e also)) p o wrote h in
-          omega (arith, one)
+          let one = same-version x y (f.makers x y ax ay id makes (subst (Makes y) e also)) in
+          let at = written-version y o h in
+          omega (arith, one, at)
 
   opened-least : (n : ℕ) (p : Object) → Has opening p → (o : Object) → There o → o.id ≡ p.id → o.version < n → p.version ≤ o.version
   opened-least zero p k o there e less = absurd (omega (arith, less))
@@ -102,7 +108,10 @@ module _ (opening : List Object) (Among : Step → Type 0) (f : IsFamily opening
       go (inr makes) before = absurd (f.fresh y ay o.id makes (p, k, sym e))
 
   least-made : (x : Step) → Among x → (p : Object) → Has (gave x).objects p → Makes x p.id → (o : Object) → There o → o.id ≡ p.id → p.version ≤ o.version
-  least-made x ax p wrote makes o there e = made-least (suc o.version) x ax p.id makes o p wrote there e (omega arith)
+  least-made x ax p wrote makes o there e =
+      let rest = made-least (suc o.version) x ax p.id makes o there e (omega arith) in
+      let at = written-version x p wrote in
+      omega (arith, rest, at)
 
   -- no transaction writes a key of an opening object
   pub above-opening : (x : Step) → Among x → (p : Object) → Has (gave x).objects p → (o : Object) → Has opening o → o.id ≡ p.id → o.version < p.version
@@ -117,27 +126,30 @@ module _ (opening : List Object) (Among : Step → Type 0) (f : IsFamily opening
 
   -- ---- no transaction writes an id twice
 
-  named-not-drawn : (x : Step) → Among x → (id : ObjectId) → Has (named_ids x.tx) id → Makes x id → (p : Object) → Has (gave x).objects p → ⊥
-  named-not-drawn x ax id named makes p wrote =
+  named-not-drawn : (x : Step) → Among x → (id : ObjectId) → Has (named_ids x.tx) id → Makes x id → ⊥
+  named-not-drawn x ax id named makes =
       let o = has-mapped id_of x.inputs id (subst (λ (ids : List ObjectId). Has ids id) (sym (objects-ids x.tx x.inputs (f.fit x ax))) named) in
       let i = input-of x.tx (objects_of x.tx) x.inputs o.0 (fits-inputs x.tx x.inputs (f.fit x ax)) o.1 in
-      let low = taken-below x p o.0 wrote i.0 i.1 in
-      let high = made-least (suc o.0.version) x ax id makes o.0 p wrote (f.sources x ax i.0 o.0 i.1) o.2 (omega arith) in
+      let low = above x.inputs o.0 o.1 in
+      let high = made-least (suc o.0.version) x ax id makes o.0 (f.sources x ax i.0 o.0 i.1) o.2 (omega arith) in
       absurd (omega (arith, low, high))
 
-  touched-once : (x : Step) → Among x → (p : Object) → Has (gave x).objects p → repeats id_eq (touched_ids x.tx (gave x).effects) ≡ false
-  touched-once x ax p wrote = subst (λ (d : Digest). repeats id_eq (named_ids x.tx ++ drawn_ids d (gave x).effects.created) ≡ false) (sym (effects-tx x.tx x.inputs))
+  touched-once : (x : Step) → Among x → repeats id_eq (touched_ids x.tx (gave x).effects) ≡ false
+  touched-once x ax = subst (λ (d : Digest). repeats id_eq (named_ids x.tx ++ drawn_ids d (gave x).effects.created) ≡ false) (sym (effects-tx x.tx x.inputs))
       (repeats-append (named_ids x.tx) (drawn_ids (transaction_digest x.tx) (gave x).effects.created) (f.names x ax) (f.draws x ax) apart)
     where
       apart : (a b : ObjectId) → Has (named_ids x.tx) a → Has (drawn_ids (transaction_digest x.tx) (gave x).effects.created) b → a ≡ b → ⊥
       apart a b named drawn e =
           let k = has-mapped (drawn_id (transaction_digest x.tx)) (numbers_below (gave x).effects.created) b drawn in
-          named-not-drawn x ax a named (k.0, below (gave x).effects.created k.0 k.1, k.2 ∙ sym e) p wrote
+          named-not-drawn x ax a named (k.0, below (gave x).effects.created k.0 k.1, k.2 ∙ sym e)
+
+  pub gave-once : (x : Step) → Among x → repeats id_eq (map id_of (gave x).objects ++ (gave x).effects.deleted) ≡ false
+  gave-once x ax = given-once opening x (f.fit x ax) (touched-once x ax)
 
   -- what it writes under one id is one object
   pub wrote-once : (x : Step) → Among x → (p q : Object) → Has (gave x).objects p → Has (gave x).objects q → p.id ≡ q.id → p ≡ q
   wrote-once x ax p q h k e =
-      let once = given-once opening x (f.fit x ax) (touched-once x ax p h) in
+      let once = gave-once x ax in
       some-same p q (sym (stands-after (map_of opening) (gave x) p once h) ∙ ap (get (map_after (map_of opening) (gave x))) e ∙ stands-after (map_of opening) (gave x) q once k)
 
   -- ---- the chain
@@ -160,9 +172,11 @@ module _ (opening : List Object) (Among : Step → Type 0) (f : IsFamily opening
   -- what a transaction took, where another took a lower version for the same version
   not-passed : (x : Step) → Among x → (p : Object) → Has (gave x).objects p → (a b : Object) → MayWrite x a → b.version < p.version → IsPassed a b → ⊥
   not-passed x ax p wrote a b took less e =
-      let same = same-version e.by x (f.takers e.by x e.among ax a e.took took) e.next p e.wrote wrote in
+      let same = same-version e.by x (f.takers e.by x e.among ax a e.took took) in
+      let at = written-version e.by e.next e.wrote in
+      let high = written-version x p wrote in
       let low = e.low in
-      absurd (omega (arith, same, low, less))
+      absurd (omega (arith, same, at, high, low, less))
 
   module _ (n : ℕ) (before : Below n) where
     -- two transactions that write one key are one

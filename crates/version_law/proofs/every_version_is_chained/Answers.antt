@@ -1,3 +1,4 @@
+use Rattle.version_law.proofs.Rising.{rising}
 use Rattle.version_law.proofs.Linked.{all-passed}
 use Rattle.version_law.proofs.every_version_is_chained.Goals as goal
 
