@@ -1,3 +1,5 @@
 pub mod Family
 pub mod Linked
 pub mod Rising
+pub mod Settled
+pub mod Reading
