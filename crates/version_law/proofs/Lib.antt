@@ -3,3 +3,4 @@ pub mod Linked
 pub mod Rising
 pub mod Settled
 pub mod Reading
+pub mod Takers

@@ -72,6 +72,16 @@ effects-version t objects = go (outcome t (transaction_digest t) objects)
 same-version : (x y : Step) → IsSame x y → version_of x.inputs ≡ version_of y.inputs
 same-version x y same = sym (effects-version x.tx x.inputs) ∙ ap (λ (g : Executed). g.effects.version) same.given ∙ effects-version y.tx y.inputs
 
+-- one of these took the lower version, and wrote the next one of its id, which is not above the higher
+pub record IsPassed (Among : Step → Type 0) (a b : Object) : Type 0 where
+  pub by : Step
+  pub among : Among by
+  pub took : MayWrite by a
+  pub next : Object
+  pub wrote : Has (gave by).objects next
+  pub id_is : next.id ≡ a.id
+  pub low : next.version ≤ b.version
+
 module _ (opening : List Object) (Among : Step → Type 0) (f : IsFamily opening Among) where
   abbrev pub There : Object → Type 0
   There = IsThere opening Among
@@ -154,23 +164,14 @@ module _ (opening : List Object) (Among : Step → Type 0) (f : IsFamily opening
 
   -- ---- the chain
 
-  pub record IsPassed (a b : Object) : Type 0 where
-    pub by : Step
-    pub among : Among by
-    pub took : MayWrite by a
-    pub next : Object
-    pub wrote : Has (gave by).objects next
-    pub id_is : next.id ≡ a.id
-    pub low : next.version ≤ b.version
-
   abbrev pub IsLinked : Object → Object → Type 0
-  IsLinked a b = (a ≡ b) ⊎ IsPassed a b
+  IsLinked a b = (a ≡ b) ⊎ IsPassed Among a b
 
   abbrev Below : ℕ → Type 0
   Below n = (a b : Object) → There a → There b → a.id ≡ b.id → a.version ≤ b.version → b.version < n → IsLinked a b
 
   -- what a transaction took, where another took a lower version for the same version
-  not-passed : (x : Step) → Among x → (p : Object) → Has (gave x).objects p → (a b : Object) → MayWrite x a → b.version < p.version → IsPassed a b → ⊥
+  not-passed : (x : Step) → Among x → (p : Object) → Has (gave x).objects p → (a b : Object) → MayWrite x a → b.version < p.version → IsPassed Among a b → ⊥
   not-passed x ax p wrote a b took less e =
       let same = same-version e.by x (f.takers e.by x e.among ax a e.took took) in
       let at = written-version e.by e.next e.wrote in
@@ -229,11 +230,11 @@ module _ (opening : List Object) (Among : Step → Type 0) (f : IsFamily opening
         let same = one-writer x y ax ay a b h k e v (omega (arith, v, less)) in
         wrote-once x ax a b h (subst (λ (g : Executed). Has g.objects b) (sym same.given) k) e
 
-    passed-on : (a b : Object) → There a → There b → a.id ≡ b.id → a.version < b.version → b.version < suc n → IsPassed a b
+    passed-on : (a b : Object) → There a → There b → a.id ≡ b.id → a.version < b.version → b.version < suc n → IsPassed Among a b
     passed-on a b there (inl k) e lt less = let low = opened-least (suc a.version) b k a there e (omega arith) in absurd (omega (arith, low, lt))
     passed-on a b there (inr (z, az, k)) e lt less = go (touched-object z b k)
       where
-        higher : (r : IsReplaced z b.id) → IsLinked a r.old → IsPassed a b
+        higher : (r : IsReplaced z b.id) → IsLinked a r.old → IsPassed Among a b
         higher r (inl one) = record {
           by = z;
           among = az;
@@ -248,17 +249,17 @@ module _ (opening : List Object) (Among : Step → Type 0) (f : IsFamily opening
             let rest = p.low in
             record { by = p.by; among = p.among; took = p.took; next = p.next; wrote = p.wrote; id_is = p.id_is; low = omega (arith, low, rest) }
 
-        lower : (r : IsReplaced z b.id) → r.old.version < a.version → IsLinked r.old a → IsPassed a b
+        lower : (r : IsReplaced z b.id) → r.old.version < a.version → IsLinked r.old a → IsPassed Among a b
         lower r under (inl one) = let same = ap (λ (o : Object). o.version) one in absurd (omega (arith, same, under))
         lower r under (inr p) = absurd (not-passed z az b k r.old a (r.of, r.named, r.may_write) lt p)
 
-        order : (r : IsReplaced z b.id) → (r.old.version < a.version) ⊎ (a.version ≤ r.old.version) → IsPassed a b
+        order : (r : IsReplaced z b.id) → (r.old.version < a.version) ⊎ (a.version ≤ r.old.version) → IsPassed Among a b
         order r (inl under) = lower r under (before r.old a (f.sources z az r.of r.old r.named) there (r.same ∙ sym e) (omega (arith, under)) (omega (arith, lt, less)))
         order r (inr le) =
             let low = taken-below z b r.old k r.of r.named in
             higher r (before a r.old there (f.sources z az r.of r.old r.named) (e ∙ sym r.same) le (omega (arith, low, less)))
 
-        go : IsTouched z b.id → IsPassed a b
+        go : IsTouched z b.id → IsPassed Among a b
         go (inr made) = let high = least-made z az b k made a there e in absurd (omega (arith, high, lt))
         go (inl r) = order r (nat-order r.old.version a.version)
 
@@ -272,7 +273,7 @@ module _ (opening : List Object) (Among : Step → Type 0) (f : IsFamily opening
 
   -- ---- the whole
 
-  pub all-passed : (a b : Object) → There a → There b → a.id ≡ b.id → a.version < b.version → IsPassed a b
+  pub all-passed : (a b : Object) → There a → There b → a.id ≡ b.id → a.version < b.version → IsPassed Among a b
   all-passed a b there also e lt = passed-on b.version (linked-below b.version) a b there also e lt (omega arith)
 
   pub all-one : (a b : Object) → There a → There b → a.id ≡ b.id → a.version ≡ b.version → a ≡ b
@@ -280,3 +281,45 @@ module _ (opening : List Object) (Among : Step → Type 0) (f : IsFamily opening
 
   pub all-writers : (x y : Step) → Among x → Among y → (p q : Object) → Has (gave x).objects p → Has (gave y).objects q → p.id ≡ q.id → p.version ≡ q.version → IsSame x y
   all-writers x y ax ay p q h k e v = one-writer p.version (linked-below p.version) x y ax ay p q h k e v (omega arith)
+
+  -- ---- some of them that read what is there of them
+
+  module _ (In : Step → Type 0) (inside : (x : Step) → In x → Among x) (sources : (x : Step) → In x → (i : Input) (o : Object) → Has (zip (objects_of x.tx) x.inputs) (i, o) → IsThere opening In o) where
+    abbrev Within : Object → Type 0
+    Within = IsThere opening In
+
+    within : (o : Object) → Within o → There o
+    within o (inl h) = inl h
+    within o (inr (x, ix, h)) = inr (x, inside x ix, h)
+
+    -- what is below one that is there is there as well, and they passed it on
+    lower-within : (n : ℕ) (a b : Object) → There a → Within b → a.id ≡ b.id → a.version < b.version → b.version < n → Within a × IsPassed In a b
+    lower-within zero a b there also e lt less = absurd (omega (arith, less))
+    lower-within (suc n) a b there (inl k) e lt less = let low = opened-least (suc a.version) b k a there e (omega arith) in absurd (omega (arith, low, lt))
+    lower-within (suc n) a b there (inr (z, iz, k)) e lt less = go (touched-object z b k) (λ r w. lower-within n a r there w)
+      where
+        higher : (r : IsReplaced z b.id) → a.version < r.old.version → Within a × IsPassed In a r.old → Within a × IsPassed In a b
+        higher r under (w, p) =
+            let low = taken-below z b r.old k r.of r.named in
+            let rest = p.low in
+            (w, record { by = p.by; among = p.among; took = p.took; next = p.next; wrote = p.wrote; id_is = p.id_is; low = omega (arith, low, rest) })
+
+        equal : (r : IsReplaced z b.id) → a ≡ r.old → Within a × IsPassed In a b
+        equal r one = (
+          subst Within (sym one) (sources z iz r.of r.old r.named),
+          record { by = z; among = iz; took = subst (MayWrite z) (sym one) (r.of, r.named, r.may_write); next = b; wrote = k; id_is = sym e; low = omega arith },
+        )
+
+        order : (r : IsReplaced z b.id) → ((q : Object) → Within q → a.id ≡ q.id → a.version < q.version → q.version < n → Within a × IsPassed In a q) → (r.old.version < a.version) ⊎ (a.version ≤ r.old.version) → (a.version < r.old.version) ⊎ (r.old.version ≤ a.version) → Within a × IsPassed In a b
+        order r before (inl under) other = absurd (not-passed z (inside z iz) b k r.old a (r.of, r.named, r.may_write) lt (all-passed r.old a (f.sources z (inside z iz) r.of r.old r.named) there (r.same ∙ sym e) under))
+        order r before (inr le) (inl under) =
+            let low = taken-below z b r.old k r.of r.named in
+            higher r under (before r.old (sources z iz r.of r.old r.named) (e ∙ sym r.same) under (omega (arith, low, less)))
+        order r before (inr le) (inr ge) = equal r (all-one a r.old there (f.sources z (inside z iz) r.of r.old r.named) (e ∙ sym r.same) (omega (arith, le, ge)))
+
+        go : IsTouched z b.id → ((q : Object) → Within q → a.id ≡ q.id → a.version < q.version → q.version < n → Within a × IsPassed In a q) → Within a × IsPassed In a b
+        go (inr made) before = let high = least-made z (inside z iz) b k made a there e in absurd (omega (arith, high, lt))
+        go (inl r) before = order r before (nat-order r.old.version a.version) (nat-order a.version r.old.version)
+
+    pub all-within : (a b : Object) → There a → Within b → a.id ≡ b.id → a.version < b.version → Within a × IsPassed In a b
+    all-within a b there also e lt = lower-within (suc b.version) a b there also e lt (omega arith)

@@ -1,3 +1,4 @@
+use Rattle.version_law.proofs.Takers.{one-taker}
 use Rattle.version_law.proofs.Settled.{peers}
 use Rattle.version_law.proofs.Reading.{shared-read}
 use Rattle.version_law.proofs.Rising.{rising}
