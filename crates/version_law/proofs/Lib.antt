@@ -4,3 +4,4 @@ pub mod Rising
 pub mod Settled
 pub mod Reading
 pub mod Takers
+pub mod Executed

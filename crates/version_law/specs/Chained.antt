@@ -1,6 +1,7 @@
--- The versions of each object that a member holds in an epoch, in whatever order they were written: one chain. Source:
--- Sui Lutris (owned versions are consumed once, shared ones are written in the order of admission).
-use Rattle.std.specs.Prelude.{◌≡◌, ◌<◌, ◌≤◌, ℕ, true, List, zip, slice_get, Some}
+-- The versions of each object in an epoch: one chain, whatever members executed and in whatever order, also before they
+-- saw it in the sequence. Source: Sui Lutris (an owned version is consumed once, shared ones are written in the order
+-- of admission).
+use Rattle.std.specs.Prelude.{◌≡◌, ◌<◌, ◌≤◌, ℕ, true, List, ◌++◌, zip, slice_get, Some}
 use Rattle.chain_types.specs.declared.objects.Object.{Object}
 use Rattle.chain_types.specs.declared.transactions.Input.{Input}
 use Rattle.member_types.specs.declared.answers.Held.{Held}
@@ -21,7 +22,7 @@ use Rattle.chain_law.specs.Orderly.{Step, gave, AreApart}
 abbrev pub MayWrite : Step → Object → Type 0
 MayWrite x o = (i : Input) × Has (zip (objects_of x.tx) x.inputs) (i, o) × (is_written i ≡ true)
 
--- the member executed the transaction of a certificate that it holds, admitted or not, on the objects that it wants
+-- the member executed the transaction of a certificate that it holds, on the objects that it wants
 pub record IsExecutedAs (m : Member) (x : Step) : Type 0 where
   pub of : Held
   pub is_held : Has m.held of
@@ -29,25 +30,33 @@ pub record IsExecutedAs (m : Member) (x : Step) : Type 0 where
   pub there : present (books m) m.executed of ≡ Some x.inputs
   pub executed : Has m.executed (executes_as of (gave x))
 
--- an executed transaction took this version and wrote the next one of its id, which is not above that one
-pub record IsPassedOn (m : Member) (a b : Object) : Type 0 where
+abbrev pub Holds : Member → Version → Type 0
+Holds m v = Has (versions m.opening m.executed) v
+
+-- The member holds the lower version too, and executed the transaction that took it and wrote the next one of the id,
+-- which is not above the higher version.
+pub record IsPassedOn (m : Member) (lower higher : Version) : Type 0 where
+  pub held : Holds m lower
   pub by : Step
   pub executed : IsExecutedAs m by
-  pub took : MayWrite by a
+  pub took : MayWrite by lower.object
   pub next : Object
   pub wrote : Has (gave by).objects next
-  pub id_is : next.id ≡ a.id
-  pub above : a.version < next.version
-  pub low : next.version ≤ b.version
+  pub id_is : next.id ≡ lower.object.id
+  pub above : lower.object.version < next.version
+  pub low : next.version ≤ higher.object.version
 
--- Each key is held once; of two versions of one id the lower was passed on; and each version was taken by one executed
--- transaction at most.
-pub record AreChained (m : Member) : Type 0 where
-  pub one : (u v : Version) → Has (versions m.opening m.executed) u → Has (versions m.opening m.executed) v → object_key u.object ≡ object_key v.object → u ≡ v
-  pub next : (u v : Version) → Has (versions m.opening m.executed) u → Has (versions m.opening m.executed) v → u.object.id ≡ v.object.id → u.object.version < v.object.version → IsPassedOn m u.object v.object
-  pub taker : (x y : Step) → IsExecutedAs m x → IsExecutedAs m y → (o : Object) → MayWrite x o → MayWrite y o → x ≡ y
+-- Of what two members hold: one version has each key; of two versions of one id the lower one was passed on; and each
+-- version was taken by one transaction at most.
+pub record AreOneChain (p q : Member) : Type 0 where
+  pub one : (u v : Version) → Holds p u → Holds q v → object_key u.object ≡ object_key v.object → u ≡ v
+  pub lower : (u v : Version) → Holds p u → Holds q v → u.object.id ≡ v.object.id → u.object.version < v.object.version → IsPassedOn q u v
+  pub higher : (u v : Version) → Holds p u → Holds q v → u.object.id ≡ v.object.id → v.object.version < u.object.version → IsPassedOn p v u
+  pub taker : (x y : Step) → IsExecutedAs p x → IsExecutedAs q y → (o : Object) → MayWrite x o → MayWrite y o → x.tx ≡ y.tx
 
--- so it is at every member, in every run under the run assumptions
-abbrev pub EveryVersionIsChained : Type 0
-EveryVersionIsChained = (s : Setting) (events : List Event) → IsHonestRun s events → AreApart s.opening
-    → (m : ℕ) (seat : Seat) → slice_get (world_after s events).seats m ≡ Some seat → AreChained (member_in s seat)
+-- so it is for two members of one epoch, at whatever two moments of a run under the run assumptions; the members, and
+-- the moments, may be the same
+abbrev pub VersionsAreOneChain : Type 0
+VersionsAreOneChain = (s : Setting) (front back : List Event) → IsHonestRun s (front ++ back) → AreApart s.opening
+    → (m n : ℕ) (a b : Seat) → slice_get (world_after s front).seats m ≡ Some a → slice_get (world_after s (front ++ back)).seats n ≡ Some b
+    → (member_in s a).epoch ≡ (member_in s b).epoch → AreOneChain (member_in s a) (member_in s b)

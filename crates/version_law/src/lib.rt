@@ -1,10 +1,34 @@
-//! The versions of each object in an epoch form one chain, whatever a member executed and in whatever order.
+//! The versions of each object in an epoch form one chain, whatever members executed and in whatever order; so no key
+//! that a certificate writes is there already, and what has its inputs is ready.
 #![tactic(auto)]
 
-ghost use Rattle.version_law.specs.Chained.{EveryVersionIsChained};
+ghost use Rattle.version_law.specs.Chained.{VersionsAreOneChain};
+ghost use Rattle.version_law.specs.Ready.{NothingClashes, OwnedIsReady, PresentIsReady, WritesNewKeys};
 
-/// Under the run assumptions, at every member the versions of each id that it holds form one chain: of two of them the
-/// lower was taken by an executed transaction that wrote the next one, and no other executed transaction took it.
-pub fn every_version_is_chained()
-    ensures { EveryVersionIsChained }
+/// Under the run assumptions, the versions of each id that the members of an epoch hold form one chain: of two of them
+/// the lower one was taken by an executed transaction that wrote the next one, and no other transaction took it. This is
+/// so for executions of admitted certificates and of those that no sequence has shown yet.
+pub fn versions_are_one_chain()
+    ensures { VersionsAreOneChain }
+{}
+
+/// Of a held certificate that was not executed, whose inputs are present and fit, and that is admitted if it has a shared
+/// input, no written key is there already, and none is written twice.
+pub fn writes_new_keys()
+    ensures { WritesNewKeys }
+{}
+
+/// So it is ready.
+pub fn present_is_ready()
+    ensures { PresentIsReady }
+{}
+
+/// Without shared inputs it fits where its inputs are present: it is ready as soon as they are.
+pub fn owned_is_ready()
+    ensures { OwnedIsReady }
+{}
+
+/// No two such certificates write one key, whether they were executed or not, so that none waits for another's round.
+pub fn nothing_clashes()
+    ensures { NothingClashes }
 {}
