@@ -5,3 +5,4 @@ pub mod Settled
 pub mod Reading
 pub mod Takers
 pub mod Executed
+pub mod Chains

@@ -55,7 +55,7 @@ nat-order a b = go (nat_lt a b) refl
 
 -- ---- a written version is above what was taken for it
 
-taken-below : (x : Step) (p o : Object) → Has (gave x).objects p → (i : Input) → Has (zip (objects_of x.tx) x.inputs) (i, o) → o.version < p.version
+pub taken-below : (x : Step) (p o : Object) → Has (gave x).objects p → (i : Input) → Has (zip (objects_of x.tx) x.inputs) (i, o) → o.version < p.version
 taken-below x p o h i named =
     let low = above x.inputs o (has-second (objects_of x.tx) x.inputs i o named) in
     let at = written-version x p h in

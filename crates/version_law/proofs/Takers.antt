@@ -108,7 +108,7 @@ module _ (s : Setting) (events : List Event) (honest : IsHonestRun s events) whe
     pub digest-of : it.of.digest ≡ transaction_digest x.tx
     digest-of = given.digest_is ∙ ap transaction_digest it.tx
 
-    in-run : Has (all_transactions s events) x.tx
+    pub in-run : Has (all_transactions s events) x.tx
     in-run = subst (Has (all_transactions s events)) it.tx (of-run s events it.of.cert given.comes)
 
     epoch-of : x.tx.epoch ≡ m.epoch

@@ -1,4 +1,4 @@
-use Rattle.version_law.proofs.Executed.{family}
+use Rattle.version_law.proofs.Chains.{one-chain}
 use Rattle.version_law.proofs.versions_are_one_chain.Goals as goal
 
 pub returns : goal.returns
