@@ -6,3 +6,5 @@ pub mod Reading
 pub mod Takers
 pub mod Executed
 pub mod Chains
+pub mod Moments
+pub mod Ready

@@ -1,5 +1,5 @@
-use Rattle.version_law.proofs.Executed.{family}
+use Rattle.version_law.proofs.Ready.{owned-is-ready}
 use Rattle.version_law.proofs.owned_is_ready.Goals as goal
 
 pub returns : goal.returns
-returns c = ?
+returns c = owned-is-ready
