@@ -8,3 +8,4 @@ pub mod Executed
 pub mod Chains
 pub mod Moments
 pub mod Ready
+pub mod Ending

@@ -44,7 +44,7 @@ use Rattle.version_law.proofs.Moments.{own-peers}
 
 -- ---- lists
 
-none-any : {A : Type 0} (test : A → Bool) (xs : List A) → ((x : A) → Has xs x → test x ≡ true → ⊥) → list_any test xs ≡ false
+pub none-any : {A : Type 0} (test : A → Bool) (xs : List A) → ((x : A) → Has xs x → test x ≡ true → ⊥) → list_any test xs ≡ false
 none-any test [] none = refl
 none-any test (x ∷ xs) none = go (test x) refl (none-any test xs (λ y h. none y (inr h)))
   where
@@ -61,7 +61,7 @@ has-find test (y ∷ ys) x h e = go (test y) refl h (λ k. has-find test ys x k 
     go false q (inl p) rest = absurd (let same = ap test p in cc)
     go false q (inr h) rest = rest h
 
-was-executed : (executed : List Execution) (y : Execution) (d : Digest) → Has executed y → y.digest ≡ d → is_executed executed d ≡ true
+pub was-executed : (executed : List Execution) (y : Execution) (d : Digest) → Has executed y → y.digest ≡ d → is_executed executed d ≡ true
 was-executed executed y d h e = has-find (λ (x : Execution). digest_eq x.digest d) executed y h (subst (λ (z : Digest). digest_eq y.digest z ≡ true) e (digest-same y.digest))
 
 -- objects with different ids have different keys

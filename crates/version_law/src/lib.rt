@@ -3,6 +3,7 @@
 #![tactic(auto)]
 
 ghost use Rattle.version_law.specs.Chained.{VersionsAreOneChain};
+ghost use Rattle.version_law.specs.Left.{NextRoundTakesAll, NothingIsReadyBehindARun, OwnedDueIsReady, OwnedIsNotLeft};
 ghost use Rattle.version_law.specs.Ready.{NothingClashes, OwnedIsReady, PresentIsReady, WritesNewKeys};
 
 /// Under the run assumptions, the versions of each id that the members of an epoch hold form one chain: of two of them
@@ -31,4 +32,25 @@ pub fn owned_is_ready()
 /// No two such certificates write one key, whether they were executed or not, so that none waits for another's round.
 pub fn nothing_clashes()
     ensures { NothingClashes }
+{}
+
+/// What is ready is executed by the next round.
+pub fn next_round_takes_all()
+    ensures { NextRoundTakesAll }
+{}
+
+/// Behind the rounds of a run nothing is ready, whatever is held.
+pub fn nothing_is_ready_behind_a_run()
+    ensures { NothingIsReadyBehindARun }
+{}
+
+/// Under the run assumptions, a held certificate without shared inputs whose origins were executed is ready, where it
+/// was not executed itself.
+pub fn owned_due_is_ready()
+    ensures { OwnedDueIsReady }
+{}
+
+/// So where nothing is ready, as behind a run, none without shared inputs is left.
+pub fn owned_is_not_left()
+    ensures { OwnedIsNotLeft }
 {}
