@@ -9,3 +9,4 @@ pub mod Chains
 pub mod Moments
 pub mod Ready
 pub mod Ending
+pub mod Due
