@@ -1,11 +1,10 @@
 -- What two members of one epoch hold is one chain.
-use Rattle.std.proofs.Common.{inl, inr, refl, sym, subst, ap, ◌∙◌, arith, append-nil}
-use Rattle.std.specs.Prelude.{◌≡◌, ◌⊎◌, ◌<◌, ℕ, List, [], ◌++◌, map, flat_map, zip, slice_get, Some}
+use Rattle.std.proofs.Common.{inl, inr, refl, sym, subst, ap, ◌∙◌, arith}
+use Rattle.std.specs.Prelude.{◌≡◌, ◌⊎◌, ◌<◌, List, map, flat_map, zip}
 use Rattle.digest_core.specs.declared.Digest.{Digest}
 use Rattle.chain_types.specs.declared.objects.ObjectKey.{ObjectKey}
 use Rattle.chain_types.specs.declared.objects.Object.{Object}
 use Rattle.chain_types.specs.declared.transactions.Input.{Input}
-use Rattle.chain_types.specs.declared.transactions.Transaction.{Transaction}
 use Rattle.chain_types.specs.Digests.{transaction_digest}
 use Rattle.block_types.specs.declared.pieces.Executed.{Executed}
 use Rattle.schedule_text.specs.declared.words.Event.{Event}
@@ -15,23 +14,18 @@ use Rattle.member_spec.specs.Versions.{Execution, Version, opened, written, writ
 use Rattle.member_spec.specs.Rounds.{executes_as}
 use Rattle.member_spec.specs.Member.{Member}
 use Rattle.world_spec.specs.Setting.{Setting}
-use Rattle.world_spec.specs.World.{Seat, member_in}
-use Rattle.world_spec.specs.Run.{world_after}
-use Rattle.world_spec.specs.Assumptions.{IsHonestRun, all_transactions}
-use Rattle.one_owner_law.proofs.Fronts.{honest-front}
+use Rattle.world_spec.specs.Assumptions.{IsHonestRun}
 use Rattle.votes_law.proofs.Once.{has-left}
 use Rattle.chain_law.specs.Orderly.{Step, gave, AreApart}
 use Rattle.chain_law.proofs.Reading.{has-right}
 use Rattle.current_law.specs.Orderly.{OpensApart}
 use Rattle.current_law.proofs.Lists.{map-has}
-use Rattle.current_law.proofs.Known.{opens-apart}
-use Rattle.current_law.proofs.Same.{executions-same}
 use Rattle.epoch_law.proofs.Turned.{flat-has}
 use Rattle.present_law.proofs.Present.{IsOpened, IsWrote, version-from}
 use Rattle.version_law.specs.Chained.{MayWrite, IsExecutedAs, Holds, IsPassedOn, AreOneChain}
-use Rattle.version_law.proofs.Family.{IsSame, IsThere, IsFamily}
+use Rattle.version_law.proofs.Family.{IsThere, IsFamily}
 use Rattle.version_law.proofs.Linked.{IsPassed, all-one, all-writers, all-within, above-opening, taken-below}
-use Rattle.version_law.proofs.Settled.{IsSettled, ArePeers, settled, peers}
+use Rattle.version_law.proofs.Settled.{IsSettled, ArePeers}
 use Rattle.version_law.proofs.Reading.{IsRunnable, read-from}
 use Rattle.version_law.proofs.Executed.{step-of, executed-digest, runs-it, family}
 use Rattle.version_law.proofs.Takers.{in-run, one-taker}

@@ -1,6 +1,6 @@
 -- What is due and has no shared input is ready, and what is ready is executed by the next round.
-use Rattle.std.proofs.Common.{inl, inr, refl, sym, subst, ap, ◌∙◌}
-use Rattle.std.specs.Prelude.{◌≡◌, ◌⊎◌, ℕ, Bool, true, false, not, ◌&&◌, ◌||◌, List, [], ◌∷◌, ◌++◌, map, zip, filter, slice_get, Option, Some, None, is_some}
+use Rattle.std.proofs.Common.{inl, inr, refl, subst, ap, ◌∙◌}
+use Rattle.std.specs.Prelude.{◌≡◌, ℕ, Bool, true, false, not, ◌&&◌, List, [], ◌∷◌, ◌++◌, map, zip, filter, slice_get, Option, Some, None, is_some}
 use Rattle.std.specs.List.{list_any, list_all}
 use Rattle.digest_core.specs.declared.Digest.{Digest}
 use Rattle.chain_types.specs.declared.objects.ObjectKey.{ObjectKey}
@@ -9,17 +9,16 @@ use Rattle.chain_types.specs.declared.transactions.Input.{Input}
 use Rattle.chain_types.specs.declared.transactions.Input.TheVariants as inputs
 use Rattle.chain_types.specs.declared.transactions.Transaction.{Transaction}
 use Rattle.chain_types.specs.Digests.{is_object}
-use Rattle.block_types.specs.declared.pieces.Executed.{Executed}
 use Rattle.member_types.specs.declared.answers.Assigned.{Assigned}
 use Rattle.member_types.specs.declared.answers.Held.{Held}
 use Rattle.schedule_text.specs.declared.words.Event.{Event}
 use Rattle.chain_spec.specs.Words.{Has, all_some}
 use Rattle.chain_spec.specs.Keys.{objects_of, is_shared_input, has_shared_input}
-use Rattle.chain_spec.proofs.ListLemmas.{and-first, and-second, or-first, or-second, not-true}
-use Rattle.block_spec.specs.Execution.{execution, written_keys}
+use Rattle.chain_spec.proofs.ListLemmas.{and-first, and-second, not-true}
+use Rattle.block_spec.specs.Execution.{written_keys}
 use Rattle.member_spec.specs.Versions.{Execution, versions, is_executed}
 use Rattle.member_spec.specs.Admission.{assigned_of}
-use Rattle.member_spec.specs.Rounds.{Wanted, wanted_by, wants_of, found, present, may_run, executes_as, ready, round_of, is_maker_done, is_origin_done, is_due}
+use Rattle.member_spec.specs.Rounds.{Wanted, wanted_by, wants_of, found, present, may_run, ready, round_of, is_maker_done, is_origin_done, is_due}
 use Rattle.member_spec.specs.Member.{Member, books}
 use Rattle.world_spec.specs.Setting.{Setting}
 use Rattle.world_spec.specs.World.{Seat, member_in}

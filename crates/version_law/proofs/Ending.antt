@@ -2,7 +2,7 @@
 -- round takes all that is ready, where no two that are ready write one key.
 use Rattle.std.proofs.Common.{inl, inr, refl, sym, subst, ap, ◌∙◌, arith, append_assoc, append-nil}
 use Rattle.std.proofs.lemmas.Bool.{eqb-true}
-use Rattle.std.specs.Prelude.{◌≡◌, ◌⊎◌, ◌<◌, ◌≤◌, ◌+◌, ◌==◌, ℕ, zero, suc, Bool, true, false, cond, not, ◌&&◌, ◌||◌, List, [], ◌∷◌, ◌++◌, find, length, Option, Some, None, is_some}
+use Rattle.std.specs.Prelude.{◌≡◌, ◌⊎◌, ◌<◌, ◌≤◌, ◌+◌, ◌==◌, ℕ, zero, suc, Bool, true, false, cond, not, ◌&&◌, List, [], ◌∷◌, ◌++◌, find, length, Option, Some, None, is_some}
 use Rattle.std.specs.List.{list_any}
 use Rattle.digest_core.specs.declared.Digest.{Digest}
 use Rattle.chain_types.specs.declared.objects.ObjectId.{ObjectId}
@@ -14,7 +14,6 @@ use Rattle.chain_spec.specs.Words.{Has, where_true}
 use Rattle.chain_spec.specs.Tests.{has_key}
 use Rattle.chain_spec.specs.Keys.{fits}
 use Rattle.chain_spec.proofs.ListLemmas.{and-first, and-second, not-true}
-use Rattle.block_types.specs.declared.pieces.Executed.{Executed}
 use Rattle.block_spec.specs.Execution.{execution, written_keys}
 use Rattle.member_spec.specs.Versions.{Execution, versions, is_executed}
 use Rattle.member_spec.specs.Rounds.{Books, present, may_run, writes_new, executes_as, ready_as, ready_on, ready, clashes, round_add, round_among, round_of, rounds_within, rounds}

@@ -1,13 +1,11 @@
 -- Transactions with the objects on which they are executed, in no order: each object was there as the epoch opened, or
 -- another of them wrote it.
-use Rattle.std.proofs.Common.{inl, inr, refl, sym, subst, ap, ◌∙◌}
-use Rattle.std.specs.Prelude.{◌≡◌, ◌⊎◌, ◌<◌, ℕ, true, false, List, zip}
+use Rattle.std.specs.Prelude.{◌≡◌, ◌⊎◌, true, false, List, zip}
 use Rattle.chain_types.specs.declared.objects.ObjectId.{ObjectId}
 use Rattle.chain_types.specs.declared.objects.Object.{Object}
 use Rattle.chain_types.specs.declared.transactions.Input.{Input}
 use Rattle.chain_types.specs.Equal.{id_eq}
 use Rattle.chain_types.specs.Digests.{transaction_digest}
-use Rattle.block_types.specs.declared.pieces.Executed.{Executed}
 use Rattle.chain_spec.specs.Words.{Has, repeats}
 use Rattle.chain_spec.specs.Keys.{objects_of, named_ids, fits}
 use Rattle.block_law.specs.Names.{drawn_ids}

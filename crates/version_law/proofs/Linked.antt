@@ -1,6 +1,6 @@
 -- Of two versions of one id the lower was passed on. By induction on the higher, with no order of the transactions.
 use Rattle.std.proofs.Common.{inl, inr, refl, sym, subst, ap, ◌∙◌, arith}
-use Rattle.std.specs.Prelude.{◌≡◌, ◌⊎◌, ◌<◌, ◌≤◌, ℕ, zero, suc, Bool, true, false, nat_lt, List, [], ◌∷◌, ◌++◌, map, zip, Option, Some, Result, Ok, Err}
+use Rattle.std.specs.Prelude.{◌≡◌, ◌⊎◌, ◌<◌, ◌≤◌, ℕ, zero, suc, Bool, true, false, nat_lt, List, [], ◌∷◌, ◌++◌, map, zip, Result, Ok, Err}
 use Rattle.std.proofs.lemmas.Bool.{ltb-true, ltb-false}
 use Rattle.std.specs.FinMap.{get}
 use Rattle.digest_core.specs.declared.Digest.{Digest}
@@ -15,11 +15,11 @@ use Rattle.chain_spec.specs.Words.{Has, numbers_below, repeats}
 use Rattle.chain_spec.specs.Keys.{objects_of, named_ids, version_of, fits_input, fit_inputs}
 use Rattle.chain_spec.proofs.ListLemmas.{and-second}
 use Rattle.block_spec.specs.Block.{Block}
-use Rattle.block_spec.specs.Execution.{Failure, outcome, execution, executed_by, is_written}
+use Rattle.block_spec.specs.Execution.{Failure, outcome, execution, executed_by}
 use Rattle.member_spec.specs.Sequential.{map_of, map_after}
 use Rattle.block_law.specs.Names.{drawn_id, drawn_ids, touched_ids}
 use Rattle.block_law.proofs.Effects.{objects-ids}
-use Rattle.chain_law.specs.Orderly.{Step, gave, id_of, Makes, IsOpening, AreApart}
+use Rattle.chain_law.specs.Orderly.{Step, gave, id_of, Makes, AreApart}
 use Rattle.chain_law.proofs.Standing.{stands-after, stands-opening}
 use Rattle.chain_law.proofs.Touched.{has-mapped, below, IsReplaced, IsTouched, touched-object, written-version, above}
 use Rattle.chain_law.proofs.Reading.{fits-inputs, given-once}
@@ -184,7 +184,6 @@ module _ (opening : List Object) (Among : Step → Type 0) (f : IsFamily opening
     one-writer : (x y : Step) → Among x → Among y → (p q : Object) → Has (gave x).objects p → Has (gave y).objects q → p.id ≡ q.id → p.version ≡ q.version → p.version < suc n → IsSame x y
     one-writer x y ax ay p q h k e v less = go (touched-object x p h) (touched-object y q k)
       where
-
         both : (r : IsReplaced x p.id) (t : IsReplaced y q.id) → (r.old.version ≤ t.old.version) ⊎ (t.old.version < r.old.version) → IsSame x y
         both r t (inl le) =
             let low = taken-below y q t.old k t.of t.named in

@@ -1,6 +1,6 @@
 -- What a runnable certificate reads: objects that are there, and of a shared object the version that was assigned.
 use Rattle.std.proofs.Common.{inl, inr, refl, sym, subst, ap, ◌∙◌}
-use Rattle.std.specs.Prelude.{◌≡◌, ◌⊎◌, ℕ, Bool, true, false, not, ◌&&◌, ◌||◌, List, [], ◌∷◌, ◌++◌, map, zip, filter, find, slice_get, Option, Some, None}
+use Rattle.std.specs.Prelude.{◌≡◌, ◌⊎◌, ℕ, Bool, true, false, not, ◌||◌, List, [], ◌∷◌, ◌++◌, map, zip, filter, Option, Some}
 use Rattle.std.specs.List.{list_any}
 use Rattle.digest_core.specs.declared.Digest.{Digest}
 use Rattle.chain_types.specs.declared.objects.ObjectId.{ObjectId}
@@ -10,15 +10,12 @@ use Rattle.chain_types.specs.declared.transactions.Input.TheVariants as inputs
 use Rattle.chain_types.specs.declared.transactions.Transaction.{Transaction}
 use Rattle.chain_types.specs.Equal.{digest_eq}
 use Rattle.chain_types.specs.Digests.{is_object}
-use Rattle.chain_messages.specs.declared.messages.Certificate.{Certificate}
-use Rattle.block_types.specs.declared.pieces.Executed.{Executed}
 use Rattle.member_types.specs.declared.answers.Assigned.{Assigned}
 use Rattle.member_types.specs.declared.answers.Held.{Held}
 use Rattle.chain_spec.specs.Words.{Has, Along, IsFront, all_some}
 use Rattle.chain_spec.specs.Keys.{objects_of, is_shared_input, has_shared_input, fits_input, fit_inputs, fits}
 use Rattle.chain_spec.proofs.ListLemmas.{and-first, and-second}
-use Rattle.block_spec.specs.Execution.{execution}
-use Rattle.member_spec.specs.Versions.{Execution, Version, opened, written, versions, object_in}
+use Rattle.member_spec.specs.Versions.{Execution, Version, versions, object_in}
 use Rattle.member_spec.specs.Admission.{Admitted, Admission, is_admitted, assigned_of, assignments, current}
 use Rattle.member_spec.specs.Rounds.{Wanted, is_wanted, wanted_by, wants_of, found, present, may_run, executes_as}
 use Rattle.member_spec.specs.Member.{Member, books}
@@ -106,7 +103,7 @@ module _ (m : Member) (x : Step) (it : IsRunnable m x) where
   pub admitted-as : (id : ObjectId) (initial : ℕ) (mutable : Bool) → Has (objects_of x.tx) (inputs.Shared id initial mutable) → (a : Admitted) × Has m.sequence.admission.admitted a × (a.digest ≡ it.of.digest)
   admitted-as id initial mutable h =
       let a = any-has (λ (a : Admitted). digest_eq a.digest it.of.digest) m.sequence.admission.admitted
-          (go (has_shared_input it.of.cert.tx) (shared (subst (λ (t : Transaction). Has (objects_of t) (inputs.Shared id initial mutable)) (sym it.tx) h)) it.may) in
+      (go (has_shared_input it.of.cert.tx) (shared (subst (λ (t : Transaction). Has (objects_of t) (inputs.Shared id initial mutable)) (sym it.tx) h)) it.may) in
       (a.0, a.1, equal a.0.digest it.of.digest a.2)
     where
       go : (b : Bool) → b ≡ true → (not b || is_admitted m.sequence.admission.admitted it.of.digest) ≡ true → is_admitted m.sequence.admission.admitted it.of.digest ≡ true

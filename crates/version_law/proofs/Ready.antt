@@ -1,7 +1,7 @@
 -- What may be executed writes new keys, so it is ready.
 use Rattle.std.proofs.Common.{inl, inr, refl, sym, subst, ap, ◌∙◌, arith, append-nil}
 use Rattle.std.proofs.lemmas.Bool.{eqb-true}
-use Rattle.std.specs.Prelude.{◌≡◌, ◌⊎◌, ℕ, Bool, true, false, cond, not, ◌&&◌, ◌||◌, ◌==◌, List, [], ◌∷◌, ◌++◌, map, find, slice_get, Option, Some, None, is_some}
+use Rattle.std.specs.Prelude.{◌≡◌, ◌⊎◌, ℕ, Bool, true, false, cond, not, ◌&&◌, ◌||◌, ◌==◌, List, [], ◌∷◌, ◌++◌, map, find, slice_get, Some, None, is_some}
 use Rattle.std.specs.List.{list_any}
 use Rattle.digest_core.specs.declared.Digest.{Digest}
 use Rattle.chain_types.specs.declared.objects.ObjectId.{ObjectId}
@@ -34,9 +34,9 @@ use Rattle.current_law.proofs.Known.{opens-apart}
 use Rattle.present_law.proofs.Present.{IsOpened, IsWrote, version-from}
 use Rattle.present_law.proofs.Whole.{certificates-fit}
 use Rattle.version_law.specs.Ready.{MayExecute}
-use Rattle.version_law.proofs.Family.{IsSame, IsFamily}
+use Rattle.version_law.proofs.Family.{IsFamily}
 use Rattle.version_law.proofs.Linked.{all-writers, above-opening, gave-once}
-use Rattle.version_law.proofs.Settled.{IsSettled, ArePeers}
+use Rattle.version_law.proofs.Settled.{ArePeers}
 use Rattle.version_law.proofs.Reading.{IsRunnable}
 use Rattle.version_law.proofs.Takers.{digest-of}
 use Rattle.version_law.proofs.Executed.{step-of, runnable-gave, family}

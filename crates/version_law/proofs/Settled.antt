@@ -1,11 +1,9 @@
 -- What is known of a member at a moment of a run, in terms of the whole run; and of two members of one epoch.
-use Rattle.std.proofs.Common.{inl, inr, refl, sym, subst, ap, ◌∙◌, append-nil}
+use Rattle.std.proofs.Common.{inl, inr, subst, append-nil}
 use Rattle.std.specs.Prelude.{◌≡◌, ◌⊎◌, ℕ, List, [], ◌++◌, slice_get, Some}
-use Rattle.chain_types.specs.declared.objects.Object.{Object}
-use Rattle.chain_types.specs.declared.transactions.Transaction.{Transaction}
 use Rattle.member_types.specs.declared.answers.Held.{Held}
 use Rattle.schedule_text.specs.declared.words.Event.{Event}
-use Rattle.chain_spec.specs.Words.{Has, Each, Along, IsFront}
+use Rattle.chain_spec.specs.Words.{Has, Along, IsFront}
 use Rattle.member_spec.specs.Versions.{Execution}
 use Rattle.member_spec.specs.Admission.{Admitted}
 use Rattle.member_spec.specs.Member.{Member, books}
@@ -21,8 +19,6 @@ use Rattle.agreement_law.specs.Explained.{IsExplained}
 use Rattle.agreement_law.proofs.Supply.{every-held, every-admission}
 use Rattle.agreement_law.proofs.Executing.{executions-explained}
 use Rattle.chain_law.specs.Orderly.{AreApart}
-use Rattle.current_law.specs.Orderly.{OpensApart}
-use Rattle.current_law.proofs.Known.{opens-apart}
 use Rattle.epoch_law.proofs.Agreed.{members-agree}
 
 -- what it holds and admitted was given in the run, its admitted transactions are in order, its executions explained

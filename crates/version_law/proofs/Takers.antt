@@ -1,7 +1,7 @@
 -- What two members of one epoch may run: no two different transactions may write one object, and the ids that they
 -- draw are new and apart.
 use Rattle.std.proofs.Common.{inl, inr, refl, sym, subst, ap, ◌∙◌, arith, append_assoc, append-nil}
-use Rattle.std.specs.Prelude.{◌≡◌, ◌⊎◌, ◌<◌, ◌≤◌, ℕ, zero, suc, Bool, true, false, List, [], ◌∷◌, ◌++◌, map, zip, filter, Option, Some, None}
+use Rattle.std.specs.Prelude.{◌≡◌, ◌⊎◌, ◌<◌, ◌≤◌, ℕ, zero, suc, Bool, true, false, List, [], ◌∷◌, ◌++◌, zip, None}
 use Rattle.digest_core.specs.declared.Digest.{Digest}
 use Rattle.chain_types.specs.declared.objects.ObjectId.{ObjectId}
 use Rattle.chain_types.specs.declared.objects.ObjectKey.{ObjectKey}
@@ -16,12 +16,12 @@ use Rattle.chain_messages.specs.declared.messages.Certificate.{Certificate}
 use Rattle.member_types.specs.declared.answers.Held.{Held}
 use Rattle.schedule_text.specs.declared.words.Event.{Event}
 use Rattle.chain_spec.specs.Words.{Has, Along, IsFront, numbers_below, repeats}
-use Rattle.chain_spec.specs.Keys.{objects_of, is_shared_since, named_ids, fits_input, fits}
+use Rattle.chain_spec.specs.Keys.{objects_of, is_shared_since, named_ids, fits_input}
 use Rattle.chain_spec.specs.Shape.{shape_cases, shape_fault}
 use Rattle.chain_spec.specs.Certificates.{Rules, cert_cases, cert_refusal}
 use Rattle.chain_spec.proofs.ListLemmas.{and-first}
 use Rattle.block_spec.specs.Execution.{is_written}
-use Rattle.member_spec.specs.Admission.{Admitted, Admission, writes, current}
+use Rattle.member_spec.specs.Admission.{Admitted, Admission, current}
 use Rattle.member_spec.specs.Member.{Member}
 use Rattle.world_spec.specs.Setting.{Setting}
 use Rattle.world_spec.specs.Names.{draws}
