@@ -10,3 +10,5 @@ pub mod Moments
 pub mod Ready
 pub mod Ending
 pub mod Due
+pub mod Behind
+pub mod Running

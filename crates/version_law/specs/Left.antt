@@ -1,8 +1,10 @@
 -- What runs leave: behind a run nothing is ready, and what is due and has no shared input is ready. Source: this profile
 -- (rounds); Sui Lutris (what was certified can be executed wherever what it needs was).
-use Rattle.std.specs.Prelude.{◌≡◌, ℕ, true, false, List, ◌++◌, slice_get, Some, None}
+use Rattle.std.specs.Prelude.{◌≡◌, ℕ, true, false, List, [], ◌++◌, slice_get, Some, None, Ok}
 use Rattle.chain_types.specs.declared.objects.Object.{Object}
 use Rattle.member_types.specs.declared.answers.Held.{Held}
+use Rattle.member_types.specs.declared.answers.Left.{Left}
+use Rattle.member_types.specs.declared.answers.Ran.{Ran}
 use Rattle.schedule_text.specs.declared.words.Event.{Event}
 use Rattle.chain_spec.specs.Words.{Has}
 use Rattle.chain_spec.specs.Keys.{has_shared_input}
@@ -10,6 +12,7 @@ use Rattle.block_spec.specs.Execution.{execution}
 use Rattle.member_spec.specs.Versions.{Execution, is_executed}
 use Rattle.member_spec.specs.Rounds.{Books, present, executes_as, ready, round_of, rounds, is_due}
 use Rattle.member_spec.specs.Member.{Member, books}
+use Rattle.member_spec.specs.Calls.{run_answer}
 use Rattle.world_spec.specs.Setting.{Setting}
 use Rattle.world_spec.specs.World.{Seat, member_in}
 use Rattle.world_spec.specs.Run.{world_after}
@@ -27,7 +30,7 @@ NextRoundTakesAll = (s : Setting) (events : List Event) → IsHonestRun s events
     → (h : Held) (x : Execution) → Has (member_in s seat).held h → ready (books (member_in s seat)) (member_in s seat).executed h ≡ Some x
     → is_executed ((member_in s seat).executed ++ round_of (books (member_in s seat)) (member_in s seat).executed) h.digest ≡ true
 
--- ready on the objects that it wants, which are all there
+-- its inputs are all there, and it is ready on them
 pub record IsReady (m : Member) (h : Held) : Type 0 where
   pub objects : List Object
   pub there : present (books m) m.executed h ≡ Some objects
@@ -40,9 +43,23 @@ OwnedDueIsReady = (s : Setting) (events : List Event) → IsHonestRun s events �
     → (h : Held) → Has (member_in s seat).held h → has_shared_input h.cert.tx ≡ false → is_due (books (member_in s seat)) (member_in s seat).executed h ≡ true
     → IsReady (member_in s seat) h
 
--- so where nothing is ready, as behind a run, only certificates with shared inputs can be due: no other one is left
+-- so where nothing is ready, only certificates with shared inputs can be due
 abbrev pub OwnedIsNotLeft : Type 0
 OwnedIsNotLeft = (s : Setting) (events : List Event) → IsHonestRun s events → AreApart s.opening
     → (m : ℕ) (seat : Seat) → slice_get (world_after s events).seats m ≡ Some seat
     → ((h : Held) → Has (member_in s seat).held h → ready (books (member_in s seat)) (member_in s seat).executed h ≡ None)
     → (h : Held) → Has (member_in s seat).held h → is_due (books (member_in s seat)) (member_in s seat).executed h ≡ true → has_shared_input h.cert.tx ≡ true
+
+-- so what a run leaves are certificates with shared inputs
+abbrev pub RunLeavesSharedOnly : Type 0
+RunLeavesSharedOnly = (s : Setting) (events : List Event) → IsHonestRun s events → AreApart s.opening
+    → (m : ℕ) (seat : Seat) → slice_get (world_after s events).seats m ≡ Some seat
+    → (ran : Ran) → run_answer s.rules (member_in s seat) ≡ Ok ran
+    → (l : Left) → Has ran.left l → (h : Held) × Has (member_in s seat).held h × (h.digest ≡ l.tx) × (has_shared_input h.cert.tx ≡ true)
+
+-- and where a member holds none of these, a run leaves nothing
+abbrev pub OwnedRunLeavesNothing : Type 0
+OwnedRunLeavesNothing = (s : Setting) (events : List Event) → IsHonestRun s events → AreApart s.opening
+    → (m : ℕ) (seat : Seat) → slice_get (world_after s events).seats m ≡ Some seat
+    → ((h : Held) → Has (member_in s seat).held h → has_shared_input h.cert.tx ≡ false)
+    → (ran : Ran) → run_answer s.rules (member_in s seat) ≡ Ok ran → ran.left ≡ []

@@ -3,7 +3,7 @@
 #![tactic(auto)]
 
 ghost use Rattle.version_law.specs.Chained.{VersionsAreOneChain};
-ghost use Rattle.version_law.specs.Left.{NextRoundTakesAll, NothingIsReadyBehindARun, OwnedDueIsReady, OwnedIsNotLeft};
+ghost use Rattle.version_law.specs.Left.{NextRoundTakesAll, NothingIsReadyBehindARun, OwnedDueIsReady, OwnedIsNotLeft, OwnedRunLeavesNothing, RunLeavesSharedOnly};
 ghost use Rattle.version_law.specs.Ready.{NothingClashes, OwnedIsReady, PresentIsReady, WritesNewKeys};
 
 /// Under the run assumptions, the versions of each id that the members of an epoch hold form one chain: of two of them
@@ -50,7 +50,17 @@ pub fn owned_due_is_ready()
     ensures { OwnedDueIsReady }
 {}
 
-/// So where nothing is ready, as behind a run, none without shared inputs is left.
+/// So where nothing is ready, only certificates with shared inputs are due.
 pub fn owned_is_not_left()
     ensures { OwnedIsNotLeft }
+{}
+
+/// Under the run assumptions, what a run leaves, at any member and moment, are certificates with shared inputs.
+pub fn run_leaves_shared_only()
+    ensures { RunLeavesSharedOnly }
+{}
+
+/// A member that holds no certificate with a shared input leaves nothing when it runs.
+pub fn owned_run_leaves_nothing()
+    ensures { OwnedRunLeavesNothing }
 {}
