@@ -1,6 +1,7 @@
 pub mod Family
 pub mod Linked
 pub mod Rising
+pub mod Assigning
 pub mod Settled
 pub mod Reading
 pub mod Takers

@@ -2,9 +2,16 @@
 //! that a certificate writes is there already, and what has its inputs is ready.
 #![tactic(auto)]
 
+ghost use Rattle.version_law.specs.Assigned.{AssignedVersionsRise};
 ghost use Rattle.version_law.specs.Chained.{VersionsAreOneChain};
 ghost use Rattle.version_law.specs.Left.{NextRoundTakesAll, NothingIsReadyBehindARun, OwnedDueIsReady, OwnedIsNotLeft, OwnedRunLeavesNothing, RunLeavesSharedOnly};
 ghost use Rattle.version_law.specs.Ready.{NothingClashes, OwnedIsReady, PresentIsReady, WritesNewKeys};
+
+/// In every sequence the version of a shared object that is assigned to a transaction is above those that were assigned
+/// to the transactions before it that write the object; so each is assigned to one that writes it, at most.
+pub fn assigned_versions_rise()
+    ensures { AssignedVersionsRise }
+{}
 
 /// Under the run assumptions, the versions of each id that the members of an epoch hold form one chain: of two of them
 /// the lower one was taken by an executed transaction that wrote the next one, and no other transaction took it. This is
