@@ -18,7 +18,7 @@ use Rattle.chain_spec.proofs.ListLemmas.{and-first, and-second, not-true}
 use Rattle.block_spec.specs.Execution.{written_keys}
 use Rattle.member_spec.specs.Versions.{Execution, versions, is_executed}
 use Rattle.member_spec.specs.Admission.{assigned_of}
-use Rattle.member_spec.specs.Rounds.{Wanted, wanted_by, wants_of, found, present, may_run, ready, round_of, is_maker_done, is_origin_done, is_due}
+use Rattle.member_spec.specs.Rounds.{Books, Wanted, wanted_by, wants_of, found, present, may_run, ready, round_of, is_maker_done, is_origin_done, is_due}
 use Rattle.member_spec.specs.Member.{Member, books}
 use Rattle.world_spec.specs.Setting.{Setting}
 use Rattle.world_spec.specs.World.{Seat, member_in}
@@ -76,21 +76,32 @@ found-it m asg (inputs.Shared id initial mutable) d is there = absurd (let no = 
 four-first : (a b c d : Bool) → (a && b && c && d) ≡ true → a ≡ true
 four-first a b c d e = and-first a b (and-first (a && b) c (and-first (a && b && c) d e))
 
+four-second : (a b c d : Bool) → (a && b && c && d) ≡ true → b ≡ true
+four-second a b c d e = and-second a b (and-first (a && b) c (and-first (a && b && c) d e))
+
 four-third : (a b c d : Bool) → (a && b && c && d) ≡ true → c ≡ true
 four-third a b c d e = and-second (a && b) c (and-first (a && b && c) d e)
+
+module _ (b : Books) (executed : List Execution) (h : Held) (due : is_due b executed h ≡ true) where
+  abbrev makers_done : Bool
+  makers_done = list_all (λ (w : Wanted). is_maker_done executed w.producer) (wants_of b.admission h)
+
+  pub due-idle : is_executed executed h.digest ≡ false
+  due-idle = not-true (is_executed executed h.digest) (four-first (not (is_executed executed h.digest)) (may_run b h) (list_all (is_origin_done executed) h.cert.origins) makers_done due)
+
+  pub due-may : may_run b h ≡ true
+  due-may = four-second (not (is_executed executed h.digest)) (may_run b h) (list_all (is_origin_done executed) h.cert.origins) makers_done due
+
+  due-origins : list_all (is_origin_done executed) h.cert.origins ≡ true
+  due-origins = four-third (not (is_executed executed h.digest)) (may_run b h) (list_all (is_origin_done executed) h.cert.origins) makers_done due
+
+-- ---- at a member
 
 module _ (s : Setting) (events : List Event) (honest : IsHonestRun s events) (distinct : AreApart s.opening) (n : ℕ) (seat : Seat) (at : slice_get (world_after s events).seats n ≡ Some seat) where
   abbrev m : Member
   m = member_in s seat
 
   module _ (h : Held) (held : Has m.held h) where
-    due-idle : is_due (books m) m.executed h ≡ true → is_executed m.executed h.digest ≡ false
-    due-idle due = not-true (is_executed m.executed h.digest)
-        (four-first (not (is_executed m.executed h.digest)) (may_run (books m) h) (list_all (is_origin_done m.executed) h.cert.origins) (list_all (λ (w : Wanted). is_maker_done m.executed w.producer) (wants_of m.sequence.admission h)) due)
-
-    due-origins : is_due (books m) m.executed h ≡ true → list_all (is_origin_done m.executed) h.cert.origins ≡ true
-    due-origins due = four-third (not (is_executed m.executed h.digest)) (may_run (books m) h) (list_all (is_origin_done m.executed) h.cert.origins) (list_all (λ (w : Wanted). is_maker_done m.executed w.producer) (wants_of m.sequence.admission h)) due
-
     all-present : has_shared_input h.cert.tx ≡ false → list_all (is_origin_done m.executed) h.cert.origins ≡ true → (objects : List Object) × (present (books m) m.executed h ≡ Some objects)
     unfolding present wants_of
     all-present none done =
@@ -103,8 +114,8 @@ module _ (s : Setting) (events : List Event) (honest : IsHonestRun s events) (di
 
     pub owned-due-is-ready : has_shared_input h.cert.tx ≡ false → is_due (books m) m.executed h ≡ true → IsReady m h
     owned-due-is-ready none due =
-        let p = all-present none (due-origins due) in
-        record { objects = p.0; there = p.1; ready_is = owned-is-ready s events honest distinct n seat at h p.0 held none p.1 (due-idle due) }
+        let p = all-present none (due-origins (books m) m.executed h due) in
+        record { objects = p.0; there = p.1; ready_is = owned-is-ready s events honest distinct n seat at h p.0 held none p.1 (due-idle (books m) m.executed h due) }
 
   pub owned-is-not-left : ((h : Held) → Has m.held h → ready (books m) m.executed h ≡ None) → (h : Held) → Has m.held h → is_due (books m) m.executed h ≡ true → has_shared_input h.cert.tx ≡ true
   owned-is-not-left none h held due = go (has_shared_input h.cert.tx) refl

@@ -7,7 +7,7 @@ use Rattle.member_types.specs.declared.answers.Left.{Left}
 use Rattle.member_types.specs.declared.answers.Ran.{Ran}
 use Rattle.schedule_text.specs.declared.words.Event.{Event}
 use Rattle.chain_spec.specs.Words.{Has}
-use Rattle.chain_spec.specs.Keys.{has_shared_input}
+use Rattle.chain_spec.specs.Keys.{has_shared_input, fits}
 use Rattle.block_spec.specs.Execution.{execution}
 use Rattle.member_spec.specs.Versions.{Execution, is_executed}
 use Rattle.member_spec.specs.Rounds.{Books, present, executes_as, ready, round_of, rounds, is_due}
@@ -63,3 +63,16 @@ OwnedRunLeavesNothing = (s : Setting) (events : List Event) → IsHonestRun s ev
     → (m : ℕ) (seat : Seat) → slice_get (world_after s events).seats m ≡ Some seat
     → ((h : Held) → Has (member_in s seat).held h → has_shared_input h.cert.tx ≡ false)
     → (ran : Ran) → run_answer s.rules (member_in s seat) ≡ Ok ran → ran.left ≡ []
+
+-- ---- where what is due is always present
+
+-- in every run under the run assumptions, what is due at a member is present and fits
+abbrev pub DueIsPresent : Setting → Type 0
+DueIsPresent s = (events : List Event) → IsHonestRun s events → (m : ℕ) (seat : Seat) → slice_get (world_after s events).seats m ≡ Some seat
+    → (h : Held) → Has (member_in s seat).held h → is_due (books (member_in s seat)) (member_in s seat).executed h ≡ true
+    → (objects : List Object) × (present (books (member_in s seat)) (member_in s seat).executed h ≡ Some objects) × (fits h.cert.tx objects ≡ true)
+
+-- there no run leaves anything: nothing else can keep a certificate open
+abbrev pub PresentIsNotLeft : Type 0
+PresentIsNotLeft = (s : Setting) → AreApart s.opening → DueIsPresent s → (events : List Event) → IsHonestRun s events
+    → (m : ℕ) (seat : Seat) → slice_get (world_after s events).seats m ≡ Some seat → (ran : Ran) → run_answer s.rules (member_in s seat) ≡ Ok ran → ran.left ≡ []

@@ -4,7 +4,7 @@
 
 ghost use Rattle.version_law.specs.Assigned.{AssignedVersionsRise};
 ghost use Rattle.version_law.specs.Chained.{VersionsAreOneChain};
-ghost use Rattle.version_law.specs.Left.{NextRoundTakesAll, NothingIsReadyBehindARun, OwnedDueIsReady, OwnedIsNotLeft, OwnedRunLeavesNothing, RunLeavesSharedOnly};
+ghost use Rattle.version_law.specs.Left.{NextRoundTakesAll, NothingIsReadyBehindARun, OwnedDueIsReady, OwnedIsNotLeft, OwnedRunLeavesNothing, PresentIsNotLeft, RunLeavesSharedOnly};
 ghost use Rattle.version_law.specs.Ready.{NothingClashes, OwnedIsReady, PresentIsReady, WritesNewKeys};
 
 /// In every sequence the version of a shared object that is assigned to a transaction is above those that were assigned
@@ -70,4 +70,9 @@ pub fn run_leaves_shared_only()
 /// A member that holds no certificate with a shared input leaves nothing when it runs.
 pub fn owned_run_leaves_nothing()
     ensures { OwnedRunLeavesNothing }
+{}
+
+/// Where in every run what is due is present and fits, no run leaves anything.
+pub fn present_is_not_left()
+    ensures { PresentIsNotLeft }
 {}
