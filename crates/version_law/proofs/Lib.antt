@@ -1,0 +1,15 @@
+pub mod Family
+pub mod Linked
+pub mod Rising
+pub mod Assigning
+pub mod Settled
+pub mod Reading
+pub mod Takers
+pub mod Executed
+pub mod Chains
+pub mod Moments
+pub mod Ready
+pub mod Ending
+pub mod Due
+pub mod Behind
+pub mod Running

@@ -1,0 +1,4 @@
+pub mod Chained
+pub mod Assigned
+pub mod Ready
+pub mod Left
