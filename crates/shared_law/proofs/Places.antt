@@ -44,19 +44,19 @@ has-chosen {A = A} {B = B} f (z ∷ zs) x y h e = go (f z) refl h (λ k. has-cho
     go (Some w) q (inl p) rest = inl (same w y (sym q ∙ ap f p ∙ e))
     go (Some w) q (inr k) rest = inr (rest k)
 
-at-index : {A : Type 0} (xs : List A) (a b : ℕ) → a ≡ b → slice_get xs a ≡ slice_get xs b
+pub at-index : {A : Type 0} (xs : List A) (a b : ℕ) → a ≡ b → slice_get xs a ≡ slice_get xs b
 at-index xs a b e = ap (slice_get xs) e
 
 -- ---- the place of an input that may be written
 
 -- the list of inputs from this number on
-abbrev From : List Input → ℕ → List Input → Type 0
+abbrev pub From : List Input → ℕ → List Input → Type 0
 From whole n is = (k : ℕ) → slice_get whole (n + k) ≡ slice_get is k
 
-from-next : (whole : List Input) (n : ℕ) (i : Input) (is : List Input) → From whole n (i ∷ is) → From whole (suc n) is
+pub from-next : (whole : List Input) (n : ℕ) (i : Input) (is : List Input) → From whole n (i ∷ is) → From whole (suc n) is
 from-next whole n i is from = λ k. at-index whole (suc n + k) (n + suc k) (omega arith) ∙ from (suc k)
 
-from-here : (whole : List Input) (n : ℕ) (i : Input) (is : List Input) → From whole n (i ∷ is) → slice_get whole n ≡ Some i
+pub from-here : (whole : List Input) (n : ℕ) (i : Input) (is : List Input) → From whole n (i ∷ is) → slice_get whole n ≡ Some i
 from-here whole n i is from = at-index whole n (n + 0) (omega arith) ∙ from 0
 
 -- the place has the number of the input
@@ -138,10 +138,10 @@ found-every P p s (z ∷ slots) each e = go (place_eq z.place p) refl e (found-e
 
 -- ---- a shared input is never spent
 
-record IsStill (b : Block) (p : Place) (o : Object) : Type 0 where
-  now : Item
-  there : value_in p b.slots ≡ Some (object now)
-  same : now.id ≡ o.id
+pub record IsStill (b : Block) (p : Place) (o : Object) : Type 0 where
+  pub now : Item
+  pub there : value_in p b.slots ≡ Some (object now)
+  pub same : now.id ≡ o.id
 
 module _ (t : Transaction) (first : List Slot) (b : Block) (n : ℕ) (id : ObjectId) (initial : ℕ) (o : Object) (at : slice_get t.inputs n ≡ Some (inputs.Shared id initial true)) (origin : IsOrigin first (input n, o)) where
   still-value : (v : Option Value) → value_in (input n) b.slots ≡ v → Good t first b.placed (input n) v → IsStill b (input n) o
@@ -156,7 +156,7 @@ module _ (t : Transaction) (first : List Slot) (b : Block) (n : ℕ) (id : Objec
       turned : Turned false (value_in (input n) first) (vector k is) → ⊥
       turned g = subst (λ (v : Option Value). Turned false v (vector k is)) origin.there g
 
-  still : Every (Good t first b.placed) b.slots → Stands (map (λ (s : Slot). s.place) first) b.slots → IsStill b (input n) o
+  pub still : Every (Good t first b.placed) b.slots → Stands (map (λ (s : Slot). s.place) first) b.slots → IsStill b (input n) o
   still good stands =
       let s = stands-there (map (λ (s : Slot). s.place) first) (input n) b.slots (value-there (input n) (object origin.before) first origin.there) stands in
       still-value s.0.value (ap (option_and_then slot_value) s.1) (found-every (Good t first b.placed) (input n) s.0 b.slots good s.1)
