@@ -1,9 +1,8 @@
 -- A shared input keeps its place: the object of a mutable one is written under its id and with its owner.
 use Rattle.std.proofs.Common.{inl, inr, refl, ap, sym, subst, ◌∙◌, arith}
 use Rattle.std.proofs.lemmas.Bool.{eq-eqb}
-use Rattle.std.specs.Prelude.{◌≡◌, ◌+◌, ℕ, suc, Bool, true, false, cond, not, List, [], ◌∷◌, ◌++◌, map, zip, filter, filter_map, find, slice_get, option_and_then, Option, Some, None, Result, Ok, Err}
+use Rattle.std.specs.Prelude.{◌≡◌, ◌+◌, ℕ, suc, Bool, true, false, cond, List, [], ◌∷◌, ◌++◌, map, zip, filter, filter_map, find, slice_get, option_and_then, Option, Some, None, Result, Ok, Err}
 use Rattle.std.specs.List.{cons_option}
-use Rattle.digest_core.specs.declared.Digest.{Digest}
 use Rattle.chain_types.specs.declared.objects.ObjectId.{ObjectId}
 use Rattle.chain_types.specs.declared.objects.Object.{Object}
 use Rattle.chain_types.specs.declared.transactions.Input.{Input}
@@ -11,16 +10,15 @@ use Rattle.chain_types.specs.declared.transactions.Input.TheVariants as inputs
 use Rattle.chain_types.specs.declared.transactions.Transaction.{Transaction}
 use Rattle.chain_types.specs.Digests.{transaction_digest, is_object}
 use Rattle.block_types.specs.declared.pieces.Item.{Item}
-use Rattle.block_types.specs.declared.pieces.Placed.{Placed}
 use Rattle.chain_spec.specs.Words.{Has, Each}
 use Rattle.chain_spec.specs.Keys.{objects_of, version_of}
 use Rattle.block_spec.specs.Block.{Place, gas, input, result, Value, pure, object, vector, Slot, Block, place_eq, slot_value, value_in}
 use Rattle.block_spec.specs.Commands.{is_common, is_read_only, piece_of}
-use Rattle.block_spec.specs.Execution.{Failure, first_slots, outcome, object_at, now_in, after_block, is_written, written_inputs, written_places, created_objects, with_rest, with_rest_first, done_objects, same_object, less_cost, less_cost_first, failed_objects, execution, executed_by}
+use Rattle.block_spec.specs.Execution.{Failure, first_slots, outcome, object_at, now_in, after_block, written_inputs, written_places, created_objects, with_rest, with_rest_first, done_objects, same_object, less_cost, less_cost_first, failed_objects, execution, executed_by}
 use Rattle.block_law.proofs.Slots.{place-same, Every}
 use Rattle.block_law.proofs.Kept.{Turned, Good, Stands, has-front}
 use Rattle.block_law.proofs.Steps.{has-map}
-use Rattle.block_law.proofs.Blocks.{IsDone, done-is}
+use Rattle.block_law.proofs.Blocks.{done-is}
 use Rattle.block_law.proofs.Effects.{IsOrigin, origins, good-id}
 use Rattle.shared_law.specs.Shared.{IsWrittenAgain}
 

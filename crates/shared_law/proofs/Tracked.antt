@@ -1,7 +1,7 @@
 -- Behind every command an object that is marked as new has an id that the transaction drew, and only such objects were
 -- shared.
-use Rattle.std.proofs.Common.{inl, inr, refl, ap, sym, subst, ◌∙◌, arith}
-use Rattle.std.specs.Prelude.{◌≡◌, ◌≤◌, ◌<◌, ◌+◌, ◌-◌, ℕ, zero, suc, Bool, true, false, cond, not, nat_lt, nat_le, List, [], ◌∷◌, ◌++◌, map, sum, sum_by, filter_map, length, slice_get, option_map, Option, Some, None, Result, Ok, Err}
+use Rattle.std.proofs.Common.{refl, sym, subst, arith}
+use Rattle.std.specs.Prelude.{◌≡◌, ◌≤◌, ◌<◌, ◌+◌, ◌-◌, ℕ, zero, suc, Bool, true, false, cond, not, nat_lt, nat_le, List, [], ◌∷◌, ◌++◌, map, sum, sum_by, length, slice_get, option_map, Option, Some, None, Result, Ok, Err}
 use Rattle.std.specs.List.{list_any, enumerate_from, cons_option}
 use Rattle.digest_core.specs.declared.Digest.{Digest}
 use Rattle.chain_types.specs.declared.objects.ObjectId.{ObjectId}
@@ -24,12 +24,12 @@ use Rattle.block_types.specs.declared.pieces.Given.TheVariants as given
 use Rattle.block_types.specs.declared.pieces.Placed.{Placed}
 use Rattle.block_types.specs.declared.pieces.Gave.{Gave}
 use Rattle.block_types.specs.declared.pieces.Gave.TheVariants as gave
-use Rattle.chain_spec.specs.Words.{Each, Has, first_some}
+use Rattle.chain_spec.specs.Words.{Each, first_some}
 use Rattle.chain_spec.specs.Keys.{version_of}
-use Rattle.block_spec.specs.Natives.{currency_of, amount_of, holding, parameters_of, amount_limit, names_vault, may_be_shared, Site, new_item, no_item, number_at, item_given, item_at, items_given, items_at, gives, owned_by_all, abort_if, other_currency, joined, coin_zero, coin_mint, coin_burn, counter_add, counter_require, vault_new, vault_deposit, vault_withdraw, share, counter_add_limited, natives, gave_at, native_gives}
-use Rattle.block_spec.specs.Block.{Place, input, Value, pure, object, vector, Slot, Block, value_in, result_slots}
-use Rattle.block_spec.specs.Commands.{Fault, cause, Need, number, address, by_value, by_mut, by_ref, coins, paired, needs_of, place_of, takes_value, piece_of, item_in, items_in, number_in, spend, spend_all, numbered_coin, split_block, split, sum_of, merge_cases, merge_block, merge, placed_at, address_in, transfer_block, vector_block, given_as, given_all, spend_taken, put_back, put_changed, placed_list, called_block, called, site, performed, taken_cause, command_step}
-use Rattle.block_spec.specs.Execution.{Failure, input_slots, first_slots, first_block, commands_from, commands_next, is_unused, checked_end, outcome}
+use Rattle.block_spec.specs.Natives.{currency_of, amount_of, holding, parameters_of, amount_limit, names_vault, may_be_shared, Site, new_item, no_item, number_at, item_given, item_at, items_given, items_at, gives, owned_by_all, abort_if, other_currency, joined, share, natives, gave_at, native_gives}
+use Rattle.block_spec.specs.Block.{Place, Value, pure, object, vector, Slot, Block, value_in, result_slots}
+use Rattle.block_spec.specs.Commands.{Fault, cause, Need, number, address, by_value, by_mut, by_ref, coins, paired, place_of, takes_value, piece_of, item_in, items_in, number_in, spend, spend_all, numbered_coin, split_block, split, sum_of, merge_cases, merge_block, merge, placed_at, address_in, transfer_block, vector_block, given_as, given_all, spend_taken, put_back, put_changed, placed_list, called_block, called, site, performed, taken_cause, command_step}
+use Rattle.block_spec.specs.Execution.{Failure, input_slots, first_block, commands_from, commands_next, is_unused, checked_end, outcome}
 use Rattle.block_law.specs.Names.{drawn_id}
 use Rattle.block_law.proofs.Slots.{Every, put-every, value-every, every-append, spend-placed, spend-made, spend-every}
 use Rattle.block_law.proofs.Kept.{result_slot}

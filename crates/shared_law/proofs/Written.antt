@@ -15,23 +15,22 @@ use Rattle.chain_types.specs.Equal.{digest_eq, id_eq}
 use Rattle.chain_types.specs.Digests.{transaction_digest, digest_of_object, is_object}
 use Rattle.block_types.specs.declared.pieces.Item.{Item}
 use Rattle.block_types.specs.declared.pieces.Placed.{Placed}
-use Rattle.chain_spec.specs.Words.{Has, Each, numbers_below, repeats}
+use Rattle.chain_spec.specs.Words.{Has, numbers_below, repeats}
 use Rattle.chain_spec.specs.Keys.{objects_of, named_ids, version_of, version_limit, is_owned_by, fits_input, fit_inputs, pays_gas, fits}
 use Rattle.std.specs.Prelude.{nat_lt}
 use Rattle.chain_spec.proofs.ListLemmas.{find-test, and-first, and-second}
-use Rattle.block_spec.specs.Block.{Place, gas, input, Value, pure, object, vector, Block, value_in}
+use Rattle.block_spec.specs.Block.{Place, input, Block, value_in}
 use Rattle.block_spec.specs.Commands.{piece_of}
 use Rattle.block_spec.specs.Execution.{Failure, first_slots, outcome, object_at, left_in, now_in, after_block, is_written, written_inputs, written_places, created_objects, with_rest_first, same_object, less_cost_first, execution, executed_by}
 use Rattle.block_law.specs.Names.{drawn_id, drawn_ids, touched_ids}
 use Rattle.block_law.proofs.Counts.{hit, times, times-append, id_same, id_refl, once-each}
-use Rattle.block_law.proofs.Slots.{value-every}
-use Rattle.block_law.proofs.Kept.{Good, has-front, has-back}
+use Rattle.block_law.proofs.Kept.{has-front, has-back}
 use Rattle.block_law.proofs.Steps.{has-map}
 use Rattle.block_law.proofs.Blocks.{done-is}
-use Rattle.block_law.proofs.Effects.{id_of, IsOrigin, origins, good-id, left-id, after-id, objects-ids}
+use Rattle.block_law.proofs.Effects.{id_of, IsOrigin, origins, left-id, after-id, objects-ids}
 use Rattle.shared_law.specs.Shared.{shared_since, IsAsNamed, IsSharedFrom, IsNew}
-use Rattle.shared_law.proofs.Places.{each-at, at-index, From, from-next, from-here, IsStill, still}
-use Rattle.shared_law.proofs.Tracked.{IsDrawn, Left, HasLeft, IsTracked, ends-tracked}
+use Rattle.shared_law.proofs.Places.{each-at, at-index, From, from-next, from-here, still}
+use Rattle.shared_law.proofs.Tracked.{IsDrawn, Left, HasLeft, ends-tracked}
 
 -- ---- lists
 

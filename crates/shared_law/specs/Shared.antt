@@ -10,7 +10,6 @@ use Rattle.chain_types.specs.declared.transactions.Input.TheVariants as inputs
 use Rattle.chain_types.specs.declared.transactions.Transaction.{Transaction}
 use Rattle.chain_types.specs.Digests.{transaction_digest}
 use Rattle.chain_types.specs.Equal.{id_eq}
-use Rattle.block_types.specs.declared.pieces.Executed.{Executed}
 use Rattle.chain_spec.specs.Words.{Has, repeats}
 use Rattle.chain_spec.specs.Keys.{objects_of, version_of, fits}
 use Rattle.block_spec.specs.Execution.{execution}
