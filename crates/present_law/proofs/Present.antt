@@ -42,6 +42,7 @@ use Rattle.current_law.proofs.Lives.{has-flat}
 use Rattle.current_law.proofs.Same.{was-formed}
 use Rattle.epoch_law.proofs.Turned.{flat-has}
 use Rattle.epoch_law.proofs.Agreed.{members-agree}
+use Rattle.present_law.specs.Cast.{WasCast}
 use Rattle.present_law.specs.Present.{IsPresent}
 use Rattle.present_law.proofs.Cast.{every-vote-was-cast}
 
@@ -180,12 +181,17 @@ seen-in m t origins v i d joined =
     let named = origin-named v.voter t origins v.named i d joined in
     record { voter = v.voter; openings = v.openings; same = v.same; free = v.free; there = named.0; origin = named.1 }
 
+-- some honest member cast the vote of a given certificate
+pub cast-given : (s : Setting) (events : List Event) → IsHonestRun s events → (epoch : ℕ) (d : Digest) (c : Certificate) → IsGiven s.rules (all_delivered s events) epoch d c → WasCast s events c.tx c.origins
+cast-given s events honest epoch d c given =
+    let formed = was-formed s events honest epoch d c given in
+    let v = voter s events honest c c formed formed in
+    every-vote-was-cast s events v.member v.seat v.at c.tx c.origins v.first
+
 pub voted-given : (s : Setting) (events : List Event) → IsHonestRun s events → AreApart s.opening → (n : ℕ) (seat : Seat) → slice_get (world_after s events).seats n ≡ Some seat
     → (d : Digest) (c : Certificate) → IsGiven s.rules (all_delivered s events) (member_in s seat).epoch d c → IsVoted (member_in s seat) c.tx c.origins
 voted-given s events honest distinct n seat at d c given =
-    let formed = was-formed s events honest (member_in s seat).epoch d c given in
-    let v = voter s events honest c c formed formed in
-    let cast = every-vote-was-cast s events v.member v.seat v.at c.tx c.origins v.first in
+    let cast = cast-given s events honest (member_in s seat).epoch d c given in
     let agree = members-agree s cast.front cast.back (subst (IsHonestRun s) (sym cast.whole) honest) distinct cast.member n cast.seat seat cast.at
     (subst (λ (es : List Event). slice_get (world_after s es).seats n ≡ Some seat) (sym cast.whole) at) (sym cast.epoch ∙ given.epoch_is) in
     record { voter = ballot (member_in s cast.seat); openings = agree.openings; same = agree.executions; free = cast.free; named = cast.named }

@@ -1,0 +1,4 @@
+pub mod Roots
+pub mod Alike
+pub mod Undropped
+pub mod Assigned
