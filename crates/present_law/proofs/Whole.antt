@@ -45,12 +45,12 @@ use Rattle.present_law.proofs.Fitting.{WritesOnce, held-one, held-some, input-fi
 
 -- ---- lists
 
-any-none : {A : Type 0} (test : A → Bool) (xs : List A) (x : A) → list_any test xs ≡ false → Has xs x → test x ≡ false
+pub any-none : {A : Type 0} (test : A → Bool) (xs : List A) (x : A) → list_any test xs ≡ false → Has xs x → test x ≡ false
 any-none test [] x e h = absurd h
 any-none test (y ∷ ys) x e (inl q) = subst (λ z. test z ≡ false) q (or-first (test y) (list_any test ys) e)
 any-none test (y ∷ ys) x e (inr h) = any-none test ys x (or-second (test y) (list_any test ys) e) h
 
-filter-has : {A : Type 0} (test : A → Bool) (xs : List A) (x : A) → Has (filter test xs) x → Has xs x
+pub filter-has : {A : Type 0} (test : A → Bool) (xs : List A) (x : A) → Has (filter test xs) x → Has xs x
 filter-has test [] x h = absurd h
 filter-has test (y ∷ ys) x h = go (test y) h (filter-has test ys x)
   where
@@ -59,7 +59,7 @@ filter-has test (y ∷ ys) x h = go (test y) h (filter-has test ys x)
     go true (inr h) rest = inr (rest h)
     go false h rest = inr (rest h)
 
-zip-there : {A B : Type 0} (f : A → B) (xs : List A) (x : A) → Has xs x → Has (zip xs (map f xs)) (x, f x)
+pub zip-there : {A B : Type 0} (f : A → B) (xs : List A) (x : A) → Has xs x → Has (zip xs (map f xs)) (x, f x)
 zip-there f [] x h = absurd h
 zip-there {A = A} {B = B} f (y ∷ ys) x (inl e) = inl (ap (λ (z : A). (z, f z)) e)
 zip-there f (y ∷ ys) x (inr h) = inr (zip-there f ys x h)

@@ -50,6 +50,7 @@ use Rattle.current_law.proofs.Executed.{admitted-given, executed-is-step}
 use Rattle.current_law.proofs.Versions.{versions-same}
 use Rattle.current_law.proofs.Wants.{assigned-is, shared-wanted}
 use Rattle.present_law.proofs.Present.{has-find, some-mapped, opened-in, written-in, held-found, IsSeen, seen-in, voted-given}
+use Rattle.present_law.proofs.Whole.{any-none}
 use Rattle.ready_law.specs.Ready.{wanted_of}
 use Rattle.ready_law.proofs.Undropped.{IsKept, none-dropped}
 
@@ -86,11 +87,6 @@ filter-keeps {A = A} test (y ∷ ys) x h e = go (test y) refl h (λ k. filter-ke
     go true q (inr k) rest = inr (rest k)
     go false q (inl p) rest = absurd (let same = ap test p in cc)
     go false q (inr k) rest = rest k
-
-any-none : {A : Type 0} (test : A → Bool) (xs : List A) (x : A) → list_any test xs ≡ false → Has xs x → test x ≡ false
-any-none test [] x e h = absurd h
-any-none {A = A} test (y ∷ ys) x e (inl q) = subst (λ (z : A). test z ≡ false) q (or-first (test y) (list_any test ys) e)
-any-none test (y ∷ ys) x e (inr h) = any-none test ys x (or-second (test y) (list_any test ys) e) h
 
 -- the object of each input
 fitting-object : (t : Transaction) (is : List Input) (os : List Object) (i : Input) → fit_inputs t is os ≡ true → Has is i → (o : Object) × Has (zip is os) (i, o) × (fits_input t i o ≡ true)

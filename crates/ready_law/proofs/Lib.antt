@@ -2,3 +2,4 @@ pub mod Roots
 pub mod Alike
 pub mod Undropped
 pub mod Assigned
+pub mod Ready
