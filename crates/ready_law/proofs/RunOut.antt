@@ -97,19 +97,19 @@ module _ (b : Books) (executed : List Execution) where
   unfolding ready
   ready-is h x e = go (is_executed executed h.digest) refl e
     where
-      as : (t : Bool) (g : Executed) → where_true t (executes_as h g) ≡ Some x → x.digest ≡ h.digest
-      as true g e = ap (λ (z : Execution). z.digest) (sym (same (executes_as h g) e))
+      named-by : (t : Bool) (g : Executed) → where_true t (executes_as h g) ≡ Some x → x.digest ≡ h.digest
+      named-by true g e = ap (λ (z : Execution). z.digest) (sym (same (executes_as h g) e))
         where
           same : (y : Execution) → Some y ≡ Some x → y ≡ x
           same y e = cc
-      as false g e = absurd (cc)
+      named-by false g e = absurd (cc)
 
       on : (p : Option (List Object)) → ready_on b executed h p ≡ Some x → x.digest ≡ h.digest
       on None e = absurd (cc)
       on (Some os) e = pick (fits h.cert.tx os) e
         where
           pick : (t : Bool) → cond t (ready_as b executed h (execution h.cert.tx os)) None ≡ Some x → x.digest ≡ h.digest
-          pick true e = as (writes_new (versions b.opening executed) (written_keys (execution h.cert.tx os))) (execution h.cert.tx os) e
+          pick true e = named-by (writes_new (versions b.opening executed) (written_keys (execution h.cert.tx os))) (execution h.cert.tx os) e
           pick false e = absurd (cc)
 
       may : (t : Bool) → cond t (ready_on b executed h (present b executed h)) None ≡ Some x → x.digest ≡ h.digest
@@ -143,7 +143,7 @@ module _ (b : Books) (executed : List Execution) where
       added x false c e = push-some round x e
 
       go : (o : Option Execution) → ready b executed h ≡ o → (round_add round o ≡ []) × Each (λ (k : Held). ready b executed k ≡ None) hs → (round ≡ []) × Each (λ (k : Held). ready b executed k ≡ None) (h ∷ hs)
-      go None f rest = (rest.0, f, rest.1)
+      go None f rest = (rest.0, (f, rest.1))
       go (Some x) f rest = absurd (added x (clashes round x) refl rest.0)
 
   -- what a round executes was ready
@@ -197,10 +197,7 @@ run-out-within : (n : ℕ) (b : Books) (executed : List Execution) → waiting e
 run-out-within zero b executed low = subst (IsRunOut b) (sym (append-nil executed)) (all-executed b executed b.held low)
 run-out-within (suc n) b executed low = go (round_of b executed) refl (run-out-within n b (executed ++ round_of b executed))
   where
-    abbrev Goal : Type 0
-    Goal = IsRunOut b (executed ++ rounds_within (suc n) b executed)
-
-    go : (r : List Execution) → round_of b executed ≡ r → (waiting (executed ++ round_of b executed) b.held ≤ n → IsRunOut b ((executed ++ round_of b executed) ++ rounds_within n b (executed ++ round_of b executed))) → Goal
+    go : (r : List Execution) → round_of b executed ≡ r → (waiting (executed ++ round_of b executed) b.held ≤ n → IsRunOut b ((executed ++ round_of b executed) ++ rounds_within n b (executed ++ round_of b executed))) → IsRunOut b (executed ++ rounds_within (suc n) b executed)
     go [] e rest = subst (λ (r : List Execution). IsRunOut b (executed ++ r)) (sym (quiet (suc n) b executed e)) (subst (IsRunOut b) (sym (append-nil executed)) (none-ready b executed e))
     go (x ∷ more) e rest =
         let from = round-is b executed x (subst (λ (r : List Execution). Has r x) (sym e) (inl refl)) in

@@ -11,7 +11,7 @@ use Rattle.chain_spec.specs.Keys.{fits}
 use Rattle.block_spec.specs.Execution.{execution, written_keys}
 use Rattle.member_spec.specs.Versions.{Execution, versions, is_executed}
 use Rattle.member_spec.specs.Rounds.{Books, present, writes_new, ready, rounds, left}
-use Rattle.member_spec.specs.Member.{Member, books, with_rounds}
+use Rattle.member_spec.specs.Member.{Member, books}
 use Rattle.member_spec.specs.Calls.{runs, run_answer}
 use Rattle.world_spec.specs.Setting.{Setting}
 use Rattle.world_spec.specs.World.{Seat, member_in, answers, reached}
@@ -28,23 +28,23 @@ IsRunOut b executed = Each (λ (h : Held). ready b executed h ≡ None) b.held
 abbrev pub RunsRunOut : Type 0
 RunsRunOut = (b : Books) (executed : List Execution) → IsRunOut b (executed ++ rounds b executed)
 
--- what a held certificate would write, which was not executed and has its objects, has new keys
-abbrev pub WouldWriteNewKeys : Member → Type 0
-WouldWriteNewKeys m = (h : Held) → Has m.held h → is_executed m.executed h.digest ≡ false
-    → (objects : List Object) → present (books m) m.executed h ≡ Some objects → fits h.cert.tx objects ≡ true
-    → writes_new (versions m.opening m.executed) (written_keys (execution h.cert.tx objects)) ≡ true
+-- what a held certificate would write that was not executed, and whose objects are there and fit, has new keys
+abbrev pub WouldWriteNewKeys : Books → List Execution → Type 0
+WouldWriteNewKeys b executed = (h : Held) → Has b.held h → is_executed executed h.digest ≡ false
+    → (objects : List Object) → present b executed h ≡ Some objects → fits h.cert.tx objects ≡ true
+    → writes_new (versions b.opening executed) (written_keys (execution h.cert.tx objects)) ≡ true
 
 -- a member that has run out has nothing left, if what is held would write new keys
 abbrev pub NothingIsLeft : Type 0
 NothingIsLeft = (s : Setting) (events : List Event) → IsHonestRun s events → AreApart s.opening
     → (m : ℕ) (seat : Seat) → slice_get (world_after s events).seats m ≡ Some seat
-    → IsRunOut (books (member_in s seat)) (member_in s seat).executed → WouldWriteNewKeys (member_in s seat)
+    → IsRunOut (books (member_in s seat)) (member_in s seat).executed → WouldWriteNewKeys (books (member_in s seat)) (member_in s seat).executed
     → left (books (member_in s seat)) (member_in s seat).executed ≡ []
 
 -- what a run answers of what it leaves
 pub record LeavesNothing (before : Member) (ran : Ran) : Type 0 where
   pub present : Each MissesNothing ran.left
-  pub none_if_new : WouldWriteNewKeys (with_rounds before) → ran.left ≡ []
+  pub none_if_new : WouldWriteNewKeys (books before) (before.executed ++ rounds (books before) before.executed) → ran.left ≡ []
 
 -- So it is with each run of a member: of what it leaves no version is missing, and where what is held would write new
 -- keys, it leaves nothing.

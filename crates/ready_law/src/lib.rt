@@ -2,6 +2,7 @@
 //! makers were executed, shared inputs included.
 #![tactic(auto)]
 
+ghost use Rattle.ready_law.specs.Left.{NothingIsLeft, RunsLeaveNothing, RunsRunOut};
 ghost use Rattle.ready_law.specs.Ready.{DueHaveTheirObjects, NoneIsUnfit, NothingLeftIsAbsent, SharedInputsArePresent, SharedInputsFit};
 ghost use Rattle.ready_law.specs.Shared.{VersionsAreSharedAlike};
 
@@ -36,4 +37,19 @@ pub fn due_have_their_objects()
 /// So what is left misses no version.
 pub fn nothing_left_is_absent()
     ensures { NothingLeftIsAbsent }
+{}
+
+/// Behind the rounds of a run no held certificate is ready.
+pub fn runs_run_out()
+    ensures { RunsRunOut }
+{}
+
+/// A member that has run out has nothing left, if what is held would write new keys.
+pub fn nothing_is_left()
+    ensures { NothingIsLeft }
+{}
+
+/// So what a run answers that it leaves misses no version; and where what is held would write new keys, it is empty.
+pub fn runs_leave_nothing()
+    ensures { RunsLeaveNothing }
 {}
