@@ -1,21 +1,18 @@
 -- Two members of one epoch have all versions of one id shared alike.
-use Rattle.std.proofs.Common.{inl, inr, refl, sym, subst, ap, ◌∙◌, arith}
-use Rattle.std.specs.Prelude.{◌≡◌, ◌⊎◌, ◌<◌, ℕ, List, ◌++◌, slice_get, Some}
+use Rattle.std.proofs.Common.{inl, inr, sym, subst, ap, ◌∙◌, arith}
+use Rattle.std.specs.Prelude.{◌≡◌, ◌<◌, ℕ, List, ◌++◌, slice_get, Some}
 use Rattle.digest_core.specs.declared.Digest.{Digest}
 use Rattle.chain_types.specs.declared.objects.ObjectId.{ObjectId}
 use Rattle.chain_types.specs.declared.objects.ObjectKey.{ObjectKey}
 use Rattle.chain_types.specs.declared.objects.Object.{Object}
-use Rattle.chain_types.specs.Digests.{transaction_digest}
-use Rattle.chain_messages.specs.declared.messages.Certificate.{Certificate}
 use Rattle.block_types.specs.declared.pieces.Executed.{Executed}
 use Rattle.schedule_text.specs.declared.words.Event.{Event}
 use Rattle.chain_spec.specs.Words.{Has}
 use Rattle.chain_spec.specs.Keys.{object_key}
-use Rattle.member_spec.specs.Versions.{Execution, Version, versions}
+use Rattle.member_spec.specs.Versions.{Execution}
 use Rattle.member_spec.specs.Member.{Member}
 use Rattle.world_spec.specs.Setting.{Setting}
 use Rattle.world_spec.specs.World.{Seat, new_world, member_in}
-use Rattle.world_spec.specs.Names.{draws}
 use Rattle.world_spec.specs.Run.{world_after}
 use Rattle.world_spec.specs.Assumptions.{IsHonestRun, delivered, all_delivered}
 use Rattle.block_law.specs.Names.{drawn_id}
@@ -31,7 +28,7 @@ use Rattle.epoch_law.specs.Agreed.{Agree}
 use Rattle.epoch_law.proofs.Agreed.{members-agree}
 use Rattle.present_law.proofs.Fitting.{one-id, writes-once}
 use Rattle.ready_law.specs.Shared.{ShareAlike}
-use Rattle.ready_law.proofs.Roots.{HasFirst, IsOpenedFirst, IsMadeFirst, IsOfRun, of-this-run, version-first}
+use Rattle.ready_law.proofs.Roots.{HasFirst, IsMadeFirst, IsOfRun, of-this-run, version-first}
 
 module _ (s : Setting) (front back : List Event) (honest : IsHonestRun s (front ++ back)) (distinct : AreApart s.opening)
     (m n : ℕ) (a b : Seat) (at : slice_get (world_after s front).seats m ≡ Some a) (by : slice_get (world_after s (front ++ back)).seats n ≡ Some b) (epoch : (member_in s a).epoch ≡ (member_in s b).epoch) where

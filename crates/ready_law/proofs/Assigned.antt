@@ -1,11 +1,10 @@
 -- The version that admission assigned to a shared input is there, once its writer was executed.
 use Rattle.std.proofs.Common.{inl, inr, refl, sym, subst, ap, ◌∙◌}
 use Rattle.std.proofs.lemmas.Bool.{eq-eqb}
-use Rattle.std.specs.Prelude.{◌≡◌, ◌⊎◌, ℕ, Bool, true, false, cond, not, ◌&&◌, ◌||◌, ◌==◌, nat_le, List, [], ◌∷◌, ◌++◌, map, zip, filter, filter_map, find, slice_get, Option, Some, None, option_map, is_some, Result, Ok, Err}
-use Rattle.std.specs.List.{list_any, cons_option}
+use Rattle.std.specs.Prelude.{◌≡◌, ◌⊎◌, ℕ, Bool, true, false, cond, not, ◌==◌, nat_le, List, [], ◌∷◌, ◌++◌, map, zip, filter, find, slice_get, Option, Some, None, option_map, is_some, Result, Ok, Err}
+use Rattle.std.specs.List.{list_any}
 use Rattle.digest_core.specs.declared.Digest.{Digest}
 use Rattle.chain_types.specs.declared.objects.ObjectId.{ObjectId}
-use Rattle.chain_types.specs.declared.objects.ObjectKey.{ObjectKey}
 use Rattle.chain_types.specs.declared.objects.Object.{Object}
 use Rattle.chain_types.specs.declared.objects.Producer.TheVariants as producers
 use Rattle.chain_types.specs.declared.transactions.Input.{Input}
@@ -17,15 +16,15 @@ use Rattle.chain_messages.specs.declared.messages.Certificate.{Certificate}
 use Rattle.member_types.specs.declared.answers.Held.{Held}
 use Rattle.schedule_text.specs.declared.words.Event.{Event}
 use Rattle.chain_spec.specs.Words.{Has, Along, first_some, first_of, where_true, last_where}
-use Rattle.chain_spec.specs.Keys.{object_key, objects_of, mutable_id, is_shared, is_shared_since, is_shared_input, version_of, version_limit, fits_input, fit_inputs}
-use Rattle.chain_spec.proofs.ListLemmas.{find-test, and-first, and-second, or-first, or-second}
+use Rattle.chain_spec.specs.Keys.{object_key, objects_of, mutable_id, is_shared_since, is_shared_input, version_of, version_limit, fits_input, fit_inputs}
+use Rattle.chain_spec.proofs.ListLemmas.{find-test, and-first, and-second, or-second}
 use Rattle.block_spec.specs.Block.{Block}
 use Rattle.block_spec.specs.Execution.{Failure, outcome, execution, executed_by}
 use Rattle.member_spec.specs.Versions.{Execution, Version, opened, written, versions, version_at, object_in, is_executed}
-use Rattle.member_spec.specs.Votes.{Ballot, shared_key, object_held, made_by}
-use Rattle.member_spec.specs.Admission.{Admitted, Standing, is_admitted, writes, mutable_ids, cert_of, joined_inputs, opening_object, begins, beginning, beginning_by, standing_after, standing_or, current, is_shared_object, lacks_shared, is_dropped, version_at_admission, assignments, assigned_of}
-use Rattle.member_spec.specs.Rounds.{Wanted, wanted_by, wanted_version, is_wanted, found, is_maker_done, executes_as}
-use Rattle.member_spec.specs.Member.{Member, books}
+use Rattle.member_spec.specs.Votes.{Ballot, shared_key, made_by}
+use Rattle.member_spec.specs.Admission.{Admitted, Standing, is_admitted, writes, mutable_ids, cert_of, joined_inputs, opening_object, begins, beginning, beginning_by, standing_after, standing_or, current, is_shared_object, lacks_shared, version_at_admission, assigned_of}
+use Rattle.member_spec.specs.Rounds.{Wanted, wanted_by, is_wanted, found, is_maker_done, executes_as}
+use Rattle.member_spec.specs.Member.{Member}
 use Rattle.world_spec.specs.Setting.{Setting}
 use Rattle.world_spec.specs.World.{Seat, member_in}
 use Rattle.world_spec.specs.Run.{world_after}
@@ -36,20 +35,20 @@ use Rattle.votes_law.proofs.Kept.{find-has}
 use Rattle.admission_law.specs.Admitted.{held_again, IsInOrder}
 use Rattle.block_law.proofs.Counts.{id_same, id_refl}
 use Rattle.block_law.proofs.Reading.{where-false}
-use Rattle.shared_law.specs.Shared.{IsWrittenAgain}
 use Rattle.shared_law.proofs.Places.{shared-written}
-use Rattle.agreement_law.specs.Agreed.{IsGiven, IsHeldAsGiven}
+use Rattle.shared_law.proofs.Written.{chosen-from}
+use Rattle.agreement_law.specs.Agreed.{IsHeldAsGiven}
 use Rattle.agreement_law.proofs.Supply.{every-held, every-admission}
 use Rattle.chain_law.specs.Orderly.{AreApart, gave}
 use Rattle.chain_law.proofs.Touched.{has-parts, has-mapped}
 use Rattle.chain_law.proofs.Reading.{has-zip, fits-inputs}
-use Rattle.current_law.specs.Steps.{step_of, IsStepOf}
+use Rattle.current_law.specs.Steps.{step_of}
 use Rattle.current_law.proofs.Lists.{some-same, has-middle, along-split, any-has, first-says}
 use Rattle.current_law.proofs.Same.{given-alike}
 use Rattle.current_law.proofs.Executed.{admitted-given, executed-is-step}
 use Rattle.current_law.proofs.Versions.{versions-same}
 use Rattle.current_law.proofs.Wants.{assigned-is, shared-wanted}
-use Rattle.present_law.proofs.Present.{has-find, some-mapped, opened-in, written-in, held-found, IsSeen, seen-in, voted-given}
+use Rattle.present_law.proofs.Present.{has-find, some-mapped, opened-in, written-in, held-found, seen-in, voted-given}
 use Rattle.present_law.proofs.Whole.{any-none}
 use Rattle.ready_law.specs.Ready.{wanted_of}
 use Rattle.ready_law.proofs.Undropped.{IsKept, none-dropped}
@@ -68,15 +67,6 @@ last-has {A = A} test (x ∷ xs) y e = go (last_where test xs) refl (test x) ref
     go (Some z) h b t e rest = let r = rest (h ∙ e) in (inr r.0, r.1)
     go None h true t e rest = let same = some-same x y e in (inl same, subst (λ (z : A). test z ≡ true) same t)
     go None h false t e rest = absurd (cc)
-
-chosen-from : {A B : Type 0} (f : A → Option B) (xs : List A) (y : B) → Has (filter_map f xs) y → (x : A) × Has xs x × (f x ≡ Some y)
-chosen-from f [] y h = absurd h
-chosen-from {A = A} {B = B} f (x ∷ xs) y h = go (f x) refl h (chosen-from f xs y)
-  where
-    go : (o : Option B) → f x ≡ o → Has (cons_option o (filter_map f xs)) y → (Has (filter_map f xs) y → (z : A) × Has xs z × (f z ≡ Some y)) → (z : A) × Has (x ∷ xs) z × (f z ≡ Some y)
-    go None e h rest = let r = rest h in (r.0, inr r.1, r.2)
-    go (Some z) e (inl q) rest = (x, inl refl, e ∙ ap Some q)
-    go (Some z) e (inr h) rest = let r = rest h in (r.0, inr r.1, r.2)
 
 filter-keeps : {A : Type 0} (test : A → Bool) (xs : List A) (x : A) → Has xs x → test x ≡ true → Has (filter test xs) x
 filter-keeps test [] x h e = absurd h

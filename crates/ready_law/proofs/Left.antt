@@ -1,14 +1,12 @@
 -- What a run of a member leaves.
 use Rattle.std.proofs.Common.{inl, inr, refl, sym, subst, ap, ◌∙◌, append-nil}
-use Rattle.std.specs.Prelude.{◌≡◌, ℕ, zero, suc, Bool, true, false, cond, not, ◌&&◌, List, [], ◌∷◌, ◌++◌, map, filter, slice_get, slice_set, Option, Some, None, Result, Ok, Err}
+use Rattle.std.specs.Prelude.{◌≡◌, ℕ, zero, suc, Bool, true, false, cond, not, ◌&&◌, List, [], ◌∷◌, ◌++◌, map, filter, slice_get, slice_set, Option, Some, None, Ok}
 use Rattle.std.specs.List.{list_all}
-use Rattle.chain_types.specs.declared.objects.Object.{Object}
 use Rattle.block_types.specs.declared.pieces.Executed.{Executed}
 use Rattle.journal_core.specs.declared.records.Record.{Record}
 use Rattle.journal_core.specs.declared.records.Record.TheVariants as record_as
 use Rattle.journal_core.specs.declared.records.RanItem.{RanItem}
 use Rattle.member_types.specs.declared.answers.Held.{Held}
-use Rattle.member_types.specs.declared.answers.Left.{Left}
 use Rattle.member_types.specs.declared.answers.Ran.{Ran}
 use Rattle.member_types.specs.declared.refusals.RunRefusal.{RunRefusal}
 use Rattle.member_types.specs.declared.refusals.RunRefusal.TheVariants as no_run
@@ -19,19 +17,20 @@ use Rattle.chain_spec.proofs.ListLemmas.{and-first, not-true}
 use Rattle.block_spec.specs.Execution.{execution, written_keys}
 use Rattle.member_spec.specs.Versions.{Execution, versions, is_executed}
 use Rattle.member_spec.specs.Rounds.{Books, Wanted, may_run, writes_new, executes_as, ready_as, ready, wants_of, is_maker_done, is_origin_done, is_due, left_as, left, rounds}
-use Rattle.member_spec.specs.Member.{Member, books, with_rounds, after, state}
-use Rattle.member_spec.specs.Calls.{Call, runs, halted, full, ran_as, run_answer, ran_item, ran_items, ran_record, run_record, due}
+use Rattle.member_spec.specs.Member.{Member, books, with_rounds, after}
+use Rattle.member_spec.specs.Calls.{runs, halted, full, ran_as, run_answer, ran_item, ran_items, ran_record, run_record, due}
 use Rattle.world_spec.specs.Setting.{Setting}
-use Rattle.world_spec.specs.World.{Seat, World, member_in, Reached, finds_down, stops, answers, reached_up, reached_seat, reached_at, reached, appended, behind, called_seat, called_in}
+use Rattle.world_spec.specs.World.{Seat, World, member_in, Reached, finds_down, answers, reached_up, reached_seat, reached_at, reached, appended, behind, called_seat, called_in}
 use Rattle.world_spec.specs.Step.{happens}
 use Rattle.world_spec.specs.Run.{world_after}
 use Rattle.world_spec.specs.Assumptions.{IsHonestRun}
 use Rattle.block_law.proofs.Steps.{ok-same}
 use Rattle.votes_law.proofs.Apart.{state-push}
+use Rattle.votes_law.proofs.Once.{each-has}
 use Rattle.votes_law.proofs.InWorld.{answered-due}
 use Rattle.one_owner_law.proofs.Grown.{world-append}
 use Rattle.chain_law.specs.Orderly.{AreApart}
-use Rattle.ready_law.specs.Ready.{HasItsObjects, MissesNothing}
+use Rattle.ready_law.specs.Ready.{MissesNothing}
 use Rattle.ready_law.specs.Left.{IsRunOut, WouldWriteNewKeys, LeavesNothing}
 use Rattle.ready_law.proofs.Ready.{due-have, none-absent}
 use Rattle.ready_law.proofs.RunOut.{run-out}
@@ -52,11 +51,6 @@ ready-some b executed h g new none = go (writes_new (versions b.opening executed
     go true e f = cc
     go false e f = cc
 
-has-each : {A : Type 0} (P : A → Type 0) (xs : List A) (x : A) → Each P xs → Has xs x → P x
-has-each P [] x each h = absurd h
-has-each P (y ∷ ys) x each (inl e) = subst P e each.0
-has-each P (y ∷ ys) x each (inr h) = has-each P ys x each.1 h
-
 module _ (s : Setting) (events : List Event) (honest : IsHonestRun s events) (distinct : AreApart s.opening) (n : ℕ) (seat : Seat) (at : slice_get (world_after s events).seats n ≡ Some seat)
     (out : IsRunOut (books (member_in s seat)) (member_in s seat).executed) (new : WouldWriteNewKeys (books (member_in s seat)) (member_in s seat).executed) where
   abbrev m : Member
@@ -66,7 +60,7 @@ module _ (s : Setting) (events : List Event) (honest : IsHonestRun s events) (di
   not-due h held e =
       let have = due-have s events honest distinct n seat at h held e in
       ready-some (books m) m.executed h (execution h.cert.tx have.objects) (new h held (due-new (books m) m.executed h e) have.objects have.there have.fit)
-      (sym have.ready_if_new ∙ has-each (λ (k : Held). ready (books m) m.executed k ≡ None) m.held h out held)
+      (sym have.ready_if_new ∙ each-has (λ (k : Held). ready (books m) m.executed k ≡ None) m.held h out held)
 
   none-due : (hs : List Held) → ((h : Held) → Has hs h → Has m.held h) → filter (is_due (books m) m.executed) hs ≡ []
   none-due [] inside = refl
@@ -174,12 +168,12 @@ is-answered s m ran e = record { left_is = go (first_some (halted no_run.Halted 
     go None e = sym (ap (λ (r : Ran). r.left) (ok-same RunRefusal (ran_as m (rounds (books m) m.executed) (with_rounds m)) ran e))
 
 pub runs-leave-nothing : (s : Setting) (front : List Event) (m workers : ℕ) → IsHonestRun s (front ++ event.Run m workers ∷ []) → AreApart s.opening
-    → (before : Member) (x : Option Record) → reached s (world_after s front) m runs ≡ answers before x → (ran : Ran) → run_answer s.rules before ≡ Ok ran → LeavesNothing before ran
+    → (before : Member) (x : Option Record) → reached s (world_after s front) m runs ≡ answers before x → (ran : Ran) → run_answer s.rules before ≡ Ok ran → LeavesNothing s (front ++ event.Run m workers ∷ []) m ran
 runs-leave-nothing s front m workers honest distinct before x e ran a = record {
-  present = subst (Each MissesNothing) (sym left-now) (none-absent s all honest distinct m seat at);
+  misses_nothing = subst (Each MissesNothing) (sym left-now) (none-absent s all honest distinct m seat at);
   none_if_new = λ new. left-now ∙ nothing-left s all honest distinct m seat at
       (subst (λ (b : Books). IsRunOut b new-member.executed) (sym same.books_are) (subst (IsRunOut (books old)) (sym same.executed_are) (run-out (books old) old.executed)))
-      (subst (λ (b : Books). WouldWriteNewKeys b new-member.executed) (sym same.books_are) (subst (WouldWriteNewKeys (books old)) (sym same.executed_are) (subst (λ (z : Member). WouldWriteNewKeys (books z) (z.executed ++ rounds (books z) z.executed)) it.before_is new)));
+      (new seat at);
 }
   where
     all : List Event

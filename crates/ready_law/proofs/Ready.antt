@@ -1,7 +1,7 @@
 -- What is found for a shared input fits it; so no held certificate is unfit, and none is absent whose makers were executed.
 use Rattle.std.proofs.Common.{inl, inr, refl, sym, subst, ap, ◌∙◌}
 use Rattle.std.proofs.lemmas.Bool.{eqb-true, eq-eqb, leb-false, lt-ltb}
-use Rattle.std.specs.Prelude.{◌≡◌, ◌⊎◌, ℕ, Bool, true, false, cond, not, ◌&&◌, ◌||◌, ◌==◌, nat_lt, nat_le, List, [], ◌∷◌, ◌++◌, map, zip, filter, find, fold, slice_get, Option, Some, None, is_some}
+use Rattle.std.specs.Prelude.{◌≡◌, ◌⊎◌, ℕ, Bool, true, false, cond, not, ◌&&◌, ◌||◌, ◌==◌, nat_lt, nat_le, List, [], ◌∷◌, map, zip, filter, fold, slice_get, Option, Some, None, is_some}
 use Rattle.std.specs.List.{list_any, list_all}
 use Rattle.digest_core.specs.declared.Digest.{Digest}
 use Rattle.chain_types.specs.declared.objects.ObjectId.{ObjectId}
@@ -19,15 +19,15 @@ use Rattle.chain_types.specs.Digests.{key_of, transaction_digest, is_object, lam
 use Rattle.member_types.specs.declared.answers.Assigned.{Assigned}
 use Rattle.member_types.specs.declared.answers.Held.{Held}
 use Rattle.schedule_text.specs.declared.words.Event.{Event}
-use Rattle.chain_spec.specs.Words.{Has, Each, all_some, first_some, first_of, where_true}
+use Rattle.chain_spec.specs.Words.{Has, Each, all_some, first_of}
 use Rattle.chain_spec.specs.Tests.{producer_eq}
 use Rattle.chain_spec.specs.Keys.{object_key, objects_of, is_shared_since, is_shared_input, has_shared_input, version_of, version_limit, fits_input, fit_inputs, fits}
 use Rattle.chain_spec.proofs.ListLemmas.{find-test, and-first, and-second, or-first}
 use Rattle.block_spec.specs.Execution.{execution}
 use Rattle.member_spec.specs.Versions.{Execution, Version, versions, is_id, object_in, newer, newest, is_deleted, live, is_executed}
 use Rattle.member_spec.specs.Votes.{shared_key, Ballot, of_held, wrong_kind, vote_cases, vote_refusal, origin_of, vote_origins}
-use Rattle.member_spec.specs.Admission.{joined_inputs, lacks_shared, is_admitted, taken_version, version_at_admission, is_dropped, assigned_of}
-use Rattle.member_spec.specs.Rounds.{Books, Wanted, wanted_by, wanted_as, wanted_version, assigned_id, wants_of, is_wanted, found, present, may_run, ready_as, ready_on, ready, is_maker_done, is_origin_done, is_due, missing, left_as, left}
+use Rattle.member_spec.specs.Admission.{joined_inputs, lacks_shared, is_admitted, taken_version, version_at_admission, assigned_of}
+use Rattle.member_spec.specs.Rounds.{Wanted, wanted_by, wanted_as, wanted_version, assigned_id, wants_of, is_wanted, found, present, may_run, ready_as, ready_on, ready, is_maker_done, is_origin_done, is_due, missing, left_as, left}
 use Rattle.member_spec.specs.Member.{Member, ballot, books}
 use Rattle.world_spec.specs.Setting.{Setting}
 use Rattle.world_spec.specs.World.{Seat, member_in}
@@ -46,14 +46,12 @@ use Rattle.chain_law.proofs.Reading.{has-zip}
 use Rattle.current_law.proofs.Lists.{some-same, has-second, has-any, all-has}
 use Rattle.current_law.proofs.Known.{opens-apart}
 use Rattle.current_law.proofs.Wants.{found-as, nobody, version-found, wanted-at}
-use Rattle.present_law.specs.Cast.{WasCast}
-use Rattle.present_law.proofs.Present.{IsVoted, cast-given, voted-by, owned-present}
+use Rattle.present_law.proofs.Present.{cast-given, voted-by, owned-present}
 use Rattle.present_law.proofs.Fitting.{writes-once}
-use Rattle.present_law.proofs.Whole.{filter-has, zip-there, FitsBeside, whole-fits, certificates-fit}
+use Rattle.present_law.proofs.Whole.{filter-has, zip-there, whole-fits, certificates-fit}
 use Rattle.ready_law.specs.Shared.{ShareAlike}
 use Rattle.ready_law.specs.Ready.{wanted_of, HasItsObjects, MissesNothing}
 use Rattle.ready_law.proofs.Alike.{share-alike}
-use Rattle.ready_law.proofs.Undropped.{IsKept}
 use Rattle.ready_law.proofs.Assigned.{IsAdmittedAs, admitted-as, wanted-current, shared-present}
 
 -- ---- a live object is a version of its id

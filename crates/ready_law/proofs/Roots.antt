@@ -13,7 +13,7 @@ use Rattle.block_types.specs.declared.pieces.Executed.{Executed}
 use Rattle.member_types.specs.declared.answers.Held.{Held}
 use Rattle.schedule_text.specs.declared.words.Event.{Event}
 use Rattle.chain_spec.specs.Words.{Has, Along, all_some, numbers_below, repeats}
-use Rattle.chain_spec.specs.Keys.{objects_of, named_ids, version_of}
+use Rattle.chain_spec.specs.Keys.{objects_of, named_ids}
 use Rattle.chain_spec.specs.Shape.{shape_cases, shape_fault}
 use Rattle.chain_spec.specs.Certificates.{Rules, cert_cases, cert_refusal}
 use Rattle.block_spec.specs.Block.{Block}
@@ -40,15 +40,14 @@ use Rattle.agreement_law.specs.Explained.{IsExplained}
 use Rattle.agreement_law.proofs.Supply.{every-held}
 use Rattle.agreement_law.proofs.Executing.{executions-explained, some-parts}
 use Rattle.agreement_law.proofs.Same.{of-run}
-use Rattle.chain_law.specs.Orderly.{Step, id_of, AreApart}
+use Rattle.chain_law.specs.Orderly.{Step, id_of}
 use Rattle.chain_law.proofs.Touched.{has-parts, has-mapped, below, written-version}
 use Rattle.chain_law.proofs.Reading.{has-right}
 use Rattle.current_law.specs.Orderly.{OpensApart}
-use Rattle.current_law.proofs.Lists.{some-same, has-second, has-any, along-split}
+use Rattle.current_law.proofs.Lists.{some-same, has-second, along-split}
 use Rattle.current_law.proofs.Lives.{IsThere, version-there}
 use Rattle.current_law.proofs.Wants.{found-as}
 use Rattle.current_law.proofs.Executed.{one-gave}
-use Rattle.current_law.proofs.Known.{opens-apart}
 use Rattle.current_law.proofs.Ordered.{repeats-append}
 use Rattle.current_law.proofs.Drawn.{created-most}
 use Rattle.present_law.proofs.Present.{has-find, executed-is}

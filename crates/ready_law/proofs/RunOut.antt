@@ -1,6 +1,6 @@
 -- Behind the rounds of a run no held certificate is ready: each round that is not empty executes a certificate more.
 use Rattle.std.proofs.Common.{inl, inr, refl, sym, subst, ap, ◌∙◌, arith, append_assoc, append-nil}
-use Rattle.std.specs.Prelude.{◌≡◌, ◌⊎◌, ◌≤◌, ◌<◌, ◌+◌, ℕ, zero, suc, Bool, true, false, cond, not, ◌&&◌, ◌||◌, List, [], ◌∷◌, ◌++◌, find, length, Option, Some, None, is_some}
+use Rattle.std.specs.Prelude.{◌≡◌, ◌≤◌, ◌<◌, ◌+◌, ℕ, zero, suc, Bool, true, false, cond, not, ◌&&◌, List, [], ◌∷◌, ◌++◌, length, Option, Some, None, is_some}
 use Rattle.std.specs.List.{list_any}
 use Rattle.digest_core.specs.declared.Digest.{Digest}
 use Rattle.chain_types.specs.declared.objects.ObjectKey.{ObjectKey}
@@ -11,7 +11,6 @@ use Rattle.member_types.specs.declared.answers.Held.{Held}
 use Rattle.chain_spec.specs.Words.{Has, Each, where_true}
 use Rattle.chain_spec.specs.Tests.{has_key}
 use Rattle.chain_spec.specs.Keys.{fits}
-use Rattle.chain_spec.proofs.ListLemmas.{and-first}
 use Rattle.block_spec.specs.Execution.{execution, written_keys}
 use Rattle.member_spec.specs.Versions.{Execution, versions, execution_of, is_executed}
 use Rattle.member_spec.specs.Rounds.{Books, present, may_run, writes_new, executes_as, ready_as, ready_on, ready, clashes, round_add, round_among, round_of, rounds_within, rounds}

@@ -1,5 +1,5 @@
 -- What a run leaves.
-use Rattle.std.specs.Prelude.{◌≡◌, ℕ, true, false, List, [], ◌∷◌, ◌++◌, slice_get, Option, Some, None, Result, Ok}
+use Rattle.std.specs.Prelude.{◌≡◌, ℕ, true, false, List, [], ◌∷◌, ◌++◌, slice_get, Option, Some, None, Ok}
 use Rattle.chain_types.specs.declared.objects.Object.{Object}
 use Rattle.journal_core.specs.declared.records.Record.{Record}
 use Rattle.member_types.specs.declared.answers.Held.{Held}
@@ -41,14 +41,14 @@ NothingIsLeft = (s : Setting) (events : List Event) → IsHonestRun s events →
     → IsRunOut (books (member_in s seat)) (member_in s seat).executed → WouldWriteNewKeys (books (member_in s seat)) (member_in s seat).executed
     → left (books (member_in s seat)) (member_in s seat).executed ≡ []
 
--- what a run answers of what it leaves
-pub record LeavesNothing (before : Member) (ran : Ran) : Type 0 where
-  pub present : Each MissesNothing ran.left
-  pub none_if_new : WouldWriteNewKeys (books before) (before.executed ++ rounds (books before) before.executed) → ran.left ≡ []
+-- what is left behind these events by the run of a member that answered this: no version is missing; nothing, where what
+-- the member holds then would write new keys
+pub record LeavesNothing (s : Setting) (events : List Event) (m : ℕ) (ran : Ran) : Type 0 where
+  pub misses_nothing : Each MissesNothing ran.left
+  pub none_if_new : ((seat : Seat) → slice_get (world_after s events).seats m ≡ Some seat → WouldWriteNewKeys (books (member_in s seat)) (member_in s seat).executed) → ran.left ≡ []
 
--- So it is with each run of a member: of what it leaves no version is missing, and where what is held would write new
--- keys, it leaves nothing.
+-- so it is with each line that runs a member
 abbrev pub RunsLeaveNothing : Type 0
 RunsLeaveNothing = (s : Setting) (front : List Event) (m workers : ℕ) → IsHonestRun s (front ++ event.Run m workers ∷ []) → AreApart s.opening
     → (before : Member) (x : Option Record) → reached s (world_after s front) m runs ≡ answers before x
-    → (ran : Ran) → run_answer s.rules before ≡ Ok ran → LeavesNothing before ran
+    → (ran : Ran) → run_answer s.rules before ≡ Ok ran → LeavesNothing s (front ++ event.Run m workers ∷ []) m ran

@@ -205,29 +205,54 @@ module _ (tx : Digest) (version : ℕ) where
       behind-two first second a b cs n = unless-stops first a (abort_if second b (gives here cs (Some (holding n one)))) (λ _. behind-one second b cs n)
 
       all-natives : Each (Gives made) (natives here args)
-      all-natives =
-        (gives-given (content.Coin (number_at args 0) 0 ∷ []) None tt,
-        (behind-one (nat_le amount_limit (amount_of one.content + number_at args 1)) 1 (content.Coin (currency_of one.content) (number_at args 1) ∷ []) (amount_of one.content + number_at args 1),
-        (behind-two (other_currency one (item_at args 1)) (nat_lt (amount_of one.content) (amount_of (item_at args 1).content)) 1 2 [] (amount_of one.content - amount_of (item_at args 1).content),
-        (joined-given (items_at args 0) (items-marked 0),
-        (gives-given (content.Counter (number_at args 0) ∷ []) None tt,
-        (behind-one (nat_le amount_limit (amount_of one.content + number_at args 1)) 1 [] (amount_of one.content + number_at args 1),
-        (unless-stops (nat_lt (amount_of one.content) (number_at args 1)) 1 (gives here [] None) (λ _. gives-given [] None tt),
-        (record {
-          rises = omega arith;
-          results_are = (
-            new-marked 0 (content.Vault (number_at args 0) 0) (made + 2) (omega arith),
-            (new-marked 1 (content.VaultKey (drawn_id tx made)) (made + 2) (omega arith), tt),
-          );
-          changed_is = tt;
-          left_is = tt;
-        },
-        (behind-two (other_currency one (item_at args 1)) (nat_le amount_limit (amount_of one.content + amount_of (item_at args 1).content)) 1 2 [] (amount_of one.content + amount_of (item_at args 1).content),
-        (behind-two (not (names_vault one.id (item_at args 1).content)) (nat_lt (amount_of one.content) (number_at args 2)) 1 2 (content.Coin (currency_of one.content) (number_at args 2) ∷ []) (amount_of one.content - number_at args 2),
-        (share-given one (item-marked 0),
-        (all-given one owner.Immutable tt,
-        (gives-given (content.Limit (number_at args 0) ∷ []) None tt,
-        (behind-two (nat_le amount_limit (amount_of one.content + number_at args 1)) (nat_lt (amount_of (item_at args 2).content) (amount_of one.content + number_at args 1)) 1 2 [] (amount_of one.content + number_at args 1), tt))))))))))))))
+      all-natives = (
+        gives-given (content.Coin (number_at args 0) 0 ∷ []) None tt,
+        (
+          behind-one (nat_le amount_limit (amount_of one.content + number_at args 1)) 1 (content.Coin (currency_of one.content) (number_at args 1) ∷ []) (amount_of one.content + number_at args 1),
+          (
+            behind-two (other_currency one (item_at args 1)) (nat_lt (amount_of one.content) (amount_of (item_at args 1).content)) 1 2 [] (amount_of one.content - amount_of (item_at args 1).content),
+            (
+              joined-given (items_at args 0) (items-marked 0),
+              (
+                gives-given (content.Counter (number_at args 0) ∷ []) None tt,
+                (
+                  behind-one (nat_le amount_limit (amount_of one.content + number_at args 1)) 1 [] (amount_of one.content + number_at args 1),
+                  (
+                    unless-stops (nat_lt (amount_of one.content) (number_at args 1)) 1 (gives here [] None) (λ _. gives-given [] None tt),
+                    (
+                      record {
+                        rises = omega arith;
+                        results_are = (
+                          new-marked 0 (content.Vault (number_at args 0) 0) (made + 2) (omega arith),
+                          (new-marked 1 (content.VaultKey (drawn_id tx made)) (made + 2) (omega arith), tt),
+                        );
+                        changed_is = tt;
+                        left_is = tt;
+                      },
+                      (
+                        behind-two (other_currency one (item_at args 1)) (nat_le amount_limit (amount_of one.content + amount_of (item_at args 1).content)) 1 2 [] (amount_of one.content + amount_of (item_at args 1).content),
+                        (
+                          behind-two (not (names_vault one.id (item_at args 1).content)) (nat_lt (amount_of one.content) (number_at args 2)) 1 2 (content.Coin (currency_of one.content) (number_at args 2) ∷ []) (amount_of one.content - number_at args 2),
+                          (
+                            share-given one (item-marked 0),
+                            (
+                              all-given one owner.Immutable tt,
+                              (
+                                gives-given (content.Limit (number_at args 0) ∷ []) None tt,
+                                (behind-two (nat_le amount_limit (amount_of one.content + number_at args 1)) (nat_lt (amount_of (item_at args 2).content) (amount_of one.content + number_at args 1)) 1 2 [] (amount_of one.content + number_at args 1), tt),
+                              ),
+                            ),
+                          ),
+                        ),
+                      ),
+                    ),
+                  ),
+                ),
+              ),
+            ),
+          ),
+        ),
+      )
 
       at-native : (gs : List Gave) → Each (Gives made) gs → (n : ℕ) → Gives made (gave_at (slice_get gs n))
       at-native [] each n = tt

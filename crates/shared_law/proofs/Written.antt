@@ -43,7 +43,7 @@ has-parts (x ∷ xs) ys y (inr h) = go (has-parts xs ys y h)
     go (inl h) = inl (inr h)
     go (inr h) = inr h
 
-chosen-from : {A B : Type 0} (f : A → Option B) (xs : List A) (y : B) → Has (filter_map f xs) y → (x : A) × Has xs x × (f x ≡ Some y)
+pub chosen-from : {A B : Type 0} (f : A → Option B) (xs : List A) (y : B) → Has (filter_map f xs) y → (x : A) × Has xs x × (f x ≡ Some y)
 chosen-from f [] y h = absurd h
 chosen-from {A = A} {B = B} f (x ∷ xs) y h = go (f x) refl h (chosen-from f xs y)
   where
@@ -56,6 +56,17 @@ mapped-from : {A B : Type 0} (f : A → B) (xs : List A) (y : B) → Has (map f 
 mapped-from f [] y h = absurd h
 mapped-from f (x ∷ xs) y (inl e) = (x, inl refl, e)
 mapped-from f (x ∷ xs) y (inr h) = let r = mapped-from f xs y h in (r.0, inr r.1, r.2)
+
+found-has : {A : Type 0} (test : A → Bool) (xs : List A) (x : A) → find test xs ≡ Some x → Has xs x
+found-has test [] x e = absurd (cc)
+found-has {A = A} test (y ∷ ys) x e = go (test y) e (found-has test ys x)
+  where
+    same : (y : A) → Some y ≡ Some x → y ≡ x
+    same y e = cc
+
+    go : (b : Bool) → cond b (Some y) (find test ys) ≡ Some x → (find test ys ≡ Some x → Has ys x) → Has (y ∷ ys) x
+    go true e rest = inl (same y e)
+    go false e rest = inr (rest e)
 
 second : {A B : Type 0} (xs : List A) (ys : List B) (x : A) (y : B) → Has (zip xs ys) (x, y) → Has ys y
 second [] ys x y h = absurd h
@@ -222,19 +233,8 @@ module _ (t : Transaction) (objects : List Object) (fit : fits t objects ≡ tru
         go None h e = absurd (cc)
         go (Some p) h e =
             left-share x i named none p.item.id (id_same p.item.id x.1.id (find-test (λ (r : Placed). id_eq r.item.id x.1.id) b.placed p h)) p.owner
-            (each-at (HasLeft (transaction_digest t) (version_of objects) b.made) b.placed p (ends-tracked t (transaction_digest t) objects b done).placed (found-in b.placed p h))
+            (each-at (HasLeft (transaction_digest t) (version_of objects) b.made) b.placed p (ends-tracked t (transaction_digest t) objects b done).placed (found-has (λ (r : Placed). id_eq r.item.id x.1.id) b.placed p h))
             ∙ ap (λ (y : Object). shared_since y.owner) (same p e)
-          where
-            found-in : (ps : List Placed) (p : Placed) → find (λ (r : Placed). id_eq r.item.id x.1.id) ps ≡ Some p → Has ps p
-            found-in [] p e = absurd (cc)
-            found-in (r ∷ ps) p e = pick (id_eq r.item.id x.1.id) e (found-in ps p)
-              where
-                one : Some r ≡ Some p → r ≡ p
-                one e = cc
-
-                pick : (c : Bool) → cond c (Some r) (find (λ (z : Placed). id_eq z.item.id x.1.id) ps) ≡ Some p → (find (λ (z : Placed). id_eq z.item.id x.1.id) ps ≡ Some p → Has ps p) → Has (r ∷ ps) p
-                pick true e rest = inl (one e)
-                pick false e rest = inr (rest e)
 
     after-share : (x : Place × Object) → IsPlaced x → (q : Object) → after_block (version_of objects) b x.0 x.1 ≡ Some q → shared_since x.1.owner ≡ shared_since q.owner
     after-share x it q e = go (piece_of (value_in x.0 b.slots)) refl e
@@ -275,18 +275,7 @@ module _ (t : Transaction) (objects : List Object) (fit : fits t objects ≡ tru
         go : (f : Option Placed) → find (λ (r : Placed). id_eq r.item.id id) b.placed ≡ f → option_map (λ (r : Placed). object_at (version_of objects) r.owner r.item) f ≡ Some p → IsSharedFrom (version_of objects) p.owner
         go None h e = absurd (cc)
         go (Some r) h e = subst (λ (y : Object). IsSharedFrom (version_of objects) y.owner) (same r e)
-            (from-left r.item.id r.owner (each-at (HasLeft (transaction_digest t) (version_of objects) b.made) b.placed r (ends-tracked t (transaction_digest t) objects b done).placed (find-in b.placed r h)))
-          where
-            find-in : (ps : List Placed) (r : Placed) → find (λ (z : Placed). id_eq z.item.id id) ps ≡ Some r → Has ps r
-            find-in [] r e = absurd (cc)
-            find-in (z ∷ ps) r e = pick (id_eq z.item.id id) e (find-in ps r)
-              where
-                one : Some z ≡ Some r → z ≡ r
-                one e = cc
-
-                pick : (c : Bool) → cond c (Some z) (find (λ (y : Placed). id_eq y.item.id id) ps) ≡ Some r → (find (λ (y : Placed). id_eq y.item.id id) ps ≡ Some r → Has ps r) → Has (z ∷ ps) r
-                pick true e rest = inl (one e)
-                pick false e rest = inr (rest e)
+            (from-left r.item.id r.owner (each-at (HasLeft (transaction_digest t) (version_of objects) b.made) b.placed r (ends-tracked t (transaction_digest t) objects b done).placed (found-has (λ (z : Placed). id_eq z.item.id id) b.placed r h)))
 
     created-new : (p : Object) → Has (created_objects (transaction_digest t) (version_of objects) b) p → IsDrawnIn p
     created-new p h =
