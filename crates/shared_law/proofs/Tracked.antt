@@ -26,7 +26,7 @@ use Rattle.block_types.specs.declared.pieces.Gave.{Gave}
 use Rattle.block_types.specs.declared.pieces.Gave.TheVariants as gave
 use Rattle.chain_spec.specs.Words.{Each, first_some}
 use Rattle.chain_spec.specs.Keys.{version_of}
-use Rattle.block_spec.specs.Natives.{currency_of, amount_of, holding, parameters_of, amount_limit, names_vault, may_be_shared, Site, new_item, no_item, number_at, item_given, item_at, items_given, items_at, gives, owned_by_all, abort_if, other_currency, joined, share, natives, gave_at, native_gives}
+use Rattle.block_spec.specs.Natives.{currency_of, amount_of, holding, parameters_of, amount_limit, names_vault, may_be_shared, Site, new_item, no_item, number_at, item_given, item_at, items_given, items_at, gives, owned_by_all, abort_if, other_currency, joined, coin_mint, coin_burn, counter_add, counter_require, vault_new, vault_deposit, vault_withdraw, counter_add_limited, share, natives, gave_at, native_gives}
 use Rattle.block_spec.specs.Block.{Place, Value, pure, object, vector, Slot, Block, value_in, result_slots}
 use Rattle.block_spec.specs.Commands.{Fault, cause, Need, number, address, by_value, by_mut, by_ref, coins, paired, place_of, takes_value, piece_of, item_in, items_in, number_in, spend, spend_all, numbered_coin, split_block, split, sum_of, merge_cases, merge_block, merge, placed_at, address_in, transfer_block, vector_block, given_as, given_all, spend_taken, put_back, put_changed, placed_list, called_block, called, site, performed, taken_cause, command_step}
 use Rattle.block_spec.specs.Execution.{Failure, input_slots, first_block, commands_from, commands_next, is_unused, checked_end, outcome}
@@ -204,55 +204,47 @@ module _ (tx : Digest) (version : ℕ) where
       behind-two : (first second : Bool) (a b : ℕ) (cs : List Content) (n : ℕ) → Gives made (abort_if first a (abort_if second b (gives here cs (Some (holding n one)))))
       behind-two first second a b cs n = unless-stops first a (abort_if second b (gives here cs (Some (holding n one)))) (λ _. behind-one second b cs n)
 
+      minted : Gives made (coin_mint here one (number_at args 1))
+      minted = behind-one (nat_le amount_limit (amount_of one.content + number_at args 1)) 1 (content.Coin (currency_of one.content) (number_at args 1) ∷ []) (amount_of one.content + number_at args 1)
+
+      burnt : Gives made (coin_burn here one (item_at args 1))
+      burnt = behind-two (other_currency one (item_at args 1)) (nat_lt (amount_of one.content) (amount_of (item_at args 1).content)) 1 2 [] (amount_of one.content - amount_of (item_at args 1).content)
+
+      added : Gives made (counter_add here one (number_at args 1))
+      added = behind-one (nat_le amount_limit (amount_of one.content + number_at args 1)) 1 [] (amount_of one.content + number_at args 1)
+
+      required : Gives made (counter_require here one (number_at args 1))
+      required = unless-stops (nat_lt (amount_of one.content) (number_at args 1)) 1 (gives here [] None) (λ _. gives-given [] None tt)
+
+      opened : Gives made (vault_new here (number_at args 0))
+      opened = record {
+        rises = omega arith;
+        results_are = (
+          new-marked 0 (content.Vault (number_at args 0) 0) (made + 2) (omega arith),
+          (new-marked 1 (content.VaultKey (drawn_id tx made)) (made + 2) (omega arith), tt),
+        );
+        changed_is = tt;
+        left_is = tt;
+      }
+
+      deposited : Gives made (vault_deposit here one (item_at args 1))
+      deposited = behind-two (other_currency one (item_at args 1)) (nat_le amount_limit (amount_of one.content + amount_of (item_at args 1).content)) 1 2 [] (amount_of one.content + amount_of (item_at args 1).content)
+
+      withdrawn : Gives made (vault_withdraw here one (item_at args 1) (number_at args 2))
+      withdrawn = behind-two (not (names_vault one.id (item_at args 1).content)) (nat_lt (amount_of one.content) (number_at args 2)) 1 2 (content.Coin (currency_of one.content) (number_at args 2) ∷ []) (amount_of one.content - number_at args 2)
+
+      limited : Gives made (counter_add_limited here one (number_at args 1) (item_at args 2))
+      limited = behind-two (nat_le amount_limit (amount_of one.content + number_at args 1)) (nat_lt (amount_of (item_at args 2).content) (amount_of one.content + number_at args 1)) 1 2 [] (amount_of one.content + number_at args 1)
+
+      new-one : (c : Content) → Gives made (gives here (c ∷ []) None)
+      new-one c = gives-given (c ∷ []) None tt
+
+      last-natives : Each (Gives made) (share here one ∷ owned_by_all here one owner.Immutable ∷ gives here (content.Limit (number_at args 0) ∷ []) None ∷ counter_add_limited here one (number_at args 1) (item_at args 2) ∷ [])
+      last-natives = (share-given one (item-marked 0), (all-given one owner.Immutable tt, (new-one (content.Limit (number_at args 0)), (limited, tt))))
+
       all-natives : Each (Gives made) (natives here args)
-      all-natives = (
-        gives-given (content.Coin (number_at args 0) 0 ∷ []) None tt,
-        (
-          behind-one (nat_le amount_limit (amount_of one.content + number_at args 1)) 1 (content.Coin (currency_of one.content) (number_at args 1) ∷ []) (amount_of one.content + number_at args 1),
-          (
-            behind-two (other_currency one (item_at args 1)) (nat_lt (amount_of one.content) (amount_of (item_at args 1).content)) 1 2 [] (amount_of one.content - amount_of (item_at args 1).content),
-            (
-              joined-given (items_at args 0) (items-marked 0),
-              (
-                gives-given (content.Counter (number_at args 0) ∷ []) None tt,
-                (
-                  behind-one (nat_le amount_limit (amount_of one.content + number_at args 1)) 1 [] (amount_of one.content + number_at args 1),
-                  (
-                    unless-stops (nat_lt (amount_of one.content) (number_at args 1)) 1 (gives here [] None) (λ _. gives-given [] None tt),
-                    (
-                      record {
-                        rises = omega arith;
-                        results_are = (
-                          new-marked 0 (content.Vault (number_at args 0) 0) (made + 2) (omega arith),
-                          (new-marked 1 (content.VaultKey (drawn_id tx made)) (made + 2) (omega arith), tt),
-                        );
-                        changed_is = tt;
-                        left_is = tt;
-                      },
-                      (
-                        behind-two (other_currency one (item_at args 1)) (nat_le amount_limit (amount_of one.content + amount_of (item_at args 1).content)) 1 2 [] (amount_of one.content + amount_of (item_at args 1).content),
-                        (
-                          behind-two (not (names_vault one.id (item_at args 1).content)) (nat_lt (amount_of one.content) (number_at args 2)) 1 2 (content.Coin (currency_of one.content) (number_at args 2) ∷ []) (amount_of one.content - number_at args 2),
-                          (
-                            share-given one (item-marked 0),
-                            (
-                              all-given one owner.Immutable tt,
-                              (
-                                gives-given (content.Limit (number_at args 0) ∷ []) None tt,
-                                (behind-two (nat_le amount_limit (amount_of one.content + number_at args 1)) (nat_lt (amount_of (item_at args 2).content) (amount_of one.content + number_at args 1)) 1 2 [] (amount_of one.content + number_at args 1), tt),
-                              ),
-                            ),
-                          ),
-                        ),
-                      ),
-                    ),
-                  ),
-                ),
-              ),
-            ),
-          ),
-        ),
-      )
+      all-natives =
+          (new-one (content.Coin (number_at args 0) 0), (minted, (burnt, (joined-given (items_at args 0) (items-marked 0), (new-one (content.Counter (number_at args 0)), (added, (required, (opened, (deposited, (withdrawn, last-natives))))))))))
 
       at-native : (gs : List Gave) → Each (Gives made) gs → (n : ℕ) → Gives made (gave_at (slice_get gs n))
       at-native [] each n = tt
