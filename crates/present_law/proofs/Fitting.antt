@@ -42,7 +42,7 @@ use Rattle.present_law.specs.Present.{FitsAsNamed}
 use Rattle.present_law.proofs.Present.{IsOpened, IsWrote, version-from, IsSeen, seen-by}
 
 -- of objects with different ids two with one id are one
-one-id : (os : List Object) (a b : Object) → AreApart os → Has os a → Has os b → a.id ≡ b.id → a ≡ b
+pub one-id : (os : List Object) (a b : Object) → AreApart os → Has os a → Has os b → a.id ≡ b.id → a ≡ b
 one-id os a b apart h k e = same (sym (stands-opening os a apart h) ∙ ap (get (map_of os)) e ∙ stands-opening os b apart k)
   where
     same : Some a ≡ Some b → a ≡ b

@@ -12,6 +12,7 @@ use Rattle.chain_types.specs.declared.refusals.DecideRefusal.TheVariants as refu
 use Rattle.chain_types.specs.Equal.{digest_eq, key_eq}
 use Rattle.chain_types.specs.Digests.{key_of, transaction_digest}
 use Rattle.block_types.specs.declared.pieces.Executed.{Executed}
+use Rattle.chain_messages.specs.declared.messages.Certificate.{Certificate}
 use Rattle.member_types.specs.declared.answers.Held.{Held}
 use Rattle.schedule_text.specs.declared.words.Event.{Event}
 use Rattle.chain_spec.specs.Words.{Has}
@@ -31,7 +32,7 @@ use Rattle.votes_law.proofs.Backed.{has-either}
 use Rattle.votes_law.proofs.Once.{each-has, equal, digest-same, has-left}
 use Rattle.votes_law.proofs.Kept.{find-has}
 use Rattle.one_owner_law.proofs.Owner.{voter}
-use Rattle.agreement_law.specs.Agreed.{IsHeldAsGiven}
+use Rattle.agreement_law.specs.Agreed.{IsGiven, IsHeldAsGiven}
 use Rattle.agreement_law.proofs.Supply.{every-held}
 use Rattle.chain_law.specs.Orderly.{AreApart}
 use Rattle.chain_law.proofs.Touched.{has-mapped}
@@ -41,12 +42,13 @@ use Rattle.current_law.proofs.Lives.{has-flat}
 use Rattle.current_law.proofs.Same.{was-formed}
 use Rattle.epoch_law.proofs.Turned.{flat-has}
 use Rattle.epoch_law.proofs.Agreed.{members-agree}
+use Rattle.present_law.specs.Cast.{WasCast}
 use Rattle.present_law.specs.Present.{IsPresent}
 use Rattle.present_law.proofs.Cast.{every-vote-was-cast}
 
 -- ---- lists
 
-has-find : {A : Type 0} (test : A → Bool) (xs : List A) (x : A) → Has xs x → test x ≡ true → is_some (find test xs) ≡ true
+pub has-find : {A : Type 0} (test : A → Bool) (xs : List A) (x : A) → Has xs x → test x ≡ true → is_some (find test xs) ≡ true
 has-find test [] x h e = absurd h
 has-find test (y ∷ ys) x h e = go (test y) refl h (λ k. has-find test ys x k e)
   where
@@ -55,7 +57,7 @@ has-find test (y ∷ ys) x h e = go (test y) refl h (λ k. has-find test ys x k 
     go false q (inl p) rest = absurd (let same = ap test p in cc)
     go false q (inr h) rest = rest h
 
-some-mapped : {A B : Type 0} (f : A → B) (o : Option A) → is_some o ≡ true → is_some (option_map f o) ≡ true
+pub some-mapped : {A B : Type 0} (f : A → B) (o : Option A) → is_some o ≡ true → is_some (option_map f o) ≡ true
 some-mapped f None e = absurd (cc)
 some-mapped f (Some x) e = refl
 
@@ -83,15 +85,15 @@ version-from opening executed u h = go (has-either (map opened opening) (flat_ma
         let o = has-mapped (written x.0.digest) x.0.gave.objects u x.2 in
         inr (x.0, x.1, o.0, o.1, o.2)
 
-opened-in : (opening : List Object) (executed : List Execution) (o : Object) → Has opening o → Has (versions opening executed) (opened o)
+pub opened-in : (opening : List Object) (executed : List Execution) (o : Object) → Has opening o → Has (versions opening executed) (opened o)
 unfolding versions
 opened-in opening executed o h = has-left (map opened opening) (flat_map written_by executed) (opened o) (map-has opened opening o h)
 
-written-in : (opening : List Object) (executed : List Execution) (x : Execution) (o : Object) → Has executed x → Has x.gave.objects o → Has (versions opening executed) (written x.digest o)
+pub written-in : (opening : List Object) (executed : List Execution) (x : Execution) (o : Object) → Has executed x → Has x.gave.objects o → Has (versions opening executed) (written x.digest o)
 unfolding versions
 written-in opening executed x o h k = has-right (map opened opening) (flat_map written_by executed) (written x.digest o) (flat-has written_by executed x (written x.digest o) h (map-has (written x.digest) x.gave.objects o k))
 
-executed-is : (executed : List Execution) (tx : Digest) → is_executed executed tx ≡ true → (y : Execution) × Has executed y × (y.digest ≡ tx)
+pub executed-is : (executed : List Execution) (tx : Digest) → is_executed executed tx ≡ true → (y : Execution) × Has executed y × (y.digest ≡ tx)
 executed-is executed tx e = go (execution_of executed tx) refl e
   where
     go : (o : Option Execution) → execution_of executed tx ≡ o → is_some o ≡ true → (y : Execution) × Has executed y × (y.digest ≡ tx)
@@ -105,10 +107,10 @@ executed-is executed tx e = go (execution_of executed tx) refl e
 -- ---- a member that agrees with the voter
 
 module _ (b : Ballot) (m : Member) (openings : b.opening ≡ m.opening) (same : (x y : Execution) → Has b.executed x → Has m.executed y → x.digest ≡ y.digest → x.gave ≡ y.gave) (key : ObjectKey) where
-  abbrev there : List Version
+  abbrev pub there : List Version
   there = versions m.opening m.executed
 
-  abbrev Found : Option Digest → Type 0
+  abbrev pub Found : Option Digest → Type 0
   Found d = is_some (found there (wanted_version key d)) ≡ true
 
   opened-found : (o : Object) → Has b.opening o → key_eq (object_key o) key ≡ true → Found None
@@ -137,7 +139,7 @@ module _ (b : Ballot) (m : Member) (openings : b.opening ≡ m.opening) (same : 
   named-found (Some u) e some d o done = subst Found o
       (version-found u (find-has (is_key key) (versions b.opening b.executed) u e) (find-test (is_key key) (versions b.opening b.executed) u e) (subst (λ (c : Option Digest). is_origin_done m.executed c ≡ true) (sym o) done))
 
-  held-found : is_some (object_held b key) ≡ true → (d : Option Digest) → made_by (version_at (versions b.opening b.executed) key) ≡ d → is_origin_done m.executed d ≡ true → Found d
+  pub held-found : is_some (object_held b key) ≡ true → (d : Option Digest) → made_by (version_at (versions b.opening b.executed) key) ≡ d → is_origin_done m.executed d ≡ true → Found d
   held-found held d o done = named-found (version_at (versions b.opening b.executed) key) refl held d o done
 
 input-found : (b : Ballot) (m : Member) → b.opening ≡ m.opening → ((x y : Execution) → Has b.executed x → Has m.executed y → x.digest ≡ y.digest → x.gave ≡ y.gave)
@@ -179,16 +181,25 @@ seen-in m t origins v i d joined =
     let named = origin-named v.voter t origins v.named i d joined in
     record { voter = v.voter; openings = v.openings; same = v.same; free = v.free; there = named.0; origin = named.1 }
 
-pub voted-by : (s : Setting) (events : List Event) → IsHonestRun s events → AreApart s.opening → (n : ℕ) (seat : Seat) → slice_get (world_after s events).seats n ≡ Some seat
-    → (h : Held) → Has (member_in s seat).held h → IsVoted (member_in s seat) h.cert.tx h.cert.origins
-voted-by s events honest distinct n seat at h held =
-    let given = each-has (IsHeldAsGiven s.rules (all_delivered s events) (member_in s seat).epoch) (member_in s seat).held h (every-held s events n seat at) held in
-    let formed = was-formed s events honest (member_in s seat).epoch h.digest h.cert given in
-    let v = voter s events honest h.cert h.cert formed formed in
-    let cast = every-vote-was-cast s events v.member v.seat v.at h.cert.tx h.cert.origins v.first in
+-- some honest member cast the vote of a given certificate
+pub cast-given : (s : Setting) (events : List Event) → IsHonestRun s events → (epoch : ℕ) (d : Digest) (c : Certificate) → IsGiven s.rules (all_delivered s events) epoch d c → WasCast s events c.tx c.origins
+cast-given s events honest epoch d c given =
+    let formed = was-formed s events honest epoch d c given in
+    let v = voter s events honest c c formed formed in
+    every-vote-was-cast s events v.member v.seat v.at c.tx c.origins v.first
+
+pub voted-given : (s : Setting) (events : List Event) → IsHonestRun s events → AreApart s.opening → (n : ℕ) (seat : Seat) → slice_get (world_after s events).seats n ≡ Some seat
+    → (d : Digest) (c : Certificate) → IsGiven s.rules (all_delivered s events) (member_in s seat).epoch d c → IsVoted (member_in s seat) c.tx c.origins
+voted-given s events honest distinct n seat at d c given =
+    let cast = cast-given s events honest (member_in s seat).epoch d c given in
     let agree = members-agree s cast.front cast.back (subst (IsHonestRun s) (sym cast.whole) honest) distinct cast.member n cast.seat seat cast.at
     (subst (λ (es : List Event). slice_get (world_after s es).seats n ≡ Some seat) (sym cast.whole) at) (sym cast.epoch ∙ given.epoch_is) in
     record { voter = ballot (member_in s cast.seat); openings = agree.openings; same = agree.executions; free = cast.free; named = cast.named }
+
+pub voted-by : (s : Setting) (events : List Event) → IsHonestRun s events → AreApart s.opening → (n : ℕ) (seat : Seat) → slice_get (world_after s events).seats n ≡ Some seat
+    → (h : Held) → Has (member_in s seat).held h → IsVoted (member_in s seat) h.cert.tx h.cert.origins
+voted-by s events honest distinct n seat at h held = voted-given s events honest distinct n seat at h.digest h.cert
+    (each-has (IsHeldAsGiven s.rules (all_delivered s events) (member_in s seat).epoch) (member_in s seat).held h (every-held s events n seat at) held)
 
 pub seen-by : (s : Setting) (events : List Event) → IsHonestRun s events → AreApart s.opening → (n : ℕ) (seat : Seat) → slice_get (world_after s events).seats n ≡ Some seat
     → (h : Held) → Has (member_in s seat).held h → (i : Input) (d : Option Digest) → Has (joined_inputs h.cert) (i, d) → IsSeen (member_in s seat) h.cert.tx i d

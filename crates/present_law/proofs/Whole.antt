@@ -45,12 +45,12 @@ use Rattle.present_law.proofs.Fitting.{WritesOnce, held-one, held-some, input-fi
 
 -- ---- lists
 
-any-none : {A : Type 0} (test : A → Bool) (xs : List A) (x : A) → list_any test xs ≡ false → Has xs x → test x ≡ false
+pub any-none : {A : Type 0} (test : A → Bool) (xs : List A) (x : A) → list_any test xs ≡ false → Has xs x → test x ≡ false
 any-none test [] x e h = absurd h
 any-none test (y ∷ ys) x e (inl q) = subst (λ z. test z ≡ false) q (or-first (test y) (list_any test ys) e)
 any-none test (y ∷ ys) x e (inr h) = any-none test ys x (or-second (test y) (list_any test ys) e) h
 
-filter-has : {A : Type 0} (test : A → Bool) (xs : List A) (x : A) → Has (filter test xs) x → Has xs x
+pub filter-has : {A : Type 0} (test : A → Bool) (xs : List A) (x : A) → Has (filter test xs) x → Has xs x
 filter-has test [] x h = absurd h
 filter-has test (y ∷ ys) x h = go (test y) h (filter-has test ys x)
   where
@@ -59,7 +59,7 @@ filter-has test (y ∷ ys) x h = go (test y) h (filter-has test ys x)
     go true (inr h) rest = inr (rest h)
     go false h rest = inr (rest h)
 
-zip-there : {A B : Type 0} (f : A → B) (xs : List A) (x : A) → Has xs x → Has (zip xs (map f xs)) (x, f x)
+pub zip-there : {A B : Type 0} (f : A → B) (xs : List A) (x : A) → Has xs x → Has (zip xs (map f xs)) (x, f x)
 zip-there f [] x h = absurd h
 zip-there {A = A} {B = B} f (y ∷ ys) x (inl e) = inl (ap (λ (z : A). (z, f z)) e)
 zip-there f (y ∷ ys) x (inr h) = inr (zip-there f ys x h)
@@ -147,35 +147,51 @@ module _ (b : Ballot) (t : Transaction) (free : vote_refusal b t (transaction_di
 
 -- ---- a certificate
 
-module _ (m : Member) (t : Transaction) (origins : List (Option Digest)) (v : IsVoted m t origins) (apart : AreApart m.opening) (once : (y : Execution) → Has m.executed y → WritesOnce y) (none : has_shared_input t ≡ false) (a : Option (List Assigned)) where
+-- what is found for its shared inputs fits them, and its version stays below the limit
+pub record FitsBeside (m : Member) (t : Transaction) (origin : Input → Option Digest) (a : Option (List Assigned)) (os : List Object) : Type 0 where
+  pub shared : (i : Input) → Has (objects_of t) i → is_shared_input i ≡ true → (o : Object) → found (versions m.opening m.executed) (wanted_by a (i, origin i)) ≡ Some o → fits_input t i o ≡ true
+  pub low : fit_inputs t (objects_of t) os ≡ true → nat_lt (version_of os) version_limit ≡ true
+
+module _ (m : Member) (t : Transaction) (origins : List (Option Digest)) (v : IsVoted m t origins) (apart : AreApart m.opening) (once : (y : Execution) → Has m.executed y → WritesOnce y) (a : Option (List Assigned)) (os : List Object) (beside : FitsBeside m t (origin_of v.voter) a os) where
+  abbrev Wants : Type 0
+  Wants = all_some (map (found (versions m.opening m.executed)) (map (wanted_by a) (zip (objects_of t) origins))) ≡ Some os
+
   each-fits : (i : Input) → Has (objects_of t) i → (o : Object) → found (versions m.opening m.executed) (wanted_by a (i, origin_of v.voter i)) ≡ Some o → fits_input t i o ≡ true
   unfolding vote_origins
-  each-fits i h o e = found-fits m t a i (origin_of v.voter i) (not-shared t none i h)
-      (input-fits m t apart once i (origin_of v.voter i) (seen-in m t origins v i (origin_of v.voter i)
-      (subst (λ (ds : List (Option Digest)). Has (zip (objects_of t) ds) (i, origin_of v.voter i)) v.named (zip-there (origin_of v.voter) (objects_of t) i h)))) o e
+  each-fits i h o e = go (is_shared_input i) refl
+    where
+      go : (b : Bool) → is_shared_input i ≡ b → fits_input t i o ≡ true
+      go true s = beside.shared i h s o e
+      go false s = found-fits m t a i (origin_of v.voter i) s
+          (input-fits m t apart once i (origin_of v.voter i) (seen-in m t origins v i (origin_of v.voter i)
+          (subst (λ (ds : List (Option Digest)). Has (zip (objects_of t) ds) (i, origin_of v.voter i)) v.named (zip-there (origin_of v.voter) (objects_of t) i h)))) o e
 
-  wants-fit : (os : List Object) → all_some (map (found (versions m.opening m.executed)) (map (wanted_by a) (zip (objects_of t) origins))) ≡ Some os → fit_inputs t (objects_of t) os ≡ true
+  named-wants : Wants → all_some (map (found (versions m.opening m.executed)) (map (wanted_by a) (zip (objects_of t) (map (origin_of v.voter) (objects_of t))))) ≡ Some os
   unfolding vote_origins
-  wants-fit os e = all-fit m t a (origin_of v.voter) (objects_of t) each-fits os
-      (subst (λ (ds : List (Option Digest)). all_some (map (found (versions m.opening m.executed)) (map (wanted_by a) (zip (objects_of t) ds))) ≡ Some os) (sym v.named) e)
+  named-wants e = subst (λ (ds : List (Option Digest)). all_some (map (found (versions m.opening m.executed)) (map (wanted_by a) (zip (objects_of t) ds))) ≡ Some os) (sym v.named) e
 
-  gas-paid : (os : List Object) → all_some (map (found (versions m.opening m.executed)) (map (wanted_by a) (zip (objects_of t) origins))) ≡ Some os → pays_gas t os ≡ true
-  unfolding vote_origins vote_refusal
-  gas-paid os e =
-      let f = subst (λ (ds : List (Option Digest)). all_some (map (found (versions m.opening m.executed)) (map (wanted_by a) (zip (objects_of t) ds))) ≡ Some os) (sym v.named) e in
-      let p = some-parts (found (versions m.opening m.executed) (wanted_by a (inputs.Owned t.gas, origin_of v.voter (inputs.Owned t.gas)))) _ os f in
+  wants-fit : Wants → fit_inputs t (objects_of t) os ≡ true
+  wants-fit e = all-fit m t a (origin_of v.voter) (objects_of t) each-fits os (named-wants e)
+
+  gas-paid : Wants → pays_gas t os ≡ true
+  unfolding vote_refusal
+  gas-paid e =
+      let p = some-parts (found (versions m.opening m.executed) (wanted_by a (inputs.Owned t.gas, origin_of v.voter (inputs.Owned t.gas)))) _ os (named-wants e) in
       let o = held-some v.voter (key_of t.gas) (accepted (is_some (object_held v.voter (key_of t.gas))) (refused.Absent (key_of t.gas)) (none-of (absent v.voter) (objects_of t) (inputs.Owned t.gas) (none-each (vote_cases v.voter t (transaction_digest t)) v.free).0 (inl refl))) in
       let one = held-one v.voter m v.openings v.same apart once (key_of t.gas) (version_at (versions v.voter.opening v.voter.executed) (key_of t.gas)) refl o.0 o.1 (origin_of v.voter (inputs.Owned t.gas)) refl p.0 p.2 in
       subst (λ (zs : List Object). pays_gas t zs ≡ true) (some-same (p.0 ∷ p.1) os p.4) (pays v.voter t v.free p.0 (o.1 ∙ ap Some one.0) p.1)
 
-  whole-fits : (os : List Object) → all_some (map (found (versions m.opening m.executed)) (map (wanted_by a) (zip (objects_of t) origins))) ≡ Some os → list_any names_bad_version (objects_of t) ≡ false → fits t os ≡ true
+  pub whole-fits : Wants → fits t os ≡ true
   unfolding fits
-  whole-fits os e good = rw (wants-fit os e, gas-paid os e) (version-low t os none good (wants-fit os e))
+  whole-fits e = rw (wants-fit e, gas-paid e) (beside.low (wants-fit e))
 
 pub certificates-fit : (s : Setting) (events : List Event) → IsHonestRun s events → AreApart s.opening → (n : ℕ) (seat : Seat) → slice_get (world_after s events).seats n ≡ Some seat
     → (h : Held) → Has (member_in s seat).held h → has_shared_input h.cert.tx ≡ false → (os : List Object) → present (books (member_in s seat)) (member_in s seat).executed h ≡ Some os → fits h.cert.tx os ≡ true
 unfolding present wants_of
 certificates-fit s events honest distinct n seat at h held none os e =
     let given = each-has (IsHeldAsGiven s.rules (all_delivered s events) (member_in s seat).epoch) (member_in s seat).held h (every-held s events n seat at) held in
-    whole-fits (member_in s seat) h.cert.tx h.cert.origins (voted-by s events honest distinct n seat at h held) (opens-apart s events honest distinct n seat at).distinct (writes-once s events n seat at) none
-    (assigned_of (member_in s seat).sequence.admission h.digest) os e (versions-good s.rules h.cert given.valid)
+    whole-fits (member_in s seat) h.cert.tx h.cert.origins (voted-by s events honest distinct n seat at h held) (opens-apart s events honest distinct n seat at).distinct (writes-once s events n seat at)
+    (assigned_of (member_in s seat).sequence.admission h.digest) os (record {
+      shared = λ i there shared o f. absurd (let not = not-shared h.cert.tx none i there in cc);
+      low = version-low h.cert.tx os none (versions-good s.rules h.cert given.valid);
+    }) e
