@@ -1,0 +1,3 @@
+pub mod Posts
+pub mod Steps
+pub mod Lines

@@ -7,6 +7,15 @@ use Rattle.schedule_text.specs.declared.words.Setup.{Setup}
 use Rattle.schedule_text.specs.declared.words.Setup.TheVariants as setup
 use Rattle.schedule_text.specs.declared.words.Event.{Event}
 use Rattle.schedule_text.specs.declared.words.Event.TheVariants as event
+use Rattle.chain_types.specs.declared.transactions.SignedTx.{SignedTx}
+use Rattle.chain_types.specs.Transactions as transactions
+use Rattle.chain_messages.specs.declared.messages.Certificate.{Certificate}
+use Rattle.chain_messages.specs.declared.messages.Entry.{Entry}
+use Rattle.chain_messages.specs.Messages as messages
+use Rattle.chain_spec.specs.Words.{Along}
+use Rattle.chain_spec.specs.Certificates.{read_signed, read_certificate, read_entry}
+use Rattle.member_spec.specs.Calls.{Call, votes, holds, sees, runs, closes, ends, turns, acks}
+use Rattle.votes_law.specs.Members.{IsDueBehind}
 use Rattle.world_spec.specs.Setting.{Trust, Setting}
 use Rattle.world_spec.specs.World as worlds
 use Rattle.world_spec.specs.World.{World, member_in}
@@ -122,9 +131,21 @@ abbrev pub TellsFront : Option Journals → World → Type 0
 TellsFront None w = Unit {0}
 TellsFront (Some lists) w = (m : ℕ) → IsFront (journal_of lists m) (journal_in w m)
 
--- every member starts from its journal in its state
-abbrev pub Restarts : Setting → World → Type 0
-Restarts s w = (m : ℕ) (seat : worlds.Seat) → slice_get w.seats m ≡ Some seat → started s.rules s.opening (spelled seat.records) ≡ Ok (member_in s seat)
+-- every member starts from its journal in its state, and each of its records was due behind those before it
+pub record Restarts (s : Setting) (w : World) : Type 0 where
+  pub starts : (m : ℕ) (seat : worlds.Seat) → slice_get w.seats m ≡ Some seat → started s.rules s.opening (spelled seat.records) ≡ Ok (member_in s seat)
+  pub due : (m : ℕ) (seat : worlds.Seat) → slice_get w.seats m ≡ Some seat → Along (IsDueBehind s.rules s.opening) [] seat.records
+
+-- what is read from the bytes of a call is a value of its type
+abbrev pub ReadsFit : Call → Type 0
+ReadsFit (votes bytes) = (x : SignedTx) → read_signed bytes ≡ Ok x → transactions.signed.fits x
+ReadsFit (holds bytes) = (c : Certificate) → read_certificate bytes ≡ Ok c → messages.certificate.fits c
+ReadsFit (sees number bytes) = (e : Entry) → read_entry bytes ≡ Ok e → messages.entry.fits e
+ReadsFit runs = Unit {0}
+ReadsFit closes = Unit {0}
+ReadsFit ends = Unit {0}
+ReadsFit turns = Unit {0}
+ReadsFit (acks tx) = Unit {0}
 
 -- told lists have one for each member
 abbrev pub HasRoom : Option Journals → World → Type 0
