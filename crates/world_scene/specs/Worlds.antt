@@ -118,17 +118,17 @@ spelled records = map journals.journal_record.spell records
 abbrev pub journal_in : World → ℕ → List (List ℕ)
 journal_in w m = spelled (records_of (slice_get w.seats m))
 
--- told lists are the journals of the world
+-- lists are told, and are the journals of the world
 abbrev pub Tells : Option Journals → World → Type 0
-Tells None w = Unit {0}
+Tells None w = ⊥
 Tells (Some lists) w = (m : ℕ) → journal_of lists m ≡ journal_in w m
 
 abbrev pub IsFront : {A : Type 0} → List A → List A → Type 0
 IsFront {A} front whole = (rest : List A) × (whole ≡ front ++ rest)
 
--- each told list is a front of the world's journal
+-- lists are told, and each is a front of the world's journal
 abbrev pub TellsFront : Option Journals → World → Type 0
-TellsFront None w = Unit {0}
+TellsFront None w = ⊥
 TellsFront (Some lists) w = (m : ℕ) → IsFront (journal_of lists m) (journal_in w m)
 
 -- every member starts from its journal in its state, and each of its records was due behind those before it
@@ -146,6 +146,11 @@ ReadsFit closes = Unit {0}
 ReadsFit ends = Unit {0}
 ReadsFit turns = Unit {0}
 ReadsFit (acks tx) = Unit {0}
+
+-- the same of the call of a line
+abbrev pub LineReadsFit : Option (ℕ × Call) → Type 0
+LineReadsFit None = Unit {0}
+LineReadsFit (Some (m, call)) = ReadsFit call
 
 -- told lists have one for each member
 abbrev pub HasRoom : Option Journals → World → Type 0

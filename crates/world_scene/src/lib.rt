@@ -7,4 +7,4 @@
 
 mod law;
 
-pub use law::{records_of_a_world, steps_of_a_world};
+pub use law::{bytes_of_calls, records_of_a_world, restarts_of_a_run, steps_of_a_world};
