@@ -1,7 +1,7 @@
 -- A run executes no more than is held, and no more is held than there are records: so what it keeps can be spelled.
-use Rattle.std.proofs.Common.{refl, sym, subst, ap, ◌∙◌, append-nil, append_assoc, arith}
-use Rattle.std.proofs.lemmas.List.{length-append, length-map}
-use Rattle.std.specs.Prelude.{◌≡◌, ℕ, ◌+◌, ◌≤◌, ◌<◌, zero, suc, Bool, true, false, cond, not, ◌&&◌, nat_le, List, [], ◌∷◌, ◌++◌, find, fold, length, Option, Some, None, is_some, Result, Ok, Err}
+use Rattle.std.proofs.Common.{refl, sym, subst, ◌∙◌, append-nil, append_assoc, arith}
+use Rattle.std.proofs.lemmas.List.{length-append}
+use Rattle.std.specs.Prelude.{◌≡◌, ℕ, ◌+◌, ◌≤◌, zero, suc, Bool, true, false, cond, not, ◌&&◌, List, [], ◌∷◌, ◌++◌, fold, length, Option, Some, None, is_some}
 use Rattle.digest_core.specs.declared.Digest.{Digest}
 use Rattle.chain_types.specs.Equal.{digest_eq}
 use Rattle.chain_types.specs.declared.objects.Object.{Object}
@@ -17,7 +17,7 @@ use Rattle.member_spec.specs.Versions.{Execution, execution_of, is_executed, ver
 use Rattle.member_spec.specs.Sequence.{What, takes, commits, counts, ignores, held_as, what_of}
 use Rattle.member_spec.specs.Checkpoints.{held_of}
 use Rattle.member_spec.specs.Rounds.{Books, clashes, executes_as, may_run, present, ready, ready_as, ready_on, round_add, round_among, round_of, rounds, rounds_within, writes_new}
-use Rattle.member_spec.specs.Member.{Member, after, books, fresh, held_with, state}
+use Rattle.member_spec.specs.Member.{Member, after, fresh, held_with, state}
 use Rattle.votes_law.proofs.Once.{digest-same}
 
 -- ---- what is executed stays so
@@ -138,14 +138,14 @@ module _ (b : Books) (executed : List Execution) where
         let done = with_round (round ++ x ∷ []) in
         let front = round-front b executed (round ++ x ∷ []) hs in
         let there : is_executed (executed ++ done) h.digest ≡ true =
-            behind-executed executed done h.digest
-            (subst (λ (l : List Execution). is_executed l h.digest ≡ true) (sym front.1)
-            (stays-executed (round ++ x ∷ []) front.0 h.digest (subst (λ (d : Digest). is_executed (round ++ x ∷ []) d ≡ true) same (last-executed round x)))) in
+        behind-executed executed done h.digest
+        (subst (λ (l : List Execution). is_executed l h.digest ≡ true) (sym front.1)
+        (stays-executed (round ++ x ∷ []) front.0 h.digest (subst (λ (d : Digest). is_executed (round ++ x ∷ []) d ≡ true) same (last-executed round x)))) in
         let long = length-append round (x ∷ []) in
         let counts = more (round ++ x ∷ []) in
         let le : length done + waiting (executed ++ done) hs ≤ length round + suc (waiting executed hs) = omega (arith, counts, long) in
         let one : length done + waits_if (is_executed (executed ++ done) h.digest) (waiting (executed ++ done) hs) ≤ length round + suc (waiting executed hs) =
-            subst (λ (is : Bool). length done + waits_if is (waiting (executed ++ done) hs) ≤ length round + suc (waiting executed hs)) (sym there) le in
+        subst (λ (is : Bool). length done + waits_if is (waiting (executed ++ done) hs) ≤ length round + suc (waiting executed hs)) (sym there) le in
         subst (λ (was : Bool). length done + waits_if (is_executed (executed ++ done) h.digest) (waiting (executed ++ done) hs) ≤ length round + waits_if was (waiting executed hs)) (sym waits) one
 
     by-clash : (round : List Execution) (x : Execution) → x.digest ≡ h.digest → is_executed executed h.digest ≡ false → (c : Bool) → Counts round (with_round (cond c round (round ++ x ∷ []))) (h ∷ hs)

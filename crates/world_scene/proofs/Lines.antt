@@ -9,12 +9,10 @@ use Rattle.chain_messages.specs.Messages as messages
 use Rattle.journal_core.specs.Records as journals
 use Rattle.schedule_text.specs.declared.words.Event.{Event}
 use Rattle.schedule_text.specs.declared.words.Event.TheVariants as event
-use Rattle.report_text.specs.declared.lines.Line.{Line}
 use Rattle.report_text.specs.declared.lines.Line.TheVariants as line
 use Rattle.report_text.specs.declared.lines.VoteText.{VoteText}
 use Rattle.report_text.specs.declared.lines.SendText.{SendText}
 use Rattle.report_text.specs.declared.lines.RestartText.TheVariants as restart_text
-use Rattle.report_text.specs.declared.lines.ShowText.TheVariants as show_text
 use Rattle.chain_spec.specs.Certificates.{Rules}
 use Rattle.member_spec.specs.Member.{live_objects}
 use Rattle.member_spec.specs.Calls.{Call, hold_answer, holds, run_answer, runs, vote_answer, votes}
@@ -23,11 +21,10 @@ use Rattle.world_spec.specs.World as worlds
 use Rattle.world_spec.specs.World.{Made, World, Reached, finds_down, stops, answers, member_at, member_in, reached, state_of}
 use Rattle.world_spec.specs.Run.{records_of}
 use Rattle.world_spec.specs.Names.{cert_named, made_named}
-use Rattle.world_spec.specs.Step.{Collected, fvote_origins, votes_collected}
+use Rattle.world_spec.specs.Step.{Collected, fvote_origins}
 use Rattle.world_spec.specs.Report.{cert_collected, cert_lines, fvote_lines, hold_reached, hold_said, is_seat_up, lines_of, origin_name, origin_names, record_count, run_reached, send_said, show_up, shown, vote_lines, vote_reached, vote_said}
 use Rattle.world_lines.proofs.Worlds.{vote_same, hold_same, run_same, shown_same}
 use Rattle.member_core.specs.Answers.{rules_for}
-use Rattle.validator_core.specs.Seats.{Seat}
 use Rattle.world_scene.specs.Posts.{Post, reached_in, seat_at}
 use Rattle.world_scene.specs.Scene.{Scene, bare_setting, bare_world, rules_in}
 use Rattle.world_scene.specs.Steps.{hold_text_in, lines_in, send_text_in, show_in, standing_at, vote_lines_in, vote_text_in}

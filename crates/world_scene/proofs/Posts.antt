@@ -2,12 +2,11 @@
 use Rattle.std.proofs.Common.{refl, sym, ap, ◌∙◌, append-nil, arith}
 use Rattle.std.specs.Prelude.{◌≡◌, ℕ, ◌+◌, zero, suc, Bool, true, false, cond, List, [], ◌∷◌, ◌++◌, map, slice_get, slice_set, Option, Some, None, option_map}
 use Rattle.journal_core.specs.declared.records.Record.{Record}
-use Rattle.chain_spec.specs.Certificates.{Rules}
 use Rattle.member_spec.specs.Member.{Member, state}
-use Rattle.member_spec.specs.Calls.{Call, after_due, called, due}
+use Rattle.member_spec.specs.Calls.{Call, after_due, due}
 use Rattle.world_spec.specs.Setting.{Setting}
 use Rattle.world_spec.specs.World as worlds
-use Rattle.world_spec.specs.World.{Said, World, Reached, finds_down, stops, answers, appended, behind, called_in, called_seat, member_in, reached, reached_at, reached_seat, reached_up, said_by, stated, stopped_seat}
+use Rattle.world_spec.specs.World.{Said, World, Reached, finds_down, stops, answers, appended, behind, called_in, called_seat, member_in, reached, reached_at, reached_seat, reached_up, said_by, stopped_seat}
 use Rattle.world_spec.specs.Step.{on_seat}
 use Rattle.votes_law.proofs.Apart.{state-push}
 use Rattle.votes_law.proofs.InWorld.{answered-due}
@@ -54,7 +53,7 @@ posts-set s k (x ∷ xs) (suc m) seat = ap (λ (ps : List Post). post_of s k x �
 module _ (s : Setting) where
   reached-standing : (call : Call) (k : ℕ) (seat : worlds.Seat) (up : Bool)
       → reached_standing s.rules call seat.armed (cond up (Some (seat_at s.rules.stakes k (member_in s seat))) None)
-        ≡ cond up (reached_up (member_in s seat) seat.armed (due s.rules (member_in s seat) call)) finds_down
+      ≡ cond up (reached_up (member_in s seat) seat.armed (due s.rules (member_in s seat) call)) finds_down
   reached-standing call k seat true = refl
   reached-standing call k seat false = refl
 
@@ -83,7 +82,7 @@ module _ (s : Setting) where
 
   standing-behind : (call : Call) (k : ℕ) (seat : worlds.Seat) (x : Option Record) (up : Bool) → due s.rules (member_in s seat) call ≡ x
       → option_map (seat_behind s.rules call) (cond up (Some (seat_at s.rules.stakes k (member_in s seat))) None)
-        ≡ cond up (Some (seat_at s.rules.stakes k (state s.rules s.opening (appended seat.records x)))) None
+      ≡ cond up (Some (seat_at s.rules.stakes k (state s.rules s.opening (appended seat.records x)))) None
   standing-behind call k seat x false d = refl
   standing-behind call k seat x true d =
       ap (λ (y : Option Record). Some (seat_at s.rules.stakes k (after_due s.rules (member_in s seat) y))) d
@@ -191,7 +190,7 @@ module _ (s : Setting) where
     changed-same same =
         scene-on (slice_get w.seats m)
         ∙ ap (λ (posts : List Post). record (scene_of s w) { posts = posts })
-          (sym (posts-on (slice_get w.seats m) same) ∙ ap (λ (p : Option Post). changed_at (posts_from s 0 w.seats) m post p) (sym (posts-get s 0 w.seats m)))
+        (sym (posts-on (slice_get w.seats m) same) ∙ ap (λ (p : Option Post). changed_at (posts_from s 0 w.seats) m post p) (sym (posts-get s 0 w.seats m)))
 
     on-open : (seat : Option worlds.Seat) → ((on_seat w m change seat).epoch ≡ w.epoch) × ((on_seat w m change seat).sequences ≡ w.sequences)
     on-open None = (refl, refl)

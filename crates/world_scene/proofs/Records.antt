@@ -1,8 +1,6 @@
 -- Told records follow the world.
 use Rattle.std.proofs.Common.{refl, sym, subst, ap, ◌∙◌, append-nil, append_assoc, arith, inl, inr}
-use Rattle.std.specs.Prelude.{◌≡◌, ◌≤◌, ◌⊎◌, ℕ, zero, suc, min, Bool, true, false, cond, length, List, [], ◌∷◌, ◌++◌, map, slice_get, slice_set, Option, Some, None, option_map}
-use Rattle.chain_types.specs.Transactions as transactions
-use Rattle.chain_messages.specs.Messages as messages
+use Rattle.std.specs.Prelude.{◌≡◌, ◌≤◌, ℕ, zero, suc, min, Bool, true, false, cond, length, List, [], ◌∷◌, ◌++◌, map, slice_get, slice_set, Option, Some, None, option_map}
 use Rattle.chain_messages.specs.declared.messages.Certificate.{Certificate}
 use Rattle.journal_core.specs.declared.records.Record.{Record}
 use Rattle.journal_core.specs.Records as journals
@@ -13,10 +11,10 @@ use Rattle.chain_spec.specs.Certificates.{Rules}
 use Rattle.member_spec.specs.Calls.{Call, votes, holds, runs, closes, ends, turns, acks}
 use Rattle.world_spec.specs.Setting.{Name, Trust, Setting}
 use Rattle.world_spec.specs.World as worlds
-use Rattle.world_spec.specs.World.{Made, World, Reached, finds_down, stops, answers, appended, behind, called_if, called_in, called_seat, is_honest, member_at, new_seat, new_world, next_call, reached, reached_at, reached_seat, sees_on, stopped_seat}
+use Rattle.world_spec.specs.World.{Made, World, Reached, finds_down, stops, answers, behind, called_if, called_in, called_seat, is_honest, member_at, new_seat, new_world, next_call, reached, reached_at, reached_seat, sees_on, stopped_seat}
 use Rattle.world_spec.specs.Names.{cert_named, made_named}
 use Rattle.world_spec.specs.Making.{made_by_line}
-use Rattle.world_spec.specs.Step.{Collected, lacks, short, differ, whole, acked, appended_entry, armed_seat, end_in, end_ordered, entries_left, formed, formed_as, fvoted, happens, has_ended, honest_end, last_said, on_seat, ordered, ordered_end, risen_if, sealed_end, sent, started_seat, voted_on, votes_collected}
+use Rattle.world_spec.specs.Step.{Collected, lacks, short, differ, whole, acked, appended_entry, armed_seat, end_in, entries_left, formed, formed_as, fvoted, happens, has_ended, honest_end, last_said, on_seat, ordered, ordered_end, risen_if, sealed_end, sent, started_seat, voted_on, votes_collected}
 use Rattle.world_spec.specs.Run.{records_of}
 use Rattle.member_core.specs.Answers.{rules_for}
 use Rattle.world_scene.specs.Posts.{AddsLeft, MayAddLeft, reached_in, record_left}
@@ -62,9 +60,9 @@ module _ (s : Setting) (w : World) (m : ℕ) (call : Call) (lists : Journals) (n
   tells-more seat other x next at seats more is =
       let old : journal_of lists m ≡ spelled seat.records = tells m ∙ ap (λ (o : Option worlds.Seat). spelled (records_of o)) at in
       let new : journal_of lists m ++ journals.journal_record.spell x ∷ [] ≡ spelled other.records =
-          ap (λ (kept : List (List ℕ)). kept ++ journals.journal_record.spell x ∷ []) old
-          ∙ sym (spelled-push seat.records x)
-          ∙ ap (λ (records : List Record). spelled records) (sym more) in
+      ap (λ (kept : List (List ℕ)). kept ++ journals.journal_record.spell x ∷ []) old
+      ∙ sym (spelled-push seat.records x)
+      ∙ ap (λ (records : List Record). spelled records) (sym more) in
       subst (λ (told : Option Journals). Tells told next) (sym is)
       (λ k. tells-set w.seats lists m seat other (journal_of lists m ++ journals.journal_record.spell x ∷ []) room at tells new k ∙ ap (λ (all : List worlds.Seat). spelled (records_of (slice_get all k))) (sym seats))
 

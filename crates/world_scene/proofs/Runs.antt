@@ -1,7 +1,7 @@
 -- In the run of a schedule that a text says, all that is read from the bytes of calls fits.
-use Rattle.std.proofs.Common.{refl, sym, subst, ap, ◌∙◌, append-nil, append_assoc, arith}
+use Rattle.std.proofs.Common.{refl, subst, arith}
 use Rattle.std.proofs.lemmas.List.{length-append}
-use Rattle.std.specs.Prelude.{◌≡◌, ◌≤◌, ◌<◌, ℕ, ◌+◌, zero, suc, true, List, [], ◌∷◌, ◌++◌, map, length, Option, Some, None, option_map, bytes_eq, Ok}
+use Rattle.std.specs.Prelude.{◌≡◌, ◌≤◌, ℕ, ◌+◌, zero, suc, true, List, [], ◌∷◌, ◌++◌, map, length, Option, Some, None, option_map, bytes_eq, Ok}
 use Rattle.std.specs.List.{AllByRecursion}
 use Rattle.wire_bcs.specs.Place.{IsBytes}
 use Rattle.chain_messages.specs.Messages as messages
@@ -16,7 +16,7 @@ use Rattle.chain_spec.specs.Words.{Each, last_where}
 use Rattle.world_spec.specs.Setting.{Name, Setting, setting_of, things_from}
 use Rattle.world_spec.specs.Keyed.{keyed_seal}
 use Rattle.world_spec.specs.World.{Formed, Made, World, new_world}
-use Rattle.world_spec.specs.Names.{cert_in, cert_named, made_named}
+use Rattle.world_spec.specs.Names.{cert_in, made_named}
 use Rattle.world_spec.specs.Step.{happens}
 use Rattle.world_spec.specs.Run.{run, world_after}
 use Rattle.world_spec.specs.Assumptions.{all_of, calls_of, send_call, vote_call}
@@ -139,7 +139,7 @@ pub text-starts : (text : List ℕ) (t : Schedule) → schedule_of text ≡ Ok t
 text-starts text t read secret front rest is plain =
     let short = text-short text t read in
     let fits : AllByRecursion IsFitEvent t.events =
-        fit-events t.events (all-back IsStatement (map (λ x. statement.Setup x) t.setup) (map (λ e. statement.Event e) t.events) (text_said text t read).words) short.0 in
+    fit-events t.events (all-back IsStatement (map (λ x. statement.Setup x) t.setup) (map (λ e. statement.Event e) t.events) (text_said text t read).words) short.0 in
     let few : length (front ++ rest) ≤ most_words = subst (λ (l : List Event). length l ≤ most_words) is short.1 in
     let long = length-append front rest in
     read-starts (keyed_setting secret t) (setting-seals secret t) (setting-things secret t) front (omega (arith, few, long))

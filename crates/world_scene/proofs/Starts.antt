@@ -3,7 +3,7 @@ use Rattle.std.proofs.Common.{refl, sym, subst, ap, ◌∙◌, append-nil, appen
 use Rattle.std.proofs.lemmas.Bool.{leb-false}
 use Rattle.std.proofs.lemmas.List.{length-map}
 use Rattle.std.proofs.lemmas.List.Elements.{All-from_recursion}
-use Rattle.std.specs.Prelude.{◌≡◌, ℕ, ◌+◌, ◌<◌, zero, suc, Bool, true, false, cond, nat_le, List, [], ◌∷◌, ◌++◌, map, length, slice_get, Option, Some, None, option_map, Result, Ok, Err}
+use Rattle.std.specs.Prelude.{◌≡◌, ℕ, ◌+◌, ◌<◌, suc, Bool, true, false, cond, nat_le, List, [], ◌∷◌, ◌++◌, map, length, slice_get, Option, Some, None, option_map, Result, Ok, Err}
 use Rattle.std.specs.List.{AllByRecursion}
 use Rattle.wire_bcs.specs.declared.fault.WireFault.{WireFault}
 use Rattle.wire_bcs.specs.Codec.{Codec}
@@ -40,14 +40,14 @@ use Rattle.chain_spec.proofs.ListLemmas.{along-push}
 use Rattle.member_spec.specs.Versions.{Execution}
 use Rattle.member_spec.specs.Rounds.{rounds}
 use Rattle.member_spec.specs.Member.{Member, after, books, fresh, state, with_rounds}
-use Rattle.member_spec.specs.Calls.{Call, votes, holds, sees, runs, closes, ends, turns, acks, Voted, close_answer, close_record, due, full, halted, hold_answer, hold_record, is_hold_kept, kept_vote, ran_as, ran_item, ran_items, ran_record, record_limit, run_answer, run_record, vote_answer, vote_record}
+use Rattle.member_spec.specs.Calls.{Call, votes, holds, sees, runs, closes, ends, turns, acks, Voted, close_answer, close_record, due, halted, hold_answer, hold_record, is_hold_kept, kept_vote, ran_as, ran_item, ran_items, ran_record, record_limit, run_answer, run_record, vote_answer, vote_record}
 use Rattle.member_spec.specs.Replay.{is_allowed}
 use Rattle.member_core.specs.Replay.{is_taken}
 use Rattle.schedule_text.specs.declared.words.Event.{Event}
 use Rattle.schedule_text.specs.declared.words.Event.TheVariants as event
 use Rattle.world_spec.specs.Setting.{Trust, Setting}
 use Rattle.world_spec.specs.World as worlds
-use Rattle.world_spec.specs.World.{Made, World, member_in, new_world, stated, voted_statement}
+use Rattle.world_spec.specs.World.{Made, World, new_world, stated, voted_statement}
 use Rattle.world_spec.specs.Names.{cert_named, made_named}
 use Rattle.world_spec.specs.Step.{happens}
 use Rattle.world_spec.specs.Run.{world_after}

@@ -6,7 +6,6 @@ use Rattle.digest_core.specs.declared.Digest.{Digest}
 use Rattle.quorum_core.specs.declared.signer.Signer.{Signer}
 use Rattle.quorum_core.specs.declared.signer.Signer.TheVariants as signers
 use Rattle.chain_types.specs.declared.objects.ObjectKey.{ObjectKey}
-use Rattle.chain_types.specs.Transactions as transactions
 use Rattle.chain_messages.specs.Messages as messages
 use Rattle.chain_messages.specs.declared.messages.MemberSeal.{MemberSeal}
 use Rattle.chain_messages.specs.declared.messages.Statement.{Statement}
@@ -18,27 +17,26 @@ use Rattle.schedule_text.specs.declared.words.Event.{Event}
 use Rattle.schedule_text.specs.declared.words.Event.TheVariants as event
 use Rattle.chain_spec.specs.Words.{Each, first_some, first_of}
 use Rattle.chain_spec.specs.Certificates.{Rules}
-use Rattle.member_spec.specs.Member.{Member, fresh, state}
+use Rattle.member_spec.specs.Member.{Member, state}
 use Rattle.member_spec.specs.Calls.{Call, runs, votes, holds}
 use Rattle.world_spec.specs.Setting.{Name, Trust, Setting, setting_of, writers_of}
 use Rattle.world_spec.specs.World as worlds
-use Rattle.world_spec.specs.World.{Said, Made, World, called_in, honest_seat, is_honest, member_in, new_seat, new_world, says_first}
+use Rattle.world_spec.specs.World.{Made, World, called_in, honest_seat, is_honest, member_in, new_seat, new_world, says_first}
 use Rattle.world_spec.specs.Names.{made_named, cert_named}
-use Rattle.world_spec.specs.Making.{TxLine, digest_named, held_digest, made_as, made_by_line, transaction_of}
-use Rattle.world_spec.specs.Step.{Collected, lacks, short, differ, whole, armed_seat, certificate_of, first_origins, formed, formed_as, fvote_origins, fvoted, happens, honest_vote, no_origins, on_seat, origin_word, origins_or, says, sealed_by, sent, started_seat, vote_statement, voted_on, votes_collected}
+use Rattle.world_spec.specs.Making.{TxLine, held_digest, made_by_line}
+use Rattle.world_spec.specs.Step.{Collected, lacks, short, differ, whole, armed_seat, first_origins, formed, formed_as, fvote_origins, fvoted, happens, honest_vote, no_origins, origin_word, origins_or, says, sent, started_seat, vote_statement, voted_on, votes_collected}
 use Rattle.world_spec.specs.Run.{records_of}
 use Rattle.world_names.specs.Known.{names_of, with_line}
 use Rattle.tx_making.specs.Making.{line_made}
-use Rattle.tx_making.specs.Worlds.{held_in as held_at}
 use Rattle.tx_making.proofs.Worlds.{line_same}
 use Rattle.member_core.specs.Answers.{rules_for}
 use Rattle.member_types.specs.declared.refusals.StartRefusal.{StartRefusal}
 use Rattle.validator_core.specs.Starts.{started}
 use Rattle.world_scene.specs.Posts.{Post, arming, new_posts, seat_at, started_at, starting}
 use Rattle.world_scene.specs.Scene.{Scene, bare_seat, bare_setting, bare_world, new_scene, rules_in}
-use Rattle.world_scene.specs.Steps.{call_of, call_on, called_by, called_scene, held_by, held_call, signed_call, held_in, made_in, steps_to, with_tx}
+use Rattle.world_scene.specs.Steps.{call_of, call_on, called_by, held_by, held_call, signed_call, held_in, steps_to, with_tx}
 use Rattle.world_scene.specs.Worlds.{IsTrueOf, Restarts, Shows, is_plain, is_plain_setup, is_restart, journal_in, post_of, posts_from, scene_of, spelled}
-use Rattle.world_scene.proofs.Posts.{place, place-first, same-some, called-same, called-open, changed-same, changed-open}
+use Rattle.world_scene.proofs.Posts.{place-first, called-same, called-open, changed-same, changed-open}
 
 -- ---- the first scene
 
@@ -67,12 +65,20 @@ first-shown trust lines plain =
       scene = ap (λ (posts : List Post). record (new_scene s lines) { posts = posts }) (fresh-posts s 0 s.honest);
     }
 
+-- a post for each seat
+posts-many : (s : Setting) (k : ℕ) (seats : List worlds.Seat) → length (posts_from s k seats) ≡ length seats
+posts-many s k [] = refl
+posts-many s k (seat ∷ seats) = ap (λ (n : ℕ). suc n) (posts-many s (suc k) seats)
+
+pub posts-shown : (trust : Trust) (s : Setting) (w : World) (sc : Scene) → Shows trust s w sc → length sc.posts ≡ length w.seats
+posts-shown trust s w sc shows = ap (λ (x : Scene). length x.posts) shows.scene ∙ posts-many s 0 w.seats
+
 -- ---- transactions
 
 module _ (s : Setting) where
   held-one : (key : ObjectKey) (k : ℕ) (seat : worlds.Seat) (honest up : Bool)
       → cond (honest && up) (held_digest key (member_in s seat)) None
-        ≡ cond honest (held_by key (cond up (Some (seat_at s.rules.stakes k (member_in s seat))) None)) None
+      ≡ cond honest (held_by key (cond up (Some (seat_at s.rules.stakes k (member_in s seat))) None)) None
   held-one key k seat true true = refl
   held-one key k seat true false = refl
   held-one key k seat false true = refl
@@ -273,10 +279,10 @@ restart-same : (s : Setting) (w : World) (m : ℕ) (state : Member) → Restarts
 unfolding happens
 restart-same s w m state restarts starts =
     changed-same s w m started_seat (starting s.rules.stakes m state) (λ seat at.
-        let from : started s.rules s.opening (spelled seat.records) ≡ Ok state = subst (λ (x : Option worlds.Seat). started s.rules s.opening (spelled (records_of x)) ≡ Ok state) at starts in
-        let is : state ≡ member_in s seat = said-state state (member_in s seat) (sym from ∙ restarts.starts m seat at) in
-        ap (λ (x : Member). record { honest = seat.honest; standing = Some (seat_at s.rules.stakes m x); armed = None }) is
-        ∙ ap (λ (k : ℕ). record { honest = seat.honest; standing = Some (seat_at s.rules.stakes k (member_in s seat)); armed = None }) (sym (place-first m)))
+    let from : started s.rules s.opening (spelled seat.records) ≡ Ok state = subst (λ (x : Option worlds.Seat). started s.rules s.opening (spelled (records_of x)) ≡ Ok state) at starts in
+    let is : state ≡ member_in s seat = said-state state (member_in s seat) (sym from ∙ restarts.starts m seat at) in
+    ap (λ (x : Member). record { honest = seat.honest; standing = Some (seat_at s.rules.stakes m x); armed = None }) is
+    ∙ ap (λ (k : ℕ). record { honest = seat.honest; standing = Some (seat_at s.rules.stakes k (member_in s seat)); armed = None }) (sym (place-first m)))
 
 pub restart-shown : (trust : Trust) (s : Setting) (w : World) (sc : Scene) (m : ℕ) (state : Member) → Shows trust s w sc → Restarts s w → m < length w.seats → started s.rules s.opening (journal_in w m) ≡ Ok state
     → Shows trust s (happens s w (event.Restart m)) (record sc { posts = started_at sc.stakes sc.posts m state })

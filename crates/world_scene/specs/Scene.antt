@@ -1,12 +1,12 @@
 -- What a world is without the members' records: what is known under names, what was stated and formed, and the
 -- members as they stand. Source: this profile.
-use Rattle.std.specs.Prelude.{ℕ, Bool, List, [], ◌∷◌, map, option_map, is_some}
+use Rattle.std.specs.Prelude.{ℕ, Bool, List, [], ◌∷◌, map, is_some}
 use Rattle.digest_core.specs.declared.Digest.{Digest}
 use Rattle.quorum_core.specs.declared.signer.Signer.{Signer}
 use Rattle.chain_types.specs.declared.objects.Object.{Object}
 use Rattle.schedule_text.specs.declared.words.Setup.{Setup}
 use Rattle.chain_spec.specs.Certificates.{Rules}
-use Rattle.world_spec.specs.Setting.{Trust, Setting, setting_of}
+use Rattle.world_spec.specs.Setting.{Trust, Setting}
 use Rattle.world_spec.specs.World as worlds
 use Rattle.world_spec.specs.World.{World, Said, Formed}
 use Rattle.world_names.specs.Known.{Known, known_by}

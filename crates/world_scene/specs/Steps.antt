@@ -1,6 +1,6 @@
 -- A line of a schedule as a step of the scene, and the lines of the report that it gives. The forms are those of
 -- the path without a sequence. Source: this profile.
-use Rattle.std.specs.Prelude.{ℕ, Bool, true, false, ◌&&◌, List, [], ◌∷◌, ◌++◌, map, length, slice_get, Option, Some, None, option_map, if◌then◌else◌}
+use Rattle.std.specs.Prelude.{ℕ, List, [], ◌∷◌, ◌++◌, map, slice_get, Option, Some, None, option_map, if◌then◌else◌}
 use Rattle.digest_core.specs.declared.Digest.{Digest}
 use Rattle.chain_types.specs.declared.objects.ObjectKey.{ObjectKey}
 use Rattle.chain_types.specs.Transactions as transactions
@@ -18,10 +18,10 @@ use Rattle.report_text.specs.declared.lines.SendText.TheVariants as send_text
 use Rattle.report_text.specs.declared.lines.ShowText.TheVariants as show_text
 use Rattle.report_text.specs.declared.lines.VoteText.{VoteText}
 use Rattle.report_text.specs.declared.lines.VoteText.TheVariants as vote_text
-use Rattle.member_spec.specs.Member.{Member, live_objects}
+use Rattle.member_spec.specs.Member.{live_objects}
 use Rattle.member_spec.specs.Calls.{Call, votes, holds, runs}
 use Rattle.world_spec.specs.Setting.{Name, Trust}
-use Rattle.world_spec.specs.World.{Made, Reached, said_by}
+use Rattle.world_spec.specs.World.{Made, said_by}
 use Rattle.world_spec.specs.Names.{made_named, cert_named}
 use Rattle.world_spec.specs.Making.{TxLine, held_digest}
 use Rattle.world_spec.specs.Step.{fvoted, formed}
