@@ -1,0 +1,4 @@
+pub mod Posts
+pub mod Scene
+pub mod Steps
+pub mod Worlds
