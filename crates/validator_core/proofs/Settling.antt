@@ -28,7 +28,7 @@ Signing = Signer → List ℕ → Digest → Bool
 abbrev pub seat_with : Seat → Member → Ended → Seat
 seat_with old state e = record old { state = state; up = not (has_fallen e) }
 
-settles : (r : Rules) (call : Call) (old : Seat) (state : Member) (e : Ended) → old.up ≡ true → Becomes (called r old.state call) state e → Behaves r call old (seat_with old state e) e
+pub settles : (r : Rules) (call : Call) (old : Seat) (state : Member) (e : Ended) → old.up ≡ true → Becomes (called r old.state call) state e → Behaves r call old (seat_with old state e) e
 settles r call old state answered up is =
     ap (λ (s : Member). record old { state = s; up = true }) is
     ∙ ap (λ (b : Bool). record old { state = called r old.state call; up = b }) (sym up)
