@@ -1,7 +1,7 @@
 -- Runs and closes: what is answered and due, and the state behind it. The rules play no part.
-use Rattle.std.proofs.Common.{◌≡◌, ℕ, Bool, true, false, cond, not, List, [], ◌∷◌, ◌++◌, map, Option, Some, None, refl, ap, sym, subst, ◌∙◌, append-nil}
-use Rattle.std.specs.Prelude.{Result, Ok, Err}
-use Rattle.outside.specs.Lists.{Journals}
+use Rattle.std.proofs.Common.{◌≡◌, ℕ, Bool, true, false, cond, not, List, [], ◌∷◌, ◌++◌, map, Option, Some, None, inl, inr, refl, ap, sym, subst, ◌∙◌, append-nil}
+use Rattle.std.specs.Prelude.{◌⊎◌, Result, Ok, Err}
+use Rattle.outside.specs.Lists.{Journals, KeepsJournals}
 use Rattle.journal_core.specs.declared.records.RanItem.{RanItem}
 use Rattle.journal_core.specs.declared.records.Record.{Record}
 use Rattle.journal_core.specs.declared.records.Record.TheVariants as record_as
@@ -18,9 +18,11 @@ use Rattle.member_spec.specs.Member.{Member, after, books, with_rounds}
 use Rattle.member_spec.specs.Calls.{after_due, called, close_answer, close_record, closes, due, ran_as, ran_item, ran_items, ran_record, run_answer, run_record, runs}
 use Rattle.member_core.specs.Answers.{bare, close_stopped, run_stopped}
 use Rattle.member_core.specs.Steps.{closing, counted_where}
-use Rattle.validator_core.specs.Calls.{Closes, Runs, close_ended, close_said, run_ended, run_said}
-use Rattle.validator_core.specs.Seats.{Becomes, Behaves, Ended, Journaled, Seat, bare_rules, due_at}
-use Rattle.validator_core.proofs.Settling.{seat_with, settles}
+use Rattle.validator_core.specs.declared.keeping.Unkept.{Unkept}
+use Rattle.validator_core.specs.declared.keeping.Unkept.TheVariants as unkept
+use Rattle.validator_core.specs.Calls.{Closes, Runs, close_ended, close_said, run_ended, run_said, unkept_run}
+use Rattle.validator_core.specs.Seats.{Becomes, Behaves, Ended, Journaled, Keeps, Seat, answered, bare_rules, due_at, fell}
+use Rattle.validator_core.proofs.Settling.{keeps_same, seat_with, settles}
 
 -- ---- the rules play no part
 
@@ -68,29 +70,59 @@ close_called_alike r r' m = after_close r r' m (close_answer r m)
 
 -- ---- a run
 
-abbrev pub Stop : Type 0
-Stop = Result (Unit {0}) RunRefusal
+abbrev pub run_stop : RunRefusal → Result (Unit {0}) RunRefusal
+run_stop refusal = Err refusal
 
-goes : (o : Option RunRefusal) (x : Ran) → (let ok : Stop = Ok tt in ok) ≡ unless_refused o tt → unless_refused o x ≡ Ok x
-goes None x e = refl
-goes (Some refusal) x e = absurd (cc)
+abbrev pub run_free : Result (Unit {0}) RunRefusal
+run_free = Ok tt
 
-stops : (o : Option RunRefusal) (x : Ran) (refusal : RunRefusal) → (let no : Stop = Err refusal in no) ≡ unless_refused o tt → unless_refused o x ≡ Err refusal
-stops None x refusal e = absurd (cc)
-stops (Some other) x refusal e = cc
+goes_on : (o : Option RunRefusal) (x : Ran) → run_free ≡ unless_refused o tt → unless_refused o x ≡ Ok x
+goes_on None x e = refl
+goes_on (Some refusal) x e = absurd (cc)
 
-pub run_goes : (m : Member) (ran : Ran) → (let ok : Stop = Ok tt in ok) ≡ unless_refused (run_stopped m) tt → ran ≡ ran_as m (rounds (books m) m.executed) (with_rounds m) → run_answer bare m ≡ Ok ran
+stops_so : (o : Option RunRefusal) (x : Ran) (refusal : RunRefusal) → run_stop refusal ≡ unless_refused o tt → unless_refused o x ≡ Err refusal
+stops_so None x refusal e = absurd (cc)
+stops_so (Some other) x refusal e = ap (λ (r : RunRefusal). Err r) (same other e)
+  where
+    same : (r : RunRefusal) → run_stop refusal ≡ Err r → r ≡ refusal
+    same r e = cc
+
+pub run_goes : (m : Member) (ran : Ran) → run_free ≡ unless_refused (run_stopped m) tt → ran ≡ ran_as m (rounds (books m) m.executed) (with_rounds m) → run_answer bare m ≡ Ok ran
 unfolding run_answer
-run_goes m ran e is = goes (run_stopped m) _ e ∙ ap (λ (x : Ran). Ok x) (sym is)
+run_goes m ran e is = goes_on (run_stopped m) _ e ∙ ap (λ (x : Ran). Ok x) (sym is)
 
-pub run_stops : (m : Member) (refusal : RunRefusal) → (let no : Stop = Err refusal in no) ≡ unless_refused (run_stopped m) tt → run_answer bare m ≡ Err refusal
+run_stops : (m : Member) (refusal : RunRefusal) → run_stop refusal ≡ unless_refused (run_stopped m) tt → run_answer bare m ≡ Err refusal
 unfolding run_answer
-run_stops m refusal e = stops (run_stopped m) _ refusal e
+run_stops m refusal e = stops_so (run_stopped m) _ refusal e
 
--- a refused run has no record
-pub stopped_due : (m : Member) (refusal : RunRefusal) → run_answer bare m ≡ Err refusal → due bare m runs ≡ None
+answer_as : (said : Result Ran RunRefusal) (refusal : RunRefusal) → said ≡ Err refusal → Runs said (Err refusal)
+answer_as said no_run.Down h = h
+answer_as said (no_run.Halted first second) h = h
+answer_as said no_run.Full h = h
+answer_as said no_run.KeepFault h = tt
+answer_as said no_run.OutOfMemory h = tt
+
+-- a refused run answers so, changes nothing, and has no record
+pub run_refused : (m : Member) (refusal : RunRefusal) → run_stop refusal ≡ unless_refused (run_stopped m) tt → Runs (run_answer bare m) (Err refusal)
+run_refused m refusal e = answer_as (run_answer bare m) refusal (run_stops m refusal e)
+
+none_due : (m : Member) (refusal : RunRefusal) → run_stop refusal ≡ unless_refused (run_stopped m) tt → due bare m runs ≡ None
 unfolding due
-stopped_due m refusal e = ap (run_record m) e
+none_due m refusal e = ap (run_record m) (run_stops m refusal e)
+
+becomes_same : (next m : Member) (e : Ended) → m ≡ next → Becomes next m e
+becomes_same next m answered is = is
+becomes_same next m fell is = tt
+
+pub run_stays : (m : Member) (refusal : RunRefusal) → run_stop refusal ≡ unless_refused (run_stopped m) tt → Becomes (called bare m runs) m (run_ended (Err refusal))
+run_stays m refusal e = becomes_same (called bare m runs) m (run_ended (Err refusal)) (ap (after_due bare m) (sym (none_due m refusal e)))
+
+journals_same : (lists : Option Journals) (member : ℕ) (x : Option Record) (e : Ended) → x ≡ None → Journaled lists lists member x e
+journals_same lists member x answered none = subst (λ (d : Option Record). Keeps lists lists member d) (sym none) (keeps_same lists)
+journals_same lists member x fell none = inr (keeps_same lists)
+
+pub run_unkept : (m : Member) (refusal : RunRefusal) (lists : Option Journals) (member : ℕ) → run_stop refusal ≡ unless_refused (run_stopped m) tt → Journaled lists lists member (due bare m runs) (run_ended (Err refusal))
+run_unkept m refusal lists member e = journals_same lists member (due bare m runs) (run_ended (Err refusal)) (none_due m refusal e)
 
 -- the record that is due lists what was executed
 pub run_due : (m : Member) (ran : Ran) (items : List RanItem) → run_answer bare m ≡ Ok ran → items ≡ ran_items m → due bare m runs ≡ ran_record items
@@ -109,6 +141,73 @@ run_called m next ran items e is step =
     ∙ behind_rounds m (rounds (books m) m.executed) refl
     ∙ ap (λ (xs : List RanItem). after_due bare m (ran_record xs)) (sym is)
     ∙ ap (after_due bare m) (sym (run_due m ran items e is))
+
+-- what an append of the record leaves
+pub run_kept : (before now : Option Journals) (member : ℕ) (m : Member) (x : Option Record) → due bare m runs ≡ x → Keeps before now member x → Keeps before now member (due bare m runs)
+run_kept before now member m x is kept = subst (λ (d : Option Record). Keeps before now member d) (sym is) kept
+
+pub run_maybe_kept : (before now : Option Journals) (member : ℕ) (m : Member) (x : Option Record) (why : Unkept) → due bare m runs ≡ x → Keeps before now member x ⊎ KeepsJournals before now → Journaled before now member (due bare m runs) (run_ended (Err (unkept_run why)))
+run_maybe_kept before now member m x unkept.KeepFault is kept = subst (λ (d : Option Record). Keeps before now member d ⊎ KeepsJournals before now) (sym is) kept
+run_maybe_kept before now member m x unkept.OutOfMemory is kept = subst (λ (d : Option Record). Keeps before now member d ⊎ KeepsJournals before now) (sym is) kept
+
+-- ---- a close
+
+abbrev pub close_stop : CloseRefusal → Result (Unit {0}) CloseRefusal
+close_stop refusal = Err refusal
+
+abbrev pub close_free : Result (Unit {0}) CloseRefusal
+close_free = Ok tt
+
+close_goes_on : (o : Option CloseRefusal) (new : Bool) → close_free ≡ unless_refused o tt → unless_refused o new ≡ Ok new
+close_goes_on None new e = refl
+close_goes_on (Some refusal) new e = absurd (cc)
+
+close_stops_so : (o : Option CloseRefusal) (new : Bool) (refusal : CloseRefusal) → close_stop refusal ≡ unless_refused o tt → unless_refused o new ≡ Err refusal
+close_stops_so None new refusal e = absurd (cc)
+close_stops_so (Some other) new refusal e = ap (λ (r : CloseRefusal). Err r) (same other e)
+  where
+    same : (r : CloseRefusal) → close_stop refusal ≡ Err r → r ≡ refusal
+    same r e = cc
+
+pub close_goes : (m : Member) (closed : Bool) → close_free ≡ unless_refused (close_stopped m) tt → m.closed ≡ closed → close_answer bare m ≡ Ok (not closed)
+unfolding close_answer
+close_goes m closed e is = close_goes_on (close_stopped m) (not m.closed) e ∙ ap (λ (b : Bool). Ok (not b)) is
+
+close_stops : (m : Member) (refusal : CloseRefusal) → close_stop refusal ≡ unless_refused (close_stopped m) tt → close_answer bare m ≡ Err refusal
+unfolding close_answer
+close_stops m refusal e = close_stops_so (close_stopped m) (not m.closed) refusal e
+
+close_as : (said : Result Bool CloseRefusal) (refusal : CloseRefusal) → said ≡ Err refusal → Closes said (Err refusal)
+close_as said no_close.Down h = h
+close_as said (no_close.Halted first second) h = h
+close_as said no_close.Full h = h
+close_as said no_close.KeepFault h = tt
+close_as said no_close.OutOfMemory h = tt
+
+pub close_refused : (m : Member) (refusal : CloseRefusal) → close_stop refusal ≡ unless_refused (close_stopped m) tt → Closes (close_answer bare m) (Err refusal)
+close_refused m refusal e = close_as (close_answer bare m) refusal (close_stops m refusal e)
+
+no_close_due : (m : Member) (refusal : CloseRefusal) → close_stop refusal ≡ unless_refused (close_stopped m) tt → due bare m closes ≡ None
+unfolding due
+no_close_due m refusal e = ap close_record (close_stops m refusal e)
+
+pub close_stays : (m : Member) (refusal : CloseRefusal) → close_stop refusal ≡ unless_refused (close_stopped m) tt → Becomes (called bare m closes) m (close_ended (Err refusal))
+close_stays m refusal e = becomes_same (called bare m closes) m (close_ended (Err refusal)) (ap (after_due bare m) (sym (no_close_due m refusal e)))
+
+pub close_unkept : (m : Member) (refusal : CloseRefusal) (lists : Option Journals) (member : ℕ) → close_stop refusal ≡ unless_refused (close_stopped m) tt → Journaled lists lists member (due bare m closes) (close_ended (Err refusal))
+close_unkept m refusal lists member e = journals_same lists member (due bare m closes) (close_ended (Err refusal)) (no_close_due m refusal e)
+
+pub close_due : (m : Member) (new : Bool) → close_answer bare m ≡ Ok new → due bare m closes ≡ where_true new record_as.Close
+unfolding due
+close_due m new e = ap close_record e
+
+-- the member closes, or was closed
+pub close_called : (m next : Member) → close_answer bare m ≡ Ok true → next ≡ closing m → next ≡ called bare m closes
+unfolding after
+close_called m next e step = step ∙ ap (after_due bare m) (sym (close_due m true e))
+
+pub closed_called : (m : Member) → close_answer bare m ≡ Ok false → m ≡ called bare m closes
+closed_called m e = ap (after_due bare m) (sym (close_due m false e))
 
 -- ---- at the seat
 

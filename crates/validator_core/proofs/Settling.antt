@@ -89,7 +89,7 @@ hold_due_at accepts old bytes before now e up h =
 
 -- ---- a member that is down
 
-keeps_same : (lists : Option Journals) → KeepsJournals lists lists
+pub keeps_same : (lists : Option Journals) → KeepsJournals lists lists
 keeps_same None = tt
 keeps_same (Some lists) = refl
 

@@ -50,6 +50,7 @@ fn keep_run<D: Keeper>(
 }
 
 /// Lets a member that is up execute what it holds: the record of a run is appended before the call answers.
+#[tactic(auto, using(crate::proofs::Running::run_goes, crate::proofs::Running::run_refused, crate::proofs::Running::run_stays, crate::proofs::Running::run_unkept, crate::proofs::Running::run_due, crate::proofs::Running::run_called, crate::proofs::Running::run_kept, crate::proofs::Running::run_maybe_kept))]
 pub(crate) fn run<D: Keeper>(
     state: &mut State,
     keeper: &mut D,
@@ -64,7 +65,10 @@ pub(crate) fn run<D: Keeper>(
     ensures later { D.failed keeper.old ≤ D.failed keeper.new }
     ensures fault { IsErrOf result no_run.KeepFault → Rose (D.failed keeper.old) (D.failed keeper.new) }
 {
-    state.check_run()?;
+    match state.check_run() {
+        Ok(()) => {}
+        Err(refusal) => return Err(refusal),
+    }
     let Ok(ran) = state.run() else {
         return Err(RunRefusal::OutOfMemory);
     };
@@ -103,7 +107,7 @@ fn keep_close<D: Keeper>(state: &mut State, keeper: &mut D, member: u32) -> Resu
 }
 
 /// Closes the epoch of a member that is up: the record is appended before the call answers.
-#[tactic(auto, unfolding(member_spec::specs::Calls::close_answer, member_spec::specs::Calls::due, member_spec::specs::Member::after))]
+#[tactic(auto, using(crate::proofs::Running::close_goes, crate::proofs::Running::close_refused, crate::proofs::Running::close_stays, crate::proofs::Running::close_unkept, crate::proofs::Running::close_due, crate::proofs::Running::close_called, crate::proofs::Running::closed_called))]
 pub(crate) fn close<D: Keeper>(
     state: &mut State,
     keeper: &mut D,
@@ -117,7 +121,10 @@ pub(crate) fn close<D: Keeper>(
     ensures later { D.failed keeper.old ≤ D.failed keeper.new }
     ensures fault { IsErrOf result no_close.KeepFault → Rose (D.failed keeper.old) (D.failed keeper.new) }
 {
-    state.check_close()?;
+    match state.check_close() {
+        Ok(()) => {}
+        Err(refusal) => return Err(refusal),
+    }
     if state.is_closed() {
         return Ok(false);
     }
