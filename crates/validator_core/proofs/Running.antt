@@ -20,7 +20,7 @@ use Rattle.member_core.specs.Answers.{bare, close_stopped, run_stopped}
 use Rattle.member_core.specs.Steps.{closing, counted_where}
 use Rattle.validator_core.specs.declared.keeping.Unkept.{Unkept}
 use Rattle.validator_core.specs.declared.keeping.Unkept.TheVariants as unkept
-use Rattle.validator_core.specs.Calls.{Closes, Runs, close_ended, close_said, run_ended, run_said, unkept_run}
+use Rattle.validator_core.specs.Calls.{Closes, Runs, close_ended, close_said, run_ended, run_said, unkept_close, unkept_run}
 use Rattle.validator_core.specs.Seats.{Becomes, Behaves, Ended, Journaled, Keeps, Seat, answered, bare_rules, due_at, fell}
 use Rattle.validator_core.proofs.Settling.{keeps_same, seat_with, settles}
 
@@ -67,6 +67,14 @@ after_close r r' m (Err refusal) = refl
 pub close_called_alike : (r r' : Rules) (m : Member) → called r m closes ≡ called r' m closes
 unfolding due close_answer
 close_called_alike r r' m = after_close r r' m (close_answer r m)
+
+-- ---- records that are due
+
+pub is_kept : (before now : Option Journals) (member : ℕ) (d x : Option Record) → d ≡ x → Keeps before now member x → Keeps before now member d
+is_kept before now member d x is kept = subst (λ (y : Option Record). Keeps before now member y) (sym is) kept
+
+maybe_kept : (before now : Option Journals) (member : ℕ) (d x : Option Record) → d ≡ x → Keeps before now member x ⊎ KeepsJournals before now → Keeps before now member d ⊎ KeepsJournals before now
+maybe_kept before now member d x is kept = subst (λ (y : Option Record). Keeps before now member y ⊎ KeepsJournals before now) (sym is) kept
 
 -- ---- a run
 
@@ -117,7 +125,7 @@ becomes_same next m fell is = tt
 pub run_stays : (m : Member) (refusal : RunRefusal) → run_stop refusal ≡ unless_refused (run_stopped m) tt → Becomes (called bare m runs) m (run_ended (Err refusal))
 run_stays m refusal e = becomes_same (called bare m runs) m (run_ended (Err refusal)) (ap (after_due bare m) (sym (none_due m refusal e)))
 
-journals_same : (lists : Option Journals) (member : ℕ) (x : Option Record) (e : Ended) → x ≡ None → Journaled lists lists member x e
+pub journals_same : (lists : Option Journals) (member : ℕ) (x : Option Record) (e : Ended) → x ≡ None → Journaled lists lists member x e
 journals_same lists member x answered none = subst (λ (d : Option Record). Keeps lists lists member d) (sym none) (keeps_same lists)
 journals_same lists member x fell none = inr (keeps_same lists)
 
@@ -142,13 +150,9 @@ run_called m next ran items e is step =
     ∙ ap (λ (xs : List RanItem). after_due bare m (ran_record xs)) (sym is)
     ∙ ap (after_due bare m) (sym (run_due m ran items e is))
 
--- what an append of the record leaves
-pub run_kept : (before now : Option Journals) (member : ℕ) (m : Member) (x : Option Record) → due bare m runs ≡ x → Keeps before now member x → Keeps before now member (due bare m runs)
-run_kept before now member m x is kept = subst (λ (d : Option Record). Keeps before now member d) (sym is) kept
-
-pub run_maybe_kept : (before now : Option Journals) (member : ℕ) (m : Member) (x : Option Record) (why : Unkept) → due bare m runs ≡ x → Keeps before now member x ⊎ KeepsJournals before now → Journaled before now member (due bare m runs) (run_ended (Err (unkept_run why)))
-run_maybe_kept before now member m x unkept.KeepFault is kept = subst (λ (d : Option Record). Keeps before now member d ⊎ KeepsJournals before now) (sym is) kept
-run_maybe_kept before now member m x unkept.OutOfMemory is kept = subst (λ (d : Option Record). Keeps before now member d ⊎ KeepsJournals before now) (sym is) kept
+pub run_maybe_kept : (before now : Option Journals) (member : ℕ) (d x : Option Record) (why : Unkept) → d ≡ x → Keeps before now member x ⊎ KeepsJournals before now → Journaled before now member d (run_ended (Err (unkept_run why)))
+run_maybe_kept before now member d x unkept.KeepFault is kept = maybe_kept before now member d x is kept
+run_maybe_kept before now member d x unkept.OutOfMemory is kept = maybe_kept before now member d x is kept
 
 -- ---- a close
 
@@ -200,6 +204,10 @@ close_unkept m refusal lists member e = journals_same lists member (due bare m c
 pub close_due : (m : Member) (new : Bool) → close_answer bare m ≡ Ok new → due bare m closes ≡ where_true new record_as.Close
 unfolding due
 close_due m new e = ap close_record e
+
+pub close_maybe_kept : (before now : Option Journals) (member : ℕ) (d x : Option Record) (why : Unkept) → d ≡ x → Keeps before now member x ⊎ KeepsJournals before now → Journaled before now member d (close_ended (Err (unkept_close why)))
+close_maybe_kept before now member d x unkept.KeepFault is kept = maybe_kept before now member d x is kept
+close_maybe_kept before now member d x unkept.OutOfMemory is kept = maybe_kept before now member d x is kept
 
 -- the member closes, or was closed
 pub close_called : (m next : Member) → close_answer bare m ≡ Ok true → next ≡ closing m → next ≡ called bare m closes

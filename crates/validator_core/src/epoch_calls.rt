@@ -50,7 +50,7 @@ fn keep_run<D: Keeper>(
 }
 
 /// Lets a member that is up execute what it holds: the record of a run is appended before the call answers.
-#[tactic(auto, using(crate::proofs::Running::run_goes, crate::proofs::Running::run_refused, crate::proofs::Running::run_stays, crate::proofs::Running::run_unkept, crate::proofs::Running::run_due, crate::proofs::Running::run_called, crate::proofs::Running::run_kept, crate::proofs::Running::run_maybe_kept))]
+#[tactic(auto, using(crate::proofs::Running::run_goes, crate::proofs::Running::run_refused, crate::proofs::Running::run_stays))]
 pub(crate) fn run<D: Keeper>(
     state: &mut State,
     keeper: &mut D,
@@ -107,7 +107,7 @@ fn keep_close<D: Keeper>(state: &mut State, keeper: &mut D, member: u32) -> Resu
 }
 
 /// Closes the epoch of a member that is up: the record is appended before the call answers.
-#[tactic(auto, using(crate::proofs::Running::close_goes, crate::proofs::Running::close_refused, crate::proofs::Running::close_stays, crate::proofs::Running::close_unkept, crate::proofs::Running::close_due, crate::proofs::Running::close_called, crate::proofs::Running::closed_called))]
+#[tactic(auto, using(crate::proofs::Running::close_goes, crate::proofs::Running::close_refused, crate::proofs::Running::close_stays, crate::proofs::Running::close_called, crate::proofs::Running::closed_called))]
 pub(crate) fn close<D: Keeper>(
     state: &mut State,
     keeper: &mut D,
