@@ -16,15 +16,12 @@ ghost use Rattle.version_store.specs.Stores.{are_new};
 ghost use Rattle.validator_core.specs.Starts.{Starts, started};
 ghost use Rattle.validator_core.specs.Seats.{Behaves, Fell, Journaled, bare_rules, due_at, rules_of_seat};
 
-use crate::calls;
-use crate::epoch_calls;
 use crate::start::take_all;
+use crate::{calls, epoch_calls};
 use chain_types::{Object, ObjectKey, object_digest};
 use digest_core::Digest;
 use member_core::State;
-use member_types::{
-    CloseRefusal, HoldRefusal, Ran, RunRefusal, StartRefusal, VoteRefusal, Voted,
-};
+use member_types::{CloseRefusal, HoldRefusal, Ran, RunRefusal, StartRefusal, VoteRefusal, Voted};
 use outside::Keeper;
 use quorum_core::{Committee, Sealer};
 use std::alloc::Global;

@@ -1,4 +1,4 @@
-use Rattle.std.proofs.Common.{◌≡◌, Option, List, ◌∙◌, ap, sym, subst}
+use Rattle.std.proofs.Common.{◌≡◌, List, ◌∙◌, ap, sym, subst}
 use Rattle.std.specs.Prelude.{Result, Err}
 use Rattle.std.proofs.lemmas.Result.{err_from_is_err_and}
 use Rattle.effects_core.specs.declared.effects.Effects.{Effects}
@@ -6,7 +6,7 @@ use Rattle.journal_core.specs.declared.records.RanItem.{RanItem}
 use Rattle.member_types.specs.declared.answers.Ran.{Ran}
 use Rattle.member_types.specs.declared.refusals.RunRefusal.{RunRefusal}
 use Rattle.member_spec.specs.Member.{Member}
-use Rattle.member_spec.specs.Calls.{due, ran_items, ran_record, run_answer, runs}
+use Rattle.member_spec.specs.Calls.{due, ran_items, ran_record, runs}
 use Rattle.member_core.specs.Answers.{bare}
 use Rattle.member_core.specs.Steps.{counted_where, items_of}
 use Rattle.validator_core.specs.Calls.{run_ended, unkept_run}
