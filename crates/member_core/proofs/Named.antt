@@ -7,7 +7,6 @@ use Rattle.chain_types.specs.declared.transactions.Transaction.{Transaction}
 use Rattle.chain_types.specs.Digests.{transaction_digest}
 use Rattle.effects_core.specs.Effects.{digest_of_effects}
 use Rattle.block_types.specs.declared.pieces.Executed.{Executed}
-use Rattle.journal_core.specs.declared.records.RanItem.{RanItem}
 use Rattle.member_types.specs.declared.answers.Held.{Held}
 use Rattle.chain_spec.specs.Words.{Each, where_true}
 use Rattle.chain_spec.specs.Keys.{fits}
@@ -19,7 +18,7 @@ use Rattle.member_spec.specs.Rounds.{Books, clashes, executes_as, may_run, prese
 use Rattle.member_spec.specs.Member.{Member, books}
 use Rattle.member_spec.specs.Calls.{effects_of, ran_item, ran_items}
 use Rattle.round_run.specs.Books.{IsSound}
-use Rattle.member_core.specs.Steps.{item_of, items_of}
+use Rattle.member_core.specs.Steps.{items_of}
 
 -- its effects name its digest
 abbrev pub IsNamed : Execution → Type 0

@@ -1,5 +1,5 @@
 -- Effects and the records of runs whose lists are short can be spelled.
-use Rattle.std.proofs.Common.{◌≡◌, ◌<◌, ℕ, List, [], ◌∷◌, ◌++◌, length, map, refl, ap, sym, ◌∙◌, append_assoc, append-nil}
+use Rattle.std.proofs.Common.{◌≡◌, ◌<◌, List, [], ◌∷◌, ◌++◌, length, sym, ◌∙◌, append_assoc, append-nil}
 use Rattle.wire_bcs.specs.Digests.{digest}
 use Rattle.wire_bcs.specs.Items.{length_limit}
 use Rattle.chain_types.specs.declared.objects.Owner.{Owner}
