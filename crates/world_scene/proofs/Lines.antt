@@ -22,7 +22,7 @@ use Rattle.world_spec.specs.World.{Made, World, Reached, finds_down, stops, answ
 use Rattle.world_spec.specs.Run.{records_of}
 use Rattle.world_spec.specs.Names.{cert_named, made_named}
 use Rattle.world_spec.specs.Step.{Collected, fvote_origins}
-use Rattle.world_spec.specs.Report.{cert_collected, cert_lines, fvote_lines, hold_reached, hold_said, is_seat_up, lines_of, origin_name, origin_names, record_count, run_reached, send_said, show_up, shown, vote_lines, vote_reached, vote_said}
+use Rattle.world_spec.specs.Report.{cert_collected, cert_lines, fvote_lines, hold_reached, hold_said, is_seat_up, lines_of, origin_name, origin_names, record_count, run_reached, send_said, show_up, vote_lines, vote_reached, vote_said}
 use Rattle.world_lines.proofs.Worlds.{vote_same, hold_same, run_same, shown_same}
 use Rattle.member_core.specs.Answers.{rules_for}
 use Rattle.world_scene.specs.Posts.{Post, reached_in, seat_at}
