@@ -1,3 +1,4 @@
+pub mod Past
 pub mod Ended
 pub mod Following
 pub mod Turned

@@ -38,11 +38,13 @@ EveryCheckpoint = (s : Setting) (events : List Event) → IsHonestRun s events �
     → (cuts : List Cut) → IsFront cuts (member_in s seat).sequence.cuts → Each (IsBuilt (member_in s seat)) cuts
     → AreOfThread s (world_after s events).sequences (member_in s seat) cuts
 
--- of two members of one epoch, the one admitted and cut what the other did or will, and what both executed gave the same
+-- Of two members of one epoch, the one admitted and cut what the other did or will, what both executed gave the same, and
+-- they have the same checkpoints of the epochs before.
 pub record Agree (a b : Member) : Type 0 where
   pub openings : a.opening ≡ b.opening
   pub sequences : IsEarlier a.sequence b.sequence ⊎ IsEarlier b.sequence a.sequence
   pub executions : (x y : Execution) → Has a.executed x → Has b.executed y → x.digest ≡ y.digest → x.gave ≡ y.gave
+  pub past : a.past ≡ b.past
 
 -- at whatever two moments of the run, the first of which may be the second
 abbrev pub MembersAgree : Type 0
