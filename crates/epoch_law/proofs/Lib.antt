@@ -5,5 +5,6 @@ pub mod Turned
 pub mod OneCall
 pub mod Opened
 pub mod Agreed
+pub mod OneList
 pub mod Chains
 pub mod Sums

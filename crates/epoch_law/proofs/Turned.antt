@@ -1,7 +1,7 @@
 -- A member turns where its epoch has ended and all that it admitted is done; it opens the next epoch with what one thread
 -- leaves.
 use Rattle.std.proofs.Common.{inl, inr, refl, sym, subst, ap, ◌∙◌, arith, append-nil}
-use Rattle.std.specs.Prelude.{◌≡◌, ◌⊎◌, ◌<◌, ◌+◌, ℕ, zero, suc, Bool, true, List, [], ◌∷◌, ◌++◌, map, flat_map, slice_get, Option, Some, None}
+use Rattle.std.specs.Prelude.{◌≡◌, ◌⊎◌, ◌<◌, ◌+◌, ℕ, zero, suc, Bool, true, List, [], ◌∷◌, map, flat_map, slice_get, Option, Some, None}
 use Rattle.std.specs.FinMap.{values}
 use Rattle.std.specs.List.{list_all}
 use Rattle.chain_types.specs.declared.objects.Object.{Object}
@@ -18,7 +18,7 @@ use Rattle.chain_spec.specs.Words.{Has, Each, IsFront, first_some, unless_refuse
 use Rattle.chain_spec.specs.Shape.{shape_fault}
 use Rattle.chain_spec.specs.Certificates.{Rules, cert_cases, cert_refusal}
 use Rattle.member_spec.specs.Admission.{Admitted}
-use Rattle.member_spec.specs.Sequence.{Cut, Sequence}
+use Rattle.member_spec.specs.Sequence.{Sequence}
 use Rattle.member_spec.specs.Checkpoints.{is_done}
 use Rattle.member_spec.specs.Sequential.{map_of, fold_all}
 use Rattle.member_spec.specs.Member.{Member, turned, after}

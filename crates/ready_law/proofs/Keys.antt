@@ -1,7 +1,7 @@
 -- What may be executed writes new keys, so it is ready.
 use Rattle.std.proofs.Common.{inl, inr, refl, sym, subst, ap, ◌∙◌, arith, append-nil}
-use Rattle.std.proofs.lemmas.Bool.{eqb-true}
-use Rattle.std.specs.Prelude.{◌≡◌, ◌⊎◌, ℕ, Bool, true, false, cond, not, ◌&&◌, ◌||◌, ◌==◌, List, [], ◌∷◌, ◌++◌, map, find, slice_get, Some, None, is_some}
+use Rattle.std.proofs.lemmas.Bool.{eqb-true, cond-true}
+use Rattle.std.specs.Prelude.{◌≡◌, ◌⊎◌, ℕ, Bool, true, false, not, ◌&&◌, ◌||◌, ◌==◌, List, [], ◌∷◌, ◌++◌, map, slice_get, Some, None}
 use Rattle.std.specs.List.{list_any}
 use Rattle.digest_core.specs.declared.Digest.{Digest}
 use Rattle.chain_types.specs.declared.objects.ObjectId.{ObjectId}
@@ -30,7 +30,7 @@ use Rattle.chain_law.proofs.Touched.{has-mapped}
 use Rattle.current_law.specs.Orderly.{OpensApart}
 use Rattle.current_law.proofs.Lists.{any-has}
 use Rattle.current_law.proofs.Known.{opens-apart}
-use Rattle.present_law.proofs.Present.{IsOpened, IsWrote, version-from}
+use Rattle.present_law.proofs.Present.{has-find, IsOpened, IsWrote, version-from}
 use Rattle.version_law.proofs.Family.{IsFamily}
 use Rattle.version_law.proofs.Linked.{all-writers, above-opening, gave-once}
 use Rattle.version_law.proofs.Settled.{ArePeers}
@@ -43,22 +43,13 @@ use Rattle.ready_law.proofs.Ready.{none-unfit}
 
 -- ---- lists
 
-pub none-any : {A : Type 0} (test : A → Bool) (xs : List A) → ((x : A) → Has xs x → test x ≡ true → ⊥) → list_any test xs ≡ false
+none-any : {A : Type 0} (test : A → Bool) (xs : List A) → ((x : A) → Has xs x → test x ≡ true → ⊥) → list_any test xs ≡ false
 none-any test [] none = refl
 none-any test (x ∷ xs) none = go (test x) refl (none-any test xs (λ y h. none y (inr h)))
   where
     go : (b : Bool) → test x ≡ b → list_any test xs ≡ false → (b || list_any test xs) ≡ false
     go true e rest = absurd (none x (inl refl) e)
     go false e rest = rest
-
-has-find : {A : Type 0} (test : A → Bool) (xs : List A) (x : A) → Has xs x → test x ≡ true → is_some (find test xs) ≡ true
-has-find test [] x h e = absurd h
-has-find test (y ∷ ys) x h e = go (test y) refl h (λ k. has-find test ys x k e)
-  where
-    go : (b : Bool) → test y ≡ b → Has (y ∷ ys) x → (Has ys x → is_some (find test ys) ≡ true) → is_some (cond b (Some y) (find test ys)) ≡ true
-    go true q h rest = refl
-    go false q (inl p) rest = absurd (let same = ap test p in cc)
-    go false q (inr h) rest = rest h
 
 pub was-executed : (executed : List Execution) (y : Execution) (d : Digest) → Has executed y → y.digest ≡ d → is_executed executed d ≡ true
 was-executed executed y d h e = has-find (λ (x : Execution). digest_eq x.digest d) executed y h (subst (λ (z : Digest). digest_eq y.digest z ≡ true) e (digest-same y.digest))
@@ -84,10 +75,6 @@ keys-once (o ∷ os) more e = go (list_any (key_eq (object_key o)) (map object_k
 
 -- ---- answers
 
-chosen : {A : Type 0} (b : Bool) (x y : A) → b ≡ true → cond b x y ≡ x
-chosen true x y e = refl
-chosen false x y e = absurd (cc)
-
 both-false : (a b : Bool) → a ≡ false → b ≡ false → (not a && not b) ≡ true
 both-false a b e f = rw (e, f) refl
 
@@ -98,9 +85,9 @@ ready-is : (b : Books) (executed : List Execution) (h : Held) (objects : List Ob
     → writes_new (versions b.opening executed) (written_keys (execution h.cert.tx objects)) ≡ true → ready b executed h ≡ Some (executes_as h (execution h.cert.tx objects))
 unfolding ready
 ready-is b executed h objects idle may there fit new =
-    chosen (not (is_executed executed h.digest) && may_run b h) (ready_on b executed h (present b executed h)) None (and-both (is_executed executed h.digest) (may_run b h) idle may)
+    cond-true (not (is_executed executed h.digest) && may_run b h) (ready_on b executed h (present b executed h)) None (and-both (is_executed executed h.digest) (may_run b h) idle may)
     ∙ ap (ready_on b executed h) there
-    ∙ chosen (fits h.cert.tx objects) (ready_as b executed h (execution h.cert.tx objects)) None fit
+    ∙ cond-true (fits h.cert.tx objects) (ready_as b executed h (execution h.cert.tx objects)) None fit
     ∙ ap (λ (t : Bool). where_true t (executes_as h (execution h.cert.tx objects))) new
 
 -- ---- a member
