@@ -1,5 +1,5 @@
 //! Every honest member opens each epoch with the same objects: those that one thread leaves that executes the
-//! checkpointed transactions of the epochs before, in order.
+//! checkpointed transactions of the epochs before, in order. All build one list of checkpoints.
 #![tactic(auto)]
 
 ghost use Rattle.epoch_law.specs.Opened.{EveryOpening, OpenedAlike};
@@ -39,7 +39,8 @@ pub fn built_is_of_thread()
 {}
 
 /// So all members build one list of checkpoints: of what two of them have built, at whatever two moments and in whatever
-/// epochs, the one is a front of the other.
+/// epochs, the one is a front of the other. Who follows one honest member never takes a checkpoint back by turning to
+/// another.
 pub fn one_list_of_checkpoints()
     ensures { OneListOfCheckpoints }
 {}

@@ -35,7 +35,7 @@ pub fn writes_new_keys()
     ensures { WritesNewKeys }
 {}
 
-/// So it is ready: a certificate waits for its inputs and its admission, and for nothing else.
+/// So it is ready: a certified transaction waits for its inputs and its place in the sequence, and for nothing else.
 pub fn present_is_ready()
     ensures { PresentIsReady }
 {}
@@ -57,7 +57,7 @@ pub fn next_round_takes_all()
     ensures { NextRoundTakesAll }
 {}
 
-/// So is what is due: a certificate is executed one round behind the last of its origins and assigned writers.
+/// So is what is due: a transaction is executed one round behind the last of those that it comes from.
 pub fn next_round_takes_due()
     ensures { NextRoundTakesDue }
 {}
@@ -79,7 +79,7 @@ pub fn no_run_leaves_anything()
 {}
 
 /// A run executes every held certificate whose origins and assigned writers are executed by it, if it is admitted or has
-/// no shared input.
+/// no shared input; so no certified transaction is stuck.
 pub fn runs_execute_all()
     ensures { RunsExecuteAll }
 {}
