@@ -28,7 +28,7 @@ use Rattle.agreement_law.proofs.InSequences.{Comes, in_sequences}
 -- ---- lists
 
 -- of two fronts of one list the one is a front of the other
-either-front : {A : Type 0} (xs ys us vs : List A) → xs ++ us ≡ ys ++ vs → IsFront xs ys ⊎ IsFront ys xs
+pub either-front : {A : Type 0} (xs ys us vs : List A) → xs ++ us ≡ ys ++ vs → IsFront xs ys ⊎ IsFront ys xs
 either-front [] ys us vs e = inl (ys, refl)
 either-front (x ∷ xs) [] us vs e = inr (x ∷ xs, refl)
 either-front {A = A} (x ∷ xs) (y ∷ ys) us vs e = go (either-front xs ys us vs (tails x y (xs ++ us) (ys ++ vs) e))

@@ -30,8 +30,8 @@ use Rattle.current_law.specs.Checkpointed.{admitted_in, IsBuilt}
 use Rattle.current_law.proofs.Same.{given-alike}
 use Rattle.current_law.proofs.Checkpointed.{checkpoints-of-fold}
 use Rattle.epoch_law.specs.Agreed.{effects_of_thread, AreOfThread, Agree}
-use Rattle.epoch_law.proofs.Turned.{txs-cut}
-use Rattle.epoch_law.proofs.Opened.{every-opening, grows-after, opened-alike}
+use Rattle.epoch_law.proofs.Past.{txs-cut}
+use Rattle.epoch_law.proofs.Opened.{every-opening, grows-after, opened-alike, past-alike}
 
 module _ (s : Setting) (events : List Event) (honest : IsHonestRun s events) (distinct : AreApart s.opening) where
   abbrev qs : List (List Entry)
@@ -103,4 +103,5 @@ module _ (s : Setting) (front back : List Event) (honest : IsHonestRun s (front 
       openings = openings;
       sequences = earlier-or-later;
       executions = λ x y h k e. all-agree p.opening (books p) (books q) refl (sym openings) held-alike (fronts earlier-or-later) q.executed (executions-explained s all n b by) p.executed [] (λ z none. absurd none) (executions-explained s front m a at) x h y k e;
+      past = past-alike s front back honest distinct m n a b at by epoch;
     }

@@ -14,6 +14,7 @@ use Rattle.world_spec.specs.Setting.{Setting}
 use Rattle.world_spec.specs.World.{entries_at}
 use Rattle.world_spec.specs.Openings.{checkpointed, sequence_of, opening_at}
 use Rattle.agreement_law.proofs.Growth.{Grown}
+use Rattle.epoch_law.specs.Past.{checkpoints_of_thread, past_at}
 use Rattle.epoch_law.specs.Opened.{IsOver, IsPast, OpensAsLeft}
 
 module _ (r : Rules) (opening : List Object) (epoch : ℕ) where
@@ -58,6 +59,16 @@ module _ (s : Setting) (old new : List (List Entry)) (grown : Grown old new) whe
       ap (λ (os : List Object). values (fold_all (map_of os) (checkpointed (sequence_of s new epoch (opening_at s new epoch)))).map) before
       ∙ ap (λ (q : Sequence). values (fold_all (map_of (opening_at s old epoch)) (checkpointed q)).map) given
 
+  pub same-past : (epoch : ℕ) → ((e : ℕ) → e < epoch → IsPast s old e) → past_at s new epoch ≡ past_at s old epoch
+  unfolding past_at
+  same-past zero past = refl
+  same-past (suc epoch) past =
+      let before = same-opening epoch (λ e less. past e (omega (arith, less))) in
+      let given = same-sequence epoch (past epoch (omega arith)) before in
+      ap (λ (os : List Object). checkpoints_of_thread epoch os (sequence_of s new epoch (opening_at s new epoch)).cuts (past_at s new epoch)) before
+      ∙ ap (λ (q : Sequence). checkpoints_of_thread epoch (opening_at s old epoch) q.cuts (past_at s new epoch)) given
+      ∙ ap (checkpoints_of_thread epoch (opening_at s old epoch) (sequence_of s old epoch (opening_at s old epoch)).cuts) (same-past epoch (λ e less. past e (omega (arith, less))))
+
   still-past : (epoch : ℕ) → ((e : ℕ) → e < suc epoch → IsPast s old e) → IsPast s new epoch
   still-past epoch past =
       let before = same-opening epoch (λ e less. past e (omega (arith, less))) in
@@ -69,4 +80,5 @@ module _ (s : Setting) (old new : List (List Entry)) (grown : Grown old new) whe
   more-left m left = record {
     opening = left.opening ∙ sym (same-opening m.epoch left.past);
     past = λ epoch less. still-past epoch (λ e below. left.past e (omega (arith, less, below)));
+    checkpoints = left.checkpoints ∙ sym (same-past m.epoch left.past);
   }

@@ -1,8 +1,10 @@
+pub mod Past
 pub mod Ended
 pub mod Following
 pub mod Turned
 pub mod OneCall
 pub mod Opened
 pub mod Agreed
+pub mod OneList
 pub mod Chains
 pub mod Sums

@@ -25,8 +25,9 @@ use Rattle.agreement_law.proofs.Growth.{Grown, grown-same, front-then, grows-lin
 use Rattle.agreement_law.proofs.InSequences.{each-map}
 use Rattle.agreement_law.proofs.Appends.{a_turn, appended_as, appended_by, due-appends}
 use Rattle.chain_law.specs.Orderly.{AreApart}
+use Rattle.epoch_law.specs.Past.{past_at}
 use Rattle.epoch_law.specs.Opened.{OpensAsLeft}
-use Rattle.epoch_law.proofs.Ended.{more-left, same-opening}
+use Rattle.epoch_law.proofs.Ended.{more-left, same-opening, same-past}
 use Rattle.epoch_law.proofs.OneCall.{one-call}
 use Rattle.epoch_law.proofs.Turned.{turn-left}
 
@@ -78,21 +79,22 @@ module _ (s : Setting) where
   abbrev WorldLeft : World → Type 0
   WorldLeft w = AllLeft w.sequences w.seats
 
-  same-left : (sequences : List (List Entry)) (m n : Member) → n.opening ≡ m.opening → n.epoch ≡ m.epoch → OpensAsLeft s sequences m → OpensAsLeft s sequences n
-  same-left sequences m n opening epoch left = record {
+  same-left : (sequences : List (List Entry)) (m n : Member) → n.opening ≡ m.opening → n.epoch ≡ m.epoch → n.past ≡ m.past → OpensAsLeft s sequences m → OpensAsLeft s sequences n
+  same-left sequences m n opening epoch past left = record {
     opening = opening ∙ left.opening ∙ ap (opening_at s sequences) (sym epoch);
     past = λ e less. left.past e (omega (arith, less, epoch));
+    checkpoints = past ∙ left.checkpoints ∙ ap (past_at s sequences) (sym epoch);
   }
 
   record-left : (sequences : List (List Entry)) (m : Member) (x : Record) → (Some (appended_as x) ≡ Some a_turn → ⊥) → OpensAsLeft s sequences m → OpensAsLeft s sequences (after s.rules m x)
   unfolding after
-  record-left sequences m (record_as.Vote tx origins) never left = same-left sequences m (after s.rules m (record_as.Vote tx origins)) refl refl left
-  record-left sequences m (record_as.Hold c) never left = same-left sequences m (after s.rules m (record_as.Hold c)) refl refl left
-  record-left sequences m (record_as.See bytes) never left = same-left sequences m (after s.rules m (record_as.See bytes)) refl refl left
-  record-left sequences m record_as.Close never left = same-left sequences m (after s.rules m record_as.Close) refl refl left
-  record-left sequences m (record_as.Ran txs) never left = same-left sequences m (after s.rules m (record_as.Ran txs)) refl refl left
+  record-left sequences m (record_as.Vote tx origins) never left = same-left sequences m (after s.rules m (record_as.Vote tx origins)) refl refl refl left
+  record-left sequences m (record_as.Hold c) never left = same-left sequences m (after s.rules m (record_as.Hold c)) refl refl refl left
+  record-left sequences m (record_as.See bytes) never left = same-left sequences m (after s.rules m (record_as.See bytes)) refl refl refl left
+  record-left sequences m record_as.Close never left = same-left sequences m (after s.rules m record_as.Close) refl refl refl left
+  record-left sequences m (record_as.Ran txs) never left = same-left sequences m (after s.rules m (record_as.Ran txs)) refl refl refl left
   record-left sequences m record_as.Turn never left = absurd (never refl)
-  record-left sequences m (record_as.Ran2 items) never left = same-left sequences m (after s.rules m (record_as.Ran2 items)) refl refl left
+  record-left sequences m (record_as.Ran2 items) never left = same-left sequences m (after s.rules m (record_as.Ran2 items)) refl refl refl left
 
   call-left : (sequences : List (List Entry)) (records : List Record) (call : Call) (x : Record) → NoTurn call → due s.rules (state s.rules s.opening records) call ≡ Some x → Left sequences records → Left sequences (records ++ x ∷ [])
   call-left sequences records call x never d left = subst (OpensAsLeft s sequences) (sym (state-push s.rules s.opening records x))
@@ -153,8 +155,8 @@ module _ (s : Setting) where
       (subst WorldLeft (sym (world-append s front (e ∷ []))) (line-left (world_after s front) e (turns-left front (honest-front s front (e ∷ back) honest) distinct) all)))
 
   none-left : Left ([] ∷ []) []
-  unfolding state opening_at
-  none-left = record { opening = refl; past = λ e less. absurd (omega (arith, less)) }
+  unfolding state opening_at past_at
+  none-left = record { opening = refl; past = λ e less. absurd (omega (arith, less)); checkpoints = refl }
 
   new-left : WorldLeft (world_after s [])
   unfolding world_after new_world
@@ -181,3 +183,11 @@ module _ (s : Setting) where
       let late = every-opening (front ++ back) honest distinct n b by in
       early.opening ∙ sym (same-opening s (world_after s front).sequences (world_after s (front ++ back)).sequences (grows-after front back) (member_in s a).epoch early.past)
       ∙ ap (opening_at s (world_after s (front ++ back)).sequences) epoch ∙ sym late.opening
+
+  pub past-alike : (front back : List Event) → IsHonestRun s (front ++ back) → AreApart s.opening → (m n : ℕ) (a b : Seat)
+      → slice_get (world_after s front).seats m ≡ Some a → slice_get (world_after s (front ++ back)).seats n ≡ Some b → (member_in s a).epoch ≡ (member_in s b).epoch → (member_in s a).past ≡ (member_in s b).past
+  past-alike front back honest distinct m n a b at by epoch =
+      let early = every-opening front (honest-front s front back honest) distinct m a at in
+      let late = every-opening (front ++ back) honest distinct n b by in
+      early.checkpoints ∙ sym (same-past s (world_after s front).sequences (world_after s (front ++ back)).sequences (grows-after front back) (member_in s a).epoch early.past)
+      ∙ ap (past_at s (world_after s (front ++ back)).sequences) epoch ∙ sym late.checkpoints

@@ -1,7 +1,7 @@
 -- A member turns where its epoch has ended and all that it admitted is done; it opens the next epoch with what one thread
 -- leaves.
 use Rattle.std.proofs.Common.{inl, inr, refl, sym, subst, ap, ◌∙◌, arith, append-nil}
-use Rattle.std.specs.Prelude.{◌≡◌, ◌⊎◌, ◌<◌, ◌+◌, ℕ, zero, suc, Bool, true, List, [], ◌∷◌, ◌++◌, map, flat_map, slice_get, Option, Some, None}
+use Rattle.std.specs.Prelude.{◌≡◌, ◌⊎◌, ◌<◌, ◌+◌, ℕ, zero, suc, Bool, true, List, [], ◌∷◌, map, flat_map, slice_get, Option, Some, None}
 use Rattle.std.specs.FinMap.{values}
 use Rattle.std.specs.List.{list_all}
 use Rattle.chain_types.specs.declared.objects.Object.{Object}
@@ -18,21 +18,20 @@ use Rattle.chain_spec.specs.Words.{Has, Each, IsFront, first_some, unless_refuse
 use Rattle.chain_spec.specs.Shape.{shape_fault}
 use Rattle.chain_spec.specs.Certificates.{Rules, cert_cases, cert_refusal}
 use Rattle.member_spec.specs.Admission.{Admitted}
-use Rattle.member_spec.specs.Sequence.{Cut, Sequence}
+use Rattle.member_spec.specs.Sequence.{Sequence}
 use Rattle.member_spec.specs.Checkpoints.{is_done}
 use Rattle.member_spec.specs.Sequential.{map_of, fold_all}
 use Rattle.member_spec.specs.Member.{Member, turned, after}
 use Rattle.member_spec.specs.Calls.{turns, not_done, turn_cases, turn_answer, turn_record, reverted, due}
 use Rattle.world_spec.specs.Setting.{Setting}
 use Rattle.world_spec.specs.World.{Seat, member_in, entries_at}
-use Rattle.world_spec.specs.Openings.{txs_in, checkpointed, sequence_of, opening_at}
+use Rattle.world_spec.specs.Openings.{checkpointed, sequence_of, opening_at}
 use Rattle.world_spec.specs.Run.{world_after}
 use Rattle.world_spec.specs.Assumptions.{IsHonestRun}
 use Rattle.votes_law.proofs.Apart.{none-each, none-map, none-of, accepted}
 use Rattle.votes_law.proofs.Once.{has-left}
 use Rattle.agreement_law.specs.Agreed.{IsTaken}
 use Rattle.agreement_law.proofs.Prefixes.{follows}
-use Rattle.block_law.proofs.Steps.{map-append}
 use Rattle.sequence_law.specs.Kept.{Follow, opened_with}
 use Rattle.chain_law.specs.Orderly.{Step, tx_of, effects_in, AreApart}
 use Rattle.chain_law.proofs.Touched.{has-mapped}
@@ -47,9 +46,11 @@ use Rattle.current_law.proofs.Executed.{admitted-given}
 use Rattle.current_law.proofs.Ordered.{steps-orderly}
 use Rattle.current_law.proofs.Known.{opens-apart}
 use Rattle.current_law.proofs.Thread.{map-twice}
-use Rattle.current_law.proofs.Checkpointed.{built-front}
+use Rattle.current_law.proofs.Checkpointed.{built-front, checkpoints-of-fold}
 use Rattle.current_law.proofs.Turning.{turns-to-fold}
+use Rattle.epoch_law.specs.Past.{past_at}
 use Rattle.epoch_law.specs.Opened.{GasHolds, HasEffects, IsOver, IsPast, OpensAsLeft}
+use Rattle.epoch_law.proofs.Past.{txs-cut, built-past}
 use Rattle.epoch_law.proofs.Ended.{seen-ended}
 use Rattle.epoch_law.proofs.Following.{steps-follow}
 
@@ -63,10 +64,6 @@ pub flat-has : {A B : Type 0} (f : A → List B) (xs : List A) (x : A) (y : B) �
 flat-has f [] x y h k = absurd h
 flat-has f (z ∷ xs) x y (inl e) k = has-left (f z) (flat_map f xs) y (subst (λ w. Has (f w) y) (sym e) k)
 flat-has f (z ∷ xs) x y (inr h) k = has-right (f z) (flat_map f xs) y (flat-has f xs x y h k)
-
-pub txs-cut : (cuts : List Cut) → flat_map txs_in cuts ≡ map transaction_of (flat_map admitted_in cuts)
-txs-cut [] = refl
-txs-cut (c ∷ cuts) = ap (λ (ts : List Transaction). txs_in c ++ ts) (txs-cut cuts) ∙ sym (map-append transaction_of c.txs (flat_map admitted_in cuts))
 
 valid-shape : (r : Rules) (c : Certificate) → cert_refusal r c ≡ None → shape_fault c.tx ≡ None
 unfolding cert_refusal
@@ -196,6 +193,8 @@ module _ (s : Setting) (events : List Event) (n : ℕ) (seat : Seat) (at : slice
       record {
         opening = next-opening s qs m (turned m).opening left.opening whole (turns-to-fold s events n seat at honest distinct (all-built m can all-cut)) ∙ ap (opening_at s qs) (next-epoch m.epoch);
         past = below-next (IsPast s qs) m.epoch left.past (past-now s qs m left.opening whole (is-over can));
+        checkpoints = built-past s qs m left.opening whole left.checkpoints (all-built m can all-cut)
+            (checkpoints-of-fold s events n seat at honest distinct m.sequence.cuts ([], sym (append-nil m.sequence.cuts)) (all-built m can all-cut)) ∙ ap (past_at s qs) (next-epoch m.epoch);
       }
 
   pub turn-left : (x : Record) → due s.rules m turns ≡ Some x → OpensAsLeft s qs m → OpensAsLeft s qs (after s.rules m x)

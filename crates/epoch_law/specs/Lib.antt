@@ -1,3 +1,4 @@
+pub mod Past
 pub mod Opened
 pub mod Agreed
 pub mod Chains

@@ -17,6 +17,7 @@ use Rattle.world_spec.specs.Assumptions.{IsHonestRun}
 use Rattle.block_law.specs.Keeping.{GasIsAmount}
 use Rattle.sequence_law.specs.Kept.{Follow, opened_with}
 use Rattle.chain_law.specs.Orderly.{AreApart}
+use Rattle.epoch_law.specs.Past.{past_at}
 
 abbrev pub HasEffects : Option Effects → Type 0
 HasEffects e = is_some e ≡ true
@@ -43,10 +44,11 @@ abbrev pub IsPast : Setting → List (List Entry) → ℕ → Type 0
 IsPast s sequences epoch = IsOver (opening_at s sequences epoch) (sequence_of s sequences epoch (opening_at s sequences epoch))
 
 -- The member opened its epoch with the objects that one thread leaves that executes the checkpointed transactions of the
--- epochs before, one epoch after the other; and all of these epochs are over.
+-- epochs before, one epoch after the other; all of these epochs are over, and their checkpoints are those of that thread.
 pub record OpensAsLeft (s : Setting) (sequences : List (List Entry)) (m : Member) : Type 0 where
   pub opening : m.opening ≡ opening_at s sequences m.epoch
   pub past : (epoch : ℕ) → epoch < m.epoch → IsPast s sequences epoch
+  pub checkpoints : m.past ≡ past_at s sequences m.epoch
 
 -- every member does, in every run under the run assumptions, from a set-up with objects of different ids
 abbrev pub EveryOpening : Type 0

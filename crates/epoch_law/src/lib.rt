@@ -1,9 +1,9 @@
 //! Every honest member opens each epoch with the same objects: those that one thread leaves that executes the
-//! checkpointed transactions of the epochs before, in order.
+//! checkpointed transactions of the epochs before, in order. All build one list of checkpoints.
 #![tactic(auto)]
 
 ghost use Rattle.epoch_law.specs.Opened.{EveryOpening, OpenedAlike};
-ghost use Rattle.epoch_law.specs.Agreed.{EveryCheckpoint, MembersAgree};
+ghost use Rattle.epoch_law.specs.Agreed.{BuiltIsOfThread, EveryCheckpoint, MembersAgree, OneListOfCheckpoints};
 ghost use Rattle.epoch_law.specs.Chains.{VersionsAreChains};
 ghost use Rattle.epoch_law.specs.Sums.{CurrenciesAreBacked, OnlyGasLeaves, SetUpHasNoGasCap, SetUpIsBacked};
 
@@ -26,9 +26,23 @@ pub fn every_checkpoint()
 {}
 
 /// Of two members of one epoch, at whatever two moments of the run, the one admitted and cut what the other did or will,
-/// and what both executed gave the same, in whatever order they executed.
+/// what both executed gave the same, in whatever order they executed, and they have the same checkpoints of the epochs
+/// before.
 pub fn members_agree()
     ensures { MembersAgree }
+{}
+
+/// The checkpoints that a member has built, in all epochs until now, are the first of those that one thread gives which
+/// executes the world's sequences.
+pub fn built_is_of_thread()
+    ensures { BuiltIsOfThread }
+{}
+
+/// So all members build one list of checkpoints: of what two of them have built, at whatever two moments and in whatever
+/// epochs, the one is a front of the other. Who follows one honest member never takes a checkpoint back by turning to
+/// another.
+pub fn one_list_of_checkpoints()
+    ensures { OneListOfCheckpoints }
 {}
 
 /// The versions of each object in an epoch form one chain, in the order of the checkpoints: each transaction goes on from

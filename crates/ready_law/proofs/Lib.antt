@@ -3,5 +3,8 @@ pub mod Alike
 pub mod Undropped
 pub mod Assigned
 pub mod Ready
-pub mod RunOut
-pub mod Left
+pub mod Keys
+pub mod Ending
+pub mod Due
+pub mod Behind
+pub mod Running

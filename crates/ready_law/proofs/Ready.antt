@@ -19,15 +19,14 @@ use Rattle.chain_types.specs.Digests.{key_of, transaction_digest, is_object, lam
 use Rattle.member_types.specs.declared.answers.Assigned.{Assigned}
 use Rattle.member_types.specs.declared.answers.Held.{Held}
 use Rattle.schedule_text.specs.declared.words.Event.{Event}
-use Rattle.chain_spec.specs.Words.{Has, Each, all_some, first_of}
+use Rattle.chain_spec.specs.Words.{Has, all_some}
 use Rattle.chain_spec.specs.Tests.{producer_eq}
 use Rattle.chain_spec.specs.Keys.{object_key, objects_of, is_shared_since, is_shared_input, has_shared_input, version_of, version_limit, fits_input, fit_inputs, fits}
-use Rattle.chain_spec.proofs.ListLemmas.{find-test, and-first, and-second, or-first}
-use Rattle.block_spec.specs.Execution.{execution}
+use Rattle.chain_spec.proofs.ListLemmas.{find-test, and-first, and-second, or-first, not-true}
 use Rattle.member_spec.specs.Versions.{Execution, Version, versions, is_id, object_in, newer, newest, is_deleted, live, is_executed}
 use Rattle.member_spec.specs.Votes.{shared_key, Ballot, of_held, wrong_kind, vote_cases, vote_refusal, origin_of, vote_origins}
 use Rattle.member_spec.specs.Admission.{joined_inputs, lacks_shared, is_admitted, taken_version, version_at_admission, assigned_of}
-use Rattle.member_spec.specs.Rounds.{Wanted, wanted_by, wanted_as, wanted_version, assigned_id, wants_of, is_wanted, found, present, may_run, ready_as, ready_on, ready, is_maker_done, is_origin_done, is_due, missing, left_as, left}
+use Rattle.member_spec.specs.Rounds.{Books, Wanted, wanted_by, wanted_as, wanted_version, assigned_id, wants_of, is_wanted, found, present, may_run, is_maker_done, is_origin_done, is_due}
 use Rattle.member_spec.specs.Member.{Member, ballot, books}
 use Rattle.world_spec.specs.Setting.{Setting}
 use Rattle.world_spec.specs.World.{Seat, member_in}
@@ -50,7 +49,7 @@ use Rattle.present_law.proofs.Present.{cast-given, voted-by, owned-present}
 use Rattle.present_law.proofs.Fitting.{writes-once}
 use Rattle.present_law.proofs.Whole.{filter-has, zip-there, whole-fits, certificates-fit}
 use Rattle.ready_law.specs.Shared.{ShareAlike}
-use Rattle.ready_law.specs.Ready.{wanted_of, HasItsObjects, MissesNothing}
+use Rattle.ready_law.specs.Ready.{wanted_of}
 use Rattle.ready_law.proofs.Alike.{share-alike}
 use Rattle.ready_law.proofs.Assigned.{IsAdmittedAs, admitted-as, wanted-current, shared-present}
 
@@ -157,9 +156,31 @@ all-there get (w ∷ ws) each = go (get w) (each w (inl refl)) (all-there get ws
     go None e rest = absurd (cc)
     go (Some o) e rest = (o ∷ rest.0, rw (rest.1) refl)
 
-none-missing : (there : List Version) (ws : List Wanted) → ((w : Wanted) → Has ws w → is_some (found there w) ≡ true) → first_of (missing there) ws ≡ None
-none-missing there [] each = refl
-none-missing there (w ∷ ws) each = rw (each w (inl refl), none-missing there ws (λ v h. each v (inr h))) refl
+-- ---- what is due
+
+module _ (b : Books) (executed : List Execution) (h : Held) where
+  -- it was not executed, it is admitted if it has a shared input, and its origins and assigned writers were executed
+  abbrev idle : Bool
+  idle = not (is_executed executed h.digest)
+
+  abbrev origins : Bool
+  origins = list_all (is_origin_done executed) h.cert.origins
+
+  abbrev makers : Bool
+  makers = list_all (λ (w : Wanted). is_maker_done executed w.producer) (wants_of b.admission h)
+
+  module _ (due : is_due b executed h ≡ true) where
+    pub due-idle : is_executed executed h.digest ≡ false
+    due-idle = not-true (is_executed executed h.digest) (and-first idle (may_run b h) (and-first (idle && may_run b h) origins (and-first (idle && may_run b h && origins) makers due)))
+
+    pub due-may : may_run b h ≡ true
+    due-may = and-second idle (may_run b h) (and-first (idle && may_run b h) origins (and-first (idle && may_run b h && origins) makers due))
+
+    due-origins : origins ≡ true
+    due-origins = and-second (idle && may_run b h) origins (and-first (idle && may_run b h && origins) makers due)
+
+    due-makers : makers ≡ true
+    due-makers = and-second (idle && may_run b h && origins) makers due
 
 -- ---- in a run
 
@@ -272,44 +293,8 @@ module _ (s : Setting) (events : List Event) (honest : IsHonestRun s events) (di
         (subst (λ (z : Wanted). is_maker_done m.executed z.producer ≡ true) (sym x.2)
         (all-has (λ (z : Wanted). is_maker_done m.executed z.producer) (map (wanted_by (assigned_of m.sequence.admission h.digest)) (joined_inputs h.cert)) w makers k)))
 
-  ready-when : (h : Held) (os : List Object) (x : Bool) → x ≡ true → (p : Option (List Object)) → p ≡ Some os → fits h.cert.tx os ≡ true → cond x (ready_on (books m) m.executed h p) None ≡ ready_as (books m) m.executed h (execution h.cert.tx os)
-  ready-when h os false e p q fit = absurd (cc)
-  ready-when h os true e p q fit =
-      ap (ready_on (books m) m.executed h) q
-      ∙ ap (λ (b : Bool). cond b (ready_as (books m) m.executed h (execution h.cert.tx os)) None) fit
-
-  -- what it means that a certificate is due
-  record IsDue (h : Held) : Type 0 where
-    may : may_run (books m) h ≡ true
-    new : (not (is_executed m.executed h.digest) && may_run (books m) h) ≡ true
-    each : (w : Wanted) → Has (wants_of m.sequence.admission h) w → is_some (found (versions m.opening m.executed) w) ≡ true
-
-  due-is : (h : Held) → Has m.held h → is_due (books m) m.executed h ≡ true → IsDue h
-  due-is h held e =
-      let first : Bool = not (is_executed m.executed h.digest) && may_run (books m) h in
-      let origins : Bool = list_all (is_origin_done m.executed) h.cert.origins in
-      let makers : Bool = list_all (λ (w : Wanted). is_maker_done m.executed w.producer) (wants_of m.sequence.admission h) in
-      let three = and-first (first && origins) makers e in
-      let new = and-first first origins three in
-      let may = and-second (not (is_executed m.executed h.digest)) (may_run (books m) h) new in
-      record { may = may; new = new; each = wants-there h held may (and-second first origins three) (and-second (first && origins) makers e) }
-
-  pub due-have : (h : Held) → Has m.held h → is_due (books m) m.executed h ≡ true → HasItsObjects m h
-  unfolding ready present
-  due-have h held e =
-      let it = due-is h held e in
-      let os = all-there (found (versions m.opening m.executed)) (wants_of m.sequence.admission h) it.each in
-      let fit = none-unfit h held it.may os.0 os.1 in
-      record { objects = os.0; there = os.1; fit = fit; ready_if_new = ready-when h os.0 (not (is_executed m.executed h.digest) && may_run (books m) h) it.new (present (books m) m.executed h) os.1 fit }
-
-  each-left : (hs : List Held) → ((h : Held) → Has hs h → Has m.held h) → Each MissesNothing (map (left_as (books m) m.executed) (filter (is_due (books m) m.executed) hs))
-  each-left [] inside = tt
-  each-left (h ∷ hs) inside = go (is_due (books m) m.executed h) refl (each-left hs (λ k there. inside k (inr there)))
-    where
-      go : (b : Bool) → is_due (books m) m.executed h ≡ b → Each MissesNothing (map (left_as (books m) m.executed) (filter (is_due (books m) m.executed) hs)) → Each MissesNothing (map (left_as (books m) m.executed) (cond b (h ∷ filter (is_due (books m) m.executed) hs) (filter (is_due (books m) m.executed) hs)))
-      go true e rest = (none-missing (versions m.opening m.executed) (wants_of m.sequence.admission h) (due-is h (inside h (inl refl)) e).each, rest)
-      go false e rest = rest
-
-  pub none-absent : Each MissesNothing (left (books m) m.executed)
-  unfolding left
-  none-absent = each-left m.held (λ h there. there)
+  -- what is due has its objects
+  pub due-have : (h : Held) → Has m.held h → is_due (books m) m.executed h ≡ true → (objects : List Object) × (present (books m) m.executed h ≡ Some objects)
+  unfolding present
+  due-have h held e = all-there (found (versions m.opening m.executed)) (wants_of m.sequence.admission h)
+      (wants-there h held (due-may (books m) m.executed h e) (due-origins (books m) m.executed h e) (due-makers (books m) m.executed h e))

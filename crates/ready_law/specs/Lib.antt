@@ -1,3 +1,4 @@
 pub mod Shared
 pub mod Ready
-pub mod Left
+pub mod Complete
+pub mod Runs

@@ -1,17 +1,15 @@
--- Which held certificates have all that they want, and what fits them.
-use Rattle.std.specs.Prelude.{◌≡◌, ℕ, true, List, slice_get, Option, Some, None, is_some}
+-- What held certificates want is there, where its makers were executed, and it fits them.
+use Rattle.std.specs.Prelude.{◌≡◌, ℕ, true, List, slice_get, Option, Some, is_some}
 use Rattle.digest_core.specs.declared.Digest.{Digest}
 use Rattle.chain_types.specs.declared.objects.Object.{Object}
 use Rattle.chain_types.specs.declared.transactions.Input.{Input}
 use Rattle.member_types.specs.declared.answers.Held.{Held}
-use Rattle.member_types.specs.declared.answers.Left.{Left}
 use Rattle.schedule_text.specs.declared.words.Event.{Event}
-use Rattle.chain_spec.specs.Words.{Has, Each}
+use Rattle.chain_spec.specs.Words.{Has}
 use Rattle.chain_spec.specs.Keys.{is_shared_input, fits_input, fits}
-use Rattle.block_spec.specs.Execution.{execution}
 use Rattle.member_spec.specs.Versions.{versions}
 use Rattle.member_spec.specs.Admission.{is_admitted, joined_inputs, assigned_of}
-use Rattle.member_spec.specs.Rounds.{Wanted, wanted_by, found, present, may_run, is_maker_done, ready, ready_as, is_due, left}
+use Rattle.member_spec.specs.Rounds.{Wanted, wanted_by, found, present, may_run, is_maker_done}
 use Rattle.member_spec.specs.Member.{Member, books}
 use Rattle.world_spec.specs.Setting.{Setting}
 use Rattle.world_spec.specs.World.{Seat, member_in}
@@ -48,28 +46,3 @@ NoneIsUnfit = (s : Setting) (events : List Event) → IsHonestRun s events → A
     → (m : ℕ) (seat : Seat) → slice_get (world_after s events).seats m ≡ Some seat
     → (h : Held) → Has (member_in s seat).held h → may_run (books (member_in s seat)) h ≡ true
     → (objects : List Object) → present (books (member_in s seat)) (member_in s seat).executed h ≡ Some objects → fits h.cert.tx objects ≡ true
-
--- the objects that a held certificate wants are there, and fit its transaction; so it is ready if the keys that it would
--- write are new
-pub record HasItsObjects (m : Member) (h : Held) : Type 0 where
-  pub objects : List Object
-  pub there : present (books m) m.executed h ≡ Some objects
-  pub fit : fits h.cert.tx objects ≡ true
-  pub ready_if_new : ready (books m) m.executed h ≡ ready_as (books m) m.executed h (execution h.cert.tx objects)
-
--- None is absent, nor unfit, whose makers were executed: so it is of each held certificate that was not executed,
--- although all its origins and assigned writers were.
-abbrev pub DueHaveTheirObjects : Type 0
-DueHaveTheirObjects = (s : Setting) (events : List Event) → IsHonestRun s events → AreApart s.opening
-    → (m : ℕ) (seat : Seat) → slice_get (world_after s events).seats m ≡ Some seat
-    → (h : Held) → Has (member_in s seat).held h → is_due (books (member_in s seat)) (member_in s seat).executed h ≡ true
-    → HasItsObjects (member_in s seat) h
-
-abbrev pub MissesNothing : Left → Type 0
-MissesNothing x = x.key ≡ None
-
--- so what is left misses no version
-abbrev pub NothingLeftIsAbsent : Type 0
-NothingLeftIsAbsent = (s : Setting) (events : List Event) → IsHonestRun s events → AreApart s.opening
-    → (m : ℕ) (seat : Seat) → slice_get (world_after s events).seats m ≡ Some seat
-    → Each MissesNothing (left (books (member_in s seat)) (member_in s seat).executed)

@@ -1,9 +1,10 @@
-//! Which held certificates are ready, under the run assumptions: no held certificate is unfit, and none is absent whose
-//! makers were executed, shared inputs included.
+//! Which held certificates are ready, under the run assumptions: all whose inputs are there, and all whose origins and
+//! assigned writers were executed, shared inputs included. So no run leaves anything.
 #![tactic(auto)]
 
-ghost use Rattle.ready_law.specs.Left.{NothingIsLeft, RunsLeaveNothing, RunsRunOut};
-ghost use Rattle.ready_law.specs.Ready.{DueHaveTheirObjects, NoneIsUnfit, NothingLeftIsAbsent, SharedInputsArePresent, SharedInputsFit};
+ghost use Rattle.ready_law.specs.Complete.{DueIsReady, NextRoundTakesAll, NextRoundTakesDue, NothingClashes, PresentIsReady, WritesNewKeys};
+ghost use Rattle.ready_law.specs.Ready.{NoneIsUnfit, SharedInputsArePresent, SharedInputsFit};
+ghost use Rattle.ready_law.specs.Runs.{NoRunLeavesAnything, NothingIsLeft, NothingIsReadyBehindARun, RunsExecuteAll};
 ghost use Rattle.ready_law.specs.Shared.{VersionsAreSharedAlike};
 
 /// Under the run assumptions, all versions of one object in an epoch are shared since the same version, or none is, at
@@ -28,28 +29,57 @@ pub fn none_is_unfit()
     ensures { NoneIsUnfit }
 {}
 
-/// A held certificate that was not executed, although all its origins and assigned writers were, has its objects, which
-/// fit; so it is ready if the keys that it would write are new.
-pub fn due_have_their_objects()
-    ensures { DueHaveTheirObjects }
+/// Of a held certificate that was not executed, whose inputs are present, and that is admitted if it has a shared input,
+/// no written key is there already, and none is written twice.
+pub fn writes_new_keys()
+    ensures { WritesNewKeys }
 {}
 
-/// So what is left misses no version.
-pub fn nothing_left_is_absent()
-    ensures { NothingLeftIsAbsent }
+/// So it is ready: a certified transaction waits for its inputs and its place in the sequence, and for nothing else.
+pub fn present_is_ready()
+    ensures { PresentIsReady }
 {}
 
-/// Behind the rounds of a run no held certificate is ready.
-pub fn runs_run_out()
-    ensures { RunsRunOut }
+/// A held certificate that was not executed, although all its origins and assigned writers were, has all its inputs, and
+/// is ready.
+pub fn due_is_ready()
+    ensures { DueIsReady }
 {}
 
-/// A member that has run out has nothing left, if what is held would write new keys.
+/// No two certificates that have their inputs and their admission write one key, whether they were executed or not, so
+/// that none waits for another's round.
+pub fn nothing_clashes()
+    ensures { NothingClashes }
+{}
+
+/// What is ready is executed by the next round.
+pub fn next_round_takes_all()
+    ensures { NextRoundTakesAll }
+{}
+
+/// So is what is due: a transaction is executed one round behind the last of those that it comes from.
+pub fn next_round_takes_due()
+    ensures { NextRoundTakesDue }
+{}
+
+/// Behind the rounds of a run nothing is ready, whatever is held and was executed.
+pub fn nothing_is_ready_behind_a_run()
+    ensures { NothingIsReadyBehindARun }
+{}
+
+/// Under the run assumptions, a member at which nothing is ready has nothing left.
 pub fn nothing_is_left()
     ensures { NothingIsLeft }
 {}
 
-/// So what a run answers that it leaves misses no version; and where what is held would write new keys, it is empty.
-pub fn runs_leave_nothing()
-    ensures { RunsLeaveNothing }
+/// So no run leaves anything, at any member and moment: no answer of a run says that a version is absent, or that a
+/// certificate is unfit.
+pub fn no_run_leaves_anything()
+    ensures { NoRunLeavesAnything }
+{}
+
+/// A run executes every held certificate whose origins and assigned writers are executed by it, if it is admitted or has
+/// no shared input; so no certified transaction is stuck.
+pub fn runs_execute_all()
+    ensures { RunsExecuteAll }
 {}

@@ -8,8 +8,3 @@ pub mod Takers
 pub mod Executed
 pub mod Chains
 pub mod Moments
-pub mod Ready
-pub mod Ending
-pub mod Due
-pub mod Behind
-pub mod Running

@@ -1,4 +1,2 @@
 pub mod Chained
 pub mod Assigned
-pub mod Ready
-pub mod Left

@@ -1,5 +1,5 @@
-use Rattle.ready_law.proofs.Left.{nothing-left}
+use Rattle.ready_law.proofs.Due.{nothing-is-left}
 use Rattle.ready_law.proofs.nothing_is_left.Goals as goal
 
 pub returns : goal.returns
-returns c = nothing-left
+returns c = nothing-is-left

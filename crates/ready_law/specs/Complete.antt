@@ -1,0 +1,72 @@
+-- A held certificate whose inputs are present, and that is admitted if it has a shared input, is ready: they fit, and no
+-- key that it writes is there already. So is each that is due, and the next round executes it. Source: Sui Lutris
+-- (execution of certificates); this profile (rounds).
+use Rattle.std.specs.Prelude.{◌≡◌, ℕ, true, false, List, ◌++◌, slice_get, Some}
+use Rattle.chain_types.specs.declared.objects.ObjectKey.{ObjectKey}
+use Rattle.chain_types.specs.declared.objects.Object.{Object}
+use Rattle.member_types.specs.declared.answers.Held.{Held}
+use Rattle.schedule_text.specs.declared.words.Event.{Event}
+use Rattle.chain_spec.specs.Words.{Has}
+use Rattle.block_spec.specs.Execution.{execution, written_keys}
+use Rattle.member_spec.specs.Versions.{Execution, versions, is_executed}
+use Rattle.member_spec.specs.Rounds.{present, may_run, writes_new, executes_as, ready, round_of, is_due}
+use Rattle.member_spec.specs.Member.{Member, books}
+use Rattle.world_spec.specs.Setting.{Setting}
+use Rattle.world_spec.specs.World.{Seat, member_in}
+use Rattle.world_spec.specs.Run.{world_after}
+use Rattle.world_spec.specs.Assumptions.{IsHonestRun}
+use Rattle.chain_law.specs.Orderly.{AreApart}
+
+-- the member holds the certificate, its inputs are these, and it is admitted if it has a shared input
+pub record MayExecute (m : Member) (h : Held) (objects : List Object) : Type 0 where
+  pub is_held : Has m.held h
+  pub may : may_run (books m) h ≡ true
+  pub there : present (books m) m.executed h ≡ Some objects
+
+-- where it was not executed, none of its keys is there already, and none is written twice
+abbrev pub WritesNewKeys : Type 0
+WritesNewKeys = (s : Setting) (events : List Event) → IsHonestRun s events → AreApart s.opening
+    → (m : ℕ) (seat : Seat) → slice_get (world_after s events).seats m ≡ Some seat
+    → (h : Held) (objects : List Object) → MayExecute (member_in s seat) h objects → is_executed (member_in s seat).executed h.digest ≡ false
+    → writes_new (versions (member_in s seat).opening (member_in s seat).executed) (written_keys (execution h.cert.tx objects)) ≡ true
+
+-- so it is ready
+abbrev pub PresentIsReady : Type 0
+PresentIsReady = (s : Setting) (events : List Event) → IsHonestRun s events → AreApart s.opening
+    → (m : ℕ) (seat : Seat) → slice_get (world_after s events).seats m ≡ Some seat
+    → (h : Held) (objects : List Object) → MayExecute (member_in s seat) h objects → is_executed (member_in s seat).executed h.digest ≡ false
+    → ready (books (member_in s seat)) (member_in s seat).executed h ≡ Some (executes_as h (execution h.cert.tx objects))
+
+-- its inputs are all there, and it is ready on them
+pub record IsReady (m : Member) (h : Held) : Type 0 where
+  pub objects : List Object
+  pub there : present (books m) m.executed h ≡ Some objects
+  pub ready_is : ready (books m) m.executed h ≡ Some (executes_as h (execution h.cert.tx objects))
+
+-- so is each that is due: not executed, although all its origins and assigned writers were
+abbrev pub DueIsReady : Type 0
+DueIsReady = (s : Setting) (events : List Event) → IsHonestRun s events → AreApart s.opening
+    → (m : ℕ) (seat : Seat) → slice_get (world_after s events).seats m ≡ Some seat
+    → (h : Held) → Has (member_in s seat).held h → is_due (books (member_in s seat)) (member_in s seat).executed h ≡ true
+    → IsReady (member_in s seat) h
+
+-- no two of them write one key, so that none keeps another out of a round
+abbrev pub NothingClashes : Type 0
+NothingClashes = (s : Setting) (events : List Event) → IsHonestRun s events → AreApart s.opening
+    → (m : ℕ) (seat : Seat) → slice_get (world_after s events).seats m ≡ Some seat
+    → (h k : Held) (objects others : List Object) → MayExecute (member_in s seat) h objects → MayExecute (member_in s seat) k others
+    → (key : ObjectKey) → Has (written_keys (execution h.cert.tx objects)) key → Has (written_keys (execution k.cert.tx others)) key → h.digest ≡ k.digest
+
+-- so the next round executes what is ready
+abbrev pub NextRoundTakesAll : Type 0
+NextRoundTakesAll = (s : Setting) (events : List Event) → IsHonestRun s events → AreApart s.opening
+    → (m : ℕ) (seat : Seat) → slice_get (world_after s events).seats m ≡ Some seat
+    → (h : Held) (x : Execution) → Has (member_in s seat).held h → ready (books (member_in s seat)) (member_in s seat).executed h ≡ Some x
+    → is_executed ((member_in s seat).executed ++ round_of (books (member_in s seat)) (member_in s seat).executed) h.digest ≡ true
+
+-- and what is due
+abbrev pub NextRoundTakesDue : Type 0
+NextRoundTakesDue = (s : Setting) (events : List Event) → IsHonestRun s events → AreApart s.opening
+    → (m : ℕ) (seat : Seat) → slice_get (world_after s events).seats m ≡ Some seat
+    → (h : Held) → Has (member_in s seat).held h → is_due (books (member_in s seat)) (member_in s seat).executed h ≡ true
+    → is_executed ((member_in s seat).executed ++ round_of (books (member_in s seat)) (member_in s seat).executed) h.digest ≡ true

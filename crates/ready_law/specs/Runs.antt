@@ -1,0 +1,50 @@
+-- What runs do: behind a run nothing is ready, and nothing is left. Source: this profile (rounds); Sui Lutris (what was
+-- certified can be executed wherever what it needs was).
+use Rattle.std.specs.Prelude.{◌≡◌, ℕ, true, List, [], ◌++◌, slice_get, Some, None, Ok}
+use Rattle.std.specs.List.{list_all}
+use Rattle.member_types.specs.declared.answers.Held.{Held}
+use Rattle.member_types.specs.declared.answers.Ran.{Ran}
+use Rattle.schedule_text.specs.declared.words.Event.{Event}
+use Rattle.chain_spec.specs.Words.{Has}
+use Rattle.member_spec.specs.Versions.{Execution, is_executed}
+use Rattle.member_spec.specs.Rounds.{Books, Wanted, wants_of, may_run, ready, rounds, is_maker_done, is_origin_done, left}
+use Rattle.member_spec.specs.Member.{Member, books, with_rounds}
+use Rattle.member_spec.specs.Calls.{run_answer}
+use Rattle.world_spec.specs.Setting.{Setting}
+use Rattle.world_spec.specs.World.{Seat, member_in}
+use Rattle.world_spec.specs.Run.{world_after}
+use Rattle.world_spec.specs.Assumptions.{IsHonestRun}
+use Rattle.chain_law.specs.Orderly.{AreApart}
+
+-- no held certificate is ready behind these executions
+abbrev pub IsRunOut : Books → List Execution → Type 0
+IsRunOut b executed = (h : Held) → Has b.held h → ready b executed h ≡ None
+
+-- so it is behind the rounds of a run, whatever is held and was executed
+abbrev pub NothingIsReadyBehindARun : Type 0
+NothingIsReadyBehindARun = (b : Books) (executed : List Execution) → IsRunOut b (executed ++ rounds b executed)
+
+-- a member has nothing left where nothing is ready
+abbrev pub NothingIsLeft : Type 0
+NothingIsLeft = (s : Setting) (events : List Event) → IsHonestRun s events → AreApart s.opening
+    → (m : ℕ) (seat : Seat) → slice_get (world_after s events).seats m ≡ Some seat
+    → IsRunOut (books (member_in s seat)) (member_in s seat).executed → left (books (member_in s seat)) (member_in s seat).executed ≡ []
+
+-- so no run leaves anything, at any member and moment
+abbrev pub NoRunLeavesAnything : Type 0
+NoRunLeavesAnything = (s : Setting) (events : List Event) → IsHonestRun s events → AreApart s.opening
+    → (m : ℕ) (seat : Seat) → slice_get (world_after s events).seats m ≡ Some seat
+    → (ran : Ran) → run_answer s.rules (member_in s seat) ≡ Ok ran → ran.left ≡ []
+
+-- the member admitted the certificate, if it has a shared input, and executed all its origins and assigned writers
+pub record HasNothingToWaitFor (m : Member) (h : Held) : Type 0 where
+  pub may : may_run (books m) h ≡ true
+  pub origins : list_all (is_origin_done m.executed) h.cert.origins ≡ true
+  pub writers : list_all (λ (w : Wanted). is_maker_done m.executed w.producer) (wants_of m.sequence.admission h) ≡ true
+
+-- and a run executes each held certificate that waits for nothing behind it
+abbrev pub RunsExecuteAll : Type 0
+RunsExecuteAll = (s : Setting) (events : List Event) → IsHonestRun s events → AreApart s.opening
+    → (m : ℕ) (seat : Seat) → slice_get (world_after s events).seats m ≡ Some seat
+    → (ran : Ran) → run_answer s.rules (member_in s seat) ≡ Ok ran
+    → (h : Held) → Has (member_in s seat).held h → HasNothingToWaitFor (with_rounds (member_in s seat)) h → is_executed (with_rounds (member_in s seat)).executed h.digest ≡ true
