@@ -1,0 +1,4 @@
+pub mod Low
+pub mod Natives
+pub mod Commands
+pub mod Written
