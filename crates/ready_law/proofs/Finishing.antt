@@ -1,7 +1,7 @@
 -- A run executes all that was admitted, one behind the other: each waits for admitted ones before it. So it builds the
 -- checkpoint of each cut.
 use Rattle.std.proofs.Common.{inl, inr, refl, sym, subst, ◌∙◌, append_assoc, append-nil}
-use Rattle.std.specs.Prelude.{◌≡◌, ◌⊎◌, ℕ, Bool, true, false, not, ◌||◌, List, [], ◌∷◌, ◌++◌, map, flat_map, slice_get, Option, Some, None, option_map, Ok}
+use Rattle.std.specs.Prelude.{◌≡◌, ◌⊎◌, ℕ, Bool, true, false, not, ◌||◌, List, [], ◌∷◌, ◌++◌, map, flat_map, slice_get, Option, Some, None, option_map, Ok, nat_le, Result, Err}
 use Rattle.digest_core.specs.declared.Digest.{Digest}
 use Rattle.chain_types.specs.declared.objects.ObjectId.{ObjectId}
 use Rattle.chain_types.specs.declared.objects.Object.{Object}
@@ -11,16 +11,18 @@ use Rattle.chain_types.specs.Equal.{digest_eq, id_eq}
 use Rattle.chain_messages.specs.declared.messages.Certificate.{Certificate}
 use Rattle.member_types.specs.declared.answers.Held.{Held}
 use Rattle.member_types.specs.declared.answers.Ran.{Ran}
+use Rattle.member_types.specs.declared.refusals.TurnRefusal.{TurnRefusal}
+use Rattle.member_types.specs.declared.refusals.TurnRefusal.TheVariants as no_turn
 use Rattle.schedule_text.specs.declared.words.Event.{Event}
-use Rattle.chain_spec.specs.Words.{Has, Each, Along, first_some, first_of, where_true, last_where}
+use Rattle.chain_spec.specs.Words.{Has, Each, Along, first_some, first_of, where_true, last_where, unless_refused}
 use Rattle.chain_spec.specs.Tests.{origins_eq}
 use Rattle.chain_spec.specs.Keys.{objects_of, has_shared_input}
 use Rattle.member_spec.specs.Versions.{Execution, is_executed}
 use Rattle.member_spec.specs.Admission.{Admitted, Standing, is_admitted, writes, cert_of, joined_inputs, begins, beginning, beginning_by, standing_after, standing_or, current, assigned_of}
 use Rattle.member_spec.specs.Rounds.{Wanted, wanted_by, wants_of, is_maker_done, is_origin_done}
 use Rattle.member_spec.specs.Checkpoints.{is_done}
-use Rattle.member_spec.specs.Member.{Member, with_rounds}
-use Rattle.member_spec.specs.Calls.{run_answer}
+use Rattle.member_spec.specs.Member.{Member, with_rounds, Fork, fork_of}
+use Rattle.member_spec.specs.Calls.{run_answer, record_limit, not_done, reverted, turn_answer}
 use Rattle.world_spec.specs.Setting.{Setting}
 use Rattle.world_spec.specs.World.{Seat, member_in}
 use Rattle.world_spec.specs.Run.{world_after}
@@ -210,3 +212,20 @@ module _ (s : Setting) (events : List Event) (honest : IsHonestRun s events) (di
   runs-build-all = each-all (IsBuilt (with_rounds m)) m.sequence.cuts (λ c h. has-all (is_done m.held executed) c.txs (λ a k.
       let front = all-cut s events n seat at in
       admitted-done a (subst (λ (zs : List Admitted). Has zs a) (sym front.1) (has-left (flat_map admitted_in m.sequence.cuts) front.0 a (flat-has admitted_in m.sequence.cuts c a h k)))))
+
+  -- behind the run no admitted certificate keeps the member in its epoch
+  none-waits : (txs : List Admitted) → ((a : Admitted) → Has txs a → Has admitted a) → first_of (not_done (with_rounds m)) txs ≡ None
+  none-waits [] inside = refl
+  none-waits (a ∷ txs) inside = rw (admitted-done a (inside a (inl refl)), none-waits txs (λ b h. inside b (inr h))) refl
+
+  pub no-turn-waits : (tx : Digest) → turn_answer s.rules (with_rounds m) ≡ Err (no_turn.Waits tx) → ⊥
+  unfolding turn_answer
+  no-turn-waits tx = go (fork_of (with_rounds m)) (nat_le record_limit m.records) m.sequence.ended (first_of (not_done (with_rounds m)) admitted) (none-waits admitted (λ a h. h))
+    where
+      go : (fork : Option Fork) (is_full ended : Bool) (waits : Option TurnRefusal) → waits ≡ None
+          → unless_refused (first_some (option_map (λ (f : Fork). no_turn.Halted f.first f.second) fork ∷ where_true is_full no_turn.Full ∷ where_true (not ended) no_turn.NotEnded ∷ waits ∷ [])) (reverted (with_rounds m)) ≡ Err (no_turn.Waits tx) → ⊥
+      go (Some fork) is_full ended waits none e = cc
+      go None true ended waits none e = cc
+      go None false false waits none e = cc
+      go None false true (Some refusal) none e = absurd (cc)
+      go None false true None none e = cc

@@ -4,7 +4,7 @@
 
 ghost use Rattle.ready_law.specs.Complete.{DueIsReady, NextRoundTakesAll, NextRoundTakesDue, NothingClashes, PresentIsReady, WritesNewKeys};
 ghost use Rattle.ready_law.specs.Ready.{NoneIsUnfit, SharedInputsArePresent, SharedInputsFit};
-ghost use Rattle.ready_law.specs.Runs.{NoRunLeavesAnything, NothingIsLeft, NothingIsReadyBehindARun, RunsBuildAll, RunsExecuteAdmitted, RunsExecuteAll};
+ghost use Rattle.ready_law.specs.Runs.{NoRunLeavesAnything, NoTurnWaitsBehindARun, NothingIsLeft, NothingIsReadyBehindARun, RunsBuildAll, RunsExecuteAdmitted, RunsExecuteAll};
 ghost use Rattle.ready_law.specs.Shared.{VersionsAreSharedAlike};
 
 /// Under the run assumptions, all versions of one object in an epoch are shared since the same version, or none is, at
@@ -93,4 +93,9 @@ pub fn runs_execute_admitted()
 /// And it builds the checkpoint of every cut that the member has seen.
 pub fn runs_build_all()
     ensures { RunsBuildAll }
+{}
+
+/// So no turn is refused behind a run for a certificate that waits: of what a member admitted nothing keeps it in its epoch.
+pub fn no_turn_waits_behind_a_run()
+    ensures { NoTurnWaitsBehindARun }
 {}
