@@ -1,5 +1,6 @@
 //! Which held certificates are ready, under the run assumptions: all whose inputs are there, and all whose origins and
-//! assigned writers were executed, shared inputs included. So no run leaves anything.
+//! assigned writers were executed, shared inputs included. So no run leaves anything, and each executes all that was
+//! admitted.
 #![tactic(auto)]
 
 ghost use Rattle.ready_law.specs.Complete.{DueIsReady, NextRoundTakesAll, NextRoundTakesDue, NothingClashes, PresentIsReady, WritesNewKeys};
