@@ -26,7 +26,7 @@ use Rattle.current_law.proofs.Known.{opens-apart}
 use Rattle.current_law.proofs.Thread.{effects-of-fold}
 
 module _ (s : Setting) (events : List Event) (n : ℕ) (seat : Seat) (at : slice_get (world_after s events).seats n ≡ Some seat) where
-  all-cut : IsFront (flat_map admitted_in (member_in s seat).sequence.cuts) (member_in s seat).sequence.admission.admitted
+  pub all-cut : IsFront (flat_map admitted_in (member_in s seat).sequence.cuts) (member_in s seat).sequence.admission.admitted
   all-cut =
       let taken = follows s events n seat at in
       subst (λ (q : Sequence). IsFront (flat_map admitted_in q.cuts) q.admission.admitted) (sym taken.gives)

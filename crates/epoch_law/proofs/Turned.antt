@@ -8,7 +8,6 @@ use Rattle.chain_types.specs.declared.objects.Object.{Object}
 use Rattle.chain_types.specs.declared.transactions.Transaction.{Transaction}
 use Rattle.chain_messages.specs.declared.messages.Certificate.{Certificate}
 use Rattle.chain_messages.specs.declared.messages.Entry.{Entry}
-use Rattle.chain_messages.specs.Messages as messages
 use Rattle.journal_core.specs.declared.records.Record.{Record}
 use Rattle.journal_core.specs.declared.records.Record.TheVariants as record_as
 use Rattle.member_types.specs.declared.refusals.TurnRefusal.{TurnRefusal}
@@ -41,12 +40,11 @@ use Rattle.current_law.specs.Orderly.{IsExecutedFront, OpensApart}
 use Rattle.current_law.specs.Thread.{transaction_of}
 use Rattle.current_law.specs.Checkpointed.{admitted_in, IsBuilt}
 use Rattle.current_law.proofs.Lists.{each-all}
-use Rattle.current_law.proofs.Cuts.{cut-seen}
 use Rattle.current_law.proofs.Executed.{admitted-given}
 use Rattle.current_law.proofs.Ordered.{steps-orderly}
 use Rattle.current_law.proofs.Known.{opens-apart}
 use Rattle.current_law.proofs.Thread.{map-twice}
-use Rattle.current_law.proofs.Checkpointed.{built-front, checkpoints-of-fold}
+use Rattle.current_law.proofs.Checkpointed.{all-cut, built-front, checkpoints-of-fold}
 use Rattle.current_law.proofs.Turning.{turns-to-fold}
 use Rattle.epoch_law.specs.Past.{past_at}
 use Rattle.epoch_law.specs.Opened.{GasHolds, HasEffects, IsOver, IsPast, OpensAsLeft}
@@ -56,7 +54,7 @@ use Rattle.epoch_law.proofs.Following.{steps-follow}
 
 -- ---- lists
 
-has-all : {A : Type 0} (test : A → Bool) (xs : List A) → ((x : A) → Has xs x → test x ≡ true) → list_all test xs ≡ true
+pub has-all : {A : Type 0} (test : A → Bool) (xs : List A) → ((x : A) → Has xs x → test x ≡ true) → list_all test xs ≡ true
 has-all test [] each = refl
 has-all test (x ∷ xs) each = rw (each x (inl refl)) (has-all test xs (λ y h. each y (inr h)))
 
@@ -147,11 +145,6 @@ module _ (s : Setting) (events : List Event) (n : ℕ) (seat : Seat) (at : slice
   abbrev qs : List (List Entry)
   qs = (world_after s events).sequences
 
-  all-cut : IsFront (flat_map admitted_in m.sequence.cuts) m.sequence.admission.admitted
-  all-cut =
-      let taken = follows s events n seat at in
-      subst (λ (q : Sequence). IsFront (flat_map admitted_in q.cuts) q.admission.admitted) (sym taken.gives) (cut-seen s.rules m.opening m.epoch (map messages.entry.spell taken.front))
-
   abbrev front : List Admitted
   front = flat_map admitted_in m.sequence.cuts
 
@@ -168,7 +161,7 @@ module _ (s : Setting) (events : List Event) (n : ℕ) (seat : Seat) (at : slice
   txs-are = map-twice (step_of m) tx_of front ∙ sym (txs-cut m.sequence.cuts)
 
   done-front : CanTurn m → IsExecutedFront m front
-  done-front can = built-front s events n seat at m.sequence.cuts ([], sym (append-nil m.sequence.cuts)) (all-built m can all-cut)
+  done-front can = built-front s events n seat at m.sequence.cuts ([], sym (append-nil m.sequence.cuts)) (all-built m can (all-cut s events n seat at))
 
   all-effects : (xs : List Step) → Each HasEffects (map effects_in xs)
   all-effects [] = tt
@@ -191,10 +184,10 @@ module _ (s : Setting) (events : List Event) (n : ℕ) (seat : Seat) (at : slice
   turns-left can left =
       let whole = whole-sequence s qs m (follows s events n seat at) can.ended in
       record {
-        opening = next-opening s qs m (turned m).opening left.opening whole (turns-to-fold s events n seat at honest distinct (all-built m can all-cut)) ∙ ap (opening_at s qs) (next-epoch m.epoch);
+        opening = next-opening s qs m (turned m).opening left.opening whole (turns-to-fold s events n seat at honest distinct (all-built m can (all-cut s events n seat at))) ∙ ap (opening_at s qs) (next-epoch m.epoch);
         past = below-next (IsPast s qs) m.epoch left.past (past-now s qs m left.opening whole (is-over can));
-        checkpoints = built-past s qs m left.opening whole left.checkpoints (all-built m can all-cut)
-            (checkpoints-of-fold s events n seat at honest distinct m.sequence.cuts ([], sym (append-nil m.sequence.cuts)) (all-built m can all-cut)) ∙ ap (past_at s qs) (next-epoch m.epoch);
+        checkpoints = built-past s qs m left.opening whole left.checkpoints (all-built m can (all-cut s events n seat at))
+            (checkpoints-of-fold s events n seat at honest distinct m.sequence.cuts ([], sym (append-nil m.sequence.cuts)) (all-built m can (all-cut s events n seat at))) ∙ ap (past_at s qs) (next-epoch m.epoch);
       }
 
   pub turn-left : (x : Record) → due s.rules m turns ≡ Some x → OpensAsLeft s qs m → OpensAsLeft s qs (after s.rules m x)

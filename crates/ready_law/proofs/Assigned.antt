@@ -55,11 +55,11 @@ use Rattle.ready_law.proofs.Undropped.{IsKept, none-dropped}
 
 -- ---- lists
 
-along-both : {A : Type 0} (P Q : List A → A → Type 0) (before xs : List A) → Along P before xs → Along Q before xs → Along (λ (b : List A) (x : A). P b x × Q b x) before xs
+pub along-both : {A : Type 0} (P Q : List A → A → Type 0) (before xs : List A) → Along P before xs → Along Q before xs → Along (λ (b : List A) (x : A). P b x × Q b x) before xs
 along-both P Q before [] p q = tt
 along-both P Q before (x ∷ xs) p q = ((p.0, q.0), along-both P Q (before ++ x ∷ []) xs p.1 q.1)
 
-last-has : {A : Type 0} (test : A → Bool) (xs : List A) (y : A) → last_where test xs ≡ Some y → Has xs y × (test y ≡ true)
+pub last-has : {A : Type 0} (test : A → Bool) (xs : List A) (y : A) → last_where test xs ≡ Some y → Has xs y × (test y ≡ true)
 last-has test [] y e = absurd (cc)
 last-has {A = A} test (x ∷ xs) y e = go (last_where test xs) refl (test x) refl e (last-has test xs y)
   where

@@ -180,7 +180,7 @@ abbrev idle_count : List Execution → List Held → ℕ
 idle_count executed [] = 0
 idle_count executed (h ∷ hs) = unless (is_executed executed h.digest) + idle_count executed hs
 
-some-more : {A : Type 0} (test : A → Bool) (xs ys : List A) → is_some (find test xs) ≡ true → is_some (find test (xs ++ ys)) ≡ true
+pub some-more : {A : Type 0} (test : A → Bool) (xs ys : List A) → is_some (find test xs) ≡ true → is_some (find test (xs ++ ys)) ≡ true
 some-more test [] ys e = absurd (cc)
 some-more test (x ∷ xs) ys e = go (test x) e (some-more test xs ys)
   where

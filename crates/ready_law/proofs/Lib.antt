@@ -8,3 +8,5 @@ pub mod Ending
 pub mod Due
 pub mod Behind
 pub mod Running
+pub mod Stock
+pub mod Finishing

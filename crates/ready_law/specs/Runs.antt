@@ -1,20 +1,24 @@
 -- What runs do: behind a run nothing is ready, and nothing is left. Source: this profile (rounds); Sui Lutris (what was
 -- certified can be executed wherever what it needs was).
-use Rattle.std.specs.Prelude.{◌≡◌, ℕ, true, List, [], ◌++◌, slice_get, Some, None, Ok}
+use Rattle.std.specs.Prelude.{◌≡◌, ℕ, true, List, [], ◌++◌, slice_get, Some, None, Ok, Err}
 use Rattle.std.specs.List.{list_all}
+use Rattle.digest_core.specs.declared.Digest.{Digest}
 use Rattle.member_types.specs.declared.answers.Held.{Held}
 use Rattle.member_types.specs.declared.answers.Ran.{Ran}
+use Rattle.member_types.specs.declared.refusals.TurnRefusal.TheVariants as no_turn
 use Rattle.schedule_text.specs.declared.words.Event.{Event}
-use Rattle.chain_spec.specs.Words.{Has}
+use Rattle.chain_spec.specs.Words.{Has, Each}
 use Rattle.member_spec.specs.Versions.{Execution, is_executed}
+use Rattle.member_spec.specs.Admission.{Admitted}
 use Rattle.member_spec.specs.Rounds.{Books, Wanted, wants_of, may_run, ready, rounds, is_maker_done, is_origin_done, left}
 use Rattle.member_spec.specs.Member.{Member, books, with_rounds}
-use Rattle.member_spec.specs.Calls.{run_answer}
+use Rattle.member_spec.specs.Calls.{run_answer, turn_answer}
 use Rattle.world_spec.specs.Setting.{Setting}
 use Rattle.world_spec.specs.World.{Seat, member_in}
 use Rattle.world_spec.specs.Run.{world_after}
 use Rattle.world_spec.specs.Assumptions.{IsHonestRun}
 use Rattle.chain_law.specs.Orderly.{AreApart}
+use Rattle.current_law.specs.Checkpointed.{IsBuilt}
 
 -- no held certificate is ready behind these executions
 abbrev pub IsRunOut : Books → List Execution → Type 0
@@ -48,3 +52,24 @@ RunsExecuteAll = (s : Setting) (events : List Event) → IsHonestRun s events �
     → (m : ℕ) (seat : Seat) → slice_get (world_after s events).seats m ≡ Some seat
     → (ran : Ran) → run_answer s.rules (member_in s seat) ≡ Ok ran
     → (h : Held) → Has (member_in s seat).held h → HasNothingToWaitFor (with_rounds (member_in s seat)) h → is_executed (with_rounds (member_in s seat)).executed h.digest ≡ true
+
+-- so it executes all that the member admitted
+abbrev pub RunsExecuteAdmitted : Type 0
+RunsExecuteAdmitted = (s : Setting) (events : List Event) → IsHonestRun s events → AreApart s.opening
+    → (m : ℕ) (seat : Seat) → slice_get (world_after s events).seats m ≡ Some seat
+    → (ran : Ran) → run_answer s.rules (member_in s seat) ≡ Ok ran
+    → (a : Admitted) → Has (member_in s seat).sequence.admission.admitted a → is_executed (with_rounds (member_in s seat)).executed a.digest ≡ true
+
+-- and builds the checkpoint of every cut that the member has seen
+abbrev pub RunsBuildAll : Type 0
+RunsBuildAll = (s : Setting) (events : List Event) → IsHonestRun s events → AreApart s.opening
+    → (m : ℕ) (seat : Seat) → slice_get (world_after s events).seats m ≡ Some seat
+    → (ran : Ran) → run_answer s.rules (member_in s seat) ≡ Ok ran
+    → Each (IsBuilt (with_rounds (member_in s seat))) (member_in s seat).sequence.cuts
+
+-- and no turn is refused behind it for a certificate that waits
+abbrev pub NoTurnWaitsBehindARun : Type 0
+NoTurnWaitsBehindARun = (s : Setting) (events : List Event) → IsHonestRun s events → AreApart s.opening
+    → (m : ℕ) (seat : Seat) → slice_get (world_after s events).seats m ≡ Some seat
+    → (ran : Ran) → run_answer s.rules (member_in s seat) ≡ Ok ran
+    → (tx : Digest) → turn_answer s.rules (with_rounds (member_in s seat)) ≡ Err (no_turn.Waits tx) → ⊥

@@ -1,10 +1,11 @@
 //! Which held certificates are ready, under the run assumptions: all whose inputs are there, and all whose origins and
-//! assigned writers were executed, shared inputs included. So no run leaves anything.
+//! assigned writers were executed, shared inputs included. So no run leaves anything, and each executes all that was
+//! admitted.
 #![tactic(auto)]
 
 ghost use Rattle.ready_law.specs.Complete.{DueIsReady, NextRoundTakesAll, NextRoundTakesDue, NothingClashes, PresentIsReady, WritesNewKeys};
 ghost use Rattle.ready_law.specs.Ready.{NoneIsUnfit, SharedInputsArePresent, SharedInputsFit};
-ghost use Rattle.ready_law.specs.Runs.{NoRunLeavesAnything, NothingIsLeft, NothingIsReadyBehindARun, RunsExecuteAll};
+ghost use Rattle.ready_law.specs.Runs.{NoRunLeavesAnything, NoTurnWaitsBehindARun, NothingIsLeft, NothingIsReadyBehindARun, RunsBuildAll, RunsExecuteAdmitted, RunsExecuteAll};
 ghost use Rattle.ready_law.specs.Shared.{VersionsAreSharedAlike};
 
 /// Under the run assumptions, all versions of one object in an epoch are shared since the same version, or none is, at
@@ -82,4 +83,20 @@ pub fn no_run_leaves_anything()
 /// no shared input; so no certified transaction is stuck.
 pub fn runs_execute_all()
     ensures { RunsExecuteAll }
+{}
+
+/// So a run executes all that the member admitted: whoever sees his transaction admitted has its effects behind the next
+/// run of any honest member that has seen as much of the sequence.
+pub fn runs_execute_admitted()
+    ensures { RunsExecuteAdmitted }
+{}
+
+/// And it builds the checkpoint of every cut that the member has seen.
+pub fn runs_build_all()
+    ensures { RunsBuildAll }
+{}
+
+/// So no turn is refused behind a run for a certificate that waits: of what a member admitted nothing keeps it in its epoch.
+pub fn no_turn_waits_behind_a_run()
+    ensures { NoTurnWaitsBehindARun }
 {}
