@@ -1,0 +1,213 @@
+//! Requests to a member that is up.
+
+ghost use Rattle.std.specs.Prelude.{◌≡◌, ◌<◌, ◌≤◌, ◌^◌, IfOk, IsErrOf, OnOk, length, slice_get, true};
+ghost use Rattle.outside.specs.Causes.{Rose};
+ghost use Rattle.outside.specs.Lists.{journal_of};
+ghost use Rattle.member_spec.specs.Calls.{due, holds, votes};
+ghost use Rattle.validator_core.specs.Seats.{rules_of_seat};
+ghost use Rattle.world_scene.specs.Posts.{seat_behind};
+ghost use Rattle.world_seats.specs.declared.reply.SeatFault.TheVariants as faults;
+ghost use Rattle.world_seats.specs.Replies.{AddsBytes, Leaves, Says, SaysHold, SaysVote, call_of, hold_fault, spelled_due, vote_fault};
+
+use crate::reply::SeatFault;
+use outside::{Keeper, MemKeeper, OutFault};
+use quorum_core::Sealer;
+use std::alloc::Global;
+use validator_core::{HoldRefusal, Validator, VoteRefusal, Voted};
+use wire_bcs::{OutOfMemory, Seq};
+
+/// A request to a member.
+#[derive(Clone, Copy)]
+pub(crate) enum Request<'a> {
+    /// For its vote for the transaction that the bytes spell.
+    Vote(&'a [u8]),
+    /// To hold the certificate that the bytes spell.
+    Hold(&'a [u8]),
+}
+
+/// The answer to a request.
+#[derive(Drop)]
+pub(crate) enum Answer {
+    Vote(Result<Voted, VoteRefusal>),
+    Hold(Result<bool, HoldRefusal>),
+}
+
+/// The fault behind an answer; none where it is one.
+fn vote_fault(answer: &Result<Voted, VoteRefusal>) -> Option<SeatFault>
+    ensures { result ≡ vote_fault answer.now }
+{
+    match answer {
+        Err(VoteRefusal::KeepFault) => Some(SeatFault::KeepFault),
+        Err(VoteRefusal::OutOfMemory) => Some(SeatFault::OutOfMemory),
+        Ok(_) => None,
+        Err(
+            VoteRefusal::Down
+            | VoteRefusal::Halted { .. }
+            | VoteRefusal::Full
+            | VoteRefusal::Malformed(_)
+            | VoteRefusal::WrongEpoch { .. }
+            | VoteRefusal::Closed
+            | VoteRefusal::Invalid(_)
+            | VoteRefusal::Unsealed
+            | VoteRefusal::Absent(_)
+            | VoteRefusal::Consumed { .. }
+            | VoteRefusal::WrongDigest(_)
+            | VoteRefusal::WrongOwner(_)
+            | VoteRefusal::WrongKind(_)
+            | VoteRefusal::PoorGas { .. }
+            | VoteRefusal::Locked { .. },
+        ) => None,
+    }
+}
+
+/// Asks a member that is up for its vote.
+fn ask_vote<D: Keeper, S: Sealer>(
+    validator: &mut Validator,
+    keeper: &mut D,
+    sealer: &S,
+    bytes: &[u8],
+) -> Result<Result<Voted, VoteRefusal>, SeatFault>
+    requires known { validator.old.member < D.width keeper.old }
+    requires up { validator.old.up ≡ true }
+    ensures answer { IfOk result (SaysVote (rules_of_seat validator.old (S.accepts sealer.now)) (S.accepts sealer.now) validator.old.member bytes.now validator.old.state) }
+    ensures state { OnOk result (validator.new ≡ seat_behind (rules_of_seat validator.old (S.accepts sealer.now)) (votes bytes.now) validator.old) }
+    ensures kept { Leaves (D.lists keeper.old) (D.lists keeper.new) validator.old.member (due (rules_of_seat validator.old (S.accepts sealer.now)) validator.old.state (votes bytes.now)) result }
+    ensures width { D.width keeper.new ≡ D.width keeper.old }
+    ensures later { D.failed keeper.old ≤ D.failed keeper.new }
+    ensures fault { IsErrOf result faults.KeepFault → Rose (D.failed keeper.old) (D.failed keeper.new) }
+{
+    let answer = validator.vote(keeper, sealer, bytes);
+    match vote_fault(&answer) {
+        Some(fault) => Err(fault),
+        None => Ok(answer),
+    }
+}
+
+/// The fault behind an answer; none where it is one.
+fn hold_fault(answer: &Result<bool, HoldRefusal>) -> Option<SeatFault>
+    ensures { result ≡ hold_fault answer.now }
+{
+    match answer {
+        Err(HoldRefusal::KeepFault) => Some(SeatFault::KeepFault),
+        Err(HoldRefusal::OutOfMemory) => Some(SeatFault::OutOfMemory),
+        Ok(_) => None,
+        Err(
+            HoldRefusal::Down
+            | HoldRefusal::Halted { .. }
+            | HoldRefusal::Full
+            | HoldRefusal::Malformed(_)
+            | HoldRefusal::WrongEpoch { .. }
+            | HoldRefusal::Closed
+            | HoldRefusal::Cert(_)
+            | HoldRefusal::Fork { .. },
+        ) => None,
+    }
+}
+
+/// Hands a certificate to a member that is up.
+fn ask_hold<D: Keeper, S: Sealer>(
+    validator: &mut Validator,
+    keeper: &mut D,
+    sealer: &S,
+    bytes: &[u8],
+) -> Result<Result<bool, HoldRefusal>, SeatFault>
+    requires known { validator.old.member < D.width keeper.old }
+    requires up { validator.old.up ≡ true }
+    ensures answer { IfOk result (SaysHold (rules_of_seat validator.old (S.accepts sealer.now)) bytes.now validator.old.state) }
+    ensures state { OnOk result (validator.new ≡ seat_behind (rules_of_seat validator.old (S.accepts sealer.now)) (holds bytes.now) validator.old) }
+    ensures kept { Leaves (D.lists keeper.old) (D.lists keeper.new) validator.old.member (due (rules_of_seat validator.old (S.accepts sealer.now)) validator.old.state (holds bytes.now)) result }
+    ensures width { D.width keeper.new ≡ D.width keeper.old }
+    ensures later { D.failed keeper.old ≤ D.failed keeper.new }
+    ensures fault { IsErrOf result faults.KeepFault → Rose (D.failed keeper.old) (D.failed keeper.new) }
+{
+    let answer = validator.hold(keeper, sealer, bytes);
+    match hold_fault(&answer) {
+        Some(fault) => Err(fault),
+        None => Ok(answer),
+    }
+}
+
+/// Asks a member that is up.
+pub(crate) fn ask<D: Keeper, S: Sealer>(
+    validator: &mut Validator,
+    keeper: &mut D,
+    sealer: &S,
+    request: &Request<'_>,
+) -> Result<Answer, SeatFault>
+    requires known { validator.old.member < D.width keeper.old }
+    requires up { validator.old.up ≡ true }
+    ensures answer { IfOk result (Says (rules_of_seat validator.old (S.accepts sealer.now)) (S.accepts sealer.now) validator.old.member request.now validator.old.state) }
+    ensures state { OnOk result (validator.new ≡ seat_behind (rules_of_seat validator.old (S.accepts sealer.now)) (call_of request.now) validator.old) }
+    ensures kept { Leaves (D.lists keeper.old) (D.lists keeper.new) validator.old.member (due (rules_of_seat validator.old (S.accepts sealer.now)) validator.old.state (call_of request.now)) result }
+    ensures width { D.width keeper.new ≡ D.width keeper.old }
+    ensures later { D.failed keeper.old ≤ D.failed keeper.new }
+    ensures fault { IsErrOf result faults.KeepFault → Rose (D.failed keeper.old) (D.failed keeper.new) }
+{
+    match request {
+        Request::Vote(bytes) => match ask_vote(validator, keeper, sealer, bytes) {
+            Ok(answer) => Ok(Answer::Vote(answer)),
+            Err(fault) => Err(fault),
+        },
+        Request::Hold(bytes) => match ask_hold(validator, keeper, sealer, bytes) {
+            Ok(answer) => Ok(Answer::Hold(answer)),
+            Err(fault) => Err(fault),
+        },
+    }
+}
+
+/// The first record of a member; none where it has none. Any failure is taken for want of memory.
+fn first_record(paper: &mut MemKeeper, member: u32) -> Result<Option<Seq<u8>>, OutOfMemory>
+    requires known { member < length paper.old.lists }
+    ensures { IfOk result (λ first. first ≡ slice_get (journal_of paper.old.lists member) 0) }
+{
+    if paper.count(member) == 0 {
+        return Ok(None);
+    }
+    match paper.read(member, 0) {
+        Ok(record) => Ok(Some(record)),
+        Err(_) => Err(OutOfMemory),
+    }
+}
+
+/// Asks a member that is up and keeps no record: the answer, and the spelling of the record that is due.
+#[tactic(auto, using(crate::proofs::Replying::paper_due))]
+pub(crate) fn ask_on_paper<S: Sealer>(
+    alloc: Global,
+    validator: &mut Validator,
+    sealer: &S,
+    member: u32,
+    request: &Request<'_>,
+) -> Result<(Answer, Option<Seq<u8>>), OutOfMemory>
+    requires few { member < 64 }
+    requires number { validator.old.member ≡ member }
+    requires up { validator.old.up ≡ true }
+    ensures answer { IfOk result (λ given. Says (rules_of_seat validator.old (S.accepts sealer.now)) (S.accepts sealer.now) validator.old.member request.now validator.old.state given.0) }
+    ensures state { OnOk result (validator.new ≡ seat_behind (rules_of_seat validator.old (S.accepts sealer.now)) (call_of request.now) validator.old) }
+    ensures due { IfOk result (λ given. given.1 ≡ spelled_due (due (rules_of_seat validator.old (S.accepts sealer.now)) validator.old.state (call_of request.now))) }
+{
+    let mut paper = MemKeeper::new(alloc, member + 1, [].as_slice())?;
+    let answer = match ask(validator, &mut paper, sealer, request) {
+        Ok(answer) => answer,
+        Err(_) => return Err(OutOfMemory),
+    };
+    let due = first_record(&mut paper, member)?;
+    Ok((answer, due))
+}
+
+/// Appends the bytes of a record. Those of 2^31 bytes, more than any record has, count as want of memory.
+pub(crate) fn append<D: Keeper>(keeper: &mut D, member: u32, bytes: &[u8]) -> Result<(), SeatFault>
+    requires known { member < D.width keeper.old }
+    ensures kept { AddsBytes (D.lists keeper.old) (D.lists keeper.new) member bytes.now result }
+    ensures width { D.width keeper.new ≡ D.width keeper.old }
+    ensures later { D.failed keeper.old ≤ D.failed keeper.new }
+    ensures fault { IsErrOf result faults.KeepFault → Rose (D.failed keeper.old) (D.failed keeper.new) }
+{
+    if bytes.len() >= 1 << 31 {
+        return Err(SeatFault::OutOfMemory);
+    }
+    match keeper.append(member, bytes) {
+        Ok(()) => Ok(()),
+        Err(OutFault::Failed) => Err(SeatFault::KeepFault),
+        Err(OutFault::OutOfMemory) => Err(SeatFault::OutOfMemory),
+    }
+}

@@ -1,0 +1,111 @@
+//! One member, its stop included.
+
+ghost use Rattle.std.specs.Prelude.{◌≡◌, ◌<◌, ◌≤◌, IfOk, IsErrOf, None, Some, if◌then◌else◌};
+ghost use Rattle.outside.specs.Causes.{Rose};
+ghost use Rattle.member_core.specs.Answers.{rules_for};
+ghost use Rattle.world_scene.specs.Posts.{arming, reached_post, record_left};
+ghost use Rattle.world_scene.specs.Steps.{held_by};
+ghost use Rattle.world_seats.specs.declared.reply.SeatFault.TheVariants as faults;
+ghost use Rattle.world_seats.specs.Crews.{IsPlaced, PostAfter};
+ghost use Rattle.world_seats.specs.Replies.{Leaves, Replies, Says, call_of};
+
+use crate::reply::{Reply, SeatFault};
+use crate::requests::{Answer, Request, append, ask, ask_on_paper};
+use chain_types::ObjectKey;
+use digest_core::Digest;
+use outside::Keeper;
+use quorum_core::{Committee, Sealer};
+use std::alloc::Global;
+use std::marker::Model;
+use validator_core::Validator;
+use wire_bcs::OutOfMemory;
+
+/// A member: whether it is honest, the member where it is up, and an armed stop, which keeps the next record or
+/// loses it. Contracts see the definition's post.
+#[derive(Drop)]
+pub(crate) struct Seat {
+    pub(crate) honest: bool,
+    pub(crate) validator: Option<Validator>,
+    pub(crate) armed: Option<bool>,
+}
+
+impl Model for Seat {
+    ghost use Rattle.world_scene.specs.Posts.{Post};
+
+    ghost Value = { Post };
+
+    ghost view = { λ s. record { honest = s.honest; standing = s.validator; armed = s.armed } };
+}
+
+impl Seat {
+    /// Arms a stop. Takes no memory.
+    pub(crate) fn arm(&mut self, kept: bool)
+        ensures { self.new ≡ arming kept self.old }
+    {
+        self.armed = Some(kept);
+    }
+
+    /// The member starts, and no stop is armed. Takes no memory.
+    pub(crate) fn start(&mut self, validator: Validator)
+        ensures { self.new ≡ record { honest = self.old.honest; standing = Some validator; armed = None } }
+    {
+        self.validator = Some(validator);
+        self.armed = None;
+    }
+
+    /// The digest that the member has of a version, where it is honest, up and holds it. Takes no memory.
+    pub(crate) fn held_digest(&self, key: &ObjectKey) -> Option<Digest>
+        ensures { result ≡ (if self.now.honest then held_by key.now self.now.standing else None) }
+    {
+        if !self.honest {
+            return None;
+        }
+        match &self.validator {
+            Some(validator) => validator.held_digest(key),
+            None => None,
+        }
+    }
+
+    /// Asks the member, of this number in its committee. Behind a refusal it is down.
+    pub(crate) fn call<D: Keeper, S: Sealer>(
+        &mut self,
+        alloc: Global,
+        keeper: &mut D,
+        sealer: &S,
+        _committee: &Committee,
+        member: u32,
+        request: &Request<'_>,
+    ) -> Result<Reply<Answer>, SeatFault>
+        requires known { member < D.width keeper.old }
+        requires few { member < 64 }
+        requires placed { IsPlaced _committee.now member self.old.standing }
+        ensures answer { IfOk result (Replies (Says (rules_for _committee.now (S.accepts sealer.now)) (S.accepts sealer.now) member request.now) (reached_post (rules_for _committee.now (S.accepts sealer.now)) (call_of request.now) (Some self.old))) }
+        ensures post { PostAfter (rules_for _committee.now (S.accepts sealer.now)) (call_of request.now) self.old self.new result }
+        ensures kept { Leaves (D.lists keeper.old) (D.lists keeper.new) member (record_left (reached_post (rules_for _committee.now (S.accepts sealer.now)) (call_of request.now) (Some self.old))) result }
+        ensures width { D.width keeper.new ≡ D.width keeper.old }
+        ensures later { D.failed keeper.old ≤ D.failed keeper.new }
+        ensures fault { IsErrOf result faults.KeepFault → Rose (D.failed keeper.old) (D.failed keeper.new) }
+    {
+        let Some(mut validator) = self.validator.take() else {
+            return Ok(Reply::Down);
+        };
+        let Some(kept) = self.armed else {
+            let answer = ask(&mut validator, keeper, sealer, request)?;
+            self.validator = Some(validator);
+            return Ok(Reply::Answered(answer));
+        };
+        let (answer, due) = match ask_on_paper(alloc, &mut validator, sealer, member, request) {
+            Ok(given) => given,
+            Err(OutOfMemory) => return Err(SeatFault::OutOfMemory),
+        };
+        let Some(bytes) = due else {
+            self.validator = Some(validator);
+            return Ok(Reply::Answered(answer));
+        };
+        if kept {
+            append(keeper, member, bytes.as_slice())?;
+        }
+        self.armed = None;
+        Ok(Reply::Stopped)
+    }
+}
