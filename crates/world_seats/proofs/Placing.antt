@@ -1,5 +1,5 @@
 -- Each member at its place.
-use Rattle.std.proofs.Common.{◌≡◌, ℕ, zero, suc, ◌+◌, ◌<◌, ◌≤◌, List, [], ◌∷◌, length, get_or, set, Option, Some, None, refl, sym, ap, ◌∙◌, subst, arith, length-set}
+use Rattle.std.proofs.Common.{◌≡◌, ℕ, zero, suc, ◌+◌, ◌<◌, ◌≤◌, List, [], ◌∷◌, ◌++◌, append_assoc, add-one, length, get_or, set, Option, Some, None, refl, sym, ap, ◌∙◌, subst, arith, length-set}
 use Rattle.std.specs.Prelude.{Bool, slice_get, option_map}
 use Rattle.std.proofs.lemmas.Option.{slice_get_read, slice_get_past}
 use Rattle.chain_types.specs.declared.objects.Object.{Object}
@@ -80,3 +80,10 @@ new_length stakes opening (honest ∷ flags) first = ap suc (new_length stakes o
 pub new_whole : (stakes : List ℕ) (opening : List Object) (flags : List Bool) → length flags ≤ 64 → AreWhole stakes flags (new_posts stakes opening 0 flags)
 new_whole stakes opening flags few =
     (λ k. (let e : 0 + k ≡ k = omega arith in subst (λ (m : ℕ). IsPlacedPost stakes m (slice_get (new_posts stakes opening 0 flags) k)) e (new_placed stakes opening flags 0 k)), new_flags stakes opening flags 0, subst (λ (n : ℕ). n ≤ 64) (sym (new_length stakes opening flags 0)) few)
+
+pub new_more : (stakes : List ℕ) (opening : List Object) (acc : List Post) (m : ℕ) (honest : Bool) (flags : List Bool) (p : Post) → p ≡ standing_with stakes m honest (fresh opening)
+    → (acc ++ p ∷ []) ++ new_posts stakes opening (m + 1) flags ≡ acc ++ new_posts stakes opening m (honest ∷ flags)
+new_more stakes opening acc m honest flags p e =
+    append_assoc acc (p ∷ []) (new_posts stakes opening (m + 1) flags)
+    ∙ ap (λ (q : Post). acc ++ q ∷ new_posts stakes opening (m + 1) flags) e
+    ∙ ap (λ (n : ℕ). acc ++ standing_with stakes m honest (fresh opening) ∷ new_posts stakes opening n flags) (add-one m)

@@ -89,7 +89,7 @@ first_on_paper n m bytes low =
     ap (λ (l : List (List ℕ)). slice_get l 0) (get_or-set_same (replicate n []) m (journal_of (replicate n []) m ++ bytes ∷ []) [] (subst (λ (k : ℕ). m < k) (sym (length-replicate n [])) low))
     ∙ ap (λ (l : List (List ℕ)). slice_get (l ++ bytes ∷ []) 0) (none_on_paper n m low)
 
-told : Option Journals → Journals
+abbrev told : Option Journals → Journals
 told None = []
 told (Some lists) = lists
 

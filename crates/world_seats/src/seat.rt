@@ -67,6 +67,7 @@ impl Seat {
     }
 
     /// Asks the member, of this number in its committee. Behind a refusal it is down.
+    #[tactic(none)]
     pub(crate) fn call<D: Keeper, S: Sealer>(
         &mut self,
         alloc: Global,

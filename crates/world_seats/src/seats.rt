@@ -48,6 +48,7 @@ impl Model for Seats {
 }
 
 /// New members, by whether they are honest, of which the first has number 0.
+#[tactic(auto, using(crate::proofs::Placing::new_more))]
 fn new_seats<S: Sealer>(
     alloc: Global,
     committee: &Committee,
@@ -61,7 +62,8 @@ fn new_seats<S: Sealer>(
 {
     let mut seats = Vec::new(alloc);
     let mut member = 0;
-    for flag in honest {
+    let mut rest = honest;
+    while let [flag, after @ ..] = rest {
         let validator = start_new(alloc, member, committee, opening, sealer)?;
         seats.push(Seat {
             honest: *flag,
@@ -69,6 +71,7 @@ fn new_seats<S: Sealer>(
             armed: None,
         })?;
         member += 1;
+        rest = after;
     }
     Ok(seats)
 }
@@ -134,6 +137,7 @@ impl Seats {
     }
 
     /// Asks a member.
+    #[tactic(none)]
     fn call<D: Keeper, S: Sealer>(
         &mut self,
         alloc: Global,
@@ -294,6 +298,7 @@ impl HeldDigests for Seats {
 }
 
 /// The digest that the first honest member has that is up and holds the version.
+#[tactic(auto, using(crate::proofs::Holders::held_next, crate::proofs::Holders::held_here))]
 fn digest_in(seats: &[Seat], key: &ObjectKey) -> Option<Digest>
     ensures { result ≡ held_in seats.now key.now }
 {

@@ -18,6 +18,7 @@ use validator_core::{StartRefusal, Validator};
 use wire_bcs::{OutOfMemory, Seq};
 
 /// A new member.
+#[tactic(auto, unfolding(validator_core::specs::Starts::started))]
 pub(crate) fn start_new<S: Sealer>(
     alloc: Global,
     member: u32,
@@ -37,6 +38,7 @@ pub(crate) fn start_new<S: Sealer>(
 }
 
 /// The records of a member, oldest first.
+#[tactic(auto, using(crate::proofs::Reading::none_read, crate::proofs::Reading::one_read, crate::proofs::Reading::same_then, crate::proofs::Reading::all_read))]
 pub(crate) fn records_of<D: Keeper>(
     alloc: Global,
     keeper: &mut D,
@@ -50,7 +52,8 @@ pub(crate) fn records_of<D: Keeper>(
     ensures fault { IsErrOf result out.Failed → Rose (D.failed keeper.old) (D.failed keeper.new) }
 {
     let mut kept = Seq::new(alloc);
-    for place in 0..keeper.count(member) {
+    let count = keeper.count(member);
+    for place in 0..count {
         let record = keeper.read(member, place)?;
         kept.push(record)?;
     }

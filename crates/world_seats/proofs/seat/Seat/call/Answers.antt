@@ -1,0 +1,1 @@
+use Rattle.world_seats.proofs.seat.Seat.call.Goals as goal
