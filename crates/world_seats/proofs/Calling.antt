@@ -1,6 +1,6 @@
 -- A call on one member among the others.
 use Rattle.std.proofs.Common.{◌≡◌, ℕ, ◌<◌, ◌≤◌, List, [], length, get_or, set, Option, Some, None, refl, sym, ap, ◌∙◌, subst, arith, length-set}
-use Rattle.std.specs.Prelude.{Bool, Result, Ok, Err, slice_get}
+use Rattle.std.specs.Prelude.{Bool, Result, Ok, Err, OnOk, OnErr, slice_get}
 use Rattle.std.proofs.lemmas.Option.{slice_get_read, slice_get_past}
 use Rattle.journal_core.specs.declared.records.Record.{Record}
 use Rattle.outside.specs.Lists.{Journals, KeepsJournals}
@@ -10,7 +10,7 @@ use Rattle.member_spec.specs.Member.{Member}
 use Rattle.world_spec.specs.World.{Reached, finds_down}
 use Rattle.world_scene.specs.Posts.{Post, changed_at, post_behind, posts_behind, posts_with, reached_in, reached_post, record_left}
 use Rattle.world_seats.specs.declared.reply.Reply.{Reply}
-use Rattle.world_seats.specs.Crews.{IsPlaced, PostAfter, PostsAfter, fallen}
+use Rattle.world_seats.specs.Crews.{IsPlaced, PostAfter, PostsAfter, fallen, fallen_at}
 use Rattle.world_seats.specs.Replies.{Leaves, Replies}
 use Rattle.world_seats.proofs.Placing.{AreWhole, changed_is, post_honest, post_placed, whole_with}
 use Rattle.world_seats.proofs.Replying.{same_lists}
@@ -71,3 +71,13 @@ count_after posts new m r call (Err f) e = ap length e ∙ go (slice_get posts m
     go : (o : Option Post) → length (changed_at posts m fallen o) ≡ length posts
     go None = refl
     go (Some p) = length-set posts m (fallen p)
+
+-- ---- by how the call ended
+
+pub on_ok : {A E : Type 0} (r : Rules) (call : Call) (m : ℕ) (posts new : List Post) (result : Result A E) → PostsAfter r call m posts new result → OnOk result (new ≡ posts_behind r posts m call)
+on_ok r call m posts new (Ok a) e = e
+on_ok r call m posts new (Err f) e = tt
+
+pub on_err : {A E : Type 0} (r : Rules) (call : Call) (m : ℕ) (posts new : List Post) (result : Result A E) → PostsAfter r call m posts new result → OnErr result (new ≡ fallen_at posts m)
+on_err r call m posts new (Ok a) e = tt
+on_err r call m posts new (Err f) e = e

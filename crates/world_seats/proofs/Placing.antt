@@ -87,3 +87,7 @@ new_more stakes opening acc m honest flags p e =
     append_assoc acc (p ∷ []) (new_posts stakes opening (m + 1) flags)
     ∙ ap (λ (q : Post). acc ++ q ∷ new_posts stakes opening (m + 1) flags) e
     ∙ ap (λ (n : ℕ). acc ++ standing_with stakes m honest (fresh opening) ∷ new_posts stakes opening n flags) (add-one m)
+
+pub new_is : (stakes : List ℕ) (opening : List Object) (flags : List Bool) (given : List ℕ) (kept : List Bool) (posts : List Post) → given ≡ stakes → kept ≡ flags → posts ≡ new_posts stakes opening 0 flags → length flags ≤ 64 → AreWhole given kept posts
+new_is stakes opening flags given kept posts same_stakes same_flags is few =
+    subst (λ (s : List ℕ). AreWhole s kept posts) (sym same_stakes) (subst (λ (f : List Bool). AreWhole stakes f posts) (sym same_flags) (subst (λ (p : List Post). AreWhole stakes flags p) (sym is) (new_whole stakes opening flags few)))

@@ -12,15 +12,11 @@ use Rattle.member_types.specs.declared.refusals.VoteRefusal.TheVariants as no_vo
 use Rattle.member_types.specs.declared.refusals.HoldRefusal.{HoldRefusal}
 use Rattle.member_types.specs.declared.refusals.HoldRefusal.TheVariants as no_hold
 use Rattle.member_spec.specs.Member.{Member}
-use Rattle.member_spec.specs.Calls.{Call, hold_answer, holds, vote_answer, votes}
+use Rattle.member_spec.specs.Calls.{hold_answer, vote_answer}
 use Rattle.world_spec.specs.World.{Reached, finds_down, stops, answers}
 use Rattle.validator_core.specs.Calls.{Holds, Votes, hold_ended, vote_ended}
 use Rattle.validator_core.specs.Seats.{Ended, answered}
 use Rattle.world_scene.specs.Posts.{AddsLeft, MayAddLeft}
-use Rattle.world_seats.specs.declared.requests.Request.{Request}
-use Rattle.world_seats.specs.declared.requests.Request.TheVariants as request
-use Rattle.world_seats.specs.declared.requests.Answer.{Answer}
-use Rattle.world_seats.specs.declared.requests.Answer.TheVariants as answer_as
 use Rattle.world_seats.specs.declared.reply.SeatFault.{SeatFault}
 use Rattle.world_seats.specs.declared.reply.SeatFault.TheVariants as faults
 use Rattle.world_seats.specs.declared.reply.Reply.{Reply}
@@ -82,18 +78,7 @@ hold_fault (Err no_hold.KeepFault) = Some faults.KeepFault
 hold_fault (Err no_hold.OutOfMemory) = Some faults.OutOfMemory
 hold_fault answer = None
 
--- ---- all calls
-
-abbrev pub call_of : Request → Call
-call_of (request.Vote bytes) = votes bytes.now
-call_of (request.Hold bytes) = holds bytes.now
-
--- what a member of this number says
-abbrev pub Says : Rules → Accepting → ℕ → Request → Member → Answer → Type 0
-Says r accepts m (request.Vote bytes) before (answer_as.Vote answer) = SaysVote r accepts m bytes.now before answer
-Says r accepts m (request.Hold bytes) before (answer_as.Hold answer) = SaysHold r bytes.now before answer
-Says r accepts m (request.Vote bytes) before (answer_as.Hold answer) = ⊥
-Says r accepts m (request.Hold bytes) before (answer_as.Vote answer) = ⊥
+-- ---- on paper
 
 -- the spelling of a record that is due
 abbrev pub spelled_due : Option Record → Option (List ℕ)

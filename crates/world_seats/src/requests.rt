@@ -1,13 +1,15 @@
 //! Requests to a member that is up.
 
-ghost use Rattle.std.specs.Prelude.{◌≡◌, ◌<◌, ◌≤◌, ◌^◌, IfOk, IsErrOf, OnOk, length, slice_get, true};
+ghost use Rattle.std.specs.Prelude.{◌≡◌, ◌<◌, ◌≤◌, ℕ, IfOk, IsErrOf, OnOk, length, slice_get, true};
 ghost use Rattle.outside.specs.Causes.{Rose};
 ghost use Rattle.outside.specs.Lists.{journal_of};
-ghost use Rattle.member_spec.specs.Calls.{due, holds, votes};
+ghost use Rattle.chain_spec.specs.Certificates.{Rules};
+ghost use Rattle.member_spec.specs.Member.{Member};
+ghost use Rattle.member_spec.specs.Calls.{Call, due, holds, votes};
 ghost use Rattle.validator_core.specs.Seats.{rules_of_seat};
 ghost use Rattle.world_scene.specs.Posts.{seat_behind};
 ghost use Rattle.world_seats.specs.declared.reply.SeatFault.TheVariants as faults;
-ghost use Rattle.world_seats.specs.Replies.{AddsBytes, Leaves, Says, SaysHold, SaysVote, call_of, hold_fault, spelled_due, vote_fault};
+ghost use Rattle.world_seats.specs.Replies.{Accepting, AddsBytes, Leaves, SaysHold, SaysVote, hold_fault, spelled_due, vote_fault};
 
 use crate::reply::SeatFault;
 use outside::{Keeper, MemKeeper, OutFault};
@@ -17,19 +19,76 @@ use validator_core::{HoldRefusal, Validator, VoteRefusal, Voted};
 use wire_bcs::{OutOfMemory, Seq};
 
 /// A request to a member.
-#[derive(Clone, Copy)]
-pub(crate) enum Request<'a> {
-    /// For its vote for the transaction that the bytes spell.
-    Vote(&'a [u8]),
-    /// To hold the certificate that the bytes spell.
-    Hold(&'a [u8]),
+pub(crate) trait Asks {
+    type Answer: Drop;
+
+    /// The definition's call.
+    ghost call: { Self → Call };
+
+    /// What a member of this number answers, under these rules and accepted seals, in the state before the call.
+    ghost says: { Self → Rules → Accepting → ℕ → Member → Answer → Type 0 };
+
+    /// Asks a member that is up.
+    fn ask<D: Keeper, S: Sealer>(
+        &self,
+        validator: &mut Validator,
+        keeper: &mut D,
+        sealer: &S,
+    ) -> Result<Self::Answer, SeatFault>
+        requires known { validator.old.member < D.width keeper.old }
+        requires up { validator.old.up ≡ true }
+        ensures answer { IfOk result (says self.now (rules_of_seat validator.old (S.accepts sealer.now)) (S.accepts sealer.now) validator.old.member validator.old.state) }
+        ensures state { OnOk result (validator.new ≡ seat_behind (rules_of_seat validator.old (S.accepts sealer.now)) (call self.now) validator.old) }
+        ensures kept { Leaves (D.lists keeper.old) (D.lists keeper.new) validator.old.member (due (rules_of_seat validator.old (S.accepts sealer.now)) validator.old.state (call self.now)) result }
+        ensures width { D.width keeper.new ≡ D.width keeper.old }
+        ensures later { D.failed keeper.old ≤ D.failed keeper.new }
+        ensures fault { IsErrOf result faults.KeepFault → Rose (D.failed keeper.old) (D.failed keeper.new) };
 }
 
-/// The answer to a request.
-#[derive(Drop)]
-pub(crate) enum Answer {
-    Vote(Result<Voted, VoteRefusal>),
-    Hold(Result<bool, HoldRefusal>),
+/// A request for the vote for the transaction that the bytes spell.
+#[derive(Clone, Copy)]
+pub(crate) struct VoteRequest<'a> {
+    pub(crate) bytes: &'a [u8],
+}
+
+/// A request to hold the certificate that the bytes spell.
+#[derive(Clone, Copy)]
+pub(crate) struct HoldRequest<'a> {
+    pub(crate) bytes: &'a [u8],
+}
+
+impl Asks for VoteRequest<'_> {
+    type Answer = Result<Voted, VoteRefusal>;
+
+    ghost call = { λ q. votes q.bytes.now };
+
+    ghost says = { λ q r accepts m before given. SaysVote r accepts m q.bytes.now before given };
+
+    fn ask<D: Keeper, S: Sealer>(
+        &self,
+        validator: &mut Validator,
+        keeper: &mut D,
+        sealer: &S,
+    ) -> Result<Result<Voted, VoteRefusal>, SeatFault> {
+        ask_vote(validator, keeper, sealer, self.bytes)
+    }
+}
+
+impl Asks for HoldRequest<'_> {
+    type Answer = Result<bool, HoldRefusal>;
+
+    ghost call = { λ q. holds q.bytes.now };
+
+    ghost says = { λ q r accepts m before given. SaysHold r q.bytes.now before given };
+
+    fn ask<D: Keeper, S: Sealer>(
+        &self,
+        validator: &mut Validator,
+        keeper: &mut D,
+        sealer: &S,
+    ) -> Result<Result<bool, HoldRefusal>, SeatFault> {
+        ask_hold(validator, keeper, sealer, self.bytes)
+    }
 }
 
 /// The fault behind an answer; none where it is one.
@@ -127,34 +186,6 @@ fn ask_hold<D: Keeper, S: Sealer>(
     }
 }
 
-/// Asks a member that is up.
-pub(crate) fn ask<D: Keeper, S: Sealer>(
-    validator: &mut Validator,
-    keeper: &mut D,
-    sealer: &S,
-    request: &Request<'_>,
-) -> Result<Answer, SeatFault>
-    requires known { validator.old.member < D.width keeper.old }
-    requires up { validator.old.up ≡ true }
-    ensures answer { IfOk result (Says (rules_of_seat validator.old (S.accepts sealer.now)) (S.accepts sealer.now) validator.old.member request.now validator.old.state) }
-    ensures state { OnOk result (validator.new ≡ seat_behind (rules_of_seat validator.old (S.accepts sealer.now)) (call_of request.now) validator.old) }
-    ensures kept { Leaves (D.lists keeper.old) (D.lists keeper.new) validator.old.member (due (rules_of_seat validator.old (S.accepts sealer.now)) validator.old.state (call_of request.now)) result }
-    ensures width { D.width keeper.new ≡ D.width keeper.old }
-    ensures later { D.failed keeper.old ≤ D.failed keeper.new }
-    ensures fault { IsErrOf result faults.KeepFault → Rose (D.failed keeper.old) (D.failed keeper.new) }
-{
-    match request {
-        Request::Vote(bytes) => match ask_vote(validator, keeper, sealer, bytes) {
-            Ok(answer) => Ok(Answer::Vote(answer)),
-            Err(fault) => Err(fault),
-        },
-        Request::Hold(bytes) => match ask_hold(validator, keeper, sealer, bytes) {
-            Ok(answer) => Ok(Answer::Hold(answer)),
-            Err(fault) => Err(fault),
-        },
-    }
-}
-
 /// The first record of a member; none where it has none. Any failure is taken for want of memory.
 fn first_record(paper: &mut MemKeeper, member: u32) -> Result<Option<Seq<u8>>, OutOfMemory>
     requires known { member < length paper.old.lists }
@@ -171,22 +202,22 @@ fn first_record(paper: &mut MemKeeper, member: u32) -> Result<Option<Seq<u8>>, O
 
 /// Asks a member that is up and keeps no record: the answer, and the spelling of the record that is due.
 #[tactic(auto, using(crate::proofs::Replying::paper_due))]
-pub(crate) fn ask_on_paper<S: Sealer>(
+pub(crate) fn ask_on_paper<S: Sealer, Q: Asks>(
     alloc: Global,
     validator: &mut Validator,
     sealer: &S,
     member: u32,
-    request: &Request<'_>,
-) -> Result<(Answer, Option<Seq<u8>>), OutOfMemory>
+    request: &Q,
+) -> Result<(Q::Answer, Option<Seq<u8>>), OutOfMemory>
     requires few { member < 64 }
     requires number { validator.old.member ≡ member }
     requires up { validator.old.up ≡ true }
-    ensures answer { IfOk result (λ given. Says (rules_of_seat validator.old (S.accepts sealer.now)) (S.accepts sealer.now) validator.old.member request.now validator.old.state given.0) }
-    ensures state { OnOk result (validator.new ≡ seat_behind (rules_of_seat validator.old (S.accepts sealer.now)) (call_of request.now) validator.old) }
-    ensures due { IfOk result (λ given. given.1 ≡ spelled_due (due (rules_of_seat validator.old (S.accepts sealer.now)) validator.old.state (call_of request.now))) }
+    ensures answer { IfOk result (λ given. Q.says request.now (rules_of_seat validator.old (S.accepts sealer.now)) (S.accepts sealer.now) validator.old.member validator.old.state given.0) }
+    ensures state { OnOk result (validator.new ≡ seat_behind (rules_of_seat validator.old (S.accepts sealer.now)) (Q.call request.now) validator.old) }
+    ensures due { IfOk result (λ given. given.1 ≡ spelled_due (due (rules_of_seat validator.old (S.accepts sealer.now)) validator.old.state (Q.call request.now))) }
 {
     let mut paper = MemKeeper::new(alloc, member + 1, [].as_slice())?;
-    let answer = match ask(validator, &mut paper, sealer, request) {
+    let answer = match request.ask(validator, &mut paper, sealer) {
         Ok(answer) => answer,
         Err(_) => return Err(OutOfMemory),
     };

@@ -7,10 +7,10 @@ ghost use Rattle.world_scene.specs.Posts.{arming, reached_post, record_left};
 ghost use Rattle.world_scene.specs.Steps.{held_by};
 ghost use Rattle.world_seats.specs.declared.reply.SeatFault.TheVariants as faults;
 ghost use Rattle.world_seats.specs.Crews.{IsPlaced, PostAfter};
-ghost use Rattle.world_seats.specs.Replies.{Leaves, Replies, Says, call_of};
+ghost use Rattle.world_seats.specs.Replies.{Leaves, Replies};
 
 use crate::reply::{Reply, SeatFault};
-use crate::requests::{Answer, Request, append, ask, ask_on_paper};
+use crate::requests::{Asks, append, ask_on_paper};
 use chain_types::ObjectKey;
 use digest_core::Digest;
 use outside::Keeper;
@@ -67,22 +67,21 @@ impl Seat {
     }
 
     /// Asks the member, of this number in its committee. Behind a refusal it is down.
-    #[tactic(none)]
-    pub(crate) fn call<D: Keeper, S: Sealer>(
+    pub(crate) fn call<D: Keeper, S: Sealer, Q: Asks>(
         &mut self,
         alloc: Global,
         keeper: &mut D,
         sealer: &S,
         _committee: &Committee,
         member: u32,
-        request: &Request<'_>,
-    ) -> Result<Reply<Answer>, SeatFault>
+        request: &Q,
+    ) -> Result<Reply<Q::Answer>, SeatFault>
         requires known { member < D.width keeper.old }
         requires few { member < 64 }
         requires placed { IsPlaced _committee.now member self.old.standing }
-        ensures answer { IfOk result (Replies (Says (rules_for _committee.now (S.accepts sealer.now)) (S.accepts sealer.now) member request.now) (reached_post (rules_for _committee.now (S.accepts sealer.now)) (call_of request.now) (Some self.old))) }
-        ensures post { PostAfter (rules_for _committee.now (S.accepts sealer.now)) (call_of request.now) self.old self.new result }
-        ensures kept { Leaves (D.lists keeper.old) (D.lists keeper.new) member (record_left (reached_post (rules_for _committee.now (S.accepts sealer.now)) (call_of request.now) (Some self.old))) result }
+        ensures answer { IfOk result (Replies (Q.says request.now (rules_for _committee.now (S.accepts sealer.now)) (S.accepts sealer.now) member) (reached_post (rules_for _committee.now (S.accepts sealer.now)) (Q.call request.now) (Some self.old))) }
+        ensures post { PostAfter (rules_for _committee.now (S.accepts sealer.now)) (Q.call request.now) self.old self.new result }
+        ensures kept { Leaves (D.lists keeper.old) (D.lists keeper.new) member (record_left (reached_post (rules_for _committee.now (S.accepts sealer.now)) (Q.call request.now) (Some self.old))) result }
         ensures width { D.width keeper.new ≡ D.width keeper.old }
         ensures later { D.failed keeper.old ≤ D.failed keeper.new }
         ensures fault { IsErrOf result faults.KeepFault → Rose (D.failed keeper.old) (D.failed keeper.new) }
@@ -91,7 +90,7 @@ impl Seat {
             return Ok(Reply::Down);
         };
         let Some(kept) = self.armed else {
-            let answer = ask(&mut validator, keeper, sealer, request)?;
+            let answer = request.ask(&mut validator, keeper, sealer)?;
             self.validator = Some(validator);
             return Ok(Reply::Answered(answer));
         };

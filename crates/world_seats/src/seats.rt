@@ -11,11 +11,11 @@ ghost use Rattle.world_scene.specs.Steps.{held_in, standing_at};
 ghost use Rattle.world_seats.specs.declared.reply.SeatFault.TheVariants as faults;
 ghost use Rattle.world_seats.specs.declared.reply.RestartFault.TheVariants as restart_faults;
 ghost use Rattle.world_seats.specs.Crews.{PostsAfter, fallen_at, honest_flags, shown_of};
-ghost use Rattle.world_seats.specs.Replies.{Leaves, Replies, Says, SaysHold, SaysVote, call_of};
+ghost use Rattle.world_seats.specs.Replies.{Leaves, Replies, SaysHold, SaysVote};
 ghost use Rattle.world_seats.specs.Restarts.{HasBadRecord, Restarted};
 
 use crate::reply::{Reply, RestartFault, SeatFault};
-use crate::requests::{Answer, Request};
+use crate::requests::{Asks, HoldRequest, VoteRequest};
 use crate::seat::Seat;
 use crate::starts::{records_of, start_new};
 use chain_types::{Object, ObjectKey};
@@ -79,7 +79,6 @@ fn new_seats<S: Sealer>(
 impl Seats {
     /// The members of a new committee, by whether they are honest: each is up, in an epoch 0 that opens with these
     /// objects, none of them twice.
-    #[tactic(auto, using(crate::proofs::Placing::new_whole))]
     pub fn new<S: Sealer>(
         alloc: Global,
         committee: &Committee,
@@ -137,21 +136,20 @@ impl Seats {
     }
 
     /// Asks a member.
-    #[tactic(none)]
-    fn call<D: Keeper, S: Sealer>(
+    fn call<D: Keeper, S: Sealer, Q: Asks>(
         &mut self,
         alloc: Global,
         keeper: &mut D,
         sealer: &S,
         member: u32,
-        request: &Request<'_>,
-    ) -> Result<Reply<Answer>, SeatFault>
+        request: &Q,
+    ) -> Result<Reply<Q::Answer>, SeatFault>
         requires known { length self.old.posts ≤ D.width keeper.old }
-        ensures answer { IfOk result (Replies (Says (rules_for self.old.stakes (S.accepts sealer.now)) (S.accepts sealer.now) member request.now) (reached_in (rules_for self.old.stakes (S.accepts sealer.now)) self.old.posts member (call_of request.now))) }
-        ensures posts { PostsAfter (rules_for self.old.stakes (S.accepts sealer.now)) (call_of request.now) member self.old.posts self.new.posts result }
+        ensures answer { IfOk result (Replies (Q.says request.now (rules_for self.old.stakes (S.accepts sealer.now)) (S.accepts sealer.now) member) (reached_in (rules_for self.old.stakes (S.accepts sealer.now)) self.old.posts member (Q.call request.now))) }
+        ensures posts { PostsAfter (rules_for self.old.stakes (S.accepts sealer.now)) (Q.call request.now) member self.old.posts self.new.posts result }
         ensures stakes { self.new.stakes ≡ self.old.stakes }
         ensures count { length self.new.posts ≡ length self.old.posts }
-        ensures kept { Leaves (D.lists keeper.old) (D.lists keeper.new) member (record_left (reached_in (rules_for self.old.stakes (S.accepts sealer.now)) self.old.posts member (call_of request.now))) result }
+        ensures kept { Leaves (D.lists keeper.old) (D.lists keeper.new) member (record_left (reached_in (rules_for self.old.stakes (S.accepts sealer.now)) self.old.posts member (Q.call request.now))) result }
         ensures width { D.width keeper.new ≡ D.width keeper.old }
         ensures later { D.failed keeper.old ≤ D.failed keeper.new }
         ensures fault { IsErrOf result faults.KeepFault → Rose (D.failed keeper.old) (D.failed keeper.new) }
@@ -167,6 +165,7 @@ impl Seats {
     /// down or not there. `Stopped`: a stop was armed and a record was due; the member is down, and its record was
     /// kept where the stop keeps. Else it answered, and its record stands. Behind a refusal the member is down, and
     /// its record stands or does not; the other members stay.
+    #[tactic(auto, using(crate::proofs::Calling::on_ok, crate::proofs::Calling::on_err))]
     pub fn vote<D: Keeper, S: Sealer>(
         &mut self,
         alloc: Global,
@@ -186,19 +185,11 @@ impl Seats {
         ensures later { D.failed keeper.old ≤ D.failed keeper.new }
         ensures fault { IsErrOf result faults.KeepFault → Rose (D.failed keeper.old) (D.failed keeper.new) }
     {
-        let reply = match self.call(alloc, keeper, sealer, member, &Request::Vote(bytes)) {
-            Ok(reply) => reply,
-            Err(fault) => return Err(fault),
-        };
-        match reply {
-            Reply::Down => Ok(Reply::Down),
-            Reply::Stopped => Ok(Reply::Stopped),
-            Reply::Answered(Answer::Vote(answer)) => Ok(Reply::Answered(answer)),
-            Reply::Answered(Answer::Hold(_answer)) => unreachable!(),
-        }
+        self.call(alloc, keeper, sealer, member, &VoteRequest { bytes })
     }
 
     /// Hands a certificate to a member (Sui Lutris). Replies and refusals are those of [`Seats::vote`].
+    #[tactic(auto, using(crate::proofs::Calling::on_ok, crate::proofs::Calling::on_err))]
     pub fn hold<D: Keeper, S: Sealer>(
         &mut self,
         alloc: Global,
@@ -218,16 +209,7 @@ impl Seats {
         ensures later { D.failed keeper.old ≤ D.failed keeper.new }
         ensures fault { IsErrOf result faults.KeepFault → Rose (D.failed keeper.old) (D.failed keeper.new) }
     {
-        let reply = match self.call(alloc, keeper, sealer, member, &Request::Hold(bytes)) {
-            Ok(reply) => reply,
-            Err(fault) => return Err(fault),
-        };
-        match reply {
-            Reply::Down => Ok(Reply::Down),
-            Reply::Stopped => Ok(Reply::Stopped),
-            Reply::Answered(Answer::Hold(answer)) => Ok(Reply::Answered(answer)),
-            Reply::Answered(Answer::Vote(_answer)) => unreachable!(),
-        }
+        self.call(alloc, keeper, sealer, member, &HoldRequest { bytes })
     }
 
     /// Starts a member from the records that its keeper has, in an epoch 0 that opens with these objects, and

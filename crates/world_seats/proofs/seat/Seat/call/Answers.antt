@@ -1,1 +1,0 @@
-use Rattle.world_seats.proofs.seat.Seat.call.Goals as goal
