@@ -1,26 +1,17 @@
 -- What a member that is up answers, and what becomes of the call.
-use Rattle.std.proofs.Common.{◌≡◌, ◌∙◌, ap, sym, subst, refl, ℕ, zero, suc, ◌<◌, true, false, cond, List, [], ◌∷◌, ◌++◌, length, get_or, set, replicate, Option, Some, None}
+use Rattle.std.proofs.Common.{◌≡◌, ◌∙◌, ap, sym, subst, refl, ℕ, zero, suc, ◌<◌, true, false, cond, List, [], ◌∷◌, ◌++◌, length, get_or, set, replicate, Option, Some, None, inr}
 use Rattle.std.specs.Prelude.{◌⊎◌, Bool, Result, Ok, Err, option_map, slice_get}
 use Rattle.std.proofs.lemmas.List.{get_or-set_same, length-replicate, get_or-replicate}
-use Rattle.digest_core.specs.declared.Digest.{Digest}
 use Rattle.journal_core.specs.declared.records.Record.{Record}
 use Rattle.journal_core.specs.Records.{journal_record}
 use Rattle.outside.specs.Lists.{Journals, AddsRecord, KeepsJournals, journal_of, with_record}
 use Rattle.chain_spec.specs.Certificates.{Rules}
-use Rattle.member_types.specs.declared.answers.Voted.{Voted as Sent}
-use Rattle.member_types.specs.declared.refusals.VoteRefusal.{VoteRefusal}
-use Rattle.member_types.specs.declared.refusals.VoteRefusal.TheVariants as no_vote
-use Rattle.member_types.specs.declared.refusals.HoldRefusal.{HoldRefusal}
-use Rattle.member_types.specs.declared.refusals.HoldRefusal.TheVariants as no_hold
 use Rattle.member_spec.specs.Member.{Member}
-use Rattle.member_spec.specs.Calls.{Call, called, due, hold_answer, holds, vote_answer, votes}
-use Rattle.world_spec.specs.World.{Reached, finds_down, stops, answers, reached_up}
-use Rattle.validator_core.specs.Calls.{Holds, Votes, hold_ended, hold_said, vote_ended, vote_said}
-use Rattle.validator_core.specs.Seats.{Behaves, Ended, Journaled, Keeps, Seat, answered, behind, due_at, fell}
+use Rattle.member_spec.specs.Calls.{Call, due}
+use Rattle.world_spec.specs.World.{Reached, finds_down, stops, reached_up}
+use Rattle.validator_core.specs.Seats.{Seat}
 use Rattle.world_scene.specs.Posts.{AddsLeft, MayAddLeft, Post, post_behind, reached_post, reached_standing, record_left, seat_behind}
-use Rattle.world_seats.specs.declared.reply.SeatFault.{SeatFault}
-use Rattle.world_seats.specs.declared.reply.SeatFault.TheVariants as faults
-use Rattle.world_seats.specs.Replies.{Accepting, hold_fault, spelled_due, vote_fault}
+use Rattle.world_seats.specs.Replies.{HasAnswered, HasStopped, KeptWhere, Leaves, Met, spelled_due}
 
 -- ---- the record on paper
 
@@ -49,35 +40,53 @@ pub something_due : (x : Option Record) (o : Option (List ℕ)) (bytes : List �
 something_due None o bytes e some_ = absurd (cc)
 something_due (Some x) o bytes e some_ = (x, refl, cc)
 
+-- ---- a member that is up, with an armed stop
+
+pub same_lists : (lists : Option Journals) → KeepsJournals lists lists
+same_lists None = tt
+same_lists (Some lists) = refl
+
+pub met_idle : {A : Type 0} (Says : Member → A → Type 0) (state : Member) (kept : Bool) (x : Option Record) (o : Option (List ℕ)) (a : A) → o ≡ spelled_due x → o ≡ None → Says state a → Met Says (reached_up state (Some kept) x) (Some a)
+met_idle Says state kept x o a e none_ said = record { before = state; due = None; is = ap (reached_up state (Some kept)) (nothing_due x o e none_); says = said }
+
+pub met_stop : {A : Type 0} (Says : Member → A → Type 0) (state : Member) (kept : Bool) (x : Option Record) (o : Option (List ℕ)) (bytes : List ℕ) → o ≡ spelled_due x → o ≡ Some bytes → Met Says (reached_up state (Some kept) x) None
+met_stop Says state kept x o bytes e some_ = let d = something_due x o bytes e some_ in record { kept = kept; due = d.0; is = ap (reached_up state (Some kept)) d.1 }
+
+pub left_idle : (lists : Option Journals) (m : ℕ) (state : Member) (kept : Bool) (x : Option Record) (o : Option (List ℕ)) → o ≡ spelled_due x → o ≡ None → AddsLeft lists lists m (record_left (reached_up state (Some kept) x))
+left_idle lists m state kept x o e none_ = subst (λ (y : Option Record). AddsLeft lists lists m (record_left (reached_up state (Some kept) y))) (sym (nothing_due x o e none_)) (same_lists lists)
+
+stopped : {A E : Type 0} (kept : Bool) (before now : Option Journals) (m : ℕ) (x : Record) (result : Result A E) → KeptWhere kept before now m (journal_record.spell x) result → Leaves before now m (record_left (stops kept x)) result
+stopped true before now m x (Ok a) h = h
+stopped true before now m x (Err f) h = h
+stopped false before now m x (Ok a) h = h
+stopped false before now m x (Err f) h = inr h
+
+-- one for each way of ending, so that the ways do not join
+pub left_stop : {A E : Type 0} (before now : Option Journals) (m : ℕ) (state : Member) (kept : Bool) (x : Option Record) (o : Option (List ℕ)) (bytes : List ℕ) (result : Result A E) → o ≡ spelled_due x → o ≡ Some bytes
+    → KeptWhere kept before now m bytes result → Leaves before now m (record_left (reached_up state (Some kept) x)) result
+left_stop before now m state kept x o bytes result e some_ h =
+    let d = something_due x o bytes e some_ in
+    subst (λ (y : Option Record). Leaves before now m (record_left (reached_up state (Some kept) y)) result) (sym d.1)
+    (stopped kept before now m d.0 result (subst (λ (b : List ℕ). KeptWhere kept before now m b result) d.2 h))
+
+pub left_same : (lists : Option Journals) (m : ℕ) (x : Option Record) → MayAddLeft lists lists m x
+left_same lists m x = inr (same_lists lists)
+
 -- ---- what becomes of the call
 
 pub down_reached : (r : Rules) (call : Call) (p : Post) → p.standing ≡ None → reached_post r call (Some p) ≡ finds_down
 down_reached r call p e = ap (reached_standing r call p.armed) e
 
-pub plain_reached : (r : Rules) (call : Call) (p : Post) (seat : Seat) → p.standing ≡ Some seat → p.armed ≡ None → reached_post r call (Some p) ≡ answers seat.state (due r seat.state call)
-plain_reached r call p seat e unarmed = ap (reached_standing r call p.armed) e ∙ ap (λ (a : Option Bool). reached_standing r call a (Some seat)) unarmed
-
-armed_reached : (r : Rules) (call : Call) (p : Post) (seat : Seat) (kept : Bool) (x : Option Record) → p.standing ≡ Some seat → p.armed ≡ Some kept → due r seat.state call ≡ x
-    → reached_post r call (Some p) ≡ reached_up seat.state (Some kept) x
-armed_reached r call p seat kept x e arms is = ap (reached_standing r call p.armed) e ∙ ap (λ (a : Option Bool). reached_standing r call a (Some seat)) arms ∙ ap (reached_up seat.state (Some kept)) is
-
-pub idle_reached : (r : Rules) (call : Call) (p : Post) (seat : Seat) (kept : Bool) → p.standing ≡ Some seat → p.armed ≡ Some kept → due r seat.state call ≡ None → reached_post r call (Some p) ≡ answers seat.state None
-idle_reached r call p seat kept e arms is = armed_reached r call p seat kept None e arms is
-
-pub stop_reached : (r : Rules) (call : Call) (p : Post) (seat : Seat) (kept : Bool) (x : Record) → p.standing ≡ Some seat → p.armed ≡ Some kept → due r seat.state call ≡ Some x → reached_post r call (Some p) ≡ stops kept x
-stop_reached r call p seat kept x e arms is = armed_reached r call p seat kept (Some x) e arms is
+pub up_reached : (r : Rules) (call : Call) (p : Post) (seat : Seat) → p.standing ≡ Some seat → reached_post r call (Some p) ≡ reached_up seat.state p.armed (due r seat.state call)
+up_reached r call p seat e = ap (reached_standing r call p.armed) e
 
 -- the member behind it
-pub answered_post : (r : Rules) (call : Call) (p : Post) (seat next : Seat) (before : Member) (x : Option Record) → p.standing ≡ Some seat → next ≡ seat_behind r call seat → reached_post r call (Some p) ≡ answers before x
+pub answered_post : {A : Type 0} (Says : Member → A → Type 0) (r : Rules) (call : Call) (p : Post) (seat next : Seat) (a : A) → p.standing ≡ Some seat → next ≡ seat_behind r call seat → HasAnswered Says (reached_post r call (Some p)) a
     → record p { standing = Some next } ≡ post_behind r call p (reached_post r call (Some p))
-answered_post r call p seat next before x e is reached_ =
+answered_post Says r call p seat next a e is said =
     ap (λ (s : Seat). record p { standing = Some s }) is
     ∙ ap (λ (o : Option Seat). record p { standing = option_map (seat_behind r call) o }) (sym e)
-    ∙ ap (post_behind r call p) (sym reached_)
+    ∙ ap (post_behind r call p) (sym said.is)
 
-pub stopped_post : (r : Rules) (call : Call) (p : Post) (kept : Bool) (x : Record) → reached_post r call (Some p) ≡ stops kept x → record p { standing = None; armed = None } ≡ post_behind r call p (reached_post r call (Some p))
-stopped_post r call p kept x reached_ = ap (post_behind r call p) (sym reached_)
-
-pub same_lists : (lists : Option Journals) → KeepsJournals lists lists
-same_lists None = tt
-same_lists (Some lists) = refl
+pub stopped_post : (r : Rules) (call : Call) (p : Post) → HasStopped (reached_post r call (Some p)) → record p { standing = None; armed = None } ≡ post_behind r call p (reached_post r call (Some p))
+stopped_post r call p said = ap (post_behind r call p) (sym said.is)

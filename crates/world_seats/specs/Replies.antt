@@ -1,5 +1,5 @@
 -- What is replied to a call on a member, against what the definition says becomes of the call. Source: this profile.
-use Rattle.std.specs.Prelude.{◌≡◌, ◌⊎◌, ℕ, Bool, List, [], Option, Some, None, option_map, Result, Ok, Err, IfOk}
+use Rattle.std.specs.Prelude.{◌≡◌, ◌⊎◌, ℕ, Bool, true, false, List, [], Option, Some, None, option_map, Result, Ok, Err, IfOk}
 use Rattle.digest_core.specs.declared.Digest.{Digest}
 use Rattle.quorum_core.specs.declared.signer.Signer.{Signer}
 use Rattle.journal_core.specs.declared.records.Record.{Record}
@@ -35,6 +35,11 @@ pub record HasAnswered {A : Type 0} (Says : Member → A → Type 0) (what : Rea
   pub is : what ≡ answers before due
   pub says : Says before answer
 
+-- the call of a member that is up came to its answer, or to a stop
+abbrev pub Met : {A : Type 0} → (Member → A → Type 0) → Reached → Option A → Type 0
+Met Says what None = HasStopped what
+Met Says what (Some answer) = HasAnswered Says what answer
+
 abbrev pub Replies : {A : Type 0} → (Member → A → Type 0) → Reached → Reply A → Type 0
 Replies Says what reply.Down = what ≡ finds_down
 Replies Says what reply.Stopped = HasStopped what
@@ -65,6 +70,11 @@ Leaves before now m x (Err e) = MayAddLeft before now m x
 abbrev pub AddsBytes : {A E : Type 0} → Option Journals → Option Journals → ℕ → List ℕ → Result A E → Type 0
 AddsBytes before now m bytes (Ok a) = AddsRecord before now m bytes
 AddsBytes before now m bytes (Err e) = AddsRecord before now m bytes ⊎ KeepsJournals before now
+
+-- a stop that keeps adds these bytes, and one that loses adds nothing
+abbrev pub KeptWhere : {A E : Type 0} → Bool → Option Journals → Option Journals → ℕ → List ℕ → Result A E → Type 0
+KeptWhere true before now m bytes result = AddsBytes before now m bytes result
+KeptWhere false before now m bytes result = KeepsJournals before now
 
 -- ---- answers that are none
 

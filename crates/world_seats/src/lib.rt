@@ -12,6 +12,7 @@ mod requests;
 mod seat;
 mod seats;
 mod starts;
+mod stops;
 
 pub use reply::{Reply, RestartFault, SeatFault};
 pub use seats::Seats;

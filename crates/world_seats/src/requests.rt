@@ -1,22 +1,19 @@
 //! Requests to a member that is up.
 
-ghost use Rattle.std.specs.Prelude.{◌≡◌, ◌<◌, ◌≤◌, ℕ, IfOk, IsErrOf, OnOk, length, slice_get, true};
+ghost use Rattle.std.specs.Prelude.{◌≡◌, ◌<◌, ◌≤◌, ℕ, IfOk, IsErrOf, OnOk, true};
 ghost use Rattle.outside.specs.Causes.{Rose};
-ghost use Rattle.outside.specs.Lists.{journal_of};
 ghost use Rattle.chain_spec.specs.Certificates.{Rules};
 ghost use Rattle.member_spec.specs.Member.{Member};
 ghost use Rattle.member_spec.specs.Calls.{Call, due, holds, votes};
 ghost use Rattle.validator_core.specs.Seats.{rules_of_seat};
 ghost use Rattle.world_scene.specs.Posts.{seat_behind};
 ghost use Rattle.world_seats.specs.declared.reply.SeatFault.TheVariants as faults;
-ghost use Rattle.world_seats.specs.Replies.{Accepting, AddsBytes, Leaves, SaysHold, SaysVote, hold_fault, spelled_due, vote_fault};
+ghost use Rattle.world_seats.specs.Replies.{Accepting, Leaves, SaysHold, SaysVote, hold_fault, vote_fault};
 
 use crate::reply::SeatFault;
-use outside::{Keeper, MemKeeper, OutFault};
+use outside::Keeper;
 use quorum_core::Sealer;
-use std::alloc::Global;
 use validator_core::{HoldRefusal, Validator, VoteRefusal, Voted};
-use wire_bcs::{OutOfMemory, Seq};
 
 /// A request to a member.
 pub(crate) trait Asks {
@@ -26,7 +23,7 @@ pub(crate) trait Asks {
     ghost call: { Self → Call };
 
     /// What a member of this number answers, under these rules and accepted seals, in the state before the call.
-    ghost says: { Self → Rules → Accepting → ℕ → Member → Answer → Type 0 };
+    ghost says: { Self → Rules → Accepting → ℕ → Member → Self.Answer → Type 0 };
 
     /// Asks a member that is up.
     fn ask<D: Keeper, S: Sealer>(
@@ -183,62 +180,5 @@ fn ask_hold<D: Keeper, S: Sealer>(
     match hold_fault(&answer) {
         Some(fault) => Err(fault),
         None => Ok(answer),
-    }
-}
-
-/// The first record of a member; none where it has none. Any failure is taken for want of memory.
-fn first_record(paper: &mut MemKeeper, member: u32) -> Result<Option<Seq<u8>>, OutOfMemory>
-    requires known { member < length paper.old.lists }
-    ensures { IfOk result (λ first. first ≡ slice_get (journal_of paper.old.lists member) 0) }
-{
-    if paper.count(member) == 0 {
-        return Ok(None);
-    }
-    match paper.read(member, 0) {
-        Ok(record) => Ok(Some(record)),
-        Err(_) => Err(OutOfMemory),
-    }
-}
-
-/// Asks a member that is up and keeps no record: the answer, and the spelling of the record that is due.
-#[tactic(auto, using(crate::proofs::Replying::paper_due))]
-pub(crate) fn ask_on_paper<S: Sealer, Q: Asks>(
-    alloc: Global,
-    validator: &mut Validator,
-    sealer: &S,
-    member: u32,
-    request: &Q,
-) -> Result<(Q::Answer, Option<Seq<u8>>), OutOfMemory>
-    requires few { member < 64 }
-    requires number { validator.old.member ≡ member }
-    requires up { validator.old.up ≡ true }
-    ensures answer { IfOk result (λ given. Q.says request.now (rules_of_seat validator.old (S.accepts sealer.now)) (S.accepts sealer.now) validator.old.member validator.old.state given.0) }
-    ensures state { OnOk result (validator.new ≡ seat_behind (rules_of_seat validator.old (S.accepts sealer.now)) (Q.call request.now) validator.old) }
-    ensures due { IfOk result (λ given. given.1 ≡ spelled_due (due (rules_of_seat validator.old (S.accepts sealer.now)) validator.old.state (Q.call request.now))) }
-{
-    let mut paper = MemKeeper::new(alloc, member + 1, [].as_slice())?;
-    let answer = match request.ask(validator, &mut paper, sealer) {
-        Ok(answer) => answer,
-        Err(_) => return Err(OutOfMemory),
-    };
-    let due = first_record(&mut paper, member)?;
-    Ok((answer, due))
-}
-
-/// Appends the bytes of a record. Those of 2^31 bytes, more than any record has, count as want of memory.
-pub(crate) fn append<D: Keeper>(keeper: &mut D, member: u32, bytes: &[u8]) -> Result<(), SeatFault>
-    requires known { member < D.width keeper.old }
-    ensures kept { AddsBytes (D.lists keeper.old) (D.lists keeper.new) member bytes.now result }
-    ensures width { D.width keeper.new ≡ D.width keeper.old }
-    ensures later { D.failed keeper.old ≤ D.failed keeper.new }
-    ensures fault { IsErrOf result faults.KeepFault → Rose (D.failed keeper.old) (D.failed keeper.new) }
-{
-    if bytes.len() >= 1 << 31 {
-        return Err(SeatFault::OutOfMemory);
-    }
-    match keeper.append(member, bytes) {
-        Ok(()) => Ok(()),
-        Err(OutFault::Failed) => Err(SeatFault::KeepFault),
-        Err(OutFault::OutOfMemory) => Err(SeatFault::OutOfMemory),
     }
 }

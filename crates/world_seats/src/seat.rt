@@ -6,11 +6,12 @@ ghost use Rattle.member_core.specs.Answers.{rules_for};
 ghost use Rattle.world_scene.specs.Posts.{arming, reached_post, record_left};
 ghost use Rattle.world_scene.specs.Steps.{held_by};
 ghost use Rattle.world_seats.specs.declared.reply.SeatFault.TheVariants as faults;
-ghost use Rattle.world_seats.specs.Crews.{IsPlaced, PostAfter};
+ghost use Rattle.world_seats.specs.Crews.{IsPlaced, PostAfter, fallen};
 ghost use Rattle.world_seats.specs.Replies.{Leaves, Replies};
 
 use crate::reply::{Reply, SeatFault};
-use crate::requests::{Asks, append, ask_on_paper};
+use crate::requests::Asks;
+use crate::stops::meet;
 use chain_types::ObjectKey;
 use digest_core::Digest;
 use outside::Keeper;
@@ -18,7 +19,6 @@ use quorum_core::{Committee, Sealer};
 use std::alloc::Global;
 use std::marker::Model;
 use validator_core::Validator;
-use wire_bcs::OutOfMemory;
 
 /// A member: whether it is honest, the member where it is up, and an armed stop, which keeps the next record or
 /// loses it. Contracts see the definition's post.
@@ -51,6 +51,21 @@ impl Seat {
     {
         self.validator = Some(validator);
         self.armed = None;
+    }
+
+    /// The member is down, and no stop is armed. Takes no memory.
+    fn stop(&mut self)
+        ensures { self.new ≡ record self.old { standing = None; armed = None } }
+    {
+        self.validator = None;
+        self.armed = None;
+    }
+
+    /// The member is down. Takes no memory.
+    fn fall(&mut self)
+        ensures { self.new ≡ fallen self.old }
+    {
+        self.validator = None;
     }
 
     /// The digest that the member has of a version, where it is honest, up and holds it. Takes no memory.
@@ -86,26 +101,19 @@ impl Seat {
         ensures later { D.failed keeper.old ≤ D.failed keeper.new }
         ensures fault { IsErrOf result faults.KeepFault → Rose (D.failed keeper.old) (D.failed keeper.new) }
     {
-        let Some(mut validator) = self.validator.take() else {
+        let Some(validator) = &mut self.validator else {
             return Ok(Reply::Down);
         };
-        let Some(kept) = self.armed else {
-            let answer = request.ask(&mut validator, keeper, sealer)?;
-            self.validator = Some(validator);
-            return Ok(Reply::Answered(answer));
-        };
-        let (answer, due) = match ask_on_paper(alloc, &mut validator, sealer, member, request) {
-            Ok(given) => given,
-            Err(OutOfMemory) => return Err(SeatFault::OutOfMemory),
-        };
-        let Some(bytes) = due else {
-            self.validator = Some(validator);
-            return Ok(Reply::Answered(answer));
-        };
-        if kept {
-            append(keeper, member, bytes.as_slice())?;
+        match meet(alloc, validator, keeper, sealer, member, self.armed, request) {
+            Ok(Some(answer)) => Ok(Reply::Answered(answer)),
+            Ok(None) => {
+                self.stop();
+                Ok(Reply::Stopped)
+            }
+            Err(fault) => {
+                self.fall();
+                Err(fault)
+            }
         }
-        self.armed = None;
-        Ok(Reply::Stopped)
     }
 }
