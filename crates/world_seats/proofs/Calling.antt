@@ -1,19 +1,17 @@
 -- A call on one member among the others.
-use Rattle.std.proofs.Common.{◌≡◌, ℕ, ◌<◌, ◌≤◌, List, [], length, get_or, set, Option, Some, None, refl, sym, ap, ◌∙◌, subst, arith, length-set}
-use Rattle.std.specs.Prelude.{Bool, Result, Ok, Err, OnOk, OnErr, slice_get}
-use Rattle.std.proofs.lemmas.Option.{slice_get_read, slice_get_past}
+use Rattle.std.proofs.Common.{◌≡◌, ℕ, ◌<◌, List, length, get_or, set, Option, Some, None, refl, sym, ap, ◌∙◌, subst, length-set}
+use Rattle.std.specs.Prelude.{Bool, Result, Ok, Err, IfOk, OnOk, OnErr, slice_get}
+use Rattle.std.proofs.lemmas.Option.{slice_get_read}
 use Rattle.journal_core.specs.declared.records.Record.{Record}
-use Rattle.outside.specs.Lists.{Journals, KeepsJournals}
+use Rattle.outside.specs.Lists.{Journals}
 use Rattle.chain_spec.specs.Certificates.{Rules}
 use Rattle.member_spec.specs.Calls.{Call}
 use Rattle.member_spec.specs.Member.{Member}
-use Rattle.world_spec.specs.World.{Reached, finds_down}
 use Rattle.world_scene.specs.Posts.{Post, changed_at, post_behind, posts_behind, posts_with, reached_in, reached_post, record_left}
 use Rattle.world_seats.specs.declared.reply.Reply.{Reply}
 use Rattle.world_seats.specs.Crews.{IsPlaced, PostAfter, PostsAfter, fallen, fallen_at}
 use Rattle.world_seats.specs.Replies.{Leaves, Replies}
 use Rattle.world_seats.proofs.Placing.{AreWhole, changed_is, post_honest, post_placed, whole_with}
-use Rattle.world_seats.proofs.Replying.{same_lists}
 
 -- ---- behind the call
 
@@ -36,27 +34,13 @@ posts_after posts n m r call old p (Err f) count low is e = changed_is fallen po
 
 -- ---- what is said of it
 
-pub said_in : {A : Type 0} (Says : Member → A → Type 0) (posts : List Post) (n m : ℕ) (r : Rules) (call : Call) (old : Post) (reply : Reply A) → n ≡ length posts → m < n → old ≡ get_or posts m old → Replies Says (reached_post r call (Some old)) reply
-    → Replies Says (reached_in r posts m call) reply
-said_in Says posts n m r call old reply count low is h = subst (λ (o : Option Post). Replies Says (reached_post r call o) reply) (sym (slice_get_read posts n m old count low is)) h
+pub said_in : {A E : Type 0} (Says : Member → A → Type 0) (posts : List Post) (n m : ℕ) (r : Rules) (call : Call) (old : Post) (result : Result (Reply A) E) → n ≡ length posts → m < n → old ≡ get_or posts m old
+    → IfOk result (Replies Says (reached_post r call (Some old))) → IfOk result (Replies Says (reached_in r posts m call))
+said_in Says posts n m r call old result count low is h = subst (λ (o : Option Post). IfOk result (Replies Says (reached_post r call o))) (sym (slice_get_read posts n m old count low is)) h
 
 pub left_in : {A E : Type 0} (before now : Option Journals) (posts : List Post) (n m : ℕ) (r : Rules) (call : Call) (old : Post) (result : Result A E) → n ≡ length posts → m < n → old ≡ get_or posts m old
     → Leaves before now m (record_left (reached_post r call (Some old))) result → Leaves before now m (record_left (reached_in r posts m call)) result
 left_in before now posts n m r call old result count low is h = subst (λ (o : Option Post). Leaves before now m (record_left (reached_post r call o)) result) (sym (slice_get_read posts n m old count low is)) h
-
--- ---- a member that is not there
-
-absent : (posts : List Post) (n m : ℕ) → n ≡ length posts → n ≤ m → slice_get posts m ≡ None
-absent posts n m count high = slice_get_past posts m (omega (arith, count, high))
-
-pub absent_down : (posts : List Post) (n m : ℕ) (r : Rules) (call : Call) → n ≡ length posts → n ≤ m → reached_in r posts m call ≡ finds_down
-absent_down posts n m r call count high = ap (reached_post r call) (absent posts n m count high)
-
-pub absent_posts : (posts : List Post) (n m : ℕ) (r : Rules) (call : Call) → n ≡ length posts → n ≤ m → posts ≡ posts_behind r posts m call
-absent_posts posts n m r call count high = ap (posts_with r call posts m) (sym (absent posts n m count high))
-
-pub absent_left : (lists : Option Journals) (posts : List Post) (n m : ℕ) (r : Rules) (call : Call) → n ≡ length posts → n ≤ m → Leaves {A = Unit {0}} {E = Unit {0}} lists lists m (record_left (reached_in r posts m call)) (Ok tt)
-absent_left lists posts n m r call count high = subst (λ (o : Option Post). Leaves {A = Unit {0}} {E = Unit {0}} lists lists m (record_left (reached_post r call o)) (Ok tt)) (sym (absent posts n m count high)) (same_lists lists)
 
 -- ---- so many as before
 
