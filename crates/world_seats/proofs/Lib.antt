@@ -1,0 +1,5 @@
+pub mod Replying
+pub mod Placing
+pub mod Calling
+pub mod Reading
+pub mod Holders
