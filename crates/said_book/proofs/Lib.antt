@@ -1,0 +1,5 @@
+pub mod Places
+pub mod Books
+pub mod Weights
+pub mod Spelled
+pub mod Worlds
