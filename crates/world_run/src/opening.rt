@@ -9,7 +9,7 @@ use digest_core::{address_of, genesis_id};
 use indexmap::IndexSet;
 use schedule_text::Setup;
 use std::alloc::Global;
-use wire_bcs::OutOfMemory;
+use wire_bcs::{OutOfMemory, Seq};
 
 /// Adds the stake of a line that makes a member.
 fn add_stake(stakes: &mut Vec<u32>, line: &Setup) -> Result<(), OutOfMemory>
@@ -26,15 +26,23 @@ fn add_stake(stakes: &mut Vec<u32>, line: &Setup) -> Result<(), OutOfMemory>
     }
 }
 
+/// Adds the stakes of the lines.
+fn add_stakes(stakes: &mut Vec<u32>, setup: &[Setup]) -> Result<(), OutOfMemory>
+    ensures { OnOk result (stakes.new.items ≡ fold with_stake stakes.old.items setup.now) }
+{
+    for line in setup {
+        add_stake(stakes, line)?;
+    }
+    Ok(())
+}
+
 /// The stakes of the members, by their numbers.
 #[tactic(auto, using(crate::proofs::SetUp::all_stakes))]
 pub(crate) fn stakes_of(alloc: Global, setup: &[Setup]) -> Result<Vec<u32>, OutOfMemory>
     ensures { IfOk result (λ stakes. stakes.items ≡ stakes_of setup.now) }
 {
     let mut stakes = Vec::new(alloc);
-    for line in setup {
-        add_stake(&mut stakes, line)?;
-    }
+    add_stakes(&mut stakes, setup)?;
     Ok(stakes)
 }
 
@@ -53,15 +61,23 @@ fn add_flag(flags: &mut Vec<bool>, line: &Setup) -> Result<(), OutOfMemory>
     }
 }
 
+/// Adds the flags of the lines.
+fn add_flags(flags: &mut Vec<bool>, setup: &[Setup]) -> Result<(), OutOfMemory>
+    ensures { OnOk result (flags.new.items ≡ fold with_flag flags.old.items setup.now) }
+{
+    for line in setup {
+        add_flag(flags, line)?;
+    }
+    Ok(())
+}
+
 /// Which members are honest, by their numbers.
 #[tactic(auto, using(crate::proofs::SetUp::all_flags))]
 pub(crate) fn honest_of(alloc: Global, setup: &[Setup]) -> Result<Vec<bool>, OutOfMemory>
     ensures { IfOk result (λ flags. flags.items ≡ honest_of setup.now) }
 {
     let mut flags = Vec::new(alloc);
-    for line in setup {
-        add_flag(&mut flags, line)?;
-    }
+    add_flags(&mut flags, setup)?;
     Ok(flags)
 }
 
@@ -120,15 +136,23 @@ fn add_object(objects: &mut Vec<Object>, line: &Setup) -> Result<(), OutOfMemory
     Ok(())
 }
 
+/// Adds the objects of the lines.
+fn add_objects(objects: &mut Vec<Object>, setup: &[Setup]) -> Result<(), OutOfMemory>
+    ensures { OnOk result (objects.new.items ≡ fold with_object objects.old.items setup.now) }
+{
+    for line in setup {
+        add_object(objects, line)?;
+    }
+    Ok(())
+}
+
 /// The objects of the lines, in their order.
 #[tactic(auto, using(crate::proofs::SetUp::all_objects))]
 fn objects_of(alloc: Global, setup: &[Setup]) -> Result<Vec<Object>, OutOfMemory>
     ensures { IfOk result (λ objects. objects.items ≡ objects_from 0 setup.now) }
 {
     let mut objects = Vec::new(alloc);
-    for line in setup {
-        add_object(&mut objects, line)?;
-    }
+    add_objects(&mut objects, setup)?;
     Ok(objects)
 }
 
@@ -141,7 +165,15 @@ fn insert_new_id(seen: &mut IndexSet<ObjectId>, id: ObjectId) -> Result<(), OutO
     Ok(())
 }
 
+/// Whether an id is there. Takes no memory.
+fn is_seen(seen: &IndexSet<ObjectId>, id: &ObjectId) -> bool
+    ensures { result ≡ has_id seen.now.keys id.now }
+{
+    seen.contains(id)
+}
+
 /// Adds an object, unless an earlier one has its id; `seen` has the ids of those that are there.
+#[tactic(auto, using(crate::proofs::Opened::left_out, crate::proofs::Opened::added, crate::proofs::Opened::id_added))]
 fn add_new(
     objects: &mut Vec<Object>,
     seen: &mut IndexSet<ObjectId>,
@@ -151,11 +183,26 @@ fn add_new(
     ensures objects { OnOk result (objects.new.items ≡ with_new objects.old.items object.now) }
     ensures seen { OnOk result (seen.new.keys ≡ map object_id objects.new.items) }
 {
-    if seen.contains(&object.id) {
+    if is_seen(seen, &object.id) {
         return Ok(());
     }
     insert_new_id(seen, object.id)?;
     objects.push(*object)?;
+    Ok(())
+}
+
+/// Adds the objects, without those whose id an earlier one has.
+fn add_all_new(
+    kept: &mut Vec<Object>,
+    seen: &mut IndexSet<ObjectId>,
+    objects: &[Object],
+) -> Result<(), OutOfMemory>
+    requires { seen.old.keys ≡ map object_id kept.old.items }
+    ensures { OnOk result (kept.new.items ≡ fold with_new kept.old.items objects.now) }
+{
+    for object in objects {
+        add_new(kept, seen, object)?;
+    }
     Ok(())
 }
 
@@ -165,16 +212,15 @@ fn without_repeats(alloc: Global, objects: &[Object]) -> Result<Vec<Object>, Out
 {
     let mut kept = Vec::new(alloc);
     let mut seen = IndexSet::new(alloc);
-    for object in objects {
-        add_new(&mut kept, &mut seen, object)?;
-    }
+    add_all_new(&mut kept, &mut seen, objects)?;
     Ok(kept)
 }
 
 /// The objects with which epoch 0 opens: of objects with one id the first.
-pub(crate) fn opening_of(alloc: Global, setup: &[Setup]) -> Result<Vec<Object>, OutOfMemory>
-    ensures { IfOk result (λ objects. objects.items ≡ fold with_new [] (objects_from 0 setup.now)) }
+pub(crate) fn opening_of(alloc: Global, setup: &[Setup]) -> Result<Seq<Object>, OutOfMemory>
+    ensures { IfOk result (λ objects. objects ≡ fold with_new [] (objects_from 0 setup.now)) }
 {
     let objects = objects_of(alloc, setup)?;
-    without_repeats(alloc, objects.as_slice())
+    let kept = without_repeats(alloc, objects.as_slice())?;
+    Ok(Seq::from_vec(kept))
 }
