@@ -6,3 +6,4 @@ pub mod Lines
 pub mod Voting
 pub mod Restarts
 pub mod Steps
+pub mod Stays

@@ -52,9 +52,9 @@ any_push test (y ∷ ys) x = go (test y) (any_push test ys x)
     go false e = e
 
 repeats_push : (ks : List ObjectKey) (k : ObjectKey) → repeats key_eq ks ≡ false → list_any (λ q. key_eq q k) ks ≡ false → repeats key_eq (ks ++ k ∷ []) ≡ false
-repeats_push [] k no others = refl
-repeats_push (q ∷ qs) k no others =
-    let n : (list_any (key_eq q) qs ≡ false) × (repeats key_eq qs ≡ false) = either_false (list_any (key_eq q) qs) (repeats key_eq qs) no in
+repeats_push [] k apart others = refl
+repeats_push (q ∷ qs) k apart others =
+    let n : (list_any (key_eq q) qs ≡ false) × (repeats key_eq qs ≡ false) = either_false (list_any (key_eq q) qs) (repeats key_eq qs) apart in
     let o : (key_eq q k ≡ false) × (list_any (λ p. key_eq p k) qs ≡ false) = either_false (key_eq q k) (list_any (λ p. key_eq p k) qs) others in
     ap (λ b. b || repeats key_eq (qs ++ k ∷ [])) (any_push (key_eq q) qs k ∙ ap (λ b. b || key_eq q k) n.0 ∙ o.0)
     ∙ repeats_push qs k n.1 o.1
@@ -67,18 +67,18 @@ other_keys (p ∷ ps) o e =
     ∙ other_keys ps o h.1
 
 one_new : (objects : List Object) (o : Object) → repeats key_eq (map object_key objects) ≡ false → repeats key_eq (map object_key (with_new objects o)) ≡ false
-one_new objects o no = go (list_any (λ (p : Object). id_eq p.id o.id) objects) refl
+one_new objects o apart = go (list_any (λ (p : Object). id_eq p.id o.id) objects) refl
   where
     go : (b : Bool) → list_any (λ (p : Object). id_eq p.id o.id) objects ≡ b → repeats key_eq (map object_key (with_new objects o)) ≡ false
-    go true is = ap (λ b. repeats key_eq (map object_key (cond b objects (objects ++ o ∷ [])))) is ∙ no
+    go true is = ap (λ b. repeats key_eq (map object_key (cond b objects (objects ++ o ∷ [])))) is ∙ apart
     go false is =
         ap (λ b. repeats key_eq (map object_key (cond b objects (objects ++ o ∷ [])))) is
         ∙ ap (repeats key_eq) (map-append object_key objects (o ∷ []))
-        ∙ repeats_push (map object_key objects) (object_key o) no (other_keys objects o is)
+        ∙ repeats_push (map object_key objects) (object_key o) apart (other_keys objects o is)
 
 all_new : (objects more : List Object) → repeats key_eq (map object_key objects) ≡ false → repeats key_eq (map object_key (fold with_new objects more)) ≡ false
-all_new objects [] no = no
-all_new objects (o ∷ os) no = all_new (with_new objects o) os (one_new objects o no)
+all_new objects [] apart = apart
+all_new objects (o ∷ os) apart = all_new (with_new objects o) os (one_new objects o apart)
 
 none_held : (keys : List ObjectKey) → list_any (holds_key []) keys ≡ false
 none_held [] = refl

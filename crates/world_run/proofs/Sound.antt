@@ -1,6 +1,6 @@
 -- What holds of each world is kept by its lines; a committee and its members.
-use Rattle.std.proofs.Common.{arith, ◌≡◌, ◌≤◌, ℕ, ◌+◌, Bool, true, false, cond, List, [], ◌∷◌, ◌++◌, length, Option, Some, None, Result, Ok, Err, refl, ap, sym, subst, ◌∙◌}
-use Rattle.std.specs.Prelude.{fold, find, nat_lt, ◌==◌}
+use Rattle.std.proofs.Common.{arith, ◌≡◌, ◌≤◌, ℕ, suc, Bool, true, false, cond, List, [], ◌∷◌, ◌++◌, length, Option, Some, None, Result, Ok, Err, refl, ap, sym, subst, ◌∙◌}
+use Rattle.std.specs.Prelude.{OnOk, fold, find, nat_lt, ◌==◌}
 use Rattle.std.specs.List.{list_any}
 use Rattle.std.proofs.lemmas.Bool.{ltb-false}
 use Rattle.chain_types.specs.declared.objects.Object.{Object}
@@ -13,10 +13,13 @@ use Rattle.quorum_core.specs.declared.committee.CommitteeRefusal.TheVariants as 
 use Rattle.schedule_text.specs.declared.words.Setup.{Setup}
 use Rattle.schedule_text.specs.declared.words.Setup.TheVariants as line
 use Rattle.version_store.specs.Stores.{are_new}
-use Rattle.world_spec.specs.Setting.{Name, honest_of, objects_from, stakes_of, with_new}
+use Rattle.world_spec.specs.Setting.{Name, Trust, honest_of, objects_from, stakes_of, with_new}
 use Rattle.world_spec.specs.World.{Formed, Made}
 use Rattle.world_spec.specs.Making.{TxLine}
 use Rattle.world_names.specs.Known.{Known, known_by, with_line}
+use Rattle.tx_making.specs.Making.{line_made}
+use Rattle.world_scene.specs.Scene.{Scene}
+use Rattle.world_scene.specs.Steps.{held_in, with_tx}
 use Rattle.world_run.specs.Sound.{IsSound, IsSpelled, IsSpelledCert}
 use Rattle.world_run.proofs.Opened.{opening_new}
 
@@ -74,7 +77,7 @@ few_stakes stakes c is = go (length stakes == 0) (nat_lt 64 (length stakes)) ref
 
 as_many : (lines : List Setup) → length (honest_of lines) ≡ length (stakes_of lines)
 as_many [] = refl
-as_many (line.Member stake honest ∷ lines) = ap (λ n. 1 + n) (as_many lines)
+as_many (line.Member stake honest ∷ lines) = ap suc (as_many lines)
 as_many (line.Coin name who balance ∷ lines) = as_many lines
 as_many (line.Counter name value ∷ lines) = as_many lines
 as_many (line.Cap name who currency ∷ lines) = as_many lines
@@ -87,3 +90,17 @@ few_flags lines flags c is same =
 
 pub committee_whole : (stakes c : List ℕ) → committee_of stakes ≡ Ok c → committee_of stakes ≡ Ok stakes
 committee_whole stakes c is = is ∙ ap (λ xs. Ok xs) (stakes_same stakes c is)
+
+-- ---- a transaction of a line
+
+pub on_ok : {A E : Type 0} (P : Type 0) (result : Result A E) → P → OnOk result P
+on_ok P (Ok a) p = p
+on_ok P (Err e) p = tt
+
+abbrev with_known : Scene → Known → Scene
+with_known sc known = record sc { known = known }
+
+pub tx_made : (trust : Trust) (v sc : Scene) (l : TxLine) (t : Made) (known : Known) → v ≡ sc → t ≡ line_made v.known (held_in v.posts) trust.seal l → known ≡ with_line v.known l t → with_known v known ≡ with_tx trust sc l
+tx_made trust v sc l t known same is now =
+    subst (λ (x : Scene). with_known v known ≡ with_tx trust x l) same
+    (ap (with_known v) (now ∙ ap (with_line v.known l) is))

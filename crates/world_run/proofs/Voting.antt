@@ -225,3 +225,33 @@ first_of_none said tx ms origins e o = o ∙ sym (ap (first_origins_by said tx) 
 
 pub first_of_some : (said : List Said) (tx : Digest) (m : ℕ) (rest ms : List ℕ) (origins : List (Option Digest)) → ms ≡ m ∷ rest → origins ≡ list_or_none (vote_by said tx m) → origins ≡ first_origins_by said tx ms
 first_of_some said tx m rest ms origins e o = o ∙ sym (ap (first_origins_by said tx) e)
+
+-- ---- the same in a scene that is seen from inside
+
+abbrev with_certs : Scene → List Formed → Scene
+with_certs sc certs = record sc { certs = certs }
+
+pub form_others : (trust : Trust) (v sc : Scene) (name : Name) (ms : List ℕ) (made : MadeTx) (got : Given) (b : Bool) → v ≡ sc → Some (made_as made) ≡ made_named (bare_world v) name
+    → collected_as got ≡ collects v made.digest ms → b ≡ is_whole got → b ≡ false → sc ≡ with_certs sc (formed (bare_setting trust sc) (bare_world sc) ms (made_named (bare_world sc) name)).certs
+form_others trust v sc name ms made got b same e c w n =
+    subst (λ (x : Scene). x ≡ with_certs x (formed (bare_setting trust x) (bare_world x) ms (made_named (bare_world x) name)).certs) same
+    (ap (with_certs v) (others_form trust v ms made (made_named (bare_world v) name) got e c (sym w ∙ n)))
+
+pub form_whole : (trust : Trust) (v sc : Scene) (name : Name) (ms : List ℕ) (made : MadeTx) (got : Given) (b : Bool) (cert : Certificate) (certs : List Formed) → v ≡ sc → Some (made_as made) ≡ made_named (bare_world v) name
+    → collected_as got ≡ collects v made.digest ms → b ≡ is_whole got → b ≡ true → cert ≡ certificate_by trust.seal (made_as made) (first_origins_by v.said made.digest ms) ms
+    → certs ≡ v.certs ++ record { name = made.name; cert = cert } ∷ [] → with_certs v certs ≡ with_certs sc (formed (bare_setting trust sc) (bare_world sc) ms (made_named (bare_world sc) name)).certs
+form_whole trust v sc name ms made got b cert certs same e c w n by is =
+    subst (λ (x : Scene). with_certs v certs ≡ with_certs x (formed (bare_setting trust x) (bare_world x) ms (made_named (bare_world x) name)).certs) same
+    (ap (with_certs v) (whole_forms trust v ms made (made_named (bare_world v) name) got cert certs e c (sym w ∙ n) by is))
+
+pub form_lines : (trust : Trust) (v sc : Scene) (name : Name) (ms : List ℕ) (made : MadeTx) (got : Given) (lines : List Line) → v ≡ sc → Some (made_as made) ≡ made_named (bare_world v) name
+    → collected_as got ≡ collects v made.digest ms → lines ≡ line.Cert name (cert_collected ms (collected_as got)) ∷ [] → lines ≡ cert_lines (bare_setting trust sc) (bare_world sc) name ms (made_named (bare_world sc) name)
+form_lines trust v sc name ms made got lines same e c l =
+    subst (λ (x : Scene). lines ≡ cert_lines (bare_setting trust x) (bare_world x) name ms (made_named (bare_world x) name)) same
+    (collected_lines trust v name ms made (made_named (bare_world v) name) got lines e c l)
+
+pub false_lines : (v sc : Scene) (m : ℕ) (name : Name) (words : List (Option Name)) (made : MadeTx) (origins : List (Option Digest)) (lines : List Line) → v ≡ sc → Some (made_as made) ≡ made_named (bare_world v) name
+    → origins ≡ origins_by v.known v.said (honest_flags v.posts) (made_as made) words → lines ≡ line.Fvote m name (origin_names (world_with v.known) origins) ∷ [] → lines ≡ fvote_lines (bare_world sc) m name words (made_named (bare_world sc) name)
+false_lines v sc m name words made origins lines same e o l =
+    subst (λ (x : Scene). lines ≡ fvote_lines (bare_world x) m name words (made_named (bare_world x) name)) same
+    (vote_lines v m name words made (made_named (bare_world v) name) origins lines e o l)

@@ -6,3 +6,4 @@ pub mod Texts
 pub mod Kept
 pub mod Restarts
 pub mod Votes
+pub mod Stays

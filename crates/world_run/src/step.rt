@@ -8,6 +8,7 @@ ghost use Rattle.world_scene.specs.Worlds.{is_plain, is_restart};
 ghost use Rattle.world_run.specs.declared.world.WorldFault.TheVariants as fault;
 ghost use Rattle.world_run.specs.Kept.{LeavesAs};
 ghost use Rattle.world_run.specs.Restarts.{MayRestart};
+ghost use Rattle.world_run.specs.Stays.{Stays};
 ghost use Rattle.world_run.specs.Trusts.{trust_by};
 
 use crate::world::{World, WorldFault};
@@ -22,7 +23,7 @@ impl World {
     /// Runs one line, and answers the lines that the report has for it. The record that its call leaves is
     /// appended before it answers. `KeepFault`: the keeper failed, and its count of faults rose. `BadRecord`: the
     /// member of a `restart` line does not start from its records. Behind a fault nothing is said of the world.
-    #[tactic(auto, unfolding(world_scene::specs::Steps::call_of), using(crate::proofs::Steps::fault_left, crate::proofs::Steps::quiet_left))]
+    #[tactic(auto, unfolding(world_scene::specs::Steps::call_of), using(crate::proofs::Steps::fault_left, crate::proofs::Steps::quiet_left, crate::proofs::Stays::step_stays, crate::proofs::Stays::restart_stays))]
     pub fn step<D: Keeper, S: MakesSeals>(
         &mut self,
         keeper: &mut D,
@@ -35,6 +36,7 @@ impl World {
         ensures lines { IfOk result (λ lines. is_restart event.now ≡ false → lines ≡ lines_in (trust_by (S.made sealer.now) (S.accepts sealer.now)) self.old event.now) }
         ensures kept { LeavesAs (rules_in (S.accepts sealer.now) self.old) self.old (call_of self.old event.now) (D.lists keeper.old) (D.lists keeper.new) result }
         ensures restart { MayRestart (S.accepts sealer.now) (D.lists keeper.old) self.old self.new event.now result }
+        ensures stay { OnOk result (Stays self.old self.new) }
         ensures width { D.width keeper.new ≡ D.width keeper.old }
         ensures later { D.failed keeper.old ≤ D.failed keeper.new }
         ensures fault { IsErrOf result fault.KeepFault → Rose (D.failed keeper.old) (D.failed keeper.new) }
