@@ -128,7 +128,9 @@ impl World {
         let Some(made) = self.directory.made(tx) else {
             return cert_lines(self.alloc, tx, CertText::NoVote { member: 0 });
         };
-        let collected = self.said.collect(self.seats.committee(), &made.digest, members);
+        let collected = self
+            .said
+            .collect(self.seats.committee(), &made.digest, members);
         let lines = collected_lines(self.alloc, tx, members, &collected)?;
         if !is_whole(&collected) {
             return Ok(lines);

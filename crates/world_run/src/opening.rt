@@ -121,7 +121,9 @@ fn add_object(objects: &mut Vec<Object>, line: &Setup) -> Result<(), OutOfMemory
         ),
         Setup::Counter { value, .. } => shared(number, Content::Counter { value: *value }),
         Setup::Cap {
-            owner, currency, ..
+            owner,
+            currency,
+            ..
         } => owned(
             number,
             owner.as_slice(),

@@ -30,7 +30,10 @@ impl World {
         ensures fault { IsErrOf result fault.KeepFault → Rose (D.failed keeper.old) (D.failed keeper.new) }
     {
         let alloc = self.alloc;
-        let count = match self.seats.restart(alloc, keeper, sealer, &self.opening, member) {
+        let count = match self
+            .seats
+            .restart(alloc, keeper, sealer, &self.opening, member)
+        {
             Ok(count) => count,
             Err(RestartFault::BadRecord { place }) => {
                 return Err(WorldFault::BadRecord { member, place });

@@ -23,7 +23,7 @@ impl World {
     /// Runs one line, and answers the lines that the report has for it. The record that its call leaves is
     /// appended before it answers. `KeepFault`: the keeper failed, and its count of faults rose. `BadRecord`: the
     /// member of a `restart` line does not start from its records. Behind a fault nothing is said of the world.
-    #[tactic(auto, unfolding(world_scene::specs::Steps::call_of), using(crate::proofs::Steps::fault_left, crate::proofs::Steps::quiet_left, crate::proofs::Stays::step_stays, crate::proofs::Stays::restart_stays))]
+    #[tactic(auto, unfolding(world_scene::specs::Steps::call_of), using(crate::proofs::Steps::fault_left, crate::proofs::Steps::quiet_left, crate::proofs::Stays::restart_stays))]
     pub fn step<D: Keeper, S: MakesSeals>(
         &mut self,
         keeper: &mut D,
