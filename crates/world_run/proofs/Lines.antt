@@ -1,5 +1,5 @@
 -- A line that names a transaction or a certificate, by what is spelled.
-use Rattle.std.proofs.Common.{◌≡◌, ◌∙◌, ap, sym, refl, subst, ℕ, List, [], ◌∷◌, ◌++◌, map, Option, Some, None, Result, Ok, Err, option_map, inl}
+use Rattle.std.proofs.Common.{◌≡◌, ◌∙◌, ap, refl, subst, ℕ, List, [], ◌∷◌, Option, Some, None, Result, Ok, Err, option_map, inl}
 use Rattle.outside.specs.Lists.{Journals, KeepsJournals}
 use Rattle.chain_messages.specs.declared.messages.Certificate.{Certificate}
 use Rattle.chain_spec.specs.Certificates.{Rules}
@@ -14,7 +14,7 @@ use Rattle.world_spec.specs.Setting.{Name, Trust}
 use Rattle.world_spec.specs.World.{Made}
 use Rattle.journal_core.specs.declared.records.Record.{Record}
 use Rattle.world_scene.specs.Posts.{AddsLeft, MayAddLeft, reached_in, record_left}
-use Rattle.world_scene.specs.Scene.{Scene, rules_in}
+use Rattle.world_scene.specs.Scene.{Scene}
 use Rattle.world_scene.specs.Steps.{call_on, called_by, called_scene, held_call, hold_text_in, send_text_in, signed_call, vote_lines_in, vote_text_in}
 use Rattle.world_seats.specs.Replies.{Leaves}
 use Rattle.world_run.specs.Kept.{LeavesAs}

@@ -1,8 +1,5 @@
 -- What a restart of a seat is to the world.
-use Rattle.std.proofs.Common.{◌≡◌, ◌∙◌, ap, sym, refl, ℕ, List, [], ◌∷◌, Option, Some, None, Result, Ok, Err}
-use Rattle.std.specs.Prelude.{Bool, slice_get}
-use Rattle.digest_core.specs.declared.Digest.{Digest}
-use Rattle.quorum_core.specs.declared.signer.Signer.{Signer}
+use Rattle.std.proofs.Common.{◌≡◌, ◌∙◌, ap, ℕ, List, [], ◌∷◌, Option, Some, None, Ok}
 use Rattle.outside.specs.Lists.{Journals}
 use Rattle.report_text.specs.declared.lines.Line.{Line}
 use Rattle.report_text.specs.declared.lines.Line.TheVariants as line
@@ -11,7 +8,6 @@ use Rattle.world_scene.specs.Posts.{Post}
 use Rattle.world_scene.specs.Scene.{Scene, rules_in}
 use Rattle.world_seats.specs.Restarts.{Restarted}
 use Rattle.world_run.specs.Restarts.{Accepting, RestartsAs}
-use Rattle.world_run.specs.declared.world.WorldFault.{WorldFault}
 
 pub comes_back : (accepts : Accepting) (told : Option Journals) (m : ℕ) (old new : Scene) (p : Option Post) (count : ℕ) (lines : List Line) → Restarted (rules_in accepts old) old.opening told old.stakes m old.posts new.posts p count
     → new ≡ record old { posts = new.posts } → lines ≡ line.Restart m (restart_text.Records count) ∷ [] → RestartsAs accepts told m old new p (Ok lines)

@@ -1,5 +1,5 @@
 -- A step leaves the number of members and the stakes as they are.
-use Rattle.std.proofs.Common.{◌≡◌, ◌∙◌, ap, sym, refl, subst, ℕ, zero, suc, Bool, true, false, List, [], ◌∷◌, length, Option, Some, None, Result, Ok, Err}
+use Rattle.std.proofs.Common.{◌≡◌, ◌∙◌, ap, sym, refl, subst, ℕ, zero, suc, List, [], ◌∷◌, length, Option, Some, None, Result, Ok, Err}
 use Rattle.std.specs.Prelude.{OnOk, slice_get, slice_set}
 use Rattle.outside.specs.Lists.{Journals}
 use Rattle.chain_spec.specs.Certificates.{Rules}
@@ -8,13 +8,12 @@ use Rattle.schedule_text.specs.declared.words.Event.{Event}
 use Rattle.schedule_text.specs.declared.words.Event.TheVariants as event
 use Rattle.report_text.specs.declared.lines.Line.{Line}
 use Rattle.world_spec.specs.Setting.{Trust}
-use Rattle.world_scene.specs.Posts.{Post, arming, changed_at, posts_behind, posts_with, starting}
+use Rattle.world_scene.specs.Posts.{Post, arming, changed_at, posts_with, starting}
 use Rattle.world_scene.specs.Scene.{Scene, rules_in}
 use Rattle.world_scene.specs.Steps.{call_of, called_by, called_scene, steps_to}
 use Rattle.world_run.specs.Restarts.{Accepting, RestartsAs}
 use Rattle.world_run.specs.Stays.{Stays}
 use Rattle.world_run.specs.declared.world.WorldFault.{WorldFault}
-use Rattle.world_run.specs.declared.world.WorldFault.TheVariants as fault
 
 set_many : {A : Type 0} (xs : List A) (k : ℕ) (x : A) → length (slice_set xs k x) ≡ length xs
 set_many [] k x = refl

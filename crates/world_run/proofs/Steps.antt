@@ -1,9 +1,8 @@
 -- What a line leaves, where it hands no call to a member or did not end.
-use Rattle.std.proofs.Common.{◌≡◌, Option, Some, None, Result, Ok, Err, ℕ, true, refl}
+use Rattle.std.proofs.Common.{Option, None, Result, Ok, Err, ℕ}
 use Rattle.outside.specs.Lists.{Journals}
 use Rattle.chain_spec.specs.Certificates.{Rules}
 use Rattle.member_spec.specs.Calls.{Call}
-use Rattle.schedule_text.specs.declared.words.Event.{Event}
 use Rattle.world_scene.specs.Scene.{Scene}
 use Rattle.world_run.specs.Kept.{LeavesAs}
 use Rattle.world_run.proofs.Lines.{keeps_same}

@@ -1,10 +1,9 @@
 -- What is said of calls, by what is known, is what the scene's lines say.
-use Rattle.std.proofs.Common.{◌≡◌, ◌∙◌, ap, sym, refl, subst, ℕ, Bool, true, false, List, [], ◌∷◌, ◌++◌, map, append-nil, Option, Some, None, Result, Ok, Err}
+use Rattle.std.proofs.Common.{◌≡◌, ◌∙◌, ap, sym, refl, subst, ℕ, Bool, List, [], ◌∷◌, ◌++◌, map, append-nil, Option, Some, None, Result, Ok, Err}
 use Rattle.std.specs.Prelude.{IfOk, option_map}
 use Rattle.digest_core.specs.declared.Digest.{Digest}
 use Rattle.quorum_core.specs.declared.signer.Signer.{Signer}
 use Rattle.chain_types.specs.declared.objects.Object.{Object}
-use Rattle.chain_messages.specs.declared.messages.Statement.{Statement}
 use Rattle.member_types.specs.declared.answers.Ran.{Ran}
 use Rattle.member_types.specs.declared.answers.Voted.{Voted as Sent}
 use Rattle.member_types.specs.declared.refusals.HoldRefusal.{HoldRefusal}
@@ -25,14 +24,14 @@ use Rattle.report_text.specs.declared.lines.ShowText.TheVariants as show_text
 use Rattle.report_text.specs.declared.lines.VoteText.{VoteText}
 use Rattle.report_text.specs.declared.lines.VoteText.TheVariants as vote_text
 use Rattle.world_spec.specs.Setting.{Trust}
-use Rattle.world_spec.specs.World.{Reached, Said, answers, finds_down, ran_statements, reached, said_by, stated, stops, voted_statement}
+use Rattle.world_spec.specs.World.{Reached, Said, answers, finds_down, ran_statements, said_by, stated, stops, voted_statement}
 use Rattle.world_spec.specs.Report.{hold_answered, hold_reached, run_answered, run_reached, shown, vote_answered, vote_reached}
 use Rattle.world_names.specs.Known.{Known, setting_with, world_with}
-use Rattle.world_lines.specs.Answers.{vote_as, voted_as}
+use Rattle.world_lines.specs.Answers.{vote_as}
 use Rattle.world_lines.proofs.Worlds.{hold_same, run_same, shown_same, vote_same}
 use Rattle.validator_core.specs.Calls.{Holds, Votes, hold_ended, vote_ended}
 use Rattle.validator_core.specs.Seats.{Seat, answered}
-use Rattle.world_scene.specs.Posts.{Post, reached_in, stated_in}
+use Rattle.world_scene.specs.Posts.{reached_in, stated_in}
 use Rattle.world_scene.specs.Scene.{Scene, bare_setting, bare_world, rules_in}
 use Rattle.world_scene.specs.Steps.{hold_text_in, lines_in, show_in, vote_text_in}
 use Rattle.schedule_text.specs.declared.words.Event.TheVariants as event

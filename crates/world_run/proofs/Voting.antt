@@ -1,7 +1,6 @@
 -- False votes and certificates of a scene.
-use Rattle.std.proofs.Common.{arith, ◌≡◌, ◌∙◌, ap, sym, refl, subst, ◌≤◌, ◌<◌, ℕ, zero, suc, Bool, true, false, cond, not, List, [], ◌∷◌, ◌++◌, map, length, append_assoc, append-nil, Option, Some, None, option_map}
-use Rattle.std.specs.Prelude.{All, IfSome, bytes_eq, filter, find, fold, slice_get, slice_index_or}
-use Rattle.std.specs.List.{enumerate_from, list_any}
+use Rattle.std.proofs.Common.{arith, ◌≡◌, ◌∙◌, ap, sym, refl, subst, ◌≤◌, ◌<◌, ℕ, zero, suc, Bool, true, false, cond, List, [], ◌∷◌, ◌++◌, map, length, append_assoc, append-nil, Option, Some, None, option_map}
+use Rattle.std.specs.Prelude.{IfSome, bytes_eq, filter, find, fold, slice_get}
 use Rattle.digest_core.specs.declared.Digest.{Digest}
 use Rattle.quorum_core.specs.declared.signer.Signer.{Signer}
 use Rattle.wire_bcs.specs.Digests.{digest}
@@ -12,20 +11,18 @@ use Rattle.chain_types.specs.declared.transactions.SignedTx.{SignedTx}
 use Rattle.chain_types.specs.Digests.{is_object}
 use Rattle.chain_types.specs.Transactions as transactions
 use Rattle.chain_messages.specs.declared.messages.Certificate.{Certificate}
-use Rattle.chain_messages.specs.declared.messages.MemberSeal.{MemberSeal}
 use Rattle.chain_messages.specs.declared.messages.Statement.TheVariants as statement
 use Rattle.chain_messages.specs.Messages as messages
 use Rattle.chain_spec.specs.Tests.{origins_eq}
-use Rattle.chain_spec.specs.Words.{Each, first_of, first_some, last_where, where_true}
+use Rattle.chain_spec.specs.Words.{Each, first_some, last_where, where_true}
 use Rattle.report_text.specs.declared.lines.Line.{Line}
 use Rattle.report_text.specs.declared.lines.Line.TheVariants as line
-use Rattle.report_text.specs.declared.lines.CertText.{CertText}
 use Rattle.report_text.specs.declared.lines.CertText.TheVariants as cert_text
 use Rattle.world_spec.specs.Setting.{Name, Trust}
-use Rattle.world_spec.specs.World.{Formed, Made, Said, Seat, World, honest_seat, list_or_none, said_by}
+use Rattle.world_spec.specs.World.{Formed, Made, Said, honest_seat, list_or_none, said_by}
 use Rattle.world_spec.specs.Names.{cert_in, made_named}
 use Rattle.world_spec.specs.Report.{cert_collected, cert_lines, fvote_lines, origin_names}
-use Rattle.world_spec.specs.Step.{Collected, certificate_of, collected, differ, formed, formed_as, fvote_origins, fvoted, first_origins, honest_vote, lacks, last_said, no_origins, origin_word, origins_or, short, vote_in, votes_collected, whole}
+use Rattle.world_spec.specs.Step.{Collected, collected, differ, formed, formed_as, fvote_origins, fvoted, first_origins, lacks, last_said, no_origins, origin_word, origins_or, short, vote_in, votes_collected, whole}
 use Rattle.world_names.specs.Known.{Known, world_with}
 use Rattle.world_names.specs.declared.rows.MadeTx.{MadeTx}
 use Rattle.world_names.specs.Rows.{made_as}

@@ -1,5 +1,5 @@
 -- The set-up, line by line: the stakes, who is honest, and the objects with which epoch 0 opens.
-use Rattle.std.specs.Prelude.{ℕ, Bool, List, [], ◌∷◌, ◌++◌, fold, length, map, Option, Some, None, Result, Ok, Err}
+use Rattle.std.specs.Prelude.{ℕ, Bool, List, [], ◌∷◌, ◌++◌, length, Result, Ok, Err}
 use Rattle.std.specs.List.{list_any}
 use Rattle.chain_types.specs.Equal.{id_eq}
 use Rattle.chain_types.specs.declared.objects.ObjectId.{ObjectId}
@@ -8,7 +8,7 @@ use Rattle.chain_types.specs.declared.objects.Content.TheVariants as content
 use Rattle.quorum_core.specs.declared.committee.CommitteeRefusal.{CommitteeRefusal}
 use Rattle.schedule_text.specs.declared.words.Setup.{Setup}
 use Rattle.schedule_text.specs.declared.words.Setup.TheVariants as line
-use Rattle.world_spec.specs.Setting.{with_new, owned_thing, shared_thing}
+use Rattle.world_spec.specs.Setting.{owned_thing, shared_thing}
 
 -- one more stake, where the line makes a member
 abbrev pub with_stake : List ℕ → Setup → List ℕ

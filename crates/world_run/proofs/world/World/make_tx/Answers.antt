@@ -1,9 +1,6 @@
-use Rattle.std.proofs.Common.{◌∙◌, ap, sym}
 use Rattle.world_names.specs.Lines.{line_of}
 use Rattle.world_names.specs.Rows.{made_as}
-use Rattle.world_names.specs.Known.{Known}
 use Rattle.world_scene.specs.Scene.{Scene}
-use Rattle.world_scene.specs.Steps.{with_tx}
 use Rattle.world_run.specs.Trusts.{trust_by}
 use Rattle.world_run.proofs.Sound.{on_ok, tx_made}
 use Rattle.world_run.proofs.world.World.make_tx.Goals as goal
