@@ -21,12 +21,12 @@ vote_if said tx flag = if flag.1 then vote_by said tx flag.0 else None
 abbrev pub first_vote : List Said → Digest → List Bool → Option (List (Option Digest))
 first_vote said tx honest = first_of (vote_if said tx) (enumerate_from 0 honest)
 
-abbrev pub is_honest : Seat → Bool
-is_honest seat = seat.honest
+abbrev pub honest_flag : Seat → Bool
+honest_flag seat = seat.honest
 
 -- which members of a world are honest, by number
 abbrev pub flags_of : List Seat → List Bool
-flags_of seats = map is_honest seats
+flags_of seats = map honest_flag seats
 
 -- ---- collecting votes
 

@@ -1,10 +1,10 @@
 //! What the last votes of members give.
 
 ghost use Rattle.std.specs.Prelude.{◌≡◌, ◌≤◌, ℕ, option_copied, option_map, slice_get, unwrap_or};
-ghost use Rattle.quorum_core.specs.Committee.{is_among, total_of, weight};
+ghost use Rattle.quorum_core.specs.Committee.{is_among, weight};
 ghost use Rattle.chain_spec.specs.Tests.{origins_eq};
 ghost use Rattle.chain_spec.specs.Words.{first_of};
-ghost use Rattle.world_spec.specs.Step.{collected, differ, differ_from, differs_among, lacks, lacks_where, last_said, vote_in};
+ghost use Rattle.world_spec.specs.Step.{collected, differ, differs_among, lacks, last_said, vote_in};
 ghost use Rattle.world_lines.specs.Answers.{collected_as};
 ghost use Rattle.said_book.specs.Votes.{differs, differs_in, lacks_vote, stake_in, vote_by};
 

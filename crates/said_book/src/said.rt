@@ -3,8 +3,7 @@
 ghost use Rattle.std.specs.Prelude.{◌≡◌, ◌<◌, ◌++◌, ◌∷◌, [], OnErr, OnOk, option_copied, option_and_then, slice_get};
 ghost use Rattle.std.specs.Vec.{vec_capacity, vec_len};
 ghost use Rattle.world_spec.specs.World.{said_by};
-ghost use Rattle.said_book.specs.Places.{last_place};
-ghost use Rattle.said_book.specs.Rows.{is_vote_of, origins_in, row_origins, vote_key, voted_tx, with_vote};
+ghost use Rattle.said_book.specs.Rows.{origins_in, row_origins, voted_tx, with_vote};
 ghost use Rattle.said_book.specs.Votes.{first_vote, vote_by, vote_if};
 
 use chain_messages::Statement;
