@@ -1,0 +1,9 @@
+pub mod SetUp
+pub mod Opened
+pub mod Sound
+pub mod Texts
+pub mod Lines
+pub mod Voting
+pub mod Restarts
+pub mod Steps
+pub mod Stays

@@ -1,0 +1,22 @@
+//! The world of a run: a committee and its events, line by line.
+//!
+//! [`World::new`] opens the committee of a schedule's set-up; [`World::step`] runs one line, hands its call to the
+//! member that it is for, and answers the lines that the report has for it. Contracts see the world as a scene:
+//! the stakes and the opening, what is known under names, what was said and formed, and the members as they
+//! stand. Each step is the definition's step of that scene, with its lines, and the keeper's lists grow by the
+//! record that the line leaves. [`PlainForms`] are the forms of line that are run: those that need no sequence.
+//! Each name, vote and version is found by a map, so a line costs time in proportion to its own words.
+#![tactic(auto)]
+
+mod calls;
+mod certs;
+mod forms;
+mod opening;
+mod quiet;
+mod restart;
+mod step;
+mod votes;
+mod world;
+
+pub use forms::PlainForms;
+pub use world::{World, WorldFault, WorldRefusal};
