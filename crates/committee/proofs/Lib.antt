@@ -1,3 +1,11 @@
 pub mod Ends
-pub mod Events
+pub mod Restarting
+pub mod Taken
+pub mod Written
+pub mod Following
+pub mod Behind
+pub mod Plain
+pub mod Opening
 pub mod Whole
+pub mod Ended
+pub mod Members

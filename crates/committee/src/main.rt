@@ -1,17 +1,21 @@
 //! `committee run`: reads a schedule from standard input, runs it, and writes the report.
 //!
-//! [`top::committee`] is the program over any source and sink; its clauses are what is promised.
-//! `main` hands it the real standard streams, ends with its status, and says on standard error what
-//! a status other than 0 and 3 means.
+//! [`top::committee`] is the program over any source, sink and keeper; its clauses are what is
+//! promised. `main` hands it the real standard streams and a keeper in memory, ends with its
+//! status, and says on standard error what a status other than 0 and 3 means.
 #![tactic(auto)]
 
+mod event;
+mod keeping;
 mod run;
 mod stop;
 mod streams;
 #[cfg(test)]
 mod tests;
+mod text;
 mod top;
 
+use keeping::fresh_keeper;
 use outside_std::{InSource, OutSink};
 use std::alloc::{AllocError, Global};
 use std::env;
@@ -34,13 +38,14 @@ fn message(status: u8) -> Option<&'static str> {
         2 => Some("usage: committee run"),
         4 => Some("read fault"),
         5 => Some("write fault"),
+        6 => Some("keep fault"),
         7 => Some("want of memory"),
         _ => None,
     }
 }
 
-/// Runs the words over the standard streams. A report that was taken and could not be handed on is
-/// a write fault.
+/// Runs the words over the standard streams, with the records in memory. A report that was taken
+/// and could not be handed on is a write fault.
 fn status_of(rt: &HostRuntime) -> u8 {
     let Ok(words) = words_of(rt) else {
         return 7;
@@ -48,9 +53,18 @@ fn status_of(rt: &HostRuntime) -> u8 {
     let Ok(writer) = BufWriter::new(rt.alloc(), io::writer(rt)) else {
         return 7;
     };
+    let Ok(mut keeper) = fresh_keeper(rt.alloc(), &[]) else {
+        return 7;
+    };
     let mut source = InSource::new(rt.reader());
     let mut sink = OutSink::new(writer);
-    let status = committee(rt.alloc(), words.as_slice(), &mut source, &mut sink);
+    let status = committee(
+        rt.alloc(),
+        words.as_slice(),
+        &mut source,
+        &mut sink,
+        &mut keeper,
+    );
     if sink.finish() { status } else { 5 }
 }
 

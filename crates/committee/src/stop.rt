@@ -1,26 +1,22 @@
-//! Why a run ended early.
+//! How a run ends.
 
-ghost use Rattle.std.specs.Prelude.{◌≡◌};
-ghost use Rattle.committee.specs.declared.stop.Stop.TheVariants as stop;
-
-use wire_bcs::OutOfMemory;
-
-/// Why a run ended early.
+/// Why the run of a schedule ended early.
 #[derive(Clone, Copy, Debug, PartialEq, Eq)]
 pub(crate) enum Stop {
-    /// The bytes are no schedule, and the line that says so was written.
-    Refused,
-    /// The source did not give its bytes.
-    ReadFault,
     /// The sink did not take the bytes.
     WriteFault,
+    /// The keeper did not keep a record, or did not give one.
+    KeepFault,
+    /// A record that was read back is bad, and the line that says so was written.
+    BadRecord,
     OutOfMemory,
 }
 
-impl From<OutOfMemory> for Stop {
-    ghost from_gives = { λ _ given. given ≡ stop.OutOfMemory };
-
-    fn from(_refusal: OutOfMemory) -> Self {
-        Stop::OutOfMemory
-    }
+/// What a text was.
+#[derive(Clone, Copy, Debug, PartialEq, Eq)]
+pub(crate) enum Ended {
+    /// A schedule, whose events all ran.
+    Ran,
+    /// No schedule, and the line that says so was written.
+    Refused,
 }

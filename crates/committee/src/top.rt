@@ -1,17 +1,28 @@
 //! The top call.
 
-ghost use Rattle.std.specs.Prelude.{◌≡◌, ◌↔◌, ◌⊎◌, codes, map, IsErrOf, IsTrue, OnOk};
+ghost use Rattle.std.specs.Prelude.{◌≡◌, ◌↔◌, ◌⊎◌, ◌≤◌, Ok, Err, bytes_eq, codes, map, IsErrOf, IsTrue, OnErr};
 ghost use Rattle.std.specs.String.{string_bytes};
-ghost use Rattle.std.specs.Io.KnownBytes.{Keeps};
+ghost use Rattle.std.specs.Io.KnownBytes.{Appends, Keeps};
 ghost use Rattle.outside.specs.Causes.{Rose};
-ghost use Rattle.committee.specs.Headline.{IsCut, IsRefused, IsRun, IsWhole};
+ghost use Rattle.outside.specs.Lists.{KeepsJournals};
+ghost use Rattle.schedule_text.specs.declared.words.Schedule.{Schedule};
+ghost use Rattle.schedule_text.specs.Schedule.{Refused};
+ghost use Rattle.quorum_core.specs.Seals.{keyed_seal};
+ghost use Rattle.world_run.specs.Trusts.{trust_by};
+ghost use Rattle.committee.specs.Headline.{IsBad, IsCut, IsRefused, IsRun, IsWhole, program_trust};
+ghost use Rattle.committee.specs.Journals.{AreEmpty};
+ghost use Rattle.committee.specs.Report.{readable, refusal_text};
+ghost use Rattle.committee.specs.Ways.{MeetsBadRecord, RunsWhole, TextCut};
 ghost use Rattle.committee.specs.declared.stop.Stop.TheVariants as stop;
+ghost use Rattle.committee.specs.declared.stop.Ended.TheVariants as ended;
 
-use crate::run::run_text;
-use crate::stop::Stop;
+use crate::stop::{Ended, Stop};
 use crate::streams::read_text;
-use outside::{Sink, Source};
+use crate::text::run_text;
+use outside::{Keeper, OutFault, Sink, Source};
+use quorum_core::KeyedSeal;
 use std::alloc::Global;
+use world_scene::{records_of_a_world, restarts_of_a_run, steps_of_a_world};
 
 /// Whether the word is `run`.
 fn is_run_word(word: &str) -> bool
@@ -30,53 +41,121 @@ fn is_run(words: &[String]) -> bool
     }
 }
 
-/// Reads the source and runs the text.
-fn run<S: Source, K: Sink>(alloc: Global, source: &mut S, sink: &mut K) -> Result<(), Stop>
-    ensures whole { OnOk result (IsWhole (S.left source.old) (S.left source.new) (K.held sink.old) (K.held sink.new)) }
-    ensures refused { IsErrOf result stop.Refused → IsRefused (S.left source.old) (S.left source.new) (K.held sink.old) (K.held sink.new) }
-    ensures read_fault { IsErrOf result stop.ReadFault → Rose (S.faults source.old) (S.faults source.new) }
-    ensures unwritten { IsErrOf result stop.ReadFault → Keeps (K.held sink.old) (K.held sink.new) }
-    ensures write_fault { IsErrOf result stop.WriteFault → Rose (K.faults sink.old) (K.faults sink.new) }
-    ensures cut { IsErrOf result stop.WriteFault ⊎ IsErrOf result stop.OutOfMemory → IsCut (S.left source.old) (S.left source.new) (K.held sink.old) (K.held sink.new) }
+/// The seals of the program: those under a secret of 32 bytes of hexadecimal 5a.
+#[tactic(auto, using(crate::proofs::Whole::program_seals))]
+fn program_sealer() -> KeyedSeal
+    ensures { trust_by (λ signer bytes. keyed_seal result.secret signer bytes) (λ signer bytes seal. bytes_eq seal.0 (keyed_seal result.secret signer bytes).0) ≡ program_trust }
 {
-    let text = read_text(alloc, source)?;
-    run_text(alloc, text.as_slice(), sink)
+    KeyedSeal::new([0x5a; 32])
 }
 
-/// Runs the program: with the words `run`, the schedule that the source holds. Answers the status.
+/// Runs a text under the seals of the program.
+fn run_sealed<K: Sink, D: Keeper>(
+    alloc: Global,
+    text: &[u8],
+    sink: &mut K,
+    keeper: &mut D,
+) -> Result<Ended, Stop>
+    requires room { 64 ≤ D.width keeper.old }
+    requires empty { AreEmpty (D.lists keeper.old) }
+    ensures ran { result ≡ Ok ended.Ran → (s : Schedule) × (readable text.now ≡ Ok s) × RunsWhole program_trust s (K.held sink.old) (K.held sink.new) (D.lists keeper.old) (D.lists keeper.new) }
+    ensures refused { result ≡ Ok ended.Refused → (r : Refused) × (readable text.now ≡ Err r) × Appends (K.held sink.old) (K.held sink.new) (refusal_text r) × KeepsJournals (D.lists keeper.old) (D.lists keeper.new) }
+    ensures bad { IsErrOf result stop.BadRecord → (s : Schedule) × (readable text.now ≡ Ok s) × MeetsBadRecord program_trust s Appends (K.held sink.old) (K.held sink.new) (D.lists keeper.old) }
+    ensures cut { OnErr result (TextCut program_trust (readable text.now) (K.held sink.old) (K.held sink.new) (D.lists keeper.old) (D.lists keeper.new)) }
+    ensures fault { IsErrOf result stop.WriteFault → Rose (K.faults sink.old) (K.faults sink.new) }
+    ensures keep_fault { IsErrOf result stop.KeepFault → Rose (D.failed keeper.old) (D.failed keeper.new) }
+{
+    // the laws by which the code's view of a world follows the definition's
+    steps_of_a_world();
+    records_of_a_world();
+    restarts_of_a_run();
+    let sealer = program_sealer();
+    run_text(alloc, text, &sealer, sink, keeper)
+}
+
+/// Runs a text that was read, to its end or to one byte past the longest. Answers the status.
+fn run_read<K: Sink, D: Keeper>(alloc: Global, text: &[u8], sink: &mut K, keeper: &mut D) -> u8
+    requires room { 64 ≤ D.width keeper.old }
+    requires empty { AreEmpty (D.lists keeper.old) }
+    ensures known { (result ≡ 0) ⊎ (result ≡ 3) ⊎ (result ≡ 5) ⊎ (result ≡ 6) ⊎ (result ≡ 7) }
+    ensures ran { result ≡ 0 → (s : Schedule) × (readable text.now ≡ Ok s) × RunsWhole program_trust s (K.held sink.old) (K.held sink.new) (D.lists keeper.old) (D.lists keeper.new) }
+    ensures refused { result ≡ 3 → (r : Refused) × (readable text.now ≡ Err r) × Appends (K.held sink.old) (K.held sink.new) (refusal_text r) × KeepsJournals (D.lists keeper.old) (D.lists keeper.new) }
+    ensures write_fault { result ≡ 5 → Rose (K.faults sink.old) (K.faults sink.new) }
+    ensures kept { result ≡ 6 → (Rose (D.failed keeper.old) (D.failed keeper.new) × TextCut program_trust (readable text.now) (K.held sink.old) (K.held sink.new) (D.lists keeper.old) (D.lists keeper.new)) ⊎ ((s : Schedule) × (readable text.now ≡ Ok s) × MeetsBadRecord program_trust s Appends (K.held sink.old) (K.held sink.new) (D.lists keeper.old)) }
+    ensures cut { (result ≡ 5) ⊎ (result ≡ 7) → TextCut program_trust (readable text.now) (K.held sink.old) (K.held sink.new) (D.lists keeper.old) (D.lists keeper.new) }
+{
+    match run_sealed(alloc, text, sink, keeper) {
+        Ok(Ended::Ran) => 0,
+        Ok(Ended::Refused) => 3,
+        Err(Stop::WriteFault) => 5,
+        Err(Stop::KeepFault) => 6,
+        Err(Stop::BadRecord) => 6,
+        Err(Stop::OutOfMemory) => 7,
+    }
+}
+
+/// Reads the source and runs the text. Answers the status.
+fn run<S: Source, K: Sink, D: Keeper>(
+    alloc: Global,
+    source: &mut S,
+    sink: &mut K,
+    keeper: &mut D,
+) -> u8
+    requires room { 64 ≤ D.width keeper.old }
+    requires empty { AreEmpty (D.lists keeper.old) }
+    ensures known { (result ≡ 0) ⊎ (result ≡ 3) ⊎ (result ≡ 4) ⊎ (result ≡ 5) ⊎ (result ≡ 6) ⊎ (result ≡ 7) }
+    ensures whole { result ≡ 0 → IsWhole (S.left source.old) (S.left source.new) (K.held sink.old) (K.held sink.new) (D.lists keeper.old) (D.lists keeper.new) }
+    ensures refused { result ≡ 3 → IsRefused (S.left source.old) (S.left source.new) (K.held sink.old) (K.held sink.new) (D.lists keeper.old) (D.lists keeper.new) }
+    ensures read_fault { result ≡ 4 → Rose (S.faults source.old) (S.faults source.new) }
+    ensures unwritten { result ≡ 4 → Keeps (K.held sink.old) (K.held sink.new) × KeepsJournals (D.lists keeper.old) (D.lists keeper.new) }
+    ensures write_fault { result ≡ 5 → Rose (K.faults sink.old) (K.faults sink.new) }
+    ensures keep_fault { result ≡ 6 → (Rose (D.failed keeper.old) (D.failed keeper.new) × IsCut (S.left source.old) (S.left source.new) (K.held sink.old) (K.held sink.new) (D.lists keeper.old) (D.lists keeper.new)) ⊎ IsBad (S.left source.old) (S.left source.new) (K.held sink.old) (K.held sink.new) (D.lists keeper.old) }
+    ensures cut { (result ≡ 5) ⊎ (result ≡ 7) → IsCut (S.left source.old) (S.left source.new) (K.held sink.old) (K.held sink.new) (D.lists keeper.old) (D.lists keeper.new) }
+{
+    match read_text(alloc, source) {
+        Ok(text) => run_read(alloc, text.as_slice(), sink, keeper),
+        Err(OutFault::Failed) => 4,
+        Err(OutFault::OutOfMemory) => 7,
+    }
+}
+
+/// Runs the program: with the words `run`, the schedule that the source holds, over a keeper with a
+/// list for each of 64 members, which has no record where it tells its lists. Answers the status.
 ///
-/// | Status | Comes where | Written |
+/// | Status | Comes | Written, kept |
 /// |---|---|---|
-/// | 0 | all events ran, and the source was read to its end | the whole report |
+/// | 0 | where all events ran, and the source was read to its end | the whole report; each told list is its member's journal |
 /// | 2 | exactly where the words are not `run` | nothing |
-/// | 3 | exactly where the bytes are no schedule, and the line was written | `refused line L cause C` |
-/// | 4 | only where the source's count of faults rose | nothing |
-/// | 5 | only where the sink's count of faults rose | a front of the report, or of the line |
-/// | 7 | want of memory | a front of the report, or of the line |
-pub fn committee<S: Source, K: Sink>(
+/// | 3 | exactly where the bytes are no schedule of forms that run, and the line was written | `refused line L cause C`; told lists stay |
+/// | 4 | only where the source's count of faults rose | nothing; told lists stay |
+/// | 5 | only where the sink's count of faults rose | a front of what was to be written; each told list is a front of its journal |
+/// | 6 | only where the keeper's count of faults rose, or a record read back is bad | a front of the report, and after a bad record `restart M: bad record PLACE` |
+/// | 7 | for want of memory | as at 5 |
+///
+/// A keeper that tells its lists never gives a bad record. Of the report over one that does not is
+/// said nothing behind the first restart.
+pub fn committee<S: Source, K: Sink, D: Keeper>(
     alloc: Global,
     words: &[String],
     source: &mut S,
     sink: &mut K,
+    keeper: &mut D,
 ) -> u8
-    ensures known { (result ≡ 0) ⊎ (result ≡ 2) ⊎ (result ≡ 3) ⊎ (result ≡ 4) ⊎ (result ≡ 5) ⊎ (result ≡ 7) }
+    requires room { 64 ≤ D.width keeper.old }
+    requires empty { AreEmpty (D.lists keeper.old) }
+    ensures known { (result ≡ 0) ⊎ (result ≡ 2) ⊎ (result ≡ 3) ⊎ (result ≡ 4) ⊎ (result ≡ 5) ⊎ (result ≡ 6) ⊎ (result ≡ 7) }
     ensures usage { (result ≡ 2) ↔ (IsRun (map string_bytes words.now) → ⊥) }
-    ensures unused { result ≡ 2 → Keeps (S.left source.old) (S.left source.new) × Keeps (K.held sink.old) (K.held sink.new) }
-    ensures whole { result ≡ 0 → IsWhole (S.left source.old) (S.left source.new) (K.held sink.old) (K.held sink.new) }
-    ensures refused { result ≡ 3 → IsRefused (S.left source.old) (S.left source.new) (K.held sink.old) (K.held sink.new) }
+    ensures unused { result ≡ 2 → Keeps (S.left source.old) (S.left source.new) × Keeps (K.held sink.old) (K.held sink.new) × KeepsJournals (D.lists keeper.old) (D.lists keeper.new) }
+    ensures whole { result ≡ 0 → IsWhole (S.left source.old) (S.left source.new) (K.held sink.old) (K.held sink.new) (D.lists keeper.old) (D.lists keeper.new) }
+    ensures refused { result ≡ 3 → IsRefused (S.left source.old) (S.left source.new) (K.held sink.old) (K.held sink.new) (D.lists keeper.old) (D.lists keeper.new) }
     ensures read_fault { result ≡ 4 → Rose (S.faults source.old) (S.faults source.new) }
-    ensures unwritten { result ≡ 4 → Keeps (K.held sink.old) (K.held sink.new) }
+    ensures unwritten { result ≡ 4 → Keeps (K.held sink.old) (K.held sink.new) × KeepsJournals (D.lists keeper.old) (D.lists keeper.new) }
     ensures write_fault { result ≡ 5 → Rose (K.faults sink.old) (K.faults sink.new) }
-    ensures cut { (result ≡ 5) ⊎ (result ≡ 7) → IsCut (S.left source.old) (S.left source.new) (K.held sink.old) (K.held sink.new) }
+    ensures keep_fault { result ≡ 6 → (Rose (D.failed keeper.old) (D.failed keeper.new) × IsCut (S.left source.old) (S.left source.new) (K.held sink.old) (K.held sink.new) (D.lists keeper.old) (D.lists keeper.new)) ⊎ IsBad (S.left source.old) (S.left source.new) (K.held sink.old) (K.held sink.new) (D.lists keeper.old) }
+    ensures cut { (result ≡ 5) ⊎ (result ≡ 7) → IsCut (S.left source.old) (S.left source.new) (K.held sink.old) (K.held sink.new) (D.lists keeper.old) (D.lists keeper.new) }
 {
     if !is_run(words) {
         return 2;
     }
-    match run(alloc, source, sink) {
-        Ok(()) => 0,
-        Err(Stop::Refused) => 3,
-        Err(Stop::ReadFault) => 4,
-        Err(Stop::WriteFault) => 5,
-        Err(Stop::OutOfMemory) => 7,
-    }
+    run(alloc, source, sink, keeper)
 }

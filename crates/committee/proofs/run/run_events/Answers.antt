@@ -1,23 +1,70 @@
-use Rattle.std.proofs.Common.{◌+◌, ◌<◌, length, drop, subst, sym, arith}
-use Rattle.vote_spec.specs.Run.{World}
-use Rattle.committee.specs.Report.{report_from}
-use Rattle.committee.specs.Streams.{Owes}
-use Rattle.committee.proofs.Events.{event_cut, event_written}
+use Rattle.std.proofs.Common.{◌≡◌, ◌+◌, ◌<◌, ◌≤◌, ℕ, List, length, get_or, Option, refl, sym, ◌∙◌, subst, arith}
+use Rattle.std.proofs.lemmas.Result.{err_from_is_err_and}
+use Rattle.outside.specs.Lists.{Journals}
+use Rattle.world_spec.specs.World.{new_world}
+use Rattle.world_scene.specs.Scene.{Scene}
+use Rattle.world_scene.specs.Worlds.{Shows}
+use Rattle.world_run.specs.Trusts.{trust_by}
+use Rattle.committee.specs.Journals.{AreAtLeast}
+use Rattle.committee.specs.Report.{setting_in}
+use Rattle.committee.proofs.Behind.{bad-here, behind-next, behind-none, cut-here, whole-run}
 use Rattle.committee.proofs.run.run_events.Goals as goal
 
-pub returns-in_err-run_event-clause-some : goal.returns-in_err-run_event-clause-some
-returns-in_err-run_event-clause-some g c =
-    let below : c.loop-event.event-index < length c.args.events.now = grind arith in
-    event_cut c.loop-event.world c.event-item.result c.loop-event.event-index c.args.events.now _ _ _ _ c.event-item.is below c.loop-event.invariant.owes
-    c.in_err-run_event.ensures.some
+pub loop-event-init : goal.loop-event-init
+loop-event-init g c =
+    let trust = trust_by (g.S.MakesSeals.made c.args.sealer.now) (g.S.Sealer.accepts c.args.sealer.now) in
+    let shows = subst (λ (sc : Scene). Shows trust (setting_in trust c.args.schedule.now) (new_world (setting_in trust c.args.schedule.now)) sc) (sym c.requires.opened)
+    (c.requires.laws.first c.args.schedule.now.setup c.requires.plain.setup) in
+    record {
+      behind = λ reads. behind-none trust (setting_in trust c.args.schedule.now) (g.D.Keeper.lists c.args.keeper.now) (g.K.Sink.held c.args.sink.now) c.args.world.now shows c.requires.empty;
+      stay = refl;
+      width = refl;
+      later = grind arith;
+      kept_later = grind arith;
+    }
+
+pub returns-in_err-run_event-clause-cut : goal.returns-in_err-run_event-clause-cut
+returns-in_err-run_event-clause-cut g c =
+    let p = err_from_is_err_and c.from_residual.result c.from_residual.ensures.1 in
+    let trust = trust_by (g.S.MakesSeals.made c.args.sealer.now) (g.S.Sealer.accepts c.args.sealer.now) in
+    let below : c.loop-event.event-index < length c.args.schedule.now.events = grind arith in
+    let is : c.event-item.result ≡ get_or c.args.schedule.now.events c.loop-event.event-index c.event-item.result = cc (c.event-item.is, c.as_slice-event-items.ensures.value) in
+    let wide = subst (λ (n : ℕ). AreAtLeast (g.D.Keeper.lists c.args.keeper.now) n) (sym c.loop-event.invariant.stay) c.requires.wide in
+    rw p.1
+    (cut-here trust c.requires.laws c.args.schedule.now (g.D.Keeper.lists c.args.keeper.now) (g.K.Sink.held c.args.sink.now) c.loop-event.event-index c.event-item.result c.loop-event.world
+    (g.D.Keeper.lists c.loop-event.keeper) (g.D.Keeper.lists c.run_event.new.keeper) (g.K.Sink.held c.loop-event.sink) (g.K.Sink.held c.run_event.new.sink)
+    is below c.requires.plain.events wide c.loop-event.invariant.behind c.requires.along c.in_err-run_event.ensures.cut)
+
+pub returns-in_err-run_event-clause-bad : goal.returns-in_err-run_event-clause-bad
+returns-in_err-run_event-clause-bad g c =
+    let p = err_from_is_err_and c.from_residual.result c.from_residual.ensures.1 in
+    let trust = trust_by (g.S.MakesSeals.made c.args.sealer.now) (g.S.Sealer.accepts c.args.sealer.now) in
+    let below : c.loop-event.event-index < length c.args.schedule.now.events = grind arith in
+    let is : c.event-item.result ≡ get_or c.args.schedule.now.events c.loop-event.event-index c.event-item.result = cc (c.event-item.is, c.as_slice-event-items.ensures.value) in
+    rw (p.1, p.2)
+    (λ said. bad-here trust c.args.schedule.now (g.D.Keeper.lists c.args.keeper.now) (g.K.Sink.held c.args.sink.now) c.loop-event.event-index c.event-item.result c.loop-event.world
+    (g.D.Keeper.lists c.loop-event.keeper) (g.K.Sink.held c.loop-event.sink) (g.K.Sink.held c.run_event.new.sink)
+    is below c.loop-event.invariant.behind c.requires.along (c.in_err-run_event.ensures.bad said))
 
 pub loop-event-preserved : goal.loop-event-preserved
 loop-event-preserved g c =
-    let below : c.loop-event.event-index < length c.args.events.now = grind arith in
+    let trust = trust_by (g.S.MakesSeals.made c.args.sealer.now) (g.S.Sealer.accepts c.args.sealer.now) in
+    let below : c.loop-event.event-index < length c.args.schedule.now.events = grind arith in
+    let is : c.event-item.result ≡ get_or c.args.schedule.now.events c.loop-event.event-index c.event-item.result = cc (c.event-item.is, c.as_slice-event-items.ensures.value) in
+    let wide = subst (λ (n : ℕ). AreAtLeast (g.D.Keeper.lists c.args.keeper.now) n) (sym c.loop-event.invariant.stay) c.requires.wide in
     record {
-      owes = subst (λ (w : World). Owes (g.K.Sink.held c.args.sink.now) (g.K.Sink.held c.run_event.new.sink) (report_from w (drop (c.loop-event.event-index + 1) c.args.events.now))
-          (report_from c.args.world.now c.args.events.now)) (sym c.in_ok-run_event.ensures.world)
-          (event_written c.loop-event.world c.event-item.result c.loop-event.event-index c.args.events.now _ _ _ _ c.event-item.is below c.loop-event.invariant.owes
-          c.in_ok-run_event.ensures.ok);
+      behind = λ reads. behind-next trust c.requires.laws (setting_in trust c.args.schedule.now) (g.D.Keeper.lists c.args.keeper.now) (g.K.Sink.held c.args.sink.now) c.args.schedule.now.events
+          c.loop-event.event-index c.event-item.result c.loop-event.world c.run_event.new.world (g.D.Keeper.lists c.loop-event.keeper) (g.D.Keeper.lists c.run_event.new.keeper)
+          (g.K.Sink.held c.loop-event.sink) (g.K.Sink.held c.run_event.new.sink) c.requires.along is below c.requires.plain.events wide c.loop-event.invariant.behind c.in_ok-run_event.ensures.ok reads;
+      stay = c.in_ok-run_event.ensures.stay ∙ c.loop-event.invariant.stay;
+      width = c.in_ok-run_event.ensures.width ∙ c.loop-event.invariant.width;
       later = grind arith;
+      kept_later = grind arith;
     }
+
+pub returns-clause-ok : goal.returns-clause-ok
+returns-clause-ok g c =
+    let trust = trust_by (g.S.MakesSeals.made c.args.sealer.now) (g.S.Sealer.accepts c.args.sealer.now) in
+    let done : length c.args.schedule.now.events ≤ c.loop-event.event-index = grind arith in
+    whole-run trust c.args.schedule.now (g.D.Keeper.lists c.args.keeper.now) (g.K.Sink.held c.args.sink.now) c.loop-event.event-index c.loop-event.world
+    (g.D.Keeper.lists c.loop-event.keeper) (g.K.Sink.held c.loop-event.sink) done c.loop-event.invariant.behind

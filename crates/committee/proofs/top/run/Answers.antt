@@ -1,11 +1,25 @@
 use Rattle.std.proofs.Common.{List, ℕ, subst, sym}
 use Rattle.schedule_text.specs.Schedule.{longest_text}
 use Rattle.committee.specs.Streams.{ReadsText}
-use Rattle.committee.proofs.Whole.{whole}
+use Rattle.committee.proofs.Ended.{cut, kept_fault, refused, whole}
 use Rattle.committee.proofs.top.run.Goals as goal
 
-pub returns-clause-whole : goal.returns-clause-whole
-returns-clause-whole g c =
-    let read = subst (λ (text : List ℕ). ReadsText longest_text (g.S.Source.left c.args.source.now) (g.S.Source.left c.read_text.new.source) text) (sym c.as_slice.ensures.value)
-    c.in_ok-text.ensures.ok in
-    whole c.run_text.result _ _ _ _ c.as_slice.result.now read c.run_text.ensures.ok
+pub returns-in-Ok-clause-whole : goal.returns-in-Ok-clause-whole
+returns-in-Ok-clause-whole g c = λ is.
+    let read = subst (λ (text : List ℕ). ReadsText longest_text (g.S.Source.left c.args.source.now) (g.S.Source.left c.read_text.new.source) text) (sym c.as_slice.ensures.value) c.in-Ok.ensures.ok in
+    whole _ _ _ _ _ _ c.as_slice.result.now read (c.run_read.ensures.ran is)
+
+pub returns-in-Ok-clause-refused : goal.returns-in-Ok-clause-refused
+returns-in-Ok-clause-refused g c = λ is.
+    let read = subst (λ (text : List ℕ). ReadsText longest_text (g.S.Source.left c.args.source.now) (g.S.Source.left c.read_text.new.source) text) (sym c.as_slice.ensures.value) c.in-Ok.ensures.ok in
+    refused _ _ _ _ _ _ c.as_slice.result.now read (c.run_read.ensures.refused is)
+
+pub returns-in-Ok-clause-keep_fault : goal.returns-in-Ok-clause-keep_fault
+returns-in-Ok-clause-keep_fault g c = λ is.
+    let read = subst (λ (text : List ℕ). ReadsText longest_text (g.S.Source.left c.args.source.now) (g.S.Source.left c.read_text.new.source) text) (sym c.as_slice.ensures.value) c.in-Ok.ensures.ok in
+    kept_fault _ _ _ _ _ _ c.as_slice.result.now read (c.run_read.ensures.kept is)
+
+pub returns-in-Ok-clause-cut : goal.returns-in-Ok-clause-cut
+returns-in-Ok-clause-cut g c = λ is.
+    let read = subst (λ (text : List ℕ). ReadsText longest_text (g.S.Source.left c.args.source.now) (g.S.Source.left c.read_text.new.source) text) (sym c.as_slice.ensures.value) c.in-Ok.ensures.ok in
+    cut _ _ _ _ _ _ c.as_slice.result.now read (c.run_read.ensures.cut is)
