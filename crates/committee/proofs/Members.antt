@@ -39,9 +39,12 @@ stakes-some (setup.Writers n ∷ lines) rest k all = stakes-some lines rest k al
 
 -- ---- there is one
 
+not-zero : (n : ℕ) → (suc n == 0) ≡ false
+not-zero n = grind (arith, nat_tests)
+
 some-member : (lines : List Setup) → list_any makes_member lines ≡ true → (length (stakes_of lines) == 0) ≡ false
 some-member [] h = absurd (cc)
-some-member (setup.Member stake honest ∷ lines) h = refl
+some-member (setup.Member stake honest ∷ lines) h = not-zero (length (stakes_of lines))
 some-member (setup.Coin name who balance ∷ lines) h = some-member lines h
 some-member (setup.Counter name value ∷ lines) h = some-member lines h
 some-member (setup.Cap name who currency ∷ lines) h = some-member lines h
@@ -59,8 +62,10 @@ roles-count (setup.Cap name who currency ∷ lines) = roles-count lines
 roles-count (setup.Writers n ∷ lines) = roles-count lines
 
 count-push : (lines : List Setup) (x : Setup) → length (stakes_of (lines ++ x ∷ [])) ≡ length (stakes_of lines) + length (stakes_of (x ∷ []))
-count-push [] x = refl
-count-push (setup.Member stake honest ∷ lines) x = ap suc (count-push lines x)
+count-push [] x = omega arith
+count-push (setup.Member stake honest ∷ lines) x =
+    let more : length (stakes_of (lines ++ x ∷ [])) ≡ length (stakes_of lines) + length (stakes_of (x ∷ [])) = count-push lines x in
+    omega (arith, more)
 count-push (setup.Coin name who balance ∷ lines) x = count-push lines x
 count-push (setup.Counter name value ∷ lines) x = count-push lines x
 count-push (setup.Cap name who currency ∷ lines) x = count-push lines x
@@ -88,7 +93,7 @@ check_said true c h = refl
 check_said false c h = absurd (cc)
 
 few-more : (n : ℕ) (b : Bool) → b ≡ nat_lt n 64 → b ≡ true → n + 1 ≤ 64
-few-more n b is yes = grind (arith, nat_tests)
+few-more n b is holds = grind (arith, nat_tests)
 
 kind-few : (t : Schedule) (x : Setup) → setup_kind_check t x ≡ Ok tt → IsFew t → length (stakes_of t.setup) + length (stakes_of (x ∷ [])) ≤ 64
 kind-few t (setup.Member stake honest) h few =

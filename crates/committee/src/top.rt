@@ -42,7 +42,6 @@ fn is_run(words: &[String]) -> bool
 }
 
 /// The seals of the program: those under a secret of 32 bytes of hexadecimal 5a.
-#[tactic(auto, using(crate::proofs::Whole::program_seals))]
 fn program_sealer() -> KeyedSeal
     ensures { trust_by (λ signer bytes. keyed_seal result.secret signer bytes) (λ signer bytes seal. bytes_eq seal.0 (keyed_seal result.secret signer bytes).0) ≡ program_trust }
 {
