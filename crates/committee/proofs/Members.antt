@@ -96,6 +96,7 @@ few-more : (n : ℕ) (b : Bool) → b ≡ nat_lt n 64 → b ≡ true → n + 1 �
 few-more n b is holds = grind (arith, nat_tests)
 
 kind-few : (t : Schedule) (x : Setup) → setup_kind_check t x ≡ Ok tt → IsFew t → length (stakes_of t.setup) + length (stakes_of (x ∷ [])) ≤ 64
+unfolding setup_kind_check
 kind-few t (setup.Member stake honest) h few =
     let below = few-more (length (roles t.setup)) (nat_lt (length (roles t.setup)) 64) refl (check_said (nat_lt (length (roles t.setup)) 64) cause.TooManyMembers h) in
     let count : length (roles t.setup) ≡ length (stakes_of t.setup) = roles-count t.setup in

@@ -36,9 +36,9 @@ fn run_over<K: Sink, D: Keeper>(
     sink: &mut K,
     keeper: &mut D,
 ) -> Result<u8, Fail>
-    requires { 0 < piece }
-    requires { 64 ≤ D.width keeper.old }
-    requires { AreEmpty (D.lists keeper.old) }
+    requires piece { 0 < piece }
+    requires room { 64 ≤ D.width keeper.old }
+    requires empty { AreEmpty (D.lists keeper.old) }
 {
     let words = vec![in alloc; "run".to_string(alloc)?]?;
     let mut source = MemSource::new(alloc, text.as_bytes(), piece, [failing_read].as_slice())?;
