@@ -1,10 +1,10 @@
 -- What is written and kept behind a front of the events.
-use Rattle.std.proofs.Common.{◌≡◌, ◌≤◌, ◌<◌, ◌+◌, ◌⊎◌, inl, inr, ℕ, zero, suc, Bool, true, List, [], ◌∷◌, ◌++◌, map, length, take, drop, get_or, Option, Some, None, slice_get, refl, sym, ap, ◌∙◌, subst, append_assoc, append-nil, take-append-drop, arith}
+use Rattle.std.proofs.Common.{◌≡◌, ◌≤◌, ◌<◌, ◌+◌, inl, inr, ℕ, zero, suc, Bool, true, List, [], ◌∷◌, ◌++◌, map, length, take, drop, get_or, Option, Some, None, slice_get, refl, sym, ap, ◌∙◌, subst, append_assoc, append-nil, take-append-drop, arith}
 use Rattle.std.proofs.lemmas.Grind.{flat_map-append}
 use Rattle.std.proofs.lemmas.List.{drop_more, take_all, take_more}
 use Rattle.std.specs.Io.KnownBytes.{Appends, Keeps}
 use Rattle.std.proofs.KnownBytes.{Appends-kept, Appends-nil, Appends-trans}
-use Rattle.outside.specs.Lists.{Journals, journal_of}
+use Rattle.outside.specs.Lists.{Journals}
 use Rattle.chain_spec.specs.Words.{Each}
 use Rattle.journal_core.specs.Records as journals
 use Rattle.report_text.specs.declared.lines.Line.{Line}
@@ -12,21 +12,20 @@ use Rattle.report_text.specs.Text.{text_of}
 use Rattle.schedule_text.specs.declared.words.Event.{Event}
 use Rattle.schedule_text.specs.declared.words.Event.TheVariants as event
 use Rattle.schedule_text.specs.declared.words.Schedule.{Schedule}
-use Rattle.world_spec.specs.Setting.{Setting, Trust, setting_of}
-use Rattle.world_spec.specs.World as worlds
+use Rattle.world_spec.specs.Setting.{Setting, Trust}
 use Rattle.world_spec.specs.World.{World, new_seat, new_world}
 use Rattle.world_spec.specs.Step.{happens}
 use Rattle.world_spec.specs.Report.{lines_of}
 use Rattle.world_spec.specs.Run.{journal, records_of, report, report_from, report_of, run, world_after}
 use Rattle.world_scene.specs.Scene.{Scene}
-use Rattle.world_scene.specs.Worlds.{IsTrueOf, Restarts, Shows, Tells, is_plain, is_restart, journal_in}
+use Rattle.world_scene.specs.Worlds.{IsTrueOf, Restarts, Shows, is_plain, journal_in}
 use Rattle.world_run.specs.Restarts.{StaysDown}
 use Rattle.committee.specs.Journals.{AreAtLeast, AreEmpty, IsTold, KeepsFronts, KeepsRun, ReadsBack, ReadsNone, StartsAlong}
 use Rattle.committee.specs.Laws.{SceneLaws}
-use Rattle.committee.specs.Report.{lines_text, report_text, setting_in}
-use Rattle.committee.specs.Steps.{IsBadRecord, IsCutAt, untaken, unwritten, unsaid, IsTaken, IsUntaken, IsUnwritten, Passes}
+use Rattle.committee.specs.Report.{lines_text, setting_in}
+use Rattle.committee.specs.Steps.{IsBadRecord, IsCutAt, untaken, unwritten, unsaid, IsUntaken, IsUnwritten, Passes}
 use Rattle.committee.specs.Streams.{AppendsFront}
-use Rattle.committee.specs.Ways.{MeetsBadRecord, RunsCut, RunsFront, RunsWhole, bad_record_text}
+use Rattle.committee.specs.Ways.{MeetsBadRecord, RunsCut, RunsFront, RunsWhole}
 use Rattle.committee.proofs.Following.{FrontFrom, IsFollowed, ReadsTold, TellsFrom, bad-untold, followed, front-ahead, front-told, kept-taken, kept-untaken}
 use Rattle.committee.proofs.Restarting.{restart-of}
 

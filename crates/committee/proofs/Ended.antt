@@ -1,5 +1,5 @@
 -- A text that was read whole, and what the laws of whole runs give for it.
-use Rattle.std.proofs.Common.{◌≡◌, ℕ, List, ◌++◌, Option, Result, Ok, Err, ◌⊎◌, inl, inr, sym, subst}
+use Rattle.std.proofs.Common.{◌≡◌, ℕ, List, ◌++◌, Option, Ok, Err, ◌⊎◌, inl, inr, sym, subst}
 use Rattle.std.specs.Io.KnownBytes.{Appends}
 use Rattle.outside.specs.Lists.{Journals, KeepsJournals}
 use Rattle.schedule_text.specs.declared.words.Event.{Event}

@@ -1,40 +1,31 @@
 -- The definition's world behind a front of the events, as the code's scene shows it.
-use Rattle.std.proofs.Common.{◌≡◌, ◌≤◌, ◌<◌, ◌⊎◌, inl, inr, ℕ, zero, suc, Bool, true, false, List, [], ◌∷◌, ◌++◌, map, length, Option, Some, None, Result, Ok, Err, slice_get, slice_set, refl, sym, ap, ◌∙◌, subst, append_assoc, append-nil, arith}
-use Rattle.std.proofs.lemmas.Grind.{flat_map-append}
-use Rattle.std.specs.Io.KnownBytes.{Appends, Keeps}
-use Rattle.std.proofs.KnownBytes.{Appends-nil, Appends-trans}
-use Rattle.outside.specs.Lists.{Journals, AddsRecord, KeepsJournals, HasMembers, journal_of, with_record}
-use Rattle.chain_types.specs.declared.objects.Object.{Object}
+use Rattle.std.proofs.Common.{◌≡◌, ◌≤◌, ◌<◌, ◌⊎◌, inl, inr, ℕ, zero, suc, Bool, true, false, List, [], ◌∷◌, ◌++◌, map, length, Option, Some, None, Ok, Err, slice_get, slice_set, refl, sym, ap, ◌∙◌, subst, arith}
+use Rattle.outside.specs.Lists.{Journals, journal_of, with_record}
 use Rattle.chain_spec.specs.Certificates.{Rules}
-use Rattle.chain_spec.specs.Words.{Each}
 use Rattle.journal_core.specs.declared.records.Record.{Record}
 use Rattle.journal_core.specs.Records as journals
-use Rattle.member_spec.specs.Member.{Member}
 use Rattle.member_spec.specs.Calls.{Call}
 use Rattle.member_core.specs.Answers.{rules_for}
 use Rattle.report_text.specs.declared.lines.Line.{Line}
 use Rattle.report_text.specs.declared.lines.Line.TheVariants as line
 use Rattle.report_text.specs.declared.lines.RestartText.TheVariants as restart_text
-use Rattle.report_text.specs.Text.{text_of}
-use Rattle.schedule_text.specs.declared.words.Setup.{Setup}
 use Rattle.schedule_text.specs.declared.words.Event.{Event}
 use Rattle.schedule_text.specs.declared.words.Event.TheVariants as event
 use Rattle.validator_core.specs.Starts.{started}
-use Rattle.world_spec.specs.Setting.{Setting, Trust, setting_of}
+use Rattle.world_spec.specs.Setting.{Setting, Trust}
 use Rattle.world_spec.specs.World as worlds
 use Rattle.world_spec.specs.World.{World, new_world, member_in}
-use Rattle.world_spec.specs.Step.{happens, on_seat}
+use Rattle.world_spec.specs.Step.{happens}
 use Rattle.world_spec.specs.Report.{lines_of}
-use Rattle.world_spec.specs.Run.{records_of, report_from, run}
-use Rattle.world_scene.specs.Posts.{AddsLeft, MayAddLeft, Post, reached_in, record_left, started_at}
-use Rattle.world_scene.specs.Scene.{Scene, new_scene, rules_in}
-use Rattle.world_scene.specs.Steps.{call_of, lines_in, steps_to}
-use Rattle.world_scene.specs.Worlds.{HasRoom, IsTrueOf, Restarts, Shows, Tells, TellsFront, is_plain, is_plain_setup, is_restart, journal_in, post_of, posts_from, scene_of}
+use Rattle.world_spec.specs.Run.{records_of, run}
+use Rattle.world_scene.specs.Posts.{AddsLeft, MayAddLeft, Post}
+use Rattle.world_scene.specs.Scene.{Scene, rules_in}
+use Rattle.world_scene.specs.Steps.{call_of}
+use Rattle.world_scene.specs.Worlds.{Restarts, Shows, Tells, TellsFront, is_plain, is_restart, journal_in, posts_from}
 use Rattle.world_run.specs.Kept.{LeavesLeft, MayLeave}
 use Rattle.world_run.specs.Restarts.{RestartsAs, StaysDown}
 use Rattle.committee.specs.Laws.{SceneLaws}
 use Rattle.committee.specs.Journals.{AreAtLeast, IsTold, ReadsNone}
-use Rattle.committee.specs.Report.{lines_text}
 use Rattle.committee.specs.Steps.{IsTaken}
 use Rattle.committee.proofs.Restarting.{restart-of}
 

@@ -11,7 +11,7 @@ use Rattle.quorum_core.specs.Committee.{committee_of}
 use Rattle.schedule_text.specs.declared.words.Setup.{Setup}
 use Rattle.schedule_text.specs.declared.words.Setup.TheVariants as setup
 use Rattle.world_spec.specs.Setting.{Trust, honest_of, setting_of, stakes_of}
-use Rattle.world_scene.specs.Posts.{Post, new_posts}
+use Rattle.world_scene.specs.Posts.{new_posts}
 use Rattle.world_scene.specs.Scene.{Scene, new_scene}
 use Rattle.committee.specs.Journals.{AreAtLeast, AreEmpty}
 

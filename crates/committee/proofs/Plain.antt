@@ -1,13 +1,10 @@
 -- A schedule that is read within the forms that run has those forms alone.
-use Rattle.std.proofs.Common.{◌≡◌, ◌+◌, ◌⊎◌, ℕ, Bool, true, false, not, ◌||◌, List, [], ◌∷◌, ◌++◌, length, Option, Some, None, Result, Ok, Err, nat_lt, nat_le, if◌then◌else◌, refl, sym, ap, ◌∙◌, subst}
+use Rattle.std.proofs.Common.{◌≡◌, ◌+◌, ℕ, Bool, true, false, not, ◌||◌, List, [], ◌∷◌, ◌++◌, length, Option, Some, None, Result, Ok, Err, nat_lt, nat_le, if◌then◌else◌, refl, subst}
 use Rattle.std.specs.List.{list_all, list_any}
-use Rattle.chain_spec.specs.Words.{Each}
 use Rattle.chain_spec.proofs.ListLemmas.{each-push}
 use Rattle.schedule_text.specs.declared.cause.Cause.{Cause}
 use Rattle.schedule_text.specs.declared.cause.Cause.TheVariants as cause
 use Rattle.schedule_text.specs.declared.words.Schedule.{Schedule}
-use Rattle.schedule_text.specs.declared.words.Setup.{Setup}
-use Rattle.schedule_text.specs.declared.words.Event.{Event}
 use Rattle.schedule_text.specs.declared.statement.Statement.{Statement}
 use Rattle.schedule_text.specs.declared.statement.Statement.TheVariants as statement
 use Rattle.schedule_text.specs.Agrees.{no_lines}

@@ -7,9 +7,9 @@ use Rattle.report_text.specs.declared.lines.Line.{Line}
 use Rattle.schedule_text.specs.declared.words.Event.{Event}
 use Rattle.schedule_text.specs.declared.words.Event.TheVariants as event
 use Rattle.world_spec.specs.Setting.{Trust}
-use Rattle.world_scene.specs.Posts.{Post, arming, changed_at, post_behind, posts_with, reached_post, started_at, starting}
+use Rattle.world_scene.specs.Posts.{Post, arming, changed_at, post_behind, posts_with, reached_post, starting}
 use Rattle.world_scene.specs.Scene.{Scene, rules_in}
-use Rattle.world_scene.specs.Steps.{call_of, called_by, called_scene, lines_in, steps_to}
+use Rattle.world_scene.specs.Steps.{call_of, called_by, lines_in, steps_to}
 use Rattle.world_scene.specs.Worlds.{is_restart}
 use Rattle.world_run.specs.Kept.{LeavesAs, MayLeave}
 use Rattle.world_run.specs.Restarts.{Accepting, MayRestart, RestartsAs, StaysDown}

@@ -1,21 +1,17 @@
 -- Texts and runs that ended, or were cut.
-use Rattle.std.proofs.Common.{◌≡◌, ℕ, ◌≤◌, ◌⊎◌, inl, inr, Bool, true, false, List, [], ◌++◌, length, Option, Some, None, Result, Ok, Err, nat_lt, if◌then◌else◌, refl, sym, ap, subst, append_assoc, arith}
+use Rattle.std.proofs.Common.{◌≡◌, ℕ, ◌≤◌, inl, Bool, true, false, List, [], ◌++◌, length, Option, Some, None, Result, Ok, Err, nat_lt, if◌then◌else◌, refl, sym, ap, subst, append_assoc, arith}
 use Rattle.std.proofs.lemmas.Bool.Decides.{nat_tests}
-use Rattle.std.specs.Io.KnownBytes.{Appends}
 use Rattle.std.proofs.KnownBytes.{Appends-nil}
 use Rattle.std.specs.Str.{bytes_eq}
-use Rattle.digest_core.specs.declared.Digest.{Digest}
 use Rattle.digest_core.specs.declared.TheConstants.{TAG_SEAL}
 use Rattle.digest_core.specs.Tagged.{tagged_digest}
 use Rattle.quorum_core.specs.declared.signer.Signer.{Signer}
 use Rattle.quorum_core.specs.Signers as codecs
 use Rattle.quorum_core.specs.Seals.{keyed_seal as sealed_under}
-use Rattle.outside.specs.Lists.{Journals, KeepsJournals, journal_of}
-use Rattle.schedule_text.specs.declared.words.Event.{Event}
+use Rattle.outside.specs.Lists.{Journals, KeepsJournals}
 use Rattle.schedule_text.specs.declared.words.Schedule.{Schedule}
 use Rattle.schedule_text.specs.Forms.{schedule_within}
 use Rattle.schedule_text.specs.Schedule.{Refused, longest_text, schedule_of}
-use Rattle.chain_spec.specs.Words.{Each}
 use Rattle.world_spec.specs.Setting.{Trust}
 use Rattle.world_spec.specs.Keyed.{keyed, keyed_seal, program_secret}
 use Rattle.world_spec.specs.Run.{journal}
@@ -23,8 +19,8 @@ use Rattle.world_run.specs.Trusts.{trust_by}
 use Rattle.committee.specs.Headline.{program_trust}
 use Rattle.committee.specs.Journals.{AreEmpty, KeepsFronts}
 use Rattle.committee.specs.Report.{readable, refusal_text, report_text, setting_in}
-use Rattle.committee.specs.Streams.{AppendsFront, ReadsText}
-use Rattle.committee.specs.Ways.{MeetsBadRecord, RunsCut, RunsWhole, TextCut}
+use Rattle.committee.specs.Streams.{AppendsFront}
+use Rattle.committee.specs.Ways.{RunsCut, TextCut}
 
 -- ---- nothing was done yet
 

@@ -1,6 +1,6 @@
 -- The lines of an event that was taken, or of a bad record, as they are written.
-use Rattle.std.proofs.Common.{◌≡◌, ℕ, List, Option, Result, Ok, Err, OnOk, OnErr, IsErrOf}
-use Rattle.std.specs.Io.KnownBytes.{Appends, Keeps}
+use Rattle.std.proofs.Common.{ℕ, List, Option, Result, Ok, Err, OnOk, OnErr}
+use Rattle.std.specs.Io.KnownBytes.{Appends}
 use Rattle.std.proofs.KnownBytes.{Keeps-refl}
 use Rattle.outside.specs.Lists.{Journals}
 use Rattle.report_text.specs.declared.lines.Line.{Line}
@@ -10,7 +10,7 @@ use Rattle.world_scene.specs.Scene.{Scene, rules_in}
 use Rattle.world_scene.specs.Steps.{call_of}
 use Rattle.world_run.specs.Kept.{MayLeave}
 use Rattle.committee.specs.Report.{lines_text}
-use Rattle.committee.specs.Steps.{IsBadRecord, IsCutAt, untaken, unwritten, unsaid, IsTaken, IsUntaken, Passes, ReadsBad}
+use Rattle.committee.specs.Steps.{IsBadRecord, IsCutAt, untaken, unwritten, unsaid, IsTaken, Passes, ReadsBad}
 use Rattle.committee.specs.Streams.{AppendsFront}
 use Rattle.committee.specs.Ways.{bad_record_text}
 

@@ -12,8 +12,7 @@ use Rattle.chain_spec.specs.Words.{Has}
 use Rattle.world_spec.specs.Setting.{Setting, Trust}
 use Rattle.world_spec.specs.Keyed.{keyed, program_secret}
 use Rattle.world_spec.specs.Assumptions.{IsCertified, IsHonestRun}
-use Rattle.committee.specs.Journals.{KeepsRun, ReadsBack}
-use Rattle.committee.specs.Report.{readable, refusal_text, report_text, setting_in}
+use Rattle.committee.specs.Report.{readable, refusal_text, setting_in}
 use Rattle.committee.specs.Streams.{ReadsText}
 use Rattle.committee.specs.Ways.{MeetsBadRecord, RunsWhole, TextCut}
 

@@ -1,5 +1,5 @@
 -- How the run of a schedule ends: what is written and kept then. Each speaks of the bytes and the lists before and behind it.
-use Rattle.std.specs.Prelude.{◌≡◌, ◌⊎◌, ℕ, List, [], ◌∷◌, ◌++◌, Option, None, Result, Ok, Err}
+use Rattle.std.specs.Prelude.{◌≡◌, ◌⊎◌, ℕ, List, ◌∷◌, ◌++◌, Option, None, Result, Ok, Err}
 use Rattle.std.specs.Io.KnownBytes.{Appends}
 use Rattle.outside.specs.Lists.{Journals, KeepsJournals}
 use Rattle.report_text.specs.declared.lines.Line.TheVariants as line
