@@ -1,4 +1,0 @@
-pub mod Votes
-pub mod Run
-pub mod Safety
-pub mod Worked
