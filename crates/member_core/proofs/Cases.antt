@@ -1,6 +1,6 @@
 -- The cases of each call, one lemma for each way through it.
-use Rattle.std.proofs.Common.{◌≡◌, ◌≤◌, ℕ, Bool, true, false, List, [], ◌∷◌, length, Option, Some, None, refl, ap, sym, ◌∙◌, subst}
-use Rattle.std.specs.Prelude.{Result, Ok, Err, find, option_map, IfSome}
+use Rattle.std.proofs.Common.{◌≡◌, ◌≤◌, ℕ, Bool, true, false, List, [], ◌∷◌, ◌++◌, length, Option, Some, None, refl, ap, sym, ◌∙◌, subst}
+use Rattle.std.specs.Prelude.{Result, Ok, Err, find, option_map, is_ok, IfSome}
 use Rattle.digest_core.specs.declared.Digest.{Digest}
 use Rattle.chain_types.specs.declared.objects.ObjectKey.{ObjectKey}
 use Rattle.chain_types.specs.Digests.{consumed_keys, transaction_digest}
@@ -10,7 +10,7 @@ use Rattle.chain_messages.specs.Messages as messages
 use Rattle.chain_spec.specs.Certificates.{Rules, cert_refusal, read_as, read_certificate}
 use Rattle.chain_spec.specs.Words.{Each, first_of, first_some, refused_or, unless_refused, where_true}
 use Rattle.std.proofs.lemmas.List.{length-map}
-use Rattle.chain_spec.proofs.ListLemmas.{find-each}
+use Rattle.chain_spec.proofs.ListLemmas.{each-push, find-each}
 use Rattle.member_types.specs.declared.answers.Held.{Held}
 use Rattle.chain_types.specs.declared.refusals.CertRefusal.{CertRefusal}
 use Rattle.chain_types.specs.declared.refusals.CertRefusal.TheVariants as refused
@@ -18,16 +18,22 @@ use Rattle.chain_spec.specs.Shape.{shape_fault}
 use Rattle.journal_core.specs.declared.records.Record.TheVariants as record_as
 use Rattle.member_types.specs.declared.refusals.HoldRefusal.{HoldRefusal}
 use Rattle.member_types.specs.declared.refusals.HoldRefusal.TheVariants as no_hold
+use Rattle.member_types.specs.declared.answers.Ran.{Ran}
+use Rattle.member_types.specs.declared.refusals.RunRefusal.{RunRefusal}
 use Rattle.member_spec.specs.Sequence.{held_as}
 use Rattle.chain_types.specs.declared.transactions.Transaction.{Transaction}
 use Rattle.chain_spec.specs.Keys.{objects_of}
 use Rattle.cert_rules.proofs.Whole.{few_objects}
 use Rattle.member_spec.specs.Votes.{Ballot, Cast, origin_of, vote_origins, vote_refusal}
+use Rattle.member_spec.specs.Versions.{Execution}
+use Rattle.round_run.specs.Books.{IsSound}
+use Rattle.round_run.specs.Places.{IsWaiting}
+use Rattle.round_run.specs.declared.waiting.Waiting.{Waiting}
 use Rattle.member_spec.specs.Member.{Fork, Member, ballot, consumes, fork_at, fork_with, vote_for}
 use Rattle.vote_book.proofs.Free.{free_where_decided}
 use Rattle.member_core.specs.Answers.{HoldDue, HoldsAs, IsFree}
 use Rattle.member_spec.specs.Calls.{due, hold_answer, hold_certificate, hold_read, hold_record, hold_stopped, holds, is_hold_kept, new_hold}
-use Rattle.member_core.specs.Sound.{AllFew, HasFew}
+use Rattle.member_core.specs.Sound.{AllFew, HasFew, Stands}
 
 -- ---- forks
 
@@ -149,3 +155,23 @@ is_free m t digest origins is new few none named = record {
   few = subst (λ xs. length xs ≤ 257) (sym named) (few_origins (ballot m) t few);
   free = λ _. free_where_decided (ballot m) t digest none;
 }
+
+-- ---- runs
+
+-- whether a refusal comes does not hang on what is answered else
+pub goes_alike : (o : Option RunRefusal) (answer : Result (Unit {0}) RunRefusal) (ran : Ran) → answer ≡ unless_refused o tt → is_ok answer ≡ is_ok (unless_refused o ran)
+goes_alike None answer ran e = ap (λ (a : Result (Unit {0}) RunRefusal). is_ok a) e
+goes_alike (Some refusal) answer ran e = ap (λ (a : Result (Unit {0}) RunRefusal). is_ok a) e
+
+-- ---- what a state relies on
+
+-- a state that holds nothing
+pub nothing_held : (votes : List Cast) (held : List Held) (executed : List Execution) (w : Waiting) → AllFew votes → held ≡ [] → IsWaiting executed [] w → Stands votes held executed w
+nothing_held votes held executed w few none waits = record {
+  few = few;
+  sound = subst (λ (hs : List Held). Each IsSound hs) (sym none) tt;
+  waits = subst (λ (hs : List Held). IsWaiting executed hs w) (sym none) waits;
+}
+
+pub one_more_sound : (held : List Held) (h : Held) → Each IsSound held → shape_fault h.cert.tx ≡ None → h.digest ≡ transaction_digest h.cert.tx → Each IsSound (held ++ h ∷ [])
+one_more_sound held h sound shape digest = each-push IsSound held h sound (shape, digest)

@@ -1,1 +1,3 @@
 pub mod Cases
+pub mod Named
+pub mod Spelled

@@ -1,5 +1,5 @@
 -- What a member answers, against the definition; want of memory says nothing.
-use Rattle.std.specs.Prelude.{◌≡◌, ℕ, Bool, true, false, not, List, [], Option, Some, None, Result, Ok, Err, is_some, length, ◌≤◌, if◌then◌else◌}
+use Rattle.std.specs.Prelude.{◌≡◌, ℕ, Bool, true, false, not, List, [], ◌∷◌, Option, Some, None, Result, Ok, Err, is_some, length, ◌≤◌, if◌then◌else◌}
 use Rattle.digest_core.specs.declared.Digest.{Digest}
 use Rattle.quorum_core.specs.declared.signer.Signer.{Signer}
 use Rattle.chain_types.specs.declared.transactions.Transaction.{Transaction}
@@ -11,7 +11,7 @@ use Rattle.chain_spec.specs.Shape.{shape_fault}
 use Rattle.journal_core.specs.declared.records.Record.{Record}
 use Rattle.journal_core.specs.declared.records.Record.TheVariants as record_as
 use Rattle.member_spec.specs.Checkpoints.{held_of}
-use Rattle.chain_spec.specs.Words.{first_of, where_true}
+use Rattle.chain_spec.specs.Words.{first_of, first_some, where_true}
 use Rattle.cert_rules.specs.Parts.{rules_of}
 use Rattle.member_types.specs.declared.refusals.VoteRefusal.{VoteRefusal}
 use Rattle.member_types.specs.declared.refusals.VoteRefusal.TheVariants as no_vote
@@ -19,7 +19,11 @@ use Rattle.member_types.specs.declared.refusals.HoldRefusal.{HoldRefusal}
 use Rattle.member_types.specs.declared.refusals.HoldRefusal.TheVariants as no_hold
 use Rattle.member_spec.specs.Votes.{locked}
 use Rattle.member_spec.specs.Member.{Member, vote_for}
-use Rattle.member_spec.specs.Calls.{Voted}
+use Rattle.member_types.specs.declared.refusals.RunRefusal.{RunRefusal}
+use Rattle.member_types.specs.declared.refusals.RunRefusal.TheVariants as no_run
+use Rattle.member_types.specs.declared.refusals.CloseRefusal.{CloseRefusal}
+use Rattle.member_types.specs.declared.refusals.CloseRefusal.TheVariants as no_close
+use Rattle.member_spec.specs.Calls.{Voted, full, halted}
 use Rattle.member_core.specs.declared.votes.Decision.{Decision}
 use Rattle.member_core.specs.declared.holds.Holding.{Holding}
 use Rattle.member_core.specs.declared.holds.Holding.TheVariants as holding
@@ -106,6 +110,21 @@ abbrev pub IsHeldAs : Member → Certificate → Holding → Type 0
 IsHeldAs m c holding.Again = Unit {0}
 IsHeldAs m c (holding.New digest) = MayHold m c digest
 IsHeldAs m c (holding.Fork key first digest) = MayHold m c digest
+
+-- ---- runs and closes
+
+-- why no run, and no close, is asked for
+abbrev pub run_stopped : Member → Option RunRefusal
+run_stopped m = first_some (halted no_run.Halted m ∷ full no_run.Full m ∷ [])
+
+abbrev pub close_stopped : Member → Option CloseRefusal
+close_stopped m = first_some (halted no_close.Halted m ∷ full no_close.Full m ∷ [])
+
+-- ---- records that are taken back
+
+-- the rules of a committee that accepts no seal, for calls in which the rules play no part
+abbrev pub bare : Rules
+bare = rules_for [] (λ by bytes seal. false)
 
 -- what holds where a record was taken
 abbrev pub OnTaken : {E : Type 0} → Result Bool E → Type 0 → Type 0

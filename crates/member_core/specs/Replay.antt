@@ -6,16 +6,16 @@ use Rattle.chain_spec.specs.Certificates.{Rules}
 use Rattle.member_spec.specs.Member.{Member}
 use Rattle.member_spec.specs.Replay.{is_allowed}
 
--- the records of the requests that are answered so far: votes and certificates
-abbrev pub is_request : Record → Bool
-is_request (record_as.Vote tx origins) = true
-is_request (record_as.Hold cert) = true
-is_request (record_as.See bytes) = false
-is_request record_as.Close = false
-is_request (record_as.Ran txs) = false
-is_request record_as.Turn = false
-is_request (record_as.Ran2 items) = false
+-- the records of the calls that are answered so far: all but entries of the sequence and turns
+abbrev pub is_answered : Record → Bool
+is_answered (record_as.Vote tx origins) = true
+is_answered (record_as.Hold cert) = true
+is_answered (record_as.See bytes) = false
+is_answered record_as.Close = true
+is_answered (record_as.Ran txs) = true
+is_answered record_as.Turn = false
+is_answered (record_as.Ran2 items) = true
 
--- a record that such a request would append in this state
+-- a record that such a call would append in this state
 unfoldable pub is_taken : Rules → Member → Record → Bool
-is_taken r m x = is_request x && is_allowed r m x
+is_taken r m x = is_answered x && is_allowed r m x

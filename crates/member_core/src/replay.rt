@@ -1,24 +1,28 @@
 //! Records that are read back.
 
-ghost use Rattle.std.specs.Prelude.{◌≡◌, IfOk, false, true};
+ghost use Rattle.std.specs.Prelude.{◌≡◌, IfOk, OnOk, false, is_ok, map, nat_le, true};
 ghost use Rattle.std.specs.Bool.{OnTrue};
 ghost use Rattle.chain_types.specs.Transactions.{transaction};
 ghost use Rattle.chain_messages.specs.Messages.{certificate};
-ghost use Rattle.chain_spec.specs.Tests.{origins_eq};
+ghost use Rattle.chain_types.specs.Equal.{digest_eq};
+ghost use Rattle.chain_spec.specs.Tests.{list_eq, origins_eq};
+ghost use Rattle.journal_core.specs.declared.records.RanItem.{RanItem as Item};
 ghost use Rattle.journal_core.specs.declared.records.Record.TheVariants as record_as;
 ghost use Rattle.journal_core.specs.Records as journals;
-ghost use Rattle.member_spec.specs.Member.{after};
-ghost use Rattle.member_spec.specs.Replay.{is_allowed};
+ghost use Rattle.member_spec.specs.Calls.{ran_items, record_limit, run_answer};
+ghost use Rattle.member_spec.specs.Member.{after, with_rounds};
+ghost use Rattle.member_spec.specs.Replay.{is_allowed, ran_item_eq};
 ghost use Rattle.member_core.specs.Replay.{is_taken};
-ghost use Rattle.member_core.specs.Answers.{OnTaken, rules_for, sealed_as};
-ghost use Rattle.member_core.specs.Steps.{holding, voted};
+ghost use Rattle.member_core.specs.Answers.{OnTaken, bare, rules_for, sealed_as};
+ghost use Rattle.member_core.specs.Steps.{closing, counted, holding, voted};
 
 use crate::holds::Holding;
+use crate::runs::ran_items;
 use crate::state::State;
 use chain_messages::Certificate;
 use chain_types::Transaction;
 use digest_core::Digest;
-use journal_core::Record;
+use journal_core::{RanItem, Record};
 use member_types::{Held, HoldRefusal, VoteRefusal};
 use quorum_core::{Committee, Sealer};
 use wire_bcs::{OutOfMemory, Seq};
@@ -28,6 +32,32 @@ fn same_origins(a: &[Option<Digest>], b: &[Option<Digest>]) -> bool
     ensures { result ≡ origins_eq a.now b.now }
 {
     a == b
+}
+
+/// Whether two runs have the same items.
+fn same_items(a: &[RanItem], b: &[RanItem]) -> bool
+    ensures { result ≡ list_eq ran_item_eq a.now b.now }
+{
+    a == b
+}
+
+/// Whether these are the transactions of the items.
+fn same_txs(txs: &[Digest], items: &[RanItem]) -> bool
+    ensures { result ≡ list_eq digest_eq txs.now (map (λ (i : Item). i.tx) items.now) }
+{
+    let mut txs = txs;
+    let mut items = items;
+    while let [tx, txs_after @ ..] = txs {
+        let [item, items_after @ ..] = items else {
+            return false;
+        };
+        if *tx != item.tx {
+            return false;
+        }
+        txs = txs_after;
+        items = items_after;
+    }
+    items.is_empty()
 }
 
 impl State {
@@ -97,9 +127,78 @@ impl State {
         }
     }
 
-    /// Takes a record that was read back, where a request would append it in this state; else false. Where false
-    /// is answered or memory is refused the state is not to be used.
-    #[tactic(auto, unfolding(crate::specs::Replay::is_taken, member_spec::specs::Replay::is_allowed, member_spec::specs::Member::after, journal_core::specs::Records::journal_record))]
+    /// Takes the record of a close, where the member may close in this state.
+    #[tactic(auto, unfolding(member_spec::specs::Replay::is_allowed, member_spec::specs::Calls::close_answer))]
+    pub(crate) fn take_close_back(&mut self) -> bool
+        ensures taken { result ≡ is_allowed bare self.old record_as.Close }
+        ensures state { result ≡ true → self.new ≡ closing self.old }
+    {
+        if self.check_close().is_err() {
+            return false;
+        }
+        if self.is_closed() {
+            return false;
+        }
+        self.take_close();
+        true
+    }
+
+    /// Whether a run may be asked for.
+    #[tactic(auto, unfolding(member_spec::specs::Calls::run_answer), using(crate::proofs::Cases::goes_alike))]
+    fn may_run(&self) -> bool
+        ensures value { result ≡ is_ok (run_answer bare self.now) }
+        ensures room { result ≡ true → nat_le record_limit self.now.records ≡ false }
+    {
+        self.check_run().is_ok()
+    }
+
+    /// Runs once more: the items of the record of the run.
+    fn rerun(&mut self) -> Result<Seq<RanItem>, OutOfMemory>
+        ensures state { OnOk result (self.new ≡ with_rounds self.old) }
+        ensures items { IfOk result (λ items. items ≡ ran_items self.old) }
+    {
+        let effects = self.execute()?;
+        ran_items(self.alloc, effects.as_slice())
+    }
+
+    /// Takes the record of a run of these transactions, where a run executes them in this state.
+    #[tactic(auto, unfolding(member_spec::specs::Replay::is_allowed))]
+    pub(crate) fn take_txs_back(&mut self, txs: &[Digest]) -> Result<bool, OutOfMemory>
+        ensures taken { IfOk result (λ taken. taken ≡ is_allowed bare self.old (record_as.Ran txs.now)) }
+        ensures state { OnTaken result (self.new ≡ counted (with_rounds self.old)) }
+    {
+        if !self.may_run() || txs.is_empty() {
+            return Ok(false);
+        }
+        let items = self.rerun()?;
+        if !same_txs(txs, items.as_slice()) {
+            return Ok(false);
+        }
+        self.count_run();
+        Ok(true)
+    }
+
+    /// Takes the record of a run of these items, where a run has them in this state.
+    #[tactic(auto, unfolding(member_spec::specs::Replay::is_allowed))]
+    pub(crate) fn take_items_back(&mut self, items: &[RanItem]) -> Result<bool, OutOfMemory>
+        ensures taken { IfOk result (λ taken. taken ≡ is_allowed bare self.old (record_as.Ran2 items.now)) }
+        ensures state { OnTaken result (self.new ≡ counted (with_rounds self.old)) }
+    {
+        if !self.may_run() || items.is_empty() {
+            return Ok(false);
+        }
+        let made = self.rerun()?;
+        if !same_items(items, made.as_slice()) {
+            return Ok(false);
+        }
+        self.count_run();
+        Ok(true)
+    }
+
+    /// Takes a record that was read back, where a call that is answered so far would append it in this state: that
+    /// of a vote, a certificate, a run or a close; else false. Where false is answered or memory is refused the
+    /// state is not to be used.
+    #[tactic(auto, unfolding(crate::specs::Replay::is_taken, member_spec::specs::Replay::is_allowed, member_spec::specs::Calls::run_answer, member_spec::specs::Calls::close_answer, member_spec::specs::Member::after, journal_core::specs::Records::journal_record))]
     pub fn take<S: Sealer>(
         &mut self,
         committee: &Committee,
@@ -114,9 +213,10 @@ impl State {
             Record::Vote { tx, origins } => self.take_vote_back(sealer, &tx, origins),
             Record::Hold(cert) => self.take_hold_back(committee, sealer, cert),
             Record::See(_bytes) => Ok(false),
-            Record::Ran(_txs) => Ok(false),
-            Record::Ran2(_items) => Ok(false),
-            Record::Close | Record::Turn => Ok(false),
+            Record::Ran(txs) => self.take_txs_back(txs.as_slice()),
+            Record::Ran2(items) => self.take_items_back(items.as_slice()),
+            Record::Close => Ok(self.take_close_back()),
+            Record::Turn => Ok(false),
         }
     }
 }

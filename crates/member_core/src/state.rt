@@ -1,24 +1,27 @@
 //! The state, and the records that it takes.
 
-ghost use Rattle.std.specs.Prelude.{◌≡◌, ◌≤◌, [], IfOk, IfSome, OnOk, None, false, true, find, is_some, option_copied, option_map, nat_le, length};
+ghost use Rattle.std.specs.Prelude.{◌≡◌, ◌≤◌, [], List, IfOk, IfSome, OnOk, None, false, true, find, is_some, option_copied, option_map, nat_le, length, map};
 ghost use Rattle.chain_types.specs.Digests.{consumed_keys, transaction_digest};
 ghost use Rattle.chain_spec.specs.Shape.{shape_fault};
 ghost use Rattle.chain_spec.specs.Words.{first_of};
 ghost use Rattle.member_spec.specs.Checkpoints.{held_of};
-ghost use Rattle.member_spec.specs.Calls.{record_limit};
-ghost use Rattle.member_spec.specs.Member.{Fork, ballot, consumes, fork_of, fresh, live_objects, vote_for};
-ghost use Rattle.member_spec.specs.Rounds.{writes_new};
-ghost use Rattle.member_spec.specs.Versions.{Version, object_in, version_at, versions};
+ghost use Rattle.member_spec.specs.Calls.{effects_of, newly_built, ran_items, record_limit};
+ghost use Rattle.member_spec.specs.Member.{Fork, ballot, books, consumes, fork_of, fresh, live_objects, vote_for, with_rounds};
+ghost use Rattle.member_spec.specs.Versions.{Execution, Version, object_in, version_at, versions};
 ghost use Rattle.member_spec.specs.Votes.{Cast, locked, vote_origins, vote_refusal};
-ghost use Rattle.member_core.specs.Steps.{holding, voted};
+ghost use Rattle.member_spec.specs.Rounds.{left, rounds};
+ghost use Rattle.round_run.specs.Places.{IsWaiting};
+ghost use Rattle.member_core.specs.Steps.{closing, counted, holding, items_of, voted};
 ghost use Rattle.vote_rules.specs.Decide.{Decides};
 ghost use Rattle.version_store.specs.Stores.{are_new};
 ghost use Rattle.member_types.specs.declared.answers.Held.{Held as H};
 
 use chain_types::{DecideRefusal, Object, ObjectKey, Transaction};
 use digest_core::Digest;
+use effects_core::Effects;
 use held_book::HeldBook;
-use member_types::Held;
+use member_types::{Held, Left};
+use round_run::Waiting;
 use std::alloc::Global;
 use std::marker::Model;
 use version_store::Store;
@@ -27,6 +30,15 @@ use wire_bcs::{OutOfMemory, Seq};
 
 /// How many records the list of a member has at most.
 const RECORD_LIMIT: u64 = 4_194_303;
+
+/// Holds nothing, where memory was refused half way. Takes no memory.
+fn forget_all(alloc: Global, held: &mut HeldBook, waiting: &mut Waiting)
+    ensures held { held.new ≡ [] }
+    ensures waits { (executed : List Execution) → IsWaiting executed [] waiting.new }
+{
+    *held = HeldBook::new(alloc);
+    *waiting = Waiting::new(alloc);
+}
 
 /// What a member has in the present epoch. Contracts see the definitions' record of it, in which no entry of a
 /// sequence was seen and no epoch has ended.
@@ -38,6 +50,7 @@ pub struct State {
     store: Store,
     votes: VoteBook,
     held: HeldBook,
+    waiting: Waiting,
     pub(crate) alloc: Global,
 }
 
@@ -51,7 +64,7 @@ impl Model for State {
 
     ghost view = { λ s. record { records = s.records; epoch = s.epoch; opening = s.store.opening; executed = s.store.executed; votes = s.votes; held = s.held; sequence = nothing_seen; closed = s.closed; past = [] } };
 
-    ghost invariant = { λ s. Stands s.votes s.held };
+    ghost invariant = { λ s. Stands s.votes s.held s.store.executed s.waiting };
 }
 
 impl State {
@@ -69,6 +82,7 @@ impl State {
             store,
             votes: VoteBook::new(alloc),
             held: HeldBook::new(alloc),
+            waiting: Waiting::new(alloc),
             alloc,
         })
     }
@@ -184,6 +198,7 @@ impl State {
 
     /// Takes the record of a certificate that is newly held, or is the evidence of a fork. Where memory is
     /// refused the state is not to be used.
+    #[tactic(auto, using(crate::proofs::Cases::one_more_sound))]
     pub fn take_hold(&mut self, held: Held) -> Result<(), OutOfMemory>
         requires digest { held.digest ≡ transaction_digest held.cert.tx }
         requires shape { shape_fault held.cert.tx ≡ None }
@@ -191,8 +206,66 @@ impl State {
         requires room { nat_le record_limit self.old.records ≡ false }
         ensures { OnOk result (self.new ≡ holding self.old held.cert) }
     {
-        self.held.hold(held)?;
+        self.waiting.hold(&self.store, self.held.as_slice(), &held)?;
+        match self.held.hold(held) {
+            Ok(()) => {
+                self.records += 1;
+                Ok(())
+            }
+            Err(OutOfMemory) => {
+                forget_all(self.alloc, &mut self.held, &mut self.waiting);
+                Err(OutOfMemory)
+            }
+        }
+    }
+
+    /// Executes all held certificates that are ready, round after round (Sui Lutris), and answers their effects in
+    /// order; the record of it is to be counted. The items of that record are those of the effects, and no checkpoint
+    /// is built, since no entry is seen. Where memory is refused the state is not to be used.
+    #[tactic(auto, unfolding(member_spec::specs::Member::built), using(crate::proofs::Named::ran_named))]
+    pub fn execute(&mut self) -> Result<Seq<Effects>, OutOfMemory>
+        ensures state { OnOk result (self.new ≡ with_rounds self.old) }
+        ensures effects { IfOk result (λ effects. effects ≡ map effects_of (rounds (books self.old) self.old.executed)) }
+        ensures items { IfOk result (λ effects. items_of effects ≡ ran_items self.old) }
+        ensures built { newly_built self.old (with_rounds self.old) ≡ [] }
+    {
+        let ran = round_run::run(
+            self.alloc,
+            &mut self.store,
+            &mut self.waiting,
+            self.held.as_slice(),
+        );
+        match ran {
+            Ok(effects) => Ok(effects),
+            Err(OutOfMemory) => {
+                forget_all(self.alloc, &mut self.held, &mut self.waiting);
+                Err(OutOfMemory)
+            }
+        }
+    }
+
+    /// The held certificates that a run left although all that they waited for is executed.
+    #[tactic(auto, unfolding(member_spec::specs::Rounds::left))]
+    pub fn left(&self) -> Result<Seq<Left>, OutOfMemory>
+        ensures { IfOk result (λ all. all ≡ left (books self.now) self.now.executed) }
+    {
+        round_run::left(self.alloc, &self.store, &self.waiting, self.held.as_slice())
+    }
+
+    /// Counts the record of a run. Takes no memory.
+    pub fn count_run(&mut self)
+        requires room { nat_le record_limit self.old.records ≡ false }
+        ensures { self.new ≡ counted self.old }
+    {
         self.records += 1;
-        Ok(())
+    }
+
+    /// Takes the record of a close. Takes no memory.
+    pub fn take_close(&mut self)
+        requires room { nat_le record_limit self.old.records ≡ false }
+        ensures { self.new ≡ closing self.old }
+    {
+        self.closed = true;
+        self.records += 1;
     }
 }

@@ -1,3 +1,4 @@
 pub mod Casting
+pub mod Running
 pub mod Settling
 pub mod Starting

@@ -28,7 +28,7 @@ Signing = Signer → List ℕ → Digest → Bool
 abbrev pub seat_with : Seat → Member → Ended → Seat
 seat_with old state e = record old { state = state; up = not (has_fallen e) }
 
-settles : (r : Rules) (call : Call) (old : Seat) (state : Member) (e : Ended) → old.up ≡ true → Becomes (called r old.state call) state e → Behaves r call old (seat_with old state e) e
+pub settles : (r : Rules) (call : Call) (old : Seat) (state : Member) (e : Ended) → old.up ≡ true → Becomes (called r old.state call) state e → Behaves r call old (seat_with old state e) e
 settles r call old state answered up is =
     ap (λ (s : Member). record old { state = s; up = true }) is
     ∙ ap (λ (b : Bool). record old { state = called r old.state call; up = b }) (sym up)
@@ -89,7 +89,7 @@ hold_due_at accepts old bytes before now e up h =
 
 -- ---- a member that is down
 
-keeps_same : (lists : Option Journals) → KeepsJournals lists lists
+pub keeps_same : (lists : Option Journals) → KeepsJournals lists lists
 keeps_same None = tt
 keeps_same (Some lists) = refl
 

@@ -1,6 +1,6 @@
 -- One record behind the other.
 use Rattle.std.proofs.Common.{◌≡◌, ◌+◌, ℕ, List, ◌∷◌, ap}
-use Rattle.std.specs.Prelude.{Result, Ok, Err}
+use Rattle.std.specs.Prelude.{Ok, Err}
 use Rattle.chain_spec.specs.Certificates.{Rules}
 use Rattle.chain_spec.specs.Words.{and_then}
 use Rattle.member_types.specs.declared.refusals.StartRefusal.{StartRefusal}

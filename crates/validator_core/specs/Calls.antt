@@ -12,7 +12,12 @@ use Rattle.member_types.specs.declared.refusals.VoteRefusal.{VoteRefusal}
 use Rattle.member_types.specs.declared.refusals.VoteRefusal.TheVariants as no_vote
 use Rattle.member_types.specs.declared.refusals.HoldRefusal.{HoldRefusal}
 use Rattle.member_types.specs.declared.refusals.HoldRefusal.TheVariants as no_hold
-use Rattle.member_spec.specs.Calls.{Voted, hold_answer, vote_answer}
+use Rattle.member_types.specs.declared.answers.Ran.{Ran}
+use Rattle.member_types.specs.declared.refusals.RunRefusal.{RunRefusal}
+use Rattle.member_types.specs.declared.refusals.RunRefusal.TheVariants as no_run
+use Rattle.member_types.specs.declared.refusals.CloseRefusal.{CloseRefusal}
+use Rattle.member_types.specs.declared.refusals.CloseRefusal.TheVariants as no_close
+use Rattle.member_spec.specs.Calls.{Voted, close_answer, hold_answer, run_answer, vote_answer}
 use Rattle.validator_core.specs.declared.keeping.Unkept.{Unkept}
 use Rattle.validator_core.specs.declared.keeping.Unkept.TheVariants as unkept
 use Rattle.validator_core.specs.Seats.{Ended, Seat, answered, fell}
@@ -63,3 +68,45 @@ hold_ended (Ok new) = answered
 hold_ended (Err no_hold.OutOfMemory) = fell
 hold_ended (Err no_hold.KeepFault) = fell
 hold_ended (Err refusal) = answered
+
+-- ---- run
+
+abbrev pub run_said : Rules → Seat → Result Ran RunRefusal
+run_said r seat = if seat.up then run_answer r seat.state else Err no_run.Down
+
+abbrev pub Runs : Result Ran RunRefusal → Result Ran RunRefusal → Type 0
+Runs said (Ok ran) = said ≡ Ok ran
+Runs said (Err no_run.OutOfMemory) = Unit {0}
+Runs said (Err no_run.KeepFault) = Unit {0}
+Runs said (Err refusal) = said ≡ Err refusal
+
+abbrev pub unkept_run : Unkept → RunRefusal
+unkept_run unkept.KeepFault = no_run.KeepFault
+unkept_run unkept.OutOfMemory = no_run.OutOfMemory
+
+abbrev pub run_ended : Result Ran RunRefusal → Ended
+run_ended (Ok ran) = answered
+run_ended (Err no_run.OutOfMemory) = fell
+run_ended (Err no_run.KeepFault) = fell
+run_ended (Err refusal) = answered
+
+-- ---- close
+
+abbrev pub close_said : Rules → Seat → Result Bool CloseRefusal
+close_said r seat = if seat.up then close_answer r seat.state else Err no_close.Down
+
+abbrev pub Closes : Result Bool CloseRefusal → Result Bool CloseRefusal → Type 0
+Closes said (Ok new) = said ≡ Ok new
+Closes said (Err no_close.OutOfMemory) = Unit {0}
+Closes said (Err no_close.KeepFault) = Unit {0}
+Closes said (Err refusal) = said ≡ Err refusal
+
+abbrev pub unkept_close : Unkept → CloseRefusal
+unkept_close unkept.KeepFault = no_close.KeepFault
+unkept_close unkept.OutOfMemory = no_close.OutOfMemory
+
+abbrev pub close_ended : Result Bool CloseRefusal → Ended
+close_ended (Ok new) = answered
+close_ended (Err no_close.OutOfMemory) = fell
+close_ended (Err no_close.KeepFault) = fell
+close_ended (Err refusal) = answered

@@ -21,6 +21,10 @@ pub record Seat : Type 0 where
 abbrev pub rules_of_seat : Seat → (Signer → List ℕ → Digest → Bool) → Rules
 rules_of_seat seat accepts = rules_for seat.stakes accepts
 
+-- the same where no seal is accepted, for calls in which the rules play no part
+abbrev pub bare_rules : Seat → Rules
+bare_rules seat = rules_of_seat seat (λ by bytes seal. false)
+
 -- a member that is down stays as it is
 abbrev pub behind : Rules → Seat → Call → Seat
 behind r seat call = if seat.up then record seat { state = called r seat.state call } else seat
@@ -66,6 +70,11 @@ Keeps before now member (Some x) = AddsRecord before now member (journals.journa
 abbrev pub Appended : Option Journals → Option Journals → ℕ → Record → Result (Unit {0}) Unkept → Type 0
 Appended before now member x (Ok done) = AddsRecord before now member (journals.journal_record.spell x)
 Appended before now member x (Err why) = AddsRecord before now member (journals.journal_record.spell x) ⊎ KeepsJournals before now
+
+-- the same of a record that may be due
+abbrev pub AppendedWhere : Option Journals → Option Journals → ℕ → Option Record → Result (Unit {0}) Unkept → Type 0
+AppendedWhere before now member due (Ok done) = Keeps before now member due
+AppendedWhere before now member due (Err why) = Keeps before now member due ⊎ KeepsJournals before now
 
 -- where a call answers, its due record stands; where the member fell, it stands or nothing does
 abbrev pub Journaled : Option Journals → Option Journals → ℕ → Option Record → Ended → Type 0

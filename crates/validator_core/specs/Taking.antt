@@ -1,5 +1,5 @@
 -- The records that a member takes as it appends them.
-use Rattle.std.specs.Prelude.{◌≡◌, ◌≤◌, ℕ, List, Option, None, length}
+use Rattle.std.specs.Prelude.{◌≡◌, ◌≤◌, List, Option, None, length}
 use Rattle.digest_core.specs.declared.Digest.{Digest}
 use Rattle.chain_types.specs.declared.transactions.Transaction.{Transaction}
 use Rattle.chain_types.specs.Digests.{consumed_keys, transaction_digest}

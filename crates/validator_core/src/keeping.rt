@@ -5,10 +5,10 @@ ghost use Rattle.journal_core.specs.Records as journals;
 ghost use Rattle.outside.specs.Causes.{Rose};
 ghost use Rattle.validator_core.specs.declared.keeping.Unkept.TheVariants as unkept;
 ghost use Rattle.validator_core.specs.Seats.{Appended};
-ghost use Rattle.validator_core.specs.Calls.{unkept_hold, unkept_vote};
+ghost use Rattle.validator_core.specs.Calls.{unkept_close, unkept_hold, unkept_run, unkept_vote};
 
 use journal_core::{Record, encode_record};
-use member_types::{HoldRefusal, VoteRefusal};
+use member_types::{CloseRefusal, HoldRefusal, RunRefusal, VoteRefusal};
 use outside::{Keeper, OutFault};
 use std::alloc::Global;
 
@@ -37,6 +37,28 @@ impl From<Unkept> for HoldRefusal {
         match why {
             Unkept::KeepFault => HoldRefusal::KeepFault,
             Unkept::OutOfMemory => HoldRefusal::OutOfMemory,
+        }
+    }
+}
+
+impl From<Unkept> for RunRefusal {
+    ghost from_gives = { λ why given. given ≡ unkept_run why };
+
+    fn from(why: Unkept) -> RunRefusal {
+        match why {
+            Unkept::KeepFault => RunRefusal::KeepFault,
+            Unkept::OutOfMemory => RunRefusal::OutOfMemory,
+        }
+    }
+}
+
+impl From<Unkept> for CloseRefusal {
+    ghost from_gives = { λ why given. given ≡ unkept_close why };
+
+    fn from(why: Unkept) -> CloseRefusal {
+        match why {
+            Unkept::KeepFault => CloseRefusal::KeepFault,
+            Unkept::OutOfMemory => CloseRefusal::OutOfMemory,
         }
     }
 }

@@ -5,21 +5,23 @@ ghost use Rattle.outside.specs.Causes.{Rose};
 ghost use Rattle.chain_types.specs.Digests.{digest_of_object};
 ghost use Rattle.member_spec.specs.Versions.{Version, version_at, versions as versions_of};
 ghost use Rattle.member_spec.specs.Member.{live_objects};
-ghost use Rattle.member_spec.specs.Calls.{holds, votes};
+ghost use Rattle.member_spec.specs.Calls.{closes, holds, runs, votes};
 ghost use Rattle.member_types.specs.declared.refusals.HoldRefusal.TheVariants as no_hold;
 ghost use Rattle.member_types.specs.declared.refusals.VoteRefusal.TheVariants as no_vote;
-ghost use Rattle.validator_core.specs.Calls.{Holds, Votes, hold_ended, hold_said, vote_ended, vote_said};
+ghost use Rattle.member_types.specs.declared.refusals.CloseRefusal.TheVariants as no_close;
+ghost use Rattle.member_types.specs.declared.refusals.RunRefusal.TheVariants as no_run;
+ghost use Rattle.validator_core.specs.Calls.{Closes, Holds, Runs, Votes, close_ended, close_said, hold_ended, hold_said, run_ended, run_said, vote_ended, vote_said};
 ghost use Rattle.member_core.specs.Answers.{rules_for};
 ghost use Rattle.version_store.specs.Stores.{are_new};
 ghost use Rattle.validator_core.specs.Starts.{Starts, started};
-ghost use Rattle.validator_core.specs.Seats.{Behaves, Fell, Journaled, due_at, rules_of_seat};
+ghost use Rattle.validator_core.specs.Seats.{Behaves, Fell, Journaled, bare_rules, due_at, rules_of_seat};
 
-use crate::calls;
 use crate::start::take_all;
+use crate::{calls, epoch_calls};
 use chain_types::{Object, ObjectKey, object_digest};
 use digest_core::Digest;
 use member_core::State;
-use member_types::{HoldRefusal, StartRefusal, VoteRefusal, Voted};
+use member_types::{CloseRefusal, HoldRefusal, Ran, RunRefusal, StartRefusal, VoteRefusal, Voted};
 use outside::Keeper;
 use quorum_core::{Committee, Sealer};
 use std::alloc::Global;
@@ -46,8 +48,8 @@ impl Model for Validator {
 impl Validator {
     /// Starts the member of this number from the records that it kept, none for a new one, in an epoch 0 that opens
     /// with these objects, none of them twice. `BadRecord` comes exactly at the first record that does not decode
-    /// (1), or that no request would have appended (2). Records of votes and of certificates are taken, and no
-    /// others yet.
+    /// (1), or that no call would have appended (2). Records of votes, certificates, runs and closes are taken, a
+    /// run's in both forms, with effects and without; those of entries and turns are not taken yet.
     #[tactic(auto, unfolding(crate::specs::Starts::started))]
     pub fn start<S: Sealer>(
         alloc: Global,
@@ -168,6 +170,52 @@ impl Validator {
             bytes,
         );
         self.up = !calls::hold_fell(&answer);
+        answer
+    }
+
+    /// Lets the member execute what it holds, round after round (Sui Lutris): answers the effects in order, and the
+    /// certificates that it left although all that they waited for is executed. No checkpoint is built, since no
+    /// entry of the sequence is seen yet. Order of the refusals: `Down`, `Halted`, `Full`, `KeepFault`. The record of
+    /// a run that executed something is appended before the call answers. Behind `KeepFault` and want of memory the
+    /// member is down.
+    #[tactic(auto, using(crate::proofs::Running::run_settles, crate::proofs::Running::run_at, crate::proofs::Running::run_due_at, crate::proofs::Settling::down_keeps))]
+    pub fn run<D: Keeper>(&mut self, keeper: &mut D) -> Result<Ran, RunRefusal>
+        requires known { self.old.member < D.width keeper.old }
+        ensures answer { Runs (run_said (bare_rules self.old) self.old) result }
+        ensures built { IfOk result (λ ran. ran.built ≡ []) }
+        ensures state { Behaves (bare_rules self.old) runs self.old self.new (run_ended result) }
+        ensures kept { Journaled (D.lists keeper.old) (D.lists keeper.new) self.old.member (due_at (bare_rules self.old) self.old runs) (run_ended result) }
+        ensures width { D.width keeper.new ≡ D.width keeper.old }
+        ensures later { D.failed keeper.old ≤ D.failed keeper.new }
+        ensures fault { IsErrOf result no_run.KeepFault → Rose (D.failed keeper.old) (D.failed keeper.new) }
+    {
+        if !self.up {
+            return Err(RunRefusal::Down);
+        }
+        let answer = epoch_calls::run(&mut self.state, keeper, self.member);
+        self.up = !epoch_calls::run_fell(&answer);
+        answer
+    }
+
+    /// Closes the member's epoch: true where it closes, false where it was closed; it votes for no new transaction
+    /// and holds no new certificate then (epoch change of Sui Lutris). Order of the refusals: `Down`, `Halted`,
+    /// `Full`, `KeepFault`. The record of a close is appended before the call answers. Behind `KeepFault` and want of
+    /// memory the member is down.
+    #[tactic(auto, using(crate::proofs::Running::close_settles, crate::proofs::Running::close_at, crate::proofs::Running::close_due_at, crate::proofs::Settling::down_keeps))]
+    pub fn close<D: Keeper>(&mut self, keeper: &mut D) -> Result<bool, CloseRefusal>
+        requires known { self.old.member < D.width keeper.old }
+        ensures answer { Closes (close_said (bare_rules self.old) self.old) result }
+        ensures state { Behaves (bare_rules self.old) closes self.old self.new (close_ended result) }
+        ensures kept { Journaled (D.lists keeper.old) (D.lists keeper.new) self.old.member (due_at (bare_rules self.old) self.old closes) (close_ended result) }
+        ensures width { D.width keeper.new ≡ D.width keeper.old }
+        ensures later { D.failed keeper.old ≤ D.failed keeper.new }
+        ensures fault { IsErrOf result no_close.KeepFault → Rose (D.failed keeper.old) (D.failed keeper.new) }
+    {
+        if !self.up {
+            return Err(CloseRefusal::Down);
+        }
+        let answer = epoch_calls::close(&mut self.state, keeper, self.member);
+        self.up = !epoch_calls::close_fell(&answer);
         answer
     }
 }

@@ -1,0 +1,242 @@
+-- Runs and closes: what is answered and due, and the state behind it. The rules play no part.
+use Rattle.std.proofs.Common.{◌≡◌, ℕ, Bool, true, false, cond, not, List, [], ◌∷◌, ◌++◌, map, Option, Some, None, inr, refl, ap, sym, subst, ◌∙◌, append-nil}
+use Rattle.std.specs.Prelude.{◌⊎◌, Result, Ok, Err}
+use Rattle.outside.specs.Lists.{Journals, KeepsJournals}
+use Rattle.journal_core.specs.declared.records.RanItem.{RanItem}
+use Rattle.journal_core.specs.declared.records.Record.{Record}
+use Rattle.journal_core.specs.declared.records.Record.TheVariants as record_as
+use Rattle.member_types.specs.declared.answers.Ran.{Ran}
+use Rattle.member_types.specs.declared.refusals.RunRefusal.{RunRefusal}
+use Rattle.member_types.specs.declared.refusals.RunRefusal.TheVariants as no_run
+use Rattle.member_types.specs.declared.refusals.CloseRefusal.{CloseRefusal}
+use Rattle.member_types.specs.declared.refusals.CloseRefusal.TheVariants as no_close
+use Rattle.chain_spec.specs.Certificates.{Rules}
+use Rattle.chain_spec.specs.Words.{unless_refused, where_true}
+use Rattle.member_spec.specs.Versions.{Execution}
+use Rattle.member_spec.specs.Rounds.{rounds}
+use Rattle.member_spec.specs.Member.{Member, after, books, with_rounds}
+use Rattle.member_spec.specs.Calls.{after_due, called, close_answer, close_record, closes, due, ran_as, ran_item, ran_items, ran_record, run_answer, run_record, runs}
+use Rattle.member_core.specs.Answers.{bare, close_stopped, run_stopped}
+use Rattle.member_core.specs.Steps.{closing, counted_where}
+use Rattle.validator_core.specs.declared.keeping.Unkept.{Unkept}
+use Rattle.validator_core.specs.declared.keeping.Unkept.TheVariants as unkept
+use Rattle.validator_core.specs.Calls.{Closes, Runs, close_ended, close_said, run_ended, run_said, unkept_close, unkept_run}
+use Rattle.validator_core.specs.Seats.{Becomes, Behaves, Ended, Journaled, Keeps, Seat, answered, bare_rules, due_at, fell}
+use Rattle.validator_core.proofs.Settling.{keeps_same, seat_with, settles}
+
+-- ---- the rules play no part
+
+pub run_answer_alike : (r r' : Rules) (m : Member) → run_answer r m ≡ run_answer r' m
+unfolding run_answer
+run_answer_alike r r' m = refl
+
+pub run_due_alike : (r r' : Rules) (m : Member) → due r m runs ≡ due r' m runs
+unfolding due run_answer
+run_due_alike r r' m = refl
+
+after_ran : (r r' : Rules) (m : Member) (items : List RanItem) → after_due r m (ran_record items) ≡ after_due r' m (ran_record items)
+unfolding after
+after_ran r r' m [] = refl
+after_ran r r' m (i ∷ is) = refl
+
+after_run : (r r' : Rules) (m : Member) (answer : Result Ran RunRefusal) → after_due r m (run_record m answer) ≡ after_due r' m (run_record m answer)
+after_run r r' m (Ok ran) = after_ran r r' m (ran_items m)
+after_run r r' m (Err refusal) = refl
+
+pub run_called_alike : (r r' : Rules) (m : Member) → called r m runs ≡ called r' m runs
+unfolding due run_answer
+run_called_alike r r' m = after_run r r' m (run_answer r m)
+
+pub close_answer_alike : (r r' : Rules) (m : Member) → close_answer r m ≡ close_answer r' m
+unfolding close_answer
+close_answer_alike r r' m = refl
+
+pub close_due_alike : (r r' : Rules) (m : Member) → due r m closes ≡ due r' m closes
+unfolding due close_answer
+close_due_alike r r' m = refl
+
+after_closing : (r r' : Rules) (m : Member) (new : Bool) → after_due r m (where_true new record_as.Close) ≡ after_due r' m (where_true new record_as.Close)
+unfolding after
+after_closing r r' m true = refl
+after_closing r r' m false = refl
+
+after_close : (r r' : Rules) (m : Member) (answer : Result Bool CloseRefusal) → after_due r m (close_record answer) ≡ after_due r' m (close_record answer)
+after_close r r' m (Ok new) = after_closing r r' m new
+after_close r r' m (Err refusal) = refl
+
+pub close_called_alike : (r r' : Rules) (m : Member) → called r m closes ≡ called r' m closes
+unfolding due close_answer
+close_called_alike r r' m = after_close r r' m (close_answer r m)
+
+-- ---- records that are due
+
+pub is_kept : (before now : Option Journals) (member : ℕ) (d x : Option Record) → d ≡ x → Keeps before now member x → Keeps before now member d
+is_kept before now member d x is kept = subst (λ (y : Option Record). Keeps before now member y) (sym is) kept
+
+maybe_kept : (before now : Option Journals) (member : ℕ) (d x : Option Record) → d ≡ x → Keeps before now member x ⊎ KeepsJournals before now → Keeps before now member d ⊎ KeepsJournals before now
+maybe_kept before now member d x is kept = subst (λ (y : Option Record). Keeps before now member y ⊎ KeepsJournals before now) (sym is) kept
+
+-- ---- a run
+
+abbrev pub run_stop : RunRefusal → Result (Unit {0}) RunRefusal
+run_stop refusal = Err refusal
+
+abbrev pub run_free : Result (Unit {0}) RunRefusal
+run_free = Ok tt
+
+goes_on : (o : Option RunRefusal) (x : Ran) → run_free ≡ unless_refused o tt → unless_refused o x ≡ Ok x
+goes_on None x e = refl
+goes_on (Some refusal) x e = absurd (cc)
+
+stops_so : (o : Option RunRefusal) (x : Ran) (refusal : RunRefusal) → run_stop refusal ≡ unless_refused o tt → unless_refused o x ≡ Err refusal
+stops_so None x refusal e = absurd (cc)
+stops_so (Some other) x refusal e = ap (λ (r : RunRefusal). Err r) (same other e)
+  where
+    same : (r : RunRefusal) → run_stop refusal ≡ Err r → r ≡ refusal
+    same r e = cc
+
+pub run_goes : (m : Member) (ran : Ran) → run_free ≡ unless_refused (run_stopped m) tt → ran ≡ ran_as m (rounds (books m) m.executed) (with_rounds m) → run_answer bare m ≡ Ok ran
+unfolding run_answer
+run_goes m ran e is = goes_on (run_stopped m) _ e ∙ ap (λ (x : Ran). Ok x) (sym is)
+
+run_stops : (m : Member) (refusal : RunRefusal) → run_stop refusal ≡ unless_refused (run_stopped m) tt → run_answer bare m ≡ Err refusal
+unfolding run_answer
+run_stops m refusal e = stops_so (run_stopped m) _ refusal e
+
+answer_as : (said : Result Ran RunRefusal) (refusal : RunRefusal) → said ≡ Err refusal → Runs said (Err refusal)
+answer_as said no_run.Down h = h
+answer_as said (no_run.Halted first second) h = h
+answer_as said no_run.Full h = h
+answer_as said no_run.KeepFault h = tt
+answer_as said no_run.OutOfMemory h = tt
+
+-- a refused run answers so, changes nothing, and has no record
+pub run_refused : (m : Member) (refusal : RunRefusal) → run_stop refusal ≡ unless_refused (run_stopped m) tt → Runs (run_answer bare m) (Err refusal)
+run_refused m refusal e = answer_as (run_answer bare m) refusal (run_stops m refusal e)
+
+none_due : (m : Member) (refusal : RunRefusal) → run_stop refusal ≡ unless_refused (run_stopped m) tt → due bare m runs ≡ None
+unfolding due
+none_due m refusal e = ap (run_record m) (run_stops m refusal e)
+
+becomes_same : (next m : Member) (e : Ended) → m ≡ next → Becomes next m e
+becomes_same next m answered is = is
+becomes_same next m fell is = tt
+
+pub run_stays : (m : Member) (refusal : RunRefusal) → run_stop refusal ≡ unless_refused (run_stopped m) tt → Becomes (called bare m runs) m (run_ended (Err refusal))
+run_stays m refusal e = becomes_same (called bare m runs) m (run_ended (Err refusal)) (ap (after_due bare m) (sym (none_due m refusal e)))
+
+pub journals_same : (lists : Option Journals) (member : ℕ) (x : Option Record) (e : Ended) → x ≡ None → Journaled lists lists member x e
+journals_same lists member x answered none = subst (λ (d : Option Record). Keeps lists lists member d) (sym none) (keeps_same lists)
+journals_same lists member x fell none = inr (keeps_same lists)
+
+pub run_unkept : (m : Member) (refusal : RunRefusal) (lists : Option Journals) (member : ℕ) → run_stop refusal ≡ unless_refused (run_stopped m) tt → Journaled lists lists member (due bare m runs) (run_ended (Err refusal))
+run_unkept m refusal lists member e = journals_same lists member (due bare m runs) (run_ended (Err refusal)) (none_due m refusal e)
+
+-- the record that is due lists what was executed
+pub run_due : (m : Member) (ran : Ran) (items : List RanItem) → run_answer bare m ≡ Ok ran → items ≡ ran_items m → due bare m runs ≡ ran_record items
+unfolding due
+run_due m ran items e is = ap (run_record m) e ∙ ap ran_record (sym is)
+
+behind_rounds : (m : Member) (xs : List Execution) → rounds (books m) m.executed ≡ xs → counted_where (ran_record (map ran_item xs)) (with_rounds m) ≡ after_due bare m (ran_record (map ran_item xs))
+unfolding after
+behind_rounds m [] none = ap (λ (ys : List Execution). record m { executed = m.executed ++ ys }) none ∙ ap (λ (ys : List Execution). record m { executed = ys }) (append-nil m.executed)
+behind_rounds m (x ∷ xs) some = refl
+
+pub run_called : (m next : Member) (ran : Ran) (items : List RanItem) → run_answer bare m ≡ Ok ran → items ≡ ran_items m → next ≡ counted_where (ran_record items) (with_rounds m) → next ≡ called bare m runs
+run_called m next ran items e is step =
+    step
+    ∙ ap (λ (xs : List RanItem). counted_where (ran_record xs) (with_rounds m)) is
+    ∙ behind_rounds m (rounds (books m) m.executed) refl
+    ∙ ap (λ (xs : List RanItem). after_due bare m (ran_record xs)) (sym is)
+    ∙ ap (after_due bare m) (sym (run_due m ran items e is))
+
+pub run_maybe_kept : (before now : Option Journals) (member : ℕ) (d x : Option Record) (why : Unkept) → d ≡ x → Keeps before now member x ⊎ KeepsJournals before now → Journaled before now member d (run_ended (Err (unkept_run why)))
+run_maybe_kept before now member d x unkept.KeepFault is kept = maybe_kept before now member d x is kept
+run_maybe_kept before now member d x unkept.OutOfMemory is kept = maybe_kept before now member d x is kept
+
+-- ---- a close
+
+abbrev pub close_stop : CloseRefusal → Result (Unit {0}) CloseRefusal
+close_stop refusal = Err refusal
+
+abbrev pub close_free : Result (Unit {0}) CloseRefusal
+close_free = Ok tt
+
+close_goes_on : (o : Option CloseRefusal) (new : Bool) → close_free ≡ unless_refused o tt → unless_refused o new ≡ Ok new
+close_goes_on None new e = refl
+close_goes_on (Some refusal) new e = absurd (cc)
+
+close_stops_so : (o : Option CloseRefusal) (new : Bool) (refusal : CloseRefusal) → close_stop refusal ≡ unless_refused o tt → unless_refused o new ≡ Err refusal
+close_stops_so None new refusal e = absurd (cc)
+close_stops_so (Some other) new refusal e = ap (λ (r : CloseRefusal). Err r) (same other e)
+  where
+    same : (r : CloseRefusal) → close_stop refusal ≡ Err r → r ≡ refusal
+    same r e = cc
+
+pub close_goes : (m : Member) (closed : Bool) → close_free ≡ unless_refused (close_stopped m) tt → m.closed ≡ closed → close_answer bare m ≡ Ok (not closed)
+unfolding close_answer
+close_goes m closed e is = close_goes_on (close_stopped m) (not m.closed) e ∙ ap (λ (b : Bool). Ok (not b)) is
+
+close_stops : (m : Member) (refusal : CloseRefusal) → close_stop refusal ≡ unless_refused (close_stopped m) tt → close_answer bare m ≡ Err refusal
+unfolding close_answer
+close_stops m refusal e = close_stops_so (close_stopped m) (not m.closed) refusal e
+
+close_as : (said : Result Bool CloseRefusal) (refusal : CloseRefusal) → said ≡ Err refusal → Closes said (Err refusal)
+close_as said no_close.Down h = h
+close_as said (no_close.Halted first second) h = h
+close_as said no_close.Full h = h
+close_as said no_close.KeepFault h = tt
+close_as said no_close.OutOfMemory h = tt
+
+pub close_refused : (m : Member) (refusal : CloseRefusal) → close_stop refusal ≡ unless_refused (close_stopped m) tt → Closes (close_answer bare m) (Err refusal)
+close_refused m refusal e = close_as (close_answer bare m) refusal (close_stops m refusal e)
+
+no_close_due : (m : Member) (refusal : CloseRefusal) → close_stop refusal ≡ unless_refused (close_stopped m) tt → due bare m closes ≡ None
+unfolding due
+no_close_due m refusal e = ap close_record (close_stops m refusal e)
+
+pub close_stays : (m : Member) (refusal : CloseRefusal) → close_stop refusal ≡ unless_refused (close_stopped m) tt → Becomes (called bare m closes) m (close_ended (Err refusal))
+close_stays m refusal e = becomes_same (called bare m closes) m (close_ended (Err refusal)) (ap (after_due bare m) (sym (no_close_due m refusal e)))
+
+pub close_unkept : (m : Member) (refusal : CloseRefusal) (lists : Option Journals) (member : ℕ) → close_stop refusal ≡ unless_refused (close_stopped m) tt → Journaled lists lists member (due bare m closes) (close_ended (Err refusal))
+close_unkept m refusal lists member e = journals_same lists member (due bare m closes) (close_ended (Err refusal)) (no_close_due m refusal e)
+
+pub close_due : (m : Member) (new : Bool) → close_answer bare m ≡ Ok new → due bare m closes ≡ where_true new record_as.Close
+unfolding due
+close_due m new e = ap close_record e
+
+pub close_maybe_kept : (before now : Option Journals) (member : ℕ) (d x : Option Record) (why : Unkept) → d ≡ x → Keeps before now member x ⊎ KeepsJournals before now → Journaled before now member d (close_ended (Err (unkept_close why)))
+close_maybe_kept before now member d x unkept.KeepFault is kept = maybe_kept before now member d x is kept
+close_maybe_kept before now member d x unkept.OutOfMemory is kept = maybe_kept before now member d x is kept
+
+-- the member closes, or was closed
+pub close_called : (m next : Member) → close_answer bare m ≡ Ok true → next ≡ closing m → next ≡ called bare m closes
+unfolding after
+close_called m next e step = step ∙ ap (after_due bare m) (sym (close_due m true e))
+
+pub closed_called : (m : Member) → close_answer bare m ≡ Ok false → m ≡ called bare m closes
+closed_called m e = ap (after_due bare m) (sym (close_due m false e))
+
+-- ---- at the seat
+
+pub run_settles : (old : Seat) (state : Member) (e : Ended) → old.up ≡ true → Becomes (called bare old.state runs) state e → Behaves (bare_rules old) runs old (seat_with old state e) e
+run_settles old state e up h = settles (bare_rules old) runs old state e up (subst (λ (next : Member). Becomes next state e) (run_called_alike bare (bare_rules old) old.state) h)
+
+pub run_at : (old : Seat) (answer : Result Ran RunRefusal) → old.up ≡ true → Runs (run_answer bare old.state) answer → Runs (run_said (bare_rules old) old) answer
+run_at old answer up h =
+    subst (λ said. Runs said answer) (run_answer_alike bare (bare_rules old) old.state ∙ ap (λ (b : Bool). cond b (run_answer (bare_rules old) old.state) (Err no_run.Down)) (sym up)) h
+
+pub run_due_at : (old : Seat) (before now : Option Journals) (e : Ended) → old.up ≡ true → Journaled before now old.member (due bare old.state runs) e → Journaled before now old.member (due_at (bare_rules old) old runs) e
+run_due_at old before now e up h =
+    subst (λ (x : Option Record). Journaled before now old.member x e) (run_due_alike bare (bare_rules old) old.state ∙ ap (λ (b : Bool). cond b (due (bare_rules old) old.state runs) None) (sym up)) h
+
+pub close_settles : (old : Seat) (state : Member) (e : Ended) → old.up ≡ true → Becomes (called bare old.state closes) state e → Behaves (bare_rules old) closes old (seat_with old state e) e
+close_settles old state e up h = settles (bare_rules old) closes old state e up (subst (λ (next : Member). Becomes next state e) (close_called_alike bare (bare_rules old) old.state) h)
+
+pub close_at : (old : Seat) (answer : Result Bool CloseRefusal) → old.up ≡ true → Closes (close_answer bare old.state) answer → Closes (close_said (bare_rules old) old) answer
+close_at old answer up h =
+    subst (λ said. Closes said answer) (close_answer_alike bare (bare_rules old) old.state ∙ ap (λ (b : Bool). cond b (close_answer (bare_rules old) old.state) (Err no_close.Down)) (sym up)) h
+
+pub close_due_at : (old : Seat) (before now : Option Journals) (e : Ended) → old.up ≡ true → Journaled before now old.member (due bare old.state closes) e → Journaled before now old.member (due_at (bare_rules old) old closes) e
+close_due_at old before now e up h =
+    subst (λ (x : Option Record). Journaled before now old.member x e) (close_due_alike bare (bare_rules old) old.state ∙ ap (λ (b : Bool). cond b (due (bare_rules old) old.state closes) None) (sym up)) h

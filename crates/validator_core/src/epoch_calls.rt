@@ -1,0 +1,144 @@
+//! Runs and the close of an epoch, over the state of a member.
+
+ghost use Rattle.std.specs.Prelude.{◌≡◌, ◌<◌, ◌≤◌, [], IfOk, IsErrOf, OnOk, false, nat_le};
+ghost use Rattle.outside.specs.Causes.{Rose};
+ghost use Rattle.journal_core.specs.declared.records.Record.TheVariants as record_as;
+ghost use Rattle.member_spec.specs.Calls.{called, close_answer, closes, due, ran_record, record_limit, run_answer, runs};
+ghost use Rattle.member_types.specs.declared.refusals.CloseRefusal.TheVariants as no_close;
+ghost use Rattle.member_types.specs.declared.refusals.RunRefusal.TheVariants as no_run;
+ghost use Rattle.member_core.specs.Answers.{bare};
+ghost use Rattle.member_core.specs.Steps.{closing, counted_where, items_of};
+ghost use Rattle.validator_core.specs.declared.keeping.Unkept.TheVariants as unkept;
+ghost use Rattle.validator_core.specs.Calls.{Closes, Runs, close_ended, run_ended};
+ghost use Rattle.validator_core.specs.Seats.{Appended, AppendedWhere, Becomes, Journaled, has_fallen};
+
+use crate::keeping::{Unkept, append};
+use effects_core::Effects;
+use journal_core::Record;
+use member_core::{State, ran_record};
+use member_types::{CloseRefusal, Ran, RunRefusal};
+use outside::Keeper;
+use wire_bcs::OutOfMemory;
+
+/// Appends the record of a run that executed transactions with these effects, and counts it; a run that executed
+/// none has no record.
+fn keep_run<D: Keeper>(
+    state: &mut State,
+    keeper: &mut D,
+    member: u32,
+    effects: &[Effects],
+) -> Result<(), Unkept>
+    requires known { member < D.width keeper.old }
+    requires room { nat_le record_limit state.old.records ≡ false }
+    ensures state { OnOk result (state.new ≡ counted_where (ran_record (items_of effects.now)) state.old) }
+    ensures kept { AppendedWhere (D.lists keeper.old) (D.lists keeper.new) member (ran_record (items_of effects.now)) result }
+    ensures width { D.width keeper.new ≡ D.width keeper.old }
+    ensures later { D.failed keeper.old ≤ D.failed keeper.new }
+    ensures fault { IsErrOf result unkept.KeepFault → Rose (D.failed keeper.old) (D.failed keeper.new) }
+{
+    let kept = match ran_record(state.allocator(), effects) {
+        Ok(Some(kept)) => kept,
+        Ok(None) => return Ok(()),
+        Err(OutOfMemory) => return Err(Unkept::OutOfMemory),
+    };
+    match append(state.allocator(), keeper, member, &kept) {
+        Ok(()) => {}
+        Err(why) => return Err(why),
+    }
+    state.count_run();
+    Ok(())
+}
+
+/// Lets a member that is up execute what it holds: the record of a run is appended before the call answers.
+#[tactic(auto, using(crate::proofs::Running::run_goes, crate::proofs::Running::run_refused, crate::proofs::Running::run_stays))]
+pub(crate) fn run<D: Keeper>(
+    state: &mut State,
+    keeper: &mut D,
+    member: u32,
+) -> Result<Ran, RunRefusal>
+    requires known { member < D.width keeper.old }
+    ensures answer { Runs (run_answer bare state.old) result }
+    ensures built { IfOk result (λ ran. ran.built ≡ []) }
+    ensures state { Becomes (called bare state.old runs) state.new (run_ended result) }
+    ensures kept { Journaled (D.lists keeper.old) (D.lists keeper.new) member (due bare state.old runs) (run_ended result) }
+    ensures width { D.width keeper.new ≡ D.width keeper.old }
+    ensures later { D.failed keeper.old ≤ D.failed keeper.new }
+    ensures fault { IsErrOf result no_run.KeepFault → Rose (D.failed keeper.old) (D.failed keeper.new) }
+{
+    match state.check_run() {
+        Ok(()) => {}
+        Err(refusal) => return Err(refusal),
+    }
+    let Ok(ran) = state.run() else {
+        return Err(RunRefusal::OutOfMemory);
+    };
+    keep_run(state, keeper, member, ran.executed.as_slice())?;
+    Ok(ran)
+}
+
+/// Whether the member is down behind this answer.
+pub(crate) fn run_fell(answer: &Result<Ran, RunRefusal>) -> bool
+    ensures { result ≡ has_fallen (run_ended answer.now) }
+{
+    match answer {
+        Err(RunRefusal::KeepFault | RunRefusal::OutOfMemory) => true,
+        Ok(_) => false,
+        Err(RunRefusal::Down | RunRefusal::Halted { .. } | RunRefusal::Full) => false,
+    }
+}
+
+/// Appends the record of a close, and takes it.
+#[tactic(auto, unfolding(journal_core::specs::Records::journal_record))]
+fn keep_close<D: Keeper>(state: &mut State, keeper: &mut D, member: u32) -> Result<(), Unkept>
+    requires known { member < D.width keeper.old }
+    requires room { nat_le record_limit state.old.records ≡ false }
+    ensures state { OnOk result (state.new ≡ closing state.old) }
+    ensures kept { Appended (D.lists keeper.old) (D.lists keeper.new) member record_as.Close result }
+    ensures width { D.width keeper.new ≡ D.width keeper.old }
+    ensures later { D.failed keeper.old ≤ D.failed keeper.new }
+    ensures fault { IsErrOf result unkept.KeepFault → Rose (D.failed keeper.old) (D.failed keeper.new) }
+{
+    match append(state.allocator(), keeper, member, &Record::Close) {
+        Ok(()) => {}
+        Err(why) => return Err(why),
+    }
+    state.take_close();
+    Ok(())
+}
+
+/// Closes the epoch of a member that is up: the record is appended before the call answers.
+#[tactic(auto, using(crate::proofs::Running::close_goes, crate::proofs::Running::close_refused, crate::proofs::Running::close_stays, crate::proofs::Running::close_called, crate::proofs::Running::closed_called))]
+pub(crate) fn close<D: Keeper>(
+    state: &mut State,
+    keeper: &mut D,
+    member: u32,
+) -> Result<bool, CloseRefusal>
+    requires known { member < D.width keeper.old }
+    ensures answer { Closes (close_answer bare state.old) result }
+    ensures state { Becomes (called bare state.old closes) state.new (close_ended result) }
+    ensures kept { Journaled (D.lists keeper.old) (D.lists keeper.new) member (due bare state.old closes) (close_ended result) }
+    ensures width { D.width keeper.new ≡ D.width keeper.old }
+    ensures later { D.failed keeper.old ≤ D.failed keeper.new }
+    ensures fault { IsErrOf result no_close.KeepFault → Rose (D.failed keeper.old) (D.failed keeper.new) }
+{
+    match state.check_close() {
+        Ok(()) => {}
+        Err(refusal) => return Err(refusal),
+    }
+    if state.is_closed() {
+        return Ok(false);
+    }
+    keep_close(state, keeper, member)?;
+    Ok(true)
+}
+
+/// Whether the member is down behind this answer.
+pub(crate) fn close_fell(answer: &Result<bool, CloseRefusal>) -> bool
+    ensures { result ≡ has_fallen (close_ended answer.now) }
+{
+    match answer {
+        Err(CloseRefusal::KeepFault | CloseRefusal::OutOfMemory) => true,
+        Ok(_) => false,
+        Err(CloseRefusal::Down | CloseRefusal::Halted { .. } | CloseRefusal::Full) => false,
+    }
+}
