@@ -3,3 +3,4 @@ pub mod Placing
 pub mod Calling
 pub mod Reading
 pub mod Holders
+pub mod Restarting

@@ -7,14 +7,17 @@ use Rattle.journal_core.specs.Records as journals
 use Rattle.outside.specs.Lists.{Journals, AddsRecord, KeepsJournals}
 use Rattle.chain_spec.specs.Certificates.{Rules}
 use Rattle.member_types.specs.declared.answers.Voted.{Voted as Sent}
+use Rattle.member_types.specs.declared.answers.Ran.{Ran}
+use Rattle.member_types.specs.declared.refusals.RunRefusal.{RunRefusal}
+use Rattle.member_types.specs.declared.refusals.RunRefusal.TheVariants as no_run
 use Rattle.member_types.specs.declared.refusals.VoteRefusal.{VoteRefusal}
 use Rattle.member_types.specs.declared.refusals.VoteRefusal.TheVariants as no_vote
 use Rattle.member_types.specs.declared.refusals.HoldRefusal.{HoldRefusal}
 use Rattle.member_types.specs.declared.refusals.HoldRefusal.TheVariants as no_hold
 use Rattle.member_spec.specs.Member.{Member}
-use Rattle.member_spec.specs.Calls.{hold_answer, vote_answer}
+use Rattle.member_spec.specs.Calls.{hold_answer, run_answer, vote_answer}
 use Rattle.world_spec.specs.World.{Reached, finds_down, stops, answers}
-use Rattle.validator_core.specs.Calls.{Holds, Votes, hold_ended, vote_ended}
+use Rattle.validator_core.specs.Calls.{Holds, Runs, Votes, hold_ended, run_ended, vote_ended}
 use Rattle.validator_core.specs.Seats.{Ended, answered}
 use Rattle.world_scene.specs.Posts.{AddsLeft, MayAddLeft}
 use Rattle.world_seats.specs.declared.reply.SeatFault.{SeatFault}
@@ -59,6 +62,12 @@ pub record SaysHold (r : Rules) (bytes : List ℕ) (before : Member) (given : Re
   pub answer : Holds (hold_answer r before bytes) given
   pub ended : hold_ended given ≡ answered
 
+-- no checkpoint is built
+pub record SaysRun (r : Rules) (before : Member) (given : Result Ran RunRefusal) : Type 0 where
+  pub answer : Runs (run_answer r before) given
+  pub built : IfOk given (λ (ran : Ran). ran.built ≡ [])
+  pub ended : run_ended given ≡ answered
+
 -- ---- the record
 
 -- Ok: the record that the call leaves was added, where there is one; else it was added or nothing was
@@ -87,6 +96,11 @@ abbrev pub hold_fault : Result Bool HoldRefusal → Option SeatFault
 hold_fault (Err no_hold.KeepFault) = Some faults.KeepFault
 hold_fault (Err no_hold.OutOfMemory) = Some faults.OutOfMemory
 hold_fault answer = None
+
+abbrev pub run_fault : Result Ran RunRefusal → Option SeatFault
+run_fault (Err no_run.KeepFault) = Some faults.KeepFault
+run_fault (Err no_run.OutOfMemory) = Some faults.OutOfMemory
+run_fault answer = None
 
 -- ---- on paper
 

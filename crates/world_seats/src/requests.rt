@@ -4,16 +4,16 @@ ghost use Rattle.std.specs.Prelude.{◌≡◌, ◌<◌, ◌≤◌, ℕ, IfOk, Is
 ghost use Rattle.outside.specs.Causes.{Rose};
 ghost use Rattle.chain_spec.specs.Certificates.{Rules};
 ghost use Rattle.member_spec.specs.Member.{Member};
-ghost use Rattle.member_spec.specs.Calls.{Call, due, holds, votes};
-ghost use Rattle.validator_core.specs.Seats.{rules_of_seat};
+ghost use Rattle.member_spec.specs.Calls.{Call, due, holds, runs, votes};
+ghost use Rattle.validator_core.specs.Seats.{bare_rules, rules_of_seat};
 ghost use Rattle.world_scene.specs.Posts.{seat_behind};
 ghost use Rattle.world_seats.specs.declared.reply.SeatFault.TheVariants as faults;
-ghost use Rattle.world_seats.specs.Replies.{Accepting, Leaves, SaysHold, SaysVote, hold_fault, vote_fault};
+ghost use Rattle.world_seats.specs.Replies.{Accepting, Leaves, SaysHold, SaysRun, SaysVote, hold_fault, run_fault, vote_fault};
 
 use crate::reply::SeatFault;
 use outside::Keeper;
 use quorum_core::Sealer;
-use validator_core::{HoldRefusal, Validator, VoteRefusal, Voted};
+use validator_core::{HoldRefusal, Ran, RunRefusal, Validator, VoteRefusal, Voted};
 
 /// A request to a member.
 pub(crate) trait Asks {
@@ -178,6 +178,61 @@ fn ask_hold<D: Keeper, S: Sealer>(
 {
     let answer = validator.hold(keeper, sealer, bytes);
     match hold_fault(&answer) {
+        Some(fault) => Err(fault),
+        None => Ok(answer),
+    }
+}
+
+/// A request to run what the member holds.
+#[derive(Clone, Copy)]
+pub(crate) struct RunRequest;
+
+#[tactic(auto, using(validator_core::proofs::Running::run_answer_alike, validator_core::proofs::Running::run_due_alike, validator_core::proofs::Running::run_called_alike))]
+impl Asks for RunRequest {
+    type Answer = Result<Ran, RunRefusal>;
+
+    ghost call = { λ _. runs };
+
+    ghost says = { λ _ r _ _ before given. SaysRun r before given };
+
+    fn ask<D: Keeper, S: Sealer>(
+        &self,
+        validator: &mut Validator,
+        keeper: &mut D,
+        _sealer: &S,
+    ) -> Result<Result<Ran, RunRefusal>, SeatFault> {
+        ask_run(validator, keeper)
+    }
+}
+
+/// The fault behind an answer; none where it is one.
+fn run_fault(answer: &Result<Ran, RunRefusal>) -> Option<SeatFault>
+    ensures { result ≡ run_fault answer.now }
+{
+    match answer {
+        Err(RunRefusal::KeepFault) => Some(SeatFault::KeepFault),
+        Err(RunRefusal::OutOfMemory) => Some(SeatFault::OutOfMemory),
+        Ok(_) => None,
+        Err(RunRefusal::Down | RunRefusal::Halted { .. } | RunRefusal::Full) => None,
+    }
+}
+
+/// Lets a member that is up run what it holds.
+fn ask_run<D: Keeper>(
+    validator: &mut Validator,
+    keeper: &mut D,
+) -> Result<Result<Ran, RunRefusal>, SeatFault>
+    requires known { validator.old.member < D.width keeper.old }
+    requires up { validator.old.up ≡ true }
+    ensures answer { IfOk result (SaysRun (bare_rules validator.old) validator.old.state) }
+    ensures state { OnOk result (validator.new ≡ seat_behind (bare_rules validator.old) runs validator.old) }
+    ensures kept { Leaves (D.lists keeper.old) (D.lists keeper.new) validator.old.member (due (bare_rules validator.old) validator.old.state runs) result }
+    ensures width { D.width keeper.new ≡ D.width keeper.old }
+    ensures later { D.failed keeper.old ≤ D.failed keeper.new }
+    ensures fault { IsErrOf result faults.KeepFault → Rose (D.failed keeper.old) (D.failed keeper.new) }
+{
+    let answer = validator.run(keeper);
+    match run_fault(&answer) {
         Some(fault) => Err(fault),
         None => Ok(answer),
     }

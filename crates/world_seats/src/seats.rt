@@ -4,18 +4,18 @@ ghost use Rattle.std.specs.Prelude.{◌≡◌, ◌≤◌, ℕ, [], IfOk, IsErrOf
 ghost use Rattle.outside.specs.Causes.{Rose};
 ghost use Rattle.outside.specs.Lists.{KeepsJournals};
 ghost use Rattle.member_core.specs.Answers.{rules_for};
-ghost use Rattle.member_spec.specs.Calls.{holds, votes};
+ghost use Rattle.member_spec.specs.Calls.{holds, runs, votes};
 ghost use Rattle.version_store.specs.Stores.{are_new};
 ghost use Rattle.world_scene.specs.Posts.{armed_at, new_posts, posts_behind, reached_in, record_left};
 ghost use Rattle.world_scene.specs.Steps.{held_in, standing_at};
 ghost use Rattle.world_seats.specs.declared.reply.SeatFault.TheVariants as faults;
 ghost use Rattle.world_seats.specs.declared.reply.RestartFault.TheVariants as restart_faults;
 ghost use Rattle.world_seats.specs.Crews.{PostsAfter, fallen_at, honest_flags, shown_of};
-ghost use Rattle.world_seats.specs.Replies.{Leaves, Replies, SaysHold, SaysVote};
+ghost use Rattle.world_seats.specs.Replies.{Leaves, Replies, SaysHold, SaysRun, SaysVote};
 ghost use Rattle.world_seats.specs.Restarts.{HasBadRecord, Restarted};
 
 use crate::reply::{Reply, RestartFault, SeatFault};
-use crate::requests::{Asks, HoldRequest, VoteRequest};
+use crate::requests::{Asks, HoldRequest, RunRequest, VoteRequest};
 use crate::seat::Seat;
 use crate::starts::{records_of, start_new};
 use chain_types::{Object, ObjectKey};
@@ -25,7 +25,7 @@ use quorum_core::{Committee, Sealer};
 use std::alloc::Global;
 use std::marker::Model;
 use tx_making::HeldDigests;
-use validator_core::{HoldRefusal, StartRefusal, Validator, VoteRefusal, Voted};
+use validator_core::{HoldRefusal, Ran, RunRefusal, StartRefusal, Validator, VoteRefusal, Voted};
 use wire_bcs::{OutOfMemory, Seq};
 
 /// The members of a committee. Contracts see the stakes, and the members as the definition's posts.
@@ -210,6 +210,30 @@ impl Seats {
         ensures fault { IsErrOf result faults.KeepFault → Rose (D.failed keeper.old) (D.failed keeper.new) }
     {
         self.call(alloc, keeper, sealer, member, &HoldRequest { bytes })
+    }
+
+    /// Lets a member run what it holds, on the caller's thread (Sui Lutris). The seals play no part in it. Replies and
+    /// refusals are those of [`Seats::vote`].
+    #[tactic(auto, using(crate::proofs::Calling::on_ok, crate::proofs::Calling::on_err))]
+    pub fn run<D: Keeper, S: Sealer>(
+        &mut self,
+        alloc: Global,
+        keeper: &mut D,
+        sealer: &S,
+        member: u32,
+    ) -> Result<Reply<Result<Ran, RunRefusal>>, SeatFault>
+        requires known { length self.old.posts ≤ D.width keeper.old }
+        ensures answer { IfOk result (Replies (SaysRun (rules_for self.old.stakes (S.accepts sealer.now))) (reached_in (rules_for self.old.stakes (S.accepts sealer.now)) self.old.posts member runs)) }
+        ensures posts { OnOk result (self.new.posts ≡ posts_behind (rules_for self.old.stakes (S.accepts sealer.now)) self.old.posts member runs) }
+        ensures fallen { OnErr result (self.new.posts ≡ fallen_at self.old.posts member) }
+        ensures stakes { self.new.stakes ≡ self.old.stakes }
+        ensures count { length self.new.posts ≡ length self.old.posts }
+        ensures kept { Leaves (D.lists keeper.old) (D.lists keeper.new) member (record_left (reached_in (rules_for self.old.stakes (S.accepts sealer.now)) self.old.posts member runs)) result }
+        ensures width { D.width keeper.new ≡ D.width keeper.old }
+        ensures later { D.failed keeper.old ≤ D.failed keeper.new }
+        ensures fault { IsErrOf result faults.KeepFault → Rose (D.failed keeper.old) (D.failed keeper.new) }
+    {
+        self.call(alloc, keeper, sealer, member, &RunRequest)
     }
 
     /// Starts a member from the records that its keeper has, in an epoch 0 that opens with these objects, and
