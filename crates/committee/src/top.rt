@@ -11,6 +11,7 @@ ghost use Rattle.quorum_core.specs.Seals.{keyed_seal};
 ghost use Rattle.world_run.specs.Trusts.{trust_by};
 ghost use Rattle.committee.specs.Headline.{IsBad, IsCut, IsRefused, IsRun, IsWhole, program_trust};
 ghost use Rattle.committee.specs.Journals.{AreEmpty};
+ghost use Rattle.committee.specs.Laws.{SceneLaws};
 ghost use Rattle.committee.specs.Report.{readable, refusal_text};
 ghost use Rattle.committee.specs.Ways.{MeetsBadRecord, RunsWhole, TextCut};
 ghost use Rattle.committee.specs.declared.stop.Stop.TheVariants as stop;
@@ -48,6 +49,15 @@ fn program_sealer() -> KeyedSeal
     KeyedSeal::new([0x5a; 32])
 }
 
+/// The laws by which the code's view of a world follows the definition's, for these seals.
+fn laws_of_scenes()
+    ensures { SceneLaws program_trust }
+{
+    steps_of_a_world();
+    records_of_a_world();
+    restarts_of_a_run();
+}
+
 /// Runs a text under the seals of the program.
 fn run_sealed<K: Sink, D: Keeper>(
     alloc: Global,
@@ -64,10 +74,7 @@ fn run_sealed<K: Sink, D: Keeper>(
     ensures fault { IsErrOf result stop.WriteFault → Rose (K.faults sink.old) (K.faults sink.new) }
     ensures keep_fault { IsErrOf result stop.KeepFault → Rose (D.failed keeper.old) (D.failed keeper.new) }
 {
-    // the laws by which the code's view of a world follows the definition's
-    steps_of_a_world();
-    records_of_a_world();
-    restarts_of_a_run();
+    laws_of_scenes();
     let sealer = program_sealer();
     run_text(alloc, text, &sealer, sink, keeper)
 }
