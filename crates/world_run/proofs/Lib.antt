@@ -7,3 +7,4 @@ pub mod Voting
 pub mod Restarts
 pub mod Steps
 pub mod Stays
+mod First

@@ -72,7 +72,7 @@ pub(crate) fn one_line(alloc: Global, line: Line) -> Result<Seq<Line>, OutOfMemo
 
 impl World {
     /// The world of a set-up whose members are this committee.
-    #[tactic(auto, unfolding(world_spec::specs::Setting::setting_of), using(crate::proofs::Sound::stakes_same, crate::proofs::Sound::few_flags, crate::proofs::Sound::sound_first, crate::proofs::Opened::opening_apart))]
+    #[tactic(auto, unfolding(world_spec::specs::Setting::setting_of), using(crate::proofs::Sound::few_flags, crate::proofs::Sound::sound_first, crate::proofs::Opened::opening_apart))]
     fn open<S: MakesSeals>(
         alloc: Global,
         setup: &[Setup],
