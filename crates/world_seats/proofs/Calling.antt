@@ -1,13 +1,12 @@
 -- A call on one member among the others.
-use Rattle.std.proofs.Common.{◌≡◌, ℕ, ◌<◌, List, length, get_or, set, Option, Some, None, refl, sym, ap, ◌∙◌, subst, length-set}
-use Rattle.std.specs.Prelude.{Bool, Result, Ok, Err, IfOk, OnOk, OnErr, slice_get}
+use Rattle.std.proofs.Common.{◌≡◌, ℕ, ◌<◌, List, length, get_or, set, Option, Some, sym, ap, ◌∙◌, subst}
+use Rattle.std.specs.Prelude.{Bool, Result, Ok, Err, IfOk, OnOk, OnErr}
 use Rattle.std.proofs.lemmas.Option.{slice_get_read}
-use Rattle.journal_core.specs.declared.records.Record.{Record}
 use Rattle.outside.specs.Lists.{Journals}
 use Rattle.chain_spec.specs.Certificates.{Rules}
 use Rattle.member_spec.specs.Calls.{Call}
 use Rattle.member_spec.specs.Member.{Member}
-use Rattle.world_scene.specs.Posts.{Post, changed_at, post_behind, posts_behind, posts_with, reached_in, reached_post, record_left}
+use Rattle.world_scene.specs.Posts.{Post, posts_behind, posts_with, reached_in, reached_post, record_left}
 use Rattle.world_seats.specs.declared.reply.Reply.{Reply}
 use Rattle.world_seats.specs.Crews.{IsPlaced, PostAfter, PostsAfter, fallen, fallen_at}
 use Rattle.world_seats.specs.Replies.{Leaves, Replies}
@@ -41,20 +40,6 @@ said_in Says posts n m r call old result count low is h = subst (λ (o : Option 
 pub left_in : {A E : Type 0} (before now : Option Journals) (posts : List Post) (n m : ℕ) (r : Rules) (call : Call) (old : Post) (result : Result A E) → n ≡ length posts → m < n → old ≡ get_or posts m old
     → Leaves before now m (record_left (reached_post r call (Some old))) result → Leaves before now m (record_left (reached_in r posts m call)) result
 left_in before now posts n m r call old result count low is h = subst (λ (o : Option Post). Leaves before now m (record_left (reached_post r call o)) result) (sym (slice_get_read posts n m old count low is)) h
-
--- ---- so many as before
-
-pub count_after : {A E : Type 0} (posts new : List Post) (m : ℕ) (r : Rules) (call : Call) (result : Result A E) → PostsAfter r call m posts new result → length new ≡ length posts
-count_after posts new m r call (Ok a) e = ap length e ∙ go (slice_get posts m)
-  where
-    go : (o : Option Post) → length (posts_with r call posts m o) ≡ length posts
-    go None = refl
-    go (Some p) = length-set posts m (post_behind r call p (reached_post r call (Some p)))
-count_after posts new m r call (Err f) e = ap length e ∙ go (slice_get posts m)
-  where
-    go : (o : Option Post) → length (changed_at posts m fallen o) ≡ length posts
-    go None = refl
-    go (Some p) = length-set posts m (fallen p)
 
 -- ---- by how the call ended
 

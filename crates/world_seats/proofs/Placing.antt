@@ -1,15 +1,15 @@
 -- Each member at its place.
 use Rattle.std.proofs.Common.{◌≡◌, ℕ, zero, suc, ◌+◌, ◌<◌, ◌≤◌, List, [], ◌∷◌, ◌++◌, append_assoc, add-one, length, get_or, set, Option, Some, None, refl, sym, ap, ◌∙◌, subst, arith, length-set}
 use Rattle.std.specs.Prelude.{Bool, slice_get, option_map}
-use Rattle.std.proofs.lemmas.Option.{slice_get_read, slice_get_past}
+use Rattle.std.proofs.lemmas.Option.{slice_get_read}
 use Rattle.chain_types.specs.declared.objects.Object.{Object}
 use Rattle.chain_spec.specs.Certificates.{Rules}
 use Rattle.member_spec.specs.Calls.{Call, called}
-use Rattle.member_spec.specs.Member.{Member, fresh}
+use Rattle.member_spec.specs.Member.{fresh}
 use Rattle.world_spec.specs.World.{Reached, finds_down, stops, answers}
 use Rattle.validator_core.specs.Seats.{Seat}
 use Rattle.world_scene.specs.Posts.{Post, changed_at, new_posts, post_behind, seat_at, seat_behind, standing_with}
-use Rattle.world_seats.specs.Crews.{ArePlaced, IsPlaced, IsPlacedPost, honest_flags, fallen}
+use Rattle.world_seats.specs.Crews.{ArePlaced, IsPlaced, IsPlacedPost, honest_flags}
 
 -- ---- one member changes
 
@@ -39,9 +39,6 @@ whole_with stakes flags posts n m old p count low is whole placed same =
 
 pub changed_is : (change : Post → Post) (posts : List Post) (n m : ℕ) (old p : Post) → n ≡ length posts → m < n → old ≡ get_or posts m old → p ≡ change old → set posts m p ≡ changed_at posts m change (slice_get posts m)
 changed_is change posts n m old p count low is e = ap (set posts m) e ∙ ap (changed_at posts m change) (sym (slice_get_read posts n m old count low is))
-
-pub absent_is : (change : Post → Post) (posts : List Post) (n m : ℕ) → n ≡ length posts → n ≤ m → posts ≡ changed_at posts m change (slice_get posts m)
-absent_is change posts n m count high = ap (changed_at posts m change) (sym (slice_get_past posts m (omega (arith, count, high))))
 
 -- ---- behind a call
 

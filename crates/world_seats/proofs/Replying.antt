@@ -1,17 +1,15 @@
 -- What a member that is up answers, and what becomes of the call.
-use Rattle.std.proofs.Common.{◌≡◌, ◌∙◌, ap, sym, subst, refl, ℕ, zero, suc, ◌<◌, true, false, cond, List, [], ◌∷◌, ◌++◌, length, get_or, set, replicate, Option, Some, None, inr}
-use Rattle.std.specs.Prelude.{◌⊎◌, Bool, Result, Ok, Err, option_map, slice_get}
+use Rattle.std.proofs.Common.{◌≡◌, ◌∙◌, ap, sym, subst, refl, ℕ, ◌<◌, true, false, List, [], ◌∷◌, ◌++◌, replicate, Option, Some, None, inr}
+use Rattle.std.specs.Prelude.{Bool, Result, Ok, Err, slice_get}
 use Rattle.std.proofs.lemmas.List.{get_or-set_same, length-replicate, get_or-replicate}
 use Rattle.journal_core.specs.declared.records.Record.{Record}
 use Rattle.journal_core.specs.Records.{journal_record}
-use Rattle.outside.specs.Lists.{Journals, AddsRecord, KeepsJournals, journal_of, with_record}
-use Rattle.chain_spec.specs.Certificates.{Rules}
+use Rattle.outside.specs.Lists.{Journals, KeepsJournals, journal_of, with_record}
 use Rattle.member_spec.specs.Member.{Member}
-use Rattle.member_spec.specs.Calls.{Call, due}
-use Rattle.world_spec.specs.World.{Reached, finds_down, stops, reached_up}
-use Rattle.validator_core.specs.Seats.{Seat}
-use Rattle.world_scene.specs.Posts.{AddsLeft, MayAddLeft, Post, post_behind, reached_post, reached_standing, record_left, seat_behind}
-use Rattle.world_seats.specs.Replies.{HasAnswered, HasStopped, KeptWhere, Leaves, Met, spelled_due}
+use Rattle.member_spec.specs.Calls.{due}
+use Rattle.world_spec.specs.World.{stops, reached_up}
+use Rattle.world_scene.specs.Posts.{AddsLeft, MayAddLeft, record_left}
+use Rattle.world_seats.specs.Replies.{KeptWhere, Leaves, Met, spelled_due}
 
 -- ---- the record on paper
 
@@ -71,22 +69,3 @@ left_stop before now m state kept x o bytes result e some_ h =
 
 pub left_same : (lists : Option Journals) (m : ℕ) (x : Option Record) → MayAddLeft lists lists m x
 left_same lists m x = inr (same_lists lists)
-
--- ---- what becomes of the call
-
-pub down_reached : (r : Rules) (call : Call) (p : Post) → p.standing ≡ None → reached_post r call (Some p) ≡ finds_down
-down_reached r call p e = ap (reached_standing r call p.armed) e
-
-pub up_reached : (r : Rules) (call : Call) (p : Post) (seat : Seat) → p.standing ≡ Some seat → reached_post r call (Some p) ≡ reached_up seat.state p.armed (due r seat.state call)
-up_reached r call p seat e = ap (reached_standing r call p.armed) e
-
--- the member behind it
-pub answered_post : {A : Type 0} (Says : Member → A → Type 0) (r : Rules) (call : Call) (p : Post) (seat next : Seat) (a : A) → p.standing ≡ Some seat → next ≡ seat_behind r call seat → HasAnswered Says (reached_post r call (Some p)) a
-    → record p { standing = Some next } ≡ post_behind r call p (reached_post r call (Some p))
-answered_post Says r call p seat next a e is said =
-    ap (λ (s : Seat). record p { standing = Some s }) is
-    ∙ ap (λ (o : Option Seat). record p { standing = option_map (seat_behind r call) o }) (sym e)
-    ∙ ap (post_behind r call p) (sym said.is)
-
-pub stopped_post : (r : Rules) (call : Call) (p : Post) → HasStopped (reached_post r call (Some p)) → record p { standing = None; armed = None } ≡ post_behind r call p (reached_post r call (Some p))
-stopped_post r call p said = ap (post_behind r call p) (sym said.is)

@@ -1,6 +1,6 @@
 -- A member that starts among the others.
 use Rattle.std.proofs.Common.{◌≡◌, ℕ, ◌<◌, true, List, length, get_or, set, Option, Some, None, ap, sym, ◌∙◌, subst}
-use Rattle.std.specs.Prelude.{Bool, Result, Ok, slice_get}
+use Rattle.std.specs.Prelude.{Bool, Ok, slice_get}
 use Rattle.std.proofs.lemmas.Option.{slice_get_read}
 use Rattle.chain_types.specs.declared.objects.Object.{Object}
 use Rattle.outside.specs.Lists.{Journals}

@@ -1,5 +1,5 @@
 -- The members of a committee as they stand. Source: this profile.
-use Rattle.std.specs.Prelude.{◌≡◌, ◌≤◌, ℕ, Bool, List, Option, Some, None, Result, Ok, Err, map, length, slice_get}
+use Rattle.std.specs.Prelude.{◌≡◌, ℕ, Bool, List, Option, Some, None, Result, Ok, Err, map, slice_get}
 use Rattle.chain_types.specs.declared.objects.Object.{Object}
 use Rattle.member_spec.specs.Member.{live_objects}
 use Rattle.validator_core.specs.Seats.{Seat}

@@ -18,7 +18,7 @@ use Rattle.member_spec.specs.Member.{Member}
 use Rattle.member_spec.specs.Calls.{hold_answer, run_answer, vote_answer}
 use Rattle.world_spec.specs.World.{Reached, finds_down, stops, answers}
 use Rattle.validator_core.specs.Calls.{Holds, Runs, Votes, hold_ended, run_ended, vote_ended}
-use Rattle.validator_core.specs.Seats.{Ended, answered}
+use Rattle.validator_core.specs.Seats.{answered}
 use Rattle.world_scene.specs.Posts.{AddsLeft, MayAddLeft}
 use Rattle.world_seats.specs.declared.reply.SeatFault.{SeatFault}
 use Rattle.world_seats.specs.declared.reply.SeatFault.TheVariants as faults

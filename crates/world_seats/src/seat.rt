@@ -104,7 +104,9 @@ impl Seat {
         let Some(validator) = &mut self.validator else {
             return Ok(Reply::Down);
         };
-        match meet(alloc, validator, keeper, sealer, member, self.armed, request) {
+        match meet(
+            alloc, validator, keeper, sealer, member, self.armed, request,
+        ) {
             Ok(Some(answer)) => Ok(Reply::Answered(answer)),
             Ok(None) => {
                 self.stop();

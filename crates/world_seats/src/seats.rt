@@ -273,7 +273,9 @@ impl Seats {
                 seat.start(validator);
                 Ok(kept.len())
             }
-            Err(StartRefusal::BadRecord { place, why: _ }) => Err(RestartFault::BadRecord { place }),
+            Err(StartRefusal::BadRecord { place, why: _ }) => Err(RestartFault::BadRecord {
+                place,
+            }),
             Err(StartRefusal::OutOfMemory) => Err(RestartFault::OutOfMemory),
         }
     }

@@ -4,7 +4,6 @@ ghost use Rattle.std.specs.Prelude.{◌≡◌, ◌<◌, ◌≤◌, [], IfOk, IsE
 ghost use Rattle.outside.specs.Causes.{Rose};
 ghost use Rattle.outside.specs.Lists.{KeepsJournals};
 ghost use Rattle.outside.specs.declared.faults.OutFault.TheVariants as out;
-ghost use Rattle.member_core.specs.Answers.{rules_for};
 ghost use Rattle.member_spec.specs.Member.{fresh};
 ghost use Rattle.version_store.specs.Stores.{are_new};
 ghost use Rattle.world_scene.specs.Posts.{seat_at};
