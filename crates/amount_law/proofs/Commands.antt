@@ -1,7 +1,7 @@
 -- Behind every command all that a block holds are amounts, where it opened so.
 use Rattle.std.proofs.Common.{refl, ap, sym, subst, ◌∙◌, arith}
 use Rattle.std.proofs.lemmas.Bool.{leb-false, ltb-false}
-use Rattle.std.specs.Prelude.{◌≡◌, ◌≤◌, ◌<◌, ◌+◌, ◌-◌, ℕ, zero, suc, Bool, true, false, cond, nat_lt, nat_le, List, [], ◌∷◌, ◌++◌, map, sum, length, option_map, Option, Some, None, Result, Ok, Err}
+use Rattle.std.specs.Prelude.{◌≡◌, ◌≤◌, ◌<◌, ◌+◌, ◌-◌, ℕ, suc, Bool, true, false, cond, nat_lt, nat_le, List, [], ◌∷◌, ◌++◌, map, sum, length, option_map, Option, Some, None, Result, Ok, Err}
 use Rattle.std.specs.Int.{w64, from_le_bytes}
 use Rattle.std.specs.List.{list_any, enumerate_from, cons_option}
 use Rattle.digest_core.specs.declared.Digest.{Digest}
@@ -10,8 +10,6 @@ use Rattle.chain_types.specs.declared.objects.Kind.{Kind}
 use Rattle.chain_types.specs.declared.objects.Kind.TheVariants as kind
 use Rattle.chain_types.specs.declared.objects.Object.{Object}
 use Rattle.chain_types.specs.declared.objects.Owner.TheVariants as owner
-use Rattle.chain_types.specs.declared.objects.Content.{Content}
-use Rattle.chain_types.specs.declared.objects.Content.TheVariants as content
 use Rattle.chain_types.specs.declared.transactions.Argument.{Argument}
 use Rattle.chain_types.specs.declared.transactions.Input.{Input}
 use Rattle.chain_types.specs.declared.transactions.Input.TheVariants as inputs
@@ -25,18 +23,18 @@ use Rattle.block_types.specs.declared.pieces.Gave.TheVariants as gave
 use Rattle.chain_spec.specs.Words.{Each, first_some, where_true}
 use Rattle.chain_spec.specs.Tests.{kind_eq}
 use Rattle.chain_spec.specs.Keys.{version_of}
-use Rattle.block_spec.specs.Natives.{kind_of, currency_of, amount_of, holding, parameters_of, amount_limit, Site, item_at, native_gives}
+use Rattle.block_spec.specs.Natives.{kind_of, currency_of, amount_of, holding, parameters_of, amount_limit, item_at, native_gives}
 use Rattle.block_spec.specs.Block.{Place, Value, pure, object, vector, Slot, Block, value_in, result_slots}
-use Rattle.block_spec.specs.Commands.{Fault, cause, Need, number, address, by_value, by_mut, by_ref, coins, paired, all_by, needs_of, place_of, is_right_kind, takes_value, wrong_count, arguments_cause, piece_of, item_in, items_in, number_in, spend, spend_all, numbered_coin, split_block, split, withheld, sum_of, merge_cases, merge_block, merge, placed_at, address_in, transfer_block, vector_block, given_as, given_all, spend_taken, put_back, put_changed, placed_list, called_block, called, site, performed, taken_cause, command_step}
+use Rattle.block_spec.specs.Commands.{Fault, cause, Need, number, address, by_value, by_mut, by_ref, coins, paired, all_by, needs_of, place_of, takes_value, wrong_count, arguments_cause, piece_of, item_in, items_in, number_in, spend, spend_all, numbered_coin, split_block, split, withheld, sum_of, merge_cases, merge_block, merge, placed_at, address_in, transfer_block, vector_block, given_as, given_all, spend_taken, put_back, put_changed, placed_list, called_block, called, site, performed, taken_cause, command_step}
 use Rattle.block_spec.specs.Execution.{Failure, input_slots, first_block, commands_from, commands_next, is_unused, checked_end, outcome}
 use Rattle.block_law.proofs.Slots.{Every, put-every, value-every, every-append, spend-placed, spend-every}
-use Rattle.block_law.proofs.Reading.{all-none, where-false, IsRead, AllRead, all-read, is-changed}
+use Rattle.block_law.proofs.Reading.{all-none, where-false, AllRead, all-read, is-changed}
 use Rattle.block_law.proofs.Amounts.{sum-cons}
 use Rattle.block_law.proofs.Kept.{result_slot}
 use Rattle.block_law.proofs.Steps.{ok-same, unless-ok}
 use Rattle.block_law.proofs.Blocks.{refused-ok, map-none}
 use Rattle.amount_law.proofs.Low.{Low, LowNumber, with-low, less-low, coin-amount, vault-amount, coin-low, number-low, bytes-low, zero-low}
-use Rattle.amount_law.proofs.Natives.{LowItem, LowPlaced, LowChange, LowLeft, Gives, LowGiven, IsVaultFor, native-low}
+use Rattle.amount_law.proofs.Natives.{LowItem, LowPlaced, LowChange, LowLeft, Gives, LowGiven, native-low}
 
 pub each-both : {A : Type 0} (P : A → Type 0) (xs ys : List A) → Each P xs → Each P ys → Each P (xs ++ ys)
 each-both P [] ys each more = more

@@ -1,6 +1,5 @@
 -- Every epoch opens with amounts, so each gas coin that paid held one.
 use Rattle.std.specs.Prelude.{◌≡◌, ℕ, zero, suc, List, slice_get, Some}
-use Rattle.chain_types.specs.declared.objects.Object.{Object}
 use Rattle.chain_messages.specs.declared.messages.Entry.{Entry}
 use Rattle.schedule_text.specs.declared.words.Event.{Event}
 use Rattle.chain_spec.specs.Words.{Each}

@@ -1,9 +1,8 @@
 -- Contents that hold amounts: of money alone, or of values too.
-use Rattle.std.proofs.Common.{refl, ap, subst, arith}
-use Rattle.std.specs.Prelude.{◌≡◌, ◌≤◌, ◌<◌, ◌+◌, ◌-◌, ◌*◌, ℕ, zero, suc, Bool, true, false, List, [], ◌∷◌, ◌++◌, slice_index}
+use Rattle.std.proofs.Common.{arith}
+use Rattle.std.specs.Prelude.{◌≡◌, ◌<◌, ◌-◌, ℕ, zero, suc, Bool, true, false, List, [], ◌∷◌, slice_index}
 use Rattle.std.specs.Int.{w64, from_le_bytes}
 use Rattle.chain_types.specs.declared.objects.Kind.TheVariants as kind
-use Rattle.chain_types.specs.declared.objects.Object.{Object}
 use Rattle.chain_types.specs.declared.objects.Content.{Content}
 use Rattle.chain_types.specs.declared.objects.Content.TheVariants as content
 use Rattle.chain_spec.specs.Words.{Each}

@@ -1,7 +1,7 @@
 -- What natives give holds amounts, where what they are given does.
-use Rattle.std.proofs.Common.{refl, subst, arith}
+use Rattle.std.proofs.Common.{refl, arith}
 use Rattle.std.proofs.lemmas.Bool.{leb-false, ltb-false}
-use Rattle.std.specs.Prelude.{◌≡◌, ◌≤◌, ◌<◌, ◌+◌, ◌-◌, ℕ, zero, suc, Bool, true, false, not, nat_lt, nat_le, List, [], ◌∷◌, sum_by, slice_get, Option, Some, None}
+use Rattle.std.specs.Prelude.{◌≡◌, ◌<◌, ◌+◌, ◌-◌, ℕ, zero, suc, Bool, true, false, not, nat_lt, nat_le, List, [], ◌∷◌, sum_by, slice_get, Option, Some, None}
 use Rattle.std.specs.List.{list_any}
 use Rattle.chain_types.specs.declared.objects.ObjectId.{ObjectId}
 use Rattle.chain_types.specs.declared.objects.Owner.{Owner}
@@ -15,7 +15,7 @@ use Rattle.block_types.specs.declared.pieces.Placed.{Placed}
 use Rattle.block_types.specs.declared.pieces.Gave.{Gave}
 use Rattle.block_types.specs.declared.pieces.Gave.TheVariants as gave
 use Rattle.chain_spec.specs.Words.{Each}
-use Rattle.block_spec.specs.Natives.{currency_of, amount_of, with_amount, holding, amount_limit, names_vault, may_be_shared, Site, new_item, no_item, number_given, number_at, item_given, item_at, items_given, items_at, gives, owned_by_all, abort_if, other_currency, joined, coin_zero, coin_mint, coin_burn, counter_add, counter_require, vault_new, vault_deposit, vault_withdraw, counter_add_limited, share, natives, gave_at, native_gives}
+use Rattle.block_spec.specs.Natives.{currency_of, amount_of, holding, amount_limit, names_vault, may_be_shared, Site, no_item, number_given, number_at, item_given, item_at, items_at, gives, owned_by_all, abort_if, other_currency, joined, coin_mint, coin_burn, counter_add, counter_require, vault_new, vault_deposit, vault_withdraw, counter_add_limited, share, natives, gave_at, native_gives}
 use Rattle.amount_law.proofs.Low.{Low, LowNumber, with-low, less-low, coin-low, zero-low, limit-low}
 
 module _ (all : Bool) where
@@ -176,23 +176,43 @@ module _ (all : Bool) where
           (share s (item_at args 0) ∷ owned_by_all s (item_at args 0) owner.Immutable ∷ gives s (content.Limit (number_at args 0) ∷ []) None ∷ counter_add_limited s (item_at args 0) (number_at args 1) (item_at args 2) ∷ [])
       last-natives = (
         λ v. shared (item_at args 0) one,
-        (λ v. left-low (item_at args 0) owner.Immutable one,
-        (λ v. new-one (content.Limit (number_at args 0)) (limit-low all (number_at args 0) (number-is args low 0)),
-        (λ v. limited (item_at args 0) (number_at args 1) (item_at args 2), tt))),
+        (
+          λ v. left-low (item_at args 0) owner.Immutable one,
+          (
+            λ v. new-one (content.Limit (number_at args 0)) (limit-low all (number_at args 0) (number-is args low 0)),
+            (λ v. limited (item_at args 0) (number_at args 1) (item_at args 2), tt),
+          ),
+        ),
       )
 
       all-natives : EachWhere IsVaultFor (natives s args)
       all-natives = (
         λ v. new-one (content.Coin (number_at args 0) 0) (coin-low all (number_at args 0) 0 (omega arith)),
-        (λ v. minted (item_at args 0) (number_at args 1),
-        (λ v. burnt (item_at args 0) (item_at args 1) one,
-        (λ v. joined-low (items_at args 0),
-        (λ v. new-one (content.Counter (number_at args 0)) (number-is args low 0),
-        (λ v. added (item_at args 0) (number_at args 1),
-        (λ v. required (item_at args 0) (number_at args 1),
-        (λ v. opened (number_at args 0),
-        (λ v. deposited (item_at args 0) (item_at args 1),
-        (λ v. withdrawn (item_at args 0) (item_at args 1) (number_at args 2) one (v refl), last-natives))))))))),
+        (
+          λ v. minted (item_at args 0) (number_at args 1),
+          (
+            λ v. burnt (item_at args 0) (item_at args 1) one,
+            (
+              λ v. joined-low (items_at args 0),
+              (
+                λ v. new-one (content.Counter (number_at args 0)) (number-is args low 0),
+                (
+                  λ v. added (item_at args 0) (number_at args 1),
+                  (
+                    λ v. required (item_at args 0) (number_at args 1),
+                    (
+                      λ v. opened (number_at args 0),
+                      (
+                        λ v. deposited (item_at args 0) (item_at args 1),
+                        (λ v. withdrawn (item_at args 0) (item_at args 1) (number_at args 2) one (v refl), last-natives),
+                      ),
+                    ),
+                  ),
+                ),
+              ),
+            ),
+          ),
+        ),
       )
 
       pub native-low : (native : ℕ) → IsVaultFor native → Gives (native_gives native s args)

@@ -1,6 +1,6 @@
 -- The sums in the run of a schedule that a text says.
-use Rattle.std.proofs.Common.{refl, arith}
-use Rattle.std.specs.Prelude.{◌≡◌, ◌≢◌, ◌<◌, ◌+◌, ◌^◌, ℕ, suc, Bool, true, false, cond, List, [], ◌∷◌, ◌++◌, map, fold, slice_get, Some, Ok}
+use Rattle.std.proofs.Common.{arith}
+use Rattle.std.specs.Prelude.{◌≡◌, ◌≢◌, ◌<◌, ◌+◌, ℕ, suc, Bool, true, false, cond, List, [], ◌∷◌, ◌++◌, map, fold, slice_get, Some, Ok}
 use Rattle.std.specs.List.{list_any, AllByRecursion}
 use Rattle.chain_types.specs.declared.objects.Object.{Object}
 use Rattle.chain_types.specs.declared.objects.Content.{Content}
@@ -9,7 +9,6 @@ use Rattle.chain_types.specs.Equal.{id_eq}
 use Rattle.schedule_text.specs.declared.words.Schedule.{Schedule}
 use Rattle.schedule_text.specs.declared.words.Setup.{Setup}
 use Rattle.schedule_text.specs.declared.words.Setup.TheVariants as line
-use Rattle.schedule_text.specs.declared.words.Event.{Event}
 use Rattle.schedule_text.specs.declared.statement.Statement.{Statement}
 use Rattle.schedule_text.specs.declared.statement.Statement.TheVariants as statement
 use Rattle.schedule_text.specs.Schedule.{schedule_of}
@@ -91,7 +90,7 @@ module _ (text : List ℕ) (t : Schedule) (read : schedule_of text ≡ Ok t) (tr
   module _ (honest : IsHonestRun (setting_of trust t.setup) t.events) where
     pub read-gas : (m : ℕ) (seat : Seat) → slice_get (world_after (setting_of trust t.setup) t.events).seats m ≡ Some seat → (epoch : ℕ) → epoch < (member_in (setting_of trust t.setup) seat).epoch
         → currency_sum (opening_at (setting_of trust t.setup) (world_after (setting_of trust t.setup) t.events).sequences (suc epoch)) 0
-            + epoch_gas (setting_of trust t.setup) (world_after (setting_of trust t.setup) t.events).sequences epoch
+        + epoch_gas (setting_of trust t.setup) (world_after (setting_of trust t.setup) t.events).sequences epoch
         ≡ currency_sum (opening_at (setting_of trust t.setup) (world_after (setting_of trust t.setup) t.events).sequences epoch) 0
     read-gas m seat at = only-gas (setting_of trust t.setup) t.events honest (set-up-apart trust t.setup) no-gas-cap m seat at
         (gas-was-held (setting_of trust t.setup) t.events honest (set-up-apart trust t.setup) (money-amounts (setting_of trust t.setup).opening set-up-amounts) m seat at)

@@ -1,7 +1,7 @@
 -- One thread's map holds amounts, behind any transactions.
 use Rattle.std.proofs.Common.{refl, ap, sym, subst, ◌∙◌, arith}
 use Rattle.std.proofs.lemmas.Bool.{ltb-true, ltb-false}
-use Rattle.std.specs.Prelude.{◌≡◌, ◌<◌, ◌+◌, ℕ, Bool, true, false, cond, ◌&&◌, ◌==◌, nat_lt, nat_le, List, [], ◌∷◌, ◌++◌, map, fold, length, Option, Some, None}
+use Rattle.std.specs.Prelude.{◌≡◌, ◌<◌, ℕ, Bool, true, false, cond, ◌&&◌, ◌==◌, nat_lt, nat_le, List, [], ◌∷◌, ◌++◌, map, fold, length, Option, Some, None}
 use Rattle.std.specs.FinMap.{empty, entries, values, get, len-empty, len-entries}
 use Rattle.chain_types.specs.declared.objects.ObjectId.{ObjectId}
 use Rattle.chain_types.specs.declared.objects.Object.{Object}
@@ -17,11 +17,11 @@ use Rattle.chain_spec.proofs.ListLemmas.{and-first, and-second}
 use Rattle.block_spec.specs.Natives.{amount_limit, amount_of}
 use Rattle.block_spec.specs.Execution.{execution}
 use Rattle.member_spec.specs.Versions.{id_cmp}
-use Rattle.member_spec.specs.Sequential.{Objects, with_object, without_id, map_of, at_version, named_in, read_by, map_after, Folded, without_effects, with_execution, executed_on, fold_one, fold_all}
+use Rattle.member_spec.specs.Sequential.{Objects, with_object, without_id, map_of, at_version, named_in, read_by, Folded, without_effects, with_execution, executed_on, fold_one, fold_all}
 use Rattle.block_law.specs.Keeping.{GasIsAmount}
 use Rattle.block_law.proofs.Sums.{objects_weight, option_weight}
 use Rattle.sequence_law.specs.Kept.{opened_with}
-use Rattle.sequence_law.proofs.Moving.{map_weight, ids_at, change-weight}
+use Rattle.sequence_law.proofs.Moving.{map_weight, change-weight}
 use Rattle.epoch_law.specs.Opened.{HasEffects, GasHolds}
 use Rattle.amount_law.specs.Amounts.{money_held, HoldsAmount}
 use Rattle.amount_law.proofs.Written.{money-stays}

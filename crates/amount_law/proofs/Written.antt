@@ -1,6 +1,6 @@
 -- What an execution writes holds amounts, where what it reads does.
 use Rattle.std.proofs.Common.{refl, arith}
-use Rattle.std.specs.Prelude.{◌≡◌, ◌<◌, ◌+◌, ◌-◌, ℕ, suc, min, Bool, true, false, cond, List, [], ◌∷◌, ◌++◌, map, find, filter_map, option_map, Option, Some, None, Result, Ok, Err}
+use Rattle.std.specs.Prelude.{◌≡◌, ◌<◌, ◌+◌, ◌-◌, ℕ, suc, min, Bool, true, false, cond, List, [], ◌∷◌, map, find, filter_map, option_map, Option, Some, None, Result, Ok, Err}
 use Rattle.std.specs.List.{cons_option}
 use Rattle.chain_types.specs.declared.objects.ObjectId.{ObjectId}
 use Rattle.digest_core.specs.declared.Digest.{Digest}
@@ -11,7 +11,6 @@ use Rattle.chain_types.specs.declared.transactions.Input.TheVariants as inputs
 use Rattle.chain_types.specs.declared.transactions.Transaction.{Transaction}
 use Rattle.chain_types.specs.Equal.{id_eq}
 use Rattle.chain_types.specs.Digests.{transaction_digest}
-use Rattle.block_types.specs.declared.pieces.Item.{Item}
 use Rattle.block_types.specs.declared.pieces.Placed.{Placed}
 use Rattle.chain_spec.specs.Words.{Each, numbers_below}
 use Rattle.chain_spec.specs.Keys.{version_of}
@@ -20,10 +19,10 @@ use Rattle.block_spec.specs.Natives.{amount_limit, amount_of}
 use Rattle.block_spec.specs.Block.{Place, Value, pure, object, vector, Block, value_in}
 use Rattle.block_spec.specs.Commands.{piece_of}
 use Rattle.block_spec.specs.Execution.{Failure, outcome, object_at, left_in, now_in, after_block, written_inputs, written_places, created_objects, with_rest_first, same_object, less_cost_first, failed_objects, done_objects, execution, executed_by}
-use Rattle.block_law.proofs.Slots.{Every, value-every}
+use Rattle.block_law.proofs.Slots.{value-every}
 use Rattle.amount_law.specs.Amounts.{HoldsAmount, IsAmount, HasBytes}
-use Rattle.amount_law.proofs.Low.{Low, LowNumber, with-low, less-low, number-low, bytes-low}
-use Rattle.amount_law.proofs.Natives.{LowItem, LowPlaced}
+use Rattle.amount_law.proofs.Low.{with-low, less-low, bytes-low}
+use Rattle.amount_law.proofs.Natives.{LowPlaced}
 use Rattle.amount_law.proofs.Commands.{each-both, Lying, IsLow, LowObject, LowInput, ends-low}
 
 module _ (all : Bool) where

@@ -1,6 +1,5 @@
 -- Sums in the run of every schedule that a text says, under the run assumptions alone. Source: this profile.
 use Rattle.std.specs.Prelude.{◌≡◌, ◌≢◌, ◌<◌, ◌+◌, ℕ, suc, List, slice_get, Some, Ok}
-use Rattle.chain_types.specs.declared.objects.Object.{Object}
 use Rattle.schedule_text.specs.declared.words.Schedule.{Schedule}
 use Rattle.schedule_text.specs.Schedule.{schedule_of}
 use Rattle.chain_spec.specs.Words.{Each}
@@ -27,7 +26,7 @@ abbrev pub ReadGasAloneLeaves : Type 0
 ReadGasAloneLeaves = (text : List ℕ) (t : Schedule) → schedule_of text ≡ Ok t → (trust : Trust) → IsHonestRun (setting_of trust t.setup) t.events
     → (m : ℕ) (seat : Seat) → slice_get (world_after (setting_of trust t.setup) t.events).seats m ≡ Some seat → (epoch : ℕ) → epoch < (member_in (setting_of trust t.setup) seat).epoch
     → currency_sum (opening_at (setting_of trust t.setup) (world_after (setting_of trust t.setup) t.events).sequences (suc epoch)) 0
-        + epoch_gas (setting_of trust t.setup) (world_after (setting_of trust t.setup) t.events).sequences epoch
+    + epoch_gas (setting_of trust t.setup) (world_after (setting_of trust t.setup) t.events).sequences epoch
     ≡ currency_sum (opening_at (setting_of trust t.setup) (world_after (setting_of trust t.setup) t.events).sequences epoch) 0
 
 -- of each other currency the opening objects of every member hold as much as their caps say
