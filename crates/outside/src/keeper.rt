@@ -109,6 +109,13 @@ impl MemKeeper {
     }
 }
 
+impl MemKeeper {
+    /// Where its lists take their memory.
+    pub(crate) fn allocator(&self) -> Global {
+        *self.lists.allocator()
+    }
+}
+
 impl Keeper for MemKeeper {
     ghost lists = { λ k. Some k.lists };
 

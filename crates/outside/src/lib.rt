@@ -2,18 +2,23 @@
 //!
 //! Three traits, each with a count of faults that never falls: a call answers `Failed` only where
 //! that count rose in the call. What a value has left, holds or keeps is told by the
-//! implementations in memory ([`MemSource`], [`MemSink`], [`MemKeeper`]) and may stay untold by
-//! others; a clause claims nothing of what is untold.
+//! implementations in memory ([`MemSource`], [`FreeSource`], [`MemSink`], [`NarrowSink`],
+//! [`MemKeeper`]) and may stay untold by others ([`AlteredKeeper`]); a clause claims nothing of what
+//! is untold.
 #![tactic(auto)]
 
+mod altered;
 mod faults;
 mod keeper;
+mod narrow;
 mod sink;
 mod source;
 mod turns;
 
+pub use altered::AlteredKeeper;
 pub use faults::{Failed, OutFault};
 pub use keeper::{Keeper, MemKeeper};
+pub use narrow::NarrowSink;
 pub use sink::{MemSink, Sink};
 pub use source::{FreeSource, MemSource, Source};
 pub use turns::Turns;

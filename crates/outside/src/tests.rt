@@ -1,4 +1,7 @@
-use crate::{FreeSource, Keeper, MemKeeper, MemSink, MemSource, OutFault, Sink, Source};
+use crate::{
+    AlteredKeeper, FreeSource, Keeper, MemKeeper, MemSink, MemSource, NarrowSink, OutFault, Sink,
+    Source,
+};
 use std::test::Fail;
 
 #[test]
@@ -40,5 +43,37 @@ fn gives_bytes(rt: HostRuntime) -> Result<(), Fail> {
     assert_eq!(rt; source.read(buffer.as_mut_slice()), Ok(4));
     assert_eq!(rt; source.read(buffer.as_mut_slice()), Ok(1));
     assert_eq!(rt; source.read(buffer.as_mut_slice()), Ok(0));
+    Ok(())
+}
+
+#[test]
+fn takes_fronts_alone(rt: HostRuntime) -> Result<(), Fail> {
+    let mut sink = NarrowSink::new(rt.alloc(), 2, [2].as_slice())?;
+    assert_eq!(rt; sink.write(b"abc".as_slice()), Ok(2));
+    assert_eq!(rt; sink.write(b"c".as_slice()), Err(OutFault::Failed));
+    assert_eq!(rt; sink.write(b"c".as_slice()), Ok(1));
+    assert_eq!(rt; sink.bytes(), b"abc".as_slice());
+    let mut sink = NarrowSink::new(rt.alloc(), 0, &[])?;
+    assert_eq!(rt; sink.write(b"abc".as_slice()), Ok(0));
+    assert_eq!(rt; sink.bytes(), b"".as_slice());
+    Ok(())
+}
+
+#[test]
+fn gives_other_bytes_at_its_place(rt: HostRuntime) -> Result<(), Fail> {
+    let inner = MemKeeper::new(rt.alloc(), 1, &[])?;
+    let mut keeper = AlteredKeeper::new(inner, 0, 1, b"x".as_slice())?;
+    assert_eq!(rt; keeper.append(0, b"one".as_slice()), Ok(()));
+    assert_eq!(rt; keeper.append(0, b"two".as_slice()), Ok(()));
+    assert_eq!(rt; (keeper.members(), keeper.count(0)), (1, 2));
+    if keeper.count(0) > 1 {
+        match (keeper.read(0, 0), keeper.read(0, 1)) {
+            (Ok(first), Ok(second)) => {
+                assert_eq!(rt; first.as_slice(), b"one".as_slice());
+                assert_eq!(rt; second.as_slice(), b"x".as_slice());
+            }
+            _ => assert!(rt; false),
+        }
+    }
     Ok(())
 }
