@@ -27,7 +27,7 @@ pub scene_first : (trust : Trust) (lines : List Setup) (c : List ℕ) (flags : L
 unfolding setting_of
 scene_first trust lines c flags opening known said certs crew is f o k s e w =
     let whole : crew ≡ crew_of (stakes_of lines) (opening_in lines) (honest_of lines) =
-        w ∙ ap (λ x. crew_of x opening flags) (stakes_same (stakes_of lines) c is) ∙ ap (λ x. crew_of (stakes_of lines) x flags) o ∙ ap (λ x. crew_of (stakes_of lines) (opening_in lines) x) f in
+    w ∙ ap (λ x. crew_of x opening flags) (stakes_same (stakes_of lines) c is) ∙ ap (λ x. crew_of (stakes_of lines) x flags) o ∙ ap (λ x. crew_of (stakes_of lines) (opening_in lines) x) f in
     ap (λ x. scene x opening known said certs) whole
     ∙ ap (λ x. scene (crew_of (stakes_of lines) (opening_in lines) (honest_of lines)) x known said certs) o
     ∙ ap (λ x. scene (crew_of (stakes_of lines) (opening_in lines) (honest_of lines)) (opening_in lines) x said certs) k
