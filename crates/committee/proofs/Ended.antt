@@ -13,7 +13,7 @@ use Rattle.world_scene.specs.Worlds.{IsTrueOf, Restarts, is_plain}
 use Rattle.honest_text_law.specs.HonestTexts.{keyed_setting}
 use Rattle.one_owner_law.proofs.Owner.{owner}
 use Rattle.one_owner_law.proofs.Voted.{certified-is}
-use Rattle.committee.specs.Headline.{IsBad, IsCut, IsRefused, IsWhole, program_trust}
+use Rattle.committee.specs.Headline.{ConsumesOnce, IsBad, IsCut, IsRefused, IsWhole, program_trust}
 use Rattle.committee.specs.Journals.{StartsWhereRead}
 use Rattle.committee.specs.Report.{readable, refusal_text, setting_in}
 use Rattle.committee.specs.Streams.{ReadsText}
@@ -29,6 +29,10 @@ read_starts law trust same = λ text s is front back cut.
     subst (λ (t : Trust). Restarts (setting_in t s) (world_after (setting_in t s) front)) (sym same)
     (law text s (read_is_schedule text s is) program_secret front back cut (plain_read text s is).events)
 
+-- what the lines certify is consumed once
+once : (s : Schedule) (events : List Event) → ConsumesOnce s events
+once s events = λ honest c d formed other. owner (setting_in program_trust s) events honest c d (certified-is (setting_in program_trust s) events c formed) (certified-is (setting_in program_trust s) events d other)
+
 -- the text was read, it is a schedule, it ran, and what it certified is consumed once
 pub whole : (left left' held held' : Option (List ℕ)) (kept kept' : Option Journals) (text : List ℕ) → ReadsText longest_text left left' text
     → (s : Schedule) × (readable text ≡ Ok s) × RunsWhole program_trust s held held' kept kept' → IsWhole left left' held held' kept kept'
@@ -39,7 +43,7 @@ whole left left' held held' kept kept' text read (s, is, runs) = record {
   ended = read.ended (short text s is);
   is = is;
   runs = runs;
-  apart = λ honest c d formed other. owner (setting_in program_trust s) s.events honest c d (certified-is (setting_in program_trust s) s.events c formed) (certified-is (setting_in program_trust s) s.events d other);
+  apart = once s s.events;
 }
 
 pub refused : (left left' held held' : Option (List ℕ)) (kept kept' : Option Journals) (text : List ℕ) → ReadsText longest_text left left' text
@@ -48,7 +52,7 @@ refused left left' held held' kept kept' text read (r, is, written, stays) = rec
 
 pub cut : (left left' held held' : Option (List ℕ)) (kept kept' : Option Journals) (text : List ℕ) → ReadsText longest_text left left' text
     → TextCut program_trust (readable text) held held' kept kept' → IsCut left left' held held' kept kept'
-cut left left' held held' kept kept' text read ends = inr (record { text = text; read = read; cut = ends })
+cut left left' held held' kept kept' text read ends = inr (record { text = text; read = read; cut = ends; apart = λ s is front rest same. once s front })
 
 pub bad : (left left' held held' : Option (List ℕ)) (kept : Option Journals) (text : List ℕ) → ReadsText longest_text left left' text
     → (s : Schedule) × (readable text ≡ Ok s) × MeetsBadRecord program_trust s Appends held held' kept → IsBad left left' held held' kept
@@ -59,6 +63,7 @@ bad left left' held held' kept text read (s, is, meets) = record {
   ended = read.ended (short text s is);
   is = is;
   meets = meets;
+  apart = λ front rest same. once s front;
 }
 
 -- a keeper's fault, or a bad record
