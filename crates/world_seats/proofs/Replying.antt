@@ -6,7 +6,6 @@ use Rattle.journal_core.specs.declared.records.Record.{Record}
 use Rattle.journal_core.specs.Records.{journal_record}
 use Rattle.outside.specs.Lists.{Journals, KeepsJournals, journal_of, with_record}
 use Rattle.member_spec.specs.Member.{Member}
-use Rattle.member_spec.specs.Calls.{due}
 use Rattle.world_spec.specs.World.{stops, reached_up}
 use Rattle.world_scene.specs.Posts.{AddsLeft, MayAddLeft, record_left}
 use Rattle.world_seats.specs.Replies.{KeptWhere, Leaves, Met, spelled_due}

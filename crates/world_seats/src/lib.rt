@@ -16,3 +16,6 @@ mod stops;
 
 pub use reply::{Reply, RestartFault, SeatFault};
 pub use seats::Seats;
+
+#[cfg(test)]
+mod tests;
