@@ -19,3 +19,6 @@ pub use member_types::{
     CloseRefusal, HoldRefusal, Ran, RunRefusal, StartRefusal, VoteRefusal, Voted,
 };
 pub use validator::Validator;
+
+#[cfg(test)]
+mod tests;
