@@ -18,3 +18,6 @@ pub use holds::Holding;
 pub use runs::ran_record;
 pub use state::State;
 pub use votes::Decision;
+
+#[cfg(test)]
+mod tests;
