@@ -8,3 +8,6 @@
 mod book;
 
 pub use book::VoteBook;
+
+#[cfg(test)]
+mod tests;
