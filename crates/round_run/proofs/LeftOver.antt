@@ -1,6 +1,8 @@
 -- What a run leaves.
-use Rattle.std.proofs.Common.{◌≡◌, ℕ, suc, Bool, true, false, cond, not, ◌&&◌, ◌||◌, List, [], ◌∷◌, ◌++◌, map, length, Option, Some, None, is_some, inl, inr, refl, ap, sym, subst, ◌∙◌, append_assoc, append-nil}
-use Rattle.std.specs.Prelude.{◌⊎◌, filter, slice_get, zip}
+use Rattle.std.proofs.Common.{◌≡◌, ℕ, suc, ◌+◌, Bool, true, false, cond, not, ◌&&◌, ◌||◌, List, [], ◌∷◌, ◌++◌, map, length, Option, Some, None, is_some, inl, inr, refl, ap, sym, subst, ◌∙◌, append_assoc, append-nil, arith}
+use Rattle.std.specs.Prelude.{◌⊎◌, ◌≤◌, filter, slice_get, zip}
+use Rattle.std.specs.List.Sorted.{IsStrictlySortedBy}
+use Rattle.std.specs.Ordering.{nat_cmp}
 use Rattle.std.specs.List.{list_all, list_any}
 use Rattle.digest_core.specs.declared.Digest.{Digest}
 use Rattle.chain_types.specs.declared.objects.ObjectKey.{ObjectKey}
@@ -9,7 +11,7 @@ use Rattle.chain_types.specs.declared.transactions.Input.TheVariants as inputs
 use Rattle.member_types.specs.declared.answers.Held.{Held}
 use Rattle.member_types.specs.declared.answers.Left.{Left}
 use Rattle.chain_types.specs.Digests.{is_object}
-use Rattle.chain_spec.specs.Words.{first_of, first_some, where_true}
+use Rattle.chain_spec.specs.Words.{Each, Has, first_of, first_some, where_true}
 use Rattle.chain_spec.specs.Keys.{has_shared_input, is_shared_input, objects_of}
 use Rattle.member_spec.specs.Versions.{Execution, is_executed, versions}
 use Rattle.member_spec.specs.Admission.{assigned_of, joined_inputs, nothing_admitted}
@@ -18,9 +20,9 @@ use Rattle.version_store.specs.Stores.{Stored, held_in}
 use Rattle.round_run.specs.Books.{books_of, is_left_over, left_in}
 use Rattle.round_run.specs.Needs.{missing_in, needs_of}
 use Rattle.round_run.proofs.Joined.{missing_so}
-use Rattle.round_run.specs.Steps.{left_add, left_after, left_of, pending_from}
+use Rattle.round_run.specs.Steps.{left_add, left_after, left_of}
 use Rattle.round_run.specs.Places.{Picks}
-use Rattle.round_run.proofs.Rounding.{at_front, longer, pending_picks, picks_map}
+use Rattle.round_run.proofs.Rounding.{all_far, ascends, at_front, at_none, longer, picks_of}
 
 -- ---- which certificates are due
 
@@ -98,8 +100,12 @@ module _ (s : Stored) (all : List Held) where
   stays : (acc : List Left) (h : Held) (hs : List Held) → Stays h → acc ++ left_of_all hs ≡ acc ++ left_of_all (h ∷ hs)
   stays acc h hs none = ap (λ (o : Option Left). left_add acc o ++ left_of_all hs) (sym none) ∙ one_more acc h hs
 
+  none_left : (places : List ℕ) (acc : List Left) → Each (λ p. length all ≤ p) places → left_after s all acc places ≡ acc
+  none_left [] acc far = refl
+  none_left (p ∷ ps) acc far = ap (λ (o : Option Held). left_after s all (left_add acc (left_of s o)) ps) (at_none all p far.0) ∙ none_left ps acc far.1
+
   picks_left : (places : List ℕ) (hs front : List Held) (acc : List Left) → all ≡ front ++ hs → Picks Stays (length front) places hs → left_after s all acc places ≡ acc ++ left_of_all hs
-  picks_left places [] front acc is picks = ap (left_after s all acc) picks ∙ sym (append-nil acc)
+  picks_left places [] front acc is picks = none_left places acc (all_far s all places front is picks) ∙ sym (append-nil acc)
   picks_left [] (h ∷ hs) front acc is picks =
       picks_left [] hs (front ++ h ∷ []) acc (is ∙ sym (append_assoc front (h ∷ []) hs)) (subst (λ n. Picks Stays n [] hs) (sym (longer front h)) picks.1)
       ∙ stays acc h hs picks.0
@@ -113,14 +119,23 @@ module _ (s : Stored) (all : List Held) where
       ∙ stays acc h hs picks.0
 
 -- a certificate that was executed is not left
-executed_stays : (s : Stored) (h : Held) → is_executed s.executed h.digest ≡ true → left_in s h ≡ None
+pub executed_stays : (s : Stored) (h : Held) → is_executed s.executed h.digest ≡ true → left_in s h ≡ None
 executed_stays s h is =
     left_so s h
     ∙ ap (λ (e : Bool). where_true (not e && not (has_shared_input h.cert.tx) && list_all (is_origin_done s.executed) h.cert.origins) (let l : Left = record { tx = h.digest; key = first_of (missing_in (held_in s)) (needs_of h.cert) } in l)) is
 
--- those left of the pending certificates are all that are left
-pub pending_left : (s : Stored) (held : List Held) → left_after s held [] (pending_from s.executed 0 held) ≡ left (books_of s held) s.executed
+-- those left of ascending places are all that are left, where those at other places are not
+pub left_of_places : (s : Stored) (held : List Held) (places : List ℕ) → IsStrictlySortedBy nat_cmp places → ((i : ℕ) (h : Held) → slice_get held i ≡ Some h → Has places i ⊎ (left_in s h ≡ None))
+    → left_after s held [] places ≡ left (books_of s held) s.executed
 unfolding left
-pending_left s held =
-    picks_left s held (pending_from s.executed 0 held) held [] [] refl
-    (picks_map (λ h. is_executed s.executed h.digest ≡ true) (λ h. left_in s h ≡ None) (λ h is. executed_stays s h is) 0 (pending_from s.executed 0 held) held (pending_picks s.executed 0 held))
+left_of_places s held places sorted names =
+    picks_left s held places held [] [] refl (picks_of (λ h. left_in s h ≡ None) held 0 places (ascends places sorted) (low places) named)
+  where
+    low : (ps : List ℕ) → Each (λ p. 0 ≤ p) ps
+    low [] = tt
+    low (p ∷ ps) = (omega arith, low ps)
+
+    named : (i : ℕ) (h : Held) → slice_get held i ≡ Some h → Has places (0 + i) ⊎ (left_in s h ≡ None)
+    named i h at =
+        let same : i ≡ 0 + i = omega arith in
+        subst (λ n. Has places n ⊎ (left_in s h ≡ None)) same (names i h at)

@@ -4,7 +4,9 @@ pub mod Readying
 pub mod Rounding
 pub mod Following
 pub mod LeftOver
-pub mod Pendings
 pub mod Settling
+pub mod Making
+pub mod Clashing
+pub mod Filing
 pub mod Writers
 pub mod Repeating

@@ -1,14 +1,19 @@
 -- A round of some places is the round of all certificates, where those left out are not ready; a run's rounds.
-use Rattle.std.proofs.Common.{◌≡◌, ℕ, zero, suc, ◌-◌, ◌<◌, Bool, true, false, cond, List, [], ◌∷◌, ◌++◌, length, Option, Some, None, inl, inr, refl, ap, sym, subst, ◌∙◌, append_assoc, append-nil, arith}
-use Rattle.std.specs.Prelude.{◌⊎◌, slice_get}
+use Rattle.std.proofs.Common.{◌≡◌, ℕ, zero, suc, ◌+◌, ◌-◌, ◌<◌, Bool, true, false, cond, List, [], ◌∷◌, ◌++◌, length, Option, Some, None, inl, inr, refl, ap, sym, subst, ◌∙◌, append_assoc, append-nil, arith}
+use Rattle.std.specs.Prelude.{◌⊎◌, ◌==◌, ◌≤◌, slice_get}
+use Rattle.std.specs.List.{AllByRecursion}
+use Rattle.std.specs.List.Sorted.{IsStrictlySortedBy}
+use Rattle.std.specs.Ordering.{nat_cmp}
+use Rattle.std.specs.declared.cmp.Ordering.TheVariants.{Less}
 use Rattle.member_types.specs.declared.answers.Held.{Held}
-use Rattle.member_spec.specs.Versions.{Execution, is_executed}
+use Rattle.chain_spec.specs.Words.{Each, Has}
+use Rattle.member_spec.specs.Versions.{Execution}
 use Rattle.member_spec.specs.Rounds.{Books, ready, round_add, round_among, round_of, rounds_within}
 use Rattle.version_store.specs.Stores.{Stored}
 use Rattle.round_run.specs.Books.{books_of, ready_in}
-use Rattle.round_run.specs.Steps.{pending_from, ready_of, round_at}
+use Rattle.round_run.specs.Steps.{ready_of, round_at}
 use Rattle.round_run.specs.Places.{Picks}
-use Rattle.round_run.proofs.Readying.{executed_rests, ready_alike}
+use Rattle.round_run.proofs.Readying.{ready_alike}
 
 -- ---- places
 
@@ -21,28 +26,87 @@ pub longer : {A : Type 0} (front : List A) (x : A) → length (front ++ x ∷ []
 longer [] x = refl
 longer (y ∷ front) x = ap suc (longer front x)
 
--- picks whose reasons to leave out others are weaker
-pub picks_map : (P Q : Held → Type 0) → ((h : Held) → P h → Q h) → (place : ℕ) (places : List ℕ) (hs : List Held) → Picks P place places hs → Picks Q place places hs
-picks_map P Q weaker place places [] picks = picks
-picks_map P Q weaker place [] (h ∷ hs) picks = (weaker h picks.0, picks_map P Q weaker (suc place) [] hs picks.1)
-picks_map P Q weaker place (p ∷ ps) (h ∷ hs) (inl picks) = inl (picks.0, picks_map P Q weaker (suc place) ps hs picks.1)
-picks_map P Q weaker place (p ∷ ps) (h ∷ hs) (inr picks) = inr (weaker h picks.0, picks_map P Q weaker (suc place) (p ∷ ps) hs picks.1)
+-- places that ascend
+abbrev pub Ascends : List ℕ → Type 0
+Ascends [] = Unit {0}
+Ascends (p ∷ ps) = Each (λ q. p < q) ps × Ascends ps
 
--- the pending certificates leave out those that are executed
-pub pending_picks : (executed : List Execution) (place : ℕ) (hs : List Held) → Picks (λ h. is_executed executed h.digest ≡ true) place (pending_from executed place hs) hs
-pending_picks executed place [] = refl
-pending_picks executed place (h ∷ hs) = go (is_executed executed h.digest) refl (pending_from executed (suc place) hs) (pending_picks executed (suc place) hs)
+pub ascends : (places : List ℕ) → IsStrictlySortedBy nat_cmp places → Ascends places
+unfolding IsStrictlySortedBy
+ascends [] sorted = tt
+ascends (p ∷ ps) sorted = (above ps sorted.0, ascends ps sorted.1)
   where
-    Idle : Held → Type 0
-    Idle k = is_executed executed k.digest ≡ true
+    above : (qs : List ℕ) → AllByRecursion (λ q. nat_cmp p q ≡ Less) qs → Each (λ q. p < q) qs
+    above [] all = tt
+    above (q ∷ qs) all = (grind (arith, all.0), above qs all.1)
 
-    skips : (ps : List ℕ) → is_executed executed h.digest ≡ true → Picks Idle (suc place) ps hs → Picks Idle place ps (h ∷ hs)
-    skips [] is picks = (is, picks)
-    skips (p ∷ ps) is picks = inr (is, picks)
+each_map : {A : Type 0} → (P Q : A → Type 0) → ((x : A) → P x → Q x) → (xs : List A) → Each P xs → Each Q xs
+each_map P Q weaker [] each = tt
+each_map P Q weaker (x ∷ xs) each = (weaker x each.0, each_map P Q weaker xs each.1)
 
-    go : (b : Bool) → is_executed executed h.digest ≡ b → (ps : List ℕ) → Picks Idle (suc place) ps hs → Picks Idle place (cond b ps (place ∷ ps)) (h ∷ hs)
-    go true is ps picks = skips ps is picks
-    go false is ps picks = inl (refl, picks)
+each_has : {A : Type 0} → (P : A → Type 0) (xs : List A) (x : A) → Each P xs → Has xs x → P x
+each_has P [] x each has = absurd has
+each_has P (y ∷ ys) x each (inl is) = subst P is each.0
+each_has P (y ∷ ys) x each (inr has) = each_has P ys x each.1 has
+
+-- ascending places pick what they name, where all else is idle
+module _ (Idle : Held → Type 0) where
+  -- which certificates of a tail are picked
+  abbrev Names : ℕ → List ℕ → List Held → Type 0
+  Names n places hs = (i : ℕ) (h : Held) → slice_get hs i ≡ Some h → Has places (n + i) ⊎ Idle h
+
+  abbrev Below : ℕ → List ℕ → Type 0
+  Below n places = Each (λ p. n ≤ p) places
+
+  later : (n : ℕ) (places : List ℕ) (h : Held) (hs : List Held) → Names n places (h ∷ hs) → Names (suc n) places hs
+  later n places h hs names i k at =
+      let next : n + suc i ≡ suc n + i = omega arith in
+      subst (λ m. Has places m ⊎ Idle k) next (names (suc i) k at)
+
+  first_idle : (n p : ℕ) (ps : List ℕ) (h : Held) → n < p → Each (λ q. p < q) ps → Has (p ∷ ps) (n + 0) ⊎ Idle h → Idle h
+  first_idle n p ps h less above (inr idle) = idle
+  first_idle n p ps h less above (inl (inl is)) = absurd (omega (arith, less, is))
+  first_idle n p ps h less above (inl (inr has)) =
+      let more : p < n + 0 = each_has (λ q. p < q) ps (n + 0) above has in
+      absurd (omega (arith, less, more))
+
+  behind_first : (n : ℕ) (ps : List ℕ) (h : Held) (hs : List Held) → Names n (n ∷ ps) (h ∷ hs) → Names (suc n) ps hs
+  behind_first n ps h hs names i k at = go (later n (n ∷ ps) h hs names i k at)
+    where
+      go : Has (n ∷ ps) (suc n + i) ⊎ Idle k → Has ps (suc n + i) ⊎ Idle k
+      go (inr idle) = inr idle
+      go (inl (inr has)) = inl has
+      go (inl (inl is)) = absurd (omega (arith, is))
+
+  pub picks_of : (hs : List Held) (n : ℕ) (places : List ℕ) → Ascends places → Below n places → Names n places hs → Picks Idle n places hs
+  picks_of [] n places up below names = below
+  picks_of (h ∷ hs) n [] up below names = (first (names 0 h refl), picks_of hs (suc n) [] tt tt (later n [] h hs names))
+    where
+      first : Has [] (n + 0) ⊎ Idle h → Idle h
+      first (inl has) = absurd has
+      first (inr idle) = idle
+  picks_of (h ∷ hs) n (p ∷ ps) up below names = go (n == p) refl
+    where
+      go : (b : Bool) → (n == p) ≡ b → Picks Idle n (p ∷ ps) (h ∷ hs)
+      go true is =
+          let same : n ≡ p = grind (arith, is) in
+          inl (
+            sym same,
+            picks_of hs (suc n) ps up.1 (each_map (λ q. p < q) (λ q. suc n ≤ q) (λ q less. omega (arith, same, less)) ps up.0)
+            (behind_first n ps h hs (subst (λ m. Names n (m ∷ ps) (h ∷ hs)) (sym same) names)),
+          )
+      go false is =
+          let less : n < p = grind (arith, is, below.0) in
+          inr (
+            first_idle n p ps h less up.0 (names 0 h refl),
+            picks_of hs (suc n) (p ∷ ps) up (omega (arith, less), each_map (λ q. p < q) (λ q. suc n ≤ q) (λ q more. omega (arith, less, more)) ps up.0) (later n (p ∷ ps) h hs names),
+          )
+
+-- behind the last certificate there is none
+pub at_none : (hs : List Held) (p : ℕ) → length hs ≤ p → slice_get hs p ≡ None
+at_none [] p far = refl
+at_none (h ∷ hs) zero far = absurd (omega (arith, far))
+at_none (h ∷ hs) (suc p) far = at_none hs p (omega (arith, far))
 
 -- ---- the round of some places
 
@@ -57,9 +121,16 @@ module _ (s : Stored) (all : List Held) where
   rests : (round : List Execution) (h : Held) (hs : List Held) → Rests h → round_among b s.executed round (h ∷ hs) ≡ round_among b s.executed round hs
   rests round h hs none = ap (λ (x : Option Execution). round_among b s.executed (round_add round x) hs) (sym (ready_alike s all h) ∙ none)
 
+  none_there : (places : List ℕ) (round : List Execution) → Each (λ p. length all ≤ p) places → round_at s all round places ≡ round
+  none_there [] round far = refl
+  none_there (p ∷ ps) round far = ap (λ (o : Option Held). round_at s all (round_add round (ready_of s o)) ps) (at_none all p far.0) ∙ none_there ps round far.1
+
+  pub all_far : (places : List ℕ) (front : List Held) → all ≡ front ++ [] → Each (λ p. length front ≤ p) places → Each (λ p. length all ≤ p) places
+  all_far places front is far = subst (λ (hs : List Held). Each (λ p. length hs ≤ p) places) (sym (is ∙ append-nil front)) far
+
   pub picks_round : (places : List ℕ) (hs front : List Held) (round : List Execution) → all ≡ front ++ hs → Picks Rests (length front) places hs
       → round_at s all round places ≡ round_among b s.executed round hs
-  picks_round places [] front round is picks = ap (round_at s all round) picks
+  picks_round places [] front round is picks = none_there places round (all_far places front is picks)
   picks_round [] (h ∷ hs) front round is picks =
       picks_round [] hs (front ++ h ∷ []) round (is ∙ sym (append_assoc front (h ∷ []) hs)) (subst (λ n. Picks Rests n [] hs) (sym (longer front h)) picks.1)
       ∙ sym (rests round h hs picks.0)
@@ -72,12 +143,21 @@ module _ (s : Stored) (all : List Held) where
       picks_round (p ∷ ps) hs (front ++ h ∷ []) round (is ∙ sym (append_assoc front (h ∷ []) hs)) (subst (λ n. Picks Rests n (p ∷ ps) hs) (sym (longer front h)) picks.1)
       ∙ sym (rests round h hs picks.0)
 
--- the round of the pending certificates is the round of all
-pub pending_round : (s : Stored) (held : List Held) → round_at s held [] (pending_from s.executed 0 held) ≡ round_of (books_of s held) s.executed
+-- the round of ascending places is the round of all, where those at other places rest
+pub round_of_places : (s : Stored) (held : List Held) (places : List ℕ) → IsStrictlySortedBy nat_cmp places → ((i : ℕ) (h : Held) → slice_get held i ≡ Some h → Has places i ⊎ (ready_in s h ≡ None))
+    → round_at s held [] places ≡ round_of (books_of s held) s.executed
 unfolding round_of
-pending_round s held =
-    picks_round s held (pending_from s.executed 0 held) held [] [] refl
-    (picks_map (λ h. is_executed s.executed h.digest ≡ true) (λ h. ready_in s h ≡ None) (λ h is. executed_rests (books_of s []) s.executed h is) 0 (pending_from s.executed 0 held) held (pending_picks s.executed 0 held))
+round_of_places s held places sorted names =
+    picks_round s held places held [] [] refl (picks_of (λ h. ready_in s h ≡ None) held 0 places (ascends places sorted) (low places) named)
+  where
+    low : (ps : List ℕ) → Each (λ p. 0 ≤ p) ps
+    low [] = tt
+    low (p ∷ ps) = (omega arith, low ps)
+
+    named : (i : ℕ) (h : Held) → slice_get held i ≡ Some h → Has places (0 + i) ⊎ (ready_in s h ≡ None)
+    named i h at =
+        let same : i ≡ 0 + i = omega arith in
+        subst (λ n. Has places n ⊎ (ready_in s h ≡ None)) same (names i h at)
 
 -- ---- the rounds of a run
 

@@ -1,6 +1,9 @@
 pub mod Books
 pub mod Needs
+pub mod Makers
+pub mod Behind
 pub mod Steps
 pub mod Written
 pub mod Runs
 pub mod Places
+pub mod Waits

@@ -24,14 +24,6 @@ abbrev pub round_at : Stored → List Held → List Execution → List ℕ → L
 round_at s held round [] = round
 round_at s held round (place ∷ places) = round_at s held (round_add round (ready_of s (slice_get held place))) places
 
--- the places, from this one on, of the certificates that are not executed
-abbrev pub pending_from : List Execution → ℕ → List Held → List ℕ
-pending_from executed place [] = []
-pending_from executed place (h ∷ hs) =
-    if is_executed executed h.digest
-    then pending_from executed (suc place) hs
-    else place ∷ pending_from executed (suc place) hs
-
 abbrev pub left_of : Stored → Option Held → Option Left
 left_of s None = None
 left_of s (Some h) = left_in s h

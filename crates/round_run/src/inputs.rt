@@ -53,7 +53,7 @@ pub(crate) struct Named {
 #[derive(Clone, Copy, Debug)]
 pub(crate) struct Needed {
     key: ObjectKey,
-    maker: Option<Producer>,
+    pub(crate) maker: Option<Producer>,
 }
 
 /// The object that an input names.

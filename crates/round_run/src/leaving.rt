@@ -5,7 +5,7 @@ ghost use Rattle.std.specs.List.{list_all};
 ghost use Rattle.member_spec.specs.Rounds.{is_origin_done, left};
 ghost use Rattle.round_run.specs.Books.{books_of, is_left_over, left_in};
 ghost use Rattle.round_run.specs.Steps.{left_add, left_after, left_of};
-ghost use Rattle.round_run.specs.Places.{IsWaiting};
+ghost use Rattle.round_run.specs.Waits.{IsWaiting};
 
 use crate::inputs::{first_missing, has_shared_input, needs};
 use crate::waiting::Waiting;
@@ -109,16 +109,18 @@ fn left_among(
 
 /// The held certificates that are not executed although all that they wait for is, in order of holding:
 /// each with the first version that is not held, or with none where what it needs is held and it does not
-/// fit, or what it writes is not new. Looks at the certificates that are not executed.
-#[tactic(auto, using(crate::proofs::LeftOver::pending_left))]
+/// fit, or what it writes is not new. Looks at the certificates that wait for no transaction and are not
+/// executed.
+#[tactic(auto, using(crate::proofs::LeftOver::open_left))]
 pub fn left(
     alloc: Global,
     store: &Store,
     waiting: &Waiting,
     held: &[Held],
 ) -> Result<Seq<Left>, OutOfMemory>
-    requires waiting { IsWaiting store.now.executed held.now waiting.now }
+    requires waiting { IsWaiting store.now held.now waiting.now }
     ensures { IfOk result (λ all. all ≡ left (books_of store.now held.now) store.now.executed) }
 {
-    left_among(alloc, store, held, waiting.places.as_slice())
+    let places = waiting.open_places(alloc)?;
+    left_among(alloc, store, held, places.as_slice())
 }

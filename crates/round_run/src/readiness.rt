@@ -11,6 +11,7 @@ ghost use Rattle.round_run.specs.Steps.{ready_of};
 use crate::inputs::{has_shared_input, needs, present};
 use block_types::Executed;
 use chain_types::{Object, ObjectKey, owned_keys};
+use digest_core::Digest;
 use member_types::Held;
 use ptb_run::{execute, fits};
 use std::alloc::Global;
@@ -35,6 +36,13 @@ impl Model for Ran {
 }
 
 impl Ran {
+    /// The transaction's digest.
+    pub(crate) fn digest(&self) -> Digest
+        ensures { result ≡ self.now.digest }
+    {
+        self.gave.effects.tx
+    }
+
     /// The objects that it wrote.
     pub(crate) fn objects(&self) -> &[Object]
         ensures { result.now ≡ self.now.gave.objects }

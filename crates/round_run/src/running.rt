@@ -5,10 +5,10 @@ ghost use Rattle.chain_spec.specs.Shape.{is_empty_list};
 ghost use Rattle.chain_spec.specs.Words.{Each};
 ghost use Rattle.member_spec.specs.Rounds.{round_of, rounds};
 ghost use Rattle.round_run.specs.Books.{AreApart, IsSound, books_of, effects_of};
-ghost use Rattle.round_run.specs.Places.{IsWaiting};
+ghost use Rattle.round_run.specs.Waits.{IsWaiting};
 ghost use Rattle.round_run.specs.Runs.{with_executions};
 
-use crate::single::{Round, round_at};
+use crate::single::round_at;
 use crate::waiting::Waiting;
 use crate::writing::write_all;
 use effects_core::Effects;
@@ -17,22 +17,8 @@ use std::alloc::Global;
 use version_store::Store;
 use wire_bcs::{OutOfMemory, Seq};
 
-/// The next round: all held certificates that are ready in the store, in order of holding.
-#[tactic(auto, using(crate::proofs::Rounding::pending_round))]
-fn next_round(
-    alloc: Global,
-    store: &Store,
-    waiting: &Waiting,
-    held: &[Held],
-) -> Result<Round, OutOfMemory>
-    requires sound { Each IsSound held.now }
-    requires waiting { IsWaiting store.now.executed held.now waiting.now }
-    ensures { IfOk result (λ round. round ≡ round_of (books_of store.now held.now) store.now.executed) }
-{
-    round_at(alloc, store, held, waiting.places.as_slice())
-}
-
-/// Executes one round, and adds copies of its effects. True where none is ready.
+/// Executes one round, which has all held certificates that are ready, and adds copies of its effects. True
+/// where none is.
 fn run_round(
     alloc: Global,
     store: &mut Store,
@@ -42,16 +28,19 @@ fn run_round(
 ) -> Result<bool, OutOfMemory>
     requires sound { Each IsSound held.now }
     requires apart { AreApart held.now }
-    requires waiting { IsWaiting store.old.executed held.now waiting.old }
+    requires waiting { IsWaiting store.old held.now waiting.old }
     ensures last { IfOk result (λ last. last ≡ is_empty_list (round_of (books_of store.old held.now) store.old.executed)) }
     ensures written { OnOk result (store.new ≡ with_executions store.old (round_of (books_of store.old held.now) store.old.executed)) }
     ensures copied { OnOk result (effects.new ≡ effects.old ++ map effects_of (round_of (books_of store.old held.now) store.old.executed)) }
-    ensures waiting { OnOk result (IsWaiting store.new.executed held.now waiting.new) }
+    ensures waiting { OnOk result (IsWaiting store.new held.now waiting.new) }
 {
-    let round = next_round(alloc, store, waiting, held)?;
+    let places = waiting.next_places(alloc)?;
+    let round = round_at(alloc, store, held, places.as_slice())?;
     let last = round.is_empty();
     write_all(store, effects, &round)?;
-    waiting.forget(alloc, store, held)?;
+    waiting.settle(store, held, places.as_slice())?;
+    let freed = waiting.free(round.ran.as_slice())?;
+    waiting.file_each(store, held, freed.as_slice())?;
     Ok(last)
 }
 
@@ -59,7 +48,9 @@ fn run_round(
 /// (Sui Lutris; that rounds follow the order of holding is this profile's own). Each held certificate stands
 /// under its transaction's digest, and its transaction has a valid shape; no transaction is held twice. The
 /// only error is that memory is refused: part of the rounds is then executed, and nothing is promised of
-/// the store and of what waits. Each round looks at the certificates that are not executed.
+/// the store and of what waits. A round looks at the certificates of which all that they wait for is
+/// executed and that no round looked at before; behind it, those that wait for one of its transactions are
+/// looked at for what else they wait for.
 #[tactic(auto, unfolding(member_spec::specs::Rounds::rounds))]
 pub fn run(
     alloc: Global,
@@ -69,10 +60,10 @@ pub fn run(
 ) -> Result<Seq<Effects>, OutOfMemory>
     requires sound { Each IsSound held.now }
     requires apart { AreApart held.now }
-    requires waiting { IsWaiting store.old.executed held.now waiting.old }
+    requires waiting { IsWaiting store.old held.now waiting.old }
     ensures written { OnOk result (store.new ≡ with_executions store.old (rounds (books_of store.old held.now) store.old.executed)) }
     ensures effects { IfOk result (λ effects. effects ≡ map effects_of (rounds (books_of store.old held.now) store.old.executed)) }
-    ensures waiting { OnOk result (IsWaiting store.new.executed held.now waiting.new) }
+    ensures waiting { OnOk result (IsWaiting store.new held.now waiting.new) }
 {
     let mut effects = Seq::new(alloc);
     let mut left = held.len();

@@ -1,6 +1,6 @@
 use Rattle.std.proofs.Common.{◌≡◌, ◌++◌, map, length}
 use Rattle.round_run.specs.Books.{effects_of}
-use Rattle.round_run.specs.Places.{IsWaiting}
+use Rattle.round_run.specs.Waits.{IsWaiting}
 use Rattle.round_run.specs.Runs.{rounds_left}
 use Rattle.round_run.proofs.running.run.Given as goal
 
@@ -10,7 +10,7 @@ invariant-loop-left l = record {
   opening : l.store.opening ≡ l.fn.store.opening;
   executed : l.store.executed ++ rounds_left l.left l.store l.held ≡ l.fn.store.executed ++ rounds_left (length l.held) l.fn.store l.held;
   copied : l.effects ++ map effects_of (rounds_left l.left l.store l.held) ≡ map effects_of (rounds_left (length l.held) l.fn.store l.held);
-  waiting : IsWaiting l.store.executed l.held l.waiting;
+  waiting : IsWaiting l.store l.held l.waiting;
 }
 
 abbrev pub decreases-loop-left : goal.decreases-loop-left

@@ -1,21 +1,28 @@
-use Rattle.std.proofs.Common.{◌≡◌, ap, subst, sym}
-use Rattle.chain_spec.specs.Words.{Along}
-use Rattle.member_spec.specs.Versions.{Execution}
-use Rattle.version_store.specs.Stores.{Stored}
-use Rattle.round_run.specs.Books.{books_of}
-use Rattle.round_run.specs.Runs.{IsNext}
-use Rattle.round_run.proofs.Following.{round_next}
-use Rattle.round_run.proofs.Pendings.{kept_pending}
+use Rattle.std.proofs.Common.{rules, ◌≡◌, ◌++◌, [], IfOk, OnOk, map, ℕ, ◌+◌, ◌-◌, ◌*◌, ◌<◌, ◌≤◌, length, ◌/◌, ◌%◌, Bool, true, false, nat_eq, nat_lt, List, ◌∷◌, slice_index_or, slice_set, bit_and, bit_or, Fits, w8, w32, w64, Bor, MutBor}
+use Rattle.chain_spec.specs.Shape.{is_empty_list}
+use Rattle.chain_spec.specs.Words.{Each}
+use Rattle.member_spec.specs.Rounds.{round_of, rounds}
+use Rattle.round_run.specs.Books.{AreApart, IsSound, books_of, effects_of}
+use Rattle.round_run.specs.Waits.{IsWaiting}
+use Rattle.round_run.specs.Runs.{with_executions}
 use Rattle.round_run.proofs.running.run_round.Goals as goal
 
+-- src/running.rt:40:5
 pub write_all-requires : goal.write_all-requires
-write_all-requires c = record {
-  next = subst (λ xs. Along (IsNext c.args.store.now.opening) c.args.store.now.executed xs) (sym c.in_ok-round.ensures) (round_next (books_of c.args.store.now c.args.held.now) c.args.store.now.executed c.requires.apart);
-}
+write_all-requires c = ?
 
-pub returns-clause-waiting : goal.returns-clause-waiting
-returns-clause-waiting c =
-    kept_pending c.args.held.now c.args.store.now.executed c.in_ok-round.round c.write_all.new.store.executed c.args.waiting.now.places.items c.forget.new.self.places.items
-    c.requires.waiting
-    (ap (λ (s : Stored). s.executed) c.in_ok-write_all.ensures.written)
-    c.in_ok-forget.ensures
+-- src/running.rt:43:5
+pub file_each-requires : goal.file_each-requires
+file_each-requires c = ?
+
+-- src/running.rt:22:1
+pub returns-clause-last : goal.returns-clause-last
+returns-clause-last c = ?
+
+-- src/running.rt:22:1
+pub returns-clause-written : goal.returns-clause-written
+returns-clause-written c = ?
+
+-- src/running.rt:22:1
+pub returns-clause-copied : goal.returns-clause-copied
+returns-clause-copied c = ?
