@@ -157,11 +157,11 @@ unfolding ready present
 unmade_rests s h none =
     ap (λ (p : Option (List Object)). cond (not (is_executed s.executed h.digest) && may_run (books_of s []) h) (ready_on (books_of s []) s.executed h p) None)
     (not_all_found s.opening s.executed (wants_of nothing_admitted h) (made_wants s.executed h ∙ none))
-    ∙ neither (not (is_executed s.executed h.digest) && may_run (books_of s []) h)
+    ∙ neither (not (is_executed s.executed h.digest) && may_run (books_of s []) h) None refl
   where
-    neither : (b : Bool) → cond b None None ≡ None
-    neither true = refl
-    neither false = refl
+    neither : (b : Bool) (o : Option Execution) → o ≡ None → cond b o None ≡ None
+    neither true o none = none
+    neither false o none = refl
 
 -- and not left
 pub unmade_stays : (s : Stored) (h : Held) → are_made s.executed h.cert ≡ false → left_in s h ≡ None

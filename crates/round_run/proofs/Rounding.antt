@@ -85,21 +85,21 @@ module _ (Idle : Held → Type 0) where
       first : Has [] (n + 0) ⊎ Idle h → Idle h
       first (inl has) = absurd has
       first (inr idle) = idle
-  picks_of (h ∷ hs) n (p ∷ ps) up below names = go (n == p) refl
+  picks_of (h ∷ hs) n (p ∷ ps) up below names = go (n == p) refl (λ qs. picks_of hs (suc n) qs)
     where
-      go : (b : Bool) → (n == p) ≡ b → Picks Idle n (p ∷ ps) (h ∷ hs)
-      go true is =
+      go : (b : Bool) → (n == p) ≡ b → ((qs : List ℕ) → Ascends qs → Below (suc n) qs → Names (suc n) qs hs → Picks Idle (suc n) qs hs) → Picks Idle n (p ∷ ps) (h ∷ hs)
+      go true is more =
           let same : n ≡ p = grind (arith, is) in
           inl (
             sym same,
-            picks_of hs (suc n) ps up.1 (each_map (λ q. p < q) (λ q. suc n ≤ q) (λ q less. omega (arith, same, less)) ps up.0)
+            more ps up.1 (each_map (λ q. p < q) (λ q. suc n ≤ q) (λ q less. omega (arith, same, less)) ps up.0)
             (behind_first n ps h hs (subst (λ m. Names n (m ∷ ps) (h ∷ hs)) (sym same) names)),
           )
-      go false is =
+      go false is more =
           let less : n < p = grind (arith, is, below.0) in
           inr (
             first_idle n p ps h less up.0 (names 0 h refl),
-            picks_of hs (suc n) (p ∷ ps) up (omega (arith, less), each_map (λ q. p < q) (λ q. suc n ≤ q) (λ q more. omega (arith, less, more)) ps up.0) (later n (p ∷ ps) h hs names),
+            more (p ∷ ps) up (omega (arith, less), each_map (λ q. p < q) (λ q. suc n ≤ q) (λ q next. omega (arith, less, next)) ps up.0) (later n (p ∷ ps) h hs names),
           )
 
 -- behind the last certificate there is none

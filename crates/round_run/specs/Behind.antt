@@ -23,5 +23,5 @@ pub record StaysListed (lists : Lists) (left all : List Execution) (tx : Digest)
   pub out : is_executed all tx ≡ is_executed left tx
 
 -- each place that was kept behind a transaction was freed, or stays listed behind it
-abbrev pub Frees : Lists → Lists → List ℕ → List Execution → List Execution → Type 0
-Frees old new freed left all = (tx : Digest) (place : ℕ) → Has (listed old tx) place → Has freed place ⊎ StaysListed new left all tx place
+pub record Frees (old new : Lists) (freed : List ℕ) (left all : List Execution) : Type 0 where
+  pub at : (tx : Digest) (place : ℕ) → Has (listed old tx) place → Has freed place ⊎ StaysListed new left all tx place

@@ -27,8 +27,8 @@ pub data Filed (s : Stored) (loose : List ℕ) (w : Waiting) (place : ℕ) (h : 
   is_loose : Has loose place → Filed s loose w place h
 
 -- so does each held certificate
-abbrev pub IsFiled : Stored → List ℕ → List Held → Waiting → Type 0
-IsFiled s loose held w = (place : ℕ) (h : Held) → slice_get held place ≡ Some h → Filed s loose w place h
+pub record IsFiled (s : Stored) (loose : List ℕ) (held : List Held) (w : Waiting) : Type 0 where
+  pub at : (place : ℕ) (h : Held) → slice_get held place ≡ Some h → Filed s loose w place h
 
 -- and none is still to be filed
 abbrev pub IsWaiting : Stored → List Held → Waiting → Type 0

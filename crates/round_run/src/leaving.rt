@@ -111,7 +111,7 @@ fn left_among(
 /// each with the first version that is not held, or with none where what it needs is held and it does not
 /// fit, or what it writes is not new. Looks at the certificates that wait for no transaction and are not
 /// executed.
-#[tactic(auto, using(crate::proofs::LeftOver::open_left))]
+#[tactic(auto, using(crate::proofs::Filing::left_now))]
 pub fn left(
     alloc: Global,
     store: &Store,

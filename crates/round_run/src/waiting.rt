@@ -68,6 +68,7 @@ fn add_places(set: &mut BTreeSet<usize>, places: &[usize]) -> Result<(), OutOfMe
 
 impl Waiting {
     /// Nothing waits where nothing is held. Takes no memory.
+    #[tactic(auto, using(crate::proofs::Filing::nothing_waits))]
     pub fn new(alloc: Global) -> Waiting
         ensures { (s : Stored) → IsWaiting s [] result }
     {

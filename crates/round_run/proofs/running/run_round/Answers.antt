@@ -1,28 +1,44 @@
-use Rattle.std.proofs.Common.{rules, ◌≡◌, ◌++◌, [], IfOk, OnOk, map, ℕ, ◌+◌, ◌-◌, ◌*◌, ◌<◌, ◌≤◌, length, ◌/◌, ◌%◌, Bool, true, false, nat_eq, nat_lt, List, ◌∷◌, slice_index_or, slice_set, bit_and, bit_or, Fits, w8, w32, w64, Bor, MutBor}
+use Rattle.std.proofs.Common.{◌≡◌, ◌∙◌, ◌++◌, List, ap, map, subst, sym}
 use Rattle.chain_spec.specs.Shape.{is_empty_list}
-use Rattle.chain_spec.specs.Words.{Each}
-use Rattle.member_spec.specs.Rounds.{round_of, rounds}
-use Rattle.round_run.specs.Books.{AreApart, IsSound, books_of, effects_of}
-use Rattle.round_run.specs.Waits.{IsWaiting}
-use Rattle.round_run.specs.Runs.{with_executions}
+use Rattle.chain_spec.specs.Words.{Along}
+use Rattle.member_spec.specs.Versions.{Execution}
+use Rattle.round_run.specs.Books.{books_of, effects_of}
+use Rattle.round_run.specs.Runs.{IsNext, with_executions}
+use Rattle.round_run.proofs.Filing.{passes, round_now}
+use Rattle.round_run.proofs.Following.{round_next}
 use Rattle.round_run.proofs.running.run_round.Goals as goal
 
--- src/running.rt:40:5
 pub write_all-requires : goal.write_all-requires
-write_all-requires c = ?
+write_all-requires c =
+    let ran = round_now c.args.store.now c.args.held.now c.args.waiting.now c.as_slice.result.now c.in_ok-round.round c.requires.waiting c.next_places.ensures.ordered
+    (c.as_slice.ensures.value ∙ c.in_ok-places.ensures.places) c.in_ok-round.ensures in
+    record {
+      next = subst (λ (xs : List Execution). Along (IsNext c.args.store.now.opening) c.args.store.now.executed xs) (sym ran)
+          (round_next (books_of c.args.store.now c.args.held.now) c.args.store.now.executed c.requires.apart);
+    }
 
--- src/running.rt:43:5
 pub file_each-requires : goal.file_each-requires
-file_each-requires c = ?
+file_each-requires c =
+    let ran = round_now c.args.store.now c.args.held.now c.args.waiting.now c.as_slice.result.now c.in_ok-round.round c.requires.waiting c.next_places.ensures.ordered
+    (c.as_slice.ensures.value ∙ c.in_ok-places.ensures.places) c.in_ok-round.ensures in
+    passes c.args.store.now c.write_all.new.store c.args.held.now c.requires.apart c.args.waiting.now c.settle.new.self c.free.new.self c.as_slice-2.result.now c.in_ok-freed.freed c.as_slice-4.result.now
+    c.as_slice-3.result.now c.requires.waiting (c.in_ok-write_all.ensures.written ∙ ap (with_executions c.args.store.now) ran) (c.as_slice-2.ensures.value ∙ c.in_ok-places.ensures.places)
+    c.in_ok-settle.ensures.settled c.settle.ensures.behind c.free.ensures.settled (c.as_slice-3.ensures.value ∙ c.round.view_is ∙ ran) c.in_ok-freed.ensures.freed c.as_slice-4.ensures.value
 
--- src/running.rt:22:1
 pub returns-clause-last : goal.returns-clause-last
-returns-clause-last c = ?
+returns-clause-last c =
+    let ran = round_now c.args.store.now c.args.held.now c.args.waiting.now c.as_slice.result.now c.in_ok-round.round c.requires.waiting c.next_places.ensures.ordered
+    (c.as_slice.ensures.value ∙ c.in_ok-places.ensures.places) c.in_ok-round.ensures in
+    c.is_empty-last.ensures ∙ ap is_empty_list ran
 
--- src/running.rt:22:1
 pub returns-clause-written : goal.returns-clause-written
-returns-clause-written c = ?
+returns-clause-written c =
+    let ran = round_now c.args.store.now c.args.held.now c.args.waiting.now c.as_slice.result.now c.in_ok-round.round c.requires.waiting c.next_places.ensures.ordered
+    (c.as_slice.ensures.value ∙ c.in_ok-places.ensures.places) c.in_ok-round.ensures in
+    c.in_ok-write_all.ensures.written ∙ ap (with_executions c.args.store.now) ran
 
--- src/running.rt:22:1
 pub returns-clause-copied : goal.returns-clause-copied
-returns-clause-copied c = ?
+returns-clause-copied c =
+    let ran = round_now c.args.store.now c.args.held.now c.args.waiting.now c.as_slice.result.now c.in_ok-round.round c.requires.waiting c.next_places.ensures.ordered
+    (c.as_slice.ensures.value ∙ c.in_ok-places.ensures.places) c.in_ok-round.ensures in
+    c.in_ok-write_all.ensures.copied ∙ ap (λ (xs : List Execution). c.args.effects.now ++ map effects_of xs) ran
