@@ -25,9 +25,9 @@ use Rattle.chain_types.specs.declared.transactions.Transaction.{Transaction}
 use Rattle.chain_spec.specs.Keys.{objects_of}
 use Rattle.cert_rules.proofs.Whole.{few_objects}
 use Rattle.member_spec.specs.Votes.{Ballot, Cast, origin_of, vote_origins, vote_refusal}
-use Rattle.member_spec.specs.Versions.{Execution}
+use Rattle.version_store.specs.Stores.{Stored}
 use Rattle.round_run.specs.Books.{IsSound}
-use Rattle.round_run.specs.Places.{IsWaiting}
+use Rattle.round_run.specs.Waits.{IsWaiting}
 use Rattle.round_run.specs.declared.waiting.Waiting.{Waiting}
 use Rattle.member_spec.specs.Member.{Fork, Member, ballot, consumes, fork_at, fork_with, vote_for}
 use Rattle.vote_book.proofs.Free.{free_where_decided}
@@ -166,11 +166,11 @@ goes_alike (Some refusal) answer ran e = ap (λ (a : Result (Unit {0}) RunRefusa
 -- ---- what a state relies on
 
 -- a state that holds nothing
-pub nothing_held : (votes : List Cast) (held : List Held) (executed : List Execution) (w : Waiting) → AllFew votes → held ≡ [] → IsWaiting executed [] w → Stands votes held executed w
-nothing_held votes held executed w few none waits = record {
+pub nothing_held : (votes : List Cast) (held : List Held) (s : Stored) (w : Waiting) → AllFew votes → held ≡ [] → IsWaiting s [] w → Stands votes held s w
+nothing_held votes held s w few none waits = record {
   few = few;
   sound = subst (λ (hs : List Held). Each IsSound hs) (sym none) tt;
-  waits = subst (λ (hs : List Held). IsWaiting executed hs w) (sym none) waits;
+  waits = subst (λ (hs : List Held). IsWaiting s hs w) (sym none) waits;
 }
 
 pub one_more_sound : (held : List Held) (h : Held) → Each IsSound held → shape_fault h.cert.tx ≡ None → h.digest ≡ transaction_digest h.cert.tx → Each IsSound (held ++ h ∷ [])

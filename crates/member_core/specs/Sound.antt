@@ -2,10 +2,10 @@
 use Rattle.std.specs.Prelude.{◌≤◌, List, length}
 use Rattle.member_types.specs.declared.answers.Held.{Held}
 use Rattle.chain_spec.specs.Words.{Each}
-use Rattle.member_spec.specs.Versions.{Execution}
 use Rattle.member_spec.specs.Votes.{Cast}
+use Rattle.version_store.specs.Stores.{Stored}
 use Rattle.round_run.specs.Books.{IsSound}
-use Rattle.round_run.specs.Places.{IsWaiting}
+use Rattle.round_run.specs.Waits.{IsWaiting}
 use Rattle.round_run.specs.declared.waiting.Waiting.{Waiting}
 
 -- an origin for each object, of which a transaction of valid shape has 257 at most
@@ -15,8 +15,8 @@ HasFew v = length v.origins ≤ 257
 abbrev pub AllFew : List Cast → Type 0
 AllFew votes = Each HasFew votes
 
--- what holds of the votes, of the certificates held behind these executions, and of those that wait
-pub record Stands (votes : List Cast) (held : List Held) (executed : List Execution) (waiting : Waiting) : Type 0 where
+-- what holds of the votes, of the certificates held, and of those that wait over the store
+pub record Stands (votes : List Cast) (held : List Held) (store : Stored) (waiting : Waiting) : Type 0 where
   pub few : AllFew votes
   pub sound : Each IsSound held
-  pub waits : IsWaiting executed held waiting
+  pub waits : IsWaiting store held waiting

@@ -1,19 +1,19 @@
 //! The state, and the records that it takes.
 
-ghost use Rattle.std.specs.Prelude.{◌≡◌, ◌≤◌, [], List, IfOk, IfSome, OnOk, None, false, true, find, is_some, option_copied, option_map, nat_le, length, map};
+ghost use Rattle.std.specs.Prelude.{◌≡◌, ◌≤◌, [], IfOk, IfSome, OnOk, None, false, true, find, is_some, option_copied, option_map, nat_le, length, map};
 ghost use Rattle.chain_types.specs.Digests.{consumed_keys, transaction_digest};
 ghost use Rattle.chain_spec.specs.Shape.{shape_fault};
 ghost use Rattle.chain_spec.specs.Words.{first_of};
 ghost use Rattle.member_spec.specs.Checkpoints.{held_of};
 ghost use Rattle.member_spec.specs.Calls.{effects_of, newly_built, ran_items, record_limit};
 ghost use Rattle.member_spec.specs.Member.{Fork, ballot, books, consumes, fork_of, fresh, live_objects, vote_for, with_rounds};
-ghost use Rattle.member_spec.specs.Versions.{Execution, Version, object_in, version_at, versions};
+ghost use Rattle.member_spec.specs.Versions.{Version, object_in, version_at, versions};
 ghost use Rattle.member_spec.specs.Votes.{Cast, locked, vote_origins, vote_refusal};
 ghost use Rattle.member_spec.specs.Rounds.{left, rounds};
-ghost use Rattle.round_run.specs.Places.{IsWaiting};
+ghost use Rattle.round_run.specs.Waits.{IsWaiting};
 ghost use Rattle.member_core.specs.Steps.{closing, counted, holding, items_of, voted};
 ghost use Rattle.vote_rules.specs.Decide.{Decides};
-ghost use Rattle.version_store.specs.Stores.{are_new};
+ghost use Rattle.version_store.specs.Stores.{Stored, are_new};
 ghost use Rattle.member_types.specs.declared.answers.Held.{Held as H};
 
 use chain_types::{DecideRefusal, Object, ObjectKey, Transaction};
@@ -34,7 +34,7 @@ const RECORD_LIMIT: u64 = 4_194_303;
 /// Holds nothing, where memory was refused half way. Takes no memory.
 fn forget_all(alloc: Global, held: &mut HeldBook, waiting: &mut Waiting)
     ensures held { held.new ≡ [] }
-    ensures waits { (executed : List Execution) → IsWaiting executed [] waiting.new }
+    ensures waits { (s : Stored) → IsWaiting s [] waiting.new }
 {
     *held = HeldBook::new(alloc);
     *waiting = Waiting::new(alloc);
@@ -64,7 +64,7 @@ impl Model for State {
 
     ghost view = { λ s. record { records = s.records; epoch = s.epoch; opening = s.store.opening; executed = s.store.executed; votes = s.votes; held = s.held; sequence = nothing_seen; closed = s.closed; past = [] } };
 
-    ghost invariant = { λ s. Stands s.votes s.held s.store.executed s.waiting };
+    ghost invariant = { λ s. Stands s.votes s.held s.store s.waiting };
 }
 
 impl State {

@@ -6,5 +6,5 @@ use Rattle.member_core.proofs.state.State.fresh.Goals as goal
 
 pub invariant_of-result : goal.invariant_of-result
 invariant_of-result c =
-    nothing_held c.new.result c.new-2.result c.in_ok-store.store.executed c.new-3.result (subst (λ (votes : List Cast). AllFew votes) (sym c.new.ensures) tt) c.new-2.ensures
-    (c.new-3.ensures c.in_ok-store.store.executed)
+    nothing_held c.new.result c.new-2.result c.in_ok-store.store c.new-3.result (subst (λ (votes : List Cast). AllFew votes) (sym c.new.ensures) tt) c.new-2.ensures
+    (c.new-3.ensures c.in_ok-store.store)
