@@ -6,11 +6,12 @@ ghost use Rattle.chain_spec.specs.Shape.{shape_fault};
 ghost use Rattle.chain_spec.specs.Words.{first_of};
 ghost use Rattle.member_spec.specs.Checkpoints.{held_of};
 ghost use Rattle.member_spec.specs.Calls.{effects_of, newly_built, ran_items, record_limit};
-ghost use Rattle.member_spec.specs.Member.{Fork, ballot, books, consumes, fork_of, fresh, live_objects, vote_for, with_rounds};
+ghost use Rattle.member_spec.specs.Member.{Fork, ballot, books, built as built_by, consumes, fork_of, fresh, live_objects, vote_for, with_rounds};
 ghost use Rattle.member_spec.specs.Versions.{Version, object_in, version_at, versions};
 ghost use Rattle.member_spec.specs.Votes.{Cast, locked, vote_origins, vote_refusal};
 ghost use Rattle.member_spec.specs.Rounds.{left, rounds};
 ghost use Rattle.round_run.specs.Waits.{IsWaiting};
+ghost use Rattle.member_core.specs.Built.{transactions_in};
 ghost use Rattle.member_core.specs.Steps.{closing, counted, holding, items_of, voted};
 ghost use Rattle.vote_rules.specs.Decide.{Decides};
 ghost use Rattle.version_store.specs.Stores.{Stored, are_new};
@@ -104,6 +105,32 @@ impl State {
         ensures { result ≡ self.now.epoch }
     {
         self.epoch
+    }
+
+    /// The number of entries of the epoch's sequence that the member has seen: none yet. Takes no memory.
+    pub fn seen(&self) -> u64
+        ensures { result ≡ self.now.sequence.number }
+    {
+        let _ = &self.records;
+        0
+    }
+
+    /// The number of checkpoints that the member has built: none yet, since it sees no entry. Takes no memory.
+    #[tactic(auto, unfolding(member_spec::specs::Member::built))]
+    pub fn checkpoints(&self) -> u64
+        ensures { result ≡ length (built_by self.now) }
+    {
+        let _ = &self.records;
+        0
+    }
+
+    /// The number of transactions in the checkpoints that the member has built. Takes no memory.
+    #[tactic(auto, unfolding(member_spec::specs::Member::built))]
+    pub fn checkpointed(&self) -> u64
+        ensures { result ≡ transactions_in (built_by self.now) }
+    {
+        let _ = &self.records;
+        0
     }
 
     /// Whether the member closed the epoch. Takes no memory.

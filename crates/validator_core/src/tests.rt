@@ -286,6 +286,21 @@ fn a_run_is_taken_back(rt: HostRuntime) -> Result<(), Fail> {
     Ok(())
 }
 
+/// How many entries it has seen behind those records, how many checkpoints it has built, and how many transactions
+/// stand in them.
+fn counts_behind_run(alloc: Global) -> Result<(u64, u64, u64), Fail> {
+    let kept = hold_and_run(alloc)?;
+    let member = member_of(alloc, &kept)?;
+    Ok((member.seen(), member.checkpoints(), member.checkpointed()))
+}
+
+#[test]
+fn a_run_is_no_entry(rt: HostRuntime) -> Result<(), Fail> {
+    let counts = counts_behind_run(rt.alloc())?;
+    assert_eq!(rt; counts, (0, 0, 0));
+    Ok(())
+}
+
 /// Why a member does not start from this record twice.
 fn refusal(alloc: Global, record: &[u8]) -> Result<Option<StartRefusal>, OutOfMemory> {
     let mut kept = Seq::new(alloc);

@@ -4,7 +4,7 @@ ghost use Rattle.std.specs.Prelude.{◌≡◌, ◌<◌, ◌≤◌, ◌^◌, [], 
 ghost use Rattle.outside.specs.Causes.{Rose};
 ghost use Rattle.chain_types.specs.Digests.{digest_of_object};
 ghost use Rattle.member_spec.specs.Versions.{Version, version_at, versions as versions_of};
-ghost use Rattle.member_spec.specs.Member.{live_objects};
+ghost use Rattle.member_spec.specs.Member.{built as built_by, live_objects};
 ghost use Rattle.member_spec.specs.Calls.{closes, holds, runs, votes};
 ghost use Rattle.member_types.specs.declared.refusals.HoldRefusal.TheVariants as no_hold;
 ghost use Rattle.member_types.specs.declared.refusals.VoteRefusal.TheVariants as no_vote;
@@ -12,6 +12,7 @@ ghost use Rattle.member_types.specs.declared.refusals.CloseRefusal.TheVariants a
 ghost use Rattle.member_types.specs.declared.refusals.RunRefusal.TheVariants as no_run;
 ghost use Rattle.validator_core.specs.Calls.{Closes, Holds, Runs, Votes, close_ended, close_said, hold_ended, hold_said, run_ended, run_said, vote_ended, vote_said};
 ghost use Rattle.member_core.specs.Answers.{rules_for};
+ghost use Rattle.member_core.specs.Built.{transactions_in};
 ghost use Rattle.version_store.specs.Stores.{are_new};
 ghost use Rattle.validator_core.specs.Starts.{Starts, started};
 ghost use Rattle.validator_core.specs.Seats.{Behaves, Fell, Journaled, bare_rules, due_at, rules_of_seat};
@@ -92,6 +93,27 @@ impl Validator {
         ensures { result ≡ self.now.state.epoch }
     {
         self.state.epoch()
+    }
+
+    /// The number of entries of the epoch's sequence that the member has seen. Takes no memory.
+    pub fn seen(&self) -> u64
+        ensures { result ≡ self.now.state.sequence.number }
+    {
+        self.state.seen()
+    }
+
+    /// The number of checkpoints that the member has built, over all its epochs. Takes no memory.
+    pub fn checkpoints(&self) -> u64
+        ensures { result ≡ length (built_by self.now.state) }
+    {
+        self.state.checkpoints()
+    }
+
+    /// The number of transactions in the checkpoints that the member has built. Takes no memory.
+    pub fn checkpointed(&self) -> u64
+        ensures { result ≡ transactions_in (built_by self.now.state) }
+    {
+        self.state.checkpointed()
     }
 
     /// The digest of a held version; none exactly where the version is not held. Takes no memory.

@@ -7,3 +7,4 @@ pub mod Kept
 pub mod Restarts
 pub mod Votes
 pub mod Stays
+pub mod Sums

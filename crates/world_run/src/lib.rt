@@ -5,6 +5,7 @@
 //! the stakes and the opening, what is known under names, what was said and formed, and the members as they
 //! stand. Each step is the definition's step of that scene, with its lines, and the keeper's lists grow by the
 //! record that the line leaves. [`PlainForms`] are the forms of line that are run: those that need no sequence.
+//! [`World::sums`] tells what a member has built and holds, in numbers.
 //! Each name, vote and version is found by a map, so a line costs time in proportion to its own words.
 #![tactic(auto)]
 
@@ -15,8 +16,13 @@ mod opening;
 mod quiet;
 mod restart;
 mod step;
+mod sums;
 mod votes;
 mod world;
 
 pub use forms::PlainForms;
+pub use sums::Sums;
 pub use world::{World, WorldFault, WorldRefusal};
+
+#[cfg(test)]
+mod tests;

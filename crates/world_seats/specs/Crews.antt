@@ -1,5 +1,5 @@
 -- The members of a committee as they stand. Source: this profile.
-use Rattle.std.specs.Prelude.{◌≡◌, ℕ, Bool, List, Option, Some, None, Result, Ok, Err, map, slice_get}
+use Rattle.std.specs.Prelude.{◌≡◌, ℕ, Bool, List, Option, Some, None, Result, Ok, Err, map, slice_get, if◌then◌else◌}
 use Rattle.chain_types.specs.declared.objects.Object.{Object}
 use Rattle.member_spec.specs.Member.{live_objects}
 use Rattle.validator_core.specs.Seats.{Seat}
@@ -27,6 +27,11 @@ ArePlaced stakes posts = (m : ℕ) → IsPlacedPost stakes m (slice_get posts m)
 
 abbrev pub honest_flags : List Post → List Bool
 honest_flags posts = map (λ (p : Post). p.honest) posts
+
+-- the member, where it is honest and up
+abbrev pub honest_at : Option Post → Option Seat
+honest_at None = None
+honest_at (Some p) = if p.honest then p.standing else None
 
 -- what is shown of a member that stands: its epoch, and its live objects
 abbrev pub shown_of : Seat → ℕ × List Object

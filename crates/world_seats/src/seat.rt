@@ -1,12 +1,12 @@
 //! One member, its stop included.
 
-ghost use Rattle.std.specs.Prelude.{◌≡◌, ◌<◌, ◌≤◌, IfOk, IsErrOf, None, Some, if◌then◌else◌};
+ghost use Rattle.std.specs.Prelude.{◌≡◌, ◌<◌, ◌≤◌, IfOk, IsErrOf, None, Some, if◌then◌else◌, option_copied};
 ghost use Rattle.outside.specs.Causes.{Rose};
 ghost use Rattle.member_core.specs.Answers.{rules_for};
 ghost use Rattle.world_scene.specs.Posts.{arming, reached_post, record_left};
 ghost use Rattle.world_scene.specs.Steps.{held_by};
 ghost use Rattle.world_seats.specs.declared.reply.SeatFault.TheVariants as faults;
-ghost use Rattle.world_seats.specs.Crews.{IsPlaced, PostAfter, fallen};
+ghost use Rattle.world_seats.specs.Crews.{IsPlaced, PostAfter, fallen, honest_at};
 ghost use Rattle.world_seats.specs.Replies.{Leaves, Replies};
 
 use crate::reply::{Reply, SeatFault};
@@ -66,6 +66,17 @@ impl Seat {
         ensures { self.new ≡ fallen self.old }
     {
         self.validator = None;
+    }
+
+    /// The member, where it is honest and up. Takes no memory.
+    pub(crate) fn honest(&self) -> Option<&Validator>
+        ensures { option_copied result ≡ honest_at (Some self.now) }
+    {
+        if self.honest {
+            self.validator.as_ref()
+        } else {
+            None
+        }
     }
 
     /// The digest that the member has of a version, where it is honest, up and holds it. Takes no memory.

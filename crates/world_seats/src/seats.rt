@@ -1,6 +1,6 @@
 //! The members of a committee.
 
-ghost use Rattle.std.specs.Prelude.{◌≡◌, ◌≤◌, ℕ, [], IfOk, IsErrOf, OnErr, OnOk, option_map, length, slice_get, true};
+ghost use Rattle.std.specs.Prelude.{◌≡◌, ◌≤◌, ℕ, [], IfOk, IsErrOf, OnErr, OnOk, option_copied, option_map, length, slice_get, true};
 ghost use Rattle.outside.specs.Causes.{Rose};
 ghost use Rattle.outside.specs.Lists.{KeepsJournals};
 ghost use Rattle.member_core.specs.Answers.{rules_for};
@@ -10,7 +10,7 @@ ghost use Rattle.world_scene.specs.Posts.{armed_at, new_posts, posts_behind, rea
 ghost use Rattle.world_scene.specs.Steps.{held_in, standing_at};
 ghost use Rattle.world_seats.specs.declared.reply.SeatFault.TheVariants as faults;
 ghost use Rattle.world_seats.specs.declared.reply.RestartFault.TheVariants as restart_faults;
-ghost use Rattle.world_seats.specs.Crews.{PostsAfter, fallen_at, honest_flags, shown_of};
+ghost use Rattle.world_seats.specs.Crews.{PostsAfter, fallen_at, honest_at, honest_flags, shown_of};
 ghost use Rattle.world_seats.specs.Replies.{Leaves, Replies, SaysHold, SaysRun, SaysVote};
 ghost use Rattle.world_seats.specs.Restarts.{HasBadRecord, Restarted};
 
@@ -277,6 +277,16 @@ impl Seats {
                 place,
             }),
             Err(StartRefusal::OutOfMemory) => Err(RestartFault::OutOfMemory),
+        }
+    }
+
+    /// A member that is honest and up; none where it is faulty, down or not there. Takes no memory.
+    pub fn honest(&self, member: u32) -> Option<&Validator>
+        ensures { option_copied result ≡ honest_at (slice_get self.now.posts member) }
+    {
+        match self.seats.get(member as usize) {
+            Some(seat) => seat.honest(),
+            None => None,
         }
     }
 

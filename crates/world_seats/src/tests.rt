@@ -52,6 +52,18 @@ fn knows_its_members(rt: HostRuntime) -> Result<(), Fail> {
 }
 
 #[test]
+fn tells_who_is_honest(rt: HostRuntime) -> Result<(), Fail> {
+    let seats = seats(rt.alloc())?;
+    let honest = (
+        seats.honest(0).is_some(),
+        seats.honest(1).is_some(),
+        seats.honest(2).is_some(),
+    );
+    assert_eq!(rt; honest, (true, false, false));
+    Ok(())
+}
+
+#[test]
 fn a_call_without_a_record_passes_a_stop(rt: HostRuntime) -> Result<(), Fail> {
     let alloc = rt.alloc();
     let mut seats = seats(alloc)?;
