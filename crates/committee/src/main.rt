@@ -6,9 +6,13 @@
 #![tactic(auto)]
 
 mod event;
+#[cfg(test)]
+mod journal_tests;
 mod keeping;
 mod run;
 mod stop;
+#[cfg(test)]
+mod stop_tests;
 mod streams;
 #[cfg(test)]
 mod tests;

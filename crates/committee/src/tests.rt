@@ -28,7 +28,7 @@ const RESTART: &str = "member 1 honest\ncoin g0 alice 10000\n\
 tx t1 alice 0 g0@1 2000 a:bob transfer(gas,i0)\nvote 0 t1\nrestart 0\n";
 
 /// Runs the words `run` over a text, and gives the status.
-fn run_over<K: Sink, D: Keeper>(
+pub(crate) fn run_over<K: Sink, D: Keeper>(
     alloc: Global,
     text: &str,
     piece: u32,
@@ -45,8 +45,8 @@ fn run_over<K: Sink, D: Keeper>(
     Ok(committee(alloc, words.as_slice(), &mut source, sink, keeper))
 }
 
-/// Runs a text over a sink and a keeper that fail at these calls, and tests the status and what was written.
-fn expect_run(
+/// Runs a text over a source, a sink and a keeper that fail at these calls, and tests the status and what was written.
+pub(crate) fn expect_run(
     rt: &impl Abort,
     alloc: Global,
     text: &str,
@@ -67,10 +67,10 @@ fn expect_run(
     Ok(())
 }
 
-/// The first lines of the report, as many events' as asked for.
-fn front(alloc: Global, count: u64) -> Result<String, Fail> {
+/// The first lines of a report, as many events' as asked for.
+pub(crate) fn front(alloc: Global, lines: &[&str], count: u64) -> Result<String, Fail> {
     let mut text = String::new(alloc);
-    for (place, line) in LINES.iter().enumerate() {
+    for (place, line) in lines.iter().enumerate() {
         if (place as u64) < count {
             text.push_str(line)?;
         }
@@ -80,7 +80,7 @@ fn front(alloc: Global, count: u64) -> Result<String, Fail> {
 
 #[test]
 fn runs_a_transfer(rt: HostRuntime) -> Result<(), Fail> {
-    let report = front(rt.alloc(), 6)?;
+    let report = front(rt.alloc(), LINES.as_slice(), 6)?;
     expect_run(&rt, rt.alloc(), PATH, [0, 0, 0], 0, report.as_str())?;
     expect_run(
         &rt,
@@ -99,12 +99,12 @@ fn each_failing_call_has_its_status(rt: HostRuntime) -> Result<(), Fail> {
         expect_run(&rt, rt.alloc(), PATH, [read, 0, 0], 4, "")?;
     }
     for write in 1..7 {
-        let written = front(rt.alloc(), write - 1)?;
+        let written = front(rt.alloc(), LINES.as_slice(), write - 1)?;
         expect_run(&rt, rt.alloc(), PATH, [0, write, 0], 5, written.as_str())?;
     }
     // the records of the vote, the certificate and the run
     for (keep, events) in [(1, 1), (2, 3), (3, 4)] {
-        let written = front(rt.alloc(), events)?;
+        let written = front(rt.alloc(), LINES.as_slice(), events)?;
         expect_run(&rt, rt.alloc(), PATH, [0, 0, keep], 6, written.as_str())?;
     }
     Ok(())
@@ -122,7 +122,11 @@ fn expect_narrow(
     let mut keeper = fresh_keeper(alloc, &[])?;
     let ended = run_over(alloc, PATH, 7, 0, &mut sink, &mut keeper)?;
     assert_eq!(rt; ended, status, "at {most}");
-    assert_eq!(rt; sink.bytes(), front(alloc, events)?.as_bytes(), "at {most}");
+    assert_eq!(rt;
+        sink.bytes(),
+        front(alloc, LINES.as_slice(), events)?.as_bytes(),
+        "at {most}"
+    );
     Ok(())
 }
 

@@ -6,9 +6,11 @@ ghost use Rattle.outside.specs.Causes.{Rose};
 ghost use Rattle.outside.specs.Lists.{HasMembers, KeepsJournals};
 ghost use Rattle.report_text.specs.declared.lines.Line.TheVariants as report_line;
 ghost use Rattle.report_text.specs.Text.{text_of};
+ghost use Rattle.quorum_core.specs.Committee.{committee_of};
 ghost use Rattle.schedule_text.specs.declared.words.Schedule.{Schedule};
 ghost use Rattle.schedule_text.specs.Schedule.{Refused};
 ghost use Rattle.world_scene.specs.Scene.{new_scene};
+ghost use Rattle.world_spec.specs.Setting.{stakes_of};
 ghost use Rattle.world_run.specs.Trusts.{trust_by};
 ghost use Rattle.committee.specs.Journals.{AreEmpty, StartsAlong};
 ghost use Rattle.committee.specs.Laws.{SceneLaws};
@@ -30,20 +32,21 @@ use tx_making::MakesSeals;
 use wire_bcs::OutOfMemory;
 use world_run::{PlainForms, World, WorldRefusal};
 
-/// Opens the world of the set-up. It has at most 64 members. Without a committee there is none; a
-/// schedule that was read has one.
+/// Opens the world of a set-up whose members are a committee, as those of each schedule that is read are. It has at
+/// most 64 members.
 #[tactic(auto, using(crate::proofs::Opening::few_posts))]
 fn open_world<S: MakesSeals>(
     alloc: Global,
     schedule: &Schedule,
     sealer: &S,
 ) -> Result<World, OutOfMemory>
+    requires committee { committee_of (stakes_of schedule.now.setup) ≡ Ok (stakes_of schedule.now.setup) }
     ensures opened { IfOk result (λ w. w ≡ new_scene (setting_in (trust_by (S.made sealer.now) (S.accepts sealer.now)) schedule.now) schedule.now.setup) }
     ensures few { IfOk result (λ w. length w.posts ≤ 64) }
 {
     match World::new(alloc, schedule.setup.as_slice(), sealer) {
         Ok(world) => Ok(world),
-        Err(WorldRefusal::NoCommittee) => Err(OutOfMemory),
+        Err(WorldRefusal::NoCommittee) => unreachable!(),
         Err(WorldRefusal::OutOfMemory) => Err(OutOfMemory),
     }
 }
@@ -59,6 +62,7 @@ fn run_schedule<S: MakesSeals, K: Sink, D: Keeper>(
 ) -> Result<(), Stop>
     requires room { 64 ≤ D.width keeper.old }
     requires empty { AreEmpty (D.lists keeper.old) }
+    requires committee { committee_of (stakes_of schedule.now.setup) ≡ Ok (stakes_of schedule.now.setup) }
     requires plain { IsPlain schedule.now }
     requires laws { SceneLaws (trust_by (S.made sealer.now) (S.accepts sealer.now)) }
     requires along { StartsAlong (setting_in (trust_by (S.made sealer.now) (S.accepts sealer.now)) schedule.now) schedule.now.events }
@@ -93,7 +97,7 @@ fn refuse<K: Sink>(alloc: Global, line: u64, cause: u8, sink: &mut K) -> Result<
 }
 
 /// Runs a text: writes the report of the schedule that it is, or the line that says why it is none.
-#[tactic(auto, using(crate::proofs::Plain::plain_read, crate::proofs::Whole::nothing_done, crate::proofs::Whole::schedule_cut, crate::proofs::Whole::refusal_cut, crate::proofs::Whole::keeps_same))]
+#[tactic(auto, using(crate::proofs::Plain::plain_read, crate::proofs::Members::read_committee, crate::proofs::Whole::nothing_done, crate::proofs::Whole::schedule_cut, crate::proofs::Whole::refusal_cut, crate::proofs::Whole::keeps_same))]
 pub(crate) fn run_text<S: MakesSeals, K: Sink, D: Keeper>(
     alloc: Global,
     text: &[u8],
