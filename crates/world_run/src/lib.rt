@@ -20,3 +20,6 @@ mod world;
 
 pub use forms::PlainForms;
 pub use world::{World, WorldFault, WorldRefusal};
+
+#[cfg(test)]
+mod tests;
