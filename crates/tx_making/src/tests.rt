@@ -135,6 +135,19 @@ fn made_by(alloc: Global, directory: &Directory, line: &TxLine<'_>) -> Option<(D
 }
 
 /// The digest and the seal of the transaction of ann's line with these words.
+fn made_in(
+    alloc: Global,
+    directory: &Directory,
+    spoiled: bool,
+    inputs: &Seq<InputWord>,
+    commands: &Seq<CommandWord>,
+) -> Result<Option<(Digest, Digest)>, OutOfMemory> {
+    let gas = coin_word(alloc, false)?;
+    let line = line(spoiled, &gas, inputs, commands);
+    Ok(made_by(alloc, directory, &line))
+}
+
+/// Those behind the set-up.
 fn made(
     alloc: Global,
     spoiled: bool,
@@ -142,9 +155,7 @@ fn made(
     commands: &Seq<CommandWord>,
 ) -> Result<Option<(Digest, Digest)>, OutOfMemory> {
     let directory = set_up(alloc)?;
-    let gas = coin_word(alloc, false)?;
-    let line = line(spoiled, &gas, inputs, commands);
-    Ok(made_by(alloc, &directory, &line))
+    made_in(alloc, &directory, spoiled, inputs, commands)
 }
 
 /// The digest alone.
@@ -194,12 +205,17 @@ fn input_words(alloc: Global) -> Result<Seq<InputWord>, OutOfMemory> {
     Ok(words)
 }
 
+/// The digest of the transaction with those.
+fn with_inputs(alloc: Global) -> Result<Option<Digest>, OutOfMemory> {
+    let inputs = input_words(alloc)?;
+    let commands = Seq::new(alloc);
+    Ok(digest_of(made(alloc, false, &inputs, &commands)?))
+}
+
 #[test]
 fn makes_inputs(rt: HostRuntime) -> Result<(), Fail> {
-    let alloc = rt.alloc();
-    let words = input_words(alloc)?;
-    let made = made(alloc, false, &words, &Seq::new(alloc))?;
-    assert_eq!(rt; digest_of(made), Some(Digest(WITH_INPUTS)));
+    let digest = with_inputs(rt.alloc())?;
+    assert_eq!(rt; digest, Some(Digest(WITH_INPUTS)));
     Ok(())
 }
 
@@ -234,23 +250,44 @@ fn command_words(alloc: Global) -> Result<Seq<CommandWord>, OutOfMemory> {
     Ok(words)
 }
 
+/// The digest of the transaction with those.
+fn with_commands(alloc: Global) -> Result<Option<Digest>, OutOfMemory> {
+    let inputs = Seq::new(alloc);
+    let commands = command_words(alloc)?;
+    Ok(digest_of(made(alloc, false, &inputs, &commands)?))
+}
+
 #[test]
 fn makes_commands(rt: HostRuntime) -> Result<(), Fail> {
-    let alloc = rt.alloc();
-    let words = command_words(alloc)?;
-    let made = made(alloc, false, &Seq::new(alloc), &words)?;
-    assert_eq!(rt; digest_of(made), Some(Digest(WITH_COMMANDS)));
+    let digest = with_commands(rt.alloc())?;
+    assert_eq!(rt; digest, Some(Digest(WITH_COMMANDS)));
+    Ok(())
+}
+
+/// The digest and the seal of the transaction with neither.
+fn empty(alloc: Global, spoiled: bool) -> Result<Option<(Digest, Digest)>, OutOfMemory> {
+    let inputs = Seq::new(alloc);
+    let commands = Seq::new(alloc);
+    made(alloc, spoiled, &inputs, &commands)
+}
+
+/// Ann's seal with the last bit of its first byte turned.
+fn spoiled_seal() -> Digest {
+    let mut bytes = SEAL;
+    bytes[0] = 146;
+    Digest(bytes)
+}
+
+#[test]
+fn seals_by_the_sender(rt: HostRuntime) -> Result<(), Fail> {
+    let made = empty(rt.alloc(), false)?;
+    assert_eq!(rt; made, Some((Digest(EMPTY), Digest(SEAL))));
     Ok(())
 }
 
 #[test]
 fn spoils_the_seal(rt: HostRuntime) -> Result<(), Fail> {
-    let alloc = rt.alloc();
-    let mut spoiled = SEAL;
-    spoiled[0] ^= 1;
-    let good = made(alloc, false, &Seq::new(alloc), &Seq::new(alloc))?;
-    let bad = made(alloc, true, &Seq::new(alloc), &Seq::new(alloc))?;
-    assert_eq!(rt; good, Some((Digest(EMPTY), Digest(SEAL))));
-    assert_eq!(rt; bad, Some((Digest(EMPTY), Digest(spoiled))));
+    let made = empty(rt.alloc(), true)?;
+    assert_eq!(rt; made, Some((Digest(EMPTY), spoiled_seal())));
     Ok(())
 }

@@ -82,10 +82,7 @@ fn says_why_there_is_no_vote(rt: HostRuntime) -> Result<(), Fail> {
 }
 
 /// The ending for an answer to a certificate.
-fn hold_ending(
-    alloc: Global,
-    answer: &Result<bool, HoldRefusal>,
-) -> Result<SendText, OutOfMemory> {
+fn hold_ending(alloc: Global, answer: &Result<bool, HoldRefusal>) -> Result<SendText, OutOfMemory> {
     let directory = set_up(alloc)?;
     hold_text(&directory, answer)
 }
@@ -116,7 +113,10 @@ fn says_why_it_is_not_held(rt: HostRuntime) -> Result<(), Fail> {
         total: 4,
     };
     let text = held(rt.alloc(), &Err(HoldRefusal::Cert(short)))?;
-    assert_eq!(rt; text.as_slice(), "raw 0 hold: short stake 2 of 4\n".as_bytes());
+    assert_eq!(rt;
+        text.as_slice(),
+        "raw 0 hold: short stake 2 of 4\n".as_bytes()
+    );
     Ok(())
 }
 
@@ -220,7 +220,8 @@ fn ran_text(alloc: Global) -> Result<Seq<u8>, OutOfMemory> {
 #[test]
 fn says_what_a_run_did(rt: HostRuntime) -> Result<(), Fail> {
     let text = ran_text(rt.alloc())?;
-    let wanted = "run 2: executed 1\n  ? aborted at 1 code 2 v5 gas 1000\n  ? absent c@4\n  checkpoint 3: ? last\n";
+    let wanted =
+        "run 2: executed 1\n  ? aborted at 1 code 2 v5 gas 1000\n  ? absent c@4\n  checkpoint 3: ? last\n";
     assert_eq!(rt; text.as_slice(), wanted.as_bytes());
     Ok(())
 }

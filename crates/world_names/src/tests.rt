@@ -101,7 +101,11 @@ fn coin_word(alloc: Global) -> Result<RefWord, OutOfMemory> {
 }
 
 /// The line of t, with this gas, these inputs and no commands.
-fn line<'a>(gas: &'a RefWord, inputs: &'a Seq<InputWord>, commands: &'a Seq<CommandWord>) -> TxLine<'a> {
+fn line<'a>(
+    gas: &'a RefWord,
+    inputs: &'a Seq<InputWord>,
+    commands: &'a Seq<CommandWord>,
+) -> TxLine<'a> {
     TxLine {
         name: b"t".as_slice(),
         sender: b"bob".as_slice(),
@@ -140,75 +144,200 @@ fn behind(alloc: Global) -> Result<Directory, OutOfMemory> {
     Ok(directory)
 }
 
+/// The set-up's object of this number.
+fn thing(number: u64) -> ObjectId {
+    ObjectId(genesis_id(number))
+}
+
+/// What t creates with this number.
+fn created(number: u64) -> ObjectId {
+    ObjectId(created_id(&TX, number))
+}
+
+/// The id that the directory has under the name.
+fn id_of(directory: &Directory, name: &[u8]) -> Option<ObjectId> {
+    directory.thing_id(name)
+}
+
+/// The digest that the directory has under the name.
+fn digest_of(directory: &Directory, name: &[u8]) -> Digest {
+    directory.digest_named(name)
+}
+
 /// Whether the directory says this name of the object.
 fn is_named(directory: &Directory, id: &ObjectId, name: &[u8]) -> Result<bool, OutOfMemory> {
     Ok(directory.object_name(id)?.as_slice() == name)
 }
 
+/// Whether the directory says this name of t.
+fn is_tx(directory: &Directory, name: &[u8]) -> bool {
+    directory.tx_name(&TX) == name
+}
+
+/// Whether the directory knows the user of this name.
+fn is_user(directory: &Directory, name: &[u8]) -> bool {
+    let address = Address(address_of(name));
+    directory.address_name(&address) == name
+}
+
+/// Whether the counter and the set-up's user are known by their names.
+fn set_up_names(directory: &Directory) -> Result<(bool, bool), OutOfMemory> {
+    let counter = is_named(directory, &thing(1), b"n".as_slice())?;
+    Ok((counter, is_user(directory, b"ann".as_slice())))
+}
+
+/// The ids that the set-up has under the names of the counter and of a user.
+fn set_up_ids(directory: &Directory) -> (Option<ObjectId>, Option<ObjectId>) {
+    let counter = id_of(directory, b"n".as_slice());
+    (counter, id_of(directory, b"ann".as_slice()))
+}
+
+/// Those of the set-up.
+fn ids_of_set_up(alloc: Global) -> Result<(Option<ObjectId>, Option<ObjectId>), OutOfMemory> {
+    let directory = set_up(alloc)?;
+    Ok(set_up_ids(&directory))
+}
+
+/// Whether the set-up says its names.
+fn names_of_set_up(alloc: Global) -> Result<(bool, bool), OutOfMemory> {
+    let directory = set_up(alloc)?;
+    set_up_names(&directory)
+}
+
 #[test]
 fn names_the_set_up(rt: HostRuntime) -> Result<(), Fail> {
-    let directory = set_up(rt.alloc())?;
-    let counter = ObjectId(genesis_id(1));
-    assert_eq!(rt; directory.thing_id(b"n".as_slice()), Some(counter));
-    assert_eq!(rt; directory.thing_id(b"ann".as_slice()), None);
-    assert!(rt; is_named(&directory, &counter, b"n".as_slice())?);
-    let ann = Address(address_of(b"ann".as_slice()));
-    assert_eq!(rt; directory.address_name(&ann), b"ann".as_slice());
+    let ids = ids_of_set_up(rt.alloc())?;
+    assert_eq!(rt; ids, (Some(thing(1)), None));
+    let names = names_of_set_up(rt.alloc())?;
+    assert_eq!(rt; names, (true, true));
     Ok(())
+}
+
+/// The digests that are known under t and u.
+fn digests(directory: &Directory) -> (Digest, Digest) {
+    let made = digest_of(directory, b"t".as_slice());
+    (made, digest_of(directory, b"u".as_slice()))
+}
+
+/// Whether the names of t and of the user of its line are known.
+fn line_names(directory: &Directory) -> (bool, bool) {
+    let made = is_tx(directory, b"t".as_slice());
+    (made, is_user(directory, b"eve".as_slice()))
+}
+
+/// Those behind the line.
+fn digests_behind(alloc: Global) -> Result<(Digest, Digest), OutOfMemory> {
+    let directory = behind(alloc)?;
+    Ok(digests(&directory))
+}
+
+/// Those behind the line.
+fn names_behind(alloc: Global) -> Result<(bool, bool), OutOfMemory> {
+    let directory = behind(alloc)?;
+    Ok(line_names(&directory))
 }
 
 #[test]
 fn names_a_transaction(rt: HostRuntime) -> Result<(), Fail> {
-    let directory = behind(rt.alloc())?;
-    assert_eq!(rt; directory.tx_name(&TX), b"t".as_slice());
-    assert_eq!(rt; directory.digest_named(b"t".as_slice()), TX);
-    assert_eq!(rt; directory.digest_named(b"u".as_slice()), Digest([0; 32]));
-    let eve = Address(address_of(b"eve".as_slice()));
-    assert_eq!(rt; directory.address_name(&eve), b"eve".as_slice());
+    let digests = digests_behind(rt.alloc())?;
+    assert_eq!(rt; digests, (TX, Digest([0; 32])));
+    let names = names_behind(rt.alloc())?;
+    assert_eq!(rt; names, (true, true));
     Ok(())
 }
 
-/// Whether the directory says this name of the version 12 of what the transaction created with this number.
+/// Whether the directory says this name of the version 12 of what t created with this number.
 fn says(directory: &Directory, number: u64, name: &[u8]) -> Result<bool, OutOfMemory> {
     let key = ObjectKey {
-        id: ObjectId(created_id(&TX, number)),
+        id: created(number),
         version: 12,
     };
     Ok(directory.key_name(&key)?.as_slice() == name)
 }
 
+/// Whether what t creates has a name by its numbers, which go up to 1.
+fn created_names(directory: &Directory) -> Result<(bool, bool), OutOfMemory> {
+    let last = says(directory, 1, b"t.1@12".as_slice())?;
+    let none = says(directory, 2, b"?@12".as_slice())?;
+    Ok((last, none))
+}
+
+/// Those behind the line.
+fn created_behind(alloc: Global) -> Result<(bool, bool), OutOfMemory> {
+    let directory = behind(alloc)?;
+    created_names(&directory)
+}
+
 #[test]
 fn names_a_created_version(rt: HostRuntime) -> Result<(), Fail> {
-    let directory = behind(rt.alloc())?;
-    assert!(rt; says(&directory, 1, b"t.1@12".as_slice())?);
-    assert!(rt; says(&directory, 2, b"?@12".as_slice())?);
+    let names = created_behind(rt.alloc())?;
+    assert_eq!(rt; names, (true, true));
     Ok(())
 }
 
-fn object(id: Digest) -> Object {
+/// An object of this id.
+fn object(id: ObjectId) -> Object {
     Object {
-        id: ObjectId(id),
+        id,
         version: 1,
         owner: Owner::Immutable,
         content: Content::Limit { value: 0 },
     }
 }
 
-/// Whether objects with these ids are shown in this order.
-fn shows(directory: &Directory, ids: [Digest; 3], order: [Digest; 3]) -> Result<bool, OutOfMemory> {
-    let objects = [object(ids[0]), object(ids[1]), object(ids[2])];
-    let shown = directory.shown_order(objects.as_slice())?;
-    let wanted = [object(order[0]), object(order[1]), object(order[2])];
-    Ok(shown.as_slice() == wanted.as_slice())
+/// An object whose id nothing draws.
+fn other(byte: u8) -> Object {
+    object(ObjectId(Digest([byte; 32])))
+}
+
+/// Whether these objects are shown in this order.
+fn shows(directory: &Directory, objects: &[Object], order: &[Object]) -> Result<bool, OutOfMemory> {
+    Ok(directory.shown_order(objects)?.as_slice() == order)
+}
+
+/// Whether the set-up's object comes first, then what was created, then the other.
+fn shows_groups(directory: &Directory) -> Result<bool, OutOfMemory> {
+    let (coin, made, other) = (object(thing(0)), object(created(1)), other(1));
+    shows(
+        directory,
+        [other, made, coin].as_slice(),
+        [coin, made, other].as_slice(),
+    )
+}
+
+/// Whether what was created comes by its number.
+fn shows_numbers(directory: &Directory) -> Result<bool, OutOfMemory> {
+    let (first, second) = (object(created(0)), object(created(1)));
+    shows(
+        directory,
+        [second, first].as_slice(),
+        [first, second].as_slice(),
+    )
+}
+
+/// Whether the others stand as they are listed.
+fn shows_others(directory: &Directory) -> Result<bool, OutOfMemory> {
+    let (one, two) = (other(1), other(2));
+    shows(directory, [two, one].as_slice(), [two, one].as_slice())
+}
+
+/// Whether objects are shown in these three orders.
+fn orders(directory: &Directory) -> Result<(bool, bool, bool), OutOfMemory> {
+    let groups = shows_groups(directory)?;
+    let numbers = shows_numbers(directory)?;
+    let others = shows_others(directory)?;
+    Ok((groups, numbers, others))
+}
+
+/// Those behind the line.
+fn orders_behind(alloc: Global) -> Result<(bool, bool, bool), OutOfMemory> {
+    let directory = behind(alloc)?;
+    orders(&directory)
 }
 
 #[test]
 fn shows_in_order(rt: HostRuntime) -> Result<(), Fail> {
-    let directory = behind(rt.alloc())?;
-    let (first, second) = (created_id(&TX, 0), created_id(&TX, 1));
-    let (coin, one, two) = (genesis_id(0), Digest([1; 32]), Digest([2; 32]));
-    assert!(rt; shows(&directory, [one, second, coin], [coin, second, one])?);
-    assert!(rt; shows(&directory, [second, first, coin], [coin, first, second])?);
-    assert!(rt; shows(&directory, [two, first, one], [first, two, one])?);
+    let orders = orders_behind(rt.alloc())?;
+    assert_eq!(rt; orders, (true, true, true));
     Ok(())
 }
