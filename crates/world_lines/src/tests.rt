@@ -6,7 +6,7 @@ use checkpoint_core::{Checkpoint, Item};
 use digest_core::{Digest, genesis_id};
 use effects_core::{Effects, Status};
 use member_types::{HoldRefusal, Left, Ran, RunRefusal, VoteRefusal};
-use report_text::{Line, SendText, VoteText, print_line};
+use report_text::{CertText, Line, print_line};
 use schedule_text::Setup;
 use std::alloc::Global;
 use std::test::Fail;
@@ -36,110 +36,20 @@ fn coin_key(version: u64) -> ObjectKey {
     }
 }
 
-/// The text of the line.
-fn printed(alloc: Global, line: &Line) -> Result<Seq<u8>, OutOfMemory> {
-    let mut out = Seq::new(alloc);
-    print_line(line, &mut out)?;
-    Ok(out)
+/// A list of one line.
+fn one(alloc: Global, line: Line) -> Result<Seq<Line>, OutOfMemory> {
+    let mut lines = Seq::new(alloc);
+    lines.push(line)?;
+    Ok(lines)
 }
 
 /// The text of the lines.
-fn all_printed(alloc: Global, lines: &Seq<Line>) -> Result<Seq<u8>, OutOfMemory> {
+fn printed(alloc: Global, lines: &Seq<Line>) -> Result<Seq<u8>, OutOfMemory> {
     let mut out = Seq::new(alloc);
     for line in lines.as_slice() {
         print_line(line, &mut out)?;
     }
     Ok(out)
-}
-
-/// The ending for a refusal of a vote.
-fn vote_ending(alloc: Global, refusal: VoteRefusal) -> Result<VoteText, OutOfMemory> {
-    let directory = set_up(alloc)?;
-    vote_text(&directory, &Err(refusal))
-}
-
-/// The line of a refusal of a vote.
-fn vote_line(alloc: Global, refusal: VoteRefusal) -> Result<Line, OutOfMemory> {
-    let text = vote_ending(alloc, refusal)?;
-    Ok(Line::RawVote { member: 0, text })
-}
-
-/// The text for a refusal of a vote.
-fn refused(alloc: Global, refusal: VoteRefusal) -> Result<Seq<u8>, OutOfMemory> {
-    let line = vote_line(alloc, refusal)?;
-    printed(alloc, &line)
-}
-
-#[test]
-fn says_why_there_is_no_vote(rt: HostRuntime) -> Result<(), Fail> {
-    let refusal = VoteRefusal::Locked {
-        key: coin_key(3),
-        by: Digest([9; 32]),
-    };
-    let text = refused(rt.alloc(), refusal)?;
-    assert_eq!(rt; text.as_slice(), "raw 0 vote: locked c@3 by ?\n".as_bytes());
-    Ok(())
-}
-
-/// The ending for an answer to a certificate.
-fn hold_ending(alloc: Global, answer: &Result<bool, HoldRefusal>) -> Result<SendText, OutOfMemory> {
-    let directory = set_up(alloc)?;
-    hold_text(&directory, answer)
-}
-
-/// The line of an answer to a certificate.
-fn hold_line(alloc: Global, answer: &Result<bool, HoldRefusal>) -> Result<Line, OutOfMemory> {
-    let text = hold_ending(alloc, answer)?;
-    Ok(Line::RawHold { member: 0, text })
-}
-
-/// The text for an answer to a certificate.
-fn held(alloc: Global, answer: &Result<bool, HoldRefusal>) -> Result<Seq<u8>, OutOfMemory> {
-    let line = hold_line(alloc, answer)?;
-    printed(alloc, &line)
-}
-
-#[test]
-fn says_that_it_is_held(rt: HostRuntime) -> Result<(), Fail> {
-    let text = held(rt.alloc(), &Ok(true))?;
-    assert_eq!(rt; text.as_slice(), "raw 0 hold: held\n".as_bytes());
-    Ok(())
-}
-
-#[test]
-fn says_why_it_is_not_held(rt: HostRuntime) -> Result<(), Fail> {
-    let short = CertRefusal::ShortStake {
-        weight: 2,
-        total: 4,
-    };
-    let text = held(rt.alloc(), &Err(HoldRefusal::Cert(short)))?;
-    assert_eq!(rt;
-        text.as_slice(),
-        "raw 0 hold: short stake 2 of 4\n".as_bytes()
-    );
-    Ok(())
-}
-
-/// The line of what collecting the votes of the members 0 and 2 gave.
-fn cert_line(alloc: Global, collected: Collected) -> Result<Line, OutOfMemory> {
-    let tx = Seq::from_slice(alloc, b"t".as_slice())?;
-    let text = cert_text(alloc, [0, 2].as_slice(), &collected)?;
-    Ok(Line::Cert { tx, text })
-}
-
-/// The text for what collecting the votes of the members 0 and 2 gave.
-fn collected(alloc: Global, collected: Collected) -> Result<Seq<u8>, OutOfMemory> {
-    let line = cert_line(alloc, collected)?;
-    printed(alloc, &line)
-}
-
-#[test]
-fn says_what_collecting_gave(rt: HostRuntime) -> Result<(), Fail> {
-    let formed = collected(rt.alloc(), Collected::Whole)?;
-    assert_eq!(rt; formed.as_slice(), "cert t: formed by 0 2\n".as_bytes());
-    let differ = collected(rt.alloc(), Collected::Differ { a: 0, b: 2 })?;
-    assert_eq!(rt; differ.as_slice(), "cert t: differ 0 2\n".as_bytes());
-    Ok(())
 }
 
 /// What was executed: one transaction, which was aborted.
@@ -199,55 +109,111 @@ fn ran(alloc: Global) -> Result<Ran, OutOfMemory> {
     })
 }
 
-/// The lines of the answer to a run.
-fn lines_of(alloc: Global, answer: &Result<Ran, RunRefusal>) -> Result<Seq<Line>, OutOfMemory> {
+/// What is said of: an answer, or an object that is shown.
+#[derive(Clone, Copy)]
+enum Said {
+    NoVote(VoteRefusal),
+    Hold(Result<bool, HoldRefusal>),
+    Ran,
+    NoRun(RunRefusal),
+    Shown(Object),
+}
+
+/// The lines of a refusal of a vote.
+fn vote_lines(directory: &Directory, refusal: VoteRefusal) -> Result<Seq<Line>, OutOfMemory> {
+    let text = vote_text(directory, &Err(refusal))?;
+    one(directory.allocator(), Line::RawVote { member: 0, text })
+}
+
+/// The lines of an answer to a certificate.
+fn hold_lines(
+    directory: &Directory,
+    answer: &Result<bool, HoldRefusal>,
+) -> Result<Seq<Line>, OutOfMemory> {
+    let text = hold_text(directory, answer)?;
+    one(directory.allocator(), Line::RawHold { member: 0, text })
+}
+
+/// The lines of a run that executed one transaction, left one and built one checkpoint.
+fn ran_lines(directory: &Directory) -> Result<Seq<Line>, OutOfMemory> {
+    let answer = Ok(ran(directory.allocator())?);
+    run_lines(directory, 2, &answer)
+}
+
+/// The lines of a run that did not come to be.
+fn no_run_lines(directory: &Directory, refusal: RunRefusal) -> Result<Seq<Line>, OutOfMemory> {
+    run_lines(directory, 2, &Err(refusal))
+}
+
+/// The lines of what is said.
+fn lines_in(directory: &Directory, said: Said) -> Result<Seq<Line>, OutOfMemory> {
+    match said {
+        Said::NoVote(refusal) => vote_lines(directory, refusal),
+        Said::Hold(answer) => hold_lines(directory, &answer),
+        Said::Ran => ran_lines(directory),
+        Said::NoRun(refusal) => no_run_lines(directory, refusal),
+        Said::Shown(object) => shown_lines(directory, 0, 1, [object].as_slice()),
+    }
+}
+
+/// The lines of what is said over the directory.
+fn lines_of(alloc: Global, said: Said) -> Result<Seq<Line>, OutOfMemory> {
     let directory = set_up(alloc)?;
-    run_lines(&directory, 2, answer)
+    lines_in(&directory, said)
 }
 
-/// The text of the answer to a run.
-fn run_text(alloc: Global, answer: &Result<Ran, RunRefusal>) -> Result<Seq<u8>, OutOfMemory> {
-    let lines = lines_of(alloc, answer)?;
-    all_printed(alloc, &lines)
+/// The text of what is said.
+fn text_of(alloc: Global, said: Said) -> Result<Seq<u8>, OutOfMemory> {
+    let lines = lines_of(alloc, said)?;
+    printed(alloc, &lines)
 }
 
-/// The text of that run.
-fn ran_text(alloc: Global) -> Result<Seq<u8>, OutOfMemory> {
-    let answer = Ok(ran(alloc)?);
-    run_text(alloc, &answer)
+#[test]
+fn says_why_there_is_no_vote(rt: HostRuntime) -> Result<(), Fail> {
+    let refusal = VoteRefusal::Locked {
+        key: coin_key(3),
+        by: Digest([9; 32]),
+    };
+    let text = text_of(rt.alloc(), Said::NoVote(refusal))?;
+    assert_eq!(rt; text.as_slice(), "raw 0 vote: locked c@3 by ?\n".as_bytes());
+    Ok(())
+}
+
+#[test]
+fn says_that_it_is_held(rt: HostRuntime) -> Result<(), Fail> {
+    let text = text_of(rt.alloc(), Said::Hold(Ok(true)))?;
+    assert_eq!(rt; text.as_slice(), "raw 0 hold: held\n".as_bytes());
+    Ok(())
+}
+
+#[test]
+fn says_why_it_is_not_held(rt: HostRuntime) -> Result<(), Fail> {
+    let short = HoldRefusal::Cert(CertRefusal::ShortStake {
+        weight: 2,
+        total: 4,
+    });
+    let text = text_of(rt.alloc(), Said::Hold(Err(short)))?;
+    assert_eq!(rt;
+        text.as_slice(),
+        "raw 0 hold: short stake 2 of 4\n".as_bytes()
+    );
+    Ok(())
 }
 
 #[test]
 fn says_what_a_run_did(rt: HostRuntime) -> Result<(), Fail> {
-    let text = ran_text(rt.alloc())?;
+    let text = text_of(rt.alloc(), Said::Ran)?;
     let wanted =
         "run 2: executed 1\n  ? aborted at 1 code 2 v5 gas 1000\n  ? absent c@4\n  checkpoint 3: ? last\n";
     assert_eq!(rt; text.as_slice(), wanted.as_bytes());
     Ok(())
 }
 
-/// The text of a run that did not come to be.
-fn no_run_text(alloc: Global, refusal: RunRefusal) -> Result<Seq<u8>, OutOfMemory> {
-    run_text(alloc, &Err(refusal))
-}
-
 #[test]
 fn says_that_a_member_is_down(rt: HostRuntime) -> Result<(), Fail> {
-    let text = no_run_text(rt.alloc(), RunRefusal::Down)?;
+    let text = text_of(rt.alloc(), Said::NoRun(RunRefusal::Down))?;
     assert_eq!(rt; text.as_slice(), "run 2: down\n".as_bytes());
     Ok(())
-}
-
-/// The lines that show an object.
-fn object_lines(alloc: Global, object: Object) -> Result<Seq<Line>, OutOfMemory> {
-    let directory = set_up(alloc)?;
-    shown_lines(&directory, 0, 1, [object].as_slice())
-}
-
-/// The text that shows an object.
-fn shown(alloc: Global, object: Object) -> Result<Seq<u8>, OutOfMemory> {
-    let lines = object_lines(alloc, object)?;
-    all_printed(alloc, &lines)
 }
 
 #[test]
@@ -260,8 +226,35 @@ fn shows_objects(rt: HostRuntime) -> Result<(), Fail> {
             vault: ObjectId(genesis_id(0)),
         },
     };
-    let text = shown(rt.alloc(), key)?;
+    let text = text_of(rt.alloc(), Said::Shown(key))?;
     let wanted = "show 0: epoch 1 objects 1\n  ? v2 frozen key c\n";
     assert_eq!(rt; text.as_slice(), wanted.as_bytes());
+    Ok(())
+}
+
+/// The lines of a certificate with this ending.
+fn cert_lines(alloc: Global, text: CertText) -> Result<Seq<Line>, OutOfMemory> {
+    let tx = Seq::from_slice(alloc, b"t".as_slice())?;
+    one(alloc, Line::Cert { tx, text })
+}
+
+/// The lines of what collecting the votes of the members 0 and 2 gave.
+fn collected_lines(alloc: Global, collected: Collected) -> Result<Seq<Line>, OutOfMemory> {
+    let text = cert_text(alloc, [0, 2].as_slice(), &collected)?;
+    cert_lines(alloc, text)
+}
+
+/// The text for what collecting the votes of the members 0 and 2 gave.
+fn collected(alloc: Global, collected: Collected) -> Result<Seq<u8>, OutOfMemory> {
+    let lines = collected_lines(alloc, collected)?;
+    printed(alloc, &lines)
+}
+
+#[test]
+fn says_what_collecting_gave(rt: HostRuntime) -> Result<(), Fail> {
+    let formed = collected(rt.alloc(), Collected::Whole)?;
+    assert_eq!(rt; formed.as_slice(), "cert t: formed by 0 2\n".as_bytes());
+    let differ = collected(rt.alloc(), Collected::Differ { a: 0, b: 2 })?;
+    assert_eq!(rt; differ.as_slice(), "cert t: differ 0 2\n".as_bytes());
     Ok(())
 }
