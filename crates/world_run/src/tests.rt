@@ -26,7 +26,7 @@ fn sealer() -> KeyedSeal {
     KeyedSeal::new([7; 32])
 }
 
-/// The world of a set-up, if it opens one.
+/// The world of a set-up.
 fn opened(alloc: Global, setup: &Seq<Setup>) -> Result<World, WorldRefusal> {
     World::new(alloc, setup.as_slice(), &sealer())
 }
@@ -167,12 +167,5 @@ fn a_bad_record_ends_the_run(rt: HostRuntime) -> Result<(), Fail> {
         place: 0,
     };
     assert_eq!(rt; ended, Err(bad));
-    Ok(())
-}
-
-#[test]
-fn no_member_is_no_committee(rt: HostRuntime) -> Result<(), Fail> {
-    let opened = opened(rt.alloc(), &Seq::new(rt.alloc()));
-    assert!(rt; matches!(opened, Err(WorldRefusal::NoCommittee)));
     Ok(())
 }
