@@ -186,63 +186,35 @@ fn set_up_names(directory: &Directory) -> Result<(bool, bool), OutOfMemory> {
     Ok((counter, is_user(directory, b"ann".as_slice())))
 }
 
-/// The ids that the set-up has under the names of the counter and of a user.
-fn set_up_ids(directory: &Directory) -> (Option<ObjectId>, Option<ObjectId>) {
-    let counter = id_of(directory, b"n".as_slice());
-    (counter, id_of(directory, b"ann".as_slice()))
+/// What the directory of the set-up says.
+#[derive(Clone, Copy)]
+struct SetUp {
+    /// The ids under the names of the counter and of the user.
+    ids: (Option<ObjectId>, Option<ObjectId>),
+    names: (bool, bool),
 }
 
-/// Those of the set-up.
-fn ids_of_set_up(alloc: Global) -> Result<(Option<ObjectId>, Option<ObjectId>), OutOfMemory> {
-    let directory = set_up(alloc)?;
-    Ok(set_up_ids(&directory))
+impl SetUp {
+    fn of(directory: &Directory) -> Result<SetUp, OutOfMemory> {
+        let counter = id_of(directory, b"n".as_slice());
+        Ok(SetUp {
+            ids: (counter, id_of(directory, b"ann".as_slice())),
+            names: set_up_names(directory)?,
+        })
+    }
 }
 
-/// Whether the set-up says its names.
-fn names_of_set_up(alloc: Global) -> Result<(bool, bool), OutOfMemory> {
+/// What the set-up says.
+fn set_up_said(alloc: Global) -> Result<SetUp, OutOfMemory> {
     let directory = set_up(alloc)?;
-    set_up_names(&directory)
+    SetUp::of(&directory)
 }
 
 #[test]
 fn names_the_set_up(rt: HostRuntime) -> Result<(), Fail> {
-    let ids = ids_of_set_up(rt.alloc())?;
-    assert_eq!(rt; ids, (Some(thing(1)), None));
-    let names = names_of_set_up(rt.alloc())?;
-    assert_eq!(rt; names, (true, true));
-    Ok(())
-}
-
-/// The digests that are known under t and u.
-fn digests(directory: &Directory) -> (Digest, Digest) {
-    let made = digest_of(directory, b"t".as_slice());
-    (made, digest_of(directory, b"u".as_slice()))
-}
-
-/// Whether the names of t and of the user of its line are known.
-fn line_names(directory: &Directory) -> (bool, bool) {
-    let made = is_tx(directory, b"t".as_slice());
-    (made, is_user(directory, b"eve".as_slice()))
-}
-
-/// Those behind the line.
-fn digests_behind(alloc: Global) -> Result<(Digest, Digest), OutOfMemory> {
-    let directory = behind(alloc)?;
-    Ok(digests(&directory))
-}
-
-/// Those behind the line.
-fn names_behind(alloc: Global) -> Result<(bool, bool), OutOfMemory> {
-    let directory = behind(alloc)?;
-    Ok(line_names(&directory))
-}
-
-#[test]
-fn names_a_transaction(rt: HostRuntime) -> Result<(), Fail> {
-    let digests = digests_behind(rt.alloc())?;
-    assert_eq!(rt; digests, (TX, Digest([0; 32])));
-    let names = names_behind(rt.alloc())?;
-    assert_eq!(rt; names, (true, true));
+    let said = set_up_said(rt.alloc())?;
+    assert_eq!(rt; said.ids, (Some(thing(1)), None));
+    assert_eq!(rt; said.names, (true, true));
     Ok(())
 }
 
@@ -260,19 +232,6 @@ fn created_names(directory: &Directory) -> Result<(bool, bool), OutOfMemory> {
     let last = says(directory, 1, b"t.1@12".as_slice())?;
     let none = says(directory, 2, b"?@12".as_slice())?;
     Ok((last, none))
-}
-
-/// Those behind the line.
-fn created_behind(alloc: Global) -> Result<(bool, bool), OutOfMemory> {
-    let directory = behind(alloc)?;
-    created_names(&directory)
-}
-
-#[test]
-fn names_a_created_version(rt: HostRuntime) -> Result<(), Fail> {
-    let names = created_behind(rt.alloc())?;
-    assert_eq!(rt; names, (true, true));
-    Ok(())
 }
 
 /// An object of this id.
@@ -329,15 +288,62 @@ fn orders(directory: &Directory) -> Result<(bool, bool, bool), OutOfMemory> {
     Ok((groups, numbers, others))
 }
 
-/// Those behind the line.
-fn orders_behind(alloc: Global) -> Result<(bool, bool, bool), OutOfMemory> {
+/// The digests that are known under t and u.
+fn digests(directory: &Directory) -> (Digest, Digest) {
+    let made = digest_of(directory, b"t".as_slice());
+    (made, digest_of(directory, b"u".as_slice()))
+}
+
+/// Whether t and the user of its line are known by their names.
+fn line_names(directory: &Directory) -> (bool, bool) {
+    let made = is_tx(directory, b"t".as_slice());
+    (made, is_user(directory, b"eve".as_slice()))
+}
+
+/// What the directory says behind the line.
+#[derive(Clone, Copy)]
+struct Said {
+    digests: (Digest, Digest),
+    names: (bool, bool),
+    created: (bool, bool),
+    orders: (bool, bool, bool),
+}
+
+impl Said {
+    fn of(directory: &Directory) -> Result<Said, OutOfMemory> {
+        Ok(Said {
+            digests: digests(directory),
+            names: line_names(directory),
+            created: created_names(directory)?,
+            orders: orders(directory)?,
+        })
+    }
+}
+
+/// What is said behind the line.
+fn said_behind(alloc: Global) -> Result<Said, OutOfMemory> {
     let directory = behind(alloc)?;
-    orders(&directory)
+    Said::of(&directory)
+}
+
+#[test]
+fn names_a_transaction(rt: HostRuntime) -> Result<(), Fail> {
+    let said = said_behind(rt.alloc())?;
+    assert_eq!(rt; said.digests, (TX, Digest([0; 32])));
+    assert_eq!(rt; said.names, (true, true));
+    Ok(())
+}
+
+#[test]
+fn names_a_created_version(rt: HostRuntime) -> Result<(), Fail> {
+    let said = said_behind(rt.alloc())?;
+    assert_eq!(rt; said.created, (true, true));
+    Ok(())
 }
 
 #[test]
 fn shows_in_order(rt: HostRuntime) -> Result<(), Fail> {
-    let orders = orders_behind(rt.alloc())?;
-    assert_eq!(rt; orders, (true, true, true));
+    let said = said_behind(rt.alloc())?;
+    assert_eq!(rt; said.orders, (true, true, true));
     Ok(())
 }
