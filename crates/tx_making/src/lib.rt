@@ -15,3 +15,6 @@ mod short;
 pub use inputs::HeldDigests;
 pub use law::made_in_a_world;
 pub use making::{MakeRefusal, MakesSeals, make};
+
+#[cfg(test)]
+mod tests;

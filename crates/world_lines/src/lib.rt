@@ -20,3 +20,6 @@ pub use runs::{checkpoint_line, effects_line, left_line, run_lines};
 pub use shows::{object_line, shown_lines};
 pub use votes::vote_text;
 pub use words::{object_text, origin_names, tx_names, tx_text, version_text};
+
+#[cfg(test)]
+mod tests;

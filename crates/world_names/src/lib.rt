@@ -19,3 +19,6 @@ pub use directory::Directory;
 pub use law::names_of_a_world;
 pub use line::TxLine;
 pub use rows::MadeTx;
+
+#[cfg(test)]
+mod tests;

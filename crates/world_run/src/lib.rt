@@ -25,4 +25,6 @@ pub use sums::Sums;
 pub use world::{World, WorldFault, WorldRefusal};
 
 #[cfg(test)]
+mod sums_tests;
+#[cfg(test)]
 mod tests;
