@@ -23,13 +23,13 @@ use Rattle.round_run.specs.Steps.{left_after, round_at}
 use Rattle.round_run.specs.Makers.{are_made, awaited_of}
 use Rattle.round_run.specs.Places.{is_pending, placed, placed_after, settled_after}
 use Rattle.round_run.specs.Runs.{with_executions}
-use Rattle.round_run.specs.Waits.{Filed, IsBehind, IsFiled, IsWaiting, KeepsPlaces, was_run, comes_next, has_settled, is_behind, is_loose}
+use Rattle.round_run.specs.Waits.{Filed, IsBehind, IsFiled, IsWaiting, KeepsPlaces, was_run, is_unadmitted, comes_next, has_settled, is_behind, is_loose}
 use Rattle.round_run.proofs.Clashing.{looked_at, round_in, stays_unready}
 use Rattle.round_run.proofs.Following.{executed_join}
-use Rattle.round_run.proofs.LeftOver.{executed_stays, left_of_places}
+use Rattle.round_run.proofs.LeftOver.{executed_stays, left_of_places, shared_stays}
 use Rattle.round_run.proofs.Rounding.{round_of_places}
 use Rattle.round_run.proofs.Making.{made_later, makes_not, unmade_rests, unmade_stays, waits_for, waits_for_none}
-use Rattle.round_run.proofs.Readying.{executed_rests}
+use Rattle.round_run.proofs.Readying.{executed_rests, shared_rests}
 
 -- ---- sets of places
 
@@ -86,6 +86,7 @@ module _ (executed : List Execution) (held : List Held) where
 -- what is kept stays
 pub filed_kept : (s : Stored) (loose : List ℕ) (old new : Waiting) (place : ℕ) (h : Held) → KeepsPlaces old new → Filed s loose old place h → Filed s loose new place h
 filed_kept s loose old new place h kept (was_run is) = was_run is
+filed_kept s loose old new place h kept (is_unadmitted shared) = is_unadmitted shared
 filed_kept s loose old new place h kept (comes_next has made) = comes_next (kept.next place has) made
 filed_kept s loose old new place h kept (has_settled has made none) = has_settled (kept.settled place has) made none
 filed_kept s loose old new place h kept (is_behind b) = is_behind (record { maker = b.maker; listed = kept.listed b.maker place b.listed; makes = b.makes; first = b.first })
@@ -126,6 +127,7 @@ one_filed s held p ps old new kept here filed = record { at = λ place h is. go 
   where
     more : (n : ℕ) (h : Held) → Filed s [] new n h → Filed s ps new n h
     more n h (was_run is) = was_run is
+    more n h (is_unadmitted shared) = is_unadmitted shared
     more n h (comes_next has made) = comes_next has made
     more n h (has_settled has made none) = has_settled has made none
     more n h (is_behind b) = is_behind b
@@ -133,6 +135,7 @@ one_filed s held p ps old new kept here filed = record { at = λ place h is. go 
 
     go : (place : ℕ) (h : Held) → slice_get held place ≡ Some h → Filed s (p ∷ ps) new place h → Filed s ps new place h
     go place h at (was_run is) = was_run is
+    go place h at (is_unadmitted shared) = is_unadmitted shared
     go place h at (comes_next has made) = comes_next has made
     go place h at (has_settled has made none) = has_settled has made none
     go place h at (is_behind b) = is_behind b
@@ -185,6 +188,7 @@ module _ (s : Stored) (held : List Held) (apart : AreApart held) (old mid new : 
 
       go : (place : ℕ) (h : Held) → slice_get held place ≡ Some h → Filed s [] old place h → Filed after freed new place h
       go place h at (was_run ran) = was_run (executed_join s.executed round h.digest ∙ ap (λ c. c || is_executed round h.digest) ran)
+      go place h at (is_unadmitted shared) = is_unadmitted shared
       go place h at (comes_next has made) = settles place h at has made is (looked_at s held apart place h at made)
       go place h at (has_settled has made none) =
           has_settled (subst (λ ks. Has ks place) (sym is) (settled_keeps after.executed held old.next.keys old.settled.keys place has))
@@ -200,6 +204,7 @@ next_or_rests s held w filed place h at = go (filed.at place h at)
   where
     go : Filed s [] w place h → Has w.next.keys place ⊎ (ready_in s h ≡ None)
     go (was_run ran) = inr (executed_rests (books_of s []) s.executed h ran)
+    go (is_unadmitted shared) = inr (shared_rests s h shared)
     go (comes_next has made) = inl has
     go (has_settled has made none) = inr none
     go (is_behind b) = inr (unmade_rests s h (makes_not s.executed h.cert b.maker b.makes b.first))
@@ -212,6 +217,7 @@ open_or_stays s held w filed place h at = go (filed.at place h at)
   where
     go : Filed s [] w place h → Has (placed_after (placed_after [] w.settled.keys) w.next.keys) place ⊎ (left_in s h ≡ None)
     go (was_run ran) = inr (executed_stays s h ran)
+    go (is_unadmitted shared) = inr (shared_stays s h shared)
     go (comes_next has made) = inl (after_has w.next.keys (placed_after [] w.settled.keys) place has)
     go (has_settled has made none) = inl (after_keeps w.next.keys (placed_after [] w.settled.keys) place (after_has w.settled.keys [] place has))
     go (is_behind b) = inr (unmade_stays s h (makes_not s.executed h.cert b.maker b.makes b.first))

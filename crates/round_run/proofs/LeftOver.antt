@@ -124,6 +124,16 @@ executed_stays s h is =
     left_so s h
     ∙ ap (λ (e : Bool). where_true (not e && not (has_shared_input h.cert.tx) && list_all (is_origin_done s.executed) h.cert.origins) (let l : Left = record { tx = h.digest; key = first_of (missing_in (held_in s)) (needs_of h.cert) } in l)) is
 
+-- while nothing is admitted, one that names a shared object is not left
+pub shared_stays : (s : Stored) (h : Held) → has_shared_input h.cert.tx ≡ true → left_in s h ≡ None
+shared_stays s h shared = left_so s h ∙ go (is_executed s.executed h.digest) (has_shared_input h.cert.tx) shared
+  where
+    go : (e sh : Bool) → sh ≡ true
+        → where_true (not e && not sh && list_all (is_origin_done s.executed) h.cert.origins) (let l : Left = record { tx = h.digest; key = first_of (missing_in (held_in s)) (needs_of h.cert) } in l) ≡ None
+    go true sh is = refl
+    go false true is = refl
+    go false false is = absurd (cc)
+
 -- those left of ascending places are all that are left, where those at other places are not
 pub left_of_places : (s : Stored) (held : List Held) (places : List ℕ) → IsStrictlySortedBy nat_cmp places → ((i : ℕ) (h : Held) → slice_get held i ≡ Some h → Has places i ⊎ (left_in s h ≡ None))
     → left_after s held [] places ≡ left (books_of s held) s.executed

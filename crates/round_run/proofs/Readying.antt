@@ -66,3 +66,12 @@ ready_step s h = go (is_executed s.executed h.digest) (has_shared_input h.cert.t
     go true sh = refl
     go false true = refl
     go false false = refl
+
+-- while nothing is admitted, one that names a shared object is not
+pub shared_rests : (s : Stored) (h : Held) → has_shared_input h.cert.tx ≡ true → ready_in s h ≡ None
+shared_rests s h shared = ready_step s h ∙ go (is_executed s.executed h.digest) (has_shared_input h.cert.tx) shared
+  where
+    go : (e sh : Bool) → sh ≡ true → cond (e || sh) None (ready_on (books_of s []) s.executed h (present_after (held_in s) [] (needs_of h.cert))) ≡ None
+    go true sh is = refl
+    go false true is = refl
+    go false false is = absurd (cc)

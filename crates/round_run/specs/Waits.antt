@@ -3,6 +3,7 @@ use Rattle.std.specs.Prelude.{◌≡◌, ℕ, true, false, List, [], Some, None,
 use Rattle.digest_core.specs.declared.Digest.{Digest}
 use Rattle.member_types.specs.declared.answers.Held.{Held}
 use Rattle.chain_spec.specs.Words.{Has}
+use Rattle.chain_spec.specs.Keys.{has_shared_input}
 use Rattle.member_spec.specs.Versions.{Execution, is_executed}
 use Rattle.version_store.specs.Stores.{Stored}
 use Rattle.round_run.specs.declared.waiting.Waiting.{Waiting}
@@ -17,10 +18,11 @@ pub record IsBehind (executed : List Execution) (w : Waiting) (place : ℕ) (h :
   pub makes : Makes maker h.cert
   pub first : is_executed executed maker ≡ false
 
--- A certificate is executed; or all that makes what it needs is executed, and the next round looks at it, or it is
+-- A certificate is executed; or it names a shared object, and nothing is admitted; or all that makes what it needs is executed, and the next round looks at it, or it is
 -- not ready and stays; or it is behind a transaction that is not executed; or its place is one of those still to be filed.
 pub data Filed (s : Stored) (loose : List ℕ) (w : Waiting) (place : ℕ) (h : Held) : Type 0 where
   was_run : is_executed s.executed h.digest ≡ true → Filed s loose w place h
+  is_unadmitted : has_shared_input h.cert.tx ≡ true → Filed s loose w place h
   comes_next : Has w.next.keys place → are_made s.executed h.cert ≡ true → Filed s loose w place h
   has_settled : Has w.settled.keys place → are_made s.executed h.cert ≡ true → ready_in s h ≡ None → Filed s loose w place h
   is_behind : IsBehind s.executed w place h → Filed s loose w place h

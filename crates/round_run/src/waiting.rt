@@ -12,6 +12,7 @@ ghost use Rattle.round_run.specs.Places.{is_pending, placed_after, settled_after
 ghost use Rattle.round_run.specs.Waits.{Filed, IsFiled, IsWaiting, KeepsPlaces};
 
 use crate::behind::{add_behind, take_behind};
+use crate::inputs::has_shared_input;
 use crate::makers::awaited;
 use crate::readiness::Ran;
 use digest_core::Digest;
@@ -80,12 +81,16 @@ impl Waiting {
         }
     }
 
-    /// Keeps a held certificate's place behind the first transaction that it waits for, or for the next round.
+    /// Keeps a held certificate's place behind the first transaction that it waits for, or for the next round. One
+    /// that names a shared object cannot run, since nothing is admitted.
     fn file(&mut self, store: &Store, place: usize, held: &Held) -> Result<(), OutOfMemory>
         ensures kept { KeepsPlaces self.old self.new }
         ensures filed { OnOk result (Filed store.now [] self.new place held.now) }
     {
         if store.is_executed(&held.digest) {
+            return Ok(());
+        }
+        if has_shared_input(&held.cert.tx) {
             return Ok(());
         }
         match awaited(self.alloc, store, &held.cert)? {
