@@ -87,9 +87,9 @@ module _ (b : Books) (executed : List Execution) where
       go : (c : Bool) → clashes round x ≡ c → IsCovered (cond c round (round ++ x ∷ [])) h x
       go true clash = inr clash
       go false clash = inl (
-        executed_join round (x ∷ []) h.digest
-        ∙ true_or (is_executed round h.digest) (is_executed (x ∷ []) h.digest) (ap (λ (c : Bool). is_some (cond c (Some x) None)) itself)
-      )
+          executed_join round (x ∷ []) h.digest
+          ∙ true_or (is_executed round h.digest) (is_executed (x ∷ []) h.digest) (ap (λ (c : Bool). is_some (cond c (Some x) None)) itself)
+          )
 
   covered_at : (hs : List Held) (round : List Execution) (place : ℕ) (h : Held) (x : Execution) → slice_get hs place ≡ Some h → ready b executed h ≡ Some x → IsCovered (round_among b executed round hs) h x
   covered_at [] round place h x at is = absurd (cc)

@@ -292,8 +292,8 @@ front_freed old mid new freed more x tx [] all named first some frees is others 
 front_freed old mid new freed more x tx (y ∷ ys) all named first some frees is others =
     subst (λ (xs : List Execution). Frees old new more xs all) (sym (tail_is y ys))
     (one_freed old mid new freed more y ys all frees
-      (is ∙ ap (λ (d : Digest). freed ++ listed mid d) same)
-      (subst (λ (d : Digest). (q : Digest) → digest_eq d q ≡ false → listed new q ≡ listed mid q) same others))
+    (is ∙ ap (λ (d : Digest). freed ++ listed mid d) same)
+    (subst (λ (d : Digest). (q : Digest) → digest_eq d q ≡ false → listed new q ≡ listed mid q) same others))
   where
     same : tx ≡ y.digest
     same = named ∙ ap (λ (z : Execution). z.digest) first
@@ -327,5 +327,5 @@ pub passes : (s t : Stored) (held : List Held) → AreApart held → (old mid ne
 passes s t held apart old mid new places freed loose round filed written looked settled same kept ran frees taken =
     subst (λ (ps : List ℕ). IsFiled t ps held new) (sym taken) (subst (λ (u : Stored). IsFiled u freed held new) (sym written)
     (passed s held apart old mid new freed filed
-      (settled ∙ ap (λ (u : Stored). settled_after u.executed held old.settled.keys places) written ∙ ap (settled_after (with_executions s (round_in s held)).executed held old.settled.keys) looked)
-      same kept (subst (λ (xs : List Execution). Frees mid.behind.entries new.behind.entries freed [] xs) ran frees)))
+    (settled ∙ ap (λ (u : Stored). settled_after u.executed held old.settled.keys places) written ∙ ap (settled_after (with_executions s (round_in s held)).executed held old.settled.keys) looked)
+    same kept (subst (λ (xs : List Execution). Frees mid.behind.entries new.behind.entries freed [] xs) ran frees)))

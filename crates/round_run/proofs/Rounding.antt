@@ -93,7 +93,7 @@ module _ (Idle : Held → Type 0) where
           inl (
             sym same,
             more ps up.1 (each_map (λ q. p < q) (λ q. suc n ≤ q) (λ q less. omega (arith, same, less)) ps up.0)
-            (behind_first n ps h hs (subst (λ m. Names n (m ∷ ps) (h ∷ hs)) (sym same) names)),
+                (behind_first n ps h hs (subst (λ m. Names n (m ∷ ps) (h ∷ hs)) (sym same) names)),
           )
       go false is more =
           let less : n < p = grind (arith, is, below.0) in

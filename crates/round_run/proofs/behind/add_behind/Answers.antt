@@ -20,9 +20,9 @@ returns-in-Some-clause-added c =
     let w = c.push.new.self in
     on_ok_weaker c.push.result
     (λ is.
-      now_listed c.args.behind.now.entries (c.get_mut.follows.lender w).entries c.args.tx w c.args.place
-      (rw is (push_has c.in-Some.places.now c.args.place))
-      ((c.get_mut.follows.holds w).3 (ap is_some (sym c.in-Some.ensures.value))).0)
+    now_listed c.args.behind.now.entries (c.get_mut.follows.lender w).entries c.args.tx w c.args.place
+    (rw is (push_has c.in-Some.places.now c.args.place))
+    ((c.get_mut.follows.holds w).3 (ap is_some (sym c.in-Some.ensures.value))).0)
     c.push.ensures.ok
 
 pub returns-clause-kept : goal.returns-clause-kept
