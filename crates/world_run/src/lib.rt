@@ -20,6 +20,3 @@ mod world;
 
 pub use forms::PlainForms;
 pub use world::{World, WorldFault, WorldRefusal};
-
-#[cfg(test)]
-mod tests;
