@@ -23,8 +23,3 @@ mod world;
 pub use forms::PlainForms;
 pub use sums::Sums;
 pub use world::{World, WorldFault, WorldRefusal};
-
-#[cfg(test)]
-mod sums_tests;
-#[cfg(test)]
-mod tests;

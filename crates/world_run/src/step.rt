@@ -73,3 +73,6 @@ impl World {
         }
     }
 }
+
+#[cfg(test)]
+pub(crate) mod tests;

@@ -49,3 +49,6 @@ impl World {
         }
     }
 }
+
+#[cfg(test)]
+mod tests;
