@@ -1,11 +1,10 @@
 -- What a certificate's execution gives, and the certificates at places.
-use Rattle.std.proofs.Common.{◌≡◌, ℕ, zero, suc, List, [], ◌∷◌, Option, Some, None, refl, ap, sym, subst, ◌∙◌}
+use Rattle.std.proofs.Common.{◌≡◌, ℕ, zero, suc, List, [], ◌∷◌, Some, refl, ap, sym, subst, ◌∙◌}
 use Rattle.std.specs.Prelude.{slice_get, Result, Ok, Err}
 use Rattle.digest_core.specs.declared.Digest.{Digest}
 use Rattle.chain_types.specs.declared.objects.Object.{Object}
 use Rattle.chain_types.specs.declared.objects.ObjectKey.{ObjectKey}
 use Rattle.chain_types.specs.declared.transactions.Transaction.{Transaction}
-use Rattle.effects_core.specs.declared.effects.Effects.{Effects}
 use Rattle.block_types.specs.declared.pieces.Executed.{Executed}
 use Rattle.member_types.specs.declared.answers.Held.{Held}
 use Rattle.chain_types.specs.Digests.{consumed_keys, transaction_digest}

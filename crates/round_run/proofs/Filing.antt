@@ -20,7 +20,7 @@ use Rattle.round_run.specs.Behind.{Frees, KeepsListed, Lists, StaysListed, liste
 use Rattle.member_spec.specs.Rounds.{left}
 use Rattle.round_run.specs.Books.{AreApart, books_of, left_in, ready_in}
 use Rattle.round_run.specs.Steps.{left_after, round_at}
-use Rattle.round_run.specs.Makers.{are_made, awaited_of}
+use Rattle.round_run.specs.Makers.{are_made}
 use Rattle.round_run.specs.Places.{is_pending, placed, placed_after, settled_after}
 use Rattle.round_run.specs.Runs.{with_executions}
 use Rattle.round_run.specs.Waits.{Filed, IsBehind, IsFiled, IsWaiting, KeepsPlaces, was_run, is_unadmitted, comes_next, has_settled, is_behind, is_loose}
@@ -28,7 +28,7 @@ use Rattle.round_run.proofs.Clashing.{looked_at, round_in, stays_unready}
 use Rattle.round_run.proofs.Following.{executed_join}
 use Rattle.round_run.proofs.LeftOver.{executed_stays, left_of_places, shared_stays}
 use Rattle.round_run.proofs.Rounding.{round_of_places}
-use Rattle.round_run.proofs.Making.{made_later, makes_not, unmade_rests, unmade_stays, waits_for, waits_for_none}
+use Rattle.round_run.proofs.Making.{made_later, makes_not, unmade_rests, unmade_stays}
 use Rattle.round_run.proofs.Readying.{executed_rests, shared_rests}
 
 -- ---- sets of places

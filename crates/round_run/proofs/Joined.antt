@@ -7,13 +7,12 @@ use Rattle.chain_types.specs.declared.objects.Object.{Object}
 use Rattle.chain_types.specs.declared.objects.ObjectKey.{ObjectKey}
 use Rattle.chain_types.specs.declared.transactions.Input.{Input}
 use Rattle.chain_types.specs.declared.transactions.Input.TheVariants as inputs
-use Rattle.chain_messages.specs.declared.messages.Certificate.{Certificate}
 use Rattle.chain_spec.specs.Keys.{objects_of}
 use Rattle.chain_spec.specs.Words.{all_some, first_of, first_some, onto_some}
 use Rattle.member_types.specs.declared.answers.Held.{Held}
-use Rattle.member_spec.specs.Versions.{Version, object_in, versions}
-use Rattle.member_spec.specs.Admission.{assigned_of, joined_inputs, nothing_admitted}
-use Rattle.member_spec.specs.Rounds.{Wanted, found, is_wanted, missing, present, wanted_by, wants_of}
+use Rattle.member_spec.specs.Versions.{Version, object_in}
+use Rattle.member_spec.specs.Admission.{assigned_of, nothing_admitted}
+use Rattle.member_spec.specs.Rounds.{found, is_wanted, missing, present, wanted_by, wants_of}
 use Rattle.version_store.specs.Stores.{Stored, held_in}
 use Rattle.round_run.specs.Books.{books_of}
 use Rattle.round_run.specs.Needs.{missing_in, named_in, needed_after, needed_of, needs_of, object_then, present_after, wanted_in}

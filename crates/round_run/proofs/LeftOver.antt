@@ -1,5 +1,5 @@
 -- What a run leaves.
-use Rattle.std.proofs.Common.{◌≡◌, ℕ, suc, ◌+◌, Bool, true, false, cond, not, ◌&&◌, ◌||◌, List, [], ◌∷◌, ◌++◌, map, length, Option, Some, None, is_some, inl, inr, refl, ap, sym, subst, ◌∙◌, append_assoc, append-nil, arith}
+use Rattle.std.proofs.Common.{◌≡◌, ℕ, ◌+◌, Bool, true, false, cond, not, ◌&&◌, ◌||◌, List, [], ◌∷◌, ◌++◌, map, length, Option, Some, None, inl, inr, refl, ap, sym, subst, ◌∙◌, append_assoc, append-nil, arith}
 use Rattle.std.specs.Prelude.{◌⊎◌, ◌≤◌, filter, slice_get, zip}
 use Rattle.std.specs.List.Sorted.{IsStrictlySortedBy}
 use Rattle.std.specs.Ordering.{nat_cmp}
@@ -11,11 +11,11 @@ use Rattle.chain_types.specs.declared.transactions.Input.TheVariants as inputs
 use Rattle.member_types.specs.declared.answers.Held.{Held}
 use Rattle.member_types.specs.declared.answers.Left.{Left}
 use Rattle.chain_types.specs.Digests.{is_object}
-use Rattle.chain_spec.specs.Words.{Each, Has, first_of, first_some, where_true}
-use Rattle.chain_spec.specs.Keys.{has_shared_input, is_shared_input, objects_of}
-use Rattle.member_spec.specs.Versions.{Execution, is_executed, versions}
-use Rattle.member_spec.specs.Admission.{assigned_of, joined_inputs, nothing_admitted}
-use Rattle.member_spec.specs.Rounds.{Books, Wanted, is_due, is_maker_done, is_origin_done, left, left_as, may_run, missing, wanted_by, wants_of}
+use Rattle.chain_spec.specs.Words.{Each, Has, first_of, where_true}
+use Rattle.chain_spec.specs.Keys.{has_shared_input, is_shared_input}
+use Rattle.member_spec.specs.Versions.{Execution, is_executed}
+use Rattle.member_spec.specs.Admission.{assigned_of, joined_inputs}
+use Rattle.member_spec.specs.Rounds.{Books, Wanted, is_due, is_maker_done, is_origin_done, left, left_as, wanted_by, wants_of}
 use Rattle.version_store.specs.Stores.{Stored, held_in}
 use Rattle.round_run.specs.Books.{books_of, is_left_over, left_in}
 use Rattle.round_run.specs.Needs.{missing_in, needs_of}

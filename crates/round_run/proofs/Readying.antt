@@ -1,6 +1,5 @@
 -- What is ready behind a list of executions, and when it is not.
-use Rattle.std.proofs.Common.{◌≡◌, ℕ, Bool, true, false, cond, not, ◌&&◌, ◌||◌, List, [], ◌∷◌, ◌++◌, Option, Some, None, refl, ap, sym, subst, ◌∙◌}
-use Rattle.digest_core.specs.declared.Digest.{Digest}
+use Rattle.std.proofs.Common.{◌≡◌, Bool, true, false, cond, not, ◌&&◌, ◌||◌, List, [], Option, Some, None, refl, ap, sym, subst, ◌∙◌}
 use Rattle.chain_types.specs.declared.objects.Object.{Object}
 use Rattle.block_types.specs.declared.pieces.Executed.{Executed}
 use Rattle.member_types.specs.declared.answers.Held.{Held}

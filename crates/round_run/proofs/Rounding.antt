@@ -1,5 +1,5 @@
 -- A round of some places is the round of all certificates, where those left out are not ready; a run's rounds.
-use Rattle.std.proofs.Common.{◌≡◌, ℕ, zero, suc, ◌+◌, ◌-◌, ◌<◌, Bool, true, false, cond, List, [], ◌∷◌, ◌++◌, length, Option, Some, None, inl, inr, refl, ap, sym, subst, ◌∙◌, append_assoc, append-nil, arith}
+use Rattle.std.proofs.Common.{◌≡◌, ℕ, zero, suc, ◌+◌, ◌-◌, ◌<◌, Bool, true, false, List, [], ◌∷◌, ◌++◌, length, Option, Some, None, inl, inr, refl, ap, sym, subst, ◌∙◌, append_assoc, append-nil, arith}
 use Rattle.std.specs.Prelude.{◌⊎◌, ◌==◌, ◌≤◌, slice_get}
 use Rattle.std.specs.List.{AllByRecursion}
 use Rattle.std.specs.List.Sorted.{IsStrictlySortedBy}
@@ -8,7 +8,7 @@ use Rattle.std.specs.declared.cmp.Ordering.TheVariants.{Less}
 use Rattle.member_types.specs.declared.answers.Held.{Held}
 use Rattle.chain_spec.specs.Words.{Each, Has}
 use Rattle.member_spec.specs.Versions.{Execution}
-use Rattle.member_spec.specs.Rounds.{Books, ready, round_add, round_among, round_of, rounds_within}
+use Rattle.member_spec.specs.Rounds.{Books, round_add, round_among, round_of, rounds_within}
 use Rattle.version_store.specs.Stores.{Stored}
 use Rattle.round_run.specs.Books.{books_of, ready_in}
 use Rattle.round_run.specs.Steps.{ready_of, round_at}

@@ -1,6 +1,6 @@
 -- What can become ready. A certificate waits for the transactions that made what it needs; once all of them
 -- are executed, it is ready at once or never.
-use Rattle.std.proofs.Common.{◌≡◌, ℕ, zero, suc, Bool, true, false, cond, not, ◌&&◌, ◌||◌, List, [], ◌∷◌, ◌++◌, map, Option, Some, None, is_some, inl, inr, refl, ap, sym, subst, ◌∙◌, option_map, append_assoc}
+use Rattle.std.proofs.Common.{◌≡◌, Bool, true, false, cond, not, ◌&&◌, ◌||◌, List, [], ◌∷◌, ◌++◌, map, Option, Some, None, is_some, refl, ap, sym, ◌∙◌, option_map}
 use Rattle.std.specs.Prelude.{find, flat_map}
 use Rattle.std.specs.List.{list_all, list_any}
 use Rattle.digest_core.specs.declared.Digest.{Digest}
@@ -14,14 +14,13 @@ use Rattle.chain_types.specs.Equal.{digest_eq, key_eq}
 use Rattle.chain_spec.specs.Words.{Along, all_some, onto_some, repeats, where_true}
 use Rattle.chain_spec.specs.Tests.{producer_eq}
 use Rattle.chain_spec.specs.Keys.{fits, object_key}
-use Rattle.chain_spec.proofs.ListLemmas.{or-first, or-second}
 use Rattle.block_spec.specs.Execution.{execution, written_keys}
 use Rattle.member_spec.specs.Versions.{Execution, Version, is_executed, object_in, opened, versions, written, written_by}
-use Rattle.member_spec.specs.Rounds.{Books, Wanted, clashes, executes_as, found, holds_key, is_maker_done, is_wanted, may_run, present, ready, ready_as, ready_on, wants_of, writes_new}
-use Rattle.version_store.proofs.Equality.{digest_same, digest_self}
+use Rattle.member_spec.specs.Rounds.{Books, Wanted, executes_as, found, holds_key, is_maker_done, is_wanted, may_run, present, ready, ready_as, ready_on, wants_of, writes_new}
+use Rattle.version_store.proofs.Equality.{digest_same}
 use Rattle.round_run.specs.Runs.{IsNext}
 use Rattle.round_run.specs.Written.{writes}
-use Rattle.round_run.proofs.Following.{any_join, executed_join, holds_join, versions_join}
+use Rattle.round_run.proofs.Following.{executed_join, holds_join, versions_join}
 
 -- ---- searches
 

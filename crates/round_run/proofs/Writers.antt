@@ -1,11 +1,9 @@
 -- The versions that the members of a round write, with one more member.
-use Rattle.std.proofs.Common.{◌≡◌, Bool, true, false, cond, ◌||◌, List, [], ◌∷◌, ◌++◌, map, refl, ap, sym, ◌∙◌}
-use Rattle.std.specs.List.{list_any}
+use Rattle.std.proofs.Common.{◌≡◌, Bool, true, false, cond, ◌||◌, List, [], ◌∷◌, ◌++◌, refl, ap, sym, ◌∙◌}
 use Rattle.indexmap.specs.IndexSet.{insert_all, insert_key}
 use Rattle.chain_types.specs.declared.objects.ObjectKey.{ObjectKey}
 use Rattle.chain_types.specs.Equal.{key_eq}
 use Rattle.chain_spec.specs.Tests.{has_key}
-use Rattle.chain_spec.specs.Keys.{object_key}
 use Rattle.block_spec.specs.Execution.{written_keys}
 use Rattle.member_spec.specs.Versions.{Execution}
 use Rattle.version_store.proofs.Equality.{key_same}

@@ -1,10 +1,7 @@
 -- What a run works on while nothing is admitted. Source: Sui Lutris (execution of certificates).
-use Rattle.std.specs.Prelude.{◌≡◌, ℕ, Bool, false, not, ◌&&◌, List, [], map, Option, None}
+use Rattle.std.specs.Prelude.{◌≡◌, Bool, false, not, ◌&&◌, List, [], map, Option, None}
 use Rattle.std.specs.List.{list_all}
 use Rattle.digest_core.specs.declared.Digest.{Digest}
-use Rattle.chain_types.specs.declared.objects.Object.{Object}
-use Rattle.chain_types.specs.declared.objects.ObjectKey.{ObjectKey}
-use Rattle.chain_messages.specs.declared.messages.Certificate.{Certificate}
 use Rattle.effects_core.specs.declared.effects.Effects.{Effects}
 use Rattle.member_types.specs.declared.answers.Held.{Held}
 use Rattle.chain_types.specs.Equal.{digest_eq}

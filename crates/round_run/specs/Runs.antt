@@ -1,5 +1,5 @@
 -- What a store takes, and what a run adds to it.
-use Rattle.std.specs.Prelude.{◌≡◌, ℕ, Bool, true, false, List, [], ◌∷◌, ◌++◌}
+use Rattle.std.specs.Prelude.{◌≡◌, ℕ, true, false, List, ◌++◌}
 use Rattle.chain_types.specs.declared.objects.Object.{Object}
 use Rattle.member_types.specs.declared.answers.Held.{Held}
 use Rattle.block_spec.specs.Execution.{written_keys}

@@ -1,14 +1,9 @@
 -- How a run goes over the places of certificates.
-use Rattle.std.specs.Prelude.{ℕ, suc, Bool, true, false, List, [], ◌∷◌, ◌++◌, Option, Some, None, slice_get, if◌then◌else◌}
-use Rattle.digest_core.specs.declared.Digest.{Digest}
-use Rattle.chain_types.specs.declared.objects.Object.{Object}
-use Rattle.chain_types.specs.declared.objects.ObjectKey.{ObjectKey}
-use Rattle.chain_types.specs.declared.transactions.Input.{Input}
+use Rattle.std.specs.Prelude.{ℕ, List, [], ◌∷◌, ◌++◌, Option, Some, None, slice_get}
 use Rattle.member_types.specs.declared.answers.Held.{Held}
 use Rattle.member_types.specs.declared.answers.Left.{Left}
-use Rattle.chain_types.specs.Digests.{is_object}
-use Rattle.member_spec.specs.Versions.{Execution, Version, is_executed}
-use Rattle.member_spec.specs.Rounds.{found, missing, round_add, wanted_by}
+use Rattle.member_spec.specs.Versions.{Execution}
+use Rattle.member_spec.specs.Rounds.{round_add}
 use Rattle.version_store.specs.Stores.{Stored}
 use Rattle.round_run.specs.Books.{left_in, ready_in}
 

@@ -1,8 +1,7 @@
-use Rattle.std.proofs.Common.{◌≡◌, ◌∙◌, ◌∷◌, [], List, Option, ℕ, ap, sym, refl, inl, is_some, subst}
+use Rattle.std.proofs.Common.{◌≡◌, ◌∙◌, [], List, Option, ℕ, ap, sym, is_some, subst}
 use Rattle.std.specs.Option.{option_copied_mut}
 use Rattle.std.specs.Prelude.{unwrap_or}
 use Rattle.std.proofs.lemmas.Result.{on_ok_weaker}
-use Rattle.chain_spec.specs.Words.{Has}
 use Rattle.round_run.specs.Behind.{KeepsListed, Lists, listed}
 use Rattle.round_run.proofs.Filing.{grows, kept_listed, now_listed, push_has}
 use Rattle.round_run.proofs.behind.add_behind.Goals as goal

@@ -1,4 +1,4 @@
-use Rattle.std.proofs.Common.{◌≡◌, ◌-◌, ◌∙◌, sym}
+use Rattle.std.proofs.Common.{◌-◌, ◌∙◌, sym}
 use Rattle.round_run.proofs.Repeating.{Stands, ends_copied, ends_written, stands_next}
 use Rattle.round_run.proofs.running.run.Goals as goal
 

@@ -1,4 +1,4 @@
-use Rattle.std.proofs.Common.{◌≡◌, ◌∙◌, ◌++◌, List, ap, map, subst, sym}
+use Rattle.std.proofs.Common.{◌∙◌, ◌++◌, List, ap, map, subst, sym}
 use Rattle.chain_spec.specs.Shape.{is_empty_list}
 use Rattle.chain_spec.specs.Words.{Along}
 use Rattle.member_spec.specs.Versions.{Execution}
