@@ -18,8 +18,9 @@ pub record IsBehind (executed : List Execution) (w : Waiting) (place : ℕ) (h :
   pub makes : Makes maker h.cert
   pub first : is_executed executed maker ≡ false
 
--- A certificate is executed; or it names a shared object, and nothing is admitted; or all that makes what it needs is executed, and the next round looks at it, or it is
--- not ready and stays; or it is behind a transaction that is not executed; or its place is one of those still to be filed.
+-- A certificate is executed; or it names a shared object, and nothing is admitted; or all that makes what it needs is
+-- executed, and the next round looks at it, or it is not ready and stays; or it is behind a transaction that is not
+-- executed; or its place is one of those still to be filed.
 pub data Filed (s : Stored) (loose : List ℕ) (w : Waiting) (place : ℕ) (h : Held) : Type 0 where
   was_run : is_executed s.executed h.digest ≡ true → Filed s loose w place h
   is_unadmitted : has_shared_input h.cert.tx ≡ true → Filed s loose w place h
