@@ -10,24 +10,24 @@ use Rattle.chain_types.specs.declared.objects.Object.{Object}
 use Rattle.chain_types.specs.declared.objects.Producer.{Producer}
 use Rattle.chain_types.specs.declared.objects.Producer.TheVariants as producers
 use Rattle.chain_types.specs.declared.transactions.Transaction.{Transaction}
-use Rattle.block_types.specs.declared.pieces.Executed.{Executed}
-use Rattle.member_types.specs.declared.answers.Held.{Held}
+use Rattle.answer_types.specs.declared.pieces.Executed.{Executed}
+use Rattle.answer_types.specs.declared.answers.Held.{Held}
 use Rattle.schedule_text.specs.declared.words.Event.{Event}
 use Rattle.chain_types.specs.Equal.{id_eq, key_eq}
-use Rattle.chain_spec.specs.Words.{Has, Along, IsFront, all_some, repeats}
-use Rattle.chain_spec.specs.Tests.{producer_eq}
-use Rattle.chain_spec.specs.Keys.{object_key, objects_of}
-use Rattle.chain_spec.proofs.ListLemmas.{find-test, and-first, and-second, or-first, or-second}
-use Rattle.block_spec.specs.Execution.{execution}
-use Rattle.member_spec.specs.Versions.{Execution, Version, opened, written, written_by, versions, object_in}
-use Rattle.member_spec.specs.Admission.{Admission, assigned_of}
-use Rattle.member_spec.specs.Rounds.{Books, Wanted, wanted_by, wants_of, is_wanted, found, present}
-use Rattle.member_spec.specs.Member.{books}
+use Rattle.protocol_spec.specs.Chain.Words.{Has, Along, IsFront, all_some, repeats}
+use Rattle.protocol_spec.specs.Chain.Tests.{producer_eq}
+use Rattle.protocol_spec.specs.Chain.Keys.{object_key, objects_of}
+use Rattle.protocol_spec.proofs.ListLemmas.{find-test, and-first, and-second, or-first, or-second}
+use Rattle.protocol_spec.specs.Block.Execution.{execution}
+use Rattle.protocol_spec.specs.Member.Versions.{Execution, Version, opened, written, written_by, versions, object_in}
+use Rattle.protocol_spec.specs.Member.Admission.{Admission, assigned_of}
+use Rattle.protocol_spec.specs.Member.Rounds.{Books, Wanted, wanted_by, wants_of, is_wanted, found, present}
+use Rattle.protocol_spec.specs.Member.Member.{books}
 use Rattle.world_spec.specs.Setting.{Setting}
 use Rattle.world_spec.specs.World.{Seat, member_in}
 use Rattle.world_spec.specs.Run.{world_after}
-use Rattle.votes_law.proofs.Backed.{has-either}
-use Rattle.votes_law.proofs.Once.{equal, has-key, has-left}
+use Rattle.safety_law.proofs.Backed.{has-either}
+use Rattle.safety_law.proofs.Once.{equal, has-key, has-left}
 use Rattle.agreement_law.specs.Agreed.{IsEarlier}
 use Rattle.agreement_law.specs.Explained.{IsExplained}
 use Rattle.agreement_law.specs.Alike.{AreHeldAlike}

@@ -11,17 +11,17 @@ use Rattle.chain_messages.specs.declared.messages.Statement.TheVariants as state
 use Rattle.journal_core.specs.declared.records.RanItem.{RanItem}
 use Rattle.journal_core.specs.declared.records.Record.{Record}
 use Rattle.journal_core.specs.declared.records.Record.TheVariants as record_as
-use Rattle.member_types.specs.declared.answers.Ran.{Ran}
-use Rattle.member_types.specs.declared.refusals.VoteRefusal.{VoteRefusal}
-use Rattle.member_types.specs.declared.refusals.HoldRefusal.{HoldRefusal}
-use Rattle.member_types.specs.declared.refusals.SeeRefusal.{SeeRefusal}
-use Rattle.member_types.specs.declared.refusals.RunRefusal.{RunRefusal}
-use Rattle.member_types.specs.declared.refusals.CloseRefusal.{CloseRefusal}
-use Rattle.member_types.specs.declared.refusals.TurnRefusal.{TurnRefusal}
-use Rattle.chain_spec.specs.Words.{first_some, where_true}
-use Rattle.chain_spec.specs.Certificates.{Rules, read_signed, read_certificate}
-use Rattle.member_spec.specs.Member.{Member}
-use Rattle.member_spec.specs.Calls.{Call, votes, holds, sees, runs, closes, ends, turns, acks, Voted, see_cases, kept_vote, vote_record, is_hold_kept, hold_record, see_record, ran_items, ran_record, run_record, close_record, turn_record, vote_answer, hold_answer, run_answer, close_answer, turn_answer, due}
+use Rattle.answer_types.specs.declared.answers.Ran.{Ran}
+use Rattle.answer_types.specs.declared.refusals.VoteRefusal.{VoteRefusal}
+use Rattle.answer_types.specs.declared.refusals.HoldRefusal.{HoldRefusal}
+use Rattle.answer_types.specs.declared.refusals.SeeRefusal.{SeeRefusal}
+use Rattle.answer_types.specs.declared.refusals.RunRefusal.{RunRefusal}
+use Rattle.answer_types.specs.declared.refusals.CloseRefusal.{CloseRefusal}
+use Rattle.answer_types.specs.declared.refusals.TurnRefusal.{TurnRefusal}
+use Rattle.protocol_spec.specs.Chain.Words.{first_some, where_true}
+use Rattle.protocol_spec.specs.Chain.Certificates.{Rules, read_signed, read_certificate}
+use Rattle.protocol_spec.specs.Member.Member.{Member}
+use Rattle.protocol_spec.specs.Member.Calls.{Call, votes, holds, sees, runs, closes, ends, turns, acks, Voted, see_cases, kept_vote, vote_record, is_hold_kept, hold_record, see_record, ran_items, ran_record, run_record, close_record, turn_record, vote_answer, hold_answer, run_answer, close_answer, turn_answer, due}
 
 pub data Appended : Type 0 where
   a_vote : Appended

@@ -9,28 +9,28 @@ use Rattle.chain_types.specs.declared.transactions.Input.TheVariants as inputs
 use Rattle.chain_types.specs.declared.transactions.Transaction.{Transaction}
 use Rattle.journal_core.specs.declared.records.Record.{Record}
 use Rattle.journal_core.specs.declared.records.Record.TheVariants as record_as
-use Rattle.member_types.specs.declared.answers.Assigned.{Assigned}
-use Rattle.member_types.specs.declared.answers.Held.{Held}
+use Rattle.answer_types.specs.declared.answers.Assigned.{Assigned}
+use Rattle.answer_types.specs.declared.answers.Held.{Held}
 use Rattle.schedule_text.specs.declared.words.Event.{Event}
 use Rattle.chain_types.specs.Equal.{digest_eq, key_eq}
 use Rattle.chain_types.specs.Digests.{is_object}
-use Rattle.chain_spec.specs.Words.{Has, Along, IsFront, all_some, onto_some, where_true, repeats}
-use Rattle.chain_spec.specs.Keys.{objects_of, is_shared_input, has_shared_input, fits}
-use Rattle.chain_spec.specs.Certificates.{Rules}
-use Rattle.chain_spec.proofs.ListLemmas.{along-push, and-second, not-true}
-use Rattle.block_spec.specs.Execution.{execution, written_keys}
-use Rattle.member_spec.specs.Versions.{Execution, Version, opened, written_by, versions, object_in, is_executed}
-use Rattle.member_spec.specs.Admission.{Admitted, Admission, is_admitted, joined_inputs, assigned_in, assigned_of}
-use Rattle.member_spec.specs.Sequence.{What, takes, commits, counts, ignores, what_of}
-use Rattle.member_spec.specs.Rounds.{Books, Wanted, wanted_by, wants_of, is_wanted, found, present, may_run, holds_key, writes_new, executes_as, ready_as, ready_on, ready, clashes, round_add, round_among, round_of, rounds_within, rounds}
-use Rattle.member_spec.specs.Checkpoints.{held_of}
-use Rattle.member_spec.specs.Member.{Member, books, held_with, after, state}
+use Rattle.protocol_spec.specs.Chain.Words.{Has, Along, IsFront, all_some, onto_some, where_true, repeats}
+use Rattle.protocol_spec.specs.Chain.Keys.{objects_of, is_shared_input, has_shared_input, fits}
+use Rattle.protocol_spec.specs.Chain.Certificates.{Rules}
+use Rattle.protocol_spec.proofs.ListLemmas.{along-push, and-second, not-true}
+use Rattle.protocol_spec.specs.Block.Execution.{execution, written_keys}
+use Rattle.protocol_spec.specs.Member.Versions.{Execution, Version, opened, written_by, versions, object_in, is_executed}
+use Rattle.protocol_spec.specs.Member.Admission.{Admitted, Admission, is_admitted, joined_inputs, assigned_in, assigned_of}
+use Rattle.protocol_spec.specs.Member.Sequence.{What, takes, commits, counts, ignores, what_of}
+use Rattle.protocol_spec.specs.Member.Rounds.{Books, Wanted, wanted_by, wants_of, is_wanted, found, present, may_run, holds_key, writes_new, executes_as, ready_as, ready_on, ready, clashes, round_add, round_among, round_of, rounds_within, rounds}
+use Rattle.protocol_spec.specs.Member.Checkpoints.{held_of}
+use Rattle.protocol_spec.specs.Member.Member.{Member, books, held_with, after, state}
 use Rattle.world_spec.specs.Setting.{Setting}
 use Rattle.world_spec.specs.World.{Seat, member_in}
 use Rattle.world_spec.specs.Run.{world_after}
-use Rattle.votes_law.proofs.InWorld.{in_world}
-use Rattle.votes_law.proofs.Once.{has-left}
-use Rattle.votes_law.proofs.Apart.{state-push}
+use Rattle.safety_law.proofs.InWorld.{in_world}
+use Rattle.safety_law.proofs.Once.{has-left}
+use Rattle.safety_law.proofs.Apart.{state-push}
 use Rattle.agreement_law.specs.Explained.{IsExplained}
 use Rattle.agreement_law.proofs.Growth.{front-all}
 use Rattle.agreement_law.proofs.Prefixes.{earlier-saw}

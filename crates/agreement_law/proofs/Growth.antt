@@ -9,8 +9,8 @@ use Rattle.chain_messages.specs.declared.messages.Entry.TheVariants as entry
 use Rattle.chain_messages.specs.declared.messages.Statement.TheVariants as statement
 use Rattle.schedule_text.specs.declared.words.Event.{Event}
 use Rattle.schedule_text.specs.declared.words.Event.TheVariants as event
-use Rattle.chain_spec.specs.Words.{IsFront}
-use Rattle.member_spec.specs.Calls.{Call, votes, holds, runs, closes, ends, turns, acks}
+use Rattle.protocol_spec.specs.Chain.Words.{IsFront}
+use Rattle.protocol_spec.specs.Member.Calls.{Call, votes, holds, runs, closes, ends, turns, acks}
 use Rattle.world_spec.specs.Setting.{Name, Setting}
 use Rattle.world_spec.specs.World.{Seat, Made, World, Reached, finds_down, stops, answers, reached_seat, behind, called_seat, called_in, called_if, sees_on, is_honest, member_at, next_call, entries_at}
 use Rattle.world_spec.specs.Names.{made_named, cert_named}

@@ -9,16 +9,16 @@ use Rattle.chain_messages.specs.declared.messages.Entry.{Entry}
 use Rattle.journal_core.specs.declared.records.Record.{Record}
 use Rattle.schedule_text.specs.declared.words.Event.{Event}
 use Rattle.schedule_text.specs.declared.words.Event.TheVariants as event
-use Rattle.chain_spec.specs.Words.{Each}
-use Rattle.member_spec.specs.Member.{Member, state}
-use Rattle.member_spec.specs.Calls.{Call, votes, holds, sees, runs, closes, ends, turns, acks, due}
+use Rattle.protocol_spec.specs.Chain.Words.{Each}
+use Rattle.protocol_spec.specs.Member.Member.{Member, state}
+use Rattle.protocol_spec.specs.Member.Calls.{Call, votes, holds, sees, runs, closes, ends, turns, acks, due}
 use Rattle.world_spec.specs.Setting.{Setting}
 use Rattle.world_spec.specs.World.{Seat, Made, World, Reached, finds_down, stops, answers, new_world, member_in, state_of, reached_seat, stopped_seat, appended, behind, called_seat, called_in, called_if, sees_on, next_call_of, next_call, numbered_call, entries_at, member_at}
 use Rattle.world_spec.specs.Names.{made_named, cert_named}
 use Rattle.world_spec.specs.Step.{happens, entries_left}
 use Rattle.world_spec.specs.Run.{run, world_after}
 use Rattle.world_spec.specs.Assumptions.{vote_call, send_call, ack_call, calls_of}
-use Rattle.votes_law.proofs.InWorld.{each-set, each-get, kept-line, new-seats, stopped-due, answered-due}
+use Rattle.safety_law.proofs.InWorld.{each-set, each-get, kept-line, new-seats, stopped-due, answered-due}
 use Rattle.agreement_law.proofs.Growth.{Grown, grows-line, called_if-same}
 
 -- a call with an entry has the bytes of the next one of the member's epoch

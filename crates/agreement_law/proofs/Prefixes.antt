@@ -6,20 +6,20 @@ use Rattle.chain_messages.specs.Messages as messages
 use Rattle.chain_messages.specs.declared.messages.Entry.{Entry}
 use Rattle.journal_core.specs.declared.records.Record.{Record}
 use Rattle.journal_core.specs.declared.records.Record.TheVariants as record_as
-use Rattle.member_types.specs.declared.answers.Held.{Held}
-use Rattle.member_types.specs.declared.refusals.SeeRefusal.{SeeRefusal}
-use Rattle.member_types.specs.declared.refusals.SeeRefusal.TheVariants as no_see
+use Rattle.answer_types.specs.declared.answers.Held.{Held}
+use Rattle.answer_types.specs.declared.refusals.SeeRefusal.{SeeRefusal}
+use Rattle.answer_types.specs.declared.refusals.SeeRefusal.TheVariants as no_see
 use Rattle.schedule_text.specs.declared.words.Event.{Event}
-use Rattle.chain_spec.specs.Words.{IsFront, first_some, where_true}
-use Rattle.chain_spec.specs.Certificates.{Rules}
-use Rattle.member_spec.specs.Admission.{Admission, is_free, taken_as, taken, is_dropped, taken_next, take_free, entered, passed_mark, admit, since_mark}
-use Rattle.member_spec.specs.Sequence.{Sequence, What, takes, commits, counts, ignores, nothing_seen, what_of, cut_of, last_cut, counted_as, ends_with_member, with_what, with_entry, saw, seen}
-use Rattle.member_spec.specs.Member.{Member, after, state}
-use Rattle.member_spec.specs.Calls.{Call, votes, holds, sees, runs, closes, ends, turns, acks, halted, full, see_cases, see_record, due}
+use Rattle.protocol_spec.specs.Chain.Words.{IsFront, first_some, where_true}
+use Rattle.protocol_spec.specs.Chain.Certificates.{Rules}
+use Rattle.protocol_spec.specs.Member.Admission.{Admission, is_free, taken_as, taken, is_dropped, taken_next, take_free, entered, passed_mark, admit, since_mark}
+use Rattle.protocol_spec.specs.Member.Sequence.{Sequence, What, takes, commits, counts, ignores, nothing_seen, what_of, cut_of, last_cut, counted_as, ends_with_member, with_what, with_entry, saw, seen}
+use Rattle.protocol_spec.specs.Member.Member.{Member, after, state}
+use Rattle.protocol_spec.specs.Member.Calls.{Call, votes, holds, sees, runs, closes, ends, turns, acks, halted, full, see_cases, see_record, due}
 use Rattle.world_spec.specs.Setting.{Setting}
 use Rattle.world_spec.specs.World.{Seat, member_in, entries_at}
 use Rattle.world_spec.specs.Run.{world_after}
-use Rattle.votes_law.proofs.Apart.{state-push}
+use Rattle.safety_law.proofs.Apart.{state-push}
 use Rattle.agreement_law.specs.Agreed.{IsTaken, IsEarlier}
 use Rattle.agreement_law.proofs.Appends.{due-appends}
 use Rattle.agreement_law.proofs.Growth.{Grown, front-all, front-push, front-then}

@@ -3,14 +3,14 @@ use Rattle.std.proofs.Common.{sym, ◌∙◌}
 use Rattle.std.specs.Prelude.{◌≡◌, ℕ, List, ◌++◌, map, slice_get, Some}
 use Rattle.chain_types.specs.declared.transactions.SignedTx.{SignedTx}
 use Rattle.chain_messages.specs.declared.messages.Certificate.{Certificate}
-use Rattle.member_types.specs.declared.answers.Held.{Held}
+use Rattle.answer_types.specs.declared.answers.Held.{Held}
 use Rattle.schedule_text.specs.declared.words.Event.{Event}
-use Rattle.chain_spec.specs.Words.{Has}
+use Rattle.protocol_spec.specs.Chain.Words.{Has}
 use Rattle.world_spec.specs.Setting.{Setting}
 use Rattle.world_spec.specs.World.{Seat, Made, new_world, member_in}
 use Rattle.world_spec.specs.Run.{world_after}
 use Rattle.world_spec.specs.Assumptions.{IsHonestRun, asked, all_of, all_formed, all_delivered, all_transactions}
-use Rattle.votes_law.proofs.Once.{each-has}
+use Rattle.safety_law.proofs.Once.{each-has}
 use Rattle.agreement_law.specs.Agreed.{IsHeldAsGiven}
 use Rattle.agreement_law.proofs.Agreeing.{map-has}
 use Rattle.agreement_law.proofs.Supply.{has-right, every-held}

@@ -14,28 +14,28 @@ use Rattle.chain_messages.specs.declared.messages.Statement.{Statement}
 use Rattle.chain_messages.specs.declared.messages.Statement.TheVariants as statement
 use Rattle.journal_core.specs.declared.records.Record.{Record}
 use Rattle.journal_core.specs.declared.records.Record.TheVariants as record_as
-use Rattle.member_types.specs.declared.answers.Held.{Held}
-use Rattle.member_types.specs.declared.answers.Ignore.{Ignore}
-use Rattle.member_types.specs.declared.refusals.HoldRefusal.TheVariants as no_hold
+use Rattle.answer_types.specs.declared.answers.Held.{Held}
+use Rattle.answer_types.specs.declared.answers.Ignore.{Ignore}
+use Rattle.answer_types.specs.declared.refusals.HoldRefusal.TheVariants as no_hold
 use Rattle.schedule_text.specs.declared.words.Event.{Event}
-use Rattle.chain_spec.specs.Words.{Has, Each, Along, first_some, where_true, unless_refused, refused_or}
-use Rattle.chain_spec.specs.Certificates.{Rules, read_certificate, read_entry, cert_refusal}
-use Rattle.chain_spec.proofs.ListLemmas.{find-each, filter-each, each-push}
-use Rattle.member_spec.specs.Admission.{Admission, is_known, is_free, not_of, taken_as, taken, is_dropped, taken_next, take_free, entered, passed_mark, admit}
-use Rattle.member_spec.specs.Sequence.{Sequence, What, takes, commits, counts, ignores, ignored_or, end_cases, what_stated, what_read, what_of, counted_as, ends_with_member, with_what, with_entry, saw, held_as}
-use Rattle.member_spec.specs.Checkpoints.{held_of}
-use Rattle.member_spec.specs.Member.{Member, Fork, fork_of, fork_with, held_with, after, state}
-use Rattle.member_spec.specs.Calls.{Call, votes, holds, sees, runs, closes, ends, turns, acks, record_limit, new_hold, hold_read, is_hold_kept, hold_record, hold_answer, due}
+use Rattle.protocol_spec.specs.Chain.Words.{Has, Each, Along, first_some, where_true, unless_refused, refused_or}
+use Rattle.protocol_spec.specs.Chain.Certificates.{Rules, read_certificate, read_entry, cert_refusal}
+use Rattle.protocol_spec.proofs.ListLemmas.{find-each, filter-each, each-push}
+use Rattle.protocol_spec.specs.Member.Admission.{Admission, is_known, is_free, not_of, taken_as, taken, is_dropped, taken_next, take_free, entered, passed_mark, admit}
+use Rattle.protocol_spec.specs.Member.Sequence.{Sequence, What, takes, commits, counts, ignores, ignored_or, end_cases, what_stated, what_read, what_of, counted_as, ends_with_member, with_what, with_entry, saw, held_as}
+use Rattle.protocol_spec.specs.Member.Checkpoints.{held_of}
+use Rattle.protocol_spec.specs.Member.Member.{Member, Fork, fork_of, fork_with, held_with, after, state}
+use Rattle.protocol_spec.specs.Member.Calls.{Call, votes, holds, sees, runs, closes, ends, turns, acks, record_limit, new_hold, hold_read, is_hold_kept, hold_record, hold_answer, due}
 use Rattle.world_spec.specs.Setting.{Setting}
 use Rattle.world_spec.specs.World.{Seat, World, new_world, member_in}
 use Rattle.world_spec.specs.Step.{happens}
 use Rattle.world_spec.specs.Run.{world_after}
 use Rattle.world_spec.specs.Assumptions.{calls_of, read_list, entry_certificates, certificates_read, delivered, all_of, all_delivered}
-use Rattle.votes_law.proofs.InWorld.{in_world_given}
-use Rattle.votes_law.proofs.Once.{has-left}
-use Rattle.votes_law.proofs.Apart.{state-push}
-use Rattle.admission_law.specs.Admitted.{IsInOrder}
-use Rattle.admission_law.proofs.Tidy.{tidy-seen}
+use Rattle.safety_law.proofs.InWorld.{in_world_given}
+use Rattle.safety_law.proofs.Once.{has-left}
+use Rattle.safety_law.proofs.Apart.{state-push}
+use Rattle.sequence_law.specs.Admitted.{IsInOrder}
+use Rattle.sequence_law.proofs.Tidy.{tidy-seen}
 use Rattle.chain_messages.specs.Messages as messages
 use Rattle.agreement_law.specs.Agreed.{IsGiven, IsAdmittedAsGiven, IsHeldAsGiven, IsAdmittedInOrder}
 use Rattle.agreement_law.proofs.Appends.{due-appends}

@@ -1,22 +1,22 @@
 -- What the sequence of an epoch gives to all members alike.
 use Rattle.std.specs.Prelude.{◌≡◌, ◌⊎◌, ℕ, List, [], map, length, slice_get, Some, None}
 use Rattle.digest_core.specs.declared.Digest.{Digest}
-use Rattle.member_types.specs.declared.answers.Held.{Held}
+use Rattle.answer_types.specs.declared.answers.Held.{Held}
 use Rattle.chain_messages.specs.declared.messages.Certificate.{Certificate}
 use Rattle.chain_messages.specs.declared.messages.Entry.{Entry}
 use Rattle.chain_messages.specs.Messages as messages
 use Rattle.schedule_text.specs.declared.words.Event.{Event}
 use Rattle.chain_types.specs.Digests.{transaction_digest}
-use Rattle.chain_spec.specs.Words.{Has, Each, Along, IsFront}
-use Rattle.chain_spec.specs.Certificates.{Rules, cert_refusal}
-use Rattle.member_spec.specs.Admission.{Admitted}
-use Rattle.member_spec.specs.Sequence.{Sequence, seen}
-use Rattle.member_spec.specs.Member.{Member}
+use Rattle.protocol_spec.specs.Chain.Words.{Has, Each, Along, IsFront}
+use Rattle.protocol_spec.specs.Chain.Certificates.{Rules, cert_refusal}
+use Rattle.protocol_spec.specs.Member.Admission.{Admitted}
+use Rattle.protocol_spec.specs.Member.Sequence.{Sequence, seen}
+use Rattle.protocol_spec.specs.Member.Member.{Member}
 use Rattle.world_spec.specs.Setting.{Setting}
 use Rattle.world_spec.specs.World.{Seat, member_in, entries_at}
 use Rattle.world_spec.specs.Run.{world_after}
 use Rattle.world_spec.specs.Assumptions.{all_delivered}
-use Rattle.admission_law.specs.Admitted.{IsInOrder}
+use Rattle.sequence_law.specs.Admitted.{IsInOrder}
 
 -- what a member has of its sequence is what the first entries of its epoch give
 pub record IsTaken (r : Rules) (entries : List Entry) (m : Member) : Type 0 where

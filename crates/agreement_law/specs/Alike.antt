@@ -1,10 +1,10 @@
 -- What two members of one epoch execute alike.
 use Rattle.std.specs.Prelude.{◌≡◌, ℕ, List, slice_get, Some}
-use Rattle.member_types.specs.declared.answers.Held.{Held}
+use Rattle.answer_types.specs.declared.answers.Held.{Held}
 use Rattle.schedule_text.specs.declared.words.Event.{Event}
-use Rattle.chain_spec.specs.Words.{Has}
-use Rattle.member_spec.specs.Versions.{Execution}
-use Rattle.member_spec.specs.Member.{Member}
+use Rattle.protocol_spec.specs.Chain.Words.{Has}
+use Rattle.protocol_spec.specs.Member.Versions.{Execution}
+use Rattle.protocol_spec.specs.Member.Member.{Member}
 use Rattle.world_spec.specs.Setting.{Setting}
 use Rattle.world_spec.specs.World.{Seat, member_in}
 use Rattle.world_spec.specs.Run.{world_after}

@@ -1,15 +1,15 @@
 -- Where the executions of a member come from.
 use Rattle.std.specs.Prelude.{◌≡◌, ℕ, true, false, List, [], slice_get, Some}
 use Rattle.chain_types.specs.declared.objects.Object.{Object}
-use Rattle.member_types.specs.declared.answers.Held.{Held}
+use Rattle.answer_types.specs.declared.answers.Held.{Held}
 use Rattle.schedule_text.specs.declared.words.Event.{Event}
 use Rattle.chain_types.specs.Equal.{key_eq}
-use Rattle.chain_spec.specs.Words.{Has, Along, repeats}
-use Rattle.chain_spec.specs.Keys.{fits}
-use Rattle.block_spec.specs.Execution.{execution, written_keys}
-use Rattle.member_spec.specs.Versions.{Execution}
-use Rattle.member_spec.specs.Rounds.{Books, present, may_run, executes_as}
-use Rattle.member_spec.specs.Member.{books}
+use Rattle.protocol_spec.specs.Chain.Words.{Has, Along, repeats}
+use Rattle.protocol_spec.specs.Chain.Keys.{fits}
+use Rattle.protocol_spec.specs.Block.Execution.{execution, written_keys}
+use Rattle.protocol_spec.specs.Member.Versions.{Execution}
+use Rattle.protocol_spec.specs.Member.Rounds.{Books, present, may_run, executes_as}
+use Rattle.protocol_spec.specs.Member.Member.{books}
 use Rattle.world_spec.specs.Setting.{Setting}
 use Rattle.world_spec.specs.World.{Seat, member_in}
 use Rattle.world_spec.specs.Run.{world_after}

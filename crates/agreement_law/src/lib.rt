@@ -1,46 +1,20 @@
-//! What the sequence of an epoch gives to all members alike: in every run, members of one epoch that opened it with
-//! equal objects admit the same transactions in the same order, and cut the same checkpoints.
+//! Laws over several members: what they admit, execute and checkpoint, and how they open each epoch.
 #![tactic(auto)]
 
-ghost use Rattle.agreement_law.specs.Alike.{ExecutionsAgree, OneTransaction};
-ghost use Rattle.agreement_law.specs.Explained.{ExecutionsExplained};
-ghost use Rattle.agreement_law.specs.Agreed.{EveryAdmission, HeldAsGiven, MembersFollowTheSequence, OneSequence};
+mod agreement;
+mod current;
+mod epochs;
 
-/// What a member has of its sequence is what the first entries of the world's sequence of its epoch give.
-pub fn members_follow_the_sequence()
-    ensures { MembersFollowTheSequence }
-{}
-
-/// Of two members of one epoch with equal opening objects, the admitted transactions and the cuts of the one are
-/// fronts of those of the other.
-pub fn one_sequence()
-    ensures { OneSequence }
-{}
-
-/// What a member admitted is in order: distinct, each behind its origins, with the versions that admission assigns
-/// there; and each was delivered in the run, is valid and of the member's epoch.
-pub fn every_admission()
-    ensures { EveryAdmission }
-{}
-
-/// Each certificate that a member holds was delivered in the run, is valid and of the member's epoch.
-pub fn held_as_given()
-    ensures { HeldAsGiven }
-{}
-
-/// Each execution of a member is that of a certificate that it holds, on the objects that the certificate wants, which
-/// were there and fit it.
-pub fn executions_explained()
-    ensures { ExecutionsExplained }
-{}
-
-/// Where the certificates of one digest are alike, two members of one epoch that opened it with equal objects give the
-/// same for each transaction that both executed, in whatever order they executed.
-pub fn executions_agree()
-    ensures { ExecutionsAgree }
-{}
-
-/// Under the run assumptions, certificates of one digest have one transaction, at whichever members they are held.
-pub fn one_transaction()
-    ensures { OneTransaction }
-{}
+pub use agreement::{
+    every_admission, executions_agree, executions_explained, held_as_given,
+    members_follow_the_sequence, one_sequence, one_transaction,
+};
+pub use current::{
+    checkpoints_of_fold, effects_of_fold, epochs_open_apart, executed_is_step, executions_same,
+    set_up_apart, steps_orderly, turns_to_fold, versions_same,
+};
+pub use epochs::{
+    built_is_of_thread, currencies_are_backed, every_checkpoint, every_opening, members_agree,
+    one_list_of_checkpoints, only_gas_leaves, opened_alike, set_up_has_no_gas_cap,
+    set_up_is_backed, versions_are_chains,
+};

@@ -16,17 +16,17 @@ use Rattle.chain_types.specs.declared.transactions.Input.TheVariants as inputs
 use Rattle.chain_types.specs.declared.transactions.Command.{Command}
 use Rattle.chain_types.specs.declared.transactions.Command.TheVariants as command
 use Rattle.chain_types.specs.declared.transactions.Transaction.{Transaction}
-use Rattle.block_types.specs.declared.pieces.Item.{Item}
-use Rattle.block_types.specs.declared.pieces.Placed.{Placed}
-use Rattle.block_types.specs.declared.pieces.Gave.{Gave}
-use Rattle.block_types.specs.declared.pieces.Gave.TheVariants as gave
-use Rattle.chain_spec.specs.Words.{Each, first_some, where_true}
-use Rattle.chain_spec.specs.Tests.{kind_eq}
-use Rattle.chain_spec.specs.Keys.{version_of}
-use Rattle.block_spec.specs.Natives.{kind_of, currency_of, amount_of, holding, parameters_of, amount_limit, item_at, native_gives}
-use Rattle.block_spec.specs.Block.{Place, Value, pure, object, vector, Slot, Block, value_in, result_slots}
-use Rattle.block_spec.specs.Commands.{Fault, cause, Need, number, address, by_value, by_mut, by_ref, coins, paired, all_by, needs_of, place_of, takes_value, wrong_count, arguments_cause, piece_of, item_in, items_in, number_in, spend, spend_all, numbered_coin, split_block, split, withheld, sum_of, merge_cases, merge_block, merge, placed_at, address_in, transfer_block, vector_block, given_as, given_all, spend_taken, put_back, put_changed, placed_list, called_block, called, site, performed, taken_cause, command_step}
-use Rattle.block_spec.specs.Execution.{Failure, input_slots, first_block, commands_from, commands_next, is_unused, checked_end, outcome}
+use Rattle.answer_types.specs.declared.pieces.Item.{Item}
+use Rattle.answer_types.specs.declared.pieces.Placed.{Placed}
+use Rattle.answer_types.specs.declared.pieces.Gave.{Gave}
+use Rattle.answer_types.specs.declared.pieces.Gave.TheVariants as gave
+use Rattle.protocol_spec.specs.Chain.Words.{Each, first_some, where_true}
+use Rattle.protocol_spec.specs.Chain.Tests.{kind_eq}
+use Rattle.protocol_spec.specs.Chain.Keys.{version_of}
+use Rattle.protocol_spec.specs.Block.Natives.{kind_of, currency_of, amount_of, holding, parameters_of, amount_limit, item_at, native_gives}
+use Rattle.protocol_spec.specs.Block.Block.{Place, Value, pure, object, vector, Slot, Block, value_in, result_slots}
+use Rattle.protocol_spec.specs.Block.Commands.{Fault, cause, Need, number, address, by_value, by_mut, by_ref, coins, paired, all_by, needs_of, place_of, takes_value, wrong_count, arguments_cause, piece_of, item_in, items_in, number_in, spend, spend_all, numbered_coin, split_block, split, withheld, sum_of, merge_cases, merge_block, merge, placed_at, address_in, transfer_block, vector_block, given_as, given_all, spend_taken, put_back, put_changed, placed_list, called_block, called, site, performed, taken_cause, command_step}
+use Rattle.protocol_spec.specs.Block.Execution.{Failure, input_slots, first_block, commands_from, commands_next, is_unused, checked_end, outcome}
 use Rattle.block_law.proofs.Slots.{Every, put-every, value-every, every-append, spend-placed, spend-every}
 use Rattle.block_law.proofs.Reading.{all-none, where-false, AllRead, all-read, is-changed}
 use Rattle.block_law.proofs.Amounts.{sum-cons}

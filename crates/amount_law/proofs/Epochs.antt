@@ -2,15 +2,15 @@
 use Rattle.std.specs.Prelude.{◌≡◌, ℕ, zero, suc, List, slice_get, Some}
 use Rattle.chain_messages.specs.declared.messages.Entry.{Entry}
 use Rattle.schedule_text.specs.declared.words.Event.{Event}
-use Rattle.chain_spec.specs.Words.{Each}
+use Rattle.protocol_spec.specs.Chain.Words.{Each}
 use Rattle.world_spec.specs.Setting.{Setting}
 use Rattle.world_spec.specs.World.{Seat, member_in}
 use Rattle.world_spec.specs.Openings.{checkpointed, sequence_of, opening_at}
 use Rattle.world_spec.specs.Run.{world_after}
 use Rattle.world_spec.specs.Assumptions.{IsHonestRun}
-use Rattle.chain_law.specs.Orderly.{AreApart}
-use Rattle.epoch_law.specs.Sums.{GasHeldBefore}
-use Rattle.epoch_law.proofs.Opened.{every-opening}
+use Rattle.sequence_law.specs.Orderly.{AreApart}
+use Rattle.agreement_law.specs.Sums.{GasHeldBefore}
+use Rattle.agreement_law.proofs.Opened.{every-opening}
 use Rattle.amount_law.specs.Amounts.{HoldsAmount}
 use Rattle.amount_law.proofs.Thread.{thread-amounts, gas-holds}
 

@@ -5,9 +5,9 @@ use Rattle.std.specs.Int.{w64, from_le_bytes}
 use Rattle.chain_types.specs.declared.objects.Kind.TheVariants as kind
 use Rattle.chain_types.specs.declared.objects.Content.{Content}
 use Rattle.chain_types.specs.declared.objects.Content.TheVariants as content
-use Rattle.chain_spec.specs.Words.{Each}
-use Rattle.chain_spec.specs.Tests.{kind_eq}
-use Rattle.block_spec.specs.Natives.{kind_of, amount_of, with_amount, amount_limit}
+use Rattle.protocol_spec.specs.Chain.Words.{Each}
+use Rattle.protocol_spec.specs.Chain.Tests.{kind_eq}
+use Rattle.protocol_spec.specs.Block.Natives.{kind_of, amount_of, with_amount, amount_limit}
 use Rattle.amount_law.specs.Amounts.{money_held}
 
 -- what must be below the limit: all amounts, or money alone

@@ -14,18 +14,18 @@ use Rattle.schedule_text.specs.declared.statement.Statement.TheVariants as state
 use Rattle.schedule_text.specs.Schedule.{schedule_of}
 use Rattle.text_law.specs.Sayable.{IsSetup, IsStatement}
 use Rattle.text_law.proofs.SaidWhole.{text_said}
-use Rattle.chain_spec.specs.Words.{Each}
-use Rattle.chain_spec.specs.Keys.{currency_sum}
-use Rattle.block_spec.specs.Natives.{amount_limit, amount_of}
+use Rattle.protocol_spec.specs.Chain.Words.{Each}
+use Rattle.protocol_spec.specs.Chain.Keys.{currency_sum}
+use Rattle.protocol_spec.specs.Block.Natives.{amount_limit, amount_of}
 use Rattle.world_spec.specs.Setting.{Trust, objects_from, with_new, setting_of}
 use Rattle.world_spec.specs.World.{Seat, member_in}
 use Rattle.world_spec.specs.Openings.{opening_at}
 use Rattle.world_spec.specs.Run.{world_after}
 use Rattle.world_spec.specs.Assumptions.{IsHonestRun}
 use Rattle.block_law.specs.Money.{cap_count, supply_sum}
-use Rattle.current_law.proofs.SetUp.{set-up-apart}
-use Rattle.epoch_law.specs.Sums.{NamesOther, epoch_gas}
-use Rattle.epoch_law.proofs.Sums.{only-gas, are-backed, set-up-backed, set-up-capless}
+use Rattle.agreement_law.proofs.SetUp.{set-up-apart}
+use Rattle.agreement_law.specs.Sums.{NamesOther, epoch_gas}
+use Rattle.agreement_law.proofs.Sums.{only-gas, are-backed, set-up-backed, set-up-capless}
 use Rattle.amount_law.specs.Amounts.{money_held, HoldsAmount, IsAmount}
 use Rattle.amount_law.proofs.Commands.{each-both}
 use Rattle.amount_law.proofs.Epochs.{gas-was-held}

@@ -11,18 +11,18 @@ use Rattle.chain_types.specs.declared.transactions.Input.{Input}
 use Rattle.chain_types.specs.declared.transactions.Input.TheVariants as inputs
 use Rattle.chain_types.specs.declared.transactions.Transaction.{Transaction}
 use Rattle.effects_core.specs.declared.effects.Effects.{Effects}
-use Rattle.chain_spec.specs.Words.{Each, all_some, onto_some}
-use Rattle.chain_spec.specs.Keys.{objects_of, version_of, version_limit, is_gas_coin, balance_of, fit_inputs, pays_gas, fits}
-use Rattle.chain_spec.proofs.ListLemmas.{and-first, and-second}
-use Rattle.block_spec.specs.Natives.{amount_limit, amount_of}
-use Rattle.block_spec.specs.Execution.{execution}
-use Rattle.member_spec.specs.Versions.{id_cmp}
-use Rattle.member_spec.specs.Sequential.{Objects, with_object, without_id, map_of, at_version, named_in, read_by, Folded, without_effects, with_execution, executed_on, fold_one, fold_all}
+use Rattle.protocol_spec.specs.Chain.Words.{Each, all_some, onto_some}
+use Rattle.protocol_spec.specs.Chain.Keys.{objects_of, version_of, version_limit, is_gas_coin, balance_of, fit_inputs, pays_gas, fits}
+use Rattle.protocol_spec.proofs.ListLemmas.{and-first, and-second}
+use Rattle.protocol_spec.specs.Block.Natives.{amount_limit, amount_of}
+use Rattle.protocol_spec.specs.Block.Execution.{execution}
+use Rattle.protocol_spec.specs.Member.Versions.{id_cmp}
+use Rattle.protocol_spec.specs.Member.Sequential.{Objects, with_object, without_id, map_of, at_version, named_in, read_by, Folded, without_effects, with_execution, executed_on, fold_one, fold_all}
 use Rattle.block_law.specs.Keeping.{GasIsAmount}
 use Rattle.block_law.proofs.Sums.{objects_weight, option_weight}
 use Rattle.sequence_law.specs.Kept.{opened_with}
 use Rattle.sequence_law.proofs.Moving.{map_weight, change-weight}
-use Rattle.epoch_law.specs.Opened.{HasEffects, GasHolds}
+use Rattle.agreement_law.specs.Opened.{HasEffects, GasHolds}
 use Rattle.amount_law.specs.Amounts.{money_held, HoldsAmount}
 use Rattle.amount_law.proofs.Written.{money-stays}
 

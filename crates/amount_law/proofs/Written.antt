@@ -11,14 +11,14 @@ use Rattle.chain_types.specs.declared.transactions.Input.TheVariants as inputs
 use Rattle.chain_types.specs.declared.transactions.Transaction.{Transaction}
 use Rattle.chain_types.specs.Equal.{id_eq}
 use Rattle.chain_types.specs.Digests.{transaction_digest}
-use Rattle.block_types.specs.declared.pieces.Placed.{Placed}
-use Rattle.chain_spec.specs.Words.{Each, numbers_below}
-use Rattle.chain_spec.specs.Keys.{version_of}
-use Rattle.chain_spec.specs.Shape.{cost}
-use Rattle.block_spec.specs.Natives.{amount_limit, amount_of}
-use Rattle.block_spec.specs.Block.{Place, Value, pure, object, vector, Block, value_in}
-use Rattle.block_spec.specs.Commands.{piece_of}
-use Rattle.block_spec.specs.Execution.{Failure, outcome, object_at, left_in, now_in, after_block, written_inputs, written_places, created_objects, with_rest_first, same_object, less_cost_first, failed_objects, done_objects, execution, executed_by}
+use Rattle.answer_types.specs.declared.pieces.Placed.{Placed}
+use Rattle.protocol_spec.specs.Chain.Words.{Each, numbers_below}
+use Rattle.protocol_spec.specs.Chain.Keys.{version_of}
+use Rattle.protocol_spec.specs.Chain.Shape.{cost}
+use Rattle.protocol_spec.specs.Block.Natives.{amount_limit, amount_of}
+use Rattle.protocol_spec.specs.Block.Block.{Place, Value, pure, object, vector, Block, value_in}
+use Rattle.protocol_spec.specs.Block.Commands.{piece_of}
+use Rattle.protocol_spec.specs.Block.Execution.{Failure, outcome, object_at, left_in, now_in, after_block, written_inputs, written_places, created_objects, with_rest_first, same_object, less_cost_first, failed_objects, done_objects, execution, executed_by}
 use Rattle.block_law.proofs.Slots.{value-every}
 use Rattle.amount_law.specs.Amounts.{HoldsAmount, IsAmount, HasBytes}
 use Rattle.amount_law.proofs.Low.{with-low, less-low, bytes-low}

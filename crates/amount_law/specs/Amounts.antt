@@ -6,9 +6,9 @@ use Rattle.chain_types.specs.declared.objects.Content.TheVariants as content
 use Rattle.chain_types.specs.declared.transactions.Input.{Input}
 use Rattle.chain_types.specs.declared.transactions.Input.TheVariants as inputs
 use Rattle.chain_types.specs.declared.transactions.Transaction.{Transaction}
-use Rattle.chain_spec.specs.Words.{Each}
-use Rattle.block_spec.specs.Natives.{amount_limit, amount_of}
-use Rattle.block_spec.specs.Execution.{execution}
+use Rattle.protocol_spec.specs.Chain.Words.{Each}
+use Rattle.protocol_spec.specs.Block.Natives.{amount_limit, amount_of}
+use Rattle.protocol_spec.specs.Block.Execution.{execution}
 
 -- the money of a content: the balance of a coin or a vault, the supply of a cap
 abbrev pub money_held : Content → ℕ

@@ -5,15 +5,15 @@ use Rattle.chain_types.specs.declared.objects.Object.{Object}
 use Rattle.chain_types.specs.declared.transactions.Transaction.{Transaction}
 use Rattle.chain_messages.specs.declared.messages.Entry.{Entry}
 use Rattle.schedule_text.specs.declared.words.Event.{Event}
-use Rattle.chain_spec.specs.Words.{Each}
-use Rattle.member_spec.specs.Sequential.{map_of, fold_all}
+use Rattle.protocol_spec.specs.Chain.Words.{Each}
+use Rattle.protocol_spec.specs.Member.Sequential.{map_of, fold_all}
 use Rattle.world_spec.specs.Setting.{Setting}
 use Rattle.world_spec.specs.World.{Seat, member_in}
 use Rattle.world_spec.specs.Openings.{opening_at}
 use Rattle.world_spec.specs.Run.{world_after}
 use Rattle.world_spec.specs.Assumptions.{IsHonestRun}
-use Rattle.chain_law.specs.Orderly.{AreApart}
-use Rattle.epoch_law.specs.Sums.{GasHeldBefore}
+use Rattle.sequence_law.specs.Orderly.{AreApart}
+use Rattle.agreement_law.specs.Sums.{GasHeldBefore}
 use Rattle.amount_law.specs.Amounts.{HoldsAmount}
 
 -- one thread that executes any transactions in order leaves amounts, where it started from amounts

@@ -2,15 +2,15 @@
 use Rattle.std.specs.Prelude.{◌≡◌, ◌≢◌, ◌<◌, ◌+◌, ℕ, suc, List, slice_get, Some, Ok}
 use Rattle.schedule_text.specs.declared.words.Schedule.{Schedule}
 use Rattle.schedule_text.specs.Schedule.{schedule_of}
-use Rattle.chain_spec.specs.Words.{Each}
-use Rattle.chain_spec.specs.Keys.{currency_sum}
+use Rattle.protocol_spec.specs.Chain.Words.{Each}
+use Rattle.protocol_spec.specs.Chain.Keys.{currency_sum}
 use Rattle.world_spec.specs.Setting.{Trust, setting_of}
 use Rattle.world_spec.specs.World.{Seat, member_in}
 use Rattle.world_spec.specs.Openings.{opening_at}
 use Rattle.world_spec.specs.Run.{world_after}
 use Rattle.world_spec.specs.Assumptions.{IsHonestRun}
 use Rattle.block_law.specs.Money.{cap_count, supply_sum}
-use Rattle.epoch_law.specs.Sums.{epoch_gas}
+use Rattle.agreement_law.specs.Sums.{epoch_gas}
 use Rattle.amount_law.specs.Amounts.{IsAmount}
 
 -- the objects of its set-up are amounts, values too

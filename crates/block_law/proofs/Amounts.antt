@@ -7,12 +7,12 @@ use native.Mathlib.Omega.{arith}
 use Rattle.chain_types.specs.declared.objects.Kind.TheVariants as kind
 use Rattle.chain_types.specs.declared.objects.Content.{Content}
 use Rattle.chain_types.specs.declared.objects.Content.TheVariants as content
-use Rattle.block_types.specs.declared.pieces.Item.{Item}
-use Rattle.chain_spec.specs.Words.{Each}
-use Rattle.chain_spec.specs.Tests.{kind_eq}
-use Rattle.chain_spec.specs.Keys.{money_of}
-use Rattle.chain_spec.proofs.ListLemmas.{or-first, or-second}
-use Rattle.block_spec.specs.Natives.{kind_of, currency_of, amount_of, with_amount}
+use Rattle.answer_types.specs.declared.pieces.Item.{Item}
+use Rattle.protocol_spec.specs.Chain.Words.{Each}
+use Rattle.protocol_spec.specs.Chain.Tests.{kind_eq}
+use Rattle.protocol_spec.specs.Chain.Keys.{money_of}
+use Rattle.protocol_spec.proofs.ListLemmas.{or-first, or-second}
+use Rattle.protocol_spec.specs.Block.Natives.{kind_of, currency_of, amount_of, with_amount}
 use Rattle.block_law.specs.Money.{supply_of, caps_of}
 use Rattle.block_law.proofs.Slots.{items_weight}
 

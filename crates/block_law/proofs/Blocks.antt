@@ -12,13 +12,13 @@ use Rattle.chain_types.specs.declared.transactions.Input.TheVariants as inputs
 use Rattle.chain_types.specs.declared.transactions.Command.{Command}
 use Rattle.chain_types.specs.declared.transactions.Command.TheVariants as command
 use Rattle.chain_types.specs.declared.transactions.Transaction.{Transaction}
-use Rattle.block_types.specs.declared.pieces.Item.{Item}
-use Rattle.chain_spec.specs.Words.{where_true, refused_or}
-use Rattle.chain_spec.specs.Keys.{version_of}
-use Rattle.block_spec.specs.Natives.{parameters_of, amount_of}
-use Rattle.block_spec.specs.Block.{input, Value, pure, object, Slot, Block, value_in}
-use Rattle.block_spec.specs.Commands.{Fault, cause, needs_of, wrong_count, is_read_only, arguments_cause, taken_cause, performed, command_step, transfer_block, vector_block, address_in}
-use Rattle.block_spec.specs.Execution.{Failure, item_of, gas_item, input_slots, first_slots, first_block, commands_from, commands_next, is_unused, checked_end, outcome}
+use Rattle.answer_types.specs.declared.pieces.Item.{Item}
+use Rattle.protocol_spec.specs.Chain.Words.{where_true, refused_or}
+use Rattle.protocol_spec.specs.Chain.Keys.{version_of}
+use Rattle.protocol_spec.specs.Block.Natives.{parameters_of, amount_of}
+use Rattle.protocol_spec.specs.Block.Block.{input, Value, pure, object, Slot, Block, value_in}
+use Rattle.protocol_spec.specs.Block.Commands.{Fault, cause, needs_of, wrong_count, is_read_only, arguments_cause, taken_cause, performed, command_step, transfer_block, vector_block, address_in}
+use Rattle.protocol_spec.specs.Block.Execution.{Failure, item_of, gas_item, input_slots, first_slots, first_block, commands_from, commands_next, is_unused, checked_end, outcome}
 use Rattle.block_law.specs.Names.{drawn_ids}
 use Rattle.block_law.proofs.Counts.{times}
 use Rattle.block_law.proofs.Slots.{block_weight, Every}

@@ -7,8 +7,8 @@ use native.Mathlib.Omega.{arith}
 use Rattle.digest_core.specs.declared.Digest.{Digest}
 use Rattle.chain_types.specs.declared.objects.ObjectId.{ObjectId}
 use Rattle.chain_types.specs.Equal.{digest_eq, id_eq}
-use Rattle.chain_spec.specs.Words.{repeats}
-use Rattle.chain_spec.proofs.ListLemmas.{or-first, or-second}
+use Rattle.protocol_spec.specs.Chain.Words.{repeats}
+use Rattle.protocol_spec.proofs.ListLemmas.{or-first, or-second}
 
 pub digest_same : (a b : Digest) → digest_eq a b ≡ true → a ≡ b
 digest_same a b h = ap (λ (x : List ℕ). let d : Digest = record { 0 = x } in d) ((bytes_eq-Decides a.0 b.0).0 h)

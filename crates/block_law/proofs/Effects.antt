@@ -11,17 +11,17 @@ use Rattle.chain_types.specs.declared.transactions.Input.{Input}
 use Rattle.chain_types.specs.declared.transactions.Input.TheVariants as inputs
 use Rattle.chain_types.specs.declared.transactions.Transaction.{Transaction}
 use Rattle.effects_core.specs.declared.effects.Written.{Written}
-use Rattle.block_types.specs.declared.pieces.Item.{Item}
-use Rattle.block_types.specs.declared.pieces.Placed.{Placed}
+use Rattle.answer_types.specs.declared.pieces.Item.{Item}
+use Rattle.answer_types.specs.declared.pieces.Placed.{Placed}
 use Rattle.chain_types.specs.Equal.{digest_eq, id_eq}
 use Rattle.chain_types.specs.Digests.{transaction_digest, digest_of_object}
-use Rattle.chain_spec.specs.Words.{Each, numbers_below, repeats}
-use Rattle.chain_spec.specs.Tests.{has_id}
-use Rattle.chain_spec.specs.Keys.{fits, fits_input, fit_inputs, pays_gas, version_of, version_limit, objects_of, named_id, named_ids, is_owned_by, is_immutable, is_shared_since}
-use Rattle.chain_spec.proofs.ListLemmas.{find-test, and-first, and-second}
-use Rattle.block_spec.specs.Block.{Place, gas, input, result, Value, pure, object, vector, Slot, Block, value_in}
-use Rattle.block_spec.specs.Commands.{is_read_only, piece_of}
-use Rattle.block_spec.specs.Execution.{Failure, item_of, gas_item, input_slots, first_slots, outcome, object_at, left_in, now_in, after_block, written_inputs, written_places, created_objects, with_rest_first, done_objects, is_none_left, deleted_id, deleted_ids, same_object, less_cost_first, failed_objects, written_of, execution, executed_by}
+use Rattle.protocol_spec.specs.Chain.Words.{Each, numbers_below, repeats}
+use Rattle.protocol_spec.specs.Chain.Tests.{has_id}
+use Rattle.protocol_spec.specs.Chain.Keys.{fits, fits_input, fit_inputs, pays_gas, version_of, version_limit, objects_of, named_id, named_ids, is_owned_by, is_immutable, is_shared_since}
+use Rattle.protocol_spec.proofs.ListLemmas.{find-test, and-first, and-second}
+use Rattle.protocol_spec.specs.Block.Block.{Place, gas, input, result, Value, pure, object, vector, Slot, Block, value_in}
+use Rattle.protocol_spec.specs.Block.Commands.{is_read_only, piece_of}
+use Rattle.protocol_spec.specs.Block.Execution.{Failure, item_of, gas_item, input_slots, first_slots, outcome, object_at, left_in, now_in, after_block, written_inputs, written_places, created_objects, with_rest_first, done_objects, is_none_left, deleted_id, deleted_ids, same_object, less_cost_first, failed_objects, written_of, execution, executed_by}
 use Rattle.block_law.specs.Names.{drawn_id, drawn_ids, touched_ids, effect_ids}
 use Rattle.block_law.proofs.Counts.{hit, times, times-append, id_same, once-each, each-once, none-times, times-none}
 use Rattle.block_law.proofs.Slots.{Every, value-every}

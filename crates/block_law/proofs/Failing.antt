@@ -9,12 +9,12 @@ use Rattle.chain_types.specs.declared.objects.Content.TheVariants as content
 use Rattle.chain_types.specs.declared.transactions.Transaction.{Transaction}
 use Rattle.effects_core.specs.declared.effects.Status.TheVariants as status
 use Rattle.chain_types.specs.Digests.{transaction_digest}
-use Rattle.chain_spec.specs.Words.{first_some, where_true}
-use Rattle.chain_spec.specs.Keys.{fits, fit_inputs, version_of, version_limit, objects_of, is_gas_coin, balance_of}
-use Rattle.chain_spec.specs.Shape.{shape_fault, shape_cases, cost}
-use Rattle.chain_spec.proofs.ListLemmas.{and-first, and-second}
-use Rattle.block_spec.specs.Block.{Block}
-use Rattle.block_spec.specs.Execution.{Failure, execution, executed_by, outcome}
+use Rattle.protocol_spec.specs.Chain.Words.{first_some, where_true}
+use Rattle.protocol_spec.specs.Chain.Keys.{fits, fit_inputs, version_of, version_limit, objects_of, is_gas_coin, balance_of}
+use Rattle.protocol_spec.specs.Chain.Shape.{shape_fault, shape_cases, cost}
+use Rattle.protocol_spec.proofs.ListLemmas.{and-first, and-second}
+use Rattle.protocol_spec.specs.Block.Block.{Block}
+use Rattle.protocol_spec.specs.Block.Execution.{Failure, execution, executed_by, outcome}
 use Rattle.block_law.specs.Failing.{PaysGas}
 
 abbrev later : {A : Type 0} → ℕ → List A → List A

@@ -11,14 +11,14 @@ use Rattle.chain_types.specs.declared.objects.Content.TheVariants as content
 use Rattle.chain_types.specs.declared.transactions.Transaction.{Transaction}
 use Rattle.chain_types.specs.Equal.{id_eq}
 use Rattle.chain_types.specs.Digests.{transaction_digest}
-use Rattle.block_types.specs.declared.pieces.Placed.{Placed}
-use Rattle.chain_spec.specs.Words.{Each, Has, repeats}
-use Rattle.chain_spec.specs.Keys.{fits, money_of, currency_sum, version_of, named_ids}
-use Rattle.chain_spec.specs.Shape.{cost}
-use Rattle.block_spec.specs.Natives.{amount_limit, amount_of, with_amount}
-use Rattle.block_spec.specs.Block.{Place, gas, Value, pure, object, vector, Slot, Block, value_in}
-use Rattle.block_spec.specs.Commands.{piece_of}
-use Rattle.block_spec.specs.Execution.{Failure, first_slots, first_block, outcome, object_at, now_in, after_block, written_inputs, written_places, created_objects, with_rest_first, done_objects, same_object, failed_objects, execution, executed_by}
+use Rattle.answer_types.specs.declared.pieces.Placed.{Placed}
+use Rattle.protocol_spec.specs.Chain.Words.{Each, Has, repeats}
+use Rattle.protocol_spec.specs.Chain.Keys.{fits, money_of, currency_sum, version_of, named_ids}
+use Rattle.protocol_spec.specs.Chain.Shape.{cost}
+use Rattle.protocol_spec.specs.Block.Natives.{amount_limit, amount_of, with_amount}
+use Rattle.protocol_spec.specs.Block.Block.{Place, gas, Value, pure, object, vector, Slot, Block, value_in}
+use Rattle.protocol_spec.specs.Block.Commands.{piece_of}
+use Rattle.protocol_spec.specs.Block.Execution.{Failure, first_slots, first_block, outcome, object_at, now_in, after_block, written_inputs, written_places, created_objects, with_rest_first, done_objects, same_object, failed_objects, execution, executed_by}
 use Rattle.block_law.specs.Money.{supply_of, supply_sum, caps_of, cap_count}
 use Rattle.block_law.specs.Names.{drawn_ids, touched_ids}
 use Rattle.block_law.specs.Keeping.{MayRun, objects_before, gas_in}

@@ -5,14 +5,14 @@ use Rattle.std.specs.Prelude.{◌≡◌, ℕ, ◌+◌, Bool, true, false, not, c
 use Rattle.std.specs.List.{enumerate_from}
 use Rattle.chain_types.specs.declared.transactions.Command.{Command}
 use Rattle.chain_types.specs.declared.transactions.Transaction.{Transaction}
-use Rattle.block_types.specs.declared.pieces.Item.{Item}
-use Rattle.block_types.specs.declared.pieces.Placed.{Placed}
-use Rattle.chain_spec.specs.Words.{Each, Has}
-use Rattle.block_spec.specs.Natives.{kind_of, with_amount, holding}
-use Rattle.chain_spec.specs.Tests.{kind_eq}
+use Rattle.answer_types.specs.declared.pieces.Item.{Item}
+use Rattle.answer_types.specs.declared.pieces.Placed.{Placed}
+use Rattle.protocol_spec.specs.Chain.Words.{Each, Has}
+use Rattle.protocol_spec.specs.Block.Natives.{kind_of, with_amount, holding}
+use Rattle.protocol_spec.specs.Chain.Tests.{kind_eq}
 use Rattle.chain_types.specs.declared.objects.Kind.{Kind}
-use Rattle.block_spec.specs.Block.{Place, gas, input, result, Value, pure, object, vector, Slot, value_in, put_in, place_eq, result_slots}
-use Rattle.block_spec.specs.Commands.{is_transfer, is_common, is_read_only, stays_in_place, is_frozen_place}
+use Rattle.protocol_spec.specs.Block.Block.{Place, gas, input, result, Value, pure, object, vector, Slot, value_in, put_in, place_eq, result_slots}
+use Rattle.protocol_spec.specs.Block.Commands.{is_transfer, is_common, is_read_only, stays_in_place, is_frozen_place}
 use Rattle.block_law.proofs.Slots.{Every, every-append, values_weight, slots_weight}
 use Rattle.block_law.proofs.Amounts.{amount-twice}
 use native.Mathlib.Omega.{arith}

@@ -11,3 +11,6 @@ pub mod Payer
 pub mod Effects
 pub mod Sums
 pub mod Keeping
+pub mod Places
+pub mod Tracked
+pub mod Written

@@ -16,16 +16,16 @@ use Rattle.chain_types.specs.declared.transactions.Argument.{Argument}
 use Rattle.chain_types.specs.declared.transactions.Command.{Command}
 use Rattle.chain_types.specs.declared.transactions.Transaction.{Transaction}
 use Rattle.chain_types.specs.Equal.{id_eq}
-use Rattle.block_types.specs.declared.pieces.Item.{Item}
-use Rattle.block_types.specs.declared.pieces.Placed.{Placed}
-use Rattle.block_types.specs.declared.pieces.Gave.{Gave}
-use Rattle.block_types.specs.declared.pieces.Gave.TheVariants as gave
-use Rattle.chain_spec.specs.Words.{Each}
-use Rattle.chain_spec.specs.Tests.{kind_eq}
-use Rattle.chain_spec.specs.Keys.{money_of}
-use Rattle.block_spec.specs.Natives.{parameters_of, native_gives, kind_of, currency_of, amount_of, holding, Site, new_item, amount_limit, item_given, items_given, item_at, number_at, gives, owned_by_all, abort_if, other_currency, joined, coin_mint, coin_burn, counter_add, counter_require, vault_new, vault_deposit, vault_withdraw, share, counter_add_limited, names_vault, may_be_shared}
-use Rattle.block_spec.specs.Block.{Place, Value, pure, object, vector, Slot, Block, place_eq, value_in, result_slots, with_results}
-use Rattle.block_spec.specs.Commands.{Fault, Need, number, by_value, by_mut, by_ref, coins, paired, place_of, is_pure, is_right_kind, is_transfer, is_frozen_place, stays_in_place, given_as, given_all, spend_all, spend_taken, put_changed, put_back, placed_list, called_block, called, site}
+use Rattle.answer_types.specs.declared.pieces.Item.{Item}
+use Rattle.answer_types.specs.declared.pieces.Placed.{Placed}
+use Rattle.answer_types.specs.declared.pieces.Gave.{Gave}
+use Rattle.answer_types.specs.declared.pieces.Gave.TheVariants as gave
+use Rattle.protocol_spec.specs.Chain.Words.{Each}
+use Rattle.protocol_spec.specs.Chain.Tests.{kind_eq}
+use Rattle.protocol_spec.specs.Chain.Keys.{money_of}
+use Rattle.protocol_spec.specs.Block.Natives.{parameters_of, native_gives, kind_of, currency_of, amount_of, holding, Site, new_item, amount_limit, item_given, items_given, item_at, number_at, gives, owned_by_all, abort_if, other_currency, joined, coin_mint, coin_burn, counter_add, counter_require, vault_new, vault_deposit, vault_withdraw, share, counter_add_limited, names_vault, may_be_shared}
+use Rattle.protocol_spec.specs.Block.Block.{Place, Value, pure, object, vector, Slot, Block, place_eq, value_in, result_slots, with_results}
+use Rattle.protocol_spec.specs.Block.Commands.{Fault, Need, number, by_value, by_mut, by_ref, coins, paired, place_of, is_pure, is_right_kind, is_transfer, is_frozen_place, stays_in_place, given_as, given_all, spend_all, spend_taken, put_changed, put_back, placed_list, called_block, called, site}
 use Rattle.block_law.specs.Money.{supply_of, caps_of}
 use Rattle.block_law.specs.Names.{drawn_id, drawn_ids}
 use Rattle.block_law.proofs.Counts.{hit, times}

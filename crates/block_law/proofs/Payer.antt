@@ -20,18 +20,18 @@ use Rattle.chain_types.specs.declared.transactions.Input.TheVariants as inputs
 use Rattle.chain_types.specs.declared.transactions.Command.{Command}
 use Rattle.chain_types.specs.declared.transactions.Command.TheVariants as command
 use Rattle.chain_types.specs.declared.transactions.Transaction.{Transaction}
-use Rattle.block_types.specs.declared.pieces.Item.{Item}
-use Rattle.block_types.specs.declared.pieces.Placed.{Placed}
-use Rattle.block_types.specs.declared.pieces.Gave.{Gave}
-use Rattle.block_types.specs.declared.pieces.Gave.TheVariants as gave
-use Rattle.block_types.specs.declared.pieces.Mode.{Mode}
-use Rattle.chain_spec.specs.Words.{Each, Has, first_some, where_true}
-use Rattle.chain_spec.specs.Tests.{kind_eq}
-use Rattle.chain_spec.specs.Keys.{version_of}
-use Rattle.block_spec.specs.Natives.{kind_of, amount_of, with_amount, holding, parameters, parameters_at, parameters_of, amount_limit, native_gives}
-use Rattle.block_spec.specs.Block.{Place, gas, input, result, Value, pure, object, vector, Slot, Block, value_in, put_in, result_slots}
-use Rattle.block_spec.specs.Commands.{Fault, cause, Need, number, address, by_value, by_mut, by_ref, coins, need_of, paired, all_by, needs_of, place_of, is_right_kind, is_transfer, takes_value, stays_in_place, wrong_count, arguments_cause, taken_cause, piece_of, item_in, items_in, number_in, spend, spend_all, split, split_block, withheld, sum_of, merge_cases, merge_block, merge, placed_at, address_in, transfer_block, vector_block, given_all, spend_taken, put_changed, placed_list, called_block, called, site, performed, command_step}
-use Rattle.block_spec.specs.Execution.{Failure, gas_item, input_slots, first_block, commands_from, commands_next, is_unused, checked_end, outcome}
+use Rattle.answer_types.specs.declared.pieces.Item.{Item}
+use Rattle.answer_types.specs.declared.pieces.Placed.{Placed}
+use Rattle.answer_types.specs.declared.pieces.Gave.{Gave}
+use Rattle.answer_types.specs.declared.pieces.Gave.TheVariants as gave
+use Rattle.answer_types.specs.declared.pieces.Mode.{Mode}
+use Rattle.protocol_spec.specs.Chain.Words.{Each, Has, first_some, where_true}
+use Rattle.protocol_spec.specs.Chain.Tests.{kind_eq}
+use Rattle.protocol_spec.specs.Chain.Keys.{version_of}
+use Rattle.protocol_spec.specs.Block.Natives.{kind_of, amount_of, with_amount, holding, parameters, parameters_at, parameters_of, amount_limit, native_gives}
+use Rattle.protocol_spec.specs.Block.Block.{Place, gas, input, result, Value, pure, object, vector, Slot, Block, value_in, put_in, result_slots}
+use Rattle.protocol_spec.specs.Block.Commands.{Fault, cause, Need, number, address, by_value, by_mut, by_ref, coins, need_of, paired, all_by, needs_of, place_of, is_right_kind, is_transfer, takes_value, stays_in_place, wrong_count, arguments_cause, taken_cause, piece_of, item_in, items_in, number_in, spend, spend_all, split, split_block, withheld, sum_of, merge_cases, merge_block, merge, placed_at, address_in, transfer_block, vector_block, given_all, spend_taken, put_changed, placed_list, called_block, called, site, performed, command_step}
+use Rattle.protocol_spec.specs.Block.Execution.{Failure, gas_item, input_slots, first_block, commands_from, commands_next, is_unused, checked_end, outcome}
 use Rattle.block_law.proofs.Slots.{Every, put-every, value-every, every-append, Lies, spend-placed, spend-every}
 use Rattle.block_law.proofs.Reading.{all-none, where-false, IsRead, AllRead, all-read, is-changed, Takes, takes}
 use Rattle.block_law.proofs.Amounts.{amount, each-map}

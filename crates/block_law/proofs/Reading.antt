@@ -6,13 +6,13 @@ use Rattle.chain_types.specs.declared.objects.Kind.{Kind}
 use Rattle.chain_types.specs.declared.transactions.Argument.{Argument}
 use Rattle.chain_types.specs.declared.transactions.Command.{Command}
 use Rattle.chain_types.specs.declared.transactions.Transaction.{Transaction}
-use Rattle.block_types.specs.declared.pieces.Item.{Item}
-use Rattle.chain_spec.specs.Words.{Each, first_some, where_true}
-use Rattle.chain_spec.specs.Tests.{kind_eq}
-use Rattle.chain_spec.proofs.ListLemmas.{or-first}
-use Rattle.block_spec.specs.Natives.{kind_of}
-use Rattle.block_spec.specs.Block.{Value, pure, object, vector, Block, place_eq, value_in}
-use Rattle.block_spec.specs.Commands.{Need, by_value, by_mut, all_by, place_of, has_no_result, is_right_kind, takes_value, changes_value, stays_in_place, is_frozen_place, is_pure, is_aliased, value_cases, value_cause, argument_cause, arguments_cause, items_in}
+use Rattle.answer_types.specs.declared.pieces.Item.{Item}
+use Rattle.protocol_spec.specs.Chain.Words.{Each, first_some, where_true}
+use Rattle.protocol_spec.specs.Chain.Tests.{kind_eq}
+use Rattle.protocol_spec.proofs.ListLemmas.{or-first}
+use Rattle.protocol_spec.specs.Block.Natives.{kind_of}
+use Rattle.protocol_spec.specs.Block.Block.{Value, pure, object, vector, Block, place_eq, value_in}
+use Rattle.protocol_spec.specs.Block.Commands.{Need, by_value, by_mut, all_by, place_of, has_no_result, is_right_kind, takes_value, changes_value, stays_in_place, is_frozen_place, is_pure, is_aliased, value_cases, value_cause, argument_cause, arguments_cause, items_in}
 use Rattle.block_law.proofs.Slots.{Others, Lies}
 
 -- ---- no case applies

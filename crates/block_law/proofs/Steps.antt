@@ -16,13 +16,13 @@ use Rattle.chain_types.specs.declared.transactions.Argument.{Argument}
 use Rattle.chain_types.specs.declared.transactions.Command.{Command}
 use Rattle.chain_types.specs.declared.transactions.Transaction.{Transaction}
 use Rattle.chain_types.specs.Equal.{id_eq}
-use Rattle.block_types.specs.declared.pieces.Item.{Item}
-use Rattle.block_types.specs.declared.pieces.Placed.{Placed}
-use Rattle.chain_spec.specs.Words.{Each, Has, numbers_below, first_some, unless_refused}
-use Rattle.chain_spec.specs.Tests.{kind_eq}
-use Rattle.block_spec.specs.Natives.{kind_of, currency_of, holding, Site, new_item}
-use Rattle.block_spec.specs.Block.{Place, gas, input, result, Value, pure, object, vector, Slot, Block, place_eq, value_in, put_in, result_slots}
-use Rattle.block_spec.specs.Commands.{Fault, cause, number, address, by_value, by_mut, all_by, place_of, is_transfer, is_frozen_place, stays_in_place, piece_of, item_in, items_in, number_in, spend, spend_all, numbered_coin, split_block, split, sum_of, merge_cases, merge_block, merge, placed_at, transfer_block, vector_block, site}
+use Rattle.answer_types.specs.declared.pieces.Item.{Item}
+use Rattle.answer_types.specs.declared.pieces.Placed.{Placed}
+use Rattle.protocol_spec.specs.Chain.Words.{Each, Has, numbers_below, first_some, unless_refused}
+use Rattle.protocol_spec.specs.Chain.Tests.{kind_eq}
+use Rattle.protocol_spec.specs.Block.Natives.{kind_of, currency_of, holding, Site, new_item}
+use Rattle.protocol_spec.specs.Block.Block.{Place, gas, input, result, Value, pure, object, vector, Slot, Block, place_eq, value_in, put_in, result_slots}
+use Rattle.protocol_spec.specs.Block.Commands.{Fault, cause, number, address, by_value, by_mut, all_by, place_of, is_transfer, is_frozen_place, stays_in_place, piece_of, item_in, items_in, number_in, spend, spend_all, numbered_coin, split_block, split, sum_of, merge_cases, merge_block, merge, placed_at, transfer_block, vector_block, site}
 use Rattle.block_law.specs.Names.{drawn_id, drawn_ids}
 use Rattle.block_law.proofs.Counts.{hit, times, times-append}
 use Rattle.block_law.proofs.Slots.{place-same, items_weight, values_weight, placed_weight, block_weight, slots-append, placed-append, objects-weight, put-weight, Every, put-every, value-every, Others, Lies, spend-weight, spend-placed, spend-made, spend-other, spend-every}

@@ -13,13 +13,13 @@ use Rattle.chain_types.specs.declared.transactions.Input.{Input}
 use Rattle.chain_types.specs.declared.transactions.Input.TheVariants as inputs
 use Rattle.chain_types.specs.declared.transactions.Transaction.{Transaction}
 use Rattle.chain_types.specs.Equal.{id_eq}
-use Rattle.block_types.specs.declared.pieces.Item.{Item}
-use Rattle.block_types.specs.declared.pieces.Placed.{Placed}
-use Rattle.chain_spec.specs.Words.{Each, numbers_below}
-use Rattle.chain_spec.proofs.ListLemmas.{or-first, or-second}
-use Rattle.block_spec.specs.Block.{Place, gas, input, result, Value, pure, object, vector, Slot, Block, value_in}
-use Rattle.block_spec.specs.Commands.{is_common, is_read_only, piece_of}
-use Rattle.block_spec.specs.Execution.{is_unused, is_left, item_of, input_slots, first_slots, first_block, object_at, left_in, now_in, after_block, written_inputs, written_places, created_objects}
+use Rattle.answer_types.specs.declared.pieces.Item.{Item}
+use Rattle.answer_types.specs.declared.pieces.Placed.{Placed}
+use Rattle.protocol_spec.specs.Chain.Words.{Each, numbers_below}
+use Rattle.protocol_spec.proofs.ListLemmas.{or-first, or-second}
+use Rattle.protocol_spec.specs.Block.Block.{Place, gas, input, result, Value, pure, object, vector, Slot, Block, value_in}
+use Rattle.protocol_spec.specs.Block.Commands.{is_common, is_read_only, piece_of}
+use Rattle.protocol_spec.specs.Block.Execution.{is_unused, is_left, item_of, input_slots, first_slots, first_block, object_at, left_in, now_in, after_block, written_inputs, written_places, created_objects}
 use Rattle.block_law.specs.Names.{drawn_id, drawn_ids}
 use Rattle.block_law.proofs.Counts.{hit, times, times-append, id_same, id_equal, id_refl}
 use Rattle.block_law.proofs.Slots.{value_weight, slots_weight, placed_weight, block_weight, Every, value-every}

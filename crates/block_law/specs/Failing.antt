@@ -4,11 +4,11 @@ use Rattle.chain_types.specs.declared.objects.Object.{Object}
 use Rattle.chain_types.specs.declared.objects.Content.TheVariants as content
 use Rattle.chain_types.specs.declared.transactions.Transaction.{Transaction}
 use Rattle.effects_core.specs.declared.effects.Status.TheVariants as status
-use Rattle.block_types.specs.declared.pieces.Executed.{Executed}
-use Rattle.chain_spec.specs.Keys.{fits, version_of}
-use Rattle.chain_spec.specs.Shape.{shape_fault, cost}
-use Rattle.block_spec.specs.Block.{Place}
-use Rattle.block_spec.specs.Execution.{execution, written_inputs}
+use Rattle.answer_types.specs.declared.pieces.Executed.{Executed}
+use Rattle.protocol_spec.specs.Chain.Keys.{fits, version_of}
+use Rattle.protocol_spec.specs.Chain.Shape.{shape_fault, cost}
+use Rattle.protocol_spec.specs.Block.Block.{Place}
+use Rattle.protocol_spec.specs.Block.Execution.{execution, written_inputs}
 
 -- an object at another version
 abbrev pub at_version : ℕ → (Place × Object) → Object

@@ -4,12 +4,12 @@ use Rattle.chain_types.specs.declared.objects.Object.{Object}
 use Rattle.chain_types.specs.declared.objects.Content.TheVariants as content
 use Rattle.chain_types.specs.declared.transactions.Transaction.{Transaction}
 use Rattle.chain_types.specs.Equal.{id_eq}
-use Rattle.chain_spec.specs.Words.{repeats}
-use Rattle.chain_spec.specs.Keys.{fits, money_of, currency_sum}
-use Rattle.chain_spec.specs.Shape.{shape_fault}
-use Rattle.block_spec.specs.Natives.{amount_limit, amount_of}
-use Rattle.block_spec.specs.Block.{Place}
-use Rattle.block_spec.specs.Execution.{execution, written_places}
+use Rattle.protocol_spec.specs.Chain.Words.{repeats}
+use Rattle.protocol_spec.specs.Chain.Keys.{fits, money_of, currency_sum}
+use Rattle.protocol_spec.specs.Chain.Shape.{shape_fault}
+use Rattle.protocol_spec.specs.Block.Natives.{amount_limit, amount_of}
+use Rattle.protocol_spec.specs.Block.Block.{Place}
+use Rattle.protocol_spec.specs.Block.Execution.{execution, written_places}
 use Rattle.block_law.specs.Money.{supply_sum, cap_count}
 use Rattle.block_law.specs.Names.{touched_ids}
 

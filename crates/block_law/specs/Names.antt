@@ -8,10 +8,10 @@ use Rattle.chain_types.specs.declared.transactions.Transaction.{Transaction}
 use Rattle.effects_core.specs.declared.effects.Effects.{Effects}
 use Rattle.effects_core.specs.declared.effects.Written.{Written}
 use Rattle.chain_types.specs.Equal.{id_eq}
-use Rattle.chain_spec.specs.Words.{numbers_below, repeats}
-use Rattle.chain_spec.specs.Tests.{has_id}
-use Rattle.chain_spec.specs.Keys.{fits, named_ids}
-use Rattle.block_spec.specs.Execution.{execution}
+use Rattle.protocol_spec.specs.Chain.Words.{numbers_below, repeats}
+use Rattle.protocol_spec.specs.Chain.Tests.{has_id}
+use Rattle.protocol_spec.specs.Chain.Keys.{fits, named_ids}
+use Rattle.protocol_spec.specs.Block.Execution.{execution}
 
 abbrev pub drawn_id : Digest → ℕ → ObjectId
 drawn_id tx n = record { 0 = created_id_of tx n }

@@ -1,36 +1,12 @@
-//! What the execution of a block keeps: laws over its definition, each for every transaction and all objects.
+//! Laws over the execution of a block, each for every transaction and all objects: what it keeps, and what it makes
+//! of shared objects.
 #![tactic(auto)]
 
-ghost use Rattle.block_law.specs.Failing.{AFailedBlockPaysGas};
-ghost use Rattle.block_law.specs.Keeping.{CapsAreKept, GasCurrencyIsKept, MoneyMovesWithSupplies};
-ghost use Rattle.block_law.specs.Names.{EffectsNameEachIdOnce, EffectsNameWhatIsTouched};
+mod block;
+mod shared;
 
-/// A block that fails changes the balance of its gas coin and the versions of what it may write, and nothing else.
-pub fn a_failed_block_pays_gas()
-    ensures { AFailedBlockPaysGas }
-{}
-
-/// Effects name no id that the transaction neither names nor draws.
-pub fn effects_name_what_is_touched()
-    ensures { EffectsNameWhatIsTouched }
-{}
-
-/// Where all ids that a transaction names or draws are apart, its effects name each id at most once.
-pub fn effects_name_each_id_once()
-    ensures { EffectsNameEachIdOnce }
-{}
-
-/// Of each currency, what coins and vaults hold moves with the supplies of its caps, and with the gas that is charged.
-pub fn money_moves_with_supplies()
-    ensures { MoneyMovesWithSupplies }
-{}
-
-/// No transaction makes or deletes a cap.
-pub fn caps_are_kept()
-    ensures { CapsAreKept }
-{}
-
-/// Of the currency that pays gas, nothing is made or destroyed but the gas.
-pub fn gas_currency_is_kept()
-    ensures { GasCurrencyIsKept }
-{}
+pub use block::{
+    a_failed_block_pays_gas, caps_are_kept, effects_name_each_id_once,
+    effects_name_what_is_touched, gas_currency_is_kept, money_moves_with_supplies,
+};
+pub use shared::{shared_inputs_are_written, writes_stay_shared};

@@ -14,11 +14,11 @@ use Rattle.chain_messages.specs.declared.messages.Statement.TheVariants as state
 use Rattle.chain_messages.specs.declared.messages.Sealed.{Sealed}
 use Rattle.chain_messages.specs.declared.messages.MemberSeal.{MemberSeal}
 use Rattle.chain_messages.specs.declared.messages.Certificate.{Certificate}
-use Rattle.chain_spec.specs.Words.{Each, first_of, first_some, unless_refused, where_true}
-use Rattle.chain_spec.specs.Keys.{objects_of}
-use Rattle.chain_spec.specs.Shape.{shape_fault}
-use Rattle.chain_spec.specs.Tests.{origin_eq, origins_eq}
-use Rattle.chain_spec.specs.Certificates.{Rules, accepts_statement, bad_seal, cert_refusal, members_of, vote_of}
+use Rattle.protocol_spec.specs.Chain.Words.{Each, first_of, first_some, unless_refused, where_true}
+use Rattle.protocol_spec.specs.Chain.Keys.{objects_of}
+use Rattle.protocol_spec.specs.Chain.Shape.{shape_fault}
+use Rattle.protocol_spec.specs.Chain.Tests.{origin_eq, origins_eq}
+use Rattle.protocol_spec.specs.Chain.Certificates.{Rules, accepts_statement, bad_seal, cert_refusal, members_of, vote_of}
 use Rattle.cert_rules.specs.declared.votes.CollectRefusal.{CollectRefusal}
 use Rattle.cert_rules.specs.declared.votes.CollectRefusal.TheVariants as refusal
 use Rattle.cert_rules.specs.Collect.{AreSound, IsVoteFor, certificate_of, differs_from, first_differing, seal_of, too_short, voted_origins, voters}

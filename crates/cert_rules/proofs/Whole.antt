@@ -13,10 +13,10 @@ use Rattle.quorum_core.specs.Committee.{is_quorum, is_roll, total_of, weight}
 use Rattle.chain_types.specs.Digests.{is_object}
 use Rattle.chain_types.specs.declared.transactions.Input.{Input}
 use Rattle.chain_types.specs.declared.transactions.Transaction.{Transaction}
-use Rattle.chain_spec.specs.Keys.{objects_of}
-use Rattle.chain_spec.specs.Shape.{shape_fault}
-use Rattle.chain_spec.specs.Words.{first_of, first_some, unless_refused, where_true}
-use Rattle.chain_spec.specs.Certificates.{Rules, cert_refusal, members_of, vote_of}
+use Rattle.protocol_spec.specs.Chain.Keys.{objects_of}
+use Rattle.protocol_spec.specs.Chain.Shape.{shape_fault}
+use Rattle.protocol_spec.specs.Chain.Words.{first_of, first_some, unless_refused, where_true}
+use Rattle.protocol_spec.specs.Chain.Certificates.{Rules, cert_refusal, members_of, vote_of}
 use Rattle.cert_rules.specs.Answers.{Checks}
 use Rattle.cert_rules.specs.Parts.{member_refusal, object_refusal, refused_seal}
 

@@ -9,11 +9,11 @@ use Rattle.chain_messages.specs.declared.messages.Statement.TheVariants as state
 use Rattle.chain_messages.specs.declared.messages.Sealed.{Sealed}
 use Rattle.chain_messages.specs.declared.messages.MemberSeal.{MemberSeal}
 use Rattle.chain_messages.specs.declared.messages.Certificate.{Certificate}
-use Rattle.chain_spec.specs.Words.{Each, first_of, first_some, unless_refused, where_true}
-use Rattle.chain_spec.specs.Tests.{origins_eq}
-use Rattle.chain_spec.specs.Keys.{objects_of}
-use Rattle.chain_spec.specs.Shape.{shape_fault}
-use Rattle.chain_spec.specs.Certificates.{Rules, accepts_statement}
+use Rattle.protocol_spec.specs.Chain.Words.{Each, first_of, first_some, unless_refused, where_true}
+use Rattle.protocol_spec.specs.Chain.Tests.{origins_eq}
+use Rattle.protocol_spec.specs.Chain.Keys.{objects_of}
+use Rattle.protocol_spec.specs.Chain.Shape.{shape_fault}
+use Rattle.protocol_spec.specs.Chain.Certificates.{Rules, accepts_statement}
 use Rattle.cert_rules.specs.declared.votes.CollectRefusal.{CollectRefusal}
 use Rattle.cert_rules.specs.declared.votes.CollectRefusal.TheVariants as refusal
 

@@ -8,14 +8,9 @@ use Rattle.chain_types.specs.declared.refusals.CertRefusal.{CertRefusal}
 use Rattle.chain_types.specs.declared.refusals.CertRefusal.TheVariants as refused
 use Rattle.chain_messages.specs.declared.messages.MemberSeal.{MemberSeal}
 use Rattle.chain_messages.specs.declared.messages.Certificate.{Certificate}
-use Rattle.chain_spec.specs.Words.{first_some, where_true}
-use Rattle.chain_spec.specs.Keys.{objects_of}
-use Rattle.chain_spec.specs.Shape.{shape_fault}
-use Rattle.chain_spec.specs.Certificates.{Rules}
-
--- the rules of a committee
-abbrev pub rules_of : List ℕ → Option ℕ → (Signer → List ℕ → Digest → Bool) → Rules
-rules_of stakes writers accepts = record { stakes = stakes; writers = writers; accepts = accepts }
+use Rattle.protocol_spec.specs.Chain.Words.{first_some, where_true}
+use Rattle.protocol_spec.specs.Chain.Keys.{objects_of}
+use Rattle.protocol_spec.specs.Chain.Shape.{shape_fault}
 
 -- what is wrong with the transaction and its origins
 unfoldable pub object_refusal : Certificate → Option CertRefusal

@@ -3,11 +3,11 @@
 ghost use Rattle.std.specs.Prelude.{◌≡◌, ◌==◌, ◌≤◌, ℕ, Option, IfOk, length};
 ghost use Rattle.chain_types.specs.Transactions.{transaction};
 ghost use Rattle.chain_messages.specs.Messages.{statement};
-ghost use Rattle.chain_spec.specs.Words.{first_of, unless_refused};
-ghost use Rattle.chain_spec.specs.Keys.{objects_of};
-ghost use Rattle.chain_spec.specs.Certificates.{cert_refusal, vote_of};
+ghost use Rattle.protocol_spec.specs.Chain.Words.{first_of, unless_refused};
+ghost use Rattle.protocol_spec.specs.Chain.Keys.{objects_of};
+ghost use Rattle.protocol_spec.specs.Chain.Certificates.{cert_refusal, vote_of, rules_of};
 ghost use Rattle.cert_rules.specs.Answers.{Checks};
-ghost use Rattle.cert_rules.specs.Parts.{member_refusal, object_refusal, refused_seal, rules_of};
+ghost use Rattle.cert_rules.specs.Parts.{member_refusal, object_refusal, refused_seal};
 
 use crate::roll::{is_roll, members_of};
 use chain_messages::{Certificate, MemberSeal, Statement, encode_statement};

@@ -16,6 +16,3 @@ mod votes;
 pub use chain_types::CertRefusal;
 pub use check::check_cert;
 pub use votes::{CollectRefusal, collect};
-
-#[cfg(test)]
-mod tests;

@@ -2,9 +2,9 @@
 
 ghost use Rattle.std.specs.Prelude.{◌≡◌, IfOk, None, map, true};
 ghost use Rattle.quorum_core.specs.Committee.{is_roll};
-ghost use Rattle.chain_spec.specs.Certificates.{Rules, cert_refusal, vote_of};
-ghost use Rattle.chain_spec.specs.Tests.{origins_eq};
-ghost use Rattle.chain_spec.specs.Words.{Each, first_of, unless_refused};
+ghost use Rattle.protocol_spec.specs.Chain.Certificates.{Rules, cert_refusal, vote_of};
+ghost use Rattle.protocol_spec.specs.Chain.Tests.{origins_eq};
+ghost use Rattle.protocol_spec.specs.Chain.Words.{Each, first_of, unless_refused};
 ghost use Rattle.cert_rules.specs.Collect.{AreSound, IsVoteFor, Gives, collected, certificate_of, differs_from, first_differing, first_origins, seal_of, too_short, voted_origins, voters};
 ghost use Rattle.cert_rules.specs.declared.votes.CollectRefusal.TheVariants as refusal;
 

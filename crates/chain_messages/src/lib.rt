@@ -10,6 +10,3 @@ pub use messages_wire::{
     decode_certificate, decode_entry, decode_sealed, decode_statement, encode_certificate,
     encode_entry, encode_sealed, encode_statement,
 };
-
-#[cfg(test)]
-mod tests;

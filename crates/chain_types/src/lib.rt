@@ -21,6 +21,3 @@ pub use refusals::{CertRefusal, DecideRefusal};
 pub use transactions::{Argument, Command, Input, SignedTx, Transaction};
 pub use transactions_wire::{decode_signed, encode_signed, encode_tx, tx_digest};
 pub use wire_bcs::Unread;
-
-#[cfg(test)]
-mod tests;

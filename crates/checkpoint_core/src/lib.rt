@@ -6,6 +6,3 @@ mod checkpoints_wire;
 
 pub use checkpoints::{Checkpoint, Item};
 pub use checkpoints_wire::checkpoint_digest;
-
-#[cfg(test)]
-mod tests;

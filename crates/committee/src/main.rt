@@ -1,31 +1,16 @@
 //! `committee run`: reads a schedule from standard input, runs it, and writes the report.
 //!
-//! [`top::committee`] is the program over any source, sink and keeper; its clauses are what is
+//! [`committee_core::committee`] is the program over any source, sink and keeper; its clauses are what is
 //! promised. `main` hands it the real standard streams and a keeper in memory, ends with its
 //! status, and says on standard error what a status other than 0 and 3 means.
 #![tactic(auto)]
 
-mod event;
-#[cfg(test)]
-mod journal_tests;
-mod keeping;
-mod run;
-mod stop;
-#[cfg(test)]
-mod stop_tests;
-mod streams;
-#[cfg(test)]
-mod tests;
-mod text;
-mod top;
-
-use keeping::fresh_keeper;
+use committee_core::{committee, fresh_keeper};
 use outside_std::{InSource, OutSink};
 use std::alloc::{AllocError, Global};
 use std::env;
 use std::io::{self, BufWriter};
 use std::process::ExitCode;
-use top::committee;
 
 /// The words behind the program's name.
 fn words_of(rt: &HostRuntime) -> io::Result<Vec<String>> {

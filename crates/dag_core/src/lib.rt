@@ -8,8 +8,6 @@
 mod evaluate;
 mod job;
 mod plan;
-#[cfg(test)]
-mod tests;
 
 pub use evaluate::evaluate_plain;
 pub use job::Job;

@@ -24,6 +24,3 @@ mod worker;
 
 pub use gate::{Gate, OpenGate};
 pub use run::{PoolRun, run_plan};
-
-#[cfg(test)]
-mod tests;

@@ -100,6 +100,3 @@ pub fn address_of(name: &[u8]) -> Digest
 {
     digest_of(TAG_ADDRESS, name)
 }
-
-#[cfg(test)]
-mod tests;

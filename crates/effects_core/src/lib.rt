@@ -8,6 +8,3 @@ mod money;
 pub use effects::{Effects, Status, Written};
 pub use effects_wire::effects_digest;
 pub use money::currency_sum;
-
-#[cfg(test)]
-mod tests;

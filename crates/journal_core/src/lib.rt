@@ -6,6 +6,3 @@ mod records_wire;
 
 pub use records::{RanItem, Record};
 pub use records_wire::{decode_record, encode_record};
-
-#[cfg(test)]
-mod tests;

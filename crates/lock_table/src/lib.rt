@@ -9,6 +9,3 @@
 mod locks;
 
 pub use locks::{LockRefusal, LockTable};
-
-#[cfg(test)]
-mod tests;

@@ -1,10 +1,10 @@
 //! The arguments of a native.
 
 ghost use Rattle.std.specs.Prelude.{◌≡◌, IsTrue};
-ghost use Rattle.block_spec.specs.Natives.{number_at, item_at, items_at};
+ghost use Rattle.protocol_spec.specs.Block.Natives.{number_at, item_at, items_at};
 ghost use Rattle.native_calls.specs.Forms.{has_item};
 
-use block_types::{Given, Item};
+use answer_types::{Given, Item};
 
 /// The number at a place.
 pub(crate) fn number_at(args: &[Given], place: usize) -> u64

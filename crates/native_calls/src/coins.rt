@@ -2,13 +2,13 @@
 
 ghost use Rattle.std.specs.Prelude.{◌≡◌, ◌+◌, ◌<◌, ◌^◌, IfOk, SomeIff, sum_by};
 ghost use Rattle.std.specs.List.{list_any};
-ghost use Rattle.block_spec.specs.Natives.{coin_mint, coin_burn, joined, amount_of, other_currency};
+ghost use Rattle.protocol_spec.specs.Block.Natives.{coin_mint, coin_burn, joined, amount_of, other_currency};
 ghost use Rattle.native_calls.specs.Sites.{site_of};
 
 use crate::contents::{amount_of, currency_of, holding, other_currency};
 use crate::gives::{gives_new, gives_nothing, one};
 use crate::place::Place;
-use block_types::{Gave, Item};
+use answer_types::{Gave, Item};
 use chain_types::Content;
 use std::alloc::Global;
 use wire_bcs::OutOfMemory;

@@ -1,9 +1,9 @@
 //! What the contents of objects hold.
 
 ghost use Rattle.std.specs.Prelude.{◌≡◌};
-ghost use Rattle.block_spec.specs.Natives.{kind_of, currency_of, amount_of, with_amount, names_vault, may_be_shared, holding, other_currency};
+ghost use Rattle.protocol_spec.specs.Block.Natives.{kind_of, currency_of, amount_of, with_amount, names_vault, may_be_shared, holding, other_currency};
 
-use block_types::Item;
+use answer_types::Item;
 use chain_types::{Content, Kind, ObjectId};
 
 /// The kind of a content.

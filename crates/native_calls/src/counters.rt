@@ -1,13 +1,13 @@
 //! Natives on counters and limits.
 
 ghost use Rattle.std.specs.Prelude.{◌≡◌, IfOk};
-ghost use Rattle.block_spec.specs.Natives.{counter_add, counter_require, counter_add_limited};
+ghost use Rattle.protocol_spec.specs.Block.Natives.{counter_add, counter_require, counter_add_limited};
 ghost use Rattle.native_calls.specs.Sites.{site_of};
 
 use crate::contents::{amount_of, holding};
 use crate::gives::gives_nothing;
 use crate::place::Place;
-use block_types::{Gave, Item};
+use answer_types::{Gave, Item};
 use std::alloc::Global;
 
 /// Raises a counter. Aborts with 1 where the sum is no amount.

@@ -1,7 +1,7 @@
 //! The call of a native.
 
 ghost use Rattle.std.specs.Prelude.{◌≡◌, ◌≤◌, ◌<◌, IfOk, IsTrue};
-ghost use Rattle.block_spec.specs.Natives.{native_gives, parameters_of};
+ghost use Rattle.protocol_spec.specs.Block.Natives.{native_gives, parameters_of};
 ghost use Rattle.native_calls.specs.Forms.{have_forms};
 
 use crate::args::{item_at, items_at, number_at};
@@ -12,7 +12,7 @@ use crate::native::{Native, native_of};
 use crate::owners::{freeze, share};
 use crate::place::Place;
 use crate::vaults::{vault_deposit, vault_new, vault_withdraw};
-use block_types::{Gave, Given};
+use answer_types::{Gave, Given};
 use chain_types::Content;
 use digest_core::Digest;
 use std::alloc::Global;
@@ -22,7 +22,7 @@ use wire_bcs::{OutOfMemory, Seq};
 /// transaction of this digest, which writes at this version, and its first new object has the
 /// creation number `made`. Each argument has the form that its mode says: a number, an object or a
 /// list of objects.
-#[tactic(auto, unfolding(block_spec::specs::Natives::native_gives))]
+#[tactic(auto, unfolding(protocol_spec::specs::Block::Natives::native_gives))]
 pub fn call(
     alloc: Global,
     native: u8,

@@ -1,11 +1,11 @@
 //! What natives give.
 
 ghost use Rattle.std.specs.Prelude.{◌≡◌, ◌+◌, ◌<◌, ◌^◌, ◌∷◌, [], IfOk};
-ghost use Rattle.block_spec.specs.Natives.{new_item, gives, owned_by_all};
+ghost use Rattle.protocol_spec.specs.Block.Natives.{new_item, gives, owned_by_all};
 ghost use Rattle.native_calls.specs.Sites.{site_of};
 
 use crate::place::Place;
-use block_types::{Gave, Item, Placed};
+use answer_types::{Gave, Item, Placed};
 use chain_types::{Content, ObjectId, Owner};
 use digest_core::created_id;
 use std::alloc::Global;

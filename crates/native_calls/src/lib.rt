@@ -20,6 +20,3 @@ mod vaults;
 
 pub use dispatch::call;
 pub use modes::{mode, parameter_count};
-
-#[cfg(test)]
-mod tests;

@@ -1,10 +1,10 @@
 //! How natives take their parameters.
 
 ghost use Rattle.std.specs.Prelude.{◌≡◌, ◌≤◌, length, slice_get};
-ghost use Rattle.block_spec.specs.Natives.{mode_of, parameters_of};
+ghost use Rattle.protocol_spec.specs.Block.Natives.{mode_of, parameters_of};
 
 use crate::native::{Native, native_of};
-use block_types::Mode;
+use answer_types::Mode;
 use chain_types::Kind;
 
 /// The mode at a place.
@@ -15,7 +15,7 @@ fn at(modes: &[Mode], place: u16) -> Option<Mode>
 }
 
 /// How the native, of number 13 at most, takes the parameter at this place, counted from 0; none where it has no such parameter.
-#[tactic(auto, unfolding(block_spec::specs::Natives::mode_of))]
+#[tactic(auto, unfolding(protocol_spec::specs::Block::Natives::mode_of))]
 pub fn mode(native: u8, place: u16) -> Option<Mode>
     requires { native ≤ 13 }
     ensures { result ≡ mode_of native place }

@@ -1,14 +1,14 @@
 //! Natives that give an object to everyone.
 
 ghost use Rattle.std.specs.Prelude.{◌≡◌};
-ghost use Rattle.block_spec.specs.Natives.{share, owned_by_all};
+ghost use Rattle.protocol_spec.specs.Block.Natives.{share, owned_by_all};
 ghost use Rattle.chain_types.specs.declared.objects.Owner.TheVariants as owner;
 ghost use Rattle.native_calls.specs.Sites.{site_of};
 
 use crate::contents::may_be_shared;
 use crate::gives::gives_owner;
 use crate::place::Place;
-use block_types::{Gave, Item};
+use answer_types::{Gave, Item};
 use chain_types::Owner;
 use std::alloc::Global;
 

@@ -1,13 +1,13 @@
 //! Natives on vaults.
 
 ghost use Rattle.std.specs.Prelude.{◌≡◌, IfOk};
-ghost use Rattle.block_spec.specs.Natives.{vault_new, vault_deposit, vault_withdraw};
+ghost use Rattle.protocol_spec.specs.Block.Natives.{vault_new, vault_deposit, vault_withdraw};
 ghost use Rattle.native_calls.specs.Sites.{site_of};
 
 use crate::contents::{amount_of, currency_of, holding, names_vault, other_currency};
 use crate::gives::{gives_new, gives_nothing, new_item, one};
 use crate::place::Place;
-use block_types::{Gave, Item};
+use answer_types::{Gave, Item};
 use chain_types::Content;
 use std::alloc::Global;
 use wire_bcs::OutOfMemory;

@@ -22,6 +22,3 @@ pub use narrow::NarrowSink;
 pub use sink::{MemSink, Sink};
 pub use source::{FreeSource, MemSource, Source};
 pub use turns::Turns;
-
-#[cfg(test)]
-mod tests;

@@ -7,9 +7,9 @@ use Rattle.chain_types.specs.declared.transactions.Argument.{Argument}
 use Rattle.chain_types.specs.declared.transactions.Argument.TheVariants as argument
 use Rattle.chain_types.specs.declared.transactions.Command.{Command}
 use Rattle.chain_types.specs.declared.transactions.Transaction.{Transaction}
-use Rattle.chain_spec.specs.Words.{first_some, where_true}
-use Rattle.block_spec.specs.Block as block
-use Rattle.block_spec.specs.Commands as commands
+use Rattle.protocol_spec.specs.Chain.Words.{first_some, where_true}
+use Rattle.protocol_spec.specs.Block.Block as block
+use Rattle.protocol_spec.specs.Block.Commands as commands
 use Rattle.ptb_run.specs.declared.value.Spot.{Spot}
 use Rattle.ptb_run.specs.declared.value.Spot.TheVariants as spots
 use Rattle.ptb_run.specs.declared.needs.Wanted.{Wanted}

@@ -1,10 +1,10 @@
 -- Kinds of what is needed, by cases.
 use Rattle.std.proofs.Common.{◌≡◌, ℕ, false, List, Option, Some, None, refl}
 use Rattle.chain_types.specs.declared.objects.Kind.{Kind}
-use Rattle.block_types.specs.declared.pieces.Item.{Item}
-use Rattle.block_spec.specs.Natives.{kind_of}
-use Rattle.block_spec.specs.Block as block
-use Rattle.block_spec.specs.Commands as commands
+use Rattle.answer_types.specs.declared.pieces.Item.{Item}
+use Rattle.protocol_spec.specs.Block.Natives.{kind_of}
+use Rattle.protocol_spec.specs.Block.Block as block
+use Rattle.protocol_spec.specs.Block.Commands as commands
 use Rattle.ptb_run.specs.Needs.{is_item_right}
 
 pub no_pure_object : (n : commands.Need) (i : Item) → commands.is_bad_pure n (block.object i) ≡ false

@@ -1,12 +1,11 @@
 -- The number of results of a command is the length of its row.
 use Rattle.std.proofs.Common.{◌≡◌, ℕ, zero, suc, ◌+◌, ◌<◌, ◌≤◌, Bool, true, false, List, [], ◌∷◌, ◌++◌, length, Option, Some, None, refl, sym, ap, ◌∙◌, cond, arith}
-use Rattle.std.specs.Prelude.{◌==◌, slice_get}
+use Rattle.std.specs.Prelude.{◌==◌, slice_get, slice_index_or}
 use Rattle.std.proofs.lemmas.List.Sums.{sum_by-cons}
 use Rattle.std.proofs.lemmas.Option.{slice_get_read, slice_get_past}
-use Rattle.std.specs.Prelude.{slice_index_or}
 use Rattle.ptb_run.specs.declared.value.Value.{Value}
 use Rattle.ptb_run.specs.declared.slots.Slots.{Slots}
-use Rattle.block_spec.specs.Block as block
+use Rattle.protocol_spec.specs.Block.Block as block
 use Rattle.ptb_run.specs.Values.{held}
 use Rattle.ptb_run.specs.Slots.{input_row, result_row, result_rows, slots_of}
 use Rattle.ptb_run.proofs.SameNumber.{same_number, other_number}

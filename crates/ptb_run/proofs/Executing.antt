@@ -10,13 +10,13 @@ use Rattle.chain_types.specs.Digests.{lamport_version}
 use Rattle.chain_types.specs.declared.objects.ObjectId.{ObjectId}
 use Rattle.effects_core.specs.declared.effects.Status.{Status}
 use Rattle.effects_core.specs.declared.effects.Status.TheVariants as status
-use Rattle.block_types.specs.declared.pieces.Executed.{Executed}
+use Rattle.answer_types.specs.declared.pieces.Executed.{Executed}
 use Rattle.wire_bcs.specs.declared.seq.OutOfMemory.{OutOfMemory}
-use Rattle.chain_spec.specs.Keys.{fit_inputs, fits, objects_of, pays_gas, version_limit, version_of}
-use Rattle.chain_spec.specs.Shape.{is_empty_list, is_no_native, shape_cases, shape_fault}
-use Rattle.chain_spec.specs.Words.{first_some, where_true}
-use Rattle.block_spec.specs.Block as block
-use Rattle.block_spec.specs.Execution.{Failure, executed_as, executed_by, failed_objects, failed_status, less_cost_first, with_rest_first, written_places}
+use Rattle.protocol_spec.specs.Chain.Keys.{fit_inputs, fits, objects_of, pays_gas, version_limit, version_of}
+use Rattle.protocol_spec.specs.Chain.Shape.{is_empty_list, is_no_native, shape_cases, shape_fault}
+use Rattle.protocol_spec.specs.Chain.Words.{first_some, where_true}
+use Rattle.protocol_spec.specs.Block.Block as block
+use Rattle.protocol_spec.specs.Block.Execution.{Failure, executed_as, executed_by, failed_objects, failed_status, less_cost_first, with_rest_first, written_places}
 use Rattle.ptb_run.specs.Outcomes.{is_wide}
 use Rattle.ptb_run.specs.Versions.{greatest_version}
 use Rattle.ptb_run.specs.declared.written.Moved.{Moved}

@@ -5,11 +5,11 @@ use Rattle.std.specs.Map.{lookup}
 use Rattle.std.proofs.lemmas.Slice.Eq.{bytes_eq-Decides}
 use Rattle.chain_types.specs.declared.objects.ObjectId.{ObjectId}
 use Rattle.chain_types.specs.Equal.{id_eq}
-use Rattle.block_types.specs.declared.pieces.Item.{Item}
-use Rattle.block_types.specs.declared.pieces.Placed.{Placed}
-use Rattle.block_spec.specs.Block.{Block, value_in}
-use Rattle.block_spec.specs.Commands.{piece_of}
-use Rattle.block_spec.specs.Execution.{after_block, left_in, now_in, object_at}
+use Rattle.answer_types.specs.declared.pieces.Item.{Item}
+use Rattle.answer_types.specs.declared.pieces.Placed.{Placed}
+use Rattle.protocol_spec.specs.Block.Block.{Block, value_in}
+use Rattle.protocol_spec.specs.Block.Commands.{piece_of}
+use Rattle.protocol_spec.specs.Block.Execution.{after_block, left_in, now_in, object_at}
 use Rattle.ptb_run.specs.declared.written.Moved.{Moved}
 use Rattle.ptb_run.specs.Values.{spot_of}
 use Rattle.ptb_run.specs.Left.{Left, firsts_after, moved_now, object_left, object_now, with_first}

@@ -3,12 +3,12 @@ use Rattle.std.proofs.Common.{◌≡◌, ℕ, zero, suc, ◌+◌, List, [], ◌�
 use Rattle.std.specs.Prelude.{slice_get}
 use Rattle.std.specs.List.{cons_option}
 use Rattle.chain_types.specs.declared.transactions.Argument.{Argument}
-use Rattle.block_types.specs.declared.pieces.Item.{Item}
-use Rattle.block_types.specs.declared.pieces.Mode.{Mode}
-use Rattle.block_types.specs.declared.pieces.Mode.TheVariants as modes
-use Rattle.block_spec.specs.Natives.{parameters_of, mode_of}
-use Rattle.block_spec.specs.Block as block
-use Rattle.block_spec.specs.Commands as commands
+use Rattle.answer_types.specs.declared.pieces.Item.{Item}
+use Rattle.answer_types.specs.declared.pieces.Mode.{Mode}
+use Rattle.answer_types.specs.declared.pieces.Mode.TheVariants as modes
+use Rattle.protocol_spec.specs.Block.Natives.{parameters_of, mode_of}
+use Rattle.protocol_spec.specs.Block.Block as block
+use Rattle.protocol_spec.specs.Block.Commands as commands
 use Rattle.ptb_run.specs.declared.needs.Need.{Need}
 use Rattle.ptb_run.specs.declared.needs.Wanted.{Wanted}
 use Rattle.ptb_run.specs.Needs.{all_after, need_meant, need_now, pair_then, pairs_after, wanted_of}

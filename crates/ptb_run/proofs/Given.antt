@@ -7,12 +7,12 @@ use Rattle.chain_types.specs.declared.transactions.Command.{Command}
 use Rattle.chain_types.specs.declared.transactions.Command.TheVariants as command
 use Rattle.chain_types.specs.declared.objects.Kind.{Kind}
 use Rattle.chain_types.specs.declared.transactions.Argument.{Argument}
-use Rattle.block_types.specs.declared.pieces.Given.{Given}
-use Rattle.block_types.specs.declared.pieces.Mode.{Mode}
-use Rattle.block_types.specs.declared.pieces.Mode.TheVariants as modes
-use Rattle.block_spec.specs.Natives.{parameters_of}
-use Rattle.block_spec.specs.Block as block
-use Rattle.block_spec.specs.Commands as commands
+use Rattle.answer_types.specs.declared.pieces.Given.{Given}
+use Rattle.answer_types.specs.declared.pieces.Mode.{Mode}
+use Rattle.answer_types.specs.declared.pieces.Mode.TheVariants as modes
+use Rattle.protocol_spec.specs.Block.Natives.{parameters_of}
+use Rattle.protocol_spec.specs.Block.Block as block
+use Rattle.protocol_spec.specs.Block.Commands as commands
 use Rattle.native_calls.specs.Forms.{has_form, have_forms}
 use Rattle.ptb_run.specs.declared.needs.Wanted.{Wanted}
 use Rattle.ptb_run.specs.Needs.{need_meant, wanted_of}

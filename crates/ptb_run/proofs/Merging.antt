@@ -4,11 +4,11 @@ use Rattle.std.specs.Prelude.{◌==◌, nat_le, Result, Ok, Err, if◌then◌els
 use Rattle.std.specs.List.{list_any}
 use Rattle.chain_types.specs.declared.transactions.Argument.{Argument}
 use Rattle.chain_types.specs.declared.transactions.Transaction.{Transaction}
-use Rattle.chain_spec.specs.Words.{first_some, unless_refused, where_true}
-use Rattle.block_types.specs.declared.pieces.Item.{Item}
-use Rattle.block_spec.specs.Natives.{amount_limit, amount_of, currency_of}
-use Rattle.block_spec.specs.Block as block
-use Rattle.block_spec.specs.Commands as commands
+use Rattle.protocol_spec.specs.Chain.Words.{first_some, unless_refused, where_true}
+use Rattle.answer_types.specs.declared.pieces.Item.{Item}
+use Rattle.protocol_spec.specs.Block.Natives.{amount_limit, amount_of, currency_of}
+use Rattle.protocol_spec.specs.Block.Block as block
+use Rattle.protocol_spec.specs.Block.Commands as commands
 
 -- the two cases and the block, by what each test says
 merged_by : (a b : Bool) (done : block.Block) → Result block.Block commands.Fault

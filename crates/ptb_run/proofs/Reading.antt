@@ -1,13 +1,12 @@
 -- What lies in a place of the list is what the code's rows hold.
 use Rattle.std.proofs.Common.{◌≡◌, ℕ, zero, suc, ◌+◌, ◌<◌, ◌≤◌, true, false, List, [], ◌∷◌, ◌++◌, length, Option, Some, None, refl, sym, ap, ◌∙◌, arith}
-use Rattle.std.specs.Prelude.{◌==◌, slice_get}
-use Rattle.std.specs.Prelude.{slice_index_or}
+use Rattle.std.specs.Prelude.{◌==◌, slice_get, slice_index_or}
 use Rattle.std.proofs.lemmas.Option.{slice_get_past, slice_get_read}
 use Rattle.ptb_run.specs.declared.value.Spot.{Spot}
 use Rattle.ptb_run.specs.declared.value.Spot.TheVariants as spots
 use Rattle.ptb_run.specs.declared.value.Value.{Value}
 use Rattle.ptb_run.specs.declared.slots.Slots.{Slots}
-use Rattle.block_spec.specs.Block as block
+use Rattle.protocol_spec.specs.Block.Block as block
 use Rattle.ptb_run.specs.Values.{held, spot_of}
 use Rattle.ptb_run.specs.Slots.{input_row, result_row, result_rows, slots_of, cell_of}
 use Rattle.ptb_run.proofs.SameNumber.{same_number, other_number}

@@ -9,11 +9,11 @@ use Rattle.chain_types.specs.declared.objects.ObjectId.{ObjectId}
 use Rattle.chain_types.specs.declared.objects.Object.{Object}
 use Rattle.chain_types.specs.declared.transactions.Transaction.{Transaction}
 use Rattle.effects_core.specs.declared.effects.Written.{Written}
-use Rattle.block_types.specs.declared.pieces.Placed.{Placed}
-use Rattle.chain_spec.specs.Keys.{version_of}
-use Rattle.chain_spec.specs.Words.{numbers_below}
-use Rattle.block_spec.specs.Block as block
-use Rattle.block_spec.specs.Execution.{after_block, deleted_id, deleted_ids, done_objects, failed_objects, is_none_left, left_in, less_cost_first, same_object, with_rest_first, written_of, written_places}
+use Rattle.answer_types.specs.declared.pieces.Placed.{Placed}
+use Rattle.protocol_spec.specs.Chain.Keys.{version_of}
+use Rattle.protocol_spec.specs.Chain.Words.{numbers_below}
+use Rattle.protocol_spec.specs.Block.Block as block
+use Rattle.protocol_spec.specs.Block.Execution.{after_block, deleted_id, deleted_ids, done_objects, failed_objects, is_none_left, left_in, less_cost_first, same_object, with_rest_first, written_of, written_places}
 use Rattle.ptb_run.specs.declared.written.Moved.{Moved}
 use Rattle.ptb_run.specs.Values.{spot_of}
 use Rattle.ptb_run.specs.Written.{moved_of}

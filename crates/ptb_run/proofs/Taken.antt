@@ -3,8 +3,8 @@ use Rattle.std.proofs.Common.{◌≡◌, Bool, true, false, not, ◌&&◌, lengt
 use Rattle.std.specs.Prelude.{◌==◌}
 use Rattle.std.proofs.lemmas.Bool.{eqb-true}
 use Rattle.chain_types.specs.declared.transactions.Argument.{Argument}
-use Rattle.block_spec.specs.Block as block
-use Rattle.block_spec.specs.Commands as commands
+use Rattle.protocol_spec.specs.Block.Block as block
+use Rattle.protocol_spec.specs.Block.Commands as commands
 use Rattle.ptb_run.specs.Takes.{is_taken, may_take}
 
 not_not : (b c : Bool) → (not (not b) && c) ≡ true → b ≡ true

@@ -1,8 +1,8 @@
 -- A place of the list is unused where one of the rows still holds a value.
 use Rattle.std.proofs.Common.{◌≡◌, ℕ, ◌+◌, Bool, ◌||◌, List, [], ◌∷◌, ◌++◌, Option, Some, None, refl, ap, sym, ◌∙◌}
 use Rattle.std.specs.List.{list_any}
-use Rattle.block_spec.specs.Block as block
-use Rattle.block_spec.specs.Execution.{is_unused}
+use Rattle.protocol_spec.specs.Block.Block as block
+use Rattle.protocol_spec.specs.Block.Execution.{is_unused}
 use Rattle.ptb_run.specs.declared.value.Value.{Value}
 use Rattle.ptb_run.specs.declared.slots.Slots.{Slots}
 use Rattle.ptb_run.specs.Slots.{input_row, is_row_left, result_row, result_rows, slots_of}

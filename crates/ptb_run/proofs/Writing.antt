@@ -1,10 +1,9 @@
 -- A write to a place of the list is one to the code's rows.
 use Rattle.std.proofs.Common.{◌≡◌, ℕ, zero, suc, ◌+◌, ◌<◌, ◌≤◌, true, false, List, [], ◌∷◌, ◌++◌, length, Option, Some, refl, sym, ap, ◌∙◌, arith}
-use Rattle.std.specs.Prelude.{◌==◌, slice_get, slice_set}
+use Rattle.std.specs.Prelude.{◌==◌, slice_get, slice_set, slice_index_or}
 use Rattle.ptb_run.specs.declared.value.Value.{Value}
 use Rattle.ptb_run.specs.declared.slots.Slots.{Slots}
-use Rattle.block_spec.specs.Block as block
-use Rattle.std.specs.Prelude.{slice_index_or}
+use Rattle.protocol_spec.specs.Block.Block as block
 use Rattle.std.proofs.lemmas.Option.{slice_get_read}
 use Rattle.ptb_run.specs.declared.value.Spot.{Spot}
 use Rattle.ptb_run.specs.declared.value.Spot.TheVariants as spots

@@ -5,8 +5,8 @@ use Rattle.chain_types.specs.declared.objects.Object.{Object}
 use Rattle.chain_types.specs.declared.transactions.Input.{Input}
 use Rattle.chain_types.specs.declared.transactions.Input.TheVariants as inputs
 use Rattle.chain_types.specs.declared.transactions.Transaction.{Transaction}
-use Rattle.block_spec.specs.Block as block
-use Rattle.block_spec.specs.Execution as execution
+use Rattle.protocol_spec.specs.Block.Block as block
+use Rattle.protocol_spec.specs.Block.Execution as execution
 use Rattle.ptb_run.specs.declared.value.Spot.TheVariants as spots
 use Rattle.ptb_run.specs.declared.written.Moved.{Moved}
 use Rattle.ptb_run.specs.Written.{moved_after, moved_of, with_written}

@@ -1,6 +1,6 @@
 -- The state of a block, as the definitions have it.
 use Rattle.std.specs.Prelude.{ℕ, List, ◌++◌, length, Option}
-use Rattle.block_spec.specs.Block as block
+use Rattle.protocol_spec.specs.Block.Block as block
 use Rattle.ptb_run.specs.declared.value.Value.{Value}
 use Rattle.ptb_run.specs.declared.block.Block.{Block}
 use Rattle.ptb_run.specs.Slots.{result_row, slots_of}

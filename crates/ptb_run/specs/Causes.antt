@@ -3,9 +3,9 @@ use Rattle.std.specs.Prelude.{ℕ, Bool, not, ◌&&◌, List, [], ◌∷◌, ◌
 use Rattle.std.specs.List.{list_any}
 use Rattle.chain_types.specs.declared.transactions.Command.{Command}
 use Rattle.chain_types.specs.declared.transactions.Transaction.{Transaction}
-use Rattle.chain_spec.specs.Words.{first_some, where_true}
-use Rattle.block_spec.specs.Block.{Block, Place, Value, value_in}
-use Rattle.block_spec.specs.Commands.{Need, changes_value, has_no_result, is_bad_pure, is_frozen_place, is_pure, is_right_kind, place_of, stays_in_place, takes_value}
+use Rattle.protocol_spec.specs.Chain.Words.{first_some, where_true}
+use Rattle.protocol_spec.specs.Block.Block.{Block, Place, Value, value_in}
+use Rattle.protocol_spec.specs.Block.Commands.{Need, changes_value, has_no_result, is_bad_pure, is_frozen_place, is_pure, is_right_kind, place_of, stays_in_place, takes_value}
 use Rattle.ptb_run.specs.declared.value.Spot.{Spot}
 use Rattle.ptb_run.specs.declared.needs.Wanted.{Wanted}
 use Rattle.ptb_run.specs.Values.{spot_at, spot_eq}

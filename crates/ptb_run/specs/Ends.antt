@@ -1,7 +1,7 @@
 -- How a block ended in the code against what the definition says.
 use Rattle.std.specs.Prelude.{◌≡◌, Result, Ok, Err}
-use Rattle.block_spec.specs.Block as block
-use Rattle.block_spec.specs.Execution.{Failure}
+use Rattle.protocol_spec.specs.Block.Block as block
+use Rattle.protocol_spec.specs.Block.Execution.{Failure}
 use Rattle.ptb_run.specs.declared.block.Block.{Block}
 use Rattle.ptb_run.specs.declared.halt.Failed.{Failed}
 use Rattle.ptb_run.specs.declared.halt.Failed.TheVariants as failed

@@ -1,9 +1,9 @@
 -- What is gathered from the places of arguments, one after the other.
 use Rattle.std.specs.Prelude.{ℕ, List, [], ◌∷◌, ◌++◌, Option, Some, None}
 use Rattle.chain_types.specs.declared.transactions.Argument.{Argument}
-use Rattle.block_types.specs.declared.pieces.Item.{Item}
-use Rattle.block_spec.specs.Block.{Block}
-use Rattle.block_spec.specs.Commands.{item_in, number_in}
+use Rattle.answer_types.specs.declared.pieces.Item.{Item}
+use Rattle.protocol_spec.specs.Block.Block.{Block}
+use Rattle.protocol_spec.specs.Block.Commands.{item_in, number_in}
 
 abbrev pub with_item : List Item → Option Item → List Item
 with_item items None = items

@@ -4,11 +4,11 @@ use Rattle.std.specs.Map.{lookup}
 use Rattle.chain_types.specs.declared.objects.ObjectId.{ObjectId}
 use Rattle.chain_types.specs.declared.objects.Object.{Object}
 use Rattle.chain_types.specs.Equal.{id_eq}
-use Rattle.block_types.specs.declared.pieces.Item.{Item}
-use Rattle.block_types.specs.declared.pieces.Placed.{Placed}
-use Rattle.block_spec.specs.Block.{Block, value_in}
-use Rattle.block_spec.specs.Commands.{piece_of}
-use Rattle.block_spec.specs.Execution.{object_at}
+use Rattle.answer_types.specs.declared.pieces.Item.{Item}
+use Rattle.answer_types.specs.declared.pieces.Placed.{Placed}
+use Rattle.protocol_spec.specs.Block.Block.{Block, value_in}
+use Rattle.protocol_spec.specs.Block.Commands.{piece_of}
+use Rattle.protocol_spec.specs.Block.Execution.{object_at}
 use Rattle.ptb_run.specs.declared.written.Moved.{Moved}
 use Rattle.ptb_run.specs.Values.{spot_of}
 

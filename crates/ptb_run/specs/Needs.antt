@@ -2,14 +2,14 @@
 use Rattle.std.specs.Prelude.{ℕ, ◌+◌, Bool, true, false, List, [], ◌∷◌, ◌++◌, Option, Some, None}
 use Rattle.chain_types.specs.declared.objects.Kind.{Kind}
 use Rattle.chain_types.specs.declared.transactions.Argument.{Argument}
-use Rattle.block_types.specs.declared.pieces.Mode.{Mode}
-use Rattle.block_types.specs.declared.pieces.Mode.TheVariants as modes
-use Rattle.chain_spec.specs.Tests.{kind_eq}
+use Rattle.answer_types.specs.declared.pieces.Mode.{Mode}
+use Rattle.answer_types.specs.declared.pieces.Mode.TheVariants as modes
+use Rattle.protocol_spec.specs.Chain.Tests.{kind_eq}
 use Rattle.ptb_run.specs.declared.needs.Need.{Need}
 use Rattle.ptb_run.specs.declared.needs.Need.TheVariants as needs
 use Rattle.ptb_run.specs.declared.needs.Wanted.{Wanted}
-use Rattle.block_spec.specs.Natives.{mode_of}
-use Rattle.block_spec.specs.Commands as commands
+use Rattle.protocol_spec.specs.Block.Natives.{mode_of}
+use Rattle.protocol_spec.specs.Block.Commands as commands
 
 abbrev pub need_meant : Need → commands.Need
 need_meant needs.Number = commands.number

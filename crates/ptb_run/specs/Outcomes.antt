@@ -1,10 +1,10 @@
 -- What a step of the code answered against what the definition says.
 use Rattle.std.specs.Prelude.{◌≡◌, ℕ, Bool, nat_lt, length, Result, Ok, Err}
-use Rattle.block_spec.specs.Block.{Block}
-use Rattle.block_spec.specs.Commands as commands
+use Rattle.protocol_spec.specs.Block.Block.{Block}
+use Rattle.protocol_spec.specs.Block.Commands as commands
 use Rattle.chain_types.specs.declared.transactions.Command.{Command}
-use Rattle.chain_spec.specs.Shape.{arguments_of}
-use Rattle.block_spec.specs.Execution.{Failure}
+use Rattle.protocol_spec.specs.Chain.Shape.{arguments_of}
+use Rattle.protocol_spec.specs.Block.Execution.{Failure}
 use Rattle.ptb_run.specs.declared.halt.Failed.{Failed}
 use Rattle.ptb_run.specs.declared.halt.Failed.TheVariants as failed
 use Rattle.ptb_run.specs.declared.halt.Fault.{Fault}

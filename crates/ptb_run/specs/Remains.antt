@@ -5,8 +5,8 @@ use Rattle.digest_core.specs.Tagged.{created_id_of}
 use Rattle.chain_types.specs.declared.objects.ObjectId.{ObjectId}
 use Rattle.chain_types.specs.declared.objects.Object.{Object}
 use Rattle.effects_core.specs.declared.effects.Written.{Written}
-use Rattle.block_spec.specs.Block.{Block}
-use Rattle.block_spec.specs.Execution.{same_object, written_of}
+use Rattle.protocol_spec.specs.Block.Block.{Block}
+use Rattle.protocol_spec.specs.Block.Execution.{same_object, written_of}
 use Rattle.ptb_run.specs.declared.written.Moved.{Moved}
 use Rattle.ptb_run.specs.Left.{Left, moved_now, object_left}
 

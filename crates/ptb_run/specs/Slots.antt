@@ -4,7 +4,7 @@ use Rattle.std.specs.List.{list_any}
 use Rattle.std.specs.Borrow.{Bor}
 use Rattle.ptb_run.specs.declared.value.Value.{Value}
 use Rattle.ptb_run.specs.declared.slots.Slots.{Slots}
-use Rattle.block_spec.specs.Block as block
+use Rattle.protocol_spec.specs.Block.Block as block
 use Rattle.ptb_run.specs.Values.{held, value_of}
 
 abbrev pub input_row : ℕ → List (Option Value) → List block.Slot

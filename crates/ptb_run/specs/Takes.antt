@@ -1,12 +1,12 @@
 -- When an argument may be taken, as far as its value alone says.
 use Rattle.std.specs.Prelude.{Bool, false, not, ◌&&◌, List, [], ◌∷◌, ◌++◌, Option, Some, None}
 use Rattle.chain_types.specs.declared.transactions.Argument.{Argument}
-use Rattle.block_types.specs.declared.pieces.Given.{Given}
-use Rattle.block_types.specs.declared.pieces.Given.TheVariants as given
+use Rattle.answer_types.specs.declared.pieces.Given.{Given}
+use Rattle.answer_types.specs.declared.pieces.Given.TheVariants as given
 use Rattle.ptb_run.specs.declared.needs.Wanted.{Wanted}
 use Rattle.ptb_run.specs.Needs.{need_meant}
-use Rattle.block_spec.specs.Block.{Block, Value, pure, object, vector, value_in}
-use Rattle.block_spec.specs.Commands.{Need, given_as, is_bad_pure, is_right_kind, place_of}
+use Rattle.protocol_spec.specs.Block.Block.{Block, Value, pure, object, vector, value_in}
+use Rattle.protocol_spec.specs.Block.Commands.{Need, given_as, is_bad_pure, is_right_kind, place_of}
 
 abbrev pub may_take : Need → Option Value → Bool
 may_take need None = false

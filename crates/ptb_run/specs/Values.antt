@@ -6,7 +6,7 @@ use Rattle.ptb_run.specs.declared.value.Spot.{Spot}
 use Rattle.ptb_run.specs.declared.value.Spot.TheVariants as spots
 use Rattle.chain_types.specs.declared.transactions.Argument.{Argument}
 use Rattle.chain_types.specs.declared.transactions.Argument.TheVariants as argument
-use Rattle.block_spec.specs.Block as block
+use Rattle.protocol_spec.specs.Block.Block as block
 
 -- where a value lies
 abbrev pub spot_of : Spot → block.Place

@@ -2,18 +2,18 @@
 
 ghost use Rattle.std.specs.Prelude.{◌≡◌, ◌+◌, ◌<◌, ◌∷◌, ◌++◌, [], length, map, IfOk, OnOk, true};
 ghost use Rattle.std.specs.List.{list_all, list_any};
-ghost use Rattle.block_spec.specs.Execution.{is_unused};
-ghost use Rattle.block_spec.specs.Block as block;
-ghost use Rattle.block_spec.specs.Commands.{address_in, all_by, bytes_of, has_no_result, item_in, items_in, number_in, place_of, placed_at, placed_list, put_back, spend, spend_all};
+ghost use Rattle.protocol_spec.specs.Block.Execution.{is_unused};
+ghost use Rattle.protocol_spec.specs.Block.Block as block;
+ghost use Rattle.protocol_spec.specs.Block.Commands.{address_in, all_by, bytes_of, has_no_result, item_in, items_in, number_in, place_of, placed_at, placed_list, put_back, spend, spend_all};
 ghost use Rattle.ptb_run.specs.Blocks.{block_of, rows_of, with_row};
 ghost use Rattle.ptb_run.specs.Rows.{placed_after};
-ghost use Rattle.block_spec.specs.Commands as commands;
+ghost use Rattle.protocol_spec.specs.Block.Commands as commands;
 ghost use Rattle.ptb_run.specs.Gathering.{items_after, numbers_after};
 ghost use Rattle.ptb_run.specs.Takes.{is_taken, value_given};
 
 use crate::slots::Slots;
 use crate::value::{Value, spot_of};
-use block_types::{Given, Item, Placed};
+use answer_types::{Given, Item, Placed};
 use chain_types::{Address, Argument, Owner};
 use digest_core::Digest;
 use std::alloc::Global;

@@ -2,9 +2,9 @@
 
 ghost use Rattle.std.specs.Prelude.{◌≡◌, ◌+◌, ◌<◌, ◌≤◌, [], map, IfOk, OnOk, IsTrue, if◌then◌else◌, true};
 ghost use Rattle.std.specs.List.{list_all};
-ghost use Rattle.block_spec.specs.Natives.{native_gives, parameters_of};
-ghost use Rattle.block_spec.specs.Block.{value_in};
-ghost use Rattle.block_spec.specs.Commands as commands;
+ghost use Rattle.protocol_spec.specs.Block.Natives.{native_gives, parameters_of};
+ghost use Rattle.protocol_spec.specs.Block.Block.{value_in};
+ghost use Rattle.protocol_spec.specs.Block.Commands as commands;
 ghost use Rattle.native_calls.specs.Forms.{have_forms};
 ghost use Rattle.ptb_run.specs.Blocks.{block_of, rows_of};
 ghost use Rattle.ptb_run.specs.Needs.{need_meant, wanted_of};
@@ -17,7 +17,7 @@ use crate::commands::Site;
 use crate::halt::{Fault, Halt};
 use crate::needs::{Need, Wanted, takes_value};
 use crate::value::Value;
-use block_types::{Gave, Given, Item, Placed};
+use answer_types::{Gave, Given, Item, Placed};
 use native_calls::call;
 use std::alloc::Global;
 use wire_bcs::{OutOfMemory, Seq};

@@ -1,8 +1,8 @@
 //! Why the arguments of a command may not be taken.
 
 ghost use Rattle.std.specs.Prelude.{◌≡◌, ◌++◌, ◌∷◌, [], IfOk, if◌then◌else◌, map, slice_get};
-ghost use Rattle.block_spec.specs.Commands.{arguments_cause, is_common, is_frozen_place, is_pure, is_read_only, is_transfer, stays_in_place};
-ghost use Rattle.chain_spec.specs.Words.{first_some};
+ghost use Rattle.protocol_spec.specs.Block.Commands.{arguments_cause, is_common, is_frozen_place, is_pure, is_read_only, is_transfer, stays_in_place};
+ghost use Rattle.protocol_spec.specs.Chain.Words.{first_some};
 ghost use Rattle.ptb_run.specs.Blocks.{block_of};
 ghost use Rattle.ptb_run.specs.Causes.{cause_of, causes_after, is_seen, named_value_cause};
 ghost use Rattle.ptb_run.specs.Needs.{need_meant, wanted_of};

@@ -2,9 +2,9 @@
 
 ghost use Rattle.std.specs.Prelude.{◌≡◌, ◌+◌, ◌-◌, ◌<◌, ◌≤◌, ◌^◌, ◌∷◌, [], not, ◌==◌, nat_le, nat_lt, if◌then◌else◌, length, map, sum, IfOk, OnOk, SomeIff, true};
 ghost use Rattle.std.specs.List.{list_all, list_any};
-ghost use Rattle.block_spec.specs.Natives.{amount_limit, amount_of, currency_of};
-ghost use Rattle.block_spec.specs.Commands as commands;
-ghost use Rattle.block_spec.specs.Commands.{item_in, merge, number_in, sum_of, transfer_block, vector_block, withheld};
+ghost use Rattle.protocol_spec.specs.Block.Natives.{amount_limit, amount_of, currency_of};
+ghost use Rattle.protocol_spec.specs.Block.Commands as commands;
+ghost use Rattle.protocol_spec.specs.Block.Commands.{item_in, merge, number_in, sum_of, transfer_block, vector_block, withheld};
 ghost use Rattle.ptb_run.specs.Blocks.{block_of, rows_of};
 ghost use Rattle.ptb_run.specs.Outcomes.{Steps};
 ghost use Rattle.ptb_run.specs.Rows.{coins_after};
@@ -13,7 +13,7 @@ ghost use Rattle.ptb_run.specs.Takes.{is_taken};
 use crate::block::Block;
 use crate::halt::{Fault, Halt};
 use crate::value::Value;
-use block_types::Item;
+use answer_types::Item;
 use chain_types::{Argument, Content, Kind, ObjectId, Owner, Transaction};
 use digest_core::{Digest, created_id};
 use native_calls::contents::{amount_of, currency_of, holding};

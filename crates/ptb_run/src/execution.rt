@@ -2,9 +2,9 @@
 
 ghost use Rattle.std.specs.Prelude.{◌≡◌, ◌≤◌, ◌∷◌, None, Ok, Err, IfOk, length, nat_lt, true, false};
 ghost use Rattle.std.specs.List.{list_any};
-ghost use Rattle.block_spec.specs.Execution.{executed_as, executed_by, execution, failed_status, outcome};
-ghost use Rattle.chain_spec.specs.Keys.{fits, version_limit, version_of};
-ghost use Rattle.chain_spec.specs.Shape.{is_empty_list, is_no_native, shape_fault};
+ghost use Rattle.protocol_spec.specs.Block.Execution.{executed_as, executed_by, execution, failed_status, outcome};
+ghost use Rattle.protocol_spec.specs.Chain.Keys.{fits, version_limit, version_of};
+ghost use Rattle.protocol_spec.specs.Chain.Shape.{is_empty_list, is_no_native, shape_fault};
 ghost use Rattle.chain_types.specs.Digests.{transaction_digest};
 ghost use Rattle.ptb_run.specs.Blocks.{block_of};
 ghost use Rattle.ptb_run.specs.Outcomes.{fault_of, is_wide};
@@ -17,7 +17,7 @@ use crate::left::firsts_of;
 use crate::remains::{cost, done_objects, drop_each, failed_objects, list_all};
 use crate::run::outcome;
 use crate::written::written_places;
-use block_types::Executed;
+use answer_types::Executed;
 use chain_types::{Object, ObjectId, Transaction};
 use digest_core::Digest;
 use effects_core::{Effects, Status};
@@ -171,7 +171,7 @@ fn site_of(digest: &Digest, objects: &[Object]) -> Site
 }
 
 /// What is executed on the objects that fit.
-#[tactic(auto, unfolding(block_spec::specs::Execution::execution), using(crate::proofs::Executing::few_commands, crate::proofs::Executing::few_inputs, crate::proofs::Executing::known_natives, crate::proofs::Executing::none_wide, crate::proofs::Executing::fits_low, crate::proofs::Executing::fits_some))]
+#[tactic(auto, unfolding(protocol_spec::specs::Block::Execution::execution), using(crate::proofs::Executing::few_commands, crate::proofs::Executing::few_inputs, crate::proofs::Executing::known_natives, crate::proofs::Executing::none_wide, crate::proofs::Executing::fits_low, crate::proofs::Executing::fits_some))]
 fn execute_fitting(
     alloc: Global,
     tx: &Transaction,

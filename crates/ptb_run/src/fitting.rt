@@ -3,7 +3,7 @@
 ghost use Rattle.std.specs.Prelude.{◌≡◌, ◌&&◌, ◌==◌, nat_le, nat_lt, fold, filter};
 ghost use Rattle.chain_types.specs.Digests.{digest_of_object, is_object};
 ghost use Rattle.chain_types.specs.Equal.{digest_eq, id_eq};
-ghost use Rattle.chain_spec.specs.Keys.{balance_of, fit_inputs, fits, fits_input, is_gas_coin, is_immutable, is_owned_by, is_shared_since, objects_of, pays_gas, version_limit, version_of};
+ghost use Rattle.protocol_spec.specs.Chain.Keys.{balance_of, fit_inputs, fits, fits_input, is_gas_coin, is_immutable, is_owned_by, is_shared_since, objects_of, pays_gas, version_limit, version_of};
 ghost use Rattle.ptb_run.specs.Versions.{greatest_version};
 
 use chain_types::{Address, Content, Input, Object, ObjectRef, Owner, Transaction, object_digest};
@@ -159,7 +159,7 @@ fn is_low(objects: &[Object]) -> bool
 /// sender's, the Immutable ones immutable, the Shared ones shared from the version that is named; the
 /// gas coin is of currency 0 and holds the budget; and the version at which the transaction writes is
 /// below 2^62. Takes no memory.
-#[tactic(auto, unfolding(chain_spec::specs::Keys::fits))]
+#[tactic(auto, unfolding(protocol_spec::specs::Chain::Keys::fits))]
 pub fn fits(tx: &Transaction, inputs: &Seq<Object>) -> bool
     ensures { result ≡ fits tx.now inputs.now }
 {

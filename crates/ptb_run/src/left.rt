@@ -1,18 +1,18 @@
 //! What left a block, by id, and what an object is at the end of the block.
 
 ghost use Rattle.std.specs.Prelude.{◌≡◌, [], IfOk, OnOk};
-ghost use Rattle.block_spec.specs.Execution.{object_at};
+ghost use Rattle.protocol_spec.specs.Block.Execution.{object_at};
 ghost use Rattle.ptb_run.specs.Blocks.{block_of};
 ghost use Rattle.ptb_run.specs.Left.{firsts_after, moved_now, object_left, with_first};
 
 use crate::block::Block;
 use crate::value::Value;
 use crate::written::Moved;
-use block_types::{Item, Placed};
+use answer_types::{Item, Placed};
 use chain_types::{Object, ObjectId, Owner};
 use indexmap::IndexMap;
-use name_map::insert_new;
 use std::alloc::Global;
+use tables::insert_new;
 use wire_bcs::OutOfMemory;
 
 /// Notes an object that left the block, where none of its id did before.

@@ -26,10 +26,3 @@ mod written;
 
 pub use execution::execute;
 pub use fitting::fits;
-
-#[cfg(test)]
-mod faults;
-#[cfg(test)]
-mod runs;
-#[cfg(test)]
-mod tests;

@@ -1,15 +1,15 @@
 //! How commands take their arguments.
 
 ghost use Rattle.std.specs.Prelude.{◌≡◌, ◌≤◌, ◌<◌, ◌∷◌, ◌++◌, [], IfOk, OnOk, IsFalse, length, map};
-ghost use Rattle.block_spec.specs.Natives.{parameters_of};
-ghost use Rattle.block_spec.specs.Commands.{all_by, changes_value, is_bad_pure, is_right_kind, need_of, needs_of, paired, takes_value};
-ghost use Rattle.chain_spec.specs.Shape.{arguments_of, is_no_native};
+ghost use Rattle.protocol_spec.specs.Block.Natives.{parameters_of};
+ghost use Rattle.protocol_spec.specs.Block.Commands.{all_by, changes_value, is_bad_pure, is_right_kind, need_of, needs_of, paired, takes_value};
+ghost use Rattle.protocol_spec.specs.Chain.Shape.{arguments_of, is_no_native};
 ghost use Rattle.ptb_run.specs.Values.{value_of};
-ghost use Rattle.chain_spec.specs.Tests.{kind_eq};
+ghost use Rattle.protocol_spec.specs.Chain.Tests.{kind_eq};
 ghost use Rattle.ptb_run.specs.Needs.{all_after, is_item_right, need_meant, need_now, pairs_after, wanted_of};
 
 use crate::value::Value;
-use block_types::Mode;
+use answer_types::Mode;
 use chain_types::{Argument, Command, Kind};
 use native_calls::contents::kind_of;
 use native_calls::mode;

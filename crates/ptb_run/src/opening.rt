@@ -1,14 +1,14 @@
 //! The block before its first command.
 
 ghost use Rattle.std.specs.Prelude.{◌≡◌, ◌∷◌, [], IfOk};
-ghost use Rattle.block_spec.specs.Execution.{first_block, gas_item, item_of};
+ghost use Rattle.protocol_spec.specs.Block.Execution.{first_block, gas_item, item_of};
 ghost use Rattle.ptb_run.specs.Blocks.{block_of, rows_of};
 ghost use Rattle.ptb_run.specs.Opening.{cells_after};
 
 use crate::block::Block;
 use crate::slots::Slots;
 use crate::value::Value;
-use block_types::Item;
+use answer_types::Item;
 use chain_types::{Input, Object, Transaction};
 use native_calls::contents::{amount_of, with_amount};
 use std::alloc::Global;

@@ -1,8 +1,8 @@
 //! The objects that a block leaves.
 
 ghost use Rattle.std.specs.Prelude.{◌≡◌, ◌≤◌, ◌++◌, ◌∷◌, [], IfOk, length, map};
-ghost use Rattle.block_spec.specs.Execution.{less_cost, less_cost_first, same_object, with_rest, with_rest_first, written_of};
-ghost use Rattle.chain_spec.specs.Shape.{cost};
+ghost use Rattle.protocol_spec.specs.Block.Execution.{less_cost, less_cost_first, same_object, with_rest, with_rest_first, written_of};
+ghost use Rattle.protocol_spec.specs.Chain.Shape.{cost};
 ghost use Rattle.ptb_run.specs.Blocks.{block_of};
 ghost use Rattle.ptb_run.specs.Remains.{created_below, gone_after, kept_after, listed_after, same_after};
 
@@ -10,7 +10,7 @@ use crate::block::Block;
 use crate::commands::Site;
 use crate::left::{moved_now, object_left};
 use crate::written::Moved;
-use block_types::Placed;
+use answer_types::Placed;
 use chain_types::{Object, ObjectId, Transaction, object_digest};
 use digest_core::created_id;
 use effects_core::Written;

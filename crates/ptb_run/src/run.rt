@@ -2,10 +2,10 @@
 
 ghost use Rattle.std.specs.Prelude.{◌≡◌, ◌+◌, ◌*◌, ◌<◌, ◌≤◌, ◌∷◌, length, OnOk, false};
 ghost use Rattle.std.specs.List.{list_any};
-ghost use Rattle.block_spec.specs.Commands.{command_step};
-ghost use Rattle.block_spec.specs.Execution.{commands_from, outcome};
-ghost use Rattle.chain_spec.specs.Keys.{version_of};
-ghost use Rattle.chain_spec.specs.Shape.{is_no_native};
+ghost use Rattle.protocol_spec.specs.Block.Commands.{command_step};
+ghost use Rattle.protocol_spec.specs.Block.Execution.{commands_from, outcome};
+ghost use Rattle.protocol_spec.specs.Chain.Keys.{version_of};
+ghost use Rattle.protocol_spec.specs.Chain.Shape.{is_no_native};
 ghost use Rattle.ptb_run.specs.Blocks.{block_of, rows_of};
 ghost use Rattle.ptb_run.specs.Ends.{Ends};
 ghost use Rattle.ptb_run.specs.Outcomes.{Runs, StepsAt, is_wide};
@@ -73,7 +73,7 @@ pub(crate) fn run_commands(
 }
 
 /// The block after its commands, or why it failed.
-#[tactic(auto, unfolding(block_spec::specs::Execution::outcome))]
+#[tactic(auto, unfolding(protocol_spec::specs::Block::Execution::outcome))]
 pub(crate) fn outcome(
     alloc: Global,
     tx: &Transaction,

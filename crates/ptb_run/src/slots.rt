@@ -2,8 +2,8 @@
 
 ghost use Rattle.std.specs.Prelude.{◌≡◌, ◌+◌, ◌∷◌, ◌++◌, [], length, slice_set, MatchResult, IfOk, OnOk};
 ghost use Rattle.std.specs.List.{list_any};
-ghost use Rattle.block_spec.specs.Block.{value_in, put_in, result_count};
-ghost use Rattle.block_spec.specs.Execution.{is_unused};
+ghost use Rattle.protocol_spec.specs.Block.Block.{value_in, put_in, result_count};
+ghost use Rattle.protocol_spec.specs.Block.Execution.{is_unused};
 ghost use Rattle.ptb_run.specs.Values.{spot_of, held};
 ghost use Rattle.ptb_run.specs.Slots.{cell_of, is_row_left, seen, slots_of, result_row};
 

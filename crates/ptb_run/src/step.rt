@@ -2,9 +2,9 @@
 
 ghost use Rattle.std.specs.Prelude.{◌≡◌, ◌+◌, ◌<◌, ◌≤◌, [], length, map, OnOk, true, false};
 ghost use Rattle.std.specs.List.{list_all};
-ghost use Rattle.block_spec.specs.Commands as commands;
-ghost use Rattle.block_spec.specs.Commands.{command_step, needs_of, performed, wrong_count};
-ghost use Rattle.chain_spec.specs.Shape.{arguments_of, is_no_native};
+ghost use Rattle.protocol_spec.specs.Block.Commands as commands;
+ghost use Rattle.protocol_spec.specs.Block.Commands.{command_step, needs_of, performed, wrong_count};
+ghost use Rattle.protocol_spec.specs.Chain.Shape.{arguments_of, is_no_native};
 ghost use Rattle.ptb_run.specs.Blocks.{block_of, rows_of};
 ghost use Rattle.ptb_run.specs.Needs.{wanted_of};
 ghost use Rattle.ptb_run.specs.Outcomes.{Steps};

@@ -1,10 +1,10 @@
 //! The values of a block, and where they lie.
 
 ghost use Rattle.std.specs.Prelude.{◌≡◌};
-ghost use Rattle.block_spec.specs.Commands.{place_of};
+ghost use Rattle.protocol_spec.specs.Block.Commands.{place_of};
 ghost use Rattle.ptb_run.specs.Values.{spot_at, spot_of};
 
-use block_types::Item;
+use answer_types::Item;
 use chain_types::{Argument, Kind};
 use wire_bcs::Seq;
 

@@ -1,7 +1,7 @@
 //! The objects that a block writes, in order.
 
 ghost use Rattle.std.specs.Prelude.{◌≡◌, ◌+◌, ◌≤◌, ◌∷◌, ◌++◌, [], IfOk, OnOk, if◌then◌else◌, length, map};
-ghost use Rattle.block_spec.specs.Execution.{is_written, written_places};
+ghost use Rattle.protocol_spec.specs.Block.Execution.{is_written, written_places};
 ghost use Rattle.ptb_run.specs.Written.{moved_after, moved_of};
 
 use crate::value::Spot;

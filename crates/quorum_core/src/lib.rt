@@ -13,6 +13,3 @@ mod signer;
 pub use committee::{Committee, CommitteeRefusal};
 pub use sealer::{KeyedSeal, Sealer};
 pub use signer::Signer;
-
-#[cfg(test)]
-mod tests;

@@ -5,28 +5,28 @@ use Rattle.digest_core.specs.declared.Digest.{Digest}
 use Rattle.chain_types.specs.declared.objects.ObjectId.{ObjectId}
 use Rattle.chain_types.specs.declared.objects.ObjectKey.{ObjectKey}
 use Rattle.chain_types.specs.declared.objects.Object.{Object}
-use Rattle.block_types.specs.declared.pieces.Executed.{Executed}
+use Rattle.answer_types.specs.declared.pieces.Executed.{Executed}
 use Rattle.schedule_text.specs.declared.words.Event.{Event}
-use Rattle.chain_spec.specs.Words.{Has}
-use Rattle.chain_spec.specs.Keys.{object_key}
-use Rattle.member_spec.specs.Versions.{Execution}
-use Rattle.member_spec.specs.Member.{Member}
+use Rattle.protocol_spec.specs.Chain.Words.{Has}
+use Rattle.protocol_spec.specs.Chain.Keys.{object_key}
+use Rattle.protocol_spec.specs.Member.Versions.{Execution}
+use Rattle.protocol_spec.specs.Member.Member.{Member}
 use Rattle.world_spec.specs.Setting.{Setting}
 use Rattle.world_spec.specs.World.{Seat, new_world, member_in}
 use Rattle.world_spec.specs.Run.{world_after}
 use Rattle.world_spec.specs.Assumptions.{IsHonestRun, delivered, all_delivered}
 use Rattle.block_law.specs.Names.{drawn_id}
-use Rattle.shared_law.specs.Shared.{shared_since}
-use Rattle.one_owner_law.proofs.Forks.{all-front}
-use Rattle.one_owner_law.proofs.Fronts.{honest-front}
+use Rattle.block_law.specs.Shared.{shared_since}
+use Rattle.safety_law.proofs.Forks.{all-front}
+use Rattle.safety_law.proofs.Fronts.{honest-front}
 use Rattle.agreement_law.proofs.Same.{of-run}
 use Rattle.agreement_law.proofs.Agreeing.{one-key}
-use Rattle.chain_law.specs.Orderly.{AreApart}
-use Rattle.current_law.specs.Orderly.{OpensApart}
-use Rattle.current_law.proofs.Known.{opens-apart}
-use Rattle.epoch_law.specs.Agreed.{Agree}
-use Rattle.epoch_law.proofs.Agreed.{members-agree}
-use Rattle.present_law.proofs.Fitting.{one-id, writes-once}
+use Rattle.sequence_law.specs.Orderly.{AreApart}
+use Rattle.agreement_law.specs.Orderly.{OpensApart}
+use Rattle.agreement_law.proofs.Known.{opens-apart}
+use Rattle.agreement_law.specs.AgreedEpochs.{Agree}
+use Rattle.agreement_law.proofs.AgreedEpochs.{members-agree}
+use Rattle.ready_law.proofs.Fitting.{one-id, writes-once}
 use Rattle.ready_law.specs.Shared.{ShareAlike}
 use Rattle.ready_law.proofs.Roots.{HasFirst, IsMadeFirst, IsOfRun, of-this-run, version-first}
 

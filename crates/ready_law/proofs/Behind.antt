@@ -6,21 +6,21 @@ use Rattle.chain_types.specs.declared.transactions.SignedTx.{SignedTx}
 use Rattle.chain_messages.specs.declared.messages.Certificate.{Certificate}
 use Rattle.journal_core.specs.declared.records.Record.{Record}
 use Rattle.journal_core.specs.declared.records.Record.TheVariants as record_as
-use Rattle.member_types.specs.declared.answers.Ran.{Ran}
+use Rattle.answer_types.specs.declared.answers.Ran.{Ran}
 use Rattle.schedule_text.specs.declared.words.Event.{Event}
 use Rattle.schedule_text.specs.declared.words.Event.TheVariants as event
-use Rattle.chain_spec.specs.Words.{Has}
-use Rattle.member_spec.specs.Versions.{Execution}
-use Rattle.member_spec.specs.Rounds.{rounds}
-use Rattle.member_spec.specs.Member.{Member, books, after, state}
-use Rattle.member_spec.specs.Calls.{runs, run_answer, ran_item, ran_items, ran_record, run_record, due}
+use Rattle.protocol_spec.specs.Chain.Words.{Has}
+use Rattle.protocol_spec.specs.Member.Versions.{Execution}
+use Rattle.protocol_spec.specs.Member.Rounds.{rounds}
+use Rattle.protocol_spec.specs.Member.Member.{Member, books, after, state}
+use Rattle.protocol_spec.specs.Member.Calls.{runs, run_answer, ran_item, ran_items, ran_record, run_record, due}
 use Rattle.world_spec.specs.Setting.{Setting}
 use Rattle.world_spec.specs.World.{Seat, Made, Formed, World, new_world, member_in, Reached, finds_down, stops, answers, reached_seat, behind, appended, called_seat, called_in}
 use Rattle.world_spec.specs.Step.{started_seat, on_seat, happens}
 use Rattle.world_spec.specs.Run.{run, world_after}
 use Rattle.world_spec.specs.Assumptions.{asked, delivered, delivered_ends, all_of, all_formed, all_delivered, all_transactions, NoForgery, IsHonestRun}
-use Rattle.votes_law.proofs.Apart.{state-push}
-use Rattle.one_owner_law.proofs.Grown.{world-append}
+use Rattle.safety_law.proofs.Apart.{state-push}
+use Rattle.safety_law.proofs.Grown.{world-append}
 
 get-set-same : {A : Type 0} (xs : List A) (i : ℕ) (y x : A) → slice_get xs i ≡ Some y → slice_get (slice_set xs i x) i ≡ Some x
 get-set-same [] i y x e = absurd (cc)

@@ -2,18 +2,18 @@
 use Rattle.std.proofs.Common.{inl, inr, refl, subst, ap}
 use Rattle.std.specs.Prelude.{◌≡◌, ℕ, Bool, true, false, cond, List, [], ◌∷◌, ◌++◌, map, filter, slice_get, Some}
 use Rattle.chain_types.specs.declared.objects.ObjectKey.{ObjectKey}
-use Rattle.member_types.specs.declared.answers.Held.{Held}
+use Rattle.answer_types.specs.declared.answers.Held.{Held}
 use Rattle.schedule_text.specs.declared.words.Event.{Event}
-use Rattle.chain_spec.specs.Words.{Has}
-use Rattle.block_spec.specs.Execution.{execution, written_keys}
-use Rattle.member_spec.specs.Versions.{Execution, is_executed}
-use Rattle.member_spec.specs.Rounds.{Books, ready, executes_as, round_of, is_due, left_as, left}
-use Rattle.member_spec.specs.Member.{Member, books}
+use Rattle.protocol_spec.specs.Chain.Words.{Has}
+use Rattle.protocol_spec.specs.Block.Execution.{execution, written_keys}
+use Rattle.protocol_spec.specs.Member.Versions.{Execution, is_executed}
+use Rattle.protocol_spec.specs.Member.Rounds.{Books, ready, executes_as, round_of, is_due, left_as, left}
+use Rattle.protocol_spec.specs.Member.Member.{Member, books}
 use Rattle.world_spec.specs.Setting.{Setting}
 use Rattle.world_spec.specs.World.{Seat, member_in}
 use Rattle.world_spec.specs.Run.{world_after}
 use Rattle.world_spec.specs.Assumptions.{IsHonestRun}
-use Rattle.chain_law.specs.Orderly.{AreApart}
+use Rattle.sequence_law.specs.Orderly.{AreApart}
 use Rattle.ready_law.specs.Complete.{MayExecute, IsReady}
 use Rattle.ready_law.specs.Runs.{IsRunOut}
 use Rattle.ready_law.proofs.Ready.{due-idle, due-may, due-have}

@@ -9,18 +9,18 @@ use Rattle.chain_types.specs.declared.objects.ObjectId.{ObjectId}
 use Rattle.chain_types.specs.declared.objects.ObjectKey.{ObjectKey}
 use Rattle.chain_types.specs.declared.objects.Object.{Object}
 use Rattle.chain_types.specs.Equal.{id_eq, key_eq}
-use Rattle.member_types.specs.declared.answers.Held.{Held}
-use Rattle.chain_spec.specs.Words.{Has, where_true}
-use Rattle.chain_spec.specs.Tests.{has_key}
-use Rattle.chain_spec.specs.Keys.{fits}
-use Rattle.chain_spec.proofs.ListLemmas.{and-first, and-second, not-true}
-use Rattle.block_spec.specs.Execution.{execution, written_keys}
-use Rattle.member_spec.specs.Versions.{Execution, versions, is_executed}
-use Rattle.member_spec.specs.Rounds.{Books, present, may_run, writes_new, executes_as, ready_as, ready_on, ready, clashes, round_add, round_among, round_of, rounds_within, rounds}
-use Rattle.votes_law.proofs.Once.{has-push, has-left, has-last}
+use Rattle.answer_types.specs.declared.answers.Held.{Held}
+use Rattle.protocol_spec.specs.Chain.Words.{Has, where_true}
+use Rattle.protocol_spec.specs.Chain.Tests.{has_key}
+use Rattle.protocol_spec.specs.Chain.Keys.{fits}
+use Rattle.protocol_spec.proofs.ListLemmas.{and-first, and-second, not-true}
+use Rattle.protocol_spec.specs.Block.Execution.{execution, written_keys}
+use Rattle.protocol_spec.specs.Member.Versions.{Execution, versions, is_executed}
+use Rattle.protocol_spec.specs.Member.Rounds.{Books, present, may_run, writes_new, executes_as, ready_as, ready_on, ready, clashes, round_add, round_among, round_of, rounds_within, rounds}
+use Rattle.safety_law.proofs.Once.{has-push, has-left, has-last}
 use Rattle.block_law.proofs.Counts.{id_same}
-use Rattle.chain_law.proofs.Reading.{has-right}
-use Rattle.current_law.proofs.Lists.{any-has}
+use Rattle.sequence_law.proofs.Reading.{has-right}
+use Rattle.agreement_law.proofs.Lists.{any-has}
 use Rattle.ready_law.proofs.Keys.{was-executed}
 
 -- ---- what is ready

@@ -9,39 +9,39 @@ use Rattle.chain_types.specs.declared.transactions.Input.{Input}
 use Rattle.chain_types.specs.declared.transactions.Input.TheVariants as inputs
 use Rattle.chain_types.specs.Equal.{digest_eq, id_eq}
 use Rattle.chain_messages.specs.declared.messages.Certificate.{Certificate}
-use Rattle.member_types.specs.declared.answers.Held.{Held}
-use Rattle.member_types.specs.declared.answers.Ran.{Ran}
-use Rattle.member_types.specs.declared.refusals.TurnRefusal.{TurnRefusal}
-use Rattle.member_types.specs.declared.refusals.TurnRefusal.TheVariants as no_turn
+use Rattle.answer_types.specs.declared.answers.Held.{Held}
+use Rattle.answer_types.specs.declared.answers.Ran.{Ran}
+use Rattle.answer_types.specs.declared.refusals.TurnRefusal.{TurnRefusal}
+use Rattle.answer_types.specs.declared.refusals.TurnRefusal.TheVariants as no_turn
 use Rattle.schedule_text.specs.declared.words.Event.{Event}
-use Rattle.chain_spec.specs.Words.{Has, Each, Along, first_some, first_of, where_true, last_where, unless_refused}
-use Rattle.chain_spec.specs.Tests.{origins_eq}
-use Rattle.chain_spec.specs.Keys.{objects_of, has_shared_input}
-use Rattle.member_spec.specs.Versions.{Execution, is_executed}
-use Rattle.member_spec.specs.Admission.{Admitted, Standing, is_admitted, writes, cert_of, joined_inputs, begins, beginning, beginning_by, standing_after, standing_or, current, assigned_of}
-use Rattle.member_spec.specs.Rounds.{Wanted, wanted_by, wants_of, is_maker_done, is_origin_done}
-use Rattle.member_spec.specs.Checkpoints.{is_done}
-use Rattle.member_spec.specs.Member.{Member, with_rounds, Fork, fork_of}
-use Rattle.member_spec.specs.Calls.{run_answer, record_limit, not_done, reverted, turn_answer}
+use Rattle.protocol_spec.specs.Chain.Words.{Has, Each, Along, first_some, first_of, where_true, last_where, unless_refused}
+use Rattle.protocol_spec.specs.Chain.Tests.{origins_eq}
+use Rattle.protocol_spec.specs.Chain.Keys.{objects_of, has_shared_input}
+use Rattle.protocol_spec.specs.Member.Versions.{Execution, is_executed}
+use Rattle.protocol_spec.specs.Member.Admission.{Admitted, Standing, is_admitted, writes, cert_of, joined_inputs, begins, beginning, beginning_by, standing_after, standing_or, current, assigned_of}
+use Rattle.protocol_spec.specs.Member.Rounds.{Wanted, wanted_by, wants_of, is_maker_done, is_origin_done}
+use Rattle.protocol_spec.specs.Member.Checkpoints.{is_done}
+use Rattle.protocol_spec.specs.Member.Member.{Member, with_rounds, Fork, fork_of}
+use Rattle.protocol_spec.specs.Member.Calls.{run_answer, record_limit, not_done, reverted, turn_answer}
 use Rattle.world_spec.specs.Setting.{Setting}
 use Rattle.world_spec.specs.World.{Seat, member_in}
 use Rattle.world_spec.specs.Run.{world_after}
 use Rattle.world_spec.specs.Assumptions.{IsHonestRun, all_delivered}
-use Rattle.votes_law.proofs.Once.{each-has, equal, digest-same, has-push, has-left}
-use Rattle.admission_law.specs.Admitted.{IsInOrder, is_origin_in}
+use Rattle.safety_law.proofs.Once.{each-has, equal, digest-same, has-push, has-left}
+use Rattle.sequence_law.specs.Admitted.{IsInOrder, is_origin_in}
 use Rattle.agreement_law.specs.Agreed.{IsHeldAsGiven}
 use Rattle.agreement_law.proofs.Supply.{every-held, every-admission}
-use Rattle.chain_law.specs.Orderly.{AreApart}
-use Rattle.chain_law.proofs.Touched.{has-parts, has-mapped}
-use Rattle.current_law.specs.Checkpointed.{admitted_in, IsBuilt}
-use Rattle.current_law.proofs.Lists.{some-same, has-middle, has-second, any-has, has-any, all-has, each-all, first-says}
-use Rattle.current_law.proofs.Same.{given-alike}
-use Rattle.current_law.proofs.Executed.{admitted-given}
-use Rattle.current_law.proofs.Checkpointed.{all-cut}
-use Rattle.epoch_law.proofs.Turned.{has-all, flat-has}
+use Rattle.sequence_law.specs.Orderly.{AreApart}
+use Rattle.sequence_law.proofs.Touched.{has-parts, has-mapped}
+use Rattle.agreement_law.specs.Checkpointed.{admitted_in, IsBuilt}
+use Rattle.agreement_law.proofs.Lists.{some-same, has-middle, has-second, any-has, has-any, all-has, each-all, first-says}
+use Rattle.agreement_law.proofs.SameSteps.{given-alike}
+use Rattle.agreement_law.proofs.Executed.{admitted-given}
+use Rattle.agreement_law.proofs.Checkpointed.{all-cut}
+use Rattle.agreement_law.proofs.Turned.{has-all, flat-has}
 use Rattle.ready_law.specs.Runs.{HasNothingToWaitFor}
 use Rattle.ready_law.proofs.Undropped.{IsKept, none-dropped}
-use Rattle.ready_law.proofs.Assigned.{along-both, last-has, IsAdmittedAs, wanted-current}
+use Rattle.ready_law.proofs.AssignedShared.{along-both, last-has, IsAdmittedAs, wanted-current}
 use Rattle.ready_law.proofs.Running.{runs-execute-all}
 use Rattle.ready_law.proofs.Stock.{IsHeldUnder, admitted-held}
 

@@ -9,35 +9,35 @@ use Rattle.chain_types.specs.declared.objects.ObjectKey.{ObjectKey}
 use Rattle.chain_types.specs.declared.objects.Object.{Object}
 use Rattle.chain_types.specs.Equal.{id_eq, key_eq, digest_eq}
 use Rattle.chain_types.specs.Digests.{transaction_digest}
-use Rattle.block_types.specs.declared.pieces.Executed.{Executed}
-use Rattle.member_types.specs.declared.answers.Held.{Held}
+use Rattle.answer_types.specs.declared.pieces.Executed.{Executed}
+use Rattle.answer_types.specs.declared.answers.Held.{Held}
 use Rattle.schedule_text.specs.declared.words.Event.{Event}
-use Rattle.chain_spec.specs.Words.{Has, repeats, where_true}
-use Rattle.chain_spec.specs.Keys.{object_key, fits}
-use Rattle.chain_spec.proofs.ListLemmas.{and-first, and-second, or-first, or-second}
-use Rattle.block_spec.specs.Execution.{execution, written_keys}
-use Rattle.member_spec.specs.Versions.{Execution, Version, versions, object_in, is_executed}
-use Rattle.member_spec.specs.Rounds.{Books, present, may_run, holds_key, writes_new, executes_as, ready_as, ready_on, ready}
-use Rattle.member_spec.specs.Member.{Member, books}
+use Rattle.protocol_spec.specs.Chain.Words.{Has, repeats, where_true}
+use Rattle.protocol_spec.specs.Chain.Keys.{object_key, fits}
+use Rattle.protocol_spec.proofs.ListLemmas.{and-first, and-second, or-first, or-second}
+use Rattle.protocol_spec.specs.Block.Execution.{execution, written_keys}
+use Rattle.protocol_spec.specs.Member.Versions.{Execution, Version, versions, object_in, is_executed}
+use Rattle.protocol_spec.specs.Member.Rounds.{Books, present, may_run, holds_key, writes_new, executes_as, ready_as, ready_on, ready}
+use Rattle.protocol_spec.specs.Member.Member.{Member, books}
 use Rattle.world_spec.specs.Setting.{Setting}
 use Rattle.world_spec.specs.World.{Seat, member_in}
 use Rattle.world_spec.specs.Run.{world_after}
 use Rattle.world_spec.specs.Assumptions.{IsHonestRun}
-use Rattle.votes_law.proofs.Once.{digest-same}
+use Rattle.safety_law.proofs.Once.{digest-same}
 use Rattle.block_law.proofs.Counts.{id_same}
-use Rattle.chain_law.specs.Orderly.{Step, gave, id_of, AreApart}
-use Rattle.chain_law.proofs.Touched.{has-mapped}
-use Rattle.current_law.specs.Orderly.{OpensApart}
-use Rattle.current_law.proofs.Lists.{any-has}
-use Rattle.current_law.proofs.Known.{opens-apart}
-use Rattle.present_law.proofs.Present.{has-find, IsOpened, IsWrote, version-from}
-use Rattle.version_law.proofs.Family.{IsFamily}
-use Rattle.version_law.proofs.Linked.{all-writers, above-opening, gave-once}
-use Rattle.version_law.proofs.Settled.{ArePeers}
-use Rattle.version_law.proofs.Reading.{IsRunnable}
-use Rattle.version_law.proofs.Takers.{digest-of}
-use Rattle.version_law.proofs.Executed.{step-of, runnable-gave, family}
-use Rattle.version_law.proofs.Moments.{own-peers}
+use Rattle.sequence_law.specs.Orderly.{Step, gave, id_of, AreApart}
+use Rattle.sequence_law.proofs.Touched.{has-mapped}
+use Rattle.agreement_law.specs.Orderly.{OpensApart}
+use Rattle.agreement_law.proofs.Lists.{any-has}
+use Rattle.agreement_law.proofs.Known.{opens-apart}
+use Rattle.ready_law.proofs.Present.{has-find, IsOpened, IsWrote, version-from}
+use Rattle.ready_law.proofs.Family.{IsFamily}
+use Rattle.ready_law.proofs.Linked.{all-writers, above-opening, gave-once}
+use Rattle.ready_law.proofs.Settled.{ArePeers}
+use Rattle.ready_law.proofs.Reading.{IsRunnable}
+use Rattle.ready_law.proofs.Takers.{digest-of}
+use Rattle.ready_law.proofs.Executed.{step-of, runnable-gave, family}
+use Rattle.ready_law.proofs.Moments.{own-peers}
 use Rattle.ready_law.specs.Complete.{MayExecute}
 use Rattle.ready_law.proofs.Ready.{none-unfit}
 

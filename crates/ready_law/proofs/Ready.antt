@@ -16,42 +16,42 @@ use Rattle.chain_types.specs.declared.transactions.Transaction.{Transaction}
 use Rattle.chain_types.specs.declared.refusals.DecideRefusal.TheVariants as refused
 use Rattle.chain_types.specs.Equal.{id_eq, key_eq}
 use Rattle.chain_types.specs.Digests.{key_of, transaction_digest, is_object, lamport_version}
-use Rattle.member_types.specs.declared.answers.Assigned.{Assigned}
-use Rattle.member_types.specs.declared.answers.Held.{Held}
+use Rattle.answer_types.specs.declared.answers.Assigned.{Assigned}
+use Rattle.answer_types.specs.declared.answers.Held.{Held}
 use Rattle.schedule_text.specs.declared.words.Event.{Event}
-use Rattle.chain_spec.specs.Words.{Has, all_some}
-use Rattle.chain_spec.specs.Tests.{producer_eq}
-use Rattle.chain_spec.specs.Keys.{object_key, objects_of, is_shared_since, is_shared_input, has_shared_input, version_of, version_limit, fits_input, fit_inputs, fits}
-use Rattle.chain_spec.proofs.ListLemmas.{find-test, and-first, and-second, or-first, not-true}
-use Rattle.member_spec.specs.Versions.{Execution, Version, versions, is_id, object_in, newer, newest, is_deleted, live, is_executed}
-use Rattle.member_spec.specs.Votes.{shared_key, Ballot, of_held, wrong_kind, vote_cases, vote_refusal, origin_of, vote_origins}
-use Rattle.member_spec.specs.Admission.{joined_inputs, lacks_shared, is_admitted, taken_version, version_at_admission, assigned_of}
-use Rattle.member_spec.specs.Rounds.{Books, Wanted, wanted_by, wanted_as, wanted_version, assigned_id, wants_of, is_wanted, found, present, may_run, is_maker_done, is_origin_done, is_due}
-use Rattle.member_spec.specs.Member.{Member, ballot, books}
+use Rattle.protocol_spec.specs.Chain.Words.{Has, all_some}
+use Rattle.protocol_spec.specs.Chain.Tests.{producer_eq}
+use Rattle.protocol_spec.specs.Chain.Keys.{object_key, objects_of, is_shared_since, is_shared_input, has_shared_input, version_of, version_limit, fits_input, fit_inputs, fits}
+use Rattle.protocol_spec.proofs.ListLemmas.{find-test, and-first, and-second, or-first, not-true}
+use Rattle.protocol_spec.specs.Member.Versions.{Execution, Version, versions, is_id, object_in, newer, newest, is_deleted, live, is_executed}
+use Rattle.protocol_spec.specs.Member.Votes.{shared_key, Ballot, of_held, wrong_kind, vote_cases, vote_refusal, origin_of, vote_origins}
+use Rattle.protocol_spec.specs.Member.Admission.{joined_inputs, lacks_shared, is_admitted, taken_version, version_at_admission, assigned_of}
+use Rattle.protocol_spec.specs.Member.Rounds.{Books, Wanted, wanted_by, wanted_as, wanted_version, assigned_id, wants_of, is_wanted, found, present, may_run, is_maker_done, is_origin_done, is_due}
+use Rattle.protocol_spec.specs.Member.Member.{Member, ballot, books}
 use Rattle.world_spec.specs.Setting.{Setting}
 use Rattle.world_spec.specs.World.{Seat, member_in}
 use Rattle.world_spec.specs.Run.{world_after}
 use Rattle.world_spec.specs.Assumptions.{IsHonestRun, all_delivered}
-use Rattle.votes_law.proofs.Apart.{none-each, none-of, accepted}
-use Rattle.votes_law.proofs.Once.{each-has}
-use Rattle.votes_law.proofs.Kept.{find-has}
+use Rattle.safety_law.proofs.Apart.{none-each, none-of, accepted}
+use Rattle.safety_law.proofs.Once.{each-has}
+use Rattle.safety_law.proofs.Kept.{find-has}
 use Rattle.block_law.proofs.Counts.{id_same, id_refl}
-use Rattle.shared_law.specs.Shared.{shared_since}
+use Rattle.block_law.specs.Shared.{shared_since}
 use Rattle.agreement_law.specs.Agreed.{IsGiven, IsHeldAsGiven}
 use Rattle.agreement_law.proofs.Supply.{every-held}
-use Rattle.chain_law.specs.Orderly.{AreApart}
-use Rattle.chain_law.proofs.Touched.{has-mapped}
-use Rattle.chain_law.proofs.Reading.{has-zip}
-use Rattle.current_law.proofs.Lists.{some-same, has-second, has-any, all-has}
-use Rattle.current_law.proofs.Known.{opens-apart}
-use Rattle.current_law.proofs.Wants.{found-as, nobody, version-found, wanted-at}
-use Rattle.present_law.proofs.Present.{cast-given, voted-by, owned-present}
-use Rattle.present_law.proofs.Fitting.{writes-once}
-use Rattle.present_law.proofs.Whole.{filter-has, zip-there, whole-fits, certificates-fit}
+use Rattle.sequence_law.specs.Orderly.{AreApart}
+use Rattle.sequence_law.proofs.Touched.{has-mapped}
+use Rattle.sequence_law.proofs.Reading.{has-zip}
+use Rattle.agreement_law.proofs.Lists.{some-same, has-second, has-any, all-has}
+use Rattle.agreement_law.proofs.Known.{opens-apart}
+use Rattle.agreement_law.proofs.Wants.{found-as, nobody, version-found, wanted-at}
+use Rattle.ready_law.proofs.Present.{cast-given, voted-by, owned-present}
+use Rattle.ready_law.proofs.Fitting.{writes-once}
+use Rattle.ready_law.proofs.Whole.{filter-has, zip-there, whole-fits, certificates-fit}
 use Rattle.ready_law.specs.Shared.{ShareAlike}
 use Rattle.ready_law.specs.Ready.{wanted_of}
 use Rattle.ready_law.proofs.Alike.{share-alike}
-use Rattle.ready_law.proofs.Assigned.{IsAdmittedAs, admitted-as, wanted-current, shared-present}
+use Rattle.ready_law.proofs.AssignedShared.{IsAdmittedAs, admitted-as, wanted-current, shared-present}
 
 -- ---- a live object is a version of its id
 

@@ -9,48 +9,48 @@ use Rattle.chain_types.specs.declared.transactions.Transaction.{Transaction}
 use Rattle.chain_types.specs.Equal.{digest_eq, id_eq}
 use Rattle.chain_types.specs.Digests.{transaction_digest}
 use Rattle.chain_messages.specs.declared.messages.Certificate.{Certificate}
-use Rattle.block_types.specs.declared.pieces.Executed.{Executed}
-use Rattle.member_types.specs.declared.answers.Held.{Held}
+use Rattle.answer_types.specs.declared.pieces.Executed.{Executed}
+use Rattle.answer_types.specs.declared.answers.Held.{Held}
 use Rattle.schedule_text.specs.declared.words.Event.{Event}
-use Rattle.chain_spec.specs.Words.{Has, Along, all_some, numbers_below, repeats}
-use Rattle.chain_spec.specs.Keys.{objects_of, named_ids}
-use Rattle.chain_spec.specs.Shape.{shape_cases, shape_fault}
-use Rattle.chain_spec.specs.Certificates.{Rules, cert_cases, cert_refusal}
-use Rattle.block_spec.specs.Block.{Block}
-use Rattle.block_spec.specs.Execution.{Failure, outcome, execution, executed_by}
-use Rattle.member_spec.specs.Versions.{Execution, Version, versions, is_executed}
-use Rattle.member_spec.specs.Rounds.{Wanted, is_wanted, wants_of, found, present}
-use Rattle.member_spec.specs.Member.{Member, books}
+use Rattle.protocol_spec.specs.Chain.Words.{Has, Along, all_some, numbers_below, repeats}
+use Rattle.protocol_spec.specs.Chain.Keys.{objects_of, named_ids}
+use Rattle.protocol_spec.specs.Chain.Shape.{shape_cases, shape_fault}
+use Rattle.protocol_spec.specs.Chain.Certificates.{Rules, cert_cases, cert_refusal}
+use Rattle.protocol_spec.specs.Block.Block.{Block}
+use Rattle.protocol_spec.specs.Block.Execution.{Failure, outcome, execution, executed_by}
+use Rattle.protocol_spec.specs.Member.Versions.{Execution, Version, versions, is_executed}
+use Rattle.protocol_spec.specs.Member.Rounds.{Wanted, is_wanted, wants_of, found, present}
+use Rattle.protocol_spec.specs.Member.Member.{Member, books}
 use Rattle.world_spec.specs.Setting.{Setting}
 use Rattle.world_spec.specs.World.{Seat, member_in}
 use Rattle.world_spec.specs.Names.{draws}
 use Rattle.world_spec.specs.Run.{world_after}
 use Rattle.world_spec.specs.Assumptions.{IsHonestRun, all_delivered, all_transactions}
-use Rattle.votes_law.proofs.Once.{each-has, digest-same, has-left}
-use Rattle.votes_law.proofs.Kept.{find-has}
-use Rattle.votes_law.proofs.Apart.{none-each, none-map}
+use Rattle.safety_law.proofs.Once.{each-has, digest-same, has-left}
+use Rattle.safety_law.proofs.Kept.{find-has}
+use Rattle.safety_law.proofs.Apart.{none-each, none-map}
 use Rattle.block_law.specs.Names.{drawn_id, drawn_ids, touched_ids}
 use Rattle.block_law.proofs.Reading.{where-false}
 use Rattle.block_law.proofs.Steps.{map-append}
 use Rattle.block_law.proofs.Effects.{objects-ids}
-use Rattle.shared_law.specs.Shared.{shared_since, IsAsNamed, IsNew}
-use Rattle.shared_law.proofs.Written.{stay-shared}
+use Rattle.block_law.specs.Shared.{shared_since, IsAsNamed, IsNew}
+use Rattle.block_law.proofs.Written.{stay-shared}
 use Rattle.agreement_law.specs.Agreed.{IsGiven, IsHeldAsGiven}
 use Rattle.agreement_law.specs.Explained.{IsExplained}
 use Rattle.agreement_law.proofs.Supply.{every-held}
 use Rattle.agreement_law.proofs.Executing.{executions-explained, some-parts}
 use Rattle.agreement_law.proofs.Same.{of-run}
-use Rattle.chain_law.specs.Orderly.{Step, id_of}
-use Rattle.chain_law.proofs.Touched.{has-parts, has-mapped, below, written-version}
-use Rattle.chain_law.proofs.Reading.{has-right}
-use Rattle.current_law.specs.Orderly.{OpensApart}
-use Rattle.current_law.proofs.Lists.{some-same, has-second, along-split}
-use Rattle.current_law.proofs.Lives.{IsThere, version-there}
-use Rattle.current_law.proofs.Wants.{found-as}
-use Rattle.current_law.proofs.Executed.{one-gave}
-use Rattle.current_law.proofs.Ordered.{repeats-append}
-use Rattle.current_law.proofs.Drawn.{created-most}
-use Rattle.present_law.proofs.Present.{has-find, executed-is}
+use Rattle.sequence_law.specs.Orderly.{Step, id_of}
+use Rattle.sequence_law.proofs.Touched.{has-parts, has-mapped, below, written-version}
+use Rattle.sequence_law.proofs.Reading.{has-right}
+use Rattle.agreement_law.specs.Orderly.{OpensApart}
+use Rattle.agreement_law.proofs.Lists.{some-same, has-second, along-split}
+use Rattle.agreement_law.proofs.Lives.{IsThere, version-there}
+use Rattle.agreement_law.proofs.Wants.{found-as}
+use Rattle.agreement_law.proofs.Executed.{one-gave}
+use Rattle.agreement_law.proofs.Ordered.{repeats-append}
+use Rattle.agreement_law.proofs.Drawn.{created-most}
+use Rattle.ready_law.proofs.Present.{has-find, executed-is}
 
 -- ---- where an id comes from
 

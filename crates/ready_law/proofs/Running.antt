@@ -2,22 +2,22 @@
 use Rattle.std.proofs.Common.{refl, sym, subst, ap, ◌∙◌}
 use Rattle.std.specs.Prelude.{◌≡◌, ℕ, Bool, true, false, List, [], ◌∷◌, ◌++◌, slice_get, Option, Some, None, Result, Ok}
 use Rattle.std.specs.List.{list_all}
-use Rattle.member_types.specs.declared.answers.Held.{Held}
-use Rattle.member_types.specs.declared.answers.Ran.{Ran}
-use Rattle.member_types.specs.declared.refusals.RunRefusal.{RunRefusal}
-use Rattle.member_types.specs.declared.refusals.RunRefusal.TheVariants as no_run
+use Rattle.answer_types.specs.declared.answers.Held.{Held}
+use Rattle.answer_types.specs.declared.answers.Ran.{Ran}
+use Rattle.answer_types.specs.declared.refusals.RunRefusal.{RunRefusal}
+use Rattle.answer_types.specs.declared.refusals.RunRefusal.TheVariants as no_run
 use Rattle.schedule_text.specs.declared.words.Event.{Event}
-use Rattle.chain_spec.specs.Words.{Has, first_some, unless_refused}
-use Rattle.chain_spec.specs.Certificates.{Rules}
-use Rattle.member_spec.specs.Versions.{Execution, is_executed}
-use Rattle.member_spec.specs.Rounds.{Books, Wanted, wants_of, may_run, rounds, is_maker_done, is_origin_done, is_due, left}
-use Rattle.member_spec.specs.Member.{Member, books, with_rounds}
-use Rattle.member_spec.specs.Calls.{halted, full, ran_as, run_answer}
+use Rattle.protocol_spec.specs.Chain.Words.{Has, first_some, unless_refused}
+use Rattle.protocol_spec.specs.Chain.Certificates.{Rules}
+use Rattle.protocol_spec.specs.Member.Versions.{Execution, is_executed}
+use Rattle.protocol_spec.specs.Member.Rounds.{Books, Wanted, wants_of, may_run, rounds, is_maker_done, is_origin_done, is_due, left}
+use Rattle.protocol_spec.specs.Member.Member.{Member, books, with_rounds}
+use Rattle.protocol_spec.specs.Member.Calls.{halted, full, ran_as, run_answer}
 use Rattle.world_spec.specs.Setting.{Setting}
 use Rattle.world_spec.specs.World.{Seat, member_in}
 use Rattle.world_spec.specs.Run.{world_after}
 use Rattle.world_spec.specs.Assumptions.{IsHonestRun}
-use Rattle.chain_law.specs.Orderly.{AreApart}
+use Rattle.sequence_law.specs.Orderly.{AreApart}
 use Rattle.ready_law.specs.Runs.{IsRunOut, HasNothingToWaitFor}
 use Rattle.ready_law.proofs.Behind.{start_and_run, IsRunOn, run-on}
 use Rattle.ready_law.proofs.Ending.{nothing-ready}

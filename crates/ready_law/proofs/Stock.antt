@@ -6,18 +6,18 @@ use Rattle.chain_types.specs.declared.objects.Object.{Object}
 use Rattle.chain_types.specs.Equal.{digest_eq}
 use Rattle.journal_core.specs.declared.records.Record.{Record}
 use Rattle.journal_core.specs.declared.records.Record.TheVariants as record_as
-use Rattle.member_types.specs.declared.answers.Held.{Held}
-use Rattle.chain_spec.specs.Words.{Has, Each}
-use Rattle.chain_spec.specs.Certificates.{Rules}
-use Rattle.chain_spec.proofs.ListLemmas.{find-each, find-test, filter-each, each-push}
-use Rattle.member_spec.specs.Admission.{Admitted, Admission, is_free, not_of, admit, taken_as, taken, is_dropped, taken_next, take_free, entered, passed_mark}
-use Rattle.member_spec.specs.Sequence.{Sequence, What, takes, commits, counts, ignores, what_of, counted_as, ends_with_member, with_what, with_entry, saw, held_as}
-use Rattle.member_spec.specs.Checkpoints.{held_of}
-use Rattle.member_spec.specs.Member.{Member, fresh, held_with, after, state}
-use Rattle.votes_law.proofs.Once.{each-has, equal, digest-same, has-last}
-use Rattle.votes_law.proofs.Kept.{find-has}
+use Rattle.answer_types.specs.declared.answers.Held.{Held}
+use Rattle.protocol_spec.specs.Chain.Words.{Has, Each}
+use Rattle.protocol_spec.specs.Chain.Certificates.{Rules}
+use Rattle.protocol_spec.proofs.ListLemmas.{find-each, find-test, filter-each, each-push}
+use Rattle.protocol_spec.specs.Member.Admission.{Admitted, Admission, is_free, not_of, admit, taken_as, taken, is_dropped, taken_next, take_free, entered, passed_mark}
+use Rattle.protocol_spec.specs.Member.Sequence.{Sequence, What, takes, commits, counts, ignores, what_of, counted_as, ends_with_member, with_what, with_entry, saw, held_as}
+use Rattle.protocol_spec.specs.Member.Checkpoints.{held_of}
+use Rattle.protocol_spec.specs.Member.Member.{Member, fresh, held_with, after, state}
+use Rattle.safety_law.proofs.Once.{each-has, equal, digest-same, has-last}
+use Rattle.safety_law.proofs.Kept.{find-has}
 use Rattle.agreement_law.proofs.InSequences.{each-map}
-use Rattle.present_law.proofs.Present.{has-find}
+use Rattle.ready_law.proofs.Present.{has-find}
 use Rattle.ready_law.proofs.Ending.{some-more}
 
 -- a fact of the digests that are admitted or wait

@@ -3,13 +3,13 @@ use Rattle.std.proofs.Common.{refl, sym, subst}
 use Rattle.std.specs.Prelude.{◌≡◌, ℕ, zero, suc, Bool, true, false, cond, List, [], ◌∷◌, ◌++◌, fold, map, find, length, slice_get, Option, Some, None}
 use Rattle.chain_types.specs.declared.objects.Object.{Object}
 use Rattle.chain_messages.specs.Messages as messages
-use Rattle.member_types.specs.declared.answers.Held.{Held}
+use Rattle.answer_types.specs.declared.answers.Held.{Held}
 use Rattle.schedule_text.specs.declared.words.Event.{Event}
-use Rattle.chain_spec.specs.Words.{Along}
-use Rattle.chain_spec.specs.Certificates.{Rules}
-use Rattle.chain_spec.proofs.ListLemmas.{along-push}
-use Rattle.member_spec.specs.Admission.{Admitted, Admission, is_free, admit, taken_as, taken, is_dropped, taken_next, take_free, entered, passed_mark}
-use Rattle.member_spec.specs.Sequence.{Sequence, What, takes, commits, counts, ignores, nothing_seen, what_of, counted_as, ends_with_member, with_what, with_entry, saw, seen}
+use Rattle.protocol_spec.specs.Chain.Words.{Along}
+use Rattle.protocol_spec.specs.Chain.Certificates.{Rules}
+use Rattle.protocol_spec.proofs.ListLemmas.{along-push}
+use Rattle.protocol_spec.specs.Member.Admission.{Admitted, Admission, is_free, admit, taken_as, taken, is_dropped, taken_next, take_free, entered, passed_mark}
+use Rattle.protocol_spec.specs.Member.Sequence.{Sequence, What, takes, commits, counts, ignores, nothing_seen, what_of, counted_as, ends_with_member, with_what, with_entry, saw, seen}
 use Rattle.world_spec.specs.Setting.{Setting}
 use Rattle.world_spec.specs.World.{Seat, member_in}
 use Rattle.world_spec.specs.Run.{world_after}

@@ -4,18 +4,18 @@
 use Rattle.std.specs.Prelude.{◌≡◌, ℕ, true, false, List, ◌++◌, slice_get, Some}
 use Rattle.chain_types.specs.declared.objects.ObjectKey.{ObjectKey}
 use Rattle.chain_types.specs.declared.objects.Object.{Object}
-use Rattle.member_types.specs.declared.answers.Held.{Held}
+use Rattle.answer_types.specs.declared.answers.Held.{Held}
 use Rattle.schedule_text.specs.declared.words.Event.{Event}
-use Rattle.chain_spec.specs.Words.{Has}
-use Rattle.block_spec.specs.Execution.{execution, written_keys}
-use Rattle.member_spec.specs.Versions.{Execution, versions, is_executed}
-use Rattle.member_spec.specs.Rounds.{present, may_run, writes_new, executes_as, ready, round_of, is_due}
-use Rattle.member_spec.specs.Member.{Member, books}
+use Rattle.protocol_spec.specs.Chain.Words.{Has}
+use Rattle.protocol_spec.specs.Block.Execution.{execution, written_keys}
+use Rattle.protocol_spec.specs.Member.Versions.{Execution, versions, is_executed}
+use Rattle.protocol_spec.specs.Member.Rounds.{present, may_run, writes_new, executes_as, ready, round_of, is_due}
+use Rattle.protocol_spec.specs.Member.Member.{Member, books}
 use Rattle.world_spec.specs.Setting.{Setting}
 use Rattle.world_spec.specs.World.{Seat, member_in}
 use Rattle.world_spec.specs.Run.{world_after}
 use Rattle.world_spec.specs.Assumptions.{IsHonestRun}
-use Rattle.chain_law.specs.Orderly.{AreApart}
+use Rattle.sequence_law.specs.Orderly.{AreApart}
 
 -- the member holds the certificate, its inputs are these, and it is admitted if it has a shared input
 pub record MayExecute (m : Member) (h : Held) (objects : List Object) : Type 0 where

@@ -3,19 +3,19 @@ use Rattle.std.specs.Prelude.{◌≡◌, ℕ, true, List, slice_get, Option, Som
 use Rattle.digest_core.specs.declared.Digest.{Digest}
 use Rattle.chain_types.specs.declared.objects.Object.{Object}
 use Rattle.chain_types.specs.declared.transactions.Input.{Input}
-use Rattle.member_types.specs.declared.answers.Held.{Held}
+use Rattle.answer_types.specs.declared.answers.Held.{Held}
 use Rattle.schedule_text.specs.declared.words.Event.{Event}
-use Rattle.chain_spec.specs.Words.{Has}
-use Rattle.chain_spec.specs.Keys.{is_shared_input, fits_input, fits}
-use Rattle.member_spec.specs.Versions.{versions}
-use Rattle.member_spec.specs.Admission.{is_admitted, joined_inputs, assigned_of}
-use Rattle.member_spec.specs.Rounds.{Wanted, wanted_by, found, present, may_run, is_maker_done}
-use Rattle.member_spec.specs.Member.{Member, books}
+use Rattle.protocol_spec.specs.Chain.Words.{Has}
+use Rattle.protocol_spec.specs.Chain.Keys.{is_shared_input, fits_input, fits}
+use Rattle.protocol_spec.specs.Member.Versions.{versions}
+use Rattle.protocol_spec.specs.Member.Admission.{is_admitted, joined_inputs, assigned_of}
+use Rattle.protocol_spec.specs.Member.Rounds.{Wanted, wanted_by, found, present, may_run, is_maker_done}
+use Rattle.protocol_spec.specs.Member.Member.{Member, books}
 use Rattle.world_spec.specs.Setting.{Setting}
 use Rattle.world_spec.specs.World.{Seat, member_in}
 use Rattle.world_spec.specs.Run.{world_after}
 use Rattle.world_spec.specs.Assumptions.{IsHonestRun}
-use Rattle.chain_law.specs.Orderly.{AreApart}
+use Rattle.sequence_law.specs.Orderly.{AreApart}
 
 -- the version that an input of a held certificate wants: the named one of its origin, or the assigned one of its writer
 abbrev pub wanted_of : Member → Held → Input → Option Digest → Wanted

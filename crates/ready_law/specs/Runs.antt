@@ -3,22 +3,22 @@
 use Rattle.std.specs.Prelude.{◌≡◌, ℕ, true, List, [], ◌++◌, slice_get, Some, None, Ok, Err}
 use Rattle.std.specs.List.{list_all}
 use Rattle.digest_core.specs.declared.Digest.{Digest}
-use Rattle.member_types.specs.declared.answers.Held.{Held}
-use Rattle.member_types.specs.declared.answers.Ran.{Ran}
-use Rattle.member_types.specs.declared.refusals.TurnRefusal.TheVariants as no_turn
+use Rattle.answer_types.specs.declared.answers.Held.{Held}
+use Rattle.answer_types.specs.declared.answers.Ran.{Ran}
+use Rattle.answer_types.specs.declared.refusals.TurnRefusal.TheVariants as no_turn
 use Rattle.schedule_text.specs.declared.words.Event.{Event}
-use Rattle.chain_spec.specs.Words.{Has, Each}
-use Rattle.member_spec.specs.Versions.{Execution, is_executed}
-use Rattle.member_spec.specs.Admission.{Admitted}
-use Rattle.member_spec.specs.Rounds.{Books, Wanted, wants_of, may_run, ready, rounds, is_maker_done, is_origin_done, left}
-use Rattle.member_spec.specs.Member.{Member, books, with_rounds}
-use Rattle.member_spec.specs.Calls.{run_answer, turn_answer}
+use Rattle.protocol_spec.specs.Chain.Words.{Has, Each}
+use Rattle.protocol_spec.specs.Member.Versions.{Execution, is_executed}
+use Rattle.protocol_spec.specs.Member.Admission.{Admitted}
+use Rattle.protocol_spec.specs.Member.Rounds.{Books, Wanted, wants_of, may_run, ready, rounds, is_maker_done, is_origin_done, left}
+use Rattle.protocol_spec.specs.Member.Member.{Member, books, with_rounds}
+use Rattle.protocol_spec.specs.Member.Calls.{run_answer, turn_answer}
 use Rattle.world_spec.specs.Setting.{Setting}
 use Rattle.world_spec.specs.World.{Seat, member_in}
 use Rattle.world_spec.specs.Run.{world_after}
 use Rattle.world_spec.specs.Assumptions.{IsHonestRun}
-use Rattle.chain_law.specs.Orderly.{AreApart}
-use Rattle.current_law.specs.Checkpointed.{IsBuilt}
+use Rattle.sequence_law.specs.Orderly.{AreApart}
+use Rattle.agreement_law.specs.Checkpointed.{IsBuilt}
 
 -- no held certificate is ready behind these executions
 abbrev pub IsRunOut : Books → List Execution → Type 0

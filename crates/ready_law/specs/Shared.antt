@@ -1,15 +1,15 @@
 -- In an epoch all versions of one object are shared alike.
 use Rattle.std.specs.Prelude.{◌≡◌, ℕ, List, ◌++◌, slice_get, Some}
 use Rattle.schedule_text.specs.declared.words.Event.{Event}
-use Rattle.chain_spec.specs.Words.{Has}
-use Rattle.member_spec.specs.Versions.{Version, versions}
-use Rattle.member_spec.specs.Member.{Member}
+use Rattle.protocol_spec.specs.Chain.Words.{Has}
+use Rattle.protocol_spec.specs.Member.Versions.{Version, versions}
+use Rattle.protocol_spec.specs.Member.Member.{Member}
 use Rattle.world_spec.specs.Setting.{Setting}
 use Rattle.world_spec.specs.World.{Seat, member_in}
 use Rattle.world_spec.specs.Run.{world_after}
 use Rattle.world_spec.specs.Assumptions.{IsHonestRun}
-use Rattle.shared_law.specs.Shared.{shared_since}
-use Rattle.chain_law.specs.Orderly.{AreApart}
+use Rattle.block_law.specs.Shared.{shared_since}
+use Rattle.sequence_law.specs.Orderly.{AreApart}
 
 -- versions of one id that these members have are shared since the same version, or none of them is shared
 abbrev pub ShareAlike : Member → Member → Type 0

@@ -17,6 +17,3 @@ pub use lines::{
     OrderText, OwnerText, RestartText, RunText, SeeText, SendText, ShowText, TurnText, VoteText,
 };
 pub use printer::print_line;
-
-#[cfg(test)]
-mod tests;

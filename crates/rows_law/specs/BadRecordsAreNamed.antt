@@ -5,8 +5,8 @@ use Rattle.wire_bcs.specs.declared.fault.WireFault.{WireFault}
 use Rattle.journal_core.specs.declared.records.Record.{Record}
 use Rattle.journal_core.specs.declared.records.Record.TheVariants as record_as
 use Rattle.journal_core.specs.Records as journals
-use Rattle.chain_spec.specs.Certificates.{read_as}
-use Rattle.member_spec.specs.Replay.{replayed}
+use Rattle.protocol_spec.specs.Chain.Certificates.{read_as}
+use Rattle.protocol_spec.specs.Member.Replay.{replayed}
 use Rattle.world_spec.specs.Keyed.{keyed, program_secret}
 use Rattle.world_spec.specs.Setting.{Setting, setting_of}
 use Rattle.rows_law.specs.RunSplitIsReported.{lines}

@@ -5,7 +5,7 @@ use Rattle.chain_types.specs.declared.transactions.Command.{Command}
 use Rattle.chain_types.specs.declared.transactions.Command.TheVariants as command
 use Rattle.chain_types.specs.declared.transactions.Argument.TheVariants as argument
 use Rattle.chain_types.specs.declared.transactions.Input.TheVariants as inputs
-use Rattle.chain_spec.specs.Shape.{shape_fault}
+use Rattle.protocol_spec.specs.Chain.Shape.{shape_fault}
 use Rattle.rows_law.specs.SomeTransaction.{transaction_of}
 
 -- so many pairs of a new counter and its freezing, from the command of this number on

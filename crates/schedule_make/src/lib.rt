@@ -4,7 +4,5 @@
 
 mod make;
 mod parts;
-#[cfg(test)]
-mod tests;
 
 pub use make::make_text;

@@ -24,6 +24,3 @@ pub use statement::Statement;
 pub use words::{
     ArgWord, CommandWord, Event, InputWord, ObjWord, RefWord, Schedule, ScheduleRefusal, Setup,
 };
-
-#[cfg(test)]
-mod tests;

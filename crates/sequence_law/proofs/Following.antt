@@ -17,12 +17,12 @@ use Rattle.chain_types.specs.Equal.{digest_eq, id_eq}
 use Rattle.chain_types.specs.Digests.{transaction_digest, digest_of_object}
 use Rattle.effects_core.specs.declared.effects.Effects.{Effects}
 use Rattle.effects_core.specs.declared.effects.Written.{Written}
-use Rattle.chain_spec.specs.Words.{Each, all_some, onto_some, numbers_below, repeats}
-use Rattle.chain_spec.specs.Keys.{fits, fits_input, fit_inputs, pays_gas, objects_of, version_of, version_limit, money_of, currency_sum, is_owned_by, is_immutable, is_shared_since}
-use Rattle.chain_spec.proofs.ListLemmas.{and-first, and-second}
-use Rattle.block_spec.specs.Block.{Place, Slot, Block}
-use Rattle.block_spec.specs.Execution.{Failure, execution, executed_by, outcome, first_slots, written_inputs, written_places, after_block, left_in, is_none_left, deleted_id, deleted_ids, created_objects, with_rest_first, done_objects, same_object, failed_objects}
-use Rattle.member_spec.specs.Sequential.{Objects, at_version, named_in, read_by, map_after, Folded, without_effects, with_execution, executed_on, fold_one, fold_all}
+use Rattle.protocol_spec.specs.Chain.Words.{Each, all_some, onto_some, numbers_below, repeats}
+use Rattle.protocol_spec.specs.Chain.Keys.{fits, fits_input, fit_inputs, pays_gas, objects_of, version_of, version_limit, money_of, currency_sum, is_owned_by, is_immutable, is_shared_since}
+use Rattle.protocol_spec.proofs.ListLemmas.{and-first, and-second}
+use Rattle.protocol_spec.specs.Block.Block.{Place, Slot, Block}
+use Rattle.protocol_spec.specs.Block.Execution.{Failure, execution, executed_by, outcome, first_slots, written_inputs, written_places, after_block, left_in, is_none_left, deleted_id, deleted_ids, created_objects, with_rest_first, done_objects, same_object, failed_objects}
+use Rattle.protocol_spec.specs.Member.Sequential.{Objects, at_version, named_in, read_by, map_after, Folded, without_effects, with_execution, executed_on, fold_one, fold_all}
 use Rattle.block_law.specs.Money.{supply_of, caps_of, cap_count}
 use Rattle.block_law.specs.Names.{drawn_id, drawn_ids}
 use Rattle.block_law.specs.Keeping.{objects_before, gas_in}

@@ -12,10 +12,10 @@ use Rattle.chain_types.specs.declared.objects.ObjectId.{ObjectId}
 use Rattle.chain_types.specs.declared.objects.Object.{Object}
 use Rattle.chain_types.specs.declared.objects.Content.{Content}
 use Rattle.chain_types.specs.Equal.{id_eq}
-use Rattle.chain_spec.specs.Words.{repeats}
-use Rattle.chain_spec.proofs.ListLemmas.{or-first, or-second}
-use Rattle.member_spec.specs.Versions.{id_cmp}
-use Rattle.member_spec.specs.Sequential.{Objects, with_object, without_id}
+use Rattle.protocol_spec.specs.Chain.Words.{repeats}
+use Rattle.protocol_spec.proofs.ListLemmas.{or-first, or-second}
+use Rattle.protocol_spec.specs.Member.Versions.{id_cmp}
+use Rattle.protocol_spec.specs.Member.Sequential.{Objects, with_object, without_id}
 use Rattle.block_law.proofs.Counts.{id_back}
 use Rattle.block_law.proofs.Effects.{id_of}
 use Rattle.block_law.proofs.Sums.{objects_weight, option_weight}

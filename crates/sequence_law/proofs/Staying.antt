@@ -14,13 +14,13 @@ use Rattle.chain_types.specs.declared.transactions.Transaction.{Transaction}
 use Rattle.effects_core.specs.declared.effects.Effects.{Effects}
 use Rattle.effects_core.specs.declared.effects.Written.{Written}
 use Rattle.chain_types.specs.Equal.{id_eq}
-use Rattle.chain_spec.specs.Words.{Each}
-use Rattle.chain_spec.specs.Tests.{has_id}
-use Rattle.chain_spec.specs.Keys.{fits, named_ids}
-use Rattle.chain_spec.proofs.ListLemmas.{or-first, or-second}
-use Rattle.block_spec.specs.Execution.{execution}
-use Rattle.member_spec.specs.Versions.{id_cmp}
-use Rattle.member_spec.specs.Sequential.{Objects, with_object, without_id, read_by, map_after, Folded, without_effects, with_execution, executed_on, fold_one, fold_all}
+use Rattle.protocol_spec.specs.Chain.Words.{Each}
+use Rattle.protocol_spec.specs.Chain.Tests.{has_id}
+use Rattle.protocol_spec.specs.Chain.Keys.{fits, named_ids}
+use Rattle.protocol_spec.proofs.ListLemmas.{or-first, or-second}
+use Rattle.protocol_spec.specs.Block.Execution.{execution}
+use Rattle.protocol_spec.specs.Member.Versions.{id_cmp}
+use Rattle.protocol_spec.specs.Member.Sequential.{Objects, with_object, without_id, read_by, map_after, Folded, without_effects, with_execution, executed_on, fold_one, fold_all}
 use Rattle.block_law.specs.Names.{drawn_ids}
 use Rattle.block_law.proofs.Counts.{id_equal}
 use Rattle.block_law.proofs.Effects.{id_of, written-ids, written-are, name_touched}

@@ -5,10 +5,10 @@ use Rattle.chain_types.specs.declared.objects.ObjectId.{ObjectId}
 use Rattle.chain_types.specs.declared.objects.Object.{Object}
 use Rattle.chain_types.specs.declared.transactions.Transaction.{Transaction}
 use Rattle.effects_core.specs.declared.effects.Effects.{Effects}
-use Rattle.chain_spec.specs.Words.{Each}
-use Rattle.chain_spec.specs.Keys.{fits, currency_sum}
-use Rattle.block_spec.specs.Execution.{execution}
-use Rattle.member_spec.specs.Sequential.{Objects, read_by, Folded, fold_one, fold_all}
+use Rattle.protocol_spec.specs.Chain.Words.{Each}
+use Rattle.protocol_spec.specs.Chain.Keys.{fits, currency_sum}
+use Rattle.protocol_spec.specs.Block.Execution.{execution}
+use Rattle.protocol_spec.specs.Member.Sequential.{Objects, read_by, Folded, fold_one, fold_all}
 use Rattle.block_law.specs.Money.{cap_count, supply_sum}
 use Rattle.block_law.specs.Names.{drawn_ids}
 use Rattle.block_law.specs.Keeping.{gas_in, MayRun}

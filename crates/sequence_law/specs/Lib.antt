@@ -1,2 +1,5 @@
 pub mod Untouched
 pub mod Kept
+pub mod Orderly
+pub mod Leaving
+pub mod Admitted

@@ -4,10 +4,10 @@ use Rattle.std.specs.FinMap.{get}
 use Rattle.chain_types.specs.declared.objects.ObjectId.{ObjectId}
 use Rattle.chain_types.specs.declared.transactions.Transaction.{Transaction}
 use Rattle.effects_core.specs.declared.effects.Effects.{Effects}
-use Rattle.chain_spec.specs.Words.{Each}
-use Rattle.chain_spec.specs.Tests.{has_id}
-use Rattle.chain_spec.specs.Keys.{named_ids}
-use Rattle.member_spec.specs.Sequential.{Objects, fold_all}
+use Rattle.protocol_spec.specs.Chain.Words.{Each}
+use Rattle.protocol_spec.specs.Chain.Tests.{has_id}
+use Rattle.protocol_spec.specs.Chain.Keys.{named_ids}
+use Rattle.protocol_spec.specs.Member.Sequential.{Objects, fold_all}
 use Rattle.block_law.specs.Names.{drawn_ids}
 
 -- a transaction names the id neither as its gas coin nor as an input

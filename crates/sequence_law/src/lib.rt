@@ -1,30 +1,14 @@
-//! What one thread that executes transactions in order keeps: laws over the definition of sequential execution.
+//! Laws over one thread: what the execution of a list of transactions keeps, what a list in another order leaves, and
+//! what admission makes of a sequence.
 #![tactic(auto)]
 
-ghost use Rattle.sequence_law.specs.Kept.{BackedCurrenciesStayBacked, CapsStayInSequence, MoneyMovesInSequence, OnlyGasGoes};
-ghost use Rattle.sequence_law.specs.Untouched.{UntouchedObjectsStay};
+mod admissions;
+mod chains;
+mod sequences;
 
-/// Sequential execution leaves every object that no transaction of the list names or creates.
-pub fn untouched_objects_stay()
-    ensures { UntouchedObjectsStay }
-{}
-
-/// Of each currency, what all objects hold moves with the supplies of its caps, and with the gas of the executions.
-pub fn money_moves_in_sequence()
-    ensures { MoneyMovesInSequence }
-{}
-
-/// A currency of which there is as much as its caps say stays so.
-pub fn backed_currencies_stay_backed()
-    ensures { BackedCurrenciesStayBacked }
-{}
-
-/// Of the currency that pays gas nothing is made, and nothing goes but the gas of the executions.
-pub fn only_gas_goes()
-    ensures { OnlyGasGoes }
-{}
-
-/// Of each currency there are as many caps as before.
-pub fn caps_stay_in_sequence()
-    ensures { CapsStayInSequence }
-{}
+pub use admissions::{admitted_in_order, nothing_deferred};
+pub use chains::{chain_reads, live_is_map, live_list_is_map};
+pub use sequences::{
+    backed_currencies_stay_backed, caps_stay_in_sequence, money_moves_in_sequence, only_gas_goes,
+    untouched_objects_stay,
+};

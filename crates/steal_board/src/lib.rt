@@ -9,8 +9,6 @@
 
 mod board;
 mod law;
-#[cfg(test)]
-mod tests;
 mod view;
 mod words;
 

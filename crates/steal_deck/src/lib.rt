@@ -15,6 +15,3 @@ pub use crew::deal;
 pub use hand::Hand;
 pub use rule::Track;
 pub use thief::{Stolen, Thief};
-
-#[cfg(test)]
-mod tests;

@@ -15,3 +15,9 @@ pub mod SaidWords
 pub mod SaidLines
 pub mod SaidWhole
 pub mod Added
+pub mod Members
+pub mod Texts
+pub mod TextLines
+pub mod Fits
+pub mod Runs
+pub mod Honest

@@ -2,3 +2,4 @@ pub mod Canonical
 pub mod Sayable
 pub mod Made
 pub mod Laws
+pub mod HonestTexts

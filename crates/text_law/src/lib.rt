@@ -1,25 +1,13 @@
-//! Schedules and their texts: a schedule is read back from its canonical text, so the grammar is neither empty nor
-//! ambiguous; and the generator's text is the text of a schedule.
+//! Laws over the text of a schedule, and over the run of every schedule that a text says.
 #![tactic(auto)]
 
-ghost use Rattle.text_law.specs.Laws.{CanonicalTextReadsBack, GeneratedTextIsASchedule, WhatIsReadCanBeSaid, WhatIsReadReadsBack};
+mod honesty;
+mod reading;
 
-/// What a text can say is read from its canonical text.
-pub fn canonical_text_reads_back()
-    ensures { CanonicalTextReadsBack }
-{}
-
-/// What is read has its forms and ranges, and its lines may follow one another.
-pub fn what_is_read_can_be_said()
-    ensures { WhatIsReadCanBeSaid }
-{}
-
-/// What is read from any text is read from its canonical text too.
-pub fn what_is_read_reads_back()
-    ensures { WhatIsReadReadsBack }
-{}
-
-/// What the generator writes is a schedule, with the set-up and the events that it means.
-pub fn generated_text_is_a_schedule()
-    ensures { GeneratedTextIsASchedule }
-{}
+pub use honesty::{
+    nothing_read_is_forged, read_runs_are_spellable, read_transactions_are_spellable,
+};
+pub use reading::{
+    canonical_text_reads_back, generated_text_is_a_schedule, what_is_read_can_be_said,
+    what_is_read_reads_back,
+};

@@ -5,7 +5,7 @@ use Rattle.std.proofs.lemmas.Grind.{common_steps}
 use Rattle.chain_types.specs.declared.transactions.Argument.{Argument}
 use Rattle.chain_types.specs.declared.transactions.Command.{Command}
 use Rattle.chain_types.specs.declared.transactions.Command.TheVariants as command
-use Rattle.chain_spec.specs.Shape.{arguments_of}
+use Rattle.protocol_spec.specs.Chain.Shape.{arguments_of}
 use Rattle.tx_check.specs.Parts.{any_lone, listed_of, lone_of}
 
 last_first : (test : Argument → Bool) (x : Argument) (xs : List Argument) → list_any test (xs ++ x ∷ []) ≡ (test x || list_any test xs)

@@ -1,12 +1,12 @@
 -- The least fault, from the first five cases and the others.
 use Rattle.std.proofs.Common.{◌≡◌, ◌≤◌, ℕ, zero, suc, Bool, true, false, length, get_or, List, [], ◌∷◌, Option, Some, None, refl, ap, sym, ◌∙◌}
 use Rattle.chain_types.specs.declared.transactions.Transaction.{Transaction}
-use Rattle.chain_spec.specs.Shape.{shape_cases, shape_fault}
+use Rattle.protocol_spec.specs.Chain.Shape.{shape_cases, shape_fault}
 use Rattle.chain_types.specs.Transactions.{transaction}
 use Rattle.std.specs.Prelude.{nat_lt}
 use Rattle.std.proofs.lemmas.Bool.{ltb-false}
 use Rattle.tx_check.proofs.Long.{long_lists, short_lists}
-use Rattle.chain_spec.specs.Words.{first_some, where_true}
+use Rattle.protocol_spec.specs.Chain.Words.{first_some, where_true}
 use Rattle.tx_check.specs.Parts.{behind_five, command_fault, first_five, has_long_list, list_fault}
 
 abbrev or_else : Option ℕ → Option ℕ → Option ℕ

@@ -7,8 +7,8 @@ use Rattle.chain_types.specs.declared.transactions.Input.TheVariants as input
 use Rattle.chain_types.specs.declared.transactions.Transaction.{Transaction}
 use Rattle.chain_types.specs.declared.objects.ObjectId.{ObjectId}
 use Rattle.chain_types.specs.Digests.{is_object}
-use Rattle.chain_spec.specs.Keys.{named_id, named_ids, objects_of}
-use Rattle.chain_spec.specs.Shape.{is_bad_version, names_bad_version}
+use Rattle.protocol_spec.specs.Chain.Keys.{named_id, named_ids, objects_of}
+use Rattle.protocol_spec.specs.Chain.Shape.{is_bad_version, names_bad_version}
 
 bad_kept : (xs : List Input) → list_any names_bad_version (filter is_object xs) ≡ list_any names_bad_version xs
 bad_kept [] = refl

@@ -5,7 +5,7 @@ use Rattle.std.specs.Prelude.{bytes_eq}
 use Rattle.std.proofs.lemmas.Slice.Eq.{bytes_eq-Decides}
 use Rattle.chain_types.specs.declared.objects.ObjectId.{ObjectId}
 use Rattle.chain_types.specs.Equal.{id_eq}
-use Rattle.chain_spec.specs.Words.{repeats}
+use Rattle.protocol_spec.specs.Chain.Words.{repeats}
 use Rattle.tx_check.specs.Parts.{repeats_after}
 
 or_true : (a b : Bool) → b ≡ true → (a || b) ≡ true

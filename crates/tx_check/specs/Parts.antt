@@ -9,8 +9,8 @@ use Rattle.chain_types.specs.declared.transactions.Input.TheVariants as input
 use Rattle.chain_types.specs.declared.transactions.Transaction.{Transaction}
 use Rattle.chain_types.specs.declared.objects.ObjectId.{ObjectId}
 use Rattle.chain_types.specs.Equal.{id_eq}
-use Rattle.chain_spec.specs.Shape.{shape_cases}
-use Rattle.chain_spec.specs.Words.{first_some}
+use Rattle.protocol_spec.specs.Chain.Shape.{shape_cases}
+use Rattle.protocol_spec.specs.Chain.Words.{first_some}
 
 -- ---- arguments: one beside the list, and the list
 

@@ -2,7 +2,7 @@
 
 ghost use Rattle.std.specs.Prelude.{◌≡◌, length};
 ghost use Rattle.std.specs.List.{list_any};
-ghost use Rattle.chain_spec.specs.Shape.{arguments_of, is_late, is_no_input};
+ghost use Rattle.protocol_spec.specs.Chain.Shape.{arguments_of, is_late, is_no_input};
 ghost use Rattle.tx_check.specs.Parts.{listed_of, lone_of};
 
 use chain_types::{Argument, Command, Transaction};

@@ -2,7 +2,7 @@
 
 ghost use Rattle.std.specs.Prelude.{◌≡◌, length, nat_lt};
 ghost use Rattle.std.specs.List.{enumerate_from, list_any};
-ghost use Rattle.chain_spec.specs.Shape.{arguments_of, is_idle, is_no_input, is_no_native, names_late};
+ghost use Rattle.protocol_spec.specs.Chain.Shape.{arguments_of, is_idle, is_no_input, is_no_native, names_late};
 ghost use Rattle.tx_check.specs.Parts.{is_long_command};
 
 use crate::arguments::{argument_count, command_late, command_no_input, listed_of};

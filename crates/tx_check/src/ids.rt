@@ -3,8 +3,8 @@
 ghost use Rattle.std.specs.Prelude.{◌≡◌, ◌++◌, ◌∷◌, [], IfOk, OnOk, false};
 ghost use Rattle.std.specs.List.{list_any};
 ghost use Rattle.chain_types.specs.Equal.{id_eq};
-ghost use Rattle.chain_spec.specs.Keys.{named_id, named_ids};
-ghost use Rattle.chain_spec.specs.Words.{repeats};
+ghost use Rattle.protocol_spec.specs.Chain.Keys.{named_id, named_ids};
+ghost use Rattle.protocol_spec.specs.Chain.Words.{repeats};
 ghost use Rattle.tx_check.specs.Parts.{repeats_after};
 
 use chain_types::{Input, ObjectId, Transaction};

@@ -2,8 +2,8 @@
 
 ghost use Rattle.std.specs.Prelude.{◌≡◌};
 ghost use Rattle.std.specs.List.{list_any};
-ghost use Rattle.chain_spec.specs.Keys.{objects_of};
-ghost use Rattle.chain_spec.specs.Shape.{is_bad_version, names_bad_version};
+ghost use Rattle.protocol_spec.specs.Chain.Keys.{objects_of};
+ghost use Rattle.protocol_spec.specs.Chain.Shape.{is_bad_version, names_bad_version};
 ghost use Rattle.tx_check.specs.Parts.{is_long_input};
 
 use chain_types::{Input, Transaction};

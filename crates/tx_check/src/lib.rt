@@ -12,6 +12,3 @@ mod length;
 mod shape;
 
 pub use shape::{ShapeRefusal, check_shape};
-
-#[cfg(test)]
-mod tests;

@@ -2,7 +2,7 @@
 
 ghost use Rattle.std.specs.Prelude.{◌≡◌, ◌≤◌, IfOk, length, nat_lt};
 ghost use Rattle.chain_types.specs.Transactions.{transaction};
-ghost use Rattle.chain_spec.specs.Shape.{cost, shape_fault};
+ghost use Rattle.protocol_spec.specs.Chain.Shape.{cost, shape_fault};
 ghost use Rattle.tx_check.specs.Answers.{Checks};
 ghost use Rattle.tx_check.specs.Parts.{command_fault, list_fault};
 ghost use Rattle.tx_check.specs.declared.shape.ShapeRefusal.TheVariants as refusal;

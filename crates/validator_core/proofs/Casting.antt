@@ -9,18 +9,18 @@ use Rattle.chain_types.specs.Transactions.{transaction}
 use Rattle.chain_messages.specs.declared.messages.Certificate.{Certificate}
 use Rattle.chain_messages.specs.declared.messages.Statement.TheVariants as statements
 use Rattle.chain_messages.specs.Messages.{certificate, statement}
-use Rattle.chain_spec.specs.Certificates.{Rules}
+use Rattle.protocol_spec.specs.Chain.Certificates.{Rules}
 use Rattle.journal_core.specs.declared.records.Record.{Record}
 use Rattle.journal_core.specs.declared.records.Record.TheVariants as record_as
 use Rattle.journal_core.specs.Records.{journal_record}
 use Rattle.cert_rules.proofs.Whole.{vote_short}
-use Rattle.member_spec.specs.Member.{Member, after}
-use Rattle.member_spec.specs.Calls.{Call, after_due, called, due}
-use Rattle.member_core.specs.Answers.{HoldDue, IsFree, MayHold}
-use Rattle.member_core.specs.declared.holds.Holding.{Holding}
-use Rattle.member_core.specs.declared.holds.Holding.TheVariants as holdings
-use Rattle.member_core.specs.Steps.{holding, voted}
-use Rattle.member_core.specs.declared.votes.Decision.{Decision}
+use Rattle.protocol_spec.specs.Member.Member.{Member, after}
+use Rattle.protocol_spec.specs.Member.Calls.{Call, after_due, called, due}
+use Rattle.validator_core.specs.Answers.{HoldDue, IsFree, MayHold}
+use Rattle.validator_core.specs.declared.holds.Holding.{Holding}
+use Rattle.validator_core.specs.declared.holds.Holding.TheVariants as holdings
+use Rattle.validator_core.specs.Steps.{holding, voted}
+use Rattle.validator_core.specs.declared.votes.Decision.{Decision}
 use Rattle.validator_core.specs.Taking.{MayCast, MayTake}
 
 -- ---- what may be kept

@@ -1,3 +1,6 @@
+pub mod Cases
+pub mod Named
+pub mod Spelled
 pub mod Casting
 pub mod Running
 pub mod Settling

@@ -5,23 +5,24 @@ use Rattle.outside.specs.Lists.{Journals, KeepsJournals}
 use Rattle.journal_core.specs.declared.records.RanItem.{RanItem}
 use Rattle.journal_core.specs.declared.records.Record.{Record}
 use Rattle.journal_core.specs.declared.records.Record.TheVariants as record_as
-use Rattle.member_types.specs.declared.answers.Ran.{Ran}
-use Rattle.member_types.specs.declared.refusals.RunRefusal.{RunRefusal}
-use Rattle.member_types.specs.declared.refusals.RunRefusal.TheVariants as no_run
-use Rattle.member_types.specs.declared.refusals.CloseRefusal.{CloseRefusal}
-use Rattle.member_types.specs.declared.refusals.CloseRefusal.TheVariants as no_close
-use Rattle.chain_spec.specs.Certificates.{Rules}
-use Rattle.chain_spec.specs.Words.{unless_refused, where_true}
-use Rattle.member_spec.specs.Versions.{Execution}
-use Rattle.member_spec.specs.Rounds.{rounds}
-use Rattle.member_spec.specs.Member.{Member, after, books, with_rounds}
-use Rattle.member_spec.specs.Calls.{after_due, called, close_answer, close_record, closes, due, ran_as, ran_item, ran_items, ran_record, run_answer, run_record, runs}
-use Rattle.member_core.specs.Answers.{bare, close_stopped, run_stopped}
-use Rattle.member_core.specs.Steps.{closing, counted_where}
+use Rattle.answer_types.specs.declared.answers.Ran.{Ran}
+use Rattle.answer_types.specs.declared.refusals.RunRefusal.{RunRefusal}
+use Rattle.answer_types.specs.declared.refusals.RunRefusal.TheVariants as no_run
+use Rattle.answer_types.specs.declared.refusals.CloseRefusal.{CloseRefusal}
+use Rattle.answer_types.specs.declared.refusals.CloseRefusal.TheVariants as no_close
+use Rattle.protocol_spec.specs.Chain.Certificates.{Rules}
+use Rattle.protocol_spec.specs.Chain.Words.{unless_refused, where_true}
+use Rattle.protocol_spec.specs.Member.Versions.{Execution}
+use Rattle.protocol_spec.specs.Member.Rounds.{rounds}
+use Rattle.protocol_spec.specs.Member.Member.{Member, after, books, with_rounds}
+use Rattle.protocol_spec.specs.Member.Calls.{after_due, called, close_answer, close_record, closes, due, ran_as, ran_item, ran_items, ran_record, run_answer, run_record, runs}
+use Rattle.validator_core.specs.Answers.{bare, close_stopped, run_stopped}
+use Rattle.validator_core.specs.Steps.{closing, counted_where}
 use Rattle.validator_core.specs.declared.keeping.Unkept.{Unkept}
 use Rattle.validator_core.specs.declared.keeping.Unkept.TheVariants as unkept
 use Rattle.validator_core.specs.Calls.{Closes, Runs, close_ended, close_said, run_ended, run_said, unkept_close, unkept_run}
-use Rattle.validator_core.specs.Seats.{Becomes, Behaves, Ended, Journaled, Keeps, Seat, answered, bare_rules, due_at, fell}
+use Rattle.validator_core.specs.Seats.{Becomes, Behaves, Ended, Journaled, Keeps, answered, fell}
+use Rattle.scene_spec.specs.Seats.{Seat, bare_rules, due_at}
 use Rattle.validator_core.proofs.Settling.{keeps_same, seat_with, settles}
 
 -- ---- the rules play no part

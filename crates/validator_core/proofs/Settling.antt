@@ -7,19 +7,21 @@ use Rattle.quorum_core.specs.declared.signer.Signer.{Signer}
 use Rattle.chain_types.specs.declared.transactions.SignedTx.{SignedTx}
 use Rattle.chain_messages.specs.declared.messages.Statement.{Statement}
 use Rattle.chain_messages.specs.declared.messages.Statement.TheVariants as statement
-use Rattle.chain_spec.specs.Certificates.{Rules, read_signed}
+use Rattle.protocol_spec.specs.Chain.Certificates.{Rules, read_signed}
 use Rattle.outside.specs.Lists.{Journals, KeepsJournals}
 use Rattle.journal_core.specs.declared.records.Record.{Record}
-use Rattle.member_types.specs.declared.answers.Voted.{Voted as Sent}
-use Rattle.member_types.specs.declared.refusals.VoteRefusal.{VoteRefusal}
-use Rattle.member_types.specs.declared.refusals.VoteRefusal.TheVariants as no_vote
-use Rattle.member_types.specs.declared.refusals.HoldRefusal.{HoldRefusal}
-use Rattle.member_types.specs.declared.refusals.HoldRefusal.TheVariants as no_hold
-use Rattle.member_spec.specs.Member.{Member, after}
-use Rattle.member_spec.specs.Calls.{Call, Voted, after_due, called, due, hold_answer, holds, kept_vote, vote_answer, vote_record, votes}
-use Rattle.member_core.specs.Answers.{rules_for, sealed_as}
+use Rattle.answer_types.specs.declared.answers.Voted.{Voted as Sent}
+use Rattle.answer_types.specs.declared.refusals.VoteRefusal.{VoteRefusal}
+use Rattle.answer_types.specs.declared.refusals.VoteRefusal.TheVariants as no_vote
+use Rattle.answer_types.specs.declared.refusals.HoldRefusal.{HoldRefusal}
+use Rattle.answer_types.specs.declared.refusals.HoldRefusal.TheVariants as no_hold
+use Rattle.protocol_spec.specs.Member.Member.{Member, after}
+use Rattle.protocol_spec.specs.Member.Calls.{Call, Voted, after_due, called, due, hold_answer, holds, kept_vote, vote_answer, vote_record, votes}
+use Rattle.scene_spec.specs.RulesFor.{rules_for}
+use Rattle.validator_core.specs.Answers.{sealed_as}
 use Rattle.validator_core.specs.Calls.{Holds, Votes, hold_said, vote_said}
-use Rattle.validator_core.specs.Seats.{Becomes, Behaves, Ended, Journaled, Keeps, Seat, answered, due_at, fell, has_fallen, rules_of_seat}
+use Rattle.validator_core.specs.Seats.{Becomes, Behaves, Ended, Journaled, Keeps, answered, fell, has_fallen}
+use Rattle.scene_spec.specs.Seats.{Seat, due_at, rules_of_seat}
 
 abbrev pub Signing : Type 0
 Signing = Signer → List ℕ → Digest → Bool

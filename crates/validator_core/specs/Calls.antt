@@ -6,21 +6,22 @@ use Rattle.quorum_core.specs.declared.signer.Signer.{Signer}
 use Rattle.quorum_core.specs.declared.signer.Signer.TheVariants as signers
 use Rattle.chain_messages.specs.declared.messages.Sealed.{Sealed}
 use Rattle.chain_messages.specs.Messages as messages
-use Rattle.chain_spec.specs.Certificates.{Rules}
-use Rattle.member_types.specs.declared.answers.Voted.{Voted as Sent}
-use Rattle.member_types.specs.declared.refusals.VoteRefusal.{VoteRefusal}
-use Rattle.member_types.specs.declared.refusals.VoteRefusal.TheVariants as no_vote
-use Rattle.member_types.specs.declared.refusals.HoldRefusal.{HoldRefusal}
-use Rattle.member_types.specs.declared.refusals.HoldRefusal.TheVariants as no_hold
-use Rattle.member_types.specs.declared.answers.Ran.{Ran}
-use Rattle.member_types.specs.declared.refusals.RunRefusal.{RunRefusal}
-use Rattle.member_types.specs.declared.refusals.RunRefusal.TheVariants as no_run
-use Rattle.member_types.specs.declared.refusals.CloseRefusal.{CloseRefusal}
-use Rattle.member_types.specs.declared.refusals.CloseRefusal.TheVariants as no_close
-use Rattle.member_spec.specs.Calls.{Voted, close_answer, hold_answer, run_answer, vote_answer}
+use Rattle.protocol_spec.specs.Chain.Certificates.{Rules}
+use Rattle.answer_types.specs.declared.answers.Voted.{Voted as Sent}
+use Rattle.answer_types.specs.declared.refusals.VoteRefusal.{VoteRefusal}
+use Rattle.answer_types.specs.declared.refusals.VoteRefusal.TheVariants as no_vote
+use Rattle.answer_types.specs.declared.refusals.HoldRefusal.{HoldRefusal}
+use Rattle.answer_types.specs.declared.refusals.HoldRefusal.TheVariants as no_hold
+use Rattle.answer_types.specs.declared.answers.Ran.{Ran}
+use Rattle.answer_types.specs.declared.refusals.RunRefusal.{RunRefusal}
+use Rattle.answer_types.specs.declared.refusals.RunRefusal.TheVariants as no_run
+use Rattle.answer_types.specs.declared.refusals.CloseRefusal.{CloseRefusal}
+use Rattle.answer_types.specs.declared.refusals.CloseRefusal.TheVariants as no_close
+use Rattle.protocol_spec.specs.Member.Calls.{Voted, close_answer, hold_answer, run_answer, vote_answer}
 use Rattle.validator_core.specs.declared.keeping.Unkept.{Unkept}
 use Rattle.validator_core.specs.declared.keeping.Unkept.TheVariants as unkept
-use Rattle.validator_core.specs.Seats.{Ended, Seat, answered, fell}
+use Rattle.validator_core.specs.Seats.{Ended, answered, fell}
+use Rattle.scene_spec.specs.Seats.{Seat}
 
 -- ---- vote
 

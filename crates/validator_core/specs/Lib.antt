@@ -1,3 +1,7 @@
+pub mod Answers
+pub mod Sound
+pub mod Steps
+pub mod Built
 pub mod Seats
 pub mod Calls
 pub mod Taking

@@ -1,37 +1,13 @@
 -- A member at its seat: its state, and whether it is up. What a call does to it and to its records.
-use Rattle.std.specs.Prelude.{◌≡◌, ◌⊎◌, ℕ, Bool, true, false, List, Option, Some, None, Result, Ok, Err, if◌then◌else◌}
-use Rattle.digest_core.specs.declared.Digest.{Digest}
-use Rattle.quorum_core.specs.declared.signer.Signer.{Signer}
+use Rattle.std.specs.Prelude.{◌≡◌, ◌⊎◌, ℕ, Bool, true, false, Option, Some, None, Result, Ok, Err}
 use Rattle.journal_core.specs.declared.records.Record.{Record}
 use Rattle.journal_core.specs.Records as journals
 use Rattle.outside.specs.Lists.{Journals, AddsRecord, KeepsJournals}
-use Rattle.chain_spec.specs.Certificates.{Rules}
-use Rattle.member_spec.specs.Member.{Member}
-use Rattle.member_spec.specs.Calls.{Call, called, due}
-use Rattle.member_core.specs.Answers.{rules_for}
+use Rattle.protocol_spec.specs.Chain.Certificates.{Rules}
+use Rattle.protocol_spec.specs.Member.Member.{Member}
+use Rattle.protocol_spec.specs.Member.Calls.{Call, due}
 use Rattle.validator_core.specs.declared.keeping.Unkept.{Unkept}
-
--- the number of the member, the stakes of its committee, whether it is up, and its state
-pub record Seat : Type 0 where
-  pub member : ℕ
-  pub stakes : List ℕ
-  pub up : Bool
-  pub state : Member
-
-abbrev pub rules_of_seat : Seat → (Signer → List ℕ → Digest → Bool) → Rules
-rules_of_seat seat accepts = rules_for seat.stakes accepts
-
--- the same where no seal is accepted, for calls in which the rules play no part
-abbrev pub bare_rules : Seat → Rules
-bare_rules seat = rules_of_seat seat (λ by bytes seal. false)
-
--- a member that is down stays as it is
-abbrev pub behind : Rules → Seat → Call → Seat
-behind r seat call = if seat.up then record seat { state = called r seat.state call } else seat
-
--- the record that is due; a member that is down appends none
-abbrev pub due_at : Rules → Seat → Call → Option Record
-due_at r seat call = if seat.up then due r seat.state call else None
+use Rattle.scene_spec.specs.Seats.{Seat, behind}
 
 -- ---- how a call ended
 

@@ -1,34 +1,9 @@
 -- The start of a member from the records that it kept. Source: this profile.
-use Rattle.std.specs.Prelude.{◌≡◌, ℕ, ◌+◌, true, List, [], ◌∷◌, Result, Ok, Err, if◌then◌else◌}
-use Rattle.wire_bcs.specs.Whole.{whole}
-use Rattle.wire_bcs.specs.declared.fault.WireFault.{WireFault}
-use Rattle.chain_types.specs.declared.objects.Object.{Object}
-use Rattle.chain_spec.specs.Certificates.{Rules, read_as}
-use Rattle.chain_spec.specs.Words.{and_then}
-use Rattle.journal_core.specs.declared.records.Record.{Record}
-use Rattle.journal_core.specs.Records as journals
-use Rattle.member_types.specs.declared.refusals.StartRefusal.{StartRefusal}
-use Rattle.member_types.specs.declared.refusals.StartRefusal.TheVariants as no_start
-use Rattle.member_spec.specs.Member.{Member, after, fresh}
-use Rattle.member_core.specs.Replay.{is_taken}
-use Rattle.validator_core.specs.Seats.{Seat}
-
-abbrev pub read_record : List ℕ → Result Record WireFault
-read_record bytes = read_as (whole journals.journal_record bytes)
-
--- the state behind a record at this place: one that does not decode is refused (1), and so is one that no call
--- would have appended (2)
-abbrev pub taken_at : Rules → Member → ℕ → Result Record WireFault → Result Member StartRefusal
-taken_at r m place (Err fault) = Err (no_start.BadRecord place 1)
-taken_at r m place (Ok x) = if is_taken r m x then Ok (after r m x) else Err (no_start.BadRecord place 2)
-
--- the state behind these records, of which the first stands at this place
-abbrev pub started_from : Rules → Member → ℕ → List (List ℕ) → Result Member StartRefusal
-started_from r m place [] = Ok m
-started_from r m place (bytes ∷ kept) = and_then (taken_at r m place (read_record bytes)) (λ next. started_from r next (place + 1) kept)
-
-unfoldable pub started : Rules → List Object → List (List ℕ) → Result Member StartRefusal
-started r opening kept = started_from r (fresh opening) 0 kept
+use Rattle.std.specs.Prelude.{◌≡◌, ℕ, true, List, Result, Ok, Err}
+use Rattle.answer_types.specs.declared.refusals.StartRefusal.{StartRefusal}
+use Rattle.answer_types.specs.declared.refusals.StartRefusal.TheVariants as no_start
+use Rattle.protocol_spec.specs.Member.Member.{Member}
+use Rattle.scene_spec.specs.Seats.{Seat}
 
 -- a member that is up in the state that is said, or the refusal; want of memory says nothing
 abbrev pub StateAs : Result Member StartRefusal → Member → Result (Unit {0}) StartRefusal → Type 0

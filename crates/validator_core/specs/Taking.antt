@@ -5,13 +5,13 @@ use Rattle.chain_types.specs.declared.transactions.Transaction.{Transaction}
 use Rattle.chain_types.specs.Digests.{consumed_keys, transaction_digest}
 use Rattle.chain_types.specs.Transactions.{transaction}
 use Rattle.chain_messages.specs.Messages.{certificate}
-use Rattle.chain_spec.specs.Words.{first_of}
+use Rattle.protocol_spec.specs.Chain.Words.{first_of}
 use Rattle.journal_core.specs.declared.records.Record.{Record}
 use Rattle.journal_core.specs.declared.records.Record.TheVariants as record_as
-use Rattle.member_spec.specs.Votes.{locked}
-use Rattle.member_spec.specs.Member.{Member, vote_for}
-use Rattle.member_core.specs.Answers.{MayHold}
-use Rattle.member_core.specs.Steps.{holding, voted}
+use Rattle.protocol_spec.specs.Member.Votes.{locked}
+use Rattle.protocol_spec.specs.Member.Member.{Member, vote_for}
+use Rattle.validator_core.specs.Answers.{MayHold}
+use Rattle.validator_core.specs.Steps.{holding, voted}
 
 -- a vote that is the first for its transaction, and shares no version with another
 pub record MayCast (m : Member) (t : Transaction) (digest : Digest) (origins : List (Option Digest)) : Type 0 where

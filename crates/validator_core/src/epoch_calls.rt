@@ -3,20 +3,20 @@
 ghost use Rattle.std.specs.Prelude.{◌≡◌, ◌<◌, ◌≤◌, [], IfOk, IsErrOf, OnOk, false, nat_le};
 ghost use Rattle.outside.specs.Causes.{Rose};
 ghost use Rattle.journal_core.specs.declared.records.Record.TheVariants as record_as;
-ghost use Rattle.member_spec.specs.Calls.{called, close_answer, closes, due, ran_record, record_limit, run_answer, runs};
-ghost use Rattle.member_types.specs.declared.refusals.CloseRefusal.TheVariants as no_close;
-ghost use Rattle.member_types.specs.declared.refusals.RunRefusal.TheVariants as no_run;
-ghost use Rattle.member_core.specs.Answers.{bare};
-ghost use Rattle.member_core.specs.Steps.{closing, counted_where, items_of};
+ghost use Rattle.protocol_spec.specs.Member.Calls.{called, close_answer, closes, due, ran_record, record_limit, run_answer, runs};
+ghost use Rattle.answer_types.specs.declared.refusals.CloseRefusal.TheVariants as no_close;
+ghost use Rattle.answer_types.specs.declared.refusals.RunRefusal.TheVariants as no_run;
+ghost use Rattle.validator_core.specs.Answers.{bare};
+ghost use Rattle.validator_core.specs.Steps.{closing, counted_where, items_of};
 ghost use Rattle.validator_core.specs.declared.keeping.Unkept.TheVariants as unkept;
 ghost use Rattle.validator_core.specs.Calls.{Closes, Runs, close_ended, run_ended};
 ghost use Rattle.validator_core.specs.Seats.{Appended, AppendedWhere, Becomes, Journaled, has_fallen};
 
 use crate::keeping::{Unkept, append};
+use crate::{State, ran_record};
+use answer_types::{CloseRefusal, Ran, RunRefusal};
 use effects_core::Effects;
 use journal_core::Record;
-use member_core::{State, ran_record};
-use member_types::{CloseRefusal, Ran, RunRefusal};
 use outside::Keeper;
 use wire_bcs::OutOfMemory;
 

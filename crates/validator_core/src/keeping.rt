@@ -7,8 +7,8 @@ ghost use Rattle.validator_core.specs.declared.keeping.Unkept.TheVariants as unk
 ghost use Rattle.validator_core.specs.Seats.{Appended};
 ghost use Rattle.validator_core.specs.Calls.{unkept_close, unkept_hold, unkept_run, unkept_vote};
 
+use answer_types::{CloseRefusal, HoldRefusal, RunRefusal, VoteRefusal};
 use journal_core::{Record, encode_record};
-use member_types::{CloseRefusal, HoldRefusal, RunRefusal, VoteRefusal};
 use outside::{Keeper, OutFault};
 use std::alloc::Global;
 

@@ -1,9 +1,9 @@
 //! That runs and closes look at no seal and no stake.
 
 ghost use Rattle.std.specs.Prelude.{◌≡◌};
-ghost use Rattle.chain_spec.specs.Certificates.{Rules};
-ghost use Rattle.member_spec.specs.Calls.{called, close_answer, closes, due, run_answer, runs};
-ghost use Rattle.member_spec.specs.Member.{Member};
+ghost use Rattle.protocol_spec.specs.Chain.Certificates.{Rules};
+ghost use Rattle.protocol_spec.specs.Member.Calls.{called, close_answer, closes, due, run_answer, runs};
+ghost use Rattle.protocol_spec.specs.Member.Member.{Member};
 
 /// The rules play no part in a run: its answer, its record and the state behind it are those of any other rules.
 #[tactic(auto, using(crate::proofs::Running::run_answer_alike, crate::proofs::Running::run_due_alike, crate::proofs::Running::run_called_alike))]

@@ -5,20 +5,30 @@
 //! function of its records, and a member that stopped starts again from them. A member whose record was not
 //! kept, or that was refused memory, is down until it is started again. A member runs what it holds in rounds,
 //! and closes its epoch; it sees no entries of the sequence yet, so it builds no checkpoint and turns to no epoch.
+//!
+//! Within, a [`State`] has the versions of the epoch, the votes given and the certificates held. A call is first
+//! decided, which changes nothing; then its record is appended; then the state takes the record. A start takes the
+//! same records through the same two steps.
 #![tactic(auto)]
 
 mod calls;
 mod epoch_calls;
+mod holds;
 mod keeping;
 mod laws;
+mod replay;
+mod runs;
 mod start;
+mod state;
 mod validator;
+mod votes;
 
-pub use laws::{closes_need_no_rules, runs_need_no_rules};
-pub use member_types::{
+pub use answer_types::{
     CloseRefusal, HoldRefusal, Ran, RunRefusal, StartRefusal, VoteRefusal, Voted,
 };
+pub use holds::Holding;
+pub use laws::{closes_need_no_rules, runs_need_no_rules};
+pub use runs::ran_record;
+pub use state::State;
 pub use validator::Validator;
-
-#[cfg(test)]
-mod tests;
+pub use votes::Decision;

@@ -1,12 +1,13 @@
 //! The start of a member.
 
 ghost use Rattle.std.specs.Prelude.{◌<◌, ◌^◌, length};
-ghost use Rattle.member_core.specs.Answers.{rules_for};
-ghost use Rattle.validator_core.specs.Starts.{StateAs, read_record, started_from, taken_at};
+ghost use Rattle.scene_spec.specs.RulesFor.{rules_for};
+ghost use Rattle.validator_core.specs.Starts.{StateAs};
+ghost use Rattle.scene_spec.specs.Starts.{read_record, started_from, taken_at};
 
+use crate::State;
+use answer_types::StartRefusal;
 use journal_core::decode_record;
-use member_core::State;
-use member_types::StartRefusal;
 use quorum_core::{Committee, Sealer};
 use wire_bcs::{Seq, Unread};
 

@@ -3,26 +3,27 @@
 ghost use Rattle.std.specs.Prelude.{◌≡◌, ◌<◌, ◌≤◌, ◌^◌, [], IfOk, IsErrOf, length, option_map, true};
 ghost use Rattle.outside.specs.Causes.{Rose};
 ghost use Rattle.chain_types.specs.Digests.{digest_of_object};
-ghost use Rattle.member_spec.specs.Versions.{Version, version_at, versions as versions_of};
-ghost use Rattle.member_spec.specs.Member.{built as built_by, live_objects};
-ghost use Rattle.member_spec.specs.Calls.{closes, holds, runs, votes};
-ghost use Rattle.member_types.specs.declared.refusals.HoldRefusal.TheVariants as no_hold;
-ghost use Rattle.member_types.specs.declared.refusals.VoteRefusal.TheVariants as no_vote;
-ghost use Rattle.member_types.specs.declared.refusals.CloseRefusal.TheVariants as no_close;
-ghost use Rattle.member_types.specs.declared.refusals.RunRefusal.TheVariants as no_run;
+ghost use Rattle.protocol_spec.specs.Member.Versions.{Version, version_at, versions as versions_of};
+ghost use Rattle.protocol_spec.specs.Member.Member.{built as built_by, live_objects};
+ghost use Rattle.protocol_spec.specs.Member.Calls.{closes, holds, runs, votes};
+ghost use Rattle.answer_types.specs.declared.refusals.HoldRefusal.TheVariants as no_hold;
+ghost use Rattle.answer_types.specs.declared.refusals.VoteRefusal.TheVariants as no_vote;
+ghost use Rattle.answer_types.specs.declared.refusals.CloseRefusal.TheVariants as no_close;
+ghost use Rattle.answer_types.specs.declared.refusals.RunRefusal.TheVariants as no_run;
 ghost use Rattle.validator_core.specs.Calls.{Closes, Holds, Runs, Votes, close_ended, close_said, hold_ended, hold_said, run_ended, run_said, vote_ended, vote_said};
-ghost use Rattle.member_core.specs.Answers.{rules_for};
-ghost use Rattle.member_core.specs.Built.{transactions_in};
+ghost use Rattle.scene_spec.specs.RulesFor.{rules_for};
+ghost use Rattle.validator_core.specs.Built.{transactions_in};
 ghost use Rattle.version_store.specs.Stores.{are_new};
-ghost use Rattle.validator_core.specs.Starts.{Starts, started};
-ghost use Rattle.validator_core.specs.Seats.{Behaves, Fell, Journaled, bare_rules, due_at, rules_of_seat};
+ghost use Rattle.validator_core.specs.Starts.{Starts};
+ghost use Rattle.scene_spec.specs.Starts.{started};
+ghost use Rattle.validator_core.specs.Seats.{Behaves, Fell, Journaled};
+ghost use Rattle.scene_spec.specs.Seats.{bare_rules, due_at, rules_of_seat};
 
 use crate::start::take_all;
-use crate::{calls, epoch_calls};
+use crate::{State, calls, epoch_calls};
+use answer_types::{CloseRefusal, HoldRefusal, Ran, RunRefusal, StartRefusal, VoteRefusal, Voted};
 use chain_types::{Object, ObjectKey, object_digest};
 use digest_core::Digest;
-use member_core::State;
-use member_types::{CloseRefusal, HoldRefusal, Ran, RunRefusal, StartRefusal, VoteRefusal, Voted};
 use outside::Keeper;
 use quorum_core::{Committee, Sealer};
 use std::alloc::Global;
@@ -39,7 +40,7 @@ pub struct Validator {
 }
 
 impl Model for Validator {
-    ghost use Rattle.validator_core.specs.Seats.{Seat};
+    ghost use Rattle.scene_spec.specs.Seats.{Seat};
 
     ghost Value = { Seat };
 
@@ -51,7 +52,7 @@ impl Validator {
     /// with these objects, none of them twice. `BadRecord` comes exactly at the first record that does not decode
     /// (1), or that no call would have appended (2). Records of votes, certificates, runs and closes are taken, a
     /// run's in both forms, with effects and without; those of entries and turns are not taken yet.
-    #[tactic(auto, unfolding(crate::specs::Starts::started))]
+    #[tactic(auto, unfolding(scene_spec::specs::Starts::started))]
     pub fn start<S: Sealer>(
         alloc: Global,
         member: u32,

@@ -8,7 +8,7 @@ use Rattle.digest_core.specs.declared.Digest.{Digest}
 use Rattle.chain_types.specs.declared.objects.Object.{Object}
 use Rattle.chain_types.specs.Equal.{digest_eq}
 use Rattle.effects_core.specs.declared.effects.Effects.{Effects}
-use Rattle.member_spec.specs.Versions.{Execution, execution_of}
+use Rattle.protocol_spec.specs.Member.Versions.{Execution, execution_of}
 use Rattle.version_store.specs.declared.maps.Ran.{Ran}
 use Rattle.version_store.specs.Stores.{Stored, executed_as, with_execution}
 use Rattle.version_store.specs.Kept.{executions, ran_as, stored_as, written_in}

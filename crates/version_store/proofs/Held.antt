@@ -6,16 +6,16 @@ use Rattle.std.specs.Map.{lookup}
 use Rattle.std.proofs.lemmas.List.{map-append}
 use Rattle.std.proofs.lemmas.Grind.{flat_map-append}
 use Rattle.indexmap.specs.IndexMap.{insert_entry}
-use Rattle.name_map.proofs.Lookups.{goes_last}
+use Rattle.tables.proofs.Lookups.{goes_last}
 use Rattle.chain_types.specs.declared.objects.Object.{Object}
 use Rattle.chain_types.specs.declared.objects.ObjectKey.{ObjectKey}
 use Rattle.chain_types.specs.declared.objects.Producer.{Producer}
 use Rattle.chain_types.specs.declared.objects.Producer.TheVariants as producers
 use Rattle.chain_types.specs.Equal.{key_eq}
-use Rattle.chain_spec.specs.Words.{repeats}
-use Rattle.chain_spec.specs.Keys.{object_key}
-use Rattle.member_spec.specs.Versions.{Execution, Version, versions, is_key, version_at, object_in, opened, written, written_by}
-use Rattle.member_spec.specs.Rounds.{holds_key, writes_new}
+use Rattle.protocol_spec.specs.Chain.Words.{repeats}
+use Rattle.protocol_spec.specs.Chain.Keys.{object_key}
+use Rattle.protocol_spec.specs.Member.Versions.{Execution, Version, versions, is_key, version_at, object_in, opened, written, written_by}
+use Rattle.protocol_spec.specs.Member.Rounds.{holds_key, writes_new}
 use Rattle.version_store.specs.declared.maps.Kept.{Kept}
 use Rattle.version_store.specs.Stores.{are_new}
 use Rattle.version_store.specs.Kept.{kept_as, kept_object}

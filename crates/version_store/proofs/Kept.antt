@@ -4,7 +4,7 @@ use Rattle.std.specs.List.{list_any}
 use Rattle.std.specs.Map.{lookup}
 use Rattle.std.proofs.lemmas.List.{map-append, length-append, length-map}
 use Rattle.std.proofs.Math.Seq.{take-length, drop-length}
-use Rattle.name_map.proofs.Lookups.{goes_last}
+use Rattle.tables.proofs.Lookups.{goes_last}
 use Rattle.digest_core.specs.declared.Digest.{Digest}
 use Rattle.chain_types.specs.declared.objects.Object.{Object}
 use Rattle.chain_types.specs.declared.objects.ObjectId.{ObjectId}
@@ -13,7 +13,7 @@ use Rattle.chain_types.specs.declared.objects.Producer.{Producer}
 use Rattle.chain_types.specs.declared.objects.Producer.TheVariants as producers
 use Rattle.chain_types.specs.Equal.{digest_eq, id_eq, key_eq}
 use Rattle.effects_core.specs.declared.effects.Effects.{Effects}
-use Rattle.member_spec.specs.Versions.{Execution, Version, versions, newest, is_deleted, consumer_of, is_executed, object_in}
+use Rattle.protocol_spec.specs.Member.Versions.{Execution, Version, versions, newest, is_deleted, consumer_of, is_executed, object_in}
 use Rattle.version_store.specs.declared.maps.Kept.{Kept}
 use Rattle.version_store.specs.declared.maps.Maps.{Maps}
 use Rattle.version_store.specs.declared.maps.Ran.{Ran}

@@ -8,10 +8,10 @@ use Rattle.chain_types.specs.declared.objects.Object.{Object}
 use Rattle.chain_types.specs.declared.objects.ObjectKey.{ObjectKey}
 use Rattle.chain_types.specs.declared.objects.Producer.{Producer}
 use Rattle.chain_types.specs.Equal.{key_eq}
-use Rattle.chain_spec.specs.Tests.{producer_eq}
-use Rattle.chain_spec.specs.Keys.{object_key}
-use Rattle.member_spec.specs.Versions.{Version, is_key, object_in, version_at}
-use Rattle.member_spec.specs.Rounds.{found, is_wanted}
+use Rattle.protocol_spec.specs.Chain.Tests.{producer_eq}
+use Rattle.protocol_spec.specs.Chain.Keys.{object_key}
+use Rattle.protocol_spec.specs.Member.Versions.{Version, is_key, object_in, version_at}
+use Rattle.protocol_spec.specs.Member.Rounds.{found, is_wanted}
 use Rattle.version_store.specs.declared.maps.Kept.{Kept}
 use Rattle.version_store.specs.Kept.{kept_as}
 use Rattle.version_store.specs.Stores.{wanted_of}

@@ -14,8 +14,8 @@ use Rattle.chain_types.specs.declared.objects.ObjectId.{ObjectId}
 use Rattle.chain_types.specs.declared.objects.ObjectKey.{ObjectKey}
 use Rattle.chain_types.specs.declared.objects.Producer.{Producer}
 use Rattle.chain_types.specs.Equal.{id_eq, key_eq}
-use Rattle.chain_spec.specs.Tests.{has_id, has_key}
-use Rattle.member_spec.specs.Versions.{Execution, Version, is_id, newer, newest, object_in, is_deleted, consumer_of}
+use Rattle.protocol_spec.specs.Chain.Tests.{has_id, has_key}
+use Rattle.protocol_spec.specs.Member.Versions.{Execution, Version, is_id, newer, newest, object_in, is_deleted, consumer_of}
 use Rattle.version_store.specs.Steps.{newer_of, with_newer, with_all_newer, with_consumer, with_consumers}
 use Rattle.version_store.proofs.Equality.{id_same, id_self, key_same, key_self, turn}
 use Rattle.version_store.proofs.Held.{made}

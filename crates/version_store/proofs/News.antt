@@ -5,11 +5,11 @@ use Rattle.std.specs.Map.{lookup}
 use Rattle.chain_types.specs.declared.objects.Object.{Object}
 use Rattle.chain_types.specs.declared.objects.ObjectKey.{ObjectKey}
 use Rattle.chain_types.specs.Equal.{key_eq}
-use Rattle.chain_spec.specs.Words.{repeats}
-use Rattle.chain_spec.specs.Tests.{has_key}
-use Rattle.chain_spec.specs.Keys.{object_key}
-use Rattle.member_spec.specs.Versions.{Version, is_key}
-use Rattle.member_spec.specs.Rounds.{holds_key}
+use Rattle.protocol_spec.specs.Chain.Words.{repeats}
+use Rattle.protocol_spec.specs.Chain.Tests.{has_key}
+use Rattle.protocol_spec.specs.Chain.Keys.{object_key}
+use Rattle.protocol_spec.specs.Member.Versions.{Version, is_key}
+use Rattle.protocol_spec.specs.Member.Rounds.{holds_key}
 use Rattle.version_store.specs.Stores.{are_new}
 use Rattle.version_store.specs.Fresh.{all_fresh}
 use Rattle.version_store.specs.Kept.{kept_as}

@@ -4,7 +4,7 @@ use Rattle.std.specs.Prelude.{fold}
 use Rattle.chain_types.specs.declared.objects.Object.{Object}
 use Rattle.chain_types.specs.declared.objects.ObjectId.{ObjectId}
 use Rattle.chain_types.specs.declared.objects.ObjectKey.{ObjectKey}
-use Rattle.member_spec.specs.Versions.{Version, live, live_list, with_live}
+use Rattle.protocol_spec.specs.Member.Versions.{Version, live, live_list, with_live}
 use Rattle.version_store.specs.declared.maps.Kept.{Kept}
 use Rattle.version_store.specs.Stores.{Stored, held_in}
 use Rattle.version_store.specs.Kept.{kept_as}

@@ -2,10 +2,10 @@
 use Rattle.std.specs.Prelude.{Bool, true, false, ◌||◌, List, [], ◌∷◌, ◌++◌, if◌then◌else◌}
 use Rattle.chain_types.specs.declared.objects.Object.{Object}
 use Rattle.chain_types.specs.declared.objects.ObjectKey.{ObjectKey}
-use Rattle.chain_spec.specs.Tests.{has_key}
-use Rattle.chain_spec.specs.Keys.{object_key}
-use Rattle.member_spec.specs.Versions.{Version}
-use Rattle.member_spec.specs.Rounds.{holds_key}
+use Rattle.protocol_spec.specs.Chain.Tests.{has_key}
+use Rattle.protocol_spec.specs.Chain.Keys.{object_key}
+use Rattle.protocol_spec.specs.Member.Versions.{Version}
+use Rattle.protocol_spec.specs.Member.Rounds.{holds_key}
 
 -- each is neither held nor among those seen before it
 abbrev pub all_fresh : List Version → List ObjectKey → List Object → Bool

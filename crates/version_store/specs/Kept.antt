@@ -7,8 +7,8 @@ use Rattle.chain_types.specs.declared.objects.Object.{Object}
 use Rattle.chain_types.specs.declared.objects.ObjectId.{ObjectId}
 use Rattle.chain_types.specs.declared.objects.ObjectKey.{ObjectKey}
 use Rattle.chain_types.specs.Equal.{id_eq, key_eq}
-use Rattle.chain_spec.specs.Keys.{object_key}
-use Rattle.member_spec.specs.Versions.{Execution, Version, newest, is_deleted, consumer_of}
+use Rattle.protocol_spec.specs.Chain.Keys.{object_key}
+use Rattle.protocol_spec.specs.Member.Versions.{Execution, Version, newest, is_deleted, consumer_of}
 use Rattle.version_store.specs.declared.maps.Kept.{Kept}
 use Rattle.version_store.specs.declared.maps.Maps.{Maps}
 use Rattle.version_store.specs.declared.maps.Ran.{Ran}

@@ -2,7 +2,7 @@
 use Rattle.std.specs.Prelude.{List, fold, map}
 use Rattle.chain_types.specs.declared.objects.Object.{Object}
 use Rattle.chain_types.specs.declared.objects.ObjectId.{ObjectId}
-use Rattle.member_spec.specs.Versions.{live, with_live}
+use Rattle.protocol_spec.specs.Member.Versions.{live, with_live}
 use Rattle.version_store.specs.declared.maps.Kept.{Kept}
 use Rattle.version_store.specs.Stores.{Stored}
 

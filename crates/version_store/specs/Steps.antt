@@ -8,7 +8,7 @@ use Rattle.chain_types.specs.declared.objects.ObjectId.{ObjectId}
 use Rattle.chain_types.specs.declared.objects.ObjectKey.{ObjectKey}
 use Rattle.chain_types.specs.declared.objects.Producer.{Producer}
 use Rattle.chain_types.specs.Equal.{id_eq, key_eq}
-use Rattle.chain_spec.specs.Keys.{object_key}
+use Rattle.protocol_spec.specs.Chain.Keys.{object_key}
 use Rattle.version_store.specs.declared.maps.Kept.{Kept}
 
 -- a version goes under its key

@@ -5,9 +5,9 @@ use Rattle.chain_types.specs.declared.objects.Object.{Object}
 use Rattle.chain_types.specs.declared.objects.ObjectKey.{ObjectKey}
 use Rattle.chain_types.specs.declared.objects.Producer.{Producer}
 use Rattle.effects_core.specs.declared.effects.Effects.{Effects}
-use Rattle.chain_spec.specs.Keys.{object_key}
-use Rattle.member_spec.specs.Versions.{Execution, Version, versions}
-use Rattle.member_spec.specs.Rounds.{Wanted, writes_new}
+use Rattle.protocol_spec.specs.Chain.Keys.{object_key}
+use Rattle.protocol_spec.specs.Member.Versions.{Execution, Version, versions}
+use Rattle.protocol_spec.specs.Member.Rounds.{Wanted, writes_new}
 
 -- the objects with which the epoch opened, and the transactions executed since, in order
 pub record Stored : Type 0 where

@@ -1,8 +1,8 @@
 //! The version of a key that a certain producer made.
 
 ghost use Rattle.std.specs.Prelude.{◌≡◌, option_copied};
-ghost use Rattle.chain_spec.specs.Tests.{producer_eq};
-ghost use Rattle.member_spec.specs.Rounds.{found};
+ghost use Rattle.protocol_spec.specs.Chain.Tests.{producer_eq};
+ghost use Rattle.protocol_spec.specs.Member.Rounds.{found};
 ghost use Rattle.version_store.specs.Stores.{held_in, wanted_of};
 
 use crate::store::Store;

@@ -3,9 +3,9 @@
 ghost use Rattle.std.specs.Prelude.{◌≡◌, ◌++◌, ◌∷◌, [], IfOk, OnOk, OnErr, false, is_some};
 ghost use Rattle.std.specs.List.{list_any};
 ghost use Rattle.chain_types.specs.Equal.{key_eq};
-ghost use Rattle.chain_spec.specs.Tests.{has_key};
-ghost use Rattle.chain_spec.specs.Keys.{object_key};
-ghost use Rattle.member_spec.specs.Rounds.{holds_key};
+ghost use Rattle.protocol_spec.specs.Chain.Tests.{has_key};
+ghost use Rattle.protocol_spec.specs.Chain.Keys.{object_key};
+ghost use Rattle.protocol_spec.specs.Member.Rounds.{holds_key};
 ghost use Rattle.version_store.specs.Stores.{are_new, held_in};
 ghost use Rattle.version_store.specs.Fresh.{all_fresh};
 

@@ -13,6 +13,3 @@ mod maps;
 mod store;
 
 pub use store::Store;
-
-#[cfg(test)]
-mod tests;

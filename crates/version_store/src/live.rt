@@ -3,7 +3,7 @@
 ghost use Rattle.std.specs.Prelude.{◌≡◌, [], ℕ, IfOk, OnOk};
 ghost use Rattle.std.specs.BTreeMap.{values as values_in};
 ghost use Rattle.indexmap.specs.IndexMap.{values};
-ghost use Rattle.member_spec.specs.Versions.{live_list, with_live};
+ghost use Rattle.protocol_spec.specs.Member.Versions.{live_list, with_live};
 ghost use Rattle.version_store.specs.Live.{all_live};
 
 use crate::maps::Kept;
@@ -51,7 +51,7 @@ fn values_of(alloc: Global, map: BTreeMap<ObjectId, Object>) -> Result<Vec<Objec
 
 impl Store {
     /// The live objects by ascending id. Time grows with the number of held versions.
-    #[tactic(auto, unfolding(member_spec::specs::Versions::live_list))]
+    #[tactic(auto, unfolding(protocol_spec::specs::Member::Versions::live_list))]
     pub fn live_list(&self) -> Result<Seq<Object>, OutOfMemory>
         ensures { IfOk result (λ objects. objects ≡ live_list self.now.opening self.now.executed) }
     {

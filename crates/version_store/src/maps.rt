@@ -11,8 +11,8 @@ use chain_types::{Object, ObjectId, ObjectKey, Producer};
 use digest_core::Digest;
 use effects_core::Effects;
 use indexmap::{IndexMap, IndexSet};
-use name_map::insert_in_room;
 use std::alloc::Global;
+use tables::insert_in_room;
 use wire_bcs::{OutOfMemory, Seq};
 
 /// A held version, and who made it.

@@ -1,7 +1,7 @@
 //! The store, and what it answers.
 
 ghost use Rattle.std.specs.Prelude.{◌≡◌, [], IfOk, OnErr, OnOk, false, true, is_some, option_copied, option_map};
-ghost use Rattle.member_spec.specs.Versions.{Execution, Version, consumer_of, execution_of, is_executed, live, newest, object_in, version_at};
+ghost use Rattle.protocol_spec.specs.Member.Versions.{Execution, Version, consumer_of, execution_of, is_executed, live, newest, object_in, version_at};
 ghost use Rattle.version_store.specs.Stores.{are_new, executed_as, held_in, with_execution};
 
 use crate::maps::Maps;
@@ -100,7 +100,7 @@ impl Store {
     }
 
     /// The newest held version of an id; none exactly where none is held, or the object was deleted. Takes no memory.
-    #[tactic(auto, unfolding(member_spec::specs::Versions::live))]
+    #[tactic(auto, unfolding(protocol_spec::specs::Member::Versions::live))]
     pub fn live(&self, id: &ObjectId) -> Option<&Object>
         ensures { option_copied result ≡ live self.now.opening self.now.executed id.now }
     {

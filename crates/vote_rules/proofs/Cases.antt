@@ -8,10 +8,10 @@ use Rattle.chain_types.specs.declared.transactions.Input.{Input}
 use Rattle.chain_types.specs.declared.transactions.Input.TheVariants as inputs
 use Rattle.chain_types.specs.declared.transactions.Transaction.{Transaction}
 use Rattle.chain_types.specs.Digests.{is_object}
-use Rattle.chain_spec.specs.Words.{first_of, first_some}
-use Rattle.chain_spec.specs.Keys.{objects_of}
-use Rattle.member_spec.specs.Versions.{Version}
-use Rattle.member_spec.specs.Votes.{Ballot, locked, made_by}
+use Rattle.protocol_spec.specs.Chain.Words.{first_of, first_some}
+use Rattle.protocol_spec.specs.Chain.Keys.{objects_of}
+use Rattle.protocol_spec.specs.Member.Versions.{Version}
+use Rattle.protocol_spec.specs.Member.Votes.{Ballot, locked, made_by}
 use Rattle.vote_rules.specs.declared.case.Case.{Case}
 use Rattle.vote_rules.specs.declared.case.Case.TheVariants as case
 use Rattle.vote_rules.specs.Cases.{made_in, says}

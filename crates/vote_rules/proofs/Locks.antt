@@ -7,10 +7,10 @@ use Rattle.chain_types.specs.declared.refusals.DecideRefusal.{DecideRefusal}
 use Rattle.chain_types.specs.declared.refusals.DecideRefusal.TheVariants as refused
 use Rattle.chain_types.specs.declared.transactions.Transaction.{Transaction}
 use Rattle.chain_types.specs.Digests.{consumed_keys}
-use Rattle.chain_spec.specs.Words.{first_of, first_some, where_true}
-use Rattle.chain_spec.specs.Keys.{objects_of}
+use Rattle.protocol_spec.specs.Chain.Words.{first_of, first_some, where_true}
+use Rattle.protocol_spec.specs.Chain.Keys.{objects_of}
 use Rattle.lock_table.specs.Locks.{Locks, locked_by, or_other, other_lock, unless_own}
-use Rattle.member_spec.specs.Votes.{Ballot, Cast, absent, consumed, gas_balance, is_lock, locked, no_gas, vote_refusal, wrong_digest, wrong_kind, wrong_owner}
+use Rattle.protocol_spec.specs.Member.Votes.{Ballot, Cast, absent, consumed, gas_balance, is_lock, locked, no_gas, vote_refusal, wrong_digest, wrong_kind, wrong_owner}
 use Rattle.version_store.specs.Stores.{Stored}
 use Rattle.vote_rules.specs.Cases.{ballot_of}
 use Rattle.vote_rules.specs.Decide.{StandFor, decide_refusal, locked_as}

@@ -6,7 +6,7 @@ use Rattle.chain_types.specs.declared.objects.Producer.TheVariants as producers
 use Rattle.chain_types.specs.declared.refusals.DecideRefusal.{DecideRefusal}
 use Rattle.chain_types.specs.declared.transactions.Input.{Input}
 use Rattle.chain_types.specs.declared.transactions.Transaction.{Transaction}
-use Rattle.member_spec.specs.Votes.{Ballot, absent, wrong_digest, wrong_owner, wrong_kind, maker}
+use Rattle.protocol_spec.specs.Member.Votes.{Ballot, absent, wrong_digest, wrong_owner, wrong_kind, maker}
 use Rattle.version_store.specs.Stores.{Stored}
 use Rattle.vote_rules.specs.declared.case.Case.{Case}
 use Rattle.vote_rules.specs.declared.case.Case.TheVariants as case

@@ -6,9 +6,9 @@ use Rattle.chain_types.specs.declared.refusals.DecideRefusal.{DecideRefusal}
 use Rattle.chain_types.specs.declared.refusals.DecideRefusal.TheVariants as refused
 use Rattle.chain_types.specs.declared.transactions.Transaction.{Transaction}
 use Rattle.chain_types.specs.Digests.{consumed_keys}
-use Rattle.chain_spec.specs.Words.{first_some}
+use Rattle.protocol_spec.specs.Chain.Words.{first_some}
 use Rattle.lock_table.specs.Locks.{Locks, locked_by, other_lock, unless_own}
-use Rattle.member_spec.specs.Votes.{Cast, is_lock, vote_refusal, vote_origins}
+use Rattle.protocol_spec.specs.Member.Votes.{Cast, is_lock, vote_refusal, vote_origins}
 use Rattle.version_store.specs.Stores.{Stored}
 use Rattle.vote_rules.specs.Cases.{ballot_of}
 

@@ -4,11 +4,11 @@ ghost use Rattle.std.specs.Prelude.{◌≡◌, ◌∷◌, [], ◌&&◌, not, nat
 ghost use Rattle.digest_core.specs.declared.Digest.{Digest};
 ghost use Rattle.chain_types.specs.declared.refusals.DecideRefusal.TheVariants as refused;
 ghost use Rattle.chain_types.specs.Digests.{digest_of_object, key_of, is_object};
-ghost use Rattle.chain_spec.specs.Words.{first_of, where_true};
-ghost use Rattle.chain_spec.specs.Keys.{balance_of, is_address, is_gas_coin, is_immutable, is_owned_by, is_shared_since, objects_of};
+ghost use Rattle.protocol_spec.specs.Chain.Words.{first_of, where_true};
+ghost use Rattle.protocol_spec.specs.Chain.Keys.{balance_of, is_address, is_gas_coin, is_immutable, is_owned_by, is_shared_since, objects_of};
 ghost use Rattle.chain_types.specs.Equal.{digest_eq};
-ghost use Rattle.member_spec.specs.Versions.{live};
-ghost use Rattle.member_spec.specs.Votes.{absent, consumed, gas_balance, no_gas, object_held, of_held, shared_key, wrong_digest, wrong_kind, wrong_owner};
+ghost use Rattle.protocol_spec.specs.Member.Versions.{live};
+ghost use Rattle.protocol_spec.specs.Member.Votes.{absent, consumed, gas_balance, no_gas, object_held, of_held, shared_key, wrong_digest, wrong_kind, wrong_owner};
 ghost use Rattle.vote_rules.specs.Cases.{ballot_of, says};
 
 use chain_types::{

@@ -2,7 +2,7 @@
 
 ghost use Rattle.std.specs.Prelude.{◌≡◌, ◌++◌, ◌∷◌, [], IfOk, OnOk, map, filter};
 ghost use Rattle.chain_types.specs.Digests.{is_object};
-ghost use Rattle.member_spec.specs.Votes.{origin_of, vote_origins};
+ghost use Rattle.protocol_spec.specs.Member.Votes.{origin_of, vote_origins};
 ghost use Rattle.vote_rules.specs.Cases.{ballot_of, made_in};
 
 use chain_types::{Input, ObjectKey, Producer, Transaction};
@@ -48,7 +48,7 @@ fn is_object(input: &Input) -> bool
 }
 
 /// The origins of the objects of a transaction, in their order.
-#[tactic(auto, unfolding(member_spec::specs::Votes::vote_origins))]
+#[tactic(auto, unfolding(protocol_spec::specs::Member::Votes::vote_origins))]
 pub(crate) fn origins(
     alloc: Global,
     store: &Store,

@@ -3,7 +3,7 @@
 ghost use Rattle.std.specs.Prelude.{◌≡◌, Option, Some, None};
 ghost use Rattle.digest_core.specs.declared.Digest.{Digest};
 ghost use Rattle.chain_types.specs.Digests.{consumed_keys};
-ghost use Rattle.member_spec.specs.Votes.{vote_origins, vote_refusal};
+ghost use Rattle.protocol_spec.specs.Member.Votes.{vote_origins, vote_refusal};
 ghost use Rattle.vote_rules.specs.Cases.{ballot_of};
 ghost use Rattle.vote_rules.specs.Decide.{Decides, decide_refusal};
 
@@ -16,7 +16,7 @@ use version_store::Store;
 use wire_bcs::Seq;
 
 /// What the store refuses, the first case that applies.
-#[tactic(auto, unfolding(member_spec::specs::Votes::vote_refusal), using(crate::proofs::Cases::none_locked))]
+#[tactic(auto, unfolding(protocol_spec::specs::Member::Votes::vote_refusal), using(crate::proofs::Cases::none_locked))]
 fn store_refusal(store: &Store, tx: &Transaction, keys: &[ObjectKey]) -> Option<DecideRefusal>
     requires { keys.now ≡ consumed_keys tx.now }
     ensures { (digest : Digest) → result ≡ vote_refusal (ballot_of store.now) tx.now digest }

@@ -23,6 +23,3 @@ pub use reader::Reader;
 pub use seq::{OutOfMemory, Seq};
 pub use wire::{Wire, decode, encode, one_spelling, read_is_spelled, spelled_is_read};
 pub use writer::Writer;
-
-#[cfg(test)]
-mod tests;

@@ -1,1 +1,5 @@
-pub mod Worlds
+pub mod Places
+pub mod Books
+pub mod Weights
+pub mod Spelled
+pub mod SaidWorlds

@@ -1,8 +1,8 @@
 -- The answers of a member, as the definitions have them.
 use Rattle.std.specs.Prelude.{Result, Ok, Err}
-use Rattle.member_types.specs.declared.answers.Voted.{Voted as Sealed}
-use Rattle.member_types.specs.declared.refusals.VoteRefusal.{VoteRefusal}
-use Rattle.member_spec.specs.Calls.{Voted}
+use Rattle.answer_types.specs.declared.answers.Voted.{Voted as Sealed}
+use Rattle.answer_types.specs.declared.refusals.VoteRefusal.{VoteRefusal}
+use Rattle.protocol_spec.specs.Member.Calls.{Voted}
 use Rattle.world_spec.specs.Step.{Collected, lacks, short, differ, whole}
 use Rattle.world_lines.specs.declared.certs.Collected.{Collected as Given}
 use Rattle.world_lines.specs.declared.certs.Collected.TheVariants as given

@@ -1,1 +1,5 @@
 pub mod Answers
+pub mod Places
+pub mod Rows
+pub mod SaidVotes
+pub mod Forming

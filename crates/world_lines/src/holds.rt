@@ -2,11 +2,11 @@
 
 ghost use Rattle.std.specs.Prelude.{◌≡◌, Err, IfOk};
 ghost use Rattle.world_spec.specs.Report.{bad_cert_text, hold_answered};
-ghost use Rattle.world_names.specs.Known.{setting_with, world_with};
+ghost use Rattle.scene_spec.specs.Known.{setting_with, world_with};
 
 use crate::words::{tx_text, version_text};
+use answer_types::HoldRefusal;
 use chain_types::CertRefusal;
-use member_types::HoldRefusal;
 use report_text::SendText;
 use wire_bcs::OutOfMemory;
 use world_names::Directory;

@@ -1,25 +1,35 @@
-//! The lines of a report that say what members answered.
+//! The lines of a report that say what members answered, and what members said in a run.
 //!
 //! Each call turns an answer into the endings or lines that a report has for it, where a
-//! [`world_names::Directory`] names transactions, versions and objects. What is said is the definition's, one
-//! equation a call. An answer is only read.
+//! [`world_names::Directory`] names transactions, versions and objects. An answer is only read.
+//!
+//! A [`SaidBook`] keeps all statements, oldest first, and finds a member's last vote for a transaction by a map;
+//! [`SaidBook::collect`] says what the last votes of members give. A [`CertBook`] keeps the certificates under the
+//! names for which they were formed, and finds the last of a name by a map. [`certificate`] seals a vote for each
+//! member that stated it. Each answer is the definition's, one equation a call.
 #![tactic(auto)]
 
 mod certs;
+mod collecting;
+mod formed;
+mod forming;
 mod holds;
-mod law;
+mod lines_law;
 mod runs;
+mod said;
+mod said_law;
 mod shows;
 mod votes;
 mod words;
 
 pub use certs::{Collected, cert_text};
+pub use formed::CertBook;
+pub use forming::certificate;
 pub use holds::hold_text;
-pub use law::lines_in_a_world;
+pub use lines_law::lines_in_a_world;
 pub use runs::{checkpoint_line, effects_line, left_line, run_lines};
+pub use said::SaidBook;
+pub use said_law::said_in_a_world;
 pub use shows::{object_line, shown_lines};
 pub use votes::vote_text;
 pub use words::{object_text, origin_names, tx_names, tx_text, version_text};
-
-#[cfg(test)]
-mod tests;

@@ -4,13 +4,13 @@ ghost use Rattle.std.specs.Prelude.{◌≡◌, ◌∷◌, [], Err, IfOk, Ok, OnO
 ghost use Rattle.checkpoint_core.specs.declared.checkpoints.Item.{Item};
 ghost use Rattle.world_spec.specs.Names.{tx_name};
 ghost use Rattle.world_spec.specs.Report.{checkpoint_line, effects_line, left_line, run_answered, status_line};
-ghost use Rattle.world_names.specs.Known.{setting_with, world_with};
+ghost use Rattle.scene_spec.specs.Known.{setting_with, world_with};
 ghost use Rattle.world_names.specs.Pushed.{each_pushed};
 
 use crate::words::{tx_text, version_text};
+use answer_types::{Left, Ran, RunRefusal};
 use checkpoint_core::{Checkpoint, Item};
 use effects_core::{Effects, Status};
-use member_types::{Left, Ran, RunRefusal};
 use report_text::{Line, RunText};
 use wire_bcs::{OutOfMemory, Seq};
 use world_names::Directory;

@@ -2,7 +2,7 @@
 
 ghost use Rattle.std.specs.Prelude.{◌≡◌, ◌∷◌, [], IfOk, OnOk, map};
 ghost use Rattle.world_spec.specs.Report.{object_line, shown, shown_content, shown_owner};
-ghost use Rattle.world_names.specs.Known.{setting_with, world_with};
+ghost use Rattle.scene_spec.specs.Known.{setting_with, world_with};
 ghost use Rattle.world_names.specs.Pushed.{each_pushed};
 
 use crate::words::object_text;

@@ -3,7 +3,7 @@
 ghost use Rattle.std.specs.Prelude.{◌≡◌, IfOk, OnOk, map};
 ghost use Rattle.world_spec.specs.Names.{key_name, object_name, tx_name};
 ghost use Rattle.world_spec.specs.Report.{origin_name, origin_names, tx_names};
-ghost use Rattle.world_names.specs.Known.{setting_with, world_with};
+ghost use Rattle.scene_spec.specs.Known.{setting_with, world_with};
 ghost use Rattle.world_names.specs.Pushed.{each_pushed};
 
 use chain_types::{ObjectId, ObjectKey};

@@ -4,7 +4,7 @@ use Rattle.std.specs.Prelude.{filter_map}
 use Rattle.std.specs.List.{cons_option}
 use Rattle.std.proofs.lemmas.List.{map-append, length-append}
 use Rattle.digest_core.specs.declared.Digest.{Digest}
-use Rattle.chain_spec.specs.Words.{numbers_below}
+use Rattle.protocol_spec.specs.Chain.Words.{numbers_below}
 use Rattle.world_spec.specs.World.{Drawn}
 use Rattle.world_spec.specs.Names.{drawn_as}
 use Rattle.world_spec.specs.Making.{drawn_list}

@@ -3,5 +3,6 @@ pub mod Lookups
 pub mod Names
 pub mod Collected
 pub mod ShownOrder
-pub mod Worlds
 pub mod Pushed
+pub mod Words
+pub mod MadeSpelled

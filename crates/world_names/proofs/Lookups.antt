@@ -6,7 +6,7 @@ use Rattle.std.proofs.lemmas.Slice.Eq.{bytes_eq-Decides}
 use Rattle.std.proofs.lemmas.List.{length-map}
 use Rattle.digest_core.specs.declared.Digest.{Digest}
 use Rattle.chain_types.specs.Equal.{digest_eq}
-use Rattle.chain_spec.specs.Words.{first_of, first_some, where_true}
+use Rattle.protocol_spec.specs.Chain.Words.{first_of, first_some, where_true}
 
 -- a test of names does not depend on the order
 pub turn : (a b : List ℕ) → bytes_eq a b ≡ bytes_eq b a

@@ -7,7 +7,7 @@ use Rattle.chain_types.specs.declared.objects.Address.{Address}
 use Rattle.chain_types.specs.declared.objects.Object.{Object}
 use Rattle.chain_types.specs.declared.objects.ObjectId.{ObjectId}
 use Rattle.chain_types.specs.Equal.{digest_eq, id_eq}
-use Rattle.chain_spec.specs.Words.{first_of, first_some}
+use Rattle.protocol_spec.specs.Chain.Words.{first_of, first_some}
 use Rattle.world_spec.specs.Setting.{Name, Thing, User}
 use Rattle.world_spec.specs.World.{Made, Drawn}
 use Rattle.world_spec.specs.Names.{address_name, drawn_name, drawn_rank, made_name, made_named, name_or, object_name, rank, rank_or, tx_name}
@@ -15,7 +15,7 @@ use Rattle.world_names.specs.declared.rows.ThingRow.{ThingRow}
 use Rattle.world_names.specs.declared.rows.UserRow.{UserRow}
 use Rattle.world_names.specs.declared.rows.MadeTx.{MadeTx}
 use Rattle.world_names.specs.declared.rows.DrawnRow.{DrawnRow}
-use Rattle.world_names.specs.Known.{Known, setting_with, world_with}
+use Rattle.scene_spec.specs.Known.{Known, setting_with, world_with}
 use Rattle.world_names.specs.Rows.{drawn_of, known_as, made_as, thing_as, user_as}
 use Rattle.world_names.proofs.Lookups.{find_map, find_same, first_where, position_map, turn, turn_digest}
 

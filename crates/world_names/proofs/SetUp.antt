@@ -4,7 +4,7 @@ use Rattle.std.proofs.lemmas.List.{length-append}
 use Rattle.schedule_text.specs.declared.words.Setup.{Setup}
 use Rattle.schedule_text.specs.declared.words.Setup.TheVariants as line
 use Rattle.world_spec.specs.Setting.{Name, Thing, User, things_from, owners_of, thing_id, user_of}
-use Rattle.world_names.specs.Known.{Known, known_by}
+use Rattle.scene_spec.specs.Known.{Known, known_by}
 use Rattle.world_names.specs.SetUp.{with_all, with_setup}
 
 -- what more lines name behind these things and users

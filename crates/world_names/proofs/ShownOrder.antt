@@ -7,9 +7,9 @@ use Rattle.std.specs.Ordering.{match_ordering, nat_cmp, ordering_then}
 use Rattle.std.specs.declared.cmp.Ordering.{Ordering}
 use Rattle.std.specs.declared.cmp.Ordering.TheVariants.{Less, Equal, Greater}
 use Rattle.chain_types.specs.declared.objects.Object.{Object}
-use Rattle.chain_spec.specs.Words.{Each}
+use Rattle.protocol_spec.specs.Chain.Words.{Each}
 use Rattle.world_spec.specs.Names.{rank, rank_lt, shown_among, shown_order}
-use Rattle.world_names.specs.Known.{Known, setting_with, world_with}
+use Rattle.scene_spec.specs.Known.{Known, setting_with, world_with}
 use Rattle.world_names.specs.declared.shown.Place.{Place}
 use Rattle.world_names.specs.Shown.{all_shown, place_cmp, rank_as, with_shown}
 

@@ -1,7 +1,7 @@
 -- Lists that are collected one after the other.
 use Rattle.std.specs.Prelude.{◌≡◌, List, [], ◌∷◌, ◌++◌, length, fold, map, Option, Some, None}
 use Rattle.digest_core.specs.declared.Digest.{Digest}
-use Rattle.chain_spec.specs.Words.{numbers_below}
+use Rattle.protocol_spec.specs.Chain.Words.{numbers_below}
 use Rattle.world_spec.specs.Names.{drawn_as}
 use Rattle.world_names.specs.declared.rows.DrawnRow.{DrawnRow}
 use Rattle.world_names.specs.Rows.{drawn_of}

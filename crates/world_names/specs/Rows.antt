@@ -6,7 +6,7 @@ use Rattle.world_names.specs.declared.rows.ThingRow.{ThingRow}
 use Rattle.world_names.specs.declared.rows.UserRow.{UserRow}
 use Rattle.world_names.specs.declared.rows.MadeTx.{MadeTx}
 use Rattle.world_names.specs.declared.rows.DrawnRow.{DrawnRow}
-use Rattle.world_names.specs.Known.{Known}
+use Rattle.scene_spec.specs.Known.{Known}
 
 abbrev pub thing_as : ThingRow → Thing
 thing_as r = record { name = r.name; id = r.id }

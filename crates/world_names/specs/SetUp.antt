@@ -2,7 +2,7 @@
 use Rattle.std.specs.Prelude.{List, fold}
 use Rattle.schedule_text.specs.declared.words.Setup.{Setup}
 use Rattle.schedule_text.specs.declared.words.Setup.TheVariants as line
-use Rattle.world_names.specs.Known.{Known, with_thing, with_user}
+use Rattle.scene_spec.specs.Known.{Known, with_thing, with_user}
 
 abbrev pub with_setup : Known → Setup → Known
 with_setup k (line.Member stake honest) = k

@@ -5,7 +5,7 @@ use Rattle.std.specs.Ordering.{ordering_then, nat_cmp}
 use Rattle.std.specs.declared.cmp.Ordering.{Ordering}
 use Rattle.chain_types.specs.declared.objects.Object.{Object}
 use Rattle.world_spec.specs.Names.{rank}
-use Rattle.world_names.specs.Known.{Known, setting_with, world_with}
+use Rattle.scene_spec.specs.Known.{Known, setting_with, world_with}
 use Rattle.world_names.specs.declared.shown.Rank.{Rank}
 use Rattle.world_names.specs.declared.shown.Place.{Place}
 

@@ -4,7 +4,7 @@ ghost use Rattle.std.specs.Prelude.{◌≡◌, ◌+◌, ◌∷◌, ◌++◌, [],
 ghost use Rattle.world_spec.specs.Setting.{user_of};
 ghost use Rattle.world_spec.specs.Names.{draws, draws_of, drawn_by};
 ghost use Rattle.world_spec.specs.Making.{drawn_input, drawn_word, user_word};
-ghost use Rattle.world_names.specs.Known.{drawn_words, users_in, with_line, world_with};
+ghost use Rattle.scene_spec.specs.Known.{drawn_words, users_in, with_line, world_with};
 ghost use Rattle.world_names.specs.Rows.{drawn_of, made_as, user_as};
 ghost use Rattle.world_names.specs.Lines.{line_of};
 ghost use Rattle.world_names.specs.Collected.{AreDrawn, all_some, with_some};

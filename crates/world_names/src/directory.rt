@@ -4,7 +4,7 @@ ghost use Rattle.std.specs.Prelude.{◌≡◌, ◌∷◌, ◌++◌, [], IfOk, On
 ghost use Rattle.world_spec.specs.Setting.{Thing};
 ghost use Rattle.world_spec.specs.Names.{address_name, made_named, tx_name};
 ghost use Rattle.world_spec.specs.Making.{digest_named};
-ghost use Rattle.world_names.specs.Known.{known_by, world_with, with_thing, with_user};
+ghost use Rattle.scene_spec.specs.Known.{known_by, world_with, with_thing, with_user};
 ghost use Rattle.world_names.specs.SetUp.{with_all, with_setup};
 ghost use Rattle.world_names.specs.Rows.{made_as};
 
@@ -12,10 +12,10 @@ use crate::adding::user_row;
 use crate::rows::{DrawnRow, MadeTx, ThingRow, UserRow};
 use chain_types::{Address, ObjectId};
 use digest_core::{Digest, genesis_id};
-use row_table::{NamedTable, Table};
 use schedule_text::Setup;
 use std::alloc::Global;
 use std::marker::Model;
+use tables::{NamedTable, Table};
 use wire_bcs::{OutOfMemory, Seq};
 
 /// What is known under names. Contracts see the set-up's things, and the users, transactions and drawn ids
@@ -30,7 +30,7 @@ pub struct Directory {
 }
 
 impl Model for Directory {
-    ghost use Rattle.world_names.specs.Known.{Known};
+    ghost use Rattle.scene_spec.specs.Known.{Known};
     ghost use Rattle.world_names.specs.Rows.{known_as};
 
     ghost Value = { Known };

@@ -6,7 +6,7 @@ ghost use Rattle.world_names.specs.Rows.{drawn_of};
 
 use chain_types::{ObjectId, SignedTx};
 use digest_core::{Digest, created_id};
-use row_table::{Keyed, Named};
+use tables::{Keyed, Named};
 use wire_bcs::Seq;
 
 /// A transaction by the name of its line.

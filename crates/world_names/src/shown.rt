@@ -3,7 +3,7 @@
 ghost use Rattle.std.specs.Prelude.{◌≡◌, [], IfOk, OnOk, Some, option_copied, option_map};
 ghost use Rattle.std.specs.BTreeMap.{values as values_in};
 ghost use Rattle.world_spec.specs.Names.{drawn_rank, rank, shown_order};
-ghost use Rattle.world_names.specs.Known.{setting_with, world_with};
+ghost use Rattle.scene_spec.specs.Known.{setting_with, world_with};
 ghost use Rattle.world_names.specs.Rows.{drawn_of};
 ghost use Rattle.world_names.specs.Shown.{all_shown, place_of, rank_as, with_shown};
 

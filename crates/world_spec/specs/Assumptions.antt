@@ -20,10 +20,10 @@ use Rattle.schedule_text.specs.declared.words.Event.TheVariants as event
 use Rattle.chain_types.specs.Digests.{transaction_digest}
 use Rattle.chain_types.specs.Transactions as transactions
 use Rattle.chain_messages.specs.Messages as messages
-use Rattle.chain_spec.specs.Words.{Has, Each}
-use Rattle.chain_spec.specs.Committee.{weight, weight_of, total_of, is_quorum, is_roll}
-use Rattle.chain_spec.specs.Certificates.{Rules, accepts_statement, read_signed, read_certificate, read_entry, vote_of, cert_refusal}
-use Rattle.member_spec.specs.Calls.{Call, votes, holds, sees, runs, closes, ends, turns, acks}
+use Rattle.protocol_spec.specs.Chain.Words.{Has, Each}
+use Rattle.protocol_spec.specs.Chain.Committee.{weight, weight_of, total_of, is_quorum, is_roll}
+use Rattle.protocol_spec.specs.Chain.Certificates.{Rules, accepts_statement, read_signed, read_certificate, read_entry, vote_of, cert_refusal}
+use Rattle.protocol_spec.specs.Member.Calls.{Call, votes, holds, sees, runs, closes, ends, turns, acks}
 use Rattle.world_spec.specs.Setting.{Setting}
 use Rattle.world_spec.specs.World.{Made, Formed, World, new_world, said_by, called_if, is_honest, member_at, next_call}
 use Rattle.world_spec.specs.Names.{made_named, cert_named, draws}

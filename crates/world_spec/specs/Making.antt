@@ -25,9 +25,9 @@ use Rattle.schedule_text.specs.declared.words.ArgWord.TheVariants as arg_word
 use Rattle.schedule_text.specs.declared.words.CommandWord.{CommandWord}
 use Rattle.schedule_text.specs.declared.words.CommandWord.TheVariants as command_word
 use Rattle.chain_types.specs.Digests.{transaction_digest, digest_of_object}
-use Rattle.member_spec.specs.Versions.{Version, versions, version_at}
-use Rattle.member_spec.specs.Checkpoints.{zero_digest}
-use Rattle.member_spec.specs.Member.{Member}
+use Rattle.protocol_spec.specs.Member.Versions.{Version, versions, version_at}
+use Rattle.protocol_spec.specs.Member.Checkpoints.{zero_digest}
+use Rattle.protocol_spec.specs.Member.Member.{Member}
 use Rattle.world_spec.specs.Setting.{Name, User, user_of, Thing, Setting, sender_seal}
 use Rattle.world_spec.specs.World.{World, Made, Drawn, says_first}
 use Rattle.world_spec.specs.Names.{made_named, drawn_as, drawn_by}

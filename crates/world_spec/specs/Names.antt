@@ -12,7 +12,7 @@ use Rattle.chain_types.specs.declared.transactions.Command.TheVariants as comman
 use Rattle.chain_types.specs.declared.transactions.Transaction.{Transaction}
 use Rattle.chain_messages.specs.declared.messages.Certificate.{Certificate}
 use Rattle.chain_types.specs.Equal.{digest_eq, id_eq}
-use Rattle.chain_spec.specs.Words.{first_some, first_of, where_true, last_where, numbers_below}
+use Rattle.protocol_spec.specs.Chain.Words.{first_some, first_of, where_true, last_where, numbers_below}
 use Rattle.world_spec.specs.Setting.{Name, User, Thing, Setting}
 use Rattle.world_spec.specs.World.{World, Made, Formed, Drawn}
 

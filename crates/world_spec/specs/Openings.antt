@@ -6,9 +6,9 @@ use Rattle.chain_types.specs.declared.objects.Object.{Object}
 use Rattle.chain_types.specs.declared.transactions.Transaction.{Transaction}
 use Rattle.chain_messages.specs.declared.messages.Entry.{Entry}
 use Rattle.chain_messages.specs.Messages as messages
-use Rattle.member_spec.specs.Admission.{Admitted}
-use Rattle.member_spec.specs.Sequence.{Cut, Sequence, seen}
-use Rattle.member_spec.specs.Sequential.{map_of, fold_all}
+use Rattle.protocol_spec.specs.Member.Admission.{Admitted}
+use Rattle.protocol_spec.specs.Member.Sequence.{Cut, Sequence, seen}
+use Rattle.protocol_spec.specs.Member.Sequential.{map_of, fold_all}
 use Rattle.world_spec.specs.Setting.{Setting}
 use Rattle.world_spec.specs.World.{entries_at}
 

@@ -17,29 +17,29 @@ use Rattle.effects_core.specs.declared.effects.Status.TheVariants as status
 use Rattle.effects_core.specs.declared.effects.Effects.{Effects}
 use Rattle.checkpoint_core.specs.declared.checkpoints.Item.{Item}
 use Rattle.checkpoint_core.specs.declared.checkpoints.Checkpoint.{Checkpoint}
-use Rattle.member_types.specs.declared.answers.Left.{Left}
-use Rattle.member_types.specs.declared.answers.Seen.{Seen}
-use Rattle.member_types.specs.declared.answers.SeenWhat.{SeenWhat}
-use Rattle.member_types.specs.declared.answers.SeenWhat.TheVariants as seen_as
-use Rattle.member_types.specs.declared.answers.Ignore.{Ignore}
-use Rattle.member_types.specs.declared.answers.Ignore.TheVariants as ignore
-use Rattle.member_types.specs.declared.answers.Ran.{Ran}
-use Rattle.member_types.specs.declared.refusals.VoteRefusal.{VoteRefusal}
-use Rattle.member_types.specs.declared.refusals.VoteRefusal.TheVariants as no_vote
-use Rattle.member_types.specs.declared.refusals.HoldRefusal.{HoldRefusal}
-use Rattle.member_types.specs.declared.refusals.HoldRefusal.TheVariants as no_hold
-use Rattle.member_types.specs.declared.refusals.SeeRefusal.{SeeRefusal}
-use Rattle.member_types.specs.declared.refusals.SeeRefusal.TheVariants as no_see
-use Rattle.member_types.specs.declared.refusals.RunRefusal.{RunRefusal}
-use Rattle.member_types.specs.declared.refusals.RunRefusal.TheVariants as no_run
-use Rattle.member_types.specs.declared.refusals.CloseRefusal.{CloseRefusal}
-use Rattle.member_types.specs.declared.refusals.CloseRefusal.TheVariants as no_close
-use Rattle.member_types.specs.declared.refusals.EndRefusal.{EndRefusal}
-use Rattle.member_types.specs.declared.refusals.EndRefusal.TheVariants as no_end
-use Rattle.member_types.specs.declared.refusals.TurnRefusal.{TurnRefusal}
-use Rattle.member_types.specs.declared.refusals.TurnRefusal.TheVariants as no_turn
-use Rattle.member_types.specs.declared.refusals.AckRefusal.{AckRefusal}
-use Rattle.member_types.specs.declared.refusals.AckRefusal.TheVariants as no_ack
+use Rattle.answer_types.specs.declared.answers.Left.{Left}
+use Rattle.answer_types.specs.declared.answers.Seen.{Seen}
+use Rattle.answer_types.specs.declared.answers.SeenWhat.{SeenWhat}
+use Rattle.answer_types.specs.declared.answers.SeenWhat.TheVariants as seen_as
+use Rattle.answer_types.specs.declared.answers.Ignore.{Ignore}
+use Rattle.answer_types.specs.declared.answers.Ignore.TheVariants as ignore
+use Rattle.answer_types.specs.declared.answers.Ran.{Ran}
+use Rattle.answer_types.specs.declared.refusals.VoteRefusal.{VoteRefusal}
+use Rattle.answer_types.specs.declared.refusals.VoteRefusal.TheVariants as no_vote
+use Rattle.answer_types.specs.declared.refusals.HoldRefusal.{HoldRefusal}
+use Rattle.answer_types.specs.declared.refusals.HoldRefusal.TheVariants as no_hold
+use Rattle.answer_types.specs.declared.refusals.SeeRefusal.{SeeRefusal}
+use Rattle.answer_types.specs.declared.refusals.SeeRefusal.TheVariants as no_see
+use Rattle.answer_types.specs.declared.refusals.RunRefusal.{RunRefusal}
+use Rattle.answer_types.specs.declared.refusals.RunRefusal.TheVariants as no_run
+use Rattle.answer_types.specs.declared.refusals.CloseRefusal.{CloseRefusal}
+use Rattle.answer_types.specs.declared.refusals.CloseRefusal.TheVariants as no_close
+use Rattle.answer_types.specs.declared.refusals.EndRefusal.{EndRefusal}
+use Rattle.answer_types.specs.declared.refusals.EndRefusal.TheVariants as no_end
+use Rattle.answer_types.specs.declared.refusals.TurnRefusal.{TurnRefusal}
+use Rattle.answer_types.specs.declared.refusals.TurnRefusal.TheVariants as no_turn
+use Rattle.answer_types.specs.declared.refusals.AckRefusal.{AckRefusal}
+use Rattle.answer_types.specs.declared.refusals.AckRefusal.TheVariants as no_ack
 use Rattle.schedule_text.specs.declared.words.Event.{Event}
 use Rattle.schedule_text.specs.declared.words.Event.TheVariants as event
 use Rattle.report_text.specs.declared.lines.Line.{Line}
@@ -76,9 +76,9 @@ use Rattle.report_text.specs.declared.lines.ContentText.TheVariants as content_t
 use Rattle.chain_types.specs.Equal.{digest_eq}
 use Rattle.chain_types.specs.Transactions as transactions
 use Rattle.chain_messages.specs.Messages as messages
-use Rattle.chain_spec.specs.Committee.{total_of}
-use Rattle.member_spec.specs.Member.{Member, Fork, fork_of, live_objects}
-use Rattle.member_spec.specs.Calls.{Call, votes, holds, sees, runs, closes, ends, turns, acks, Voted, vote_answer, hold_answer, see_answer, run_answer, close_answer, end_answer, turn_answer, ack_answer}
+use Rattle.protocol_spec.specs.Chain.Committee.{total_of}
+use Rattle.protocol_spec.specs.Member.Member.{Member, Fork, fork_of, live_objects}
+use Rattle.protocol_spec.specs.Member.Calls.{Call, votes, holds, sees, runs, closes, ends, turns, acks, Voted, vote_answer, hold_answer, see_answer, run_answer, close_answer, end_answer, turn_answer, ack_answer}
 use Rattle.world_spec.specs.Setting.{Name, Setting}
 use Rattle.world_spec.specs.World.{Seat, Made, World, Reached, finds_down, stops, answers, reached, called_if, is_honest, member_at, next_call}
 use Rattle.world_spec.specs.Names.{made_named, cert_named, tx_name, object_name, key_name, address_name, shown_order}

@@ -7,8 +7,8 @@ use Rattle.schedule_text.specs.declared.words.Schedule.{Schedule}
 use Rattle.report_text.specs.declared.lines.Line.{Line}
 use Rattle.report_text.specs.declared.lines.Line.TheVariants as line
 use Rattle.journal_core.specs.Records as journals
-use Rattle.chain_spec.specs.Keys.{currency_sum}
-use Rattle.member_spec.specs.Member.{Member, built, live_objects}
+use Rattle.protocol_spec.specs.Chain.Keys.{currency_sum}
+use Rattle.protocol_spec.specs.Member.Member.{Member, built, live_objects}
 use Rattle.world_spec.specs.Setting.{Trust, Setting, setting_of}
 use Rattle.world_spec.specs.World.{Seat, World, new_world, member_at}
 use Rattle.world_spec.specs.Step.{happens}

@@ -17,7 +17,7 @@ use Rattle.chain_messages.specs.declared.messages.Statement.{Statement}
 use Rattle.schedule_text.specs.declared.words.Setup.{Setup}
 use Rattle.schedule_text.specs.declared.words.Setup.TheVariants as line
 use Rattle.chain_types.specs.Equal.{id_eq}
-use Rattle.chain_spec.specs.Certificates.{Rules}
+use Rattle.protocol_spec.specs.Chain.Certificates.{Rules}
 
 -- a name, which is a list of bytes
 abbrev pub Name : Type 0

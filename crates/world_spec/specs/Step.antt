@@ -15,14 +15,14 @@ use Rattle.chain_types.specs.Equal.{digest_eq}
 use Rattle.effects_core.specs.Effects.{digest_of_effects}
 use Rattle.chain_types.specs.Transactions as transactions
 use Rattle.chain_messages.specs.Messages as messages
-use Rattle.chain_spec.specs.Words.{first_some, first_of, where_true}
-use Rattle.chain_spec.specs.Tests.{origins_eq}
-use Rattle.chain_spec.specs.Keys.{objects_of}
-use Rattle.chain_spec.specs.Committee.{weight, total_of, is_quorum}
-use Rattle.member_spec.specs.Versions.{Execution, execution_of}
-use Rattle.member_spec.specs.Sequence.{seen}
-use Rattle.member_spec.specs.Member.{Member}
-use Rattle.member_spec.specs.Calls.{votes, holds, runs, closes, ends, turns, acks}
+use Rattle.protocol_spec.specs.Chain.Words.{first_some, first_of, where_true}
+use Rattle.protocol_spec.specs.Chain.Tests.{origins_eq}
+use Rattle.protocol_spec.specs.Chain.Keys.{objects_of}
+use Rattle.protocol_spec.specs.Chain.Committee.{weight, total_of, is_quorum}
+use Rattle.protocol_spec.specs.Member.Versions.{Execution, execution_of}
+use Rattle.protocol_spec.specs.Member.Sequence.{seen}
+use Rattle.protocol_spec.specs.Member.Member.{Member}
+use Rattle.protocol_spec.specs.Member.Calls.{votes, holds, runs, closes, ends, turns, acks}
 use Rattle.world_spec.specs.Setting.{Name, Setting, member_seal}
 use Rattle.world_spec.specs.World.{Seat, Said, Made, World, said_by, with_seat, called_in, is_honest, member_at, says_first, entries_at, sees_on, list_or_none}
 use Rattle.world_spec.specs.Names.{made_named, cert_named}

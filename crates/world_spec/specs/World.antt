@@ -10,17 +10,17 @@ use Rattle.chain_messages.specs.declared.messages.Certificate.{Certificate}
 use Rattle.chain_messages.specs.declared.messages.Entry.{Entry}
 use Rattle.checkpoint_core.specs.declared.checkpoints.Checkpoint.{Checkpoint}
 use Rattle.journal_core.specs.declared.records.Record.{Record}
-use Rattle.member_types.specs.declared.answers.Seen.{Seen}
-use Rattle.member_types.specs.declared.answers.Ran.{Ran}
-use Rattle.member_types.specs.declared.refusals.VoteRefusal.{VoteRefusal}
-use Rattle.member_types.specs.declared.refusals.SeeRefusal.{SeeRefusal}
-use Rattle.member_types.specs.declared.refusals.RunRefusal.{RunRefusal}
+use Rattle.answer_types.specs.declared.answers.Seen.{Seen}
+use Rattle.answer_types.specs.declared.answers.Ran.{Ran}
+use Rattle.answer_types.specs.declared.refusals.VoteRefusal.{VoteRefusal}
+use Rattle.answer_types.specs.declared.refusals.SeeRefusal.{SeeRefusal}
+use Rattle.answer_types.specs.declared.refusals.RunRefusal.{RunRefusal}
 use Rattle.checkpoint_core.specs.Checkpoints.{digest_of_checkpoint}
 use Rattle.chain_messages.specs.Messages as messages
-use Rattle.chain_spec.specs.Words.{first_some}
-use Rattle.chain_spec.specs.Certificates.{Rules}
-use Rattle.member_spec.specs.Member.{Member, state}
-use Rattle.member_spec.specs.Calls.{Call, votes, holds, sees, runs, closes, ends, turns, acks, Voted, due, vote_answer, see_answer, run_answer, end_answer, ack_answer}
+use Rattle.protocol_spec.specs.Chain.Words.{first_some}
+use Rattle.protocol_spec.specs.Chain.Certificates.{Rules}
+use Rattle.protocol_spec.specs.Member.Member.{Member, state}
+use Rattle.protocol_spec.specs.Member.Calls.{Call, votes, holds, sees, runs, closes, ends, turns, acks, Voted, due, vote_answer, see_answer, run_answer, end_answer, ack_answer}
 use Rattle.world_spec.specs.Setting.{Name, User, Setting}
 
 -- a member: whether it is honest, its records, whether it is up, and an armed stop, which keeps the record or loses it

@@ -15,23 +15,23 @@ use Rattle.chain_messages.specs.Messages.{statement, sealed, member_seal, certif
 use Rattle.effects_core.specs.Effects.{status, written, effects, digest_of_effects}
 use Rattle.checkpoint_core.specs.Checkpoints.{item, checkpoint, digest_of_checkpoint}
 use Rattle.journal_core.specs.Records.{ran_item, journal_record}
-use Rattle.chain_spec.specs.Certificates.{read_signed, read_certificate, read_entry, cert_refusal}
-use Rattle.chain_spec.specs.Committee.{weight_of, total_of}
-use Rattle.chain_spec.specs.Keys.{fits, currency_sum}
-use Rattle.chain_spec.specs.Shape.{shape_fault}
-use Rattle.block_spec.specs.Commands.{command_step}
-use Rattle.block_spec.specs.Execution.{outcome, execution}
-use Rattle.block_spec.specs.Natives.{mode_of, native_gives}
-use Rattle.member_spec.specs.Admission.{current, admit, entered, passed_mark, pending_on, deferred_on, assigned_of}
-use Rattle.member_spec.specs.Calls.{vote_answer, hold_answer, see_answer, run_answer, close_answer, end_answer, turn_answer, ack_answer, due}
-use Rattle.member_spec.specs.Checkpoints.{checkpoint_behind}
-use Rattle.member_spec.specs.Member.{built, fork_of, after, state}
-use Rattle.member_spec.specs.Replay.{is_allowed, replayed}
-use Rattle.member_spec.specs.Rounds.{wants_of, present, ready, round_of, rounds as rounds_of_rounds, left}
-use Rattle.member_spec.specs.Sequence.{what_of, with_entry, saw, seen, seen_what}
-use Rattle.member_spec.specs.Sequential.{map_of, fold_one, fold_all}
-use Rattle.member_spec.specs.Versions.{versions, live, live_list}
-use Rattle.member_spec.specs.Votes.{vote_refusal, vote_origins}
+use Rattle.protocol_spec.specs.Chain.Certificates.{read_signed, read_certificate, read_entry, cert_refusal}
+use Rattle.protocol_spec.specs.Chain.Committee.{weight_of, total_of}
+use Rattle.protocol_spec.specs.Chain.Keys.{fits, currency_sum}
+use Rattle.protocol_spec.specs.Chain.Shape.{shape_fault}
+use Rattle.protocol_spec.specs.Block.Commands.{command_step}
+use Rattle.protocol_spec.specs.Block.Execution.{outcome, execution}
+use Rattle.protocol_spec.specs.Block.Natives.{mode_of, native_gives}
+use Rattle.protocol_spec.specs.Member.Admission.{current, admit, entered, passed_mark, pending_on, deferred_on, assigned_of}
+use Rattle.protocol_spec.specs.Member.Calls.{vote_answer, hold_answer, see_answer, run_answer, close_answer, end_answer, turn_answer, ack_answer, due}
+use Rattle.protocol_spec.specs.Member.Checkpoints.{checkpoint_behind}
+use Rattle.protocol_spec.specs.Member.Member.{built, fork_of, after, state}
+use Rattle.protocol_spec.specs.Member.Replay.{is_allowed, replayed}
+use Rattle.protocol_spec.specs.Member.Rounds.{wants_of, present, ready, round_of, rounds as rounds_of_rounds, left}
+use Rattle.protocol_spec.specs.Member.Sequence.{what_of, with_entry, saw, seen, seen_what}
+use Rattle.protocol_spec.specs.Member.Sequential.{map_of, fold_one, fold_all}
+use Rattle.protocol_spec.specs.Member.Versions.{versions, live, live_list}
+use Rattle.protocol_spec.specs.Member.Votes.{vote_refusal, vote_origins}
 use Rattle.world_spec.specs.Assumptions.{delivered, delivered_ends, asked, all_delivered, all_formed, all_transactions}
 use Rattle.world_spec.specs.Keyed.{keyed_seal}
 use Rattle.world_spec.specs.Making.{made_by_line}

@@ -1,8 +1,9 @@
 use Rattle.std.proofs.Common.{◌∙◌, ap, map, List}
 use Rattle.std.proofs.lemmas.Result.{err_from_is_err_and}
 use Rattle.chain_messages.specs.declared.messages.MemberSeal.{MemberSeal}
-use Rattle.chain_spec.specs.Words.{first_of, unless_refused}
-use Rattle.cert_rules.specs.Parts.{refused_seal, rules_of}
+use Rattle.protocol_spec.specs.Chain.Words.{first_of, unless_refused}
+use Rattle.cert_rules.specs.Parts.{refused_seal}
+use Rattle.protocol_spec.specs.Chain.Certificates.{rules_of}
 use Rattle.cert_rules.proofs.Whole.{at_members, at_objects, at_seals}
 use Rattle.cert_rules.proofs.check.check_cert.Goals as goal
 

@@ -1,5 +1,5 @@
 use Rattle.std.proofs.Common.{◌≡◌, length}
-use Rattle.chain_spec.specs.Words.{first_of}
+use Rattle.protocol_spec.specs.Chain.Words.{first_of}
 use Rattle.cert_rules.specs.Collect.{differs_from}
 use Rattle.cert_rules.proofs.votes.check_others.Given as goal
 

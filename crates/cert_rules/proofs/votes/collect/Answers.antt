@@ -1,7 +1,7 @@
 use Rattle.std.proofs.Common.{ℕ, ◌∙◌, ap, sym, List}
 use Rattle.quorum_core.specs.Committee.{is_roll}
 use Rattle.chain_messages.specs.declared.messages.Sealed.{Sealed}
-use Rattle.chain_spec.specs.Words.{unless_refused}
+use Rattle.protocol_spec.specs.Chain.Words.{unless_refused}
 use Rattle.cert_rules.specs.Collect.{certificate_of, first_differing, too_short, voters}
 use Rattle.cert_rules.proofs.Agreement.{agreed, valid}
 use Rattle.cert_rules.proofs.votes.collect.Goals as goal

@@ -1,6 +1,6 @@
 use Rattle.std.proofs.Common.{◌≡◌, drop}
 use Rattle.std.specs.List.{list_any}
-use Rattle.block_spec.specs.Natives.{other_currency}
+use Rattle.protocol_spec.specs.Block.Natives.{other_currency}
 use Rattle.native_calls.proofs.coins.any_other_currency.Given as goal
 
 -- no coin so far has another currency

@@ -1,6 +1,6 @@
 use Rattle.std.proofs.Common.{◌≡◌, ◌+◌, ◌<◌, ◌^◌, sum_by, length}
-use Rattle.block_types.specs.declared.pieces.Item.{Item}
-use Rattle.block_spec.specs.Natives.{amount_of}
+use Rattle.answer_types.specs.declared.pieces.Item.{Item}
+use Rattle.protocol_spec.specs.Block.Natives.{amount_of}
 use Rattle.native_calls.proofs.coins.sum_from.Given as goal
 
 -- what was added, with what is left, is the whole

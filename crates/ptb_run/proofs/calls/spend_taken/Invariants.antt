@@ -1,5 +1,5 @@
 use Rattle.std.proofs.Common.{◌≡◌, length, map}
-use Rattle.block_spec.specs.Commands as commands
+use Rattle.protocol_spec.specs.Block.Commands as commands
 use Rattle.ptb_run.specs.Blocks.{block_of, rows_of}
 use Rattle.ptb_run.specs.Needs.{wanted_of}
 use Rattle.ptb_run.proofs.calls.spend_taken.Given as goal

@@ -1,8 +1,8 @@
 use Rattle.std.proofs.Common.{◌≡◌, drop, not}
 use Rattle.std.specs.Prelude.{◌==◌}
 use Rattle.std.specs.List.{list_any}
-use Rattle.block_types.specs.declared.pieces.Item.{Item}
-use Rattle.block_spec.specs.Natives.{currency_of}
+use Rattle.answer_types.specs.declared.pieces.Item.{Item}
+use Rattle.protocol_spec.specs.Block.Natives.{currency_of}
 use Rattle.ptb_run.proofs.commands.any_other_currency.Given as goal
 
 abbrev pub invariant-loop-source : goal.invariant-loop-source

@@ -1,6 +1,6 @@
 use Rattle.std.proofs.Common.{◌+◌, ◌∙◌}
-use Rattle.block_spec.specs.Natives.{amount_of}
-use Rattle.block_spec.specs.Commands as commands
+use Rattle.protocol_spec.specs.Block.Natives.{amount_of}
+use Rattle.protocol_spec.specs.Block.Commands as commands
 use Rattle.ptb_run.specs.Blocks.{block_of}
 use Rattle.ptb_run.proofs.Merging.{merge_other, merge_over, merge_done}
 use Rattle.ptb_run.proofs.commands.merge.Goals as goal

@@ -1,5 +1,5 @@
 use Rattle.std.proofs.Common.{◌≡◌, ◌+◌, ◌<◌, ◌^◌, length}
-use Rattle.block_spec.specs.Commands.{sum_of}
+use Rattle.protocol_spec.specs.Block.Commands.{sum_of}
 use Rattle.ptb_run.proofs.commands.sum_from.Given as goal
 
 abbrev pub invariant-loop-rest : goal.invariant-loop-rest

@@ -1,7 +1,7 @@
 use Rattle.std.proofs.Common.{◌∙◌, ap}
 use Rattle.chain_types.specs.declared.objects.Address.{Address}
 use Rattle.chain_types.specs.declared.objects.Owner.TheVariants as owner
-use Rattle.block_spec.specs.Commands as commands
+use Rattle.protocol_spec.specs.Block.Commands as commands
 use Rattle.ptb_run.specs.Blocks.{block_of}
 use Rattle.ptb_run.proofs.Leaving.{transfer_is}
 use Rattle.ptb_run.proofs.commands.transfer.Goals as goal

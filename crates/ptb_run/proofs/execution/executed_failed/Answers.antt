@@ -1,5 +1,5 @@
 use Rattle.std.proofs.Common.{List, [], ◌∷◌, ap, ◌∙◌}
-use Rattle.block_spec.specs.Execution.{less_cost_first}
+use Rattle.protocol_spec.specs.Block.Execution.{less_cost_first}
 use Rattle.ptb_run.specs.declared.written.Moved.{Moved}
 use Rattle.ptb_run.specs.Outcomes.{fault_of}
 use Rattle.ptb_run.specs.Remains.{same_after}

@@ -1,6 +1,6 @@
 use Rattle.std.proofs.Common.{◌≡◌, length, filter}
 use Rattle.chain_types.specs.Digests.{is_object}
-use Rattle.chain_spec.specs.Keys.{fit_inputs}
+use Rattle.protocol_spec.specs.Chain.Keys.{fit_inputs}
 use Rattle.ptb_run.proofs.fitting.fit_inputs.Given as goal
 
 -- what is left fits as the whole does

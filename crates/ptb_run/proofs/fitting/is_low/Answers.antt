@@ -4,7 +4,7 @@ use Rattle.std.specs.Prelude.{nat_lt}
 use Rattle.std.proofs.lemmas.Bool.{ltb-true, ltb-false, lt-ltb, le-ltb}
 use Rattle.chain_types.specs.declared.objects.Object.{Object}
 use Rattle.chain_types.specs.Digests.{lamport_version}
-use Rattle.chain_spec.specs.Keys.{version_limit, version_of}
+use Rattle.protocol_spec.specs.Chain.Keys.{version_limit, version_of}
 use Rattle.ptb_run.specs.Versions.{greatest_version}
 use Rattle.ptb_run.proofs.fitting.is_low.Goals as goal
 

@@ -1,7 +1,7 @@
 use Rattle.std.proofs.Common.{◌≡◌, ◌+◌, ◌*◌, ◌≤◌, false, length}
 use Rattle.std.specs.List.{list_any}
-use Rattle.block_spec.specs.Execution.{commands_from}
-use Rattle.chain_spec.specs.Shape.{is_no_native}
+use Rattle.protocol_spec.specs.Block.Execution.{commands_from}
+use Rattle.protocol_spec.specs.Chain.Shape.{is_no_native}
 use Rattle.ptb_run.specs.Blocks.{block_of, rows_of}
 use Rattle.ptb_run.specs.Outcomes.{is_wide}
 use Rattle.ptb_run.proofs.run.run_commands.Given as goal

@@ -1,6 +1,6 @@
 use Rattle.std.proofs.Common.{◌≡◌, drop}
 use Rattle.std.specs.List.{list_any}
-use Rattle.chain_spec.specs.Shape.{is_late}
+use Rattle.protocol_spec.specs.Chain.Shape.{is_late}
 use Rattle.tx_check.proofs.arguments.any_late.Given as goal
 
 abbrev pub invariant-loop-argument : goal.invariant-loop-argument

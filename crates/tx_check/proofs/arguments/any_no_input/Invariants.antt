@@ -1,6 +1,6 @@
 use Rattle.std.proofs.Common.{◌≡◌, drop}
 use Rattle.std.specs.List.{list_any}
-use Rattle.chain_spec.specs.Shape.{is_no_input}
+use Rattle.protocol_spec.specs.Chain.Shape.{is_no_input}
 use Rattle.tx_check.proofs.arguments.any_no_input.Given as goal
 
 abbrev pub invariant-loop-argument : goal.invariant-loop-argument

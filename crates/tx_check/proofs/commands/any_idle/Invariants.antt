@@ -1,6 +1,6 @@
 use Rattle.std.proofs.Common.{◌≡◌, drop}
 use Rattle.std.specs.List.{list_any}
-use Rattle.chain_spec.specs.Shape.{is_idle}
+use Rattle.protocol_spec.specs.Chain.Shape.{is_idle}
 use Rattle.tx_check.proofs.commands.any_idle.Given as goal
 
 abbrev pub invariant-loop-command : goal.invariant-loop-command

@@ -1,7 +1,7 @@
 use Rattle.std.proofs.Common.{◌≡◌, length, drop}
 use Rattle.std.specs.List.{list_any}
 use Rattle.std.specs.Prelude.{nat_lt}
-use Rattle.chain_spec.specs.Shape.{arguments_of}
+use Rattle.protocol_spec.specs.Chain.Shape.{arguments_of}
 use Rattle.tx_check.proofs.commands.any_wide.Given as goal
 
 abbrev pub invariant-loop-command : goal.invariant-loop-command

@@ -1,7 +1,6 @@
 use Rattle.std.proofs.Common.{◌≡◌, drop}
-use Rattle.std.specs.List.{list_any}
-use Rattle.std.specs.List.{enumerate_from}
-use Rattle.chain_spec.specs.Shape.{names_late}
+use Rattle.std.specs.List.{list_any, enumerate_from}
+use Rattle.protocol_spec.specs.Chain.Shape.{names_late}
 use Rattle.tx_check.proofs.commands.names_late.Given as goal
 
 abbrev pub invariant-loop-command : goal.invariant-loop-command

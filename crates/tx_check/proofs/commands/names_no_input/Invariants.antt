@@ -1,6 +1,6 @@
 use Rattle.std.proofs.Common.{◌≡◌, drop}
 use Rattle.std.specs.List.{list_any}
-use Rattle.chain_spec.specs.Shape.{arguments_of, is_no_input}
+use Rattle.protocol_spec.specs.Chain.Shape.{arguments_of, is_no_input}
 use Rattle.tx_check.proofs.commands.names_no_input.Given as goal
 
 abbrev pub invariant-loop-command : goal.invariant-loop-command

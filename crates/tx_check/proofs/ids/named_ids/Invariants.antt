@@ -1,6 +1,6 @@
 use Rattle.std.proofs.Common.{◌≡◌, ◌∷◌, take}
 use Rattle.std.specs.Prelude.{filter_map}
-use Rattle.chain_spec.specs.Keys.{named_id}
+use Rattle.protocol_spec.specs.Chain.Keys.{named_id}
 use Rattle.tx_check.proofs.ids.named_ids.Given as goal
 
 abbrev pub invariant-loop-input : goal.invariant-loop-input

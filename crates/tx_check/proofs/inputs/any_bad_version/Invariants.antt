@@ -1,6 +1,6 @@
 use Rattle.std.proofs.Common.{◌≡◌, drop}
 use Rattle.std.specs.List.{list_any}
-use Rattle.chain_spec.specs.Shape.{names_bad_version}
+use Rattle.protocol_spec.specs.Chain.Shape.{names_bad_version}
 use Rattle.tx_check.proofs.inputs.any_bad_version.Given as goal
 
 abbrev pub invariant-loop-input : goal.invariant-loop-input

@@ -1,5 +1,5 @@
-use Rattle.member_spec.specs.Calls.{due, holds}
-use Rattle.member_core.specs.Answers.{rules_for}
+use Rattle.protocol_spec.specs.Member.Calls.{due, holds}
+use Rattle.scene_spec.specs.RulesFor.{rules_for}
 use Rattle.validator_core.proofs.Casting.{fork_due, hold_called, new_due}
 use Rattle.validator_core.proofs.calls.hold.Goals as goal
 

@@ -1,7 +1,7 @@
 use Rattle.std.proofs.Common.{Some}
 use Rattle.journal_core.specs.declared.records.Record.TheVariants as record_as
-use Rattle.member_spec.specs.Calls.{due, votes}
-use Rattle.member_core.specs.Answers.{sealed_as}
+use Rattle.protocol_spec.specs.Member.Calls.{due, votes}
+use Rattle.validator_core.specs.Answers.{sealed_as}
 use Rattle.validator_core.proofs.Casting.{fresh_due, vote_called}
 use Rattle.validator_core.proofs.calls.vote.Goals as goal
 

@@ -2,9 +2,9 @@ use Rattle.std.proofs.Common.{◌≡◌, Bool, true, false, Some, ◌∙◌, ap,
 use Rattle.std.specs.Prelude.{Result, Err}
 use Rattle.std.proofs.lemmas.Result.{err_from_is_err_and}
 use Rattle.journal_core.specs.declared.records.Record.TheVariants as record_as
-use Rattle.member_types.specs.declared.refusals.CloseRefusal.{CloseRefusal}
-use Rattle.member_spec.specs.Calls.{closes, due}
-use Rattle.member_core.specs.Answers.{bare}
+use Rattle.answer_types.specs.declared.refusals.CloseRefusal.{CloseRefusal}
+use Rattle.protocol_spec.specs.Member.Calls.{closes, due}
+use Rattle.validator_core.specs.Answers.{bare}
 use Rattle.validator_core.specs.Calls.{close_ended, unkept_close}
 use Rattle.validator_core.specs.Seats.{Journaled, answered}
 use Rattle.validator_core.proofs.Running.{close_due, close_goes, close_maybe_kept, close_unkept, is_kept, journals_same}

@@ -3,12 +3,12 @@ use Rattle.std.specs.Prelude.{Result, Err}
 use Rattle.std.proofs.lemmas.Result.{err_from_is_err_and}
 use Rattle.effects_core.specs.declared.effects.Effects.{Effects}
 use Rattle.journal_core.specs.declared.records.RanItem.{RanItem}
-use Rattle.member_types.specs.declared.answers.Ran.{Ran}
-use Rattle.member_types.specs.declared.refusals.RunRefusal.{RunRefusal}
-use Rattle.member_spec.specs.Member.{Member}
-use Rattle.member_spec.specs.Calls.{due, ran_items, ran_record, runs}
-use Rattle.member_core.specs.Answers.{bare}
-use Rattle.member_core.specs.Steps.{counted_where, items_of}
+use Rattle.answer_types.specs.declared.answers.Ran.{Ran}
+use Rattle.answer_types.specs.declared.refusals.RunRefusal.{RunRefusal}
+use Rattle.protocol_spec.specs.Member.Member.{Member}
+use Rattle.protocol_spec.specs.Member.Calls.{due, ran_items, ran_record, runs}
+use Rattle.validator_core.specs.Answers.{bare}
+use Rattle.validator_core.specs.Steps.{counted_where, items_of}
 use Rattle.validator_core.specs.Calls.{run_ended, unkept_run}
 use Rattle.validator_core.specs.Seats.{Journaled}
 use Rattle.validator_core.proofs.Running.{is_kept, run_called, run_due, run_goes, run_maybe_kept, run_unkept}

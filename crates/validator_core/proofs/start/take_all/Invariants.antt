@@ -1,6 +1,6 @@
 use Rattle.std.proofs.Common.{◌≡◌, ◌+◌, length}
-use Rattle.member_core.specs.Answers.{rules_for}
-use Rattle.validator_core.specs.Starts.{started_from}
+use Rattle.scene_spec.specs.RulesFor.{rules_for}
+use Rattle.scene_spec.specs.Starts.{started_from}
 use Rattle.validator_core.proofs.start.take_all.Given as goal
 
 -- the records that are left come to what all come to

@@ -1,5 +1,5 @@
 use Rattle.std.proofs.Common.{◌∙◌, ap, sym}
-use Rattle.member_spec.specs.Versions.{id_cmp, with_live}
+use Rattle.protocol_spec.specs.Member.Versions.{id_cmp, with_live}
 use Rattle.version_store.proofs.Places.{entry_put}
 use Rattle.version_store.proofs.live.add_live.Goals as goal
 

@@ -1,5 +1,5 @@
 use Rattle.std.proofs.Common.{◌≡◌, length}
-use Rattle.chain_spec.specs.Words.{first_of}
+use Rattle.protocol_spec.specs.Chain.Words.{first_of}
 use Rattle.vote_rules.specs.Cases.{ballot_of, says}
 use Rattle.vote_rules.proofs.case.first_among.Given as goal
 

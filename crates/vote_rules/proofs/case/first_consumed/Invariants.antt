@@ -1,6 +1,6 @@
 use Rattle.std.proofs.Common.{◌≡◌, length}
-use Rattle.chain_spec.specs.Words.{first_of}
-use Rattle.member_spec.specs.Votes.{consumed}
+use Rattle.protocol_spec.specs.Chain.Words.{first_of}
+use Rattle.protocol_spec.specs.Member.Votes.{consumed}
 use Rattle.vote_rules.specs.Cases.{ballot_of}
 use Rattle.vote_rules.proofs.case.first_consumed.Given as goal
 

@@ -2,7 +2,7 @@ use Rattle.std.proofs.Common.{◌≡◌, ◌++◌, ◌∷◌, drop, map}
 use Rattle.std.specs.Prelude.{filter}
 use Rattle.chain_types.specs.declared.transactions.Input.TheVariants as inputs
 use Rattle.chain_types.specs.Digests.{is_object}
-use Rattle.member_spec.specs.Votes.{origin_of}
+use Rattle.protocol_spec.specs.Member.Votes.{origin_of}
 use Rattle.vote_rules.specs.Cases.{ballot_of}
 use Rattle.vote_rules.proofs.origin.origins.Given as goal
 

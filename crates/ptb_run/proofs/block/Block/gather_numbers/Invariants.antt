@@ -1,6 +1,6 @@
 use Rattle.std.proofs.Common.{◌≡◌, true, [], length}
 use Rattle.std.specs.List.{list_all}
-use Rattle.block_spec.specs.Commands as commands
+use Rattle.protocol_spec.specs.Block.Commands as commands
 use Rattle.ptb_run.specs.Blocks.{block_of}
 use Rattle.ptb_run.specs.Gathering.{numbers_after}
 use Rattle.ptb_run.specs.Takes.{is_taken}

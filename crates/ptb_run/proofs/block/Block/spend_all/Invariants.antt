@@ -1,5 +1,5 @@
 use Rattle.std.proofs.Common.{◌≡◌, length}
-use Rattle.block_spec.specs.Commands.{spend_all}
+use Rattle.protocol_spec.specs.Block.Commands.{spend_all}
 use Rattle.ptb_run.specs.Blocks.{block_of, rows_of}
 use Rattle.ptb_run.proofs.block.Block.spend_all.Given as goal
 

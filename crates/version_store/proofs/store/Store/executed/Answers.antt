@@ -1,5 +1,5 @@
 use Rattle.std.proofs.Common.{◌≡◌, ◌∙◌, ap, drop, map, option_map}
-use Rattle.member_spec.specs.Versions.{execution_of}
+use Rattle.protocol_spec.specs.Member.Versions.{execution_of}
 use Rattle.version_store.specs.Kept.{kept_object}
 use Rattle.version_store.specs.Stores.{Stored}
 use Rattle.version_store.specs.declared.maps.Ran.{Ran}

@@ -1,5 +1,5 @@
 use Rattle.std.proofs.Common.{◌≡◌, ◌∙◌, Some, None, ap, cond, sym}
-use Rattle.member_spec.specs.Rounds.{found}
+use Rattle.protocol_spec.specs.Member.Rounds.{found}
 use Rattle.version_store.specs.Kept.{stored}
 use Rattle.version_store.specs.Stores.{held_in, wanted_of}
 use Rattle.version_store.proofs.Makers.{found_by}

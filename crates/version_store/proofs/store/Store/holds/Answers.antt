@@ -1,7 +1,7 @@
 use Rattle.std.proofs.Common.{◌∙◌, ap, is_some}
 use Rattle.std.specs.Map.{lookup}
 use Rattle.chain_types.specs.Equal.{key_eq}
-use Rattle.member_spec.specs.Rounds.{holds_key}
+use Rattle.protocol_spec.specs.Member.Rounds.{holds_key}
 use Rattle.version_store.specs.Stores.{held_in}
 use Rattle.version_store.specs.Kept.{stored}
 use Rattle.version_store.proofs.News.{holds_kept}

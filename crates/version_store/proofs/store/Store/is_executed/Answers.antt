@@ -1,5 +1,5 @@
 use Rattle.std.proofs.Common.{◌∙◌, ap, drop, is_some, map}
-use Rattle.member_spec.specs.Versions.{is_executed}
+use Rattle.protocol_spec.specs.Member.Versions.{is_executed}
 use Rattle.version_store.specs.Kept.{kept_object}
 use Rattle.version_store.specs.Stores.{Stored}
 use Rattle.version_store.proofs.Executions.{has_ran}

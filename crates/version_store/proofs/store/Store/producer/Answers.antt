@@ -1,5 +1,5 @@
 use Rattle.std.proofs.Common.{◌≡◌, ◌∙◌, ap, refl, option_map}
-use Rattle.member_spec.specs.Versions.{Version, version_at}
+use Rattle.protocol_spec.specs.Member.Versions.{Version, version_at}
 use Rattle.version_store.specs.Stores.{held_in}
 use Rattle.version_store.specs.Kept.{stored}
 use Rattle.version_store.specs.declared.maps.Kept.{Kept}

@@ -1,7 +1,7 @@
 use Rattle.std.proofs.Common.{◌∙◌, ap, sym, map}
 use Rattle.std.proofs.lemmas.List.{drop_all}
 use Rattle.world_spec.specs.Making.{drawn_input, drawn_word}
-use Rattle.world_names.specs.Known.{world_with}
+use Rattle.scene_spec.specs.Known.{world_with}
 use Rattle.world_names.specs.Rows.{drawn_of}
 use Rattle.world_names.specs.Collected.{all_some}
 use Rattle.world_names.proofs.Collected.{words_added}

@@ -1,6 +1,6 @@
 use Rattle.std.proofs.Common.{◌≡◌, [], drop, map}
 use Rattle.world_spec.specs.Making.{drawn_input, drawn_word}
-use Rattle.world_names.specs.Known.{world_with}
+use Rattle.scene_spec.specs.Known.{world_with}
 use Rattle.world_names.specs.Rows.{drawn_of}
 use Rattle.world_names.specs.Collected.{all_some, with_some}
 use Rattle.world_names.proofs.directory.Directory.drawn_words.Given as goal

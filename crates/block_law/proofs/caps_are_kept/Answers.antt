@@ -1,5 +1,0 @@
-use Rattle.block_law.proofs.Keeping.{caps_kept}
-use Rattle.block_law.proofs.caps_are_kept.Goals as goal
-
-pub returns : goal.returns
-returns c = caps_kept

@@ -1,5 +1,0 @@
-use Rattle.block_law.proofs.Effects.{name_touched}
-use Rattle.block_law.proofs.effects_name_what_is_touched.Goals as goal
-
-pub returns : goal.returns
-returns c = name_touched

@@ -1,0 +1,13 @@
+//! What an execution makes of shared objects: they keep their places, and nothing but their own transaction shares them.
+ghost use Rattle.block_law.specs.Shared.{SharedInputsAreWritten, WritesStayShared};
+
+/// The object of a mutable shared input is written under its id and with its owner, in success and in failure.
+pub fn shared_inputs_are_written()
+    ensures { SharedInputsAreWritten }
+{}
+
+/// A written object is shared since the version since which it was, and a new one since the version of the transaction,
+/// if at all.
+pub fn writes_stay_shared()
+    ensures { WritesStayShared }
+{}

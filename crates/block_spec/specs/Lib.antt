@@ -1,4 +1,0 @@
-pub mod Natives
-pub mod Block
-pub mod Commands
-pub mod Execution

@@ -1,2 +1,0 @@
-//! Definitions of a block's execution: the natives, one command, a whole transaction.
-#![tactic(auto)]

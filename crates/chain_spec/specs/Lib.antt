@@ -1,6 +1,0 @@
-pub mod Words
-pub mod Tests
-pub mod Keys
-pub mod Shape
-pub mod Committee
-pub mod Certificates

@@ -1,6 +1,0 @@
-use Rattle.std.proofs.Common.{◌≡◌, take}
-use Rattle.committee.specs.Report.{lines_text}
-use Rattle.committee.proofs.event.print_lines.Given as goal
-
-abbrev pub invariant-loop-line : goal.invariant-loop-line
-invariant-loop-line l = l.text ≡ lines_text (take l.line-index l.lines)

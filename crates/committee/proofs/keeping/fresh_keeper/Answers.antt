@@ -1,5 +1,0 @@
-use Rattle.committee.proofs.Opening.{fresh_kept}
-use Rattle.committee.proofs.keeping.fresh_keeper.Goals as goal
-
-pub returns-clause-empty : goal.returns-clause-empty
-returns-clause-empty c = fresh_kept 64 (record { calls = 0; failing = c.args.failing.now }) c.new.result c.new.ensures

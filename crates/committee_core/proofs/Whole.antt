@@ -1,0 +1,76 @@
+-- Texts and runs that ended, or were cut.
+use Rattle.std.proofs.Common.{◌≡◌, ℕ, ◌≤◌, inl, Bool, true, false, List, [], ◌++◌, length, Option, Some, None, Result, Ok, Err, nat_lt, if◌then◌else◌, refl, sym, ap, subst, append_assoc, arith}
+use Rattle.std.proofs.lemmas.Bool.Decides.{nat_tests}
+use Rattle.std.proofs.KnownBytes.{Appends-nil}
+use Rattle.std.specs.Str.{bytes_eq}
+use Rattle.digest_core.specs.declared.TheConstants.{TAG_SEAL}
+use Rattle.digest_core.specs.Tagged.{tagged_digest}
+use Rattle.quorum_core.specs.declared.signer.Signer.{Signer}
+use Rattle.quorum_core.specs.Signers as codecs
+use Rattle.quorum_core.specs.Seals.{keyed_seal as sealed_under}
+use Rattle.outside.specs.Lists.{Journals, KeepsJournals}
+use Rattle.schedule_text.specs.declared.words.Schedule.{Schedule}
+use Rattle.schedule_text.specs.Forms.{schedule_within}
+use Rattle.schedule_text.specs.Schedule.{Refused, longest_text, schedule_of}
+use Rattle.world_spec.specs.Setting.{Trust}
+use Rattle.world_spec.specs.Keyed.{keyed, keyed_seal, program_secret}
+use Rattle.world_spec.specs.Run.{journal}
+use Rattle.world_core.specs.Trusts.{trust_by}
+use Rattle.committee_core.specs.Headline.{program_trust}
+use Rattle.committee_core.specs.Journals.{AreEmpty, KeepsFronts}
+use Rattle.committee_core.specs.Report.{readable, refusal_text, report_text, setting_in}
+use Rattle.committee_core.specs.Streams.{AppendsFront}
+use Rattle.committee_core.specs.Ways.{RunsCut, TextCut}
+
+-- ---- nothing was done yet
+
+empty-fronts : (trust : Trust) (s : Schedule) (start : Option Journals) → AreEmpty start → KeepsFronts trust s start start
+empty-fronts trust s None empty = tt
+empty-fronts trust s (Some lists) empty =
+    (lists, refl, λ m. (journal (setting_in trust s) s.events m, sym (ap (λ (l : List (List ℕ)). l ++ journal (setting_in trust s) s.events m) (empty m))))
+
+pub nothing_run : (trust : Trust) (s : Schedule) (held : Option (List ℕ)) (start : Option Journals) → AreEmpty start → RunsCut trust s held held start start
+nothing_run trust s held start empty = inl (record { written = λ reads. ([], report_text trust s, refl, Appends-nil held); journals = empty-fronts trust s start empty })
+
+pub keeps_same : (start : Option Journals) → KeepsJournals start start
+keeps_same None = tt
+keeps_same (Some lists) = refl
+
+pub nothing_done : (trust : Trust) (r : Result Schedule Refused) (held : Option (List ℕ)) (start : Option Journals) → AreEmpty start → TextCut trust r held held start start
+nothing_done trust (Ok s) held start empty = nothing_run trust s held start empty
+nothing_done trust (Err r) held start empty = (([], refusal_text r, refl, Appends-nil held), keeps_same start)
+
+pub schedule_cut : (trust : Trust) (text : List ℕ) (s : Schedule) (held held' : Option (List ℕ)) (kept kept' : Option Journals) → readable text ≡ Ok s → RunsCut trust s held held' kept kept' → TextCut trust (readable text) held held' kept kept'
+schedule_cut trust text s held held' kept kept' is cut = subst (λ (r : Result Schedule Refused). TextCut trust r held held' kept kept') (sym is) cut
+
+pub refusal_cut : (trust : Trust) (text : List ℕ) (r : Refused) (held held' : Option (List ℕ)) (kept : Option Journals) → readable text ≡ Err r → AppendsFront held held' (refusal_text r) → TextCut trust (readable text) held held' kept kept
+refusal_cut trust text r held held' kept is cut = subst (λ (x : Result Schedule Refused). TextCut trust x held held' kept kept) (sym is) (cut, keeps_same kept)
+
+-- ---- the program's seals
+
+same-seal : (secret : List ℕ) (signer : Signer) (bytes : List ℕ) → sealed_under secret signer bytes ≡ keyed_seal secret signer bytes
+unfolding sealed_under keyed_seal
+same-seal secret signer bytes = ap (tagged_digest TAG_SEAL) (append_assoc secret (codecs.signer.spell signer) bytes)
+
+keyed-seals : (secret : List ℕ) → trust_by (λ signer bytes. sealed_under secret signer bytes) (λ signer bytes seal. bytes_eq seal.0 (sealed_under secret signer bytes).0) ≡ keyed secret
+keyed-seals secret = λ i. record {
+  seal = λ signer bytes. same-seal secret signer bytes i;
+  accepts = λ signer bytes seal. bytes_eq seal.0 (same-seal secret signer bytes i).0;
+}
+
+pub program_seals : (secret : List ℕ) → secret ≡ program_secret → trust_by (λ signer bytes. sealed_under secret signer bytes) (λ signer bytes seal. bytes_eq seal.0 (sealed_under secret signer bytes).0) ≡ program_trust
+unfolding program_trust
+program_seals secret is = subst (λ (x : List ℕ). trust_by (λ signer bytes. sealed_under secret signer bytes) (λ signer bytes seal. bytes_eq seal.0 (sealed_under secret signer bytes).0) ≡ keyed x) is (keyed-seals secret)
+
+-- ---- a whole text
+
+-- what is read where longer texts are refused is not longer
+short_where : (limit n : ℕ) (long : Bool) (refused : Refused) (rest within : Result Schedule Refused) (s : Schedule) → long ≡ nat_lt limit n
+    → (if long then (if long then Err refused else rest) else within) ≡ Ok s → n ≤ limit
+short_where limit n true refused rest within s is e = absurd (cc)
+short_where limit n false refused rest within s is e = grind (arith, nat_tests)
+
+-- a schedule is no longer than the limit
+pub short : (text : List ℕ) (s : Schedule) → readable text ≡ Ok s → length text ≤ longest_text
+unfolding schedule_within schedule_of
+short text s e = short_where longest_text (length text) (nat_lt longest_text (length text)) _ _ _ s refl e

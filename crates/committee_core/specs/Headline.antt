@@ -1,0 +1,79 @@
+-- What the program promises of the bytes that it reads and writes, and of the records that it keeps.
+use Rattle.std.specs.Prelude.{◌≡◌, ◌⊎◌, ℕ, List, [], ◌∷◌, ◌++◌, Option, Ok, Err, codes}
+use Rattle.std.specs.Io.KnownBytes.{Appends, Consumes, IsAtEnd, Keeps}
+use Rattle.outside.specs.Lists.{Journals, KeepsJournals}
+use Rattle.chain_types.specs.declared.objects.ObjectKey.{ObjectKey}
+use Rattle.chain_types.specs.Digests.{consumed_keys}
+use Rattle.chain_messages.specs.declared.messages.Certificate.{Certificate}
+use Rattle.schedule_text.specs.declared.words.Event.{Event}
+use Rattle.schedule_text.specs.declared.words.Schedule.{Schedule}
+use Rattle.schedule_text.specs.Schedule.{Refused, longest_text}
+use Rattle.protocol_spec.specs.Chain.Words.{Has}
+use Rattle.world_spec.specs.Setting.{Setting, Trust}
+use Rattle.world_spec.specs.Keyed.{keyed, program_secret}
+use Rattle.world_spec.specs.Assumptions.{IsCertified, IsHonestRun}
+use Rattle.committee_core.specs.Report.{readable, refusal_text, setting_in}
+use Rattle.committee_core.specs.Streams.{ReadsText}
+use Rattle.committee_core.specs.Ways.{MeetsBadRecord, RunsWhole, TextCut}
+
+-- the words are exactly `run`
+abbrev pub IsRun : List (List ℕ) → Type 0
+IsRun words = words ≡ codes "run" ∷ []
+
+-- the seals of the program
+unfoldable pub program_trust : Trust
+program_trust = keyed program_secret
+
+-- two certificates of one epoch that consume one version are of one transaction
+abbrev pub NeverConsumedTwice : Setting → List Event → Type 0
+NeverConsumedTwice s events = (c d : Certificate) → IsCertified s events c → IsCertified s events d → c.tx.epoch ≡ d.tx.epoch
+    → (key : ObjectKey) → Has (consumed_keys c.tx) key → Has (consumed_keys d.tx) key → c.tx ≡ d.tx
+
+-- under the run assumptions of these lines no two transactions on one object version are certified in one epoch
+abbrev pub ConsumesOnce : Schedule → List Event → Type 0
+ConsumesOnce s events = IsHonestRun (setting_in program_trust s) events → NeverConsumedTwice (setting_in program_trust s) events
+
+-- so it is of each front of the lines, whichever of them ran
+abbrev pub FrontsConsumeOnce : Schedule → Type 0
+FrontsConsumeOnce s = (front rest : List Event) → s.events ≡ front ++ rest → ConsumesOnce s front
+
+-- a whole run: nothing is left of the source, the bytes read are a schedule, its report is written and its journals
+-- are kept, and under the run assumptions no two transactions on one object version are certified in one epoch
+pub record IsWhole (left left' held held' : Option (List ℕ)) (kept kept' : Option Journals) : Type 0 where
+  pub text : List ℕ
+  pub schedule : Schedule
+  pub read : Consumes left left' text
+  pub ended : IsAtEnd left'
+  pub is : readable text ≡ Ok schedule
+  pub runs : RunsWhole program_trust schedule held held' kept kept'
+  pub apart : ConsumesOnce schedule schedule.events
+
+-- the bytes read, to the end or to one past the limit, are no schedule, and the line that says why was written
+pub record IsRefused (left left' held held' : Option (List ℕ)) (kept kept' : Option Journals) : Type 0 where
+  pub text : List ℕ
+  pub refused : Refused
+  pub read : ReadsText longest_text left left' text
+  pub is : readable text ≡ Err refused
+  pub written : Appends held held' (refusal_text refused)
+  pub stays : KeepsJournals kept kept'
+
+-- the text was read whole, it is a schedule, and a record that was read back is bad
+pub record IsBad (left left' held held' : Option (List ℕ)) (kept : Option Journals) : Type 0 where
+  pub text : List ℕ
+  pub schedule : Schedule
+  pub read : Consumes left left' text
+  pub ended : IsAtEnd left'
+  pub is : readable text ≡ Ok schedule
+  pub meets : MeetsBadRecord program_trust schedule Appends held held' kept
+  pub apart : FrontsConsumeOnce schedule
+
+-- the text was read whole, and a front of what is to be written and kept for it was written and kept
+pub record WritesFront (left left' held held' : Option (List ℕ)) (kept kept' : Option Journals) : Type 0 where
+  pub text : List ℕ
+  pub read : ReadsText longest_text left left' text
+  pub cut : TextCut program_trust (readable text) held held' kept kept'
+  pub apart : (s : Schedule) → readable text ≡ Ok s → FrontsConsumeOnce s
+
+-- a run that was cut: nothing was written and kept, or a front
+abbrev pub IsCut : Option (List ℕ) → Option (List ℕ) → Option (List ℕ) → Option (List ℕ) → Option Journals → Option Journals → Type 0
+IsCut left left' held held' kept kept' = (Keeps held held' × KeepsJournals kept kept') ⊎ WritesFront left left' held held' kept kept'

@@ -1,0 +1,39 @@
+-- The report of a run, as bytes.
+use Rattle.std.specs.Prelude.{ℕ, List, Result}
+use Rattle.std.specs.List.{flat_map}
+use Rattle.report_text.specs.declared.lines.Line.{Line}
+use Rattle.report_text.specs.declared.lines.Line.TheVariants as line
+use Rattle.report_text.specs.Text.{text_of}
+use Rattle.schedule_text.specs.declared.words.Schedule.{Schedule}
+use Rattle.schedule_text.specs.Forms.{schedule_within}
+use Rattle.schedule_text.specs.Schedule.{Refused}
+use Rattle.protocol_spec.specs.Chain.Words.{Each}
+use Rattle.world_spec.specs.Setting.{Setting, Trust, setting_of}
+use Rattle.world_spec.specs.Run.{report_of}
+use Rattle.scene_spec.specs.Worlds.{IsTrueOf, is_plain, is_plain_setup}
+use Rattle.world_core.specs.Forms.{is_plain_form}
+
+-- the schedule that bytes are, where all its lines have a form that is run
+abbrev pub readable : List ℕ → Result Schedule Refused
+readable text = schedule_within is_plain_form text
+
+-- what the set-up lines of a schedule fix
+abbrev pub setting_in : Trust → Schedule → Setting
+setting_in trust s = setting_of trust s.setup
+
+-- the bytes of lines
+abbrev pub lines_text : List Line → List ℕ
+lines_text lines = flat_map text_of lines
+
+-- the report of a schedule
+abbrev pub report_text : Trust → Schedule → List ℕ
+report_text trust s = lines_text (report_of trust s)
+
+-- the one line of a refusal
+abbrev pub refusal_text : Refused → List ℕ
+refusal_text r = text_of (line.Refused r.line r.cause)
+
+-- all lines have a form that runs without a sequence
+pub record IsPlain (s : Schedule) : Type 0 where
+  pub setup : Each (IsTrueOf is_plain_setup) s.setup
+  pub events : Each (IsTrueOf is_plain) s.events

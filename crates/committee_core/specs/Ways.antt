@@ -1,0 +1,49 @@
+-- How the run of a schedule ends: what is written and kept then. Each speaks of the bytes and the lists before and behind it.
+use Rattle.std.specs.Prelude.{◌≡◌, ◌⊎◌, ℕ, List, ◌∷◌, ◌++◌, Option, None, Result, Ok, Err}
+use Rattle.std.specs.Io.KnownBytes.{Appends}
+use Rattle.outside.specs.Lists.{Journals, KeepsJournals}
+use Rattle.report_text.specs.declared.lines.Line.TheVariants as line
+use Rattle.report_text.specs.declared.lines.RestartText.TheVariants as restart_text
+use Rattle.report_text.specs.Text.{text_of}
+use Rattle.schedule_text.specs.declared.words.Event.{Event}
+use Rattle.schedule_text.specs.declared.words.Event.TheVariants as event
+use Rattle.schedule_text.specs.declared.words.Schedule.{Schedule}
+use Rattle.schedule_text.specs.Schedule.{Refused}
+use Rattle.world_spec.specs.Setting.{Trust}
+use Rattle.world_spec.specs.Run.{report}
+use Rattle.committee_core.specs.Journals.{KeepsFronts, KeepsRun, ReadsBack}
+use Rattle.committee_core.specs.Report.{lines_text, refusal_text, report_text, setting_in}
+use Rattle.committee_core.specs.Streams.{AppendsFront}
+
+-- all events ran
+pub record RunsWhole (trust : Trust) (s : Schedule) (held held' : Option (List ℕ)) (kept kept' : Option Journals) : Type 0 where
+  pub written : ReadsBack kept s.events → Appends held held' (report_text trust s)
+  pub journals : KeepsRun trust s kept kept'
+
+-- the run was cut
+pub record RunsFront (trust : Trust) (s : Schedule) (held held' : Option (List ℕ)) (kept kept' : Option Journals) : Type 0 where
+  pub written : ReadsBack kept s.events → AppendsFront held held' (report_text trust s)
+  pub journals : KeepsFronts trust s kept kept'
+
+abbrev pub bad_record_text : ℕ → ℕ → List ℕ
+bad_record_text member place = text_of (line.Restart member (restart_text.BadRecord place))
+
+-- a record that was read back is bad: the report of the lines before it is written, and the line that says so.
+-- A keeper that tells its lists gives none.
+pub record MeetsBadRecord (trust : Trust) (s : Schedule) (Writes : Option (List ℕ) → Option (List ℕ) → List ℕ → Type 0) (held held' : Option (List ℕ)) (kept : Option Journals) : Type 0 where
+  pub front : List Event
+  pub back : List Event
+  pub member : ℕ
+  pub place : ℕ
+  pub restarts : s.events ≡ front ++ event.Restart member ∷ back
+  pub untold : kept ≡ None
+  pub written : ReadsBack kept front → Writes held held' (lines_text (report (setting_in trust s) front) ++ bad_record_text member place)
+
+-- a run that did not end: cut, or cut where it says that a record is bad
+abbrev pub RunsCut : Trust → Schedule → Option (List ℕ) → Option (List ℕ) → Option Journals → Option Journals → Type 0
+RunsCut trust s held held' kept kept' = RunsFront trust s held held' kept kept' ⊎ MeetsBadRecord trust s AppendsFront held held' kept
+
+-- a text whose run or refusal did not end
+abbrev pub TextCut : Trust → Result Schedule Refused → Option (List ℕ) → Option (List ℕ) → Option Journals → Option Journals → Type 0
+TextCut trust (Ok s) held held' kept kept' = RunsCut trust s held held' kept kept'
+TextCut trust (Err r) held held' kept kept' = AppendsFront held held' (refusal_text r) × KeepsJournals kept kept'

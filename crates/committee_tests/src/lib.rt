@@ -1,0 +1,9 @@
+//! Tests of the program over sources, sinks and keepers in memory.
+#![tactic(auto)]
+
+#[cfg(test)]
+mod journals;
+#[cfg(test)]
+mod runs;
+#[cfg(test)]
+mod stops;

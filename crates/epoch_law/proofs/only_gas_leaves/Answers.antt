@@ -1,5 +1,0 @@
-use Rattle.epoch_law.proofs.Sums.{only-gas}
-use Rattle.epoch_law.proofs.only_gas_leaves.Goals as goal
-
-pub returns : goal.returns
-returns c = λ s events honest distinct. only-gas s events honest distinct

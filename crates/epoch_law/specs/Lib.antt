@@ -1,5 +1,0 @@
-pub mod Past
-pub mod Opened
-pub mod Agreed
-pub mod Chains
-pub mod Sums

@@ -1,0 +1,27 @@
+-- Places that are kept behind transactions.
+use Rattle.std.specs.Prelude.{◌≡◌, ◌⊎◌, ℕ, List, [], unwrap_or}
+use Rattle.std.specs.Map.{lookup}
+use Rattle.digest_core.specs.declared.Digest.{Digest}
+use Rattle.chain_types.specs.Equal.{digest_eq}
+use Rattle.protocol_spec.specs.Chain.Words.{Has}
+use Rattle.protocol_spec.specs.Member.Versions.{Execution, is_executed}
+
+abbrev pub Lists : Type 0
+Lists = List (Digest × List ℕ)
+
+-- the places that are kept behind the transaction
+abbrev pub listed : Lists → Digest → List ℕ
+listed lists tx = unwrap_or (lookup (digest_eq tx) lists) []
+
+-- what was kept behind a transaction is kept behind it
+abbrev pub KeepsListed : Lists → Lists → Type 0
+KeepsListed old new = (tx : Digest) (place : ℕ) → Has (listed old tx) place → Has (listed new tx) place
+
+-- a place that is kept behind a transaction, which is none of these executions but those that are left
+pub record StaysListed (lists : Lists) (left all : List Execution) (tx : Digest) (place : ℕ) : Type 0 where
+  pub listed : Has (listed lists tx) place
+  pub out : is_executed all tx ≡ is_executed left tx
+
+-- each place that was kept behind a transaction was freed, or stays listed behind it
+pub record Frees (old new : Lists) (freed : List ℕ) (left all : List Execution) : Type 0 where
+  pub at : (tx : Digest) (place : ℕ) → Has (listed old tx) place → Has freed place ⊎ StaysListed new left all tx place

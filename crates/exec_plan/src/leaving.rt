@@ -1,0 +1,126 @@
+//! What a run leaves.
+
+ghost use Rattle.std.specs.Prelude.{◌≡◌, [], IfOk, OnOk, slice_get};
+ghost use Rattle.std.specs.List.{list_all};
+ghost use Rattle.protocol_spec.specs.Member.Rounds.{is_origin_done, left};
+ghost use Rattle.exec_plan.specs.Books.{books_of, is_left_over, left_in};
+ghost use Rattle.exec_plan.specs.Steps.{left_add, left_after, left_of};
+ghost use Rattle.exec_plan.specs.Waits.{IsWaiting};
+
+use crate::inputs::{first_missing, has_shared_input, needs};
+use crate::waiting::Waiting;
+use answer_types::{Held, Left};
+use digest_core::Digest;
+use std::alloc::Global;
+use version_store::Store;
+use wire_bcs::{OutOfMemory, Seq};
+
+/// Whether the transaction that an origin names is executed, where it names one.
+fn is_origin_done(store: &Store, origin: &Option<Digest>) -> bool
+    ensures { result ≡ is_origin_done store.now.executed origin.now }
+{
+    match origin {
+        Some(tx) => store.is_executed(tx),
+        None => true,
+    }
+}
+
+/// Whether the transactions that these origins name are executed.
+fn are_origins_done(store: &Store, origins: &[Option<Digest>]) -> bool
+    ensures { result ≡ list_all (is_origin_done store.now.executed) origins.now }
+{
+    let mut rest = origins;
+    while let [origin, after @ ..] = rest {
+        if !is_origin_done(store, origin) {
+            return false;
+        }
+        rest = after;
+    }
+    true
+}
+
+/// Whether a certificate is not executed although all its origins are, and names no shared object.
+fn is_left(store: &Store, held: &Held) -> bool
+    ensures { result ≡ is_left_over store.now.executed held.now }
+{
+    !store.is_executed(&held.digest)
+        && !has_shared_input(&held.cert.tx)
+        && are_origins_done(store, held.cert.origins.as_slice())
+}
+
+/// The certificate as it is left, where it is.
+#[tactic(auto, using(crate::proofs::LeftOver::left_so))]
+fn left_one(alloc: Global, store: &Store, held: &Held) -> Result<Option<Left>, OutOfMemory>
+    ensures { IfOk result (λ one. one ≡ left_in store.now held.now) }
+{
+    if !is_left(store, held) {
+        return Ok(None);
+    }
+    let needs = needs(alloc, &held.cert)?;
+    Ok(Some(Left {
+        tx: held.digest,
+        key: first_missing(store, needs.as_slice()),
+    }))
+}
+
+/// The same of the certificate at a place, none where there is none.
+fn left_at(
+    alloc: Global,
+    store: &Store,
+    held: &[Held],
+    place: usize,
+) -> Result<Option<Left>, OutOfMemory>
+    ensures { IfOk result (λ one. one ≡ left_of store.now (slice_get held.now place)) }
+{
+    match held.get(place) {
+        Some(held) => left_one(alloc, store, held),
+        None => Ok(None),
+    }
+}
+
+/// Those left so far, and one more, where there is one.
+fn add_left(left: &mut Seq<Left>, one: Option<Left>) -> Result<(), OutOfMemory>
+    ensures { OnOk result (left.new ≡ left_add left.old one) }
+{
+    match one {
+        Some(one) => left.push(one),
+        None => Ok(()),
+    }
+}
+
+/// Those of these places that are left.
+fn left_among(
+    alloc: Global,
+    store: &Store,
+    held: &[Held],
+    places: &[usize],
+) -> Result<Seq<Left>, OutOfMemory>
+    ensures { IfOk result (λ left. left ≡ left_after store.now held.now [] places.now) }
+{
+    let mut left = Seq::new(alloc);
+    let mut rest = places;
+    while let [place, after @ ..] = rest {
+        let one = left_at(alloc, store, held, *place)?;
+        add_left(&mut left, one)?;
+        rest = after;
+    }
+    Ok(left)
+}
+
+/// The held certificates that are not executed although all that they wait for is, in order of holding:
+/// each with the first version that is not held, or with none where what it needs is held and it does not
+/// fit, or what it writes is not new. Looks at the certificates that wait for no transaction and are not
+/// executed.
+#[tactic(auto, using(crate::proofs::Filing::left_now))]
+pub fn left(
+    alloc: Global,
+    store: &Store,
+    waiting: &Waiting,
+    held: &[Held],
+) -> Result<Seq<Left>, OutOfMemory>
+    requires waiting { IsWaiting store.now held.now waiting.now }
+    ensures { IfOk result (λ all. all ≡ left (books_of store.now held.now) store.now.executed) }
+{
+    let places = waiting.open_places(alloc)?;
+    left_among(alloc, store, held, places.as_slice())
+}

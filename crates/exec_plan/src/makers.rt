@@ -1,0 +1,56 @@
+//! The transactions that a certificate waits for.
+
+ghost use Rattle.std.specs.Prelude.{◌≡◌, IfOk};
+ghost use Rattle.protocol_spec.specs.Chain.Words.{first_of};
+ghost use Rattle.exec_plan.specs.Makers.{awaited_of, unmade, unmade_by};
+
+use crate::inputs::{Needed, needs};
+use chain_messages::Certificate;
+use chain_types::Producer;
+use digest_core::Digest;
+use std::alloc::Global;
+use version_store::Store;
+use wire_bcs::OutOfMemory;
+
+/// The transaction that makes a version, where it is not executed.
+fn unmade_by(store: &Store, maker: &Option<Producer>) -> Option<Digest>
+    ensures { result ≡ unmade_by store.now.executed maker.now }
+{
+    match maker {
+        Some(Producer::Tx(tx)) => {
+            if store.is_executed(tx) {
+                return None;
+            }
+            Some(*tx)
+        }
+        Some(Producer::Opening) => None,
+        None => None,
+    }
+}
+
+/// The first transaction, not executed, that makes one of the needed versions.
+fn first_unmade(store: &Store, needs: &[Needed]) -> Option<Digest>
+    ensures { result ≡ first_of (unmade store.now.executed) needs.now }
+{
+    let mut rest = needs;
+    while let [needed, after @ ..] = rest {
+        if let Some(tx) = unmade_by(store, &needed.maker) {
+            return Some(tx);
+        }
+        rest = after;
+    }
+    None
+}
+
+/// The first transaction, not executed, that makes a version that the certificate needs; none where all are
+/// executed.
+pub(crate) fn awaited(
+    alloc: Global,
+    store: &Store,
+    cert: &Certificate,
+) -> Result<Option<Digest>, OutOfMemory>
+    ensures { IfOk result (λ tx. tx ≡ awaited_of store.now.executed cert.now) }
+{
+    let needs = needs(alloc, cert)?;
+    Ok(first_unmade(store, needs.as_slice()))
+}

@@ -1,0 +1,208 @@
+//! The held certificates that are not executed, by what they wait for.
+
+ghost use Rattle.std.specs.Prelude.{◌≡◌, ◌++◌, ◌∷◌, [], IfOk, OnErr, OnOk, Some, false, slice_get};
+ghost use Rattle.std.specs.List.Sorted.{IsStrictlySortedBy};
+ghost use Rattle.std.specs.Ordering.{nat_cmp};
+ghost use Rattle.digest_core.specs.declared.Digest.{Digest as Key};
+ghost use Rattle.chain_types.specs.Equal.{digest_eq};
+ghost use Rattle.answer_types.specs.declared.answers.Held.{Held as H};
+ghost use Rattle.version_store.specs.Stores.{Stored};
+ghost use Rattle.exec_plan.specs.Behind.{Frees, listed};
+ghost use Rattle.exec_plan.specs.Places.{is_pending, placed_after, settled_after};
+ghost use Rattle.exec_plan.specs.Waits.{Filed, IsFiled, IsWaiting, KeepsPlaces};
+
+use crate::behind::{add_behind, take_behind};
+use crate::inputs::has_shared_input;
+use crate::makers::awaited;
+use crate::readiness::Ran;
+use answer_types::Held;
+use digest_core::Digest;
+use indexmap::IndexMap;
+use std::alloc::Global;
+use std::collections::BTreeSet;
+use version_store::Store;
+use wire_bcs::{OutOfMemory, Seq};
+
+/// The held certificates that are not executed, by what they wait for: each is kept behind one transaction
+/// that it waits for; once there is none, the next round looks at it, and behind that round it is executed,
+/// or stays for ever.
+#[derive(Drop)]
+pub struct Waiting {
+    /// The places of certificates that wait for nothing, and that no round looked at.
+    next: BTreeSet<usize>,
+    /// The places of those that a round looked at and left.
+    settled: BTreeSet<usize>,
+    /// The places of all others, each behind a transaction that is not executed.
+    behind: IndexMap<Digest, Seq<usize>>,
+    alloc: Global,
+}
+
+/// Whether the certificate at a place is not executed.
+fn is_pending(store: &Store, held: &[Held], place: usize) -> bool
+    ensures { result ≡ is_pending store.now.executed (slice_get held.now place) }
+{
+    match held.get(place) {
+        Some(held) => !store.is_executed(&held.digest),
+        None => false,
+    }
+}
+
+/// The places of a set, in order.
+fn places_of(alloc: Global, set: &BTreeSet<usize>) -> Result<Vec<usize>, OutOfMemory>
+    ensures places { IfOk result (λ places. places.items ≡ set.now.keys) }
+    ensures ordered { IsStrictlySortedBy nat_cmp set.now.keys }
+{
+    Ok(set.iter().copied().collect(alloc)?)
+}
+
+/// Adds places to a set.
+fn add_places(set: &mut BTreeSet<usize>, places: &[usize]) -> Result<(), OutOfMemory>
+    ensures { OnOk result (set.new.keys ≡ placed_after set.old.keys places.now) }
+{
+    let mut rest = places;
+    while let [place, after @ ..] = rest {
+        set.insert(*place)?;
+        rest = after;
+    }
+    Ok(())
+}
+
+impl Waiting {
+    /// Nothing waits where nothing is held. Takes no memory.
+    #[tactic(auto, using(crate::proofs::Filing::nothing_waits))]
+    pub fn new(alloc: Global) -> Waiting
+        ensures { (s : Stored) → IsWaiting s [] result }
+    {
+        Waiting {
+            next: BTreeSet::new(alloc),
+            settled: BTreeSet::new(alloc),
+            behind: IndexMap::new(alloc),
+            alloc,
+        }
+    }
+
+    /// Keeps a held certificate's place behind the first transaction that it waits for, or for the next round. One
+    /// that names a shared object cannot run, since nothing is admitted.
+    fn file(&mut self, store: &Store, place: usize, held: &Held) -> Result<(), OutOfMemory>
+        ensures kept { KeepsPlaces self.old self.new }
+        ensures filed { OnOk result (Filed store.now [] self.new place held.now) }
+    {
+        if store.is_executed(&held.digest) {
+            return Ok(());
+        }
+        if has_shared_input(&held.cert.tx) {
+            return Ok(());
+        }
+        match awaited(self.alloc, store, &held.cert)? {
+            Some(tx) => add_behind(self.alloc, &mut self.behind, tx, place),
+            None => {
+                self.next.insert(place)?;
+                Ok(())
+            }
+        }
+    }
+
+    /// One more certificate is held, behind these. After a refusal all that waited waits.
+    pub fn hold(&mut self, store: &Store, held: &[Held], new: &Held) -> Result<(), OutOfMemory>
+        requires { IsWaiting store.now held.now self.old }
+        ensures ok { OnOk result (IsWaiting store.now (held.now ++ new.now ∷ []) self.new) }
+        ensures err { OnErr result (IsWaiting store.now held.now self.new) }
+    {
+        self.file(store, held.len(), new)
+    }
+
+    /// The same of the certificate at a place, where there is one.
+    fn file_at(&mut self, store: &Store, held: &[Held], place: usize) -> Result<(), OutOfMemory>
+        ensures kept { KeepsPlaces self.old self.new }
+        ensures filed { OnOk result ((h : H) → slice_get held.now place ≡ Some h → Filed store.now [] self.new place h) }
+    {
+        match held.get(place) {
+            Some(held) => self.file(store, place, held),
+            None => Ok(()),
+        }
+    }
+
+    /// The same of the certificates at these places.
+    pub(crate) fn file_each(
+        &mut self,
+        store: &Store,
+        held: &[Held],
+        places: &[usize],
+    ) -> Result<(), OutOfMemory>
+        requires { IsFiled store.now places.now held.now self.old }
+        ensures { OnOk result (IsWaiting store.now held.now self.new) }
+    {
+        let mut rest = places;
+        while let [place, after @ ..] = rest {
+            self.file_at(store, held, *place)?;
+            rest = after;
+        }
+        Ok(())
+    }
+
+    /// The places that the next round looks at, in order.
+    pub(crate) fn next_places(&self, alloc: Global) -> Result<Vec<usize>, OutOfMemory>
+        ensures places { IfOk result (λ places. places.items ≡ self.now.next.keys) }
+        ensures ordered { IsStrictlySortedBy nat_cmp self.now.next.keys }
+    {
+        places_of(alloc, &self.next)
+    }
+
+    /// The places of all certificates that wait for nothing, in order.
+    pub(crate) fn open_places(&self, alloc: Global) -> Result<Vec<usize>, OutOfMemory>
+        ensures places { IfOk result (λ places. places.items ≡ placed_after (placed_after [] self.now.settled.keys) self.now.next.keys) }
+        ensures ordered { IfOk result (λ places. IsStrictlySortedBy nat_cmp places.items) }
+    {
+        let mut all = BTreeSet::new(alloc);
+        add_places(&mut all, places_of(alloc, &self.settled)?.as_slice())?;
+        add_places(&mut all, places_of(alloc, &self.next)?.as_slice())?;
+        places_of(alloc, &all)
+    }
+
+    /// A round looked at these places, and is executed: those that it left stay.
+    pub(crate) fn settle(
+        &mut self,
+        store: &Store,
+        held: &[Held],
+        places: &[usize],
+    ) -> Result<(), OutOfMemory>
+        ensures settled { OnOk result (self.new.settled.keys ≡ settled_after store.now.executed held.now self.old.settled.keys places.now) }
+        ensures behind { self.new.behind.entries ≡ self.old.behind.entries }
+    {
+        let mut rest = places;
+        while let [place, after @ ..] = rest {
+            if is_pending(store, held, *place) {
+                self.settled.insert(*place)?;
+            }
+            rest = after;
+        }
+        self.next = BTreeSet::new(self.alloc);
+        Ok(())
+    }
+
+    /// Takes out the places behind a transaction, and adds them to those that were freed.
+    fn free_one(&mut self, freed: &mut Seq<usize>, tx: &Digest) -> Result<(), OutOfMemory>
+        ensures settled { self.new.settled.keys ≡ self.old.settled.keys }
+        ensures freed { OnOk result (freed.new ≡ freed.old ++ listed self.old.behind.entries tx.now) }
+        ensures others { OnOk result ((d : Key) → digest_eq tx.now d ≡ false → listed self.new.behind.entries d ≡ listed self.old.behind.entries d) }
+    {
+        match take_behind(&mut self.behind, tx) {
+            Some(places) => freed.extend(places.as_slice()),
+            None => Ok(()),
+        }
+    }
+
+    /// Takes out the places behind the transactions of a round.
+    pub(crate) fn free(&mut self, round: &[Ran]) -> Result<Seq<usize>, OutOfMemory>
+        ensures settled { self.new.settled.keys ≡ self.old.settled.keys }
+        ensures freed { IfOk result (λ freed. Frees self.old.behind.entries self.new.behind.entries freed [] round.now) }
+    {
+        let mut freed = Seq::new(self.alloc);
+        let mut rest = round;
+        while let [ran, after @ ..] = rest {
+            self.free_one(&mut freed, &ran.digest())?;
+            rest = after;
+        }
+        Ok(freed)
+    }
+}

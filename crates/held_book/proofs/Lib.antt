@@ -1,2 +1,0 @@
-mod Forks
-pub mod Holding

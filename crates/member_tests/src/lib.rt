@@ -1,0 +1,7 @@
+//! Tests of a member, which is handed bytes that an independent script wrote.
+#![tactic(auto)]
+
+#[cfg(test)]
+mod states;
+#[cfg(test)]
+mod validators;

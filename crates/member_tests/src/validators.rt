@@ -1,0 +1,335 @@
+//! A member that is a committee by itself, over a coin of alice's that she sends to bob. The digests and seals
+//! are those of an independent SHA-256 over spellings that were made by hand.
+
+use answer_types::StartRefusal;
+use chain_types::{Address, Content, Object, ObjectId, ObjectKey, Owner};
+use digest_core::Digest;
+use outside::{Keeper, MemKeeper};
+use quorum_core::{Committee, KeyedSeal};
+use std::alloc::Global;
+use std::test::Fail;
+use validator_core::Validator;
+use wire_bcs::{OutOfMemory, Seq};
+
+/// The digest of the coin.
+const COIN_DIGEST: [u8; 32] = [
+    66, 129, 128, 253, 253, 9, 122, 39, 44, 181, 24, 42, 251, 15, 193, 81, 98, 52, 148, 13, 204,
+    132, 210, 13, 22, 146, 132, 126, 94, 169, 159, 72,
+];
+
+/// The digest of the coin behind the transaction: of version 2, bob's, with 8900.
+const SENT_DIGEST: [u8; 32] = [
+    113, 193, 238, 58, 10, 106, 72, 30, 175, 89, 77, 151, 255, 59, 206, 175, 105, 57, 110, 16, 213,
+    47, 83, 13, 56, 137, 203, 94, 89, 69, 53, 85,
+];
+
+const TX_DIGEST: [u8; 32] = [
+    155, 228, 91, 68, 104, 176, 199, 159, 58, 25, 144, 221, 113, 64, 224, 49, 209, 253, 84, 128,
+    117, 125, 124, 168, 9, 98, 41, 83, 125, 145, 244, 79,
+];
+
+/// Alice's seal of the transaction.
+const USER_SEAL: [u8; 32] = [
+    161, 105, 177, 30, 50, 211, 243, 47, 88, 53, 175, 37, 66, 184, 46, 249, 175, 16, 224, 126, 11,
+    46, 208, 26, 202, 212, 16, 185, 89, 92, 76, 67,
+];
+
+/// The member's seal of its vote, which names no origin.
+const MEMBER_SEAL: [u8; 32] = [
+    17, 153, 21, 103, 148, 19, 142, 216, 42, 54, 47, 239, 218, 152, 226, 34, 4, 162, 65, 209, 27,
+    35, 134, 242, 65, 200, 152, 89, 199, 97, 76, 123,
+];
+
+const EFFECTS_DIGEST: [u8; 32] = [
+    214, 169, 30, 119, 47, 41, 229, 26, 222, 170, 182, 148, 244, 103, 226, 218, 59, 221, 65, 42,
+    66, 195, 34, 66, 255, 39, 138, 245, 229, 170, 131, 201,
+];
+
+/// Alice's coin.
+fn coin() -> Object {
+    Object {
+        id: ObjectId(Digest([7; 32])),
+        version: 1,
+        owner: Owner::Address(Address(Digest([1; 32]))),
+        content: Content::Coin {
+            currency: 0,
+            balance: 10000,
+        },
+    }
+}
+
+/// The pieces, one behind the other.
+fn joined(alloc: Global, pieces: &[&[u8]]) -> Result<Seq<u8>, OutOfMemory> {
+    let mut bytes = Vec::new(alloc);
+    for piece in pieces {
+        bytes.extend_from_slice(piece)?;
+    }
+    Ok(Seq::from_vec(bytes))
+}
+
+/// The transaction: of epoch 0, with a budget of 2000, the input bob's address and the command
+/// `transfer(gas,i0)`. Then its origins and seals, or none.
+fn with_tx(alloc: Global, front: &[u8], middle: &[u8], end: &[u8]) -> Result<Seq<u8>, OutOfMemory> {
+    let pieces = [
+        front,
+        [0; 8].as_slice(),
+        [1; 32].as_slice(),
+        [7; 32].as_slice(),
+        [1, 0, 0, 0, 0, 0, 0, 0].as_slice(),
+        COIN_DIGEST.as_slice(),
+        [208, 7, 0, 0, 0, 0, 0, 0].as_slice(),
+        [1, 0, 32].as_slice(),
+        [2; 32].as_slice(),
+        [1, 1, 1, 0, 1, 0, 0].as_slice(),
+        middle,
+        end,
+    ];
+    joined(alloc, pieces.as_slice())
+}
+
+/// What alice signs.
+fn signed(alloc: Global) -> Result<Seq<u8>, OutOfMemory> {
+    with_tx(alloc, [].as_slice(), [].as_slice(), USER_SEAL.as_slice())
+}
+
+/// The certificate, behind this tag.
+fn certified(alloc: Global, tag: &[u8]) -> Result<Seq<u8>, OutOfMemory> {
+    let middle = [1, 0, 1, 0, 0, 0, 0];
+    with_tx(alloc, tag, middle.as_slice(), MEMBER_SEAL.as_slice())
+}
+
+/// The member, from at most two records.
+fn started(alloc: Global, kept: &Seq<Seq<u8>>) -> Result<Validator, StartRefusal> {
+    if kept.len() > 2 {
+        return Err(StartRefusal::OutOfMemory);
+    }
+    let Ok(committee) = Committee::new([1].as_slice()) else {
+        return Err(StartRefusal::OutOfMemory);
+    };
+    let Ok(opening) = Seq::from_slice(alloc, [coin()].as_slice()) else {
+        return Err(StartRefusal::OutOfMemory);
+    };
+    let sealer = KeyedSeal::new([9; 32]);
+    Validator::start(alloc, 0, &committee, &opening, kept, &sealer)
+}
+
+/// The member, where it starts.
+fn member_of(alloc: Global, kept: &Seq<Seq<u8>>) -> Result<Validator, Fail> {
+    match started(alloc, kept) {
+        Ok(member) => Ok(member),
+        Err(_) => Err(Fail::new("the member starts")),
+    }
+}
+
+/// Whether the vote is fresh, where there is one.
+fn votes(member: &mut Validator, keeper: &mut MemKeeper, bytes: &[u8]) -> Option<bool> {
+    if member.member >= keeper.members() {
+        return None;
+    }
+    match member.vote(keeper, &KeyedSeal::new([9; 32]), bytes) {
+        Ok(voted) => Some(voted.fresh),
+        Err(_) => None,
+    }
+}
+
+/// Whether the certificate is newly held, where it is held.
+fn holds(member: &mut Validator, keeper: &mut MemKeeper, bytes: &[u8]) -> Option<bool> {
+    if member.member >= keeper.members() {
+        return None;
+    }
+    member.hold(keeper, &KeyedSeal::new([9; 32]), bytes).ok()
+}
+
+/// How many transactions a run executes.
+fn runs(member: &mut Validator, keeper: &mut MemKeeper) -> Option<u64> {
+    if member.member >= keeper.members() {
+        return None;
+    }
+    match member.run(keeper) {
+        Ok(ran) => Some(ran.executed.len()),
+        Err(_) => None,
+    }
+}
+
+/// Whether the member closes its epoch, where it may be asked to.
+fn closes(member: &mut Validator, keeper: &mut MemKeeper) -> Option<bool> {
+    if member.member >= keeper.members() {
+        return None;
+    }
+    member.close(keeper).ok()
+}
+
+/// How many records the member keeps.
+fn count(keeper: &MemKeeper) -> u64 {
+    if keeper.members() == 0 {
+        return 0;
+    }
+    keeper.count(0)
+}
+
+/// Asks twice for the vote: whether it is fresh each time, and how many records are kept.
+fn votes_twice(alloc: Global) -> Result<(Option<bool>, Option<bool>, u64), Fail> {
+    let bytes = signed(alloc)?;
+    let mut keeper = MemKeeper::new(alloc, 1, [].as_slice())?;
+    let mut member = member_of(alloc, &Seq::new(alloc))?;
+    let first = votes(&mut member, &mut keeper, bytes.as_slice());
+    let second = votes(&mut member, &mut keeper, bytes.as_slice());
+    Ok((first, second, count(&keeper)))
+}
+
+#[test]
+fn a_vote_is_fresh_once(rt: HostRuntime) -> Result<(), Fail> {
+    let answers = votes_twice(rt.alloc())?;
+    assert_eq!(rt; answers, (Some(true), Some(false), 1));
+    Ok(())
+}
+
+/// The version of the coin behind the transaction.
+fn sent_key() -> ObjectKey {
+    ObjectKey {
+        id: ObjectId(Digest([7; 32])),
+        version: 2,
+    }
+}
+
+/// Holds the certificate and runs twice: how many transactions that executes, and what the coin is then.
+fn holds_and_runs(
+    alloc: Global,
+) -> Result<(Option<bool>, Option<u64>, Option<u64>, Option<Digest>), Fail> {
+    let bytes = certified(alloc, [].as_slice())?;
+    let mut keeper = MemKeeper::new(alloc, 1, [].as_slice())?;
+    let mut member = member_of(alloc, &Seq::new(alloc))?;
+    let held = holds(&mut member, &mut keeper, bytes.as_slice());
+    let first = runs(&mut member, &mut keeper);
+    let second = runs(&mut member, &mut keeper);
+    Ok((held, first, second, member.held_digest(&sent_key())))
+}
+
+#[test]
+fn what_is_held_runs_once(rt: HostRuntime) -> Result<(), Fail> {
+    let (held, first, second, coin) = holds_and_runs(rt.alloc())?;
+    assert_eq!(rt; (held, first, second), (Some(true), Some(1), Some(0)));
+    assert_eq!(rt; coin, Some(Digest(SENT_DIGEST)));
+    Ok(())
+}
+
+/// Records of the vote and a close.
+fn vote_and_close(alloc: Global) -> Result<Seq<Seq<u8>>, OutOfMemory> {
+    let mut kept = Seq::new(alloc);
+    kept.push(with_tx(alloc, [0].as_slice(), [1, 0].as_slice(), [].as_slice())?)?;
+    kept.push(Seq::from_slice(alloc, [3].as_slice())?)?;
+    Ok(kept)
+}
+
+/// A member that voted and closed.
+fn behind_close(alloc: Global) -> Result<Validator, Fail> {
+    let kept = vote_and_close(alloc)?;
+    member_of(alloc, &kept)
+}
+
+/// What it answers to the request for its vote.
+fn votes_behind(alloc: Global) -> Result<Option<bool>, Fail> {
+    let bytes = signed(alloc)?;
+    let mut keeper = MemKeeper::new(alloc, 1, [].as_slice())?;
+    let mut member = behind_close(alloc)?;
+    Ok(votes(&mut member, &mut keeper, bytes.as_slice()))
+}
+
+/// What it answers to a close.
+fn closes_behind(alloc: Global) -> Result<Option<bool>, Fail> {
+    let mut keeper = MemKeeper::new(alloc, 1, [].as_slice())?;
+    let mut member = behind_close(alloc)?;
+    Ok(closes(&mut member, &mut keeper))
+}
+
+#[test]
+fn a_member_starts_from_its_records(rt: HostRuntime) -> Result<(), Fail> {
+    let voted = votes_behind(rt.alloc())?;
+    let closed = closes_behind(rt.alloc())?;
+    assert_eq!(rt; (voted, closed), (Some(false), Some(false)));
+    Ok(())
+}
+
+/// The records of a certificate, and of its run, with its effects.
+fn hold_and_run(alloc: Global) -> Result<Seq<Seq<u8>>, OutOfMemory> {
+    let mut kept = Seq::new(alloc);
+    kept.push(certified(alloc, [1].as_slice())?)?;
+    let ran = [
+        [6, 1].as_slice(),
+        TX_DIGEST.as_slice(),
+        EFFECTS_DIGEST.as_slice(),
+    ];
+    kept.push(joined(alloc, ran.as_slice())?)?;
+    Ok(kept)
+}
+
+/// How many objects live.
+fn living(member: &Validator) -> Option<u64> {
+    match member.live_list() {
+        Ok(objects) => Some(objects.len()),
+        Err(_) => None,
+    }
+}
+
+/// What the coin is behind those records, and how many objects live.
+fn behind_run(alloc: Global) -> Result<(Option<Digest>, Option<u64>), Fail> {
+    let kept = hold_and_run(alloc)?;
+    let member = member_of(alloc, &kept)?;
+    Ok((member.held_digest(&sent_key()), living(&member)))
+}
+
+#[test]
+fn a_run_is_taken_back(rt: HostRuntime) -> Result<(), Fail> {
+    let (coin, live) = behind_run(rt.alloc())?;
+    assert_eq!(rt; coin, Some(Digest(SENT_DIGEST)));
+    assert_eq!(rt; live, Some(1));
+    Ok(())
+}
+
+/// How many entries it has seen behind those records, how many checkpoints it has built, and how many transactions
+/// stand in them.
+fn counts_behind_run(alloc: Global) -> Result<(u64, u64, u64), Fail> {
+    let kept = hold_and_run(alloc)?;
+    let member = member_of(alloc, &kept)?;
+    Ok((member.seen(), member.checkpoints(), member.checkpointed()))
+}
+
+#[test]
+fn a_run_is_no_entry(rt: HostRuntime) -> Result<(), Fail> {
+    let counts = counts_behind_run(rt.alloc())?;
+    assert_eq!(rt; counts, (0, 0, 0));
+    Ok(())
+}
+
+/// Why a member does not start from this record twice.
+fn refusal(alloc: Global, record: &[u8]) -> Result<Option<StartRefusal>, OutOfMemory> {
+    let mut kept = Seq::new(alloc);
+    kept.push(Seq::from_slice(alloc, record)?)?;
+    kept.push(Seq::from_slice(alloc, record)?)?;
+    Ok(started(alloc, &kept).err())
+}
+
+#[test]
+fn a_bad_record_is_refused(rt: HostRuntime) -> Result<(), Fail> {
+    let alloc = rt.alloc();
+    let unread = refusal(alloc, [9].as_slice())?;
+    let closed = refusal(alloc, [3].as_slice())?;
+    assert_eq!(rt; unread, Some(StartRefusal::BadRecord { place: 0, why: 1 }));
+    assert_eq!(rt; closed, Some(StartRefusal::BadRecord { place: 1, why: 2 }));
+    Ok(())
+}
+
+/// Closes over a keeper that fails at once: the answer, and whether the member is up then.
+fn closes_unkept(alloc: Global) -> Result<(Option<bool>, bool), Fail> {
+    let mut keeper = MemKeeper::new(alloc, 1, [1].as_slice())?;
+    let mut member = member_of(alloc, &Seq::new(alloc))?;
+    let answer = closes(&mut member, &mut keeper);
+    Ok((answer, member.is_up()))
+}
+
+#[test]
+fn a_member_falls_where_nothing_is_kept(rt: HostRuntime) -> Result<(), Fail> {
+    let answer = closes_unkept(rt.alloc())?;
+    assert_eq!(rt; answer, (None, false));
+    Ok(())
+}

@@ -1,4 +1,0 @@
-pub mod Cast
-pub mod Present
-pub mod Fitting
-pub mod Whole

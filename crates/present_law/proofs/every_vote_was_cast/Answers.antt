@@ -1,5 +1,0 @@
-use Rattle.present_law.proofs.Cast.{every-vote-was-cast}
-use Rattle.present_law.proofs.every_vote_was_cast.Goals as goal
-
-pub returns : goal.returns
-returns c = every-vote-was-cast

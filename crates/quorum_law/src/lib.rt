@@ -1,9 +1,0 @@
-//! Two quorums of one committee share a member outside any set of less than a third of the stake.
-#![tactic(auto)]
-
-ghost use Rattle.quorum_law.specs.Quorums.{TwoQuorumsMeet};
-
-/// Two quorums share a member that is not faulty, where less than a third of the stake is.
-pub fn two_quorums_meet()
-    ensures { TwoQuorumsMeet }
-{}

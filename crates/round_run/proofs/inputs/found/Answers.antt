@@ -1,6 +1,0 @@
-use Rattle.version_store.specs.Stores.{held_in}
-use Rattle.round_run.proofs.Joined.{nobody_made}
-use Rattle.round_run.proofs.inputs.found.Goals as goal
-
-pub returns-in-None : goal.returns-in-None
-returns-in-None c = nobody_made (held_in c.args.store.now) c.args.needed.now c.in-None.is

@@ -1,8 +1,0 @@
-use Rattle.std.proofs.Common.{◌≡◌, drop}
-use Rattle.std.specs.List.{list_any}
-use Rattle.chain_spec.specs.Keys.{is_shared_input}
-use Rattle.round_run.proofs.inputs.has_shared_input.Given as goal
-
--- no input that was passed is shared
-abbrev pub invariant-loop-input : goal.invariant-loop-input
-invariant-loop-input l = list_any is_shared_input (drop l.input-index l.tx.inputs) ≡ list_any is_shared_input l.tx.inputs

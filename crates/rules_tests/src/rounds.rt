@@ -1,0 +1,248 @@
+//! Runs over a store of one coin, of transactions in which alice sends it to herself.
+
+ghost use Rattle.std.specs.Prelude.{◌≡◌, ◌≤◌, IfOk, map, not};
+ghost use Rattle.std.specs.List.{list_any};
+ghost use Rattle.chain_types.specs.Equal.{digest_eq};
+ghost use Rattle.protocol_spec.specs.Chain.Words.{Each, repeats};
+ghost use Rattle.exec_plan.specs.Books.{IsSound, digest_of_held};
+ghost use Rattle.exec_plan.specs.Waits.{IsWaiting};
+
+use answer_types::Held;
+use chain_messages::Certificate;
+use chain_types::{
+    Address, Argument, Command, Content, Input, Object, ObjectId, ObjectRef, Owner, Transaction,
+    object_digest, tx_digest,
+};
+use digest_core::Digest;
+use exec_plan::{Waiting, left, run};
+use std::alloc::Global;
+use std::test::Fail;
+use tx_check::check_shape;
+use version_store::Store;
+use wire_bcs::{OutOfMemory, Seq};
+
+const ALICE: Address = Address(Digest([1; 32]));
+
+const COIN: ObjectId = ObjectId(Digest([7; 32]));
+
+/// What a transaction of these tests costs.
+const COST: u64 = 1100;
+
+/// Alice's coin, after so many transactions.
+fn coin(spent: u64) -> Object
+    requires { spent ≤ 9 }
+{
+    Object {
+        id: COIN,
+        version: 1 + spent,
+        owner: Owner::Address(ALICE),
+        content: Content::Coin {
+            currency: 0,
+            balance: 10000 - spent * COST,
+        },
+    }
+}
+
+/// The input of each transaction: alice's address.
+fn inputs(alloc: Global) -> Result<Seq<Input>, OutOfMemory> {
+    let mut inputs = Seq::new(alloc);
+    inputs.push(Input::Pure(Seq::from_slice(alloc, [1; 32].as_slice())?))?;
+    Ok(inputs)
+}
+
+/// Its command: the gas coin goes to that address.
+fn commands(alloc: Global) -> Result<Seq<Command>, OutOfMemory> {
+    let mut commands = Seq::new(alloc);
+    commands.push(Command::Transfer {
+        values: Seq::from_slice(alloc, [Argument::Gas].as_slice())?,
+        to: Argument::Input(0),
+    })?;
+    Ok(commands)
+}
+
+/// The transaction that spends a coin.
+fn transaction(alloc: Global, coin: &Object, budget: u64) -> Result<Transaction, OutOfMemory> {
+    let gas = ObjectRef {
+        id: coin.id,
+        version: coin.version,
+        digest: object_digest(coin),
+    };
+    Ok(Transaction {
+        epoch: 0,
+        sender: ALICE,
+        gas,
+        budget,
+        inputs: inputs(alloc)?,
+        commands: commands(alloc)?,
+    })
+}
+
+/// The certificate of a transaction, whose shape is to be valid, with the origin of its coin.
+fn held(alloc: Global, tx: Transaction, origin: Option<Digest>) -> Result<Held, OutOfMemory>
+    ensures { IfOk result IsSound }
+{
+    if check_shape(alloc, &tx).is_err() {
+        return Err(OutOfMemory);
+    }
+    let digest = tx_digest(alloc, &tx)?;
+    let cert = Certificate {
+        tx,
+        origins: Seq::from_slice(alloc, [origin].as_slice())?,
+        seals: Seq::new(alloc),
+    };
+    Ok(Held { digest, cert })
+}
+
+/// The certificate that spends the coin after so many transactions.
+fn spending(
+    alloc: Global,
+    spent: u64,
+    budget: u64,
+    origin: Option<Digest>,
+) -> Result<Held, OutOfMemory>
+    requires { spent ≤ 9 }
+    ensures { IfOk result IsSound }
+{
+    held(alloc, transaction(alloc, &coin(spent), budget)?, origin)
+}
+
+/// A store that opens with the coin.
+fn store_of_coin(alloc: Global) -> Result<Store, OutOfMemory> {
+    let coins = Seq::from_slice(alloc, [coin(0)].as_slice())?;
+    Store::opening(alloc, &coins)
+}
+
+/// Whether a certificate has the digest.
+fn has_digest(held: &[Held], digest: &Digest) -> bool
+    ensures { result ≡ list_any (digest_eq digest.now) (map digest_of_held held.now) }
+{
+    let mut rest = held;
+    while let [one, after @ ..] = rest {
+        if *digest == one.digest {
+            return true;
+        }
+        rest = after;
+    }
+    false
+}
+
+/// Whether no two certificates have the same digest.
+fn are_apart(held: &[Held]) -> bool
+    ensures { result ≡ not (repeats digest_eq (map digest_of_held held.now)) }
+{
+    let mut rest = held;
+    while let [one, after @ ..] = rest {
+        if has_digest(after, &one.digest) {
+            return false;
+        }
+        rest = after;
+    }
+    true
+}
+
+/// Holds these certificates, one after the other.
+fn holding(alloc: Global, store: &Store, all: &[Held]) -> Result<Waiting, OutOfMemory>
+    ensures { IfOk result (IsWaiting store.now all.now) }
+{
+    let mut waiting = Waiting::new(alloc);
+    let mut count = 0;
+    while count < all.len() {
+        waiting.hold(store, &all[..count], &all[count])?;
+        count += 1;
+    }
+    Ok(waiting)
+}
+
+/// Runs of what is held: how many were executed, how many were executed again, and how many were left.
+fn runs(alloc: Global, mut store: Store, all: &[Held]) -> Result<(u64, u64, u64), OutOfMemory>
+    requires { Each IsSound all.now }
+{
+    let mut waiting = holding(alloc, &store, all)?;
+    if !are_apart(all) {
+        return Err(OutOfMemory);
+    }
+    let first = run(alloc, &mut store, &mut waiting, all)?;
+    let second = run(alloc, &mut store, &mut waiting, all)?;
+    let left = left(alloc, &store, &waiting, all)?;
+    Ok((first.len(), second.len(), left.len()))
+}
+
+/// One certificate, which spends the coin.
+fn one(alloc: Global) -> Result<Seq<Held>, OutOfMemory>
+    ensures { IfOk result (Each IsSound) }
+{
+    let mut all = Seq::new(alloc);
+    all.push(spending(alloc, 0, 2000, None)?)?;
+    Ok(all)
+}
+
+#[test]
+fn what_is_ready_runs_once(rt: HostRuntime) -> Result<(), Fail> {
+    let alloc = rt.alloc();
+    let all = one(alloc)?;
+    let ran = runs(alloc, store_of_coin(alloc)?, all.as_slice())?;
+    assert_eq!(rt; ran, (1, 0, 0));
+    Ok(())
+}
+
+/// A chain of three certificates, the last one first.
+fn chain_backwards(alloc: Global) -> Result<Seq<Held>, OutOfMemory>
+    ensures { IfOk result (Each IsSound) }
+{
+    let first = spending(alloc, 0, 2000, None)?;
+    let second = spending(alloc, 1, 2000, Some(first.digest))?;
+    let third = spending(alloc, 2, 2000, Some(second.digest))?;
+    let mut all = Seq::new(alloc);
+    all.push(third)?;
+    all.push(second)?;
+    all.push(first)?;
+    Ok(all)
+}
+
+#[test]
+fn a_chain_runs_in_one_run(rt: HostRuntime) -> Result<(), Fail> {
+    let alloc = rt.alloc();
+    let all = chain_backwards(alloc)?;
+    let ran = runs(alloc, store_of_coin(alloc)?, all.as_slice())?;
+    assert_eq!(rt; ran, (3, 0, 0));
+    Ok(())
+}
+
+/// Two certificates, of which the second spends a coin of this origin, after so many transactions.
+fn two(alloc: Global, spent: u64, origin: Option<Digest>) -> Result<Seq<Held>, OutOfMemory>
+    requires { spent ≤ 9 }
+    ensures { IfOk result (Each IsSound) }
+{
+    let mut all = Seq::new(alloc);
+    all.push(spending(alloc, 0, 2000, None)?)?;
+    all.push(spending(alloc, spent, 2001, origin)?)?;
+    Ok(all)
+}
+
+#[test]
+fn what_clashes_is_left(rt: HostRuntime) -> Result<(), Fail> {
+    let alloc = rt.alloc();
+    let all = two(alloc, 0, None)?;
+    let ran = runs(alloc, store_of_coin(alloc)?, all.as_slice())?;
+    assert_eq!(rt; ran, (1, 0, 1));
+    Ok(())
+}
+
+#[test]
+fn what_waits_is_not_left(rt: HostRuntime) -> Result<(), Fail> {
+    let alloc = rt.alloc();
+    let all = two(alloc, 5, Some(Digest([9; 32])))?;
+    let ran = runs(alloc, store_of_coin(alloc)?, all.as_slice())?;
+    assert_eq!(rt; ran, (1, 0, 0));
+    Ok(())
+}
+
+#[test]
+fn what_has_no_coin_is_left(rt: HostRuntime) -> Result<(), Fail> {
+    let alloc = rt.alloc();
+    let all = one(alloc)?;
+    let store = Store::opening(alloc, &Seq::new(alloc))?;
+    let ran = runs(alloc, store, all.as_slice())?;
+    assert_eq!(rt; ran, (0, 0, 1));
+    Ok(())
+}

@@ -1,0 +1,12 @@
+mod Lines
+mod Seats
+mod Workers
+mod Older
+mod Apart
+pub mod ScenePosts
+pub mod SceneSteps
+pub mod SceneLines
+pub mod SceneRecords
+pub mod SceneCounted
+pub mod SceneStarts
+pub mod SceneRuns

@@ -1,0 +1,421 @@
+-- A record that is due is read back from its spelling and taken, so each member starts from its journal.
+use Rattle.std.proofs.Common.{refl, sym, subst, ap, ◌∙◌, append-nil, append_assoc, arith}
+use Rattle.std.proofs.lemmas.Bool.{leb-false}
+use Rattle.std.proofs.lemmas.List.{length-map}
+use Rattle.std.proofs.lemmas.List.Elements.{All-from_recursion}
+use Rattle.std.specs.Prelude.{◌≡◌, ℕ, ◌+◌, ◌<◌, suc, Bool, true, false, cond, nat_le, List, [], ◌∷◌, ◌++◌, map, length, slice_get, Option, Some, None, option_map, Result, Ok, Err}
+use Rattle.std.specs.List.{AllByRecursion}
+use Rattle.wire_bcs.specs.declared.fault.WireFault.{WireFault}
+use Rattle.wire_bcs.specs.Codec.{Codec}
+use Rattle.wire_bcs.specs.Digests.{digest}
+use Rattle.wire_bcs.specs.Items.{length_limit}
+use Rattle.wire_bcs.specs.Place.{IsBytes, Stop}
+use Rattle.wire_bcs.specs.Whole.{whole, whole-found, whole-only}
+use Rattle.digest_core.specs.declared.Digest.{Digest}
+use Rattle.chain_types.specs.declared.objects.Object.{Object}
+use Rattle.chain_types.specs.declared.transactions.Transaction.{Transaction}
+use Rattle.chain_types.specs.declared.transactions.SignedTx.{SignedTx}
+use Rattle.chain_types.specs.Transactions as transactions
+use Rattle.chain_messages.specs.declared.messages.Certificate.{Certificate}
+use Rattle.chain_messages.specs.declared.messages.Statement.{Statement}
+use Rattle.chain_messages.specs.declared.messages.Statement.TheVariants as statement
+use Rattle.chain_messages.specs.Messages as messages
+use Rattle.effects_core.specs.declared.effects.Effects.{Effects}
+use Rattle.effects_core.specs.Effects.{digest_of_effects}
+use Rattle.journal_core.specs.declared.records.RanItem.{RanItem}
+use Rattle.journal_core.specs.declared.records.Record.{Record}
+use Rattle.journal_core.specs.declared.records.Record.TheVariants as record_as
+use Rattle.journal_core.specs.Records as journals
+use Rattle.answer_types.specs.declared.answers.Ran.{Ran}
+use Rattle.answer_types.specs.declared.refusals.VoteRefusal.{VoteRefusal}
+use Rattle.answer_types.specs.declared.refusals.HoldRefusal.{HoldRefusal}
+use Rattle.answer_types.specs.declared.refusals.RunRefusal.{RunRefusal}
+use Rattle.answer_types.specs.declared.refusals.RunRefusal.TheVariants as no_run
+use Rattle.answer_types.specs.declared.refusals.CloseRefusal.{CloseRefusal}
+use Rattle.answer_types.specs.declared.refusals.StartRefusal.{StartRefusal}
+use Rattle.answer_types.specs.declared.refusals.StartRefusal.TheVariants as no_start
+use Rattle.protocol_spec.specs.Chain.Words.{Along, Each, and_then, first_some, unless_refused, where_true}
+use Rattle.protocol_spec.specs.Chain.Certificates.{Rules, read_as, read_certificate, read_signed}
+use Rattle.protocol_spec.proofs.ListLemmas.{along-push}
+use Rattle.protocol_spec.specs.Member.Versions.{Execution}
+use Rattle.protocol_spec.specs.Member.Rounds.{rounds}
+use Rattle.protocol_spec.specs.Member.Member.{Member, after, books, fresh, state, with_rounds}
+use Rattle.protocol_spec.specs.Member.Calls.{Call, votes, holds, sees, runs, closes, ends, turns, acks, Voted, close_answer, close_record, due, halted, hold_answer, hold_record, is_hold_kept, kept_vote, ran_as, ran_item, ran_items, ran_record, record_limit, run_answer, run_record, vote_answer, vote_record}
+use Rattle.protocol_spec.specs.Member.Replay.{is_allowed}
+use Rattle.scene_spec.specs.Taken.{is_taken}
+use Rattle.schedule_text.specs.declared.words.Event.{Event}
+use Rattle.schedule_text.specs.declared.words.Event.TheVariants as event
+use Rattle.world_spec.specs.Setting.{Trust, Setting}
+use Rattle.world_spec.specs.World as worlds
+use Rattle.world_spec.specs.World.{Made, World, new_world, stated, voted_statement}
+use Rattle.world_spec.specs.Names.{cert_named, made_named}
+use Rattle.world_spec.specs.Step.{happens}
+use Rattle.world_spec.specs.Run.{world_after}
+use Rattle.world_spec.specs.Assumptions.{all_of, calls_of, send_call, vote_call}
+use Rattle.scene_spec.specs.Starts.{read_record, started, started_from, taken_at}
+use Rattle.protocol_spec.specs.Member.Due.{IsDueBehind}
+use Rattle.safety_law.proofs.Apart.{state-push}
+use Rattle.safety_law.proofs.InWorld.{each-back, each-front, each-get, in_world_given, kept-line, new-seats}
+use Rattle.safety_law.proofs.Allowed.{due-allowed}
+use Rattle.safety_law.proofs.Forks.{each-join}
+use Rattle.text_law.proofs.Members.{AreOrigins, IsDigest, IsFitMember, IsFitStatement, fit-none, fit-step, stated-fit, tagged-digest}
+use Rattle.text_law.proofs.Fits.{origins-fit}
+use Rattle.scene_spec.specs.Scene.{Scene}
+use Rattle.scene_spec.specs.Steps.{call_of, call_on, held_call, signed_call}
+use Rattle.scene_spec.specs.Worlds.{IsTrueOf, LineReadsFit, ReadsFit, Restarts, Shows, is_plain, scene_of, spelled}
+use Rattle.run_law.proofs.SceneCounted.{few-rounds, holds-few}
+use Rattle.run_law.proofs.SceneRecords.{spelled-push}
+
+-- ---- what is read fits
+
+read-whole : {A : Type 0} (r : Result A Stop) (x : A) → read_as r ≡ Ok x → r ≡ Ok x
+read-whole (Ok y) x e = cc
+read-whole (Err stop) x e = absurd (cc)
+
+read-fits : {A : Type 0} (c : Codec A) (bytes : List ℕ) (x : A) → IsBytes bytes → read_as (whole c bytes) ≡ Ok x → c.fits x
+read-fits c bytes x are e = (whole-found c bytes x are (read-whole (whole c bytes) x e)).1
+
+spelled-read : {A : Type 0} (c : Codec A) (x : A) → c.fits x → read_as (whole c (c.spell x)) ≡ Ok x
+spelled-read {A} c x fits = ap (λ (r : Result A Stop). read_as r) (whole-only c (c.spell x) x fits refl)
+
+abbrev read_ok : {A : Type 0} → A → Result A WireFault
+read_ok x = Ok x
+
+same-read : {A : Type 0} (x y : A) → read_ok x ≡ read_ok y → x ≡ y
+same-read x y e = cc
+
+spelled-fits : {A : Type 0} (c : Codec A) (x y : A) → c.fits x → read_as (whole c (c.spell x)) ≡ Ok y → c.fits y
+spelled-fits {A} c x y fits e = subst (λ (z : A). c.fits z) (same-read x y (sym (spelled-read c x fits) ∙ e)) fits
+
+pub vote-bytes : (bytes : List ℕ) → IsBytes bytes → ReadsFit (votes bytes)
+unfolding read_signed
+vote-bytes bytes are x e = read-fits transactions.signed bytes x are e
+
+pub hold-bytes : (bytes : List ℕ) → IsBytes bytes → ReadsFit (holds bytes)
+unfolding read_certificate
+hold-bytes bytes are x e = read-fits messages.certificate bytes x are e
+
+pub vote-spelled : (x : SignedTx) → transactions.signed.fits x → ReadsFit (votes (transactions.signed.spell x))
+unfolding read_signed
+vote-spelled x fits y e = spelled-fits transactions.signed x y fits e
+
+pub hold-spelled : (c : Certificate) → messages.certificate.fits c → ReadsFit (holds (messages.certificate.spell c))
+unfolding read_certificate
+hold-spelled c fits d e = spelled-fits messages.certificate c d fits e
+
+-- ---- records that are taken back
+
+abbrev IsTakenBack : Record → Type 0
+IsTakenBack (record_as.Vote tx origins) = Unit {0}
+IsTakenBack (record_as.Hold c) = Unit {0}
+IsTakenBack (record_as.See bytes) = ⊥
+IsTakenBack record_as.Close = Unit {0}
+IsTakenBack (record_as.Ran txs) = Unit {0}
+IsTakenBack record_as.Turn = ⊥
+IsTakenBack (record_as.Ran2 items) = Unit {0}
+
+taken-back : (r : Rules) (m : Member) (x : Record) → IsTakenBack x → is_allowed r m x ≡ true → is_taken r m x ≡ true
+unfolding is_taken
+taken-back r m (record_as.Vote tx origins) back allowed = allowed
+taken-back r m (record_as.Hold c) back allowed = allowed
+taken-back r m (record_as.See bytes) back allowed = absurd back
+taken-back r m record_as.Close back allowed = allowed
+taken-back r m (record_as.Ran txs) back allowed = allowed
+taken-back r m record_as.Turn back allowed = absurd back
+taken-back r m (record_as.Ran2 items) back allowed = allowed
+
+abbrev started_as : Member → Result Member StartRefusal
+started_as m = Ok m
+
+same-start : (m n : Member) → started_as m ≡ started_as n → m ≡ n
+same-start m n e = cc
+
+-- one more record, which is read as x and taken
+start-push : (r : Rules) (kept : List (List ℕ)) (m : Member) (place : ℕ) (bytes : List ℕ) (n : Member) (x : Record)
+    → started_from r m place kept ≡ Ok n → read_record bytes ≡ Ok x → is_taken r n x ≡ true → started_from r m place (kept ++ bytes ∷ []) ≡ Ok (after r n x)
+start-push r [] m place bytes n x e read taken =
+    let same = same-start m n e in
+    ap (λ (b : Result Record WireFault). and_then (taken_at r m place b) (λ next. Ok next)) read
+    ∙ ap (λ (k : Member). and_then (taken_at r k place (Ok x)) (λ next. Ok next)) same
+    ∙ ap (λ (b : Bool). and_then (cond b (started_as (after r n x)) (Err (no_start.BadRecord place 2))) (λ next. Ok next)) taken
+start-push r (b ∷ kept) m place bytes n x e read taken = go (taken_at r m place (read_record b)) e (λ next. start-push r kept next (place + 1) bytes n x)
+  where
+    go : (t : Result Member StartRefusal) → and_then t (λ next. started_from r next (place + 1) kept) ≡ Ok n
+        → ((next : Member) → started_from r next (place + 1) kept ≡ Ok n → read_record bytes ≡ Ok x → is_taken r n x ≡ true → started_from r next (place + 1) (kept ++ bytes ∷ []) ≡ Ok (after r n x))
+        → and_then t (λ next. started_from r next (place + 1) (kept ++ bytes ∷ [])) ≡ Ok (after r n x)
+    go (Ok next) e more = more next e read taken
+    go (Err refusal) e more = absurd (cc)
+
+-- ---- what is due can be spelled
+
+fit-along : (r : Rules) (opening : List Object) (before xs : List Record) → Along (IsDueBehind r opening) before xs → IsFitMember (state r opening before) → IsFitMember (state r opening (before ++ xs))
+fit-along r opening before [] along fit = subst (λ (rs : List Record). IsFitMember (state r opening rs)) (sym (append-nil before)) fit
+fit-along r opening before (x ∷ xs) along fit =
+    subst (λ (rs : List Record). IsFitMember (state r opening rs)) (append_assoc before (x ∷ []) xs)
+    (fit-along r opening (before ++ x ∷ []) xs along.1 (fit-step r opening before along.0.0 x tt along.0.1 fit))
+
+signed-fits : (s : SignedTx) → transactions.signed.fits s → transactions.transaction.fits s.tx
+unfolding transactions.signed
+signed-fits s fits = fits.0
+
+vote-record : (t : Transaction) (origins : List (Option Digest)) → transactions.transaction.fits t → AreOrigins origins → journals.journal_record.fits (record_as.Vote t origins)
+unfolding journals.journal_record
+vote-record t origins fits are = (fits, origins-fit origins are)
+
+hold-record : (c : Certificate) → messages.certificate.fits c → journals.journal_record.fits (record_as.Hold c)
+unfolding journals.journal_record
+hold-record c fits = fits
+
+close-record : journals.journal_record.fits record_as.Close
+unfolding journals.journal_record
+close-record = tt
+
+effects-digest : (e : Effects) → IsDigest (digest_of_effects e)
+unfolding digest_of_effects
+effects-digest e = tagged-digest _ _
+
+items-fit : (xs : List Execution) → Each (λ (x : Execution). IsDigest x.digest) xs → AllByRecursion journals.ran_item.fits (map ran_item xs)
+unfolding journals.ran_item digest
+items-fit [] each = tt
+items-fit (x ∷ xs) each = ((each.0, effects-digest x.gave.effects), items-fit xs each.1)
+
+run-record : (items : List RanItem) → length items < length_limit → AllByRecursion journals.ran_item.fits items → journals.journal_record.fits (record_as.Ran2 items)
+unfolding journals.journal_record
+run-record items few each = (few, All-from_recursion journals.ran_item.fits items each)
+
+abbrev IsAsked : Call → Type 0
+IsAsked (votes bytes) = Unit {0}
+IsAsked (holds bytes) = Unit {0}
+IsAsked (sees number bytes) = ⊥
+IsAsked runs = Unit {0}
+IsAsked closes = Unit {0}
+IsAsked ends = Unit {0}
+IsAsked turns = ⊥
+IsAsked (acks tx) = Unit {0}
+
+module _ (r : Rules) (opening : List Object) (records : List Record) (fit : IsFitMember (state r opening records)) (x : Record) where
+  abbrev m : Member
+  m = state r opening records
+
+  abbrev IsGood : Record → Type 0
+  IsGood y = journals.journal_record.fits y × IsTakenBack y
+
+  some-record : (y : Record) → Some y ≡ Some x → y ≡ x
+  some-record y e = cc
+
+  good-of : (y : Record) → Some y ≡ Some x → IsGood y → IsGood x
+  good-of y e good = subst IsGood (some-record y e) good
+
+  vote-good : (read : Result SignedTx WireFault) (answer : Result Voted VoteRefusal) → ((s : SignedTx) → read ≡ Ok s → transactions.signed.fits s) → Each IsFitStatement (voted_statement answer)
+      → vote_record read answer ≡ Some x → IsGood x
+  vote-good (Err fault) answer fits said e = absurd (cc)
+  vote-good (Ok s) (Err refusal) fits said e = absurd (cc)
+  vote-good (Ok s) (Ok v) fits said e = go v.fresh v.statement said.0 e
+    where
+      go : (b : Bool) (st : Statement) → IsFitStatement st → cond b (kept_vote s.tx st) None ≡ Some x → IsGood x
+      go false st is e = absurd (cc)
+      go true (statement.Vote epoch tx origins) is e = good-of (record_as.Vote s.tx origins) e (vote-record s.tx origins (signed-fits s (fits s refl)) is, tt)
+      go true (statement.End epoch) is e = absurd (cc)
+      go true (statement.Checkpoint epoch number digest) is e = absurd (cc)
+      go true (statement.Ack epoch tx effects) is e = absurd (cc)
+
+  hold-good : (read : Result Certificate WireFault) (answer : Result Bool HoldRefusal) → ((c : Certificate) → read ≡ Ok c → messages.certificate.fits c) → hold_record read answer ≡ Some x → IsGood x
+  hold-good (Err fault) answer fits e = absurd (cc)
+  hold-good (Ok c) answer fits e = go (is_hold_kept answer) e
+    where
+      go : (b : Bool) → where_true b (record_as.Hold c) ≡ Some x → IsGood x
+      go true e = good-of (record_as.Hold c) e (hold-record c (fits c refl), tt)
+      go false e = absurd (cc)
+
+  -- a run that answers finds room for a record
+  has-room : (ran : Ran) → run_answer r m ≡ Ok ran → nat_le record_limit m.records ≡ false
+  unfolding run_answer
+  has-room ran e = go (halted no_run.Halted m) (nat_le record_limit m.records) (ran_as m (rounds (books m) m.executed) (with_rounds m)) e
+    where
+      go : (a : Option RunRefusal) (b : Bool) (y : Ran) → unless_refused (first_some (a ∷ where_true b no_run.Full ∷ [])) y ≡ Ok ran → b ≡ false
+      go (Some q) b y e = absurd (cc)
+      go None true y e = absurd (cc)
+      go None false y e = refl
+
+  few-items : (ran : Ran) → run_answer r m ≡ Ok ran → length (ran_items m) < length_limit
+  few-items ran e =
+      let room = leb-false record_limit m.records (has-room ran e) in
+      let held = holds-few r opening records in
+      let more = few-rounds (books m) m.executed in
+      let same = length-map (rounds (books m) m.executed) ran_item in
+      omega (arith, room, held, more, same)
+
+  ran-digests : (items : List RanItem) → due r m runs ≡ Some (record_as.Ran2 items) → Each (λ (y : Execution). IsDigest y.digest) (rounds (books m) m.executed)
+  unfolding after
+  ran-digests items d =
+      let next : IsFitMember (after r m (record_as.Ran2 items)) = subst IsFitMember (state-push r opening records (record_as.Ran2 items)) (fit-step r opening records runs (record_as.Ran2 items) tt d fit) in
+      each-back (λ (y : Execution). IsDigest y.digest) m.executed (rounds (books m) m.executed) next.executed
+
+  run-good : (answer : Result Ran RunRefusal) → run_answer r m ≡ answer → due r m runs ≡ Some x → run_record m answer ≡ Some x → IsGood x
+  run-good (Err refusal) answers d e = absurd (cc)
+  run-good (Ok ran) answers d e = go (ran_items m) refl e
+    where
+      go : (items : List RanItem) → ran_items m ≡ items → ran_record items ≡ Some x → IsGood x
+      go [] are e = absurd (cc)
+      go (i ∷ is) are e =
+          let due_ : due r m runs ≡ Some (record_as.Ran2 (i ∷ is)) = d ∙ sym e in
+          let few : length (i ∷ is) < length_limit = subst (λ (l : List RanItem). length l < length_limit) are (few-items ran answers) in
+          let each : AllByRecursion journals.ran_item.fits (i ∷ is) = subst (λ (l : List RanItem). AllByRecursion journals.ran_item.fits l) are (items-fit (rounds (books m) m.executed) (ran-digests (i ∷ is) due_)) in
+          good-of (record_as.Ran2 (i ∷ is)) e (run-record (i ∷ is) few each, tt)
+
+  close-good : (answer : Result Bool CloseRefusal) → close_record answer ≡ Some x → IsGood x
+  close-good (Err refusal) e = absurd (cc)
+  close-good (Ok true) e = good-of record_as.Close e (close-record, tt)
+  close-good (Ok false) e = absurd (cc)
+
+  stated-vote : (bytes : List ℕ) → Each IsFitStatement (voted_statement (vote_answer r m bytes))
+  unfolding stated
+  stated-vote bytes = stated-fit r m (votes bytes) fit
+
+  run-due : due r m runs ≡ Some x → IsGood x
+  unfolding due
+  run-due d = run-good (run_answer r m) refl d d
+
+  due-good : (call : Call) → ReadsFit call → IsAsked call → due r m call ≡ Some x → IsGood x
+  unfolding due
+  due-good (votes bytes) fits asked d = vote-good (read_signed bytes) (vote_answer r m bytes) fits (stated-vote bytes) d
+  due-good (holds bytes) fits asked d = hold-good (read_certificate bytes) (hold_answer r m bytes) fits d
+  due-good (sees number bytes) fits asked d = absurd asked
+  due-good runs fits asked d = run-due d
+  due-good closes fits asked d = close-good (close_answer r m) d
+  due-good ends fits asked d = absurd (cc)
+  due-good turns fits asked d = absurd asked
+  due-good (acks tx) fits asked d = absurd (cc)
+
+-- ---- one record more
+
+module _ (s : Setting) where
+  abbrev Given : Call → Type 0
+  Given call = ReadsFit call × IsAsked call
+
+  abbrev Starts : List Record → Type 0
+  Starts records = (started s.rules s.opening (spelled records) ≡ Ok (state s.rules s.opening records)) × Along (IsDueBehind s.rules s.opening) [] records
+
+  start-more : (records : List Record) (x : Record) → journals.journal_record.fits x → is_taken s.rules (state s.rules s.opening records) x ≡ true
+      → started s.rules s.opening (spelled records) ≡ Ok (state s.rules s.opening records) → started s.rules s.opening (spelled (records ++ x ∷ [])) ≡ Ok (state s.rules s.opening (records ++ x ∷ []))
+  unfolding started
+  start-more records x fits taken starts =
+      ap (λ (kept : List (List ℕ)). started_from s.rules (fresh s.opening) 0 kept) (spelled-push records x)
+      ∙ start-push s.rules (spelled records) (fresh s.opening) 0 (journals.journal_record.spell x) (state s.rules s.opening records) x starts (spelled-read journals.journal_record x fits) taken
+      ∙ ap started_as (sym (state-push s.rules s.opening records x))
+
+  start-step : (records : List Record) (call : Call) (x : Record) → Given call → due s.rules (state s.rules s.opening records) call ≡ Some x → Starts records → Starts (records ++ x ∷ [])
+  start-step records call x given d starts =
+      let fit = fit-along s.rules s.opening [] records starts.1 (fit-none s.rules s.opening) in
+      let good = due-good s.rules s.opening records fit x call given.0 given.1 d in
+      let taken = taken-back s.rules (state s.rules s.opening records) x good.1 (due-allowed s.rules (state s.rules s.opening records) x call d) in
+      (start-more records x good.0 taken starts.0, along-push (IsDueBehind s.rules s.opening) [] records x starts.1 (call, d))
+
+  no-start : Starts []
+  unfolding started state
+  no-start = (refl, tt)
+
+  -- ---- the seats of a world
+
+  abbrev SeatStarts : worlds.Seat → Type 0
+  SeatStarts seat = Starts seat.records
+
+  each-from : (seats : List worlds.Seat) → ((m : ℕ) (seat : worlds.Seat) → slice_get seats m ≡ Some seat → SeatStarts seat) → Each SeatStarts seats
+  each-from [] at = tt
+  each-from (x ∷ xs) at = (at 0 x refl, each-from xs (λ m seat is. at (suc m) seat is))
+
+  each-starts : (w : World) → Restarts s w → Each SeatStarts w.seats
+  each-starts w restarts = each-from w.seats (λ m seat at. (restarts.starts m seat at, restarts.due m seat at))
+
+  all-start : (w : World) → Each SeatStarts w.seats → Restarts s w
+  all-start w each = record {
+    starts = λ m seat at. (each-get SeatStarts w.seats m seat each at).0;
+    due = λ m seat at. (each-get SeatStarts w.seats m seat each at).1;
+  }
+
+  -- ---- the calls of a line
+
+  vote-asked : (m : ℕ) (t : Option Made) → LineReadsFit (call_on m (option_map signed_call t)) → Each Given (vote_call t)
+  vote-asked m None fits = tt
+  vote-asked m (Some t) fits = ((fits, tt), tt)
+
+  send-asked : (m : ℕ) (c : Option Certificate) → LineReadsFit (call_on m (option_map held_call c)) → Each Given (send_call c)
+  send-asked m None fits = tt
+  send-asked m (Some c) fits = ((fits, tt), tt)
+
+  line-asked : (w : World) (e : Event) → is_plain e ≡ true → LineReadsFit (call_of (scene_of s w) e) → Each Given (calls_of s w e)
+  unfolding call_of
+  line-asked w (event.Tx name sender spoiled epoch gas budget inputs commands) plain fits = tt
+  line-asked w (event.Vote m tx) plain fits = vote-asked m (made_named w tx) fits
+  line-asked w (event.Fvote m tx origins) plain fits = tt
+  line-asked w (event.Cert tx members) plain fits = tt
+  line-asked w (event.Send m tx) plain fits = send-asked m (cert_named w tx) fits
+  line-asked w (event.Order tx) plain fits = absurd (cc)
+  line-asked w (event.OrderEnd m) plain fits = absurd (cc)
+  line-asked w event.OrderCommit plain fits = absurd (cc)
+  line-asked w (event.See m entries) plain fits = absurd (cc)
+  line-asked w (event.Run m workers) plain fits = ((tt, tt), tt)
+  line-asked w (event.Close m) plain fits = absurd (cc)
+  line-asked w (event.End m) plain fits = absurd (cc)
+  line-asked w (event.Turn m) plain fits = absurd (cc)
+  line-asked w (event.Show m) plain fits = tt
+  line-asked w (event.Stop m kept) plain fits = tt
+  line-asked w (event.Restart m) plain fits = tt
+  line-asked w (event.RawVote m bytes) plain fits = ((fits, tt), tt)
+  line-asked w (event.RawHold m bytes) plain fits = ((fits, tt), tt)
+  line-asked w (event.Ack m tx spoiled) plain fits = absurd (cc)
+  line-asked w (event.Final tx members) plain fits = absurd (cc)
+
+  pub first-starts : Restarts s (new_world s)
+  unfolding new_world
+  first-starts = all-start (new_world s) (new-seats s Given Starts start-step s.honest no-start)
+
+pub line-starts : (trust : Trust) (s : Setting) (w : World) (sc : Scene) (e : Event) → Shows trust s w sc → is_plain e ≡ true → LineReadsFit (call_of sc e) → Restarts s w → Restarts s (happens s w e)
+line-starts trust s w sc e shows plain fits restarts =
+    all-start s (happens s w e)
+    (kept-line s (Given s) (Starts s) (start-step s) w e (line-asked s w e plain (subst (λ (x : Scene). LineReadsFit (call_of x e)) shows.scene fits)) (each-starts s w restarts))
+
+-- ---- a run
+
+-- the calls of plain lines
+plain-calls : (s : Setting) (w : World) (e : Event) → is_plain e ≡ true → Each ReadsFit (calls_of s w e) → Each (Given s) (calls_of s w e)
+plain-calls s w (event.Tx name sender spoiled epoch gas budget inputs commands) plain fits = tt
+plain-calls s w (event.Vote m tx) plain fits = go (made_named w tx) fits
+  where
+    go : (t : Option Made) → Each ReadsFit (vote_call t) → Each (Given s) (vote_call t)
+    go None fits = tt
+    go (Some t) fits = ((fits.0, tt), tt)
+plain-calls s w (event.Fvote m tx origins) plain fits = tt
+plain-calls s w (event.Cert tx members) plain fits = tt
+plain-calls s w (event.Send m tx) plain fits = go (cert_named w tx) fits
+  where
+    go : (c : Option Certificate) → Each ReadsFit (send_call c) → Each (Given s) (send_call c)
+    go None fits = tt
+    go (Some c) fits = ((fits.0, tt), tt)
+plain-calls s w (event.Order tx) plain fits = absurd (cc)
+plain-calls s w (event.OrderEnd m) plain fits = absurd (cc)
+plain-calls s w event.OrderCommit plain fits = absurd (cc)
+plain-calls s w (event.See m entries) plain fits = absurd (cc)
+plain-calls s w (event.Run m workers) plain fits = ((tt, tt), tt)
+plain-calls s w (event.Close m) plain fits = absurd (cc)
+plain-calls s w (event.End m) plain fits = absurd (cc)
+plain-calls s w (event.Turn m) plain fits = absurd (cc)
+plain-calls s w (event.Show m) plain fits = tt
+plain-calls s w (event.Stop m kept) plain fits = tt
+plain-calls s w (event.Restart m) plain fits = tt
+plain-calls s w (event.RawVote m bytes) plain fits = ((fits.0, tt), tt)
+plain-calls s w (event.RawHold m bytes) plain fits = ((fits.0, tt), tt)
+plain-calls s w (event.Ack m tx spoiled) plain fits = absurd (cc)
+plain-calls s w (event.Final tx members) plain fits = absurd (cc)
+
+run-calls : (s : Setting) (events : List Event) (w : World) → Each (IsTrueOf is_plain) events → Each ReadsFit (all_of calls_of s events w) → Each (Given s) (all_of calls_of s events w)
+run-calls s [] w plain fits = tt
+run-calls s (e ∷ events) w plain fits =
+    each-join (Given s) (calls_of s w e) (all_of calls_of s events (happens s w e))
+    (plain-calls s w e plain.0 (each-front ReadsFit (calls_of s w e) _ fits))
+    (run-calls s events (happens s w e) plain.1 (each-back ReadsFit (calls_of s w e) _ fits))
+
+pub run-starts : (s : Setting) (events : List Event) → Each (IsTrueOf is_plain) events → Each ReadsFit (all_of calls_of s events (new_world s)) → Restarts s (world_after s events)
+run-starts s events plain fits =
+    let all = in_world_given s (Given s) (Starts s) (start-step s) (no-start s) events (run-calls s events (new_world s) plain fits) in
+    record { starts = λ m seat at. (all m seat at).0; due = λ m seat at. (all m seat at).1 }

@@ -1,0 +1,28 @@
+//! First laws of every run: each event is reported, a restart changes no member's state, neither does a call that
+//! appends no record, and the number of workers changes nothing; older records are read as the present ones.
+ghost use Rattle.run_law.specs.Laws.{EachEventIsReported, NoRecordNoChange, OlderRunsAreRead, RestartKeepsStates, WorkersChangeNothing};
+
+/// A report has at least one line for each event.
+pub fn each_event_is_reported()
+    ensures { EachEventIsReported }
+{}
+
+/// A restart leaves the state of every member as it was.
+pub fn restart_keeps_states()
+    ensures { RestartKeepsStates }
+{}
+
+/// A call that appends no record leaves the state as it was.
+pub fn no_record_no_change()
+    ensures { NoRecordNoChange }
+{}
+
+/// The number of workers of each run changes neither the report nor a journal.
+pub fn workers_change_nothing()
+    ensures { WorkersChangeNothing }
+{}
+
+/// Records whose runs name no effects give the state of those that do.
+pub fn older_runs_are_read()
+    ensures { OlderRunsAreRead }
+{}

@@ -1,0 +1,409 @@
+-- In each world of a run: votes are for transactions that were made or handed to a member, each seal of a formed
+-- certificate is over a vote that was stated, and what is ordered was formed or stated.
+use Rattle.std.proofs.Common.{inl, inr, refl, sym, subst, ap, ◌∙◌}
+use Rattle.std.proofs.lemmas.Bool.{eqb-true}
+use Rattle.std.specs.Prelude.{◌≡◌, ◌⊎◌, ℕ, zero, suc, Bool, true, false, not, ◌==◌, List, [], ◌∷◌, ◌++◌, map, slice_get, slice_set, Option, Some, None, Result, Ok, Err}
+use Rattle.wire_bcs.specs.declared.fault.WireFault.{WireFault}
+use Rattle.digest_core.specs.declared.Digest.{Digest}
+use Rattle.chain_types.specs.Equal.{digest_eq}
+use Rattle.chain_types.specs.Digests.{transaction_digest}
+use Rattle.chain_types.specs.declared.transactions.Transaction.{Transaction}
+use Rattle.chain_types.specs.declared.transactions.SignedTx.{SignedTx}
+use Rattle.chain_messages.specs.declared.messages.Statement.{Statement}
+use Rattle.chain_messages.specs.declared.messages.Statement.TheVariants as statement
+use Rattle.chain_messages.specs.declared.messages.MemberSeal.{MemberSeal}
+use Rattle.chain_messages.specs.declared.messages.Entry.{Entry}
+use Rattle.chain_messages.specs.declared.messages.Entry.TheVariants as entry
+use Rattle.answer_types.specs.declared.refusals.VoteRefusal.{VoteRefusal}
+use Rattle.answer_types.specs.declared.refusals.VoteRefusal.TheVariants as no_vote
+use Rattle.answer_types.specs.declared.refusals.AckRefusal.TheVariants as no_ack
+use Rattle.protocol_spec.specs.Chain.Words.{Has, Each, first_some, first_of, where_true, refused_or, unless_refused}
+use Rattle.protocol_spec.specs.Chain.Tests.{origin_eq, origins_eq, list_eq}
+use Rattle.protocol_spec.specs.Chain.Committee.{weight, total_of, is_quorum}
+use Rattle.protocol_spec.specs.Chain.Certificates.{Rules, read_signed}
+use Rattle.protocol_spec.proofs.ListLemmas.{and-first, and-second}
+use Rattle.protocol_spec.specs.Member.Versions.{execution_of}
+use Rattle.protocol_spec.specs.Member.Votes.{Cast, vote_origins}
+use Rattle.protocol_spec.specs.Member.Member.{Member, ballot, vote_for}
+use Rattle.protocol_spec.specs.Member.Calls.{Call, votes, holds, sees, runs, closes, ends, turns, acks, new_vote_cases, voted_as, vote_again, unsealed_of, vote_read, vote_stopped, vote_answer, see_answer, run_answer, end_answer, ack_answer, end_cases, halted}
+use Rattle.world_spec.specs.Setting.{Setting}
+use Rattle.world_spec.specs.World.{Seat, Said, Made, Formed, World, Reached, finds_down, stops, answers, said_by, with_seat, stopped_seat, stated, voted_statement, reached_seat, behind, called_seat, called_in, is_honest, entries_at, list_or_none}
+use Rattle.world_spec.specs.Step.{says, vote_in, last_said, first_origins, vote_statement, sealed_by, Collected, short, differ, whole, lacks_where, differ_from, differs_among, too_short, whole_or, votes_collected, appended_entry, open_entries, risen_if}
+use Rattle.world_spec.specs.Making.{TxLine, with_made}
+use Rattle.world_spec.specs.Assumptions.{read_list, signed_read}
+use Rattle.safety_law.proofs.Apart.{none-of, accepted}
+use Rattle.safety_law.proofs.Backed.{has-either, has-said}
+use Rattle.safety_law.proofs.Once.{equal, has-left, has-push}
+use Rattle.safety_law.proofs.Kept.{no-seen, no-ran, no-end, no-ack}
+use Rattle.safety_law.proofs.Steps.{Keeps, IsBacked, IsOfMade, last-said, with_formed}
+use Rattle.safety_law.proofs.Grown.{IsGrown, grown-same, grown-seat, grown-behind, grown-keeps}
+
+-- ---- equal origins
+
+origin-equal : (a b : Option Digest) → origin_eq a b ≡ true → a ≡ b
+origin-equal None None e = refl
+origin-equal None (Some b) e = absurd (cc)
+origin-equal (Some a) None e = absurd (cc)
+origin-equal (Some a) (Some b) e = ap (λ (d : Digest). Some d) (equal a b e)
+
+pub origins-equal : (xs ys : List (Option Digest)) → origins_eq xs ys ≡ true → xs ≡ ys
+origins-equal [] [] e = refl
+origins-equal [] (y ∷ ys) e = absurd (cc)
+origins-equal (x ∷ xs) [] e = absurd (cc)
+origins-equal (x ∷ xs) (y ∷ ys) e = both (origin-equal x y (and-first (origin_eq x y) (list_eq origin_eq xs ys) e)) (origins-equal xs ys (and-second (origin_eq x y) (list_eq origin_eq xs ys) e))
+  where
+    both : x ≡ y → xs ≡ ys → x ∷ xs ≡ y ∷ ys
+    both p q = cc
+
+-- ---- what collecting the whole says
+
+only : {A : Type 0} (o : Option A) (a : A) → first_some (o ∷ []) ≡ Some a → o ≡ Some a
+only None a e = e
+only (Some b) a e = e
+
+-- no element says it, so it is not the first
+never-first : {A B : Type 0} (says : A → Option B) (bad : B) → ((x : A) → says x ≡ Some bad → ⊥) → (xs : List A) → first_of says xs ≡ Some bad → ⊥
+never-first says bad not [] e = absurd (cc)
+never-first {A} {B} says bad not (x ∷ xs) e = go (says x) refl e (never-first says bad not xs)
+  where
+    go : (o : Option B) → says x ≡ o → first_some (o ∷ first_of says xs ∷ []) ≡ Some bad → (first_of says xs ≡ Some bad → ⊥) → ⊥
+    go (Some b) q e rest = not x (q ∙ e)
+    go None q e rest = rest (only (first_of says xs) bad e)
+
+whole-none : (a b c : Option Collected) → (a ≡ Some whole → ⊥) → (b ≡ Some whole → ⊥) → (c ≡ Some whole → ⊥) → whole_or (first_some (a ∷ b ∷ c ∷ [])) ≡ whole → (a ≡ None) × (b ≡ None) × (c ≡ None)
+whole-none (Some x) b c p q r e = absurd (p (ap (λ (y : Collected). Some y) e))
+whole-none None (Some x) c p q r e = absurd (q (ap (λ (y : Collected). Some y) e))
+whole-none None None (Some x) p q r e = absurd (r (ap (λ (y : Collected). Some y) e))
+whole-none None None None p q r e = (refl, refl, refl)
+
+module _ (reads : ℕ → Option (List (Option Digest))) where
+  no-lack : (m : ℕ) → lacks_where m (reads m) ≡ Some whole → ⊥
+  no-lack m e = go (reads m) e
+    where
+      go : (o : Option (List (Option Digest))) → lacks_where m o ≡ Some whole → ⊥
+      go None e = cc
+      go (Some x) e = cc
+
+  no-true : (b : Bool) (c : Collected) → (c ≡ whole → ⊥) → where_true b c ≡ Some whole → ⊥
+  no-true true c other e = other (same e)
+    where
+      same : Some c ≡ Some whole → c ≡ whole
+      same e = cc
+  no-true false c other e = cc
+
+  no-short : (stakes : List ℕ) (ms : List ℕ) → too_short stakes ms ≡ Some whole → ⊥
+  no-short stakes ms e = no-true _ _ (λ q. cc) e
+
+  no-differ : (a m : ℕ) → differ_from origins_eq a (reads a) m (reads m) ≡ Some whole → ⊥
+  no-differ a m e = go (reads a) (reads m) e
+    where
+      go : (x y : Option (List (Option Digest))) → differ_from origins_eq a x m y ≡ Some whole → ⊥
+      go None y e = cc
+      go (Some x) None e = cc
+      go (Some x) (Some y) e = no-true (not (origins_eq x y)) (differ a m) (λ q. cc) e
+
+  no-differs : (ms : List ℕ) → differs_among origins_eq reads ms ≡ Some whole → ⊥
+  no-differs [] e = cc
+  no-differs (a ∷ ms) e = never-first (λ b. differ_from origins_eq a (reads a) b (reads b)) whole (no-differ a) ms e
+
+  filled : (m : ℕ) (o : Option (List (Option Digest))) → lacks_where m o ≡ None → (x : List (Option Digest)) × (o ≡ Some x)
+  filled m None e = absurd (cc)
+  filled m (Some x) e = (x, refl)
+
+  alike : (a m : ℕ) (o p : Option (List (Option Digest))) (x y : List (Option Digest)) → o ≡ Some x → p ≡ Some y → differ_from origins_eq a o m p ≡ None → x ≡ y
+  alike a m None p x y eo ep e = absurd (cc)
+  alike a m (Some u) None x y eo ep e = absurd (cc)
+  alike a m (Some u) (Some v) x y eo ep e = sym (same u x eo) ∙ (origins-equal u v (accepted (origins_eq u v) (differ a m) e) ∙ same v y ep)
+    where
+      same : (u x : List (Option Digest)) → Some u ≡ Some x → u ≡ x
+      same u x e = cc
+
+  -- all members say the first one's word
+  agreed : (a : ℕ) (ms : List ℕ) → first_of (λ m. lacks_where m (reads m)) (a ∷ ms) ≡ None → differs_among origins_eq reads (a ∷ ms) ≡ None → (m : ℕ) → Has (a ∷ ms) m → reads m ≡ Some (list_or_none (reads a))
+  agreed a ms lack differs m h = go (filled a (reads a) (none-of (λ k. lacks_where k (reads k)) (a ∷ ms) a lack (inl refl))) h
+    where
+      go : (x : List (Option Digest)) × (reads a ≡ Some x) → Has (a ∷ ms) m → reads m ≡ Some (list_or_none (reads a))
+      go (x, e) (inl q) = subst (λ (n : ℕ). reads n ≡ Some (list_or_none (reads a))) q (e ∙ ap (λ (o : Option (List (Option Digest))). Some (list_or_none o)) (sym e))
+      go (x, e) (inr h) = next (filled m (reads m) (none-of (λ k. lacks_where k (reads k)) (a ∷ ms) m lack (inr h)))
+        where
+          next : (y : List (Option Digest)) × (reads m ≡ Some y) → reads m ≡ Some (list_or_none (reads a))
+          next (y, f) =
+              let same = alike a m (reads a) (reads m) x y e f (none-of (λ b. differ_from origins_eq a (reads a) b (reads b)) ms m differs h) in
+              f ∙ (ap (λ (z : List (Option Digest)). Some z) (sym same) ∙ ap (λ (o : Option (List (Option Digest))). Some (list_or_none o)) (sym e))
+
+-- ---- the votes of a formed certificate
+
+is-vote : (tx : Digest) (st : Statement) (o : List (Option Digest)) → vote_in tx st ≡ Some o → (e : ℕ) × (st ≡ statement.Vote e tx o)
+is-vote tx (statement.End e) o q = absurd (cc)
+is-vote tx (statement.Checkpoint e number digest) o q = absurd (cc)
+is-vote tx (statement.Ack e t effects) o q = absurd (cc)
+is-vote tx (statement.Vote e t p) o q = go (digest_eq t tx) refl q
+  where
+    named : t ≡ tx → Some p ≡ Some o → statement.Vote e t p ≡ statement.Vote e tx o
+    named a b = cc
+
+    go : (b : Bool) → digest_eq t tx ≡ b → where_true b p ≡ Some o → (n : ℕ) × (statement.Vote e t p ≡ statement.Vote n tx o)
+    go true d q = (e, named (equal t tx d) q)
+    go false d q = absurd (cc)
+
+module _ (s : Setting) (w : World) (tx : Digest) where
+  abbrev said_of : ℕ → Option (List (Option Digest))
+  said_of m = last_said (vote_in tx) m w.said
+
+  -- none of the causes applies
+  free : (ms : List ℕ) → votes_collected s w tx ms ≡ whole → (first_of (λ k. lacks_where k (said_of k)) ms ≡ None) × (too_short s.rules.stakes ms ≡ None) × (differs_among origins_eq said_of ms ≡ None)
+  unfolding votes_collected
+  free ms e = whole-none (first_of (λ k. lacks_where k (said_of k)) ms) (too_short s.rules.stakes ms) (differs_among origins_eq said_of ms)
+      (never-first (λ k. lacks_where k (said_of k)) whole (no-lack said_of) ms) (no-short said_of s.rules.stakes ms) (no-differs said_of ms) e
+
+  firsts : (ms : List ℕ) (m : ℕ) → votes_collected s w tx ms ≡ whole → Has ms m → said_of m ≡ Some (first_origins w tx ms)
+  firsts [] m e h = absurd h
+  firsts (a ∷ ms) m e h = let none = free (a ∷ ms) e in agreed said_of a ms none.0 none.2 m h
+
+  pub collected-quorum : (ms : List ℕ) → votes_collected s w tx ms ≡ whole → is_quorum s.rules.stakes (weight s.rules.stakes ms) ≡ true
+  collected-quorum ms e = accepted (is_quorum s.rules.stakes (weight s.rules.stakes ms)) (short (weight s.rules.stakes ms) (total_of s.rules.stakes)) (free ms e).1
+
+  pub collected-said : (ms : List ℕ) (m : ℕ) → votes_collected s w tx ms ≡ whole → Has ms m → (e : ℕ) × Has w.said (said_by m (statement.Vote e tx (first_origins w tx ms)))
+  collected-said ms m e h = go (last-said (vote_in tx) m w.said (first_origins w tx ms) (firsts ms m e h))
+    where
+      go : (st : Statement) × Has w.said (said_by m st) × (vote_in tx st ≡ Some (first_origins w tx ms)) → (n : ℕ) × Has w.said (said_by m (statement.Vote n tx (first_origins w tx ms)))
+      go (st, k, r) = let v = is-vote tx st (first_origins w tx ms) r in (v.0, subst (λ (x : Statement). Has w.said (said_by m x)) v.1 k)
+
+-- ---- a vote is for a transaction that was made or handed
+
+abbrev pub IsGiven : List SignedTx → List Made → Transaction → Type 0
+IsGiven total txs t = ((x : Made) × Has txs x × (x.signed.tx ≡ t)) ⊎ ((x : SignedTx) × Has total x × (x.tx ≡ t))
+
+abbrev pub IsSpoken : List SignedTx → List Made → Statement → Type 0
+IsSpoken total txs (statement.Vote epoch tx origins) = (t : Transaction) × IsGiven total txs t × (transaction_digest t ≡ tx) × (t.epoch ≡ epoch)
+IsSpoken total txs (statement.End epoch) = Unit {0}
+IsSpoken total txs (statement.Checkpoint epoch number digest) = Unit {0}
+IsSpoken total txs (statement.Ack epoch tx effects) = Unit {0}
+
+module _ (total : List SignedTx) where
+  pub given-more : (txs more : List Made) → ((t : Made) → Has txs t → Has more t) → (t : Transaction) → IsGiven total txs t → IsGiven total more t
+  given-more txs more grow t (inl (x, h, e)) = inl (x, grow x h, e)
+  given-more txs more grow t (inr x) = inr x
+
+  spoken-more : (txs more : List Made) → ((t : Made) → Has txs t → Has more t) → (st : Statement) → IsSpoken total txs st → IsSpoken total more st
+  spoken-more txs more grow (statement.Vote epoch tx origins) (t, g, d, e) = (t, given-more txs more grow t g, d, e)
+  spoken-more txs more grow (statement.End epoch) spoken = tt
+  spoken-more txs more grow (statement.Checkpoint epoch number digest) spoken = tt
+  spoken-more txs more grow (statement.Ack epoch tx effects) spoken = tt
+
+  spoken-made : (w : World) (st : Statement) → ((t : Made) → Has w.txs t → t.digest ≡ transaction_digest t.signed.tx) → IsOfMade w st → IsSpoken total w.txs st
+  spoken-made w (statement.Vote epoch tx origins) made (t, h, d, e) = (t.signed.tx, inl (t, h, refl), sym (made t h) ∙ d, e)
+  spoken-made w (statement.End epoch) made spoken = tt
+  spoken-made w (statement.Checkpoint epoch number digest) made spoken = tt
+  spoken-made w (statement.Ack epoch tx effects) made spoken = tt
+
+  module _ (r : Rules) (m : Member) (txs : List Made) (epoch : ℕ) (d : Digest) (o : List (Option Digest)) where
+    abbrev Spoken : Type 0
+    Spoken = IsSpoken total txs (statement.Vote epoch d o)
+
+    voted-spoken : (x : SignedTx) (origins : List (Option Digest)) → Has total x → (x.tx.epoch == m.epoch) ≡ true → statement.Vote m.epoch (transaction_digest x.tx) origins ≡ statement.Vote epoch d o → Spoken
+    voted-spoken x origins h same q = (x.tx, inr (x, h, refl), of-digest q, eqb-true x.tx.epoch m.epoch same ∙ of-epoch q)
+      where
+        of-digest : statement.Vote m.epoch (transaction_digest x.tx) origins ≡ statement.Vote epoch d o → transaction_digest x.tx ≡ d
+        of-digest q = cc
+
+        of-epoch : statement.Vote m.epoch (transaction_digest x.tx) origins ≡ statement.Vote epoch d o → m.epoch ≡ epoch
+        of-epoch q = cc
+
+    new-spoken : (x : SignedTx) (refusal : Option VoteRefusal) → Has total x → (x.tx.epoch == m.epoch) ≡ true → Has (voted_statement (unless_refused refusal (voted_as m x.tx (vote_origins (ballot m) x.tx) true))) (statement.Vote epoch d o) → Spoken
+    new-spoken x (Some refusal) t same h = absurd h
+    new-spoken x None t same (inl q) = voted-spoken x (vote_origins (ballot m) x.tx) t same q
+    new-spoken x None t same (inr h) = absurd h
+
+    again-spoken : (x : SignedTx) (v : Option Cast) → Has total x → (x.tx.epoch == m.epoch) ≡ true → Has (voted_statement (vote_again m x.tx (unsealed_of r x) v)) (statement.Vote epoch d o) → Spoken
+    again-spoken x None t same h = new-spoken x (first_some (new_vote_cases m x.tx (unsealed_of r x))) t same h
+    again-spoken x (Some v) t same (inl q) = voted-spoken x v.origins t same q
+    again-spoken x (Some v) t same (inr h) = absurd h
+
+    on-spoken : (x : SignedTx) (same : Bool) → (x.tx.epoch == m.epoch) ≡ same → Has total x → Has (voted_statement (refused_or (where_true (not same) (no_vote.WrongEpoch x.tx.epoch m.epoch)) (vote_again m x.tx (unsealed_of r x) (vote_for m (transaction_digest x.tx))))) (statement.Vote epoch d o) → Spoken
+    on-spoken x false q t h = absurd h
+    on-spoken x true q t h = again-spoken x (vote_for m (transaction_digest x.tx)) t q h
+
+    read-spoken : (read : Result SignedTx WireFault) (stopped : Option VoteRefusal) → Each (Has total) (read_list read) → Has (voted_statement (refused_or stopped (vote_read r m read))) (statement.Vote epoch d o) → Spoken
+    read-spoken (Err fault) None g h = absurd h
+    read-spoken (Err fault) (Some refusal) g h = absurd h
+    read-spoken (Ok x) (Some refusal) g h = absurd h
+    read-spoken (Ok x) None g h = on-spoken x (x.tx.epoch == m.epoch) refl g.0 h
+
+    call-spoken : (call : Call) → Each (Has total) (signed_read r call) → Has (stated r m call) (statement.Vote epoch d o) → Spoken
+    unfolding stated vote_answer end_answer ack_answer
+    call-spoken (votes bytes) g h = read-spoken (read_signed bytes) (vote_stopped m) g h
+    call-spoken (holds bytes) g h = absurd h
+    call-spoken (sees number bytes) g h = absurd (no-seen m epoch d o (see_answer r m number bytes) h)
+    call-spoken runs g h = absurd (no-ran m epoch d o (run_answer r m) h)
+    call-spoken closes g h = absurd h
+    call-spoken ends g h = absurd (no-end m epoch d o (first_some (end_cases m)) h)
+    call-spoken turns g h = absurd h
+    call-spoken (acks tx) g h = absurd (no-ack m epoch d o tx (halted no_ack.Halted m) (execution_of m.executed tx) h)
+
+  stated-spoken : (r : Rules) (m : Member) (call : Call) (txs : List Made) (st : Statement) → Each (Has total) (signed_read r call) → Has (stated r m call) st → IsSpoken total txs st
+  stated-spoken r m call txs (statement.Vote epoch d o) g h = call-spoken r m txs epoch d o call g h
+  stated-spoken r m call txs (statement.End epoch) g h = tt
+  stated-spoken r m call txs (statement.Checkpoint epoch number digest) g h = tt
+  stated-spoken r m call txs (statement.Ack epoch tx effects) g h = tt
+
+-- ---- the world
+
+pub record IsSound (total : List SignedTx) (w : World) : Type 0 where
+  pub made : (t : Made) → Has w.txs t → t.digest ≡ transaction_digest t.signed.tx
+  pub spoken : (x : Said) → Has w.said x → IsSpoken total w.txs x.statement
+  pub voted : (f : Formed) → Has w.certs f → (x : MemberSeal) → Has f.cert.seals x → (e : ℕ) × Has w.said (said_by x.member (statement.Vote e (transaction_digest f.cert.tx) f.cert.origins))
+  pub backed : (es : List Entry) → Has w.sequences es → (e : Entry) → Has es e → IsBacked w e
+
+backed-grown : (w v : World) → IsGrown w v → (e : Entry) → IsBacked w e → IsBacked v e
+backed-grown w v g (entry.Cert c) (f, h, e) = (f, g.certs f h, e)
+backed-grown w v g (entry.End x) told = λ honest. g.said (said_by x.member x.statement) (told (sym (g.honest x.member) ∙ honest))
+backed-grown w v g entry.Commit backed = tt
+
+has-set : {A : Type 0} (xs : List A) (n : ℕ) (y x : A) → Has (slice_set xs n y) x → Has xs x ⊎ (y ≡ x)
+has-set [] n y x h = absurd h
+has-set (z ∷ zs) zero y x (inl e) = inr e
+has-set (z ∷ zs) zero y x (inr h) = inl (inr h)
+has-set (z ∷ zs) (suc n) y x (inl e) = inl (inl e)
+has-set {A} (z ∷ zs) (suc n) y x (inr h) = go (has-set zs n y x h)
+  where
+    go : Has zs x ⊎ (y ≡ x) → Has (z ∷ zs) x ⊎ (y ≡ x)
+    go (inl h) = inl (inr h)
+    go (inr e) = inr e
+
+pub get-has : {A : Type 0} (xs : List A) (n : ℕ) (x : A) → slice_get xs n ≡ Some x → Has xs x
+get-has [] n x e = absurd (cc)
+get-has (y ∷ ys) zero x e = inl (same e)
+  where
+    same : Some y ≡ Some x → y ≡ x
+    same e = cc
+get-has (y ∷ ys) (suc n) x e = inr (get-has ys n x e)
+
+-- an entry of an epoch's sequence stands in one of the sequences
+pub entry-in : (qs : List (List Entry)) (n : ℕ) (e : Entry) → Has (entries_at qs n) e → (es : List Entry) × Has qs es × Has es e
+entry-in qs n e h = go (slice_get qs n) refl h
+  where
+    go : (o : Option (List Entry)) → slice_get qs n ≡ o → Has (list_or_none o) e → (es : List Entry) × Has qs es × Has es e
+    go None q h = absurd h
+    go (Some es) q h = (es, get-has qs n es q, h)
+
+-- where transactions, certificates and sequences stay
+sound-as : (total : List SignedTx) (w v : World) → IsGrown w v → v.txs ≡ w.txs → v.certs ≡ w.certs → v.sequences ≡ w.sequences → ((x : Said) → Has v.said x → IsSpoken total w.txs x.statement) → IsSound total w → IsSound total v
+sound-as total w v g txs certs sequences spoken sound = record {
+  made = λ t h. sound.made t (subst (λ (ts : List Made). Has ts t) txs h);
+  spoken = λ x h. subst (λ (ts : List Made). IsSpoken total ts x.statement) (sym txs) (spoken x h);
+  voted = λ f h x k. let v = sound.voted f (subst (λ (fs : List Formed). Has fs f) certs h) x k in (v.0, g.said _ v.1);
+  backed = λ es h e k. backed-grown w v g e (sound.backed es (subst (λ (qs : List (List Entry)). Has qs es) sequences h) e k);
+}
+
+module _ (s : Setting) (total : List SignedTx) where
+  abbrev pub IsGivenCall : Option ℕ → Call → Type 0
+  IsGivenCall m call = Each (Has total) (signed_read s.rules call)
+
+  sound-behind : (w : World) (m : ℕ) (call : Call) (seat : Seat) (r : Reached) → slice_get w.seats m ≡ Some seat → Each (Has total) (signed_read s.rules call) → IsSound total w → IsSound total (behind s w m call seat r)
+  sound-behind w m call seat finds_down at g sound = sound
+  sound-behind w m call seat (stops kept x) at g sound =
+      sound-as total w (with_seat w m (stopped_seat seat kept x)) (grown-seat w m seat (stopped_seat seat kept x) at refl) refl refl refl sound.spoken sound
+  sound-behind w m call seat (answers before x) at g sound =
+      sound-as total w (behind s w m call seat (answers before x)) (grown-behind s w m call seat (answers before x) at) refl refl refl spoken sound
+    where
+      spoken : (y : Said) → Has (w.said ++ map (said_by m) (stated s.rules before call)) y → IsSpoken total w.txs y.statement
+      spoken y h = go (has-either w.said (map (said_by m) (stated s.rules before call)) y h)
+        where
+          go : Has w.said y ⊎ Has (map (said_by m) (stated s.rules before call)) y → IsSpoken total w.txs y.statement
+          go (inl h) = sound.spoken y h
+          go (inr h) = stated-spoken total s.rules before call w.txs y.statement g (has-said m (stated s.rules before call) y h).1
+
+  sound-called_seat : (w : World) (m : ℕ) (call : Call) (seat : Option Seat) → slice_get w.seats m ≡ seat → Each (Has total) (signed_read s.rules call) → IsSound total w → IsSound total (called_seat s w m call seat)
+  sound-called_seat w m call None at g sound = sound
+  sound-called_seat w m call (Some seat) at g sound = sound-behind w m call seat (reached_seat s call seat) at g sound
+
+  sound-called : (w : World) (m : ℕ) (call : Call) → Each (Has total) (signed_read s.rules call) → IsSound total w → IsSound total (called_in s w m call)
+  unfolding called_in
+  sound-called w m call g sound = sound-called_seat w m call (slice_get w.seats m) refl g sound
+
+  sound-says : (w : World) (m : ℕ) (st : Statement) → is_honest w m ≡ false → IsOfMade w st → IsSound total w → IsSound total (says w m st)
+  sound-says w m st faulty of_made sound =
+      sound-as total w (says w m st) ((grown-keeps s w).lies w m st faulty of_made (grown-same w)) refl refl refl spoken sound
+    where
+      spoken : (y : Said) → Has (w.said ++ said_by m st ∷ []) y → IsSpoken total w.txs y.statement
+      spoken y h = go (has-push w.said (said_by m st) y h)
+        where
+          go : Has w.said y ⊎ (said_by m st ≡ y) → IsSpoken total w.txs y.statement
+          go (inl h) = sound.spoken y h
+          go (inr e) = subst (λ (z : Said). IsSpoken total w.txs z.statement) e (spoken-made total w st sound.made of_made)
+
+  sound-enters : (w : World) (e : Entry) → IsBacked w e → IsSound total w → IsSound total (appended_entry w e)
+  sound-enters w e backed sound = record { made = sound.made; spoken = sound.spoken; voted = sound.voted; backed = entries }
+    where
+      grown : IsGrown w (appended_entry w e)
+      grown = (grown-keeps s w).enters w e backed (grown-same w)
+
+      newer : (x : Entry) → Has (open_entries w) x ⊎ (e ≡ x) → IsBacked w x
+      newer x (inl h) = let at = entry-in w.sequences w.epoch x h in sound.backed at.0 at.1 x at.2
+      newer x (inr q) = subst (IsBacked w) q backed
+
+      entries : (es : List Entry) → Has (slice_set w.sequences w.epoch (open_entries w ++ e ∷ [])) es → (x : Entry) → Has es x → IsBacked (appended_entry w e) x
+      entries es h x k = go (has-set w.sequences w.epoch (open_entries w ++ e ∷ []) es h)
+        where
+          go : Has w.sequences es ⊎ ((open_entries w ++ e ∷ []) ≡ es) → IsBacked (appended_entry w e) x
+          go (inl h) = backed-grown w (appended_entry w e) grown x (sound.backed es h x k)
+          go (inr q) = backed-grown w (appended_entry w e) grown x (newer x (has-push (open_entries w) e x (subst (λ (ys : List Entry). Has ys x) (sym q) k)))
+
+  sound-rises : (w : World) → IsSound total w → IsSound total (risen_if true w)
+  sound-rises w sound = record { made = sound.made; spoken = sound.spoken; voted = sound.voted; backed = entries }
+    where
+      entries : (es : List Entry) → Has (w.sequences ++ [] ∷ []) es → (x : Entry) → Has es x → IsBacked (risen_if true w) x
+      entries es h x k = go (has-push w.sequences [] es h)
+        where
+          go : Has w.sequences es ⊎ ([] ≡ es) → IsBacked (risen_if true w) x
+          go (inl h) = backed-grown w (risen_if true w) ((grown-keeps s w).rises w (grown-same w)) x (sound.backed es h x k)
+          go (inr q) = absurd (subst (λ (ys : List Entry). Has ys x) (sym q) k)
+
+  sound-makes : (w : World) (l : TxLine) (t : Made) → t.digest ≡ transaction_digest t.signed.tx → IsSound total w → IsSound total (with_made w l t)
+  sound-makes w l t digest sound = record {
+    made = λ x h. made x (has-push w.txs t x h);
+    spoken = λ x h. spoken-more total w.txs (w.txs ++ t ∷ []) (λ y k. has-left w.txs (t ∷ []) y k) x.statement (sound.spoken x h);
+    voted = sound.voted;
+    backed = λ es h e k. backed-grown w (with_made w l t) ((grown-keeps s w).makes w l t digest (grown-same w)) e (sound.backed es h e k);
+  }
+    where
+      made : (x : Made) → Has w.txs x ⊎ (t ≡ x) → x.digest ≡ transaction_digest x.signed.tx
+      made x (inl h) = sound.made x h
+      made x (inr e) = subst (λ (y : Made). y.digest ≡ transaction_digest y.signed.tx) e digest
+
+  has-sealed : (st : Statement) (ms : List ℕ) (x : MemberSeal) → Has (map (sealed_by s st) ms) x → Has ms x.member
+  has-sealed st [] x h = absurd h
+  has-sealed st (m ∷ ms) x (inl e) = inl (ap (λ (y : MemberSeal). y.member) e)
+  has-sealed st (m ∷ ms) x (inr h) = inr (has-sealed st ms x h)
+
+  sound-forms : (w : World) (t : Made) (ms : List ℕ) → Has w.txs t → votes_collected s w t.digest ms ≡ whole → IsSound total w → IsSound total (with_formed s w t ms)
+  sound-forms w t ms h e sound = record {
+    made = sound.made;
+    spoken = sound.spoken;
+    voted = λ f k x l. voted f x l (has-push w.certs _ f k);
+    backed = λ es k y l. backed-grown w (with_formed s w t ms) ((grown-keeps s w).forms w t ms h e (grown-same w)) y (sound.backed es k y l);
+  }
+    where
+      new : Formed
+      new = record { name = t.name; cert = record { tx = t.signed.tx; origins = first_origins w t.digest ms; seals = map (sealed_by s (vote_statement t.signed.tx t.digest (first_origins w t.digest ms))) ms } }
+
+      by : (x : MemberSeal) → Has new.cert.seals x → (n : ℕ) × Has w.said (said_by x.member (statement.Vote n (transaction_digest t.signed.tx) (first_origins w t.digest ms)))
+      by x l =
+          let v = collected-said s w t.digest ms x.member e (has-sealed (vote_statement t.signed.tx t.digest (first_origins w t.digest ms)) ms x l) in
+          (v.0, subst (λ (d : Digest). Has w.said (said_by x.member (statement.Vote v.0 d (first_origins w t.digest ms)))) (sound.made t h) v.1)
+
+      voted : (f : Formed) (x : MemberSeal) → Has f.cert.seals x → Has w.certs f ⊎ (new ≡ f) → (n : ℕ) × Has w.said (said_by x.member (statement.Vote n (transaction_digest f.cert.tx) f.cert.origins))
+      voted f x l (inl k) = sound.voted f k x l
+      voted f x l (inr q) = subst (λ (g : Formed). Has g.cert.seals x → (n : ℕ) × Has w.said (said_by x.member (statement.Vote n (transaction_digest g.cert.tx) g.cert.origins))) q (by x) l
+
+  pub sound-keeps : Keeps s IsGivenCall (IsSound total)
+  sound-keeps = record {
+    calls = λ w m call g sound. sound-called w m call g sound;
+    lies = λ w m st faulty of_made sound. sound-says w m st faulty of_made sound;
+    seats = λ w m seat new at same records sound. sound-as total w (with_seat w m new) (grown-seat w m seat new at same) refl refl refl sound.spoken sound;
+    enters = λ w e backed sound. sound-enters w e backed sound;
+    rises = λ w sound. sound-rises w sound;
+    makes = λ w l t digest sound. sound-makes w l t digest sound;
+    forms = λ w t ms h e sound. sound-forms w t ms h e sound;
+  }

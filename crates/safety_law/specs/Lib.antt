@@ -1,0 +1,4 @@
+pub mod Quorums
+pub mod Members
+pub mod Owners
+pub mod Replayed

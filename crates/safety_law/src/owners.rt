@@ -1,0 +1,61 @@
+//! The certified transactions of an epoch, in every run with under a third of the stake faulty, no forged statement
+//! and no digest collision: no two of them consume one object version.
+ghost use Rattle.safety_law.specs.Owners.{CertifiedIsFormedOrValid, CertifiedIsVotedFor, FormedIsVotedFor, FrontsAreHonest, NoCallMeetsAFork, NoForkIsMet, NothingIsForged, OneListOfOrigins, OneOwner, SenderHasSigned, StatementsOnlyGrow};
+
+/// What was stated behind some events is stated behind more.
+pub fn statements_only_grow()
+    ensures { StatementsOnlyGrow }
+{}
+
+/// Each member whose seal a certificate has that a line formed stated that vote.
+pub fn formed_is_voted_for()
+    ensures { FormedIsVotedFor }
+{}
+
+/// Each certificate that is certified was formed by a line, or is a valid one that a line delivered. The laws that
+/// follow are of all of these.
+pub fn certified_is_formed_or_valid()
+    ensures { CertifiedIsFormedOrValid }
+{}
+
+/// Of each certified transaction, each honest member whose seal the certificate has stated that vote, and has it in
+/// its journal.
+pub fn certified_is_voted_for()
+    ensures { CertifiedIsVotedFor }
+{}
+
+/// Two certificates of one epoch that consume one version are of one transaction.
+pub fn one_owner()
+    ensures { OneOwner }
+{}
+
+/// Two certificates of one transaction name the same origins.
+pub fn one_list_of_origins()
+    ensures { OneListOfOrigins }
+{}
+
+/// Of each certified transaction, some honest member was handed the transaction with a seal of its sender that is
+/// accepted.
+pub fn sender_has_signed()
+    ensures { SenderHasSigned }
+{}
+
+/// Behind each front of the events no member holds two certificates that consume one version, so none is halted.
+pub fn no_fork_is_met()
+    ensures { NoForkIsMet }
+{}
+
+/// Nor does a call of the next line lead a member to two such certificates, also where it stops at the append.
+pub fn no_call_meets_a_fork()
+    ensures { NoCallMeetsAFork }
+{}
+
+/// Without lines that hand over bytes as a certificate, no statement is forged.
+pub fn nothing_is_forged()
+    ensures { NothingIsForged }
+{}
+
+/// The assumptions on a run hold of each front of its events.
+pub fn fronts_are_honest()
+    ensures { FrontsAreHonest }
+{}

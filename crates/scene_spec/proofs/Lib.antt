@@ -1,0 +1,3 @@
+pub mod KnownWorlds
+pub mod MadeWorlds
+pub mod LineWorlds

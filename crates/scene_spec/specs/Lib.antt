@@ -1,0 +1,11 @@
+pub mod RulesFor
+pub mod Taken
+pub mod Starts
+pub mod Seats
+pub mod Known
+pub mod MadeLines
+pub mod HeldDigests
+pub mod Posts
+pub mod Scene
+pub mod Steps
+pub mod Worlds

@@ -1,0 +1,161 @@
+-- The scene of a world, the forms of line that run without a sequence, and told records. Source: this profile.
+use Rattle.std.specs.Prelude.{◌≡◌, ◌≤◌, ℕ, suc, length, Bool, true, false, List, [], ◌∷◌, ◌++◌, map, slice_get, Option, Some, None, Ok, if◌then◌else◌}
+use Rattle.journal_core.specs.declared.records.Record.{Record}
+use Rattle.journal_core.specs.Records as journals
+use Rattle.outside.specs.Lists.{Journals, journal_of}
+use Rattle.schedule_text.specs.declared.words.Setup.{Setup}
+use Rattle.schedule_text.specs.declared.words.Setup.TheVariants as setup
+use Rattle.schedule_text.specs.declared.words.Event.{Event}
+use Rattle.schedule_text.specs.declared.words.Event.TheVariants as event
+use Rattle.chain_types.specs.declared.transactions.SignedTx.{SignedTx}
+use Rattle.chain_types.specs.Transactions as transactions
+use Rattle.chain_messages.specs.declared.messages.Certificate.{Certificate}
+use Rattle.chain_messages.specs.declared.messages.Entry.{Entry}
+use Rattle.chain_messages.specs.Messages as messages
+use Rattle.protocol_spec.specs.Chain.Words.{Along}
+use Rattle.protocol_spec.specs.Chain.Certificates.{read_signed, read_certificate, read_entry}
+use Rattle.protocol_spec.specs.Member.Calls.{Call, votes, holds, sees, runs, closes, ends, turns, acks}
+use Rattle.protocol_spec.specs.Member.Due.{IsDueBehind}
+use Rattle.world_spec.specs.Setting.{Trust, Setting}
+use Rattle.world_spec.specs.World as worlds
+use Rattle.world_spec.specs.World.{World, member_in}
+use Rattle.world_spec.specs.Run.{records_of}
+use Rattle.scene_spec.specs.Known.{names_of}
+use Rattle.scene_spec.specs.RulesFor.{rules_for}
+use Rattle.scene_spec.specs.Seats.{Seat}
+use Rattle.scene_spec.specs.Starts.{started}
+use Rattle.scene_spec.specs.Posts.{Post, seat_at}
+use Rattle.scene_spec.specs.Scene.{Scene}
+
+-- ---- the scene of a world
+
+abbrev pub standing_of : Setting → ℕ → worlds.Seat → Option Seat
+standing_of s m seat = if seat.up then Some (seat_at s.rules.stakes m (member_in s seat)) else None
+
+abbrev pub post_of : Setting → ℕ → worlds.Seat → Post
+post_of s m seat = record { honest = seat.honest; standing = standing_of s m seat; armed = seat.armed }
+
+abbrev pub posts_from : Setting → ℕ → List worlds.Seat → List Post
+posts_from s m [] = []
+posts_from s m (seat ∷ seats) = post_of s m seat ∷ posts_from s (suc m) seats
+
+abbrev pub scene_of : Setting → World → Scene
+scene_of s w = record {
+  stakes = s.rules.stakes;
+  opening = s.opening;
+  known = names_of s w;
+  said = w.said;
+  certs = w.certs;
+  posts = posts_from s 0 w.seats;
+}
+
+-- a setting whose sequence has no limit of writers, with these seals, and a world in which nothing was ordered
+pub record Shows (trust : Trust) (s : Setting) (w : World) (sc : Scene) : Type 0 where
+  pub rules : s.rules ≡ rules_for s.rules.stakes trust.accepts
+  pub seal : s.seal ≡ trust.seal
+  pub epoch : w.epoch ≡ 0
+  pub sequences : w.sequences ≡ [] ∷ []
+  pub scene : sc ≡ scene_of s w
+
+-- ---- the forms that run without a sequence
+
+abbrev pub is_plain_setup : Setup → Bool
+is_plain_setup (setup.Member stake honest) = true
+is_plain_setup (setup.Coin name who balance) = true
+is_plain_setup (setup.Counter name value) = true
+is_plain_setup (setup.Cap name who currency) = true
+is_plain_setup (setup.Writers n) = false
+
+abbrev pub is_plain : Event → Bool
+is_plain (event.Tx name sender spoiled epoch gas budget inputs commands) = true
+is_plain (event.Vote m tx) = true
+is_plain (event.Fvote m tx origins) = true
+is_plain (event.Cert tx members) = true
+is_plain (event.Send m tx) = true
+is_plain (event.Order tx) = false
+is_plain (event.OrderEnd m) = false
+is_plain event.OrderCommit = false
+is_plain (event.See m entries) = false
+is_plain (event.Run m workers) = true
+is_plain (event.Close m) = false
+is_plain (event.End m) = false
+is_plain (event.Turn m) = false
+is_plain (event.Show m) = true
+is_plain (event.Stop m kept) = true
+is_plain (event.Restart m) = true
+is_plain (event.RawVote m bytes) = true
+is_plain (event.RawHold m bytes) = true
+is_plain (event.Ack m tx spoiled) = false
+is_plain (event.Final tx members) = false
+
+abbrev pub is_restart : Event → Bool
+is_restart (event.Tx name sender spoiled epoch gas budget inputs commands) = false
+is_restart (event.Vote m tx) = false
+is_restart (event.Fvote m tx origins) = false
+is_restart (event.Cert tx members) = false
+is_restart (event.Send m tx) = false
+is_restart (event.Order tx) = false
+is_restart (event.OrderEnd m) = false
+is_restart event.OrderCommit = false
+is_restart (event.See m entries) = false
+is_restart (event.Run m workers) = false
+is_restart (event.Close m) = false
+is_restart (event.End m) = false
+is_restart (event.Turn m) = false
+is_restart (event.Show m) = false
+is_restart (event.Stop m kept) = false
+is_restart (event.Restart m) = true
+is_restart (event.RawVote m bytes) = false
+is_restart (event.RawHold m bytes) = false
+is_restart (event.Ack m tx spoiled) = false
+is_restart (event.Final tx members) = false
+
+-- ---- records
+
+abbrev pub spelled : List Record → List (List ℕ)
+spelled records = map journals.journal_record.spell records
+
+abbrev pub journal_in : World → ℕ → List (List ℕ)
+journal_in w m = spelled (records_of (slice_get w.seats m))
+
+-- lists are told, and are the journals of the world
+abbrev pub Tells : Option Journals → World → Type 0
+Tells None w = ⊥
+Tells (Some lists) w = (m : ℕ) → journal_of lists m ≡ journal_in w m
+
+abbrev pub IsFront : {A : Type 0} → List A → List A → Type 0
+IsFront {A} front whole = (rest : List A) × (whole ≡ front ++ rest)
+
+-- lists are told, and each is a front of the world's journal
+abbrev pub TellsFront : Option Journals → World → Type 0
+TellsFront None w = ⊥
+TellsFront (Some lists) w = (m : ℕ) → IsFront (journal_of lists m) (journal_in w m)
+
+-- every member starts from its journal in its state, and each of its records was due behind those before it
+pub record Restarts (s : Setting) (w : World) : Type 0 where
+  pub starts : (m : ℕ) (seat : worlds.Seat) → slice_get w.seats m ≡ Some seat → started s.rules s.opening (spelled seat.records) ≡ Ok (member_in s seat)
+  pub due : (m : ℕ) (seat : worlds.Seat) → slice_get w.seats m ≡ Some seat → Along (IsDueBehind s.rules s.opening) [] seat.records
+
+-- what is read from the bytes of a call is a value of its type
+abbrev pub ReadsFit : Call → Type 0
+ReadsFit (votes bytes) = (x : SignedTx) → read_signed bytes ≡ Ok x → transactions.signed.fits x
+ReadsFit (holds bytes) = (c : Certificate) → read_certificate bytes ≡ Ok c → messages.certificate.fits c
+ReadsFit (sees number bytes) = (e : Entry) → read_entry bytes ≡ Ok e → messages.entry.fits e
+ReadsFit runs = Unit {0}
+ReadsFit closes = Unit {0}
+ReadsFit ends = Unit {0}
+ReadsFit turns = Unit {0}
+ReadsFit (acks tx) = Unit {0}
+
+-- the same of the call of a line
+abbrev pub LineReadsFit : Option (ℕ × Call) → Type 0
+LineReadsFit None = Unit {0}
+LineReadsFit (Some (m, call)) = ReadsFit call
+
+-- told lists have one for each member
+abbrev pub HasRoom : Option Journals → World → Type 0
+HasRoom None w = Unit {0}
+HasRoom (Some lists) w = length w.seats ≤ length lists
+
+abbrev pub IsTrueOf : {A : Type 0} → (A → Bool) → A → Type 0
+IsTrueOf p x = p x ≡ true

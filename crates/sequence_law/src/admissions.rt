@@ -1,0 +1,13 @@
+//! What a member admits, in every sequence: distinct transactions, each behind its origins; and that nothing is
+//! deferred where there is no limit of writers.
+ghost use Rattle.sequence_law.specs.Admitted.{AdmittedInOrder, NothingDeferred};
+
+/// The admitted transactions are distinct, and each stands behind its origins.
+pub fn admitted_in_order()
+    ensures { AdmittedInOrder }
+{}
+
+/// Without a limit of writers nothing is deferred.
+pub fn nothing_deferred()
+    ensures { NothingDeferred }
+{}

@@ -1,3 +1,0 @@
-pub mod Places
-pub mod Tracked
-pub mod Written

@@ -1,0 +1,91 @@
+-- Entries of maps that keep the order of insertion.
+use Rattle.std.proofs.Common.{◌≡◌, Bool, true, false, cond, List, [], ◌∷◌, ◌++◌, Option, Some, None, is_some, map, refl, ap, sym, ◌∙◌, option_map}
+use Rattle.std.specs.Map.{lookup}
+use Rattle.indexmap.specs.IndexMap.{insert_entry}
+use Rattle.tables.specs.Named.{FirstOf, Named, first_name, first_of, named, with_first, with_name}
+use Rattle.std.specs.Prelude.{bytes_eq, ℕ}
+
+module _ {K V : Type 0} (same : K → K → Bool) where
+  -- a new key goes last
+  pub goes_last : (es : List (K × V)) (k : K) (v : V) → is_some (lookup (same k) es) ≡ false → insert_entry same es k v ≡ es ++ (k, v) ∷ []
+  goes_last [] k v none = refl
+  goes_last (e ∷ es) k v none = by (same k e.0) refl none (goes_last es k v)
+    where
+      by : (b : Bool) → same k e.0 ≡ b → is_some (cond b (Some e.1) (lookup (same k) es)) ≡ false → (is_some (lookup (same k) es) ≡ false → insert_entry same es k v ≡ es ++ (k, v) ∷ [])
+          → insert_entry same (e ∷ es) k v ≡ (e ∷ es) ++ (k, v) ∷ []
+      by true is none more = absurd (cc)
+      by false is none more = ap (λ b. cond b ((e.0, v) ∷ es) (e ∷ insert_entry same es k v)) is ∙ ap (λ xs. e ∷ xs) (more none)
+
+-- a look-up by what the keys stand for
+pub lookup_map : {K L V : Type 0} → (f : K → L) (test : L → Bool) (es : List (K × V)) → lookup test (map (λ (e : K × V). (f e.0, e.1)) es) ≡ lookup (λ k. test (f k)) es
+lookup_map f test [] = refl
+lookup_map f test (e ∷ es) = ap (λ x. cond (test (f e.0)) (Some e.1) x) (lookup_map f test es)
+
+map_append : {A B : Type 0} → (f : A → B) (xs ys : List A) → map f (xs ++ ys) ≡ map f xs ++ map f ys
+map_append f [] ys = refl
+map_append f (x ∷ xs) ys = ap (λ zs. f x ∷ zs) (map_append f xs ys)
+
+-- a map whose keys stand for names, as what is known under them
+abbrev pub named_by : {K A : Type 0} → (K → List ℕ) → List (K × A) → Named A
+named_by f es = map (λ e. (f e.0, e.1)) es
+
+-- one more name
+pub one_more : {K A : Type 0} → (f : K → List ℕ) (es : List (K × A)) (k : K) (name : List ℕ) (x : A) → f k ≡ name → is_some (named (named_by f es) name) ≡ false
+    → named_by f (es ++ (k, x) ∷ []) ≡ with_name (named_by f es) name x
+one_more {K} {A} f es k name x is none =
+    map_append (λ (e : K × A). (f e.0, e.1)) es ((k, x) ∷ [])
+    ∙ ap (λ n. named_by f es ++ (n, x) ∷ []) is
+    ∙ sym (ap (λ b. cond b (named_by f es) (named_by f es ++ (name, x) ∷ [])) none)
+
+clash : true ≡ false → ⊥
+clash h = cc
+
+abbrev or_else : {A : Type 0} → Option A → Option A → Option A
+or_else None y = y
+or_else (Some x) y = Some x
+
+lookup-push : {K V : Type 0} → (test : K → Bool) (es : List (K × V)) (k : K) (v : V) → lookup test (es ++ (k, v) ∷ []) ≡ or_else (lookup test es) (cond (test k) (Some v) None)
+lookup-push test [] k v = refl
+lookup-push test (e ∷ es) k v = by (test e.0) (lookup-push test es k v)
+  where
+    by : (b : Bool) → lookup test (es ++ (k, v) ∷ []) ≡ or_else (lookup test es) (cond (test k) (Some v) None)
+        → cond b (Some e.1) (lookup test (es ++ (k, v) ∷ [])) ≡ or_else (cond b (Some e.1) (lookup test es)) (cond (test k) (Some v) None)
+    by true more = refl
+    by false more = more
+
+first_name-push : {A : Type 0} → (test : A → Bool) (es : Named A) (name : List ℕ) (x : A) → first_name test (es ++ (name, x) ∷ []) ≡ or_else (first_name test es) (cond (test x) (Some name) None)
+first_name-push test [] name x = refl
+first_name-push test (e ∷ es) name x = by (test e.1) (first_name-push test es name x)
+  where
+    by : (b : Bool) → first_name test (es ++ (name, x) ∷ []) ≡ or_else (first_name test es) (cond (test x) (Some name) None)
+        → cond b (Some e.0) (first_name test (es ++ (name, x) ∷ [])) ≡ or_else (cond b (Some e.0) (first_name test es)) (cond (test x) (Some name) None)
+    by true more = refl
+    by false more = more
+
+-- a table of first names that says what the names say still does after one more name
+pub first_more : {K A : Type 0} → (same : K → K → Bool) (one : (a b : K) → same a b ≡ true → a ≡ b) (key : A → K) (names : FirstOf K) (es : Named A) (name : List ℕ) (x : A)
+    → ((k : K) → first_of same names k ≡ first_name (λ a. same k (key a)) es) → (k : K)
+    → first_of same (with_first same names (key x) name) k ≡ first_name (λ a. same k (key a)) (es ++ (name, x) ∷ [])
+first_more {K} same one key names es name x says k =
+    by (first_of same names (key x)) refl ∙ sym (first_name-push (λ a. same k (key a)) es name x ∙ ap (λ o. or_else o (cond (same k (key x)) (Some name) None)) (sym (says k)))
+  where
+    old : (o : Option (List ℕ)) → first_of same names k ≡ o → is_some (first_of same names (key x)) ≡ true
+        → first_of same names k ≡ or_else (first_of same names k) (cond (same k (key x)) (Some name) None)
+    old (Some n) is there = is ∙ sym (ap (λ o. or_else o (cond (same k (key x)) (Some name) None)) is)
+    old None is there = test (same k (key x)) refl
+      where
+        test : (b : Bool) → same k (key x) ≡ b → first_of same names k ≡ or_else (first_of same names k) (cond (same k (key x)) (Some name) None)
+        test true e =
+            let none : is_some (first_of same names (key x)) ≡ false = ap is_some (ap (first_of same names) (sym (one k (key x) e)) ∙ is) in
+            absurd (clash (sym there ∙ none))
+        test false e = is ∙ sym (ap (λ o. or_else o (cond (same k (key x)) (Some name) None)) is ∙ ap (λ b. cond b (Some name) None) e)
+
+    by : (o : Option (List ℕ)) → first_of same names (key x) ≡ o
+        → first_of same (with_first same names (key x) name) k ≡ or_else (first_of same names k) (cond (same k (key x)) (Some name) None)
+    by (Some n) is = ap (λ o. first_of same (cond (is_some o) names (names ++ (key x, name) ∷ [])) k) is ∙ old (first_of same names k) refl (ap is_some is)
+    by None is = ap (λ o. first_of same (cond (is_some o) names (names ++ (key x, name) ∷ [])) k) is ∙ lookup-push (same k) names (key x) name
+
+-- the values, whatever the keys stand for
+pub values_named : {K A : Type 0} → (f : K → List ℕ) (es : List (K × A)) → map (λ (e : List ℕ × A). e.1) (named_by f es) ≡ map (λ (e : K × A). e.1) es
+values_named f [] = refl
+values_named f (e ∷ es) = ap (λ xs. e.1 ∷ xs) (values_named f es)

@@ -1,4 +1,0 @@
-pub mod Making
-pub mod Short
-pub mod Answers
-pub mod Worlds

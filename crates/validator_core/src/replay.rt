@@ -1,0 +1,223 @@
+//! Records that are read back.
+
+ghost use Rattle.std.specs.Prelude.{◌≡◌, IfOk, OnOk, false, is_ok, map, nat_le, true};
+ghost use Rattle.std.specs.Bool.{OnTrue};
+ghost use Rattle.chain_types.specs.Transactions.{transaction};
+ghost use Rattle.chain_messages.specs.Messages.{certificate};
+ghost use Rattle.chain_types.specs.Equal.{digest_eq};
+ghost use Rattle.protocol_spec.specs.Chain.Tests.{list_eq, origins_eq};
+ghost use Rattle.journal_core.specs.declared.records.RanItem.{RanItem as Item};
+ghost use Rattle.journal_core.specs.declared.records.Record.TheVariants as record_as;
+ghost use Rattle.journal_core.specs.Records as journals;
+ghost use Rattle.protocol_spec.specs.Member.Calls.{ran_items, record_limit, run_answer};
+ghost use Rattle.protocol_spec.specs.Member.Member.{after, with_rounds};
+ghost use Rattle.protocol_spec.specs.Member.Replay.{is_allowed, ran_item_eq};
+ghost use Rattle.scene_spec.specs.Taken.{is_taken};
+ghost use Rattle.validator_core.specs.Answers.{OnTaken, bare, sealed_as};
+ghost use Rattle.scene_spec.specs.RulesFor.{rules_for};
+ghost use Rattle.validator_core.specs.Steps.{closing, counted, holding, voted};
+
+use crate::holds::Holding;
+use crate::runs::ran_items;
+use crate::state::State;
+use answer_types::{Held, HoldRefusal, VoteRefusal};
+use chain_messages::Certificate;
+use chain_types::Transaction;
+use digest_core::Digest;
+use journal_core::{RanItem, Record};
+use quorum_core::{Committee, Sealer};
+use wire_bcs::{OutOfMemory, Seq};
+
+/// Whether two votes name the same origins.
+fn same_origins(a: &[Option<Digest>], b: &[Option<Digest>]) -> bool
+    ensures { result ≡ origins_eq a.now b.now }
+{
+    a == b
+}
+
+/// Whether two runs have the same items.
+fn same_items(a: &[RanItem], b: &[RanItem]) -> bool
+    ensures { result ≡ list_eq ran_item_eq a.now b.now }
+{
+    a == b
+}
+
+/// Whether these are the transactions of the items.
+fn same_txs(txs: &[Digest], items: &[RanItem]) -> bool
+    ensures { result ≡ list_eq digest_eq txs.now (map (λ (i : Item). i.tx) items.now) }
+{
+    let mut txs = txs;
+    let mut items = items;
+    while let [tx, txs_after @ ..] = txs {
+        let [item, items_after @ ..] = items else {
+            return false;
+        };
+        if *tx != item.tx {
+            return false;
+        }
+        txs = txs_after;
+        items = items_after;
+    }
+    items.is_empty()
+}
+
+impl State {
+    /// Takes the record of a vote, where a request could bring it about in this state.
+    #[tactic(auto, unfolding(protocol_spec::specs::Member::Replay::is_allowed))]
+    pub(crate) fn take_vote_back<S: Sealer>(
+        &mut self,
+        sealer: &S,
+        tx: &Transaction,
+        origins: Seq<Option<Digest>>,
+    ) -> Result<bool, OutOfMemory>
+        requires { transaction.short tx.now }
+        ensures taken { IfOk result (λ taken. taken ≡ is_allowed (sealed_as (S.accepts sealer.now)) self.old (record_as.Vote tx.now origins)) }
+        ensures state { OnTaken result (self.new ≡ voted self.old tx.now origins) }
+    {
+        if self.check_vote().is_err() {
+            return Ok(false);
+        }
+        match self.vote_on(tx, true) {
+            Ok(decision) => {
+                if !decision.fresh
+                    || !same_origins(decision.origins.as_slice(), origins.as_slice())
+                {
+                    return Ok(false);
+                }
+                self.take_vote(tx, decision.digest, origins)?;
+                Ok(true)
+            }
+            Err(VoteRefusal::OutOfMemory) => Err(OutOfMemory),
+            Err(_) => Ok(false),
+        }
+    }
+
+    /// Takes the record of a certificate, where handing it in could bring it about in this state.
+    #[tactic(auto, unfolding(protocol_spec::specs::Member::Replay::is_allowed, chain_messages::specs::Messages::certificate))]
+    pub(crate) fn take_hold_back<S: Sealer>(
+        &mut self,
+        committee: &Committee,
+        sealer: &S,
+        cert: Certificate,
+    ) -> Result<bool, OutOfMemory>
+        requires { certificate.short cert }
+        ensures taken { IfOk result (λ taken. taken ≡ is_allowed (rules_for committee.now (S.accepts sealer.now)) self.old (record_as.Hold cert)) }
+        ensures state { OnTaken result (self.new ≡ holding self.old cert) }
+    {
+        if self.check_hold().is_err() {
+            return Ok(false);
+        }
+        match self.hold_on(committee, sealer, &cert) {
+            Ok(Holding::Again) => Ok(false),
+            Ok(Holding::New(digest) | Holding::Fork { digest, .. }) => {
+                self.take_hold(Held { digest, cert })?;
+                Ok(true)
+            }
+            Err(HoldRefusal::OutOfMemory) => Err(OutOfMemory),
+            Err(
+                HoldRefusal::Down
+                | HoldRefusal::Halted { .. }
+                | HoldRefusal::Full
+                | HoldRefusal::Malformed(_)
+                | HoldRefusal::WrongEpoch { .. }
+                | HoldRefusal::Closed
+                | HoldRefusal::Cert(_)
+                | HoldRefusal::KeepFault
+                | HoldRefusal::Fork { .. },
+            ) => Ok(false),
+        }
+    }
+
+    /// Takes the record of a close, where the member may close in this state.
+    #[tactic(auto, unfolding(protocol_spec::specs::Member::Replay::is_allowed, protocol_spec::specs::Member::Calls::close_answer))]
+    pub(crate) fn take_close_back(&mut self) -> bool
+        ensures taken { result ≡ is_allowed bare self.old record_as.Close }
+        ensures state { result ≡ true → self.new ≡ closing self.old }
+    {
+        if self.check_close().is_err() {
+            return false;
+        }
+        if self.is_closed() {
+            return false;
+        }
+        self.take_close();
+        true
+    }
+
+    /// Whether a run may be asked for.
+    #[tactic(auto, unfolding(protocol_spec::specs::Member::Calls::run_answer), using(crate::proofs::Cases::goes_alike))]
+    fn may_run(&self) -> bool
+        ensures value { result ≡ is_ok (run_answer bare self.now) }
+        ensures room { result ≡ true → nat_le record_limit self.now.records ≡ false }
+    {
+        self.check_run().is_ok()
+    }
+
+    /// Runs once more: the items of the record of the run.
+    fn rerun(&mut self) -> Result<Seq<RanItem>, OutOfMemory>
+        ensures state { OnOk result (self.new ≡ with_rounds self.old) }
+        ensures items { IfOk result (λ items. items ≡ ran_items self.old) }
+    {
+        let effects = self.execute()?;
+        ran_items(self.alloc, effects.as_slice())
+    }
+
+    /// Takes the record of a run of these transactions, where a run executes them in this state.
+    #[tactic(auto, unfolding(protocol_spec::specs::Member::Replay::is_allowed))]
+    pub(crate) fn take_txs_back(&mut self, txs: &[Digest]) -> Result<bool, OutOfMemory>
+        ensures taken { IfOk result (λ taken. taken ≡ is_allowed bare self.old (record_as.Ran txs.now)) }
+        ensures state { OnTaken result (self.new ≡ counted (with_rounds self.old)) }
+    {
+        if !self.may_run() || txs.is_empty() {
+            return Ok(false);
+        }
+        let items = self.rerun()?;
+        if !same_txs(txs, items.as_slice()) {
+            return Ok(false);
+        }
+        self.count_run();
+        Ok(true)
+    }
+
+    /// Takes the record of a run of these items, where a run has them in this state.
+    #[tactic(auto, unfolding(protocol_spec::specs::Member::Replay::is_allowed))]
+    pub(crate) fn take_items_back(&mut self, items: &[RanItem]) -> Result<bool, OutOfMemory>
+        ensures taken { IfOk result (λ taken. taken ≡ is_allowed bare self.old (record_as.Ran2 items.now)) }
+        ensures state { OnTaken result (self.new ≡ counted (with_rounds self.old)) }
+    {
+        if !self.may_run() || items.is_empty() {
+            return Ok(false);
+        }
+        let made = self.rerun()?;
+        if !same_items(items, made.as_slice()) {
+            return Ok(false);
+        }
+        self.count_run();
+        Ok(true)
+    }
+
+    /// Takes a record that was read back, where a call that is answered so far would append it in this state: that
+    /// of a vote, a certificate, a run or a close; else false. Where false is answered or memory is refused the
+    /// state is not to be used.
+    #[tactic(auto, unfolding(scene_spec::specs::Taken::is_taken, protocol_spec::specs::Member::Replay::is_allowed, protocol_spec::specs::Member::Calls::run_answer, protocol_spec::specs::Member::Calls::close_answer, protocol_spec::specs::Member::Member::after, journal_core::specs::Records::journal_record))]
+    pub fn take<S: Sealer>(
+        &mut self,
+        committee: &Committee,
+        sealer: &S,
+        kept: Record,
+    ) -> Result<bool, OutOfMemory>
+        requires { journals.journal_record.short kept }
+        ensures taken { IfOk result (λ taken. taken ≡ is_taken (rules_for committee.now (S.accepts sealer.now)) self.old kept) }
+        ensures state { OnTaken result (self.new ≡ after (rules_for committee.now (S.accepts sealer.now)) self.old kept) }
+    {
+        match kept {
+            Record::Vote { tx, origins } => self.take_vote_back(sealer, &tx, origins),
+            Record::Hold(cert) => self.take_hold_back(committee, sealer, cert),
+            Record::See(_bytes) => Ok(false),
+            Record::Ran(txs) => self.take_txs_back(txs.as_slice()),
+            Record::Ran2(items) => self.take_items_back(items.as_slice()),
+            Record::Close => Ok(self.take_close_back()),
+            Record::Turn => Ok(false),
+        }
+    }
+}

@@ -1,0 +1,128 @@
+//! Runs and the close of an epoch, and the records of runs.
+
+ghost use Rattle.std.specs.Prelude.{◌≡◌, [], IfOk, IfSome, OnOk, false, nat_le, true};
+ghost use Rattle.effects_core.specs.Effects as codecs;
+ghost use Rattle.journal_core.specs.Records as journals;
+ghost use Rattle.protocol_spec.specs.Chain.Words.{unless_refused};
+ghost use Rattle.protocol_spec.specs.Member.Calls.{ran_as, ran_items, ran_record, record_limit};
+ghost use Rattle.protocol_spec.specs.Member.Member.{books, with_rounds};
+ghost use Rattle.protocol_spec.specs.Member.Rounds.{rounds};
+ghost use Rattle.validator_core.specs.Answers.{close_stopped, run_stopped};
+ghost use Rattle.validator_core.specs.Steps.{item_of, items_after, items_of};
+
+use crate::state::State;
+use answer_types::{CloseRefusal, Ran, RunRefusal};
+use effects_core::{Effects, effects_digest};
+use journal_core::{RanItem, Record};
+use std::alloc::Global;
+use wire_bcs::{OutOfMemory, Seq};
+
+/// How long a list is at least that cannot be spelled.
+const TOO_LONG: u64 = 2_147_483_648;
+
+/// Whether the lists of these effects can be spelled.
+#[tactic(auto, using(crate::proofs::Spelled::effects_short))]
+fn is_short(effects: &Effects) -> bool
+    ensures { result ≡ true → codecs.effects.short effects.now }
+{
+    effects.written.len() < TOO_LONG && effects.deleted.len() < TOO_LONG
+}
+
+/// The item of an executed transaction. A list of 2^31 objects, more than a transaction can write, counts as want
+/// of memory.
+fn item_of(alloc: Global, effects: &Effects) -> Result<RanItem, OutOfMemory>
+    ensures { IfOk result (λ item. item ≡ item_of effects.now) }
+{
+    if !is_short(effects) {
+        return Err(OutOfMemory);
+    }
+    Ok(RanItem {
+        tx: effects.tx,
+        effects: effects_digest(alloc, effects)?,
+    })
+}
+
+/// The items, one behind the other.
+fn collect_items(alloc: Global, effects: &[Effects]) -> Result<Seq<RanItem>, OutOfMemory>
+    ensures { IfOk result (λ items. items ≡ items_after [] effects.now) }
+{
+    let mut items = Seq::new(alloc);
+    let mut rest = effects;
+    while let [one, after @ ..] = rest {
+        items.push(item_of(alloc, one)?)?;
+        rest = after;
+    }
+    Ok(items)
+}
+
+/// The items of executed transactions, in order.
+#[tactic(auto, using(crate::proofs::Spelled::items_all))]
+pub(crate) fn ran_items(alloc: Global, effects: &[Effects]) -> Result<Seq<RanItem>, OutOfMemory>
+    ensures { IfOk result (λ items. items ≡ items_of effects.now) }
+{
+    collect_items(alloc, effects)
+}
+
+/// The record of a run that executed transactions with these effects, in order: none where it executed none. A list
+/// of 2^31 items counts as want of memory.
+#[tactic(auto, using(crate::proofs::Spelled::ran_short))]
+pub fn ran_record(alloc: Global, effects: &[Effects]) -> Result<Option<Record>, OutOfMemory>
+    ensures value { IfOk result (λ r. r ≡ ran_record (items_of effects.now)) }
+    ensures short { IfOk result (λ r. IfSome r journals.journal_record.short) }
+{
+    let items = ran_items(alloc, effects)?;
+    if items.is_empty() {
+        return Ok(None);
+    }
+    if items.len() >= TOO_LONG {
+        return Err(OutOfMemory);
+    }
+    Ok(Some(Record::Ran2(items)))
+}
+
+impl State {
+    /// Runs: executes all held certificates that are ready, round after round, and tells what is left (Sui Lutris).
+    /// The items of the record that is due are those of the effects. No checkpoint is built, since no entry of the
+    /// sequence is seen yet. Where memory is refused the state is not to be used.
+    pub fn run(&mut self) -> Result<Ran, OutOfMemory>
+        ensures state { OnOk result (self.new ≡ with_rounds self.old) }
+        ensures ran { IfOk result (λ ran. ran ≡ ran_as self.old (rounds (books self.old) self.old.executed) (with_rounds self.old)) }
+        ensures items { IfOk result (λ ran. items_of ran.executed ≡ ran_items self.old) }
+        ensures built { IfOk result (λ ran. ran.built ≡ []) }
+    {
+        let executed = self.execute()?;
+        Ok(Ran {
+            executed,
+            left: self.left()?,
+            built: Seq::new(self.alloc),
+        })
+    }
+
+    /// Whether a run may be asked for. Order of the refusals: `Halted`, `Full`. Takes no memory.
+    pub fn check_run(&self) -> Result<(), RunRefusal>
+        ensures value { result ≡ unless_refused (run_stopped self.now) tt }
+        ensures room { IfOk result (λ _. nat_le record_limit self.now.records ≡ false) }
+    {
+        if let Some((first, second)) = self.fork() {
+            return Err(RunRefusal::Halted { first, second });
+        }
+        if self.is_full() {
+            return Err(RunRefusal::Full);
+        }
+        Ok(())
+    }
+
+    /// Whether a close may be asked for. Order of the refusals: `Halted`, `Full`. Takes no memory.
+    pub fn check_close(&self) -> Result<(), CloseRefusal>
+        ensures value { result ≡ unless_refused (close_stopped self.now) tt }
+        ensures room { IfOk result (λ _. nat_le record_limit self.now.records ≡ false) }
+    {
+        if let Some((first, second)) = self.fork() {
+            return Err(CloseRefusal::Halted { first, second });
+        }
+        if self.is_full() {
+            return Err(CloseRefusal::Full);
+        }
+        Ok(())
+    }
+}

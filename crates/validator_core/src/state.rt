@@ -1,0 +1,297 @@
+//! The state, and the records that it takes.
+
+ghost use Rattle.std.specs.Prelude.{◌≡◌, ◌≤◌, [], IfOk, IfSome, OnOk, None, false, true, find, is_some, option_copied, option_map, nat_le, length, map};
+ghost use Rattle.chain_types.specs.Digests.{consumed_keys, transaction_digest};
+ghost use Rattle.protocol_spec.specs.Chain.Shape.{shape_fault};
+ghost use Rattle.protocol_spec.specs.Chain.Words.{first_of};
+ghost use Rattle.protocol_spec.specs.Member.Checkpoints.{held_of};
+ghost use Rattle.protocol_spec.specs.Member.Calls.{effects_of, newly_built, ran_items, record_limit};
+ghost use Rattle.protocol_spec.specs.Member.Member.{Fork, ballot, books, built as built_by, consumes, fork_of, fresh, live_objects, vote_for, with_rounds};
+ghost use Rattle.protocol_spec.specs.Member.Versions.{Version, object_in, version_at, versions};
+ghost use Rattle.protocol_spec.specs.Member.Votes.{Cast, locked, vote_origins, vote_refusal};
+ghost use Rattle.protocol_spec.specs.Member.Rounds.{left, rounds};
+ghost use Rattle.exec_plan.specs.Waits.{IsWaiting};
+ghost use Rattle.validator_core.specs.Built.{transactions_in};
+ghost use Rattle.validator_core.specs.Steps.{closing, counted, holding, items_of, voted};
+ghost use Rattle.vote_rules.specs.Decide.{Decides};
+ghost use Rattle.version_store.specs.Stores.{Stored, are_new};
+ghost use Rattle.answer_types.specs.declared.answers.Held.{Held as H};
+
+use answer_types::{Held, Left};
+use chain_types::{DecideRefusal, Object, ObjectKey, Transaction};
+use digest_core::Digest;
+use effects_core::Effects;
+use exec_plan::Waiting;
+use std::alloc::Global;
+use std::marker::Model;
+use version_store::Store;
+use vote_rules::{HeldBook, VoteBook};
+use wire_bcs::{OutOfMemory, Seq};
+
+/// How many records the list of a member has at most.
+const RECORD_LIMIT: u64 = 4_194_303;
+
+/// Holds nothing, where memory was refused half way. Takes no memory.
+fn forget_all(alloc: Global, held: &mut HeldBook, waiting: &mut Waiting)
+    ensures held { held.new ≡ [] }
+    ensures waits { (s : Stored) → IsWaiting s [] waiting.new }
+{
+    *held = HeldBook::new(alloc);
+    *waiting = Waiting::new(alloc);
+}
+
+/// What a member has in the present epoch. Contracts see the definitions' record of it, in which no entry of a
+/// sequence was seen and no epoch has ended.
+#[derive(Drop)]
+pub struct State {
+    records: u64,
+    epoch: u64,
+    closed: bool,
+    store: Store,
+    votes: VoteBook,
+    held: HeldBook,
+    waiting: Waiting,
+    pub(crate) alloc: Global,
+}
+
+impl Model for State {
+    ghost use Rattle.std.specs.Prelude.{[]};
+    ghost use Rattle.protocol_spec.specs.Member.Member.{Member};
+    ghost use Rattle.protocol_spec.specs.Member.Sequence.{nothing_seen};
+    ghost use Rattle.validator_core.specs.Sound.{Stands};
+
+    ghost Value = { Member };
+
+    ghost view = { λ s. record { records = s.records; epoch = s.epoch; opening = s.store.opening; executed = s.store.executed; votes = s.votes; held = s.held; sequence = nothing_seen; closed = s.closed; past = [] } };
+
+    ghost invariant = { λ s. Stands s.votes s.held s.store s.waiting };
+}
+
+impl State {
+    /// A member that has no records, in an epoch 0 that opens with these objects, of which none stands there
+    /// twice.
+    pub fn fresh(alloc: Global, opening: &Seq<Object>) -> Result<State, OutOfMemory>
+        requires { are_new [] opening.now ≡ true }
+        ensures { IfOk result (λ s. s ≡ fresh opening.now) }
+    {
+        let store = Store::opening(alloc, opening)?;
+        Ok(State {
+            records: 0,
+            epoch: 0,
+            closed: false,
+            store,
+            votes: VoteBook::new(alloc),
+            held: HeldBook::new(alloc),
+            waiting: Waiting::new(alloc),
+            alloc,
+        })
+    }
+
+    /// The allocator that the state takes its memory from.
+    pub fn allocator(&self) -> Global {
+        self.alloc
+    }
+
+    /// The number of records. Takes no memory.
+    pub fn records(&self) -> u64
+        ensures { result ≡ self.now.records }
+    {
+        self.records
+    }
+
+    /// The present epoch. Takes no memory.
+    pub fn epoch(&self) -> u64
+        ensures { result ≡ self.now.epoch }
+    {
+        self.epoch
+    }
+
+    /// The number of entries of the epoch's sequence that the member has seen: none yet. Takes no memory.
+    pub fn seen(&self) -> u64
+        ensures { result ≡ self.now.sequence.number }
+    {
+        let _ = &self.records;
+        0
+    }
+
+    /// The number of checkpoints that the member has built: none yet, since it sees no entry. Takes no memory.
+    #[tactic(auto, unfolding(protocol_spec::specs::Member::Member::built))]
+    pub fn checkpoints(&self) -> u64
+        ensures { result ≡ length (built_by self.now) }
+    {
+        let _ = &self.records;
+        0
+    }
+
+    /// The number of transactions in the checkpoints that the member has built. Takes no memory.
+    #[tactic(auto, unfolding(protocol_spec::specs::Member::Member::built))]
+    pub fn checkpointed(&self) -> u64
+        ensures { result ≡ transactions_in (built_by self.now) }
+    {
+        let _ = &self.records;
+        0
+    }
+
+    /// Whether the member closed the epoch. Takes no memory.
+    pub fn is_closed(&self) -> bool
+        ensures { result ≡ self.now.closed }
+    {
+        self.closed
+    }
+
+    /// The transactions of the fork that the member met, if it met one. Takes no memory.
+    #[tactic(auto, unfolding(protocol_spec::specs::Member::Member::fork_of))]
+    pub fn fork(&self) -> Option<(Digest, Digest)>
+        ensures { result ≡ option_map (λ (f : Fork). (f.first, f.second)) (fork_of self.now) }
+    {
+        self.held.fork()
+    }
+
+    /// Whether the list of records has no room for one more. Takes no memory.
+    pub fn is_full(&self) -> bool
+        ensures { result ≡ nat_le record_limit self.now.records }
+    {
+        self.records >= RECORD_LIMIT
+    }
+
+    /// The object of a held version. Takes no memory.
+    pub fn object(&self, key: &ObjectKey) -> Option<&Object>
+        ensures { option_copied result ≡ option_map object_in (version_at (versions self.now.opening self.now.executed) key.now) }
+    {
+        self.store.get(key)
+    }
+
+    /// The live objects by ascending id.
+    pub fn live_list(&self) -> Result<Seq<Object>, OutOfMemory>
+        ensures { IfOk result (λ objects. objects ≡ live_objects self.now) }
+    {
+        self.store.live_list()
+    }
+
+    /// The origins that the vote for this transaction named, where one was given. Takes no memory.
+    pub(crate) fn given(&self, tx: &Digest) -> Option<&Seq<Option<Digest>>>
+        ensures few { IfSome result (λ o. length o.now ≤ 257) }
+        ensures value { option_map (λ (o : _). o.now) result ≡ option_map (λ (v : Cast). v.origins) (vote_for self.now tx.now) }
+    {
+        self.votes.origins(tx)
+    }
+
+    /// The vote rule over what is held and voted for.
+    pub(crate) fn decide(
+        &self,
+        tx: &Transaction,
+        digest: &Digest,
+    ) -> Result<Seq<Option<Digest>>, DecideRefusal>
+        ensures { Decides (vote_refusal (ballot self.now) tx.now digest.now) (vote_origins (ballot self.now) tx.now) result }
+    {
+        self.votes.decide(self.alloc, &self.store, tx, digest)
+    }
+
+    /// Whether a certificate of the transaction is held. Takes no memory.
+    pub(crate) fn holds(&self, tx: &Digest) -> bool
+        ensures { result ≡ is_some (held_of self.now.held tx.now) }
+    {
+        self.held.has(tx)
+    }
+
+    /// The first of the keys that a held certificate consumes, and its transaction. Takes no memory.
+    pub(crate) fn consumed_by(&self, keys: &[ObjectKey]) -> Option<(ObjectKey, Digest)>
+        ensures { result ≡ first_of (λ key. option_map (λ (e : H). (key, e.digest)) (find (consumes key) self.now.held)) keys.now }
+    {
+        self.held.fork_with(keys)
+    }
+
+    /// Takes the record of a vote for the transaction of this digest and these consumed keys. Where memory is
+    /// refused the state is not to be used.
+    pub fn take_vote(
+        &mut self,
+        tx: &Transaction,
+        digest: Digest,
+        origins: Seq<Option<Digest>>,
+    ) -> Result<(), OutOfMemory>
+        requires digest { digest ≡ transaction_digest tx.now }
+        requires new { vote_for self.old digest ≡ None }
+        requires free { first_of (locked self.old.votes digest) (consumed_keys tx.now) ≡ None }
+        requires few { length origins ≤ 257 }
+        requires room { nat_le record_limit self.old.records ≡ false }
+        ensures { OnOk result (self.new ≡ voted self.old tx.now origins) }
+    {
+        let consumed = chain_types::owned_keys(self.alloc, tx)?;
+        self.votes.cast(digest, consumed, origins)?;
+        self.records += 1;
+        Ok(())
+    }
+
+    /// Takes the record of a certificate that is newly held, or is the evidence of a fork. Where memory is
+    /// refused the state is not to be used.
+    #[tactic(auto, using(crate::proofs::Cases::one_more_sound))]
+    pub fn take_hold(&mut self, held: Held) -> Result<(), OutOfMemory>
+        requires digest { held.digest ≡ transaction_digest held.cert.tx }
+        requires shape { shape_fault held.cert.tx ≡ None }
+        requires new { is_some (held_of self.old.held held.digest) ≡ false }
+        requires room { nat_le record_limit self.old.records ≡ false }
+        ensures { OnOk result (self.new ≡ holding self.old held.cert) }
+    {
+        self.waiting.hold(&self.store, self.held.as_slice(), &held)?;
+        match self.held.hold(held) {
+            Ok(()) => {
+                self.records += 1;
+                Ok(())
+            }
+            Err(OutOfMemory) => {
+                forget_all(self.alloc, &mut self.held, &mut self.waiting);
+                Err(OutOfMemory)
+            }
+        }
+    }
+
+    /// Executes all held certificates that are ready, round after round (Sui Lutris), and answers their effects in
+    /// order; the record of it is to be counted. The items of that record are those of the effects, and no checkpoint
+    /// is built, since no entry is seen. Where memory is refused the state is not to be used.
+    #[tactic(auto, unfolding(protocol_spec::specs::Member::Member::built), using(crate::proofs::Named::ran_named))]
+    pub fn execute(&mut self) -> Result<Seq<Effects>, OutOfMemory>
+        ensures state { OnOk result (self.new ≡ with_rounds self.old) }
+        ensures effects { IfOk result (λ effects. effects ≡ map effects_of (rounds (books self.old) self.old.executed)) }
+        ensures items { IfOk result (λ effects. items_of effects ≡ ran_items self.old) }
+        ensures built { newly_built self.old (with_rounds self.old) ≡ [] }
+    {
+        let ran = exec_plan::run(
+            self.alloc,
+            &mut self.store,
+            &mut self.waiting,
+            self.held.as_slice(),
+        );
+        match ran {
+            Ok(effects) => Ok(effects),
+            Err(OutOfMemory) => {
+                forget_all(self.alloc, &mut self.held, &mut self.waiting);
+                Err(OutOfMemory)
+            }
+        }
+    }
+
+    /// The held certificates that a run left although all that they waited for is executed.
+    #[tactic(auto, unfolding(protocol_spec::specs::Member::Rounds::left))]
+    pub fn left(&self) -> Result<Seq<Left>, OutOfMemory>
+        ensures { IfOk result (λ all. all ≡ left (books self.now) self.now.executed) }
+    {
+        exec_plan::left(self.alloc, &self.store, &self.waiting, self.held.as_slice())
+    }
+
+    /// Counts the record of a run. Takes no memory.
+    pub fn count_run(&mut self)
+        requires room { nat_le record_limit self.old.records ≡ false }
+        ensures { self.new ≡ counted self.old }
+    {
+        self.records += 1;
+    }
+
+    /// Takes the record of a close. Takes no memory.
+    pub fn take_close(&mut self)
+        requires room { nat_le record_limit self.old.records ≡ false }
+        ensures { self.new ≡ closing self.old }
+    {
+        self.closed = true;
+        self.records += 1;
+    }
+}

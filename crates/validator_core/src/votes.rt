@@ -1,0 +1,178 @@
+//! What a member answers to the request for a vote.
+
+ghost use Rattle.std.specs.Prelude.{◌≡◌, None, IfOk, IsErrOf, false, nat_le};
+ghost use Rattle.chain_types.specs.Transactions.{transaction};
+ghost use Rattle.chain_types.specs.Digests.{transaction_digest};
+ghost use Rattle.protocol_spec.specs.Chain.Words.{unless_refused};
+ghost use Rattle.protocol_spec.specs.Chain.Certificates.{accepts_sender};
+ghost use Rattle.answer_types.specs.declared.refusals.VoteRefusal.TheVariants as no_vote;
+ghost use Rattle.protocol_spec.specs.Member.Member.{fork_of, vote_for};
+ghost use Rattle.protocol_spec.specs.Member.Calls.{decided_as, due, new_vote, record_limit, vote_answer, vote_on, vote_stopped, votes};
+ghost use Rattle.validator_core.specs.Answers.{IsFree, Repeats, VoteDue, VotesAs, decision_in, sealed_as, unsealed_where};
+
+use crate::state::State;
+use answer_types::VoteRefusal;
+use chain_types::{DecideRefusal, SignedTx, Transaction, decode_signed, encode_tx, tx_digest};
+use digest_core::Digest;
+use quorum_core::{Sealer, Signer};
+use tx_check::{ShapeRefusal, check_shape};
+use wire_bcs::{Duplicate, OutOfMemory, Seq, Unread};
+
+/// A vote that a member gives: for the transaction of this digest, naming these origins. It is not fresh where
+/// the member had given it before.
+#[derive(Debug, Drop)]
+pub struct Decision {
+    pub digest: Digest,
+    pub origins: Seq<Option<Digest>>,
+    pub fresh: bool,
+}
+
+/// The vote rule's refusal, as an answer to the request.
+fn decided_as(refusal: DecideRefusal) -> VoteRefusal
+    ensures value { result ≡ decided_as refusal }
+    ensures never { result ≡ no_vote.KeepFault → ⊥ }
+{
+    match refusal {
+        DecideRefusal::Absent(key) => VoteRefusal::Absent(key),
+        DecideRefusal::Consumed { key, by } => VoteRefusal::Consumed { key, by },
+        DecideRefusal::WrongDigest(key) => VoteRefusal::WrongDigest(key),
+        DecideRefusal::WrongOwner(key) => VoteRefusal::WrongOwner(key),
+        DecideRefusal::WrongKind(key) => VoteRefusal::WrongKind(key),
+        DecideRefusal::PoorGas { had, want } => VoteRefusal::PoorGas { had, want },
+        DecideRefusal::Locked { key, by } => VoteRefusal::Locked { key, by },
+        DecideRefusal::OutOfMemory => VoteRefusal::OutOfMemory,
+    }
+}
+
+/// The vote that was given before.
+fn again(digest: Digest, origins: &Seq<Option<Digest>>) -> Result<Decision, VoteRefusal>
+    ensures value { Repeats digest origins.now result }
+    ensures never { IsErrOf result no_vote.KeepFault → ⊥ }
+{
+    let Ok(origins) = origins.copy() else {
+        return Err(VoteRefusal::OutOfMemory);
+    };
+    Ok(Decision {
+        digest,
+        origins,
+        fresh: false,
+    })
+}
+
+impl State {
+    /// Whether a vote may be asked for.
+    pub(crate) fn check_vote(&self) -> Result<(), VoteRefusal>
+        ensures value { result ≡ unless_refused (vote_stopped self.now) tt }
+        ensures room { IfOk result (λ _. nat_le record_limit self.now.records ≡ false) }
+        ensures never { IsErrOf result no_vote.KeepFault → ⊥ }
+    {
+        if let Some((first, second)) = self.fork() {
+            return Err(VoteRefusal::Halted { first, second });
+        }
+        if self.is_full() {
+            return Err(VoteRefusal::Full);
+        }
+        Ok(())
+    }
+
+    /// Whether the sender's seal is accepted.
+    fn is_sealed<S: Sealer>(&self, sealer: &S, signed: &SignedTx) -> Result<bool, OutOfMemory>
+        requires { transaction.short signed.now.tx }
+        ensures { IfOk result (λ sealed. sealed ≡ accepts_sender (sealed_as (S.accepts sealer.now)) signed.now.tx signed.now.seal) }
+    {
+        let bytes = encode_tx(self.alloc, &signed.tx)?;
+        Ok(sealer.check(
+            &Signer::User(signed.tx.sender.0),
+            bytes.as_slice(),
+            &signed.seal,
+        ))
+    }
+
+    /// A vote that was not given before.
+    #[tactic(auto, using(crate::proofs::Cases::is_free))]
+    fn new_vote(
+        &self,
+        tx: &Transaction,
+        digest: Digest,
+        sealed: bool,
+    ) -> Result<Decision, VoteRefusal>
+        requires digest { digest ≡ transaction_digest tx.now }
+        requires new { vote_for self.now digest ≡ None }
+        ensures answer { VotesAs self.now.epoch (new_vote self.now tx.now (unsealed_where sealed)) result }
+        ensures free { IfOk result (λ d. IsFree self.now tx.now d) }
+        ensures never { IsErrOf result no_vote.KeepFault → ⊥ }
+    {
+        if self.is_closed() {
+            return Err(VoteRefusal::Closed);
+        }
+        match check_shape(self.alloc, tx) {
+            Ok(()) => {}
+            Err(ShapeRefusal::Invalid(fault)) => return Err(VoteRefusal::Invalid(fault)),
+            Err(ShapeRefusal::OutOfMemory) => return Err(VoteRefusal::OutOfMemory),
+        }
+        if !sealed {
+            return Err(VoteRefusal::Unsealed);
+        }
+        match self.decide(tx, &digest) {
+            Ok(origins) => Ok(Decision {
+                digest,
+                origins,
+                fresh: true,
+            }),
+            Err(refusal) => Err(decided_as(refusal)),
+        }
+    }
+
+    /// The vote for a transaction whose seal is accepted or not, as said: the one that was given before, or a
+    /// new one. Order of the refusals: `WrongEpoch`, `Closed`, `Invalid`, `Unsealed`, the vote rule's.
+    pub fn vote_on(&self, tx: &Transaction, sealed: bool) -> Result<Decision, VoteRefusal>
+        requires { transaction.short tx.now }
+        ensures answer { VotesAs self.now.epoch (vote_on self.now tx.now (unsealed_where sealed)) result }
+        ensures free { IfOk result (λ d. IsFree self.now tx.now d) }
+        ensures never { IsErrOf result no_vote.KeepFault → ⊥ }
+    {
+        let want = self.epoch();
+        if tx.epoch != want {
+            return Err(VoteRefusal::WrongEpoch {
+                had: tx.epoch,
+                want,
+            });
+        }
+        let Ok(digest) = tx_digest(self.alloc, tx) else {
+            return Err(VoteRefusal::OutOfMemory);
+        };
+        match self.given(&digest) {
+            Some(origins) => again(digest, origins),
+            None => self.new_vote(tx, digest, sealed),
+        }
+    }
+
+    /// The vote for what the bytes spell, with that transaction. Order of the refusals: `Halted`, `Full`,
+    /// `Malformed`, then those of [`State::vote_on`].
+    #[tactic(auto, unfolding(protocol_spec::specs::Member::Calls::vote_answer, protocol_spec::specs::Member::Calls::due, protocol_spec::specs::Chain::Certificates::read_signed, chain_types::specs::Transactions::signed))]
+    pub fn vote<S: Sealer>(
+        &self,
+        sealer: &S,
+        bytes: &[u8],
+    ) -> Result<(Transaction, Decision), VoteRefusal>
+        ensures answer { VotesAs self.now.epoch (vote_answer (sealed_as (S.accepts sealer.now)) self.now bytes.now) (decision_in result) }
+        ensures due { VoteDue (due (sealed_as (S.accepts sealer.now)) self.now (votes bytes.now)) result }
+        ensures free { IfOk result (λ v. IsFree self.now v.0 v.1) }
+        ensures short { IfOk result (λ v. transaction.short v.0) }
+        ensures room { IfOk result (λ _. nat_le record_limit self.now.records ≡ false) }
+        ensures never { IsErrOf result no_vote.KeepFault → ⊥ }
+        ensures able { IsErrOf result no_vote.OutOfMemory → fork_of self.now ≡ None }
+    {
+        self.check_vote()?;
+        let signed = match decode_signed(self.alloc, bytes) {
+            Ok(signed) => signed,
+            Err(Unread::Wire(fault)) => return Err(VoteRefusal::Malformed(fault)),
+            Err(Unread::OutOfMemory) => return Err(VoteRefusal::OutOfMemory),
+        };
+        let Ok(sealed) = self.is_sealed(sealer, &signed) else {
+            return Err(VoteRefusal::OutOfMemory);
+        };
+        let decision = self.vote_on(&signed.tx, sealed)?;
+        Ok((signed.tx, decision))
+    }
+}

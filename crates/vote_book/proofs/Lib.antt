@@ -1,3 +1,0 @@
-mod Standing
-mod Voting
-pub mod Free

@@ -1,0 +1,52 @@
+-- A call on one member among the others.
+use Rattle.std.proofs.Common.{◌≡◌, ℕ, ◌<◌, List, length, get_or, set, Option, Some, sym, ap, ◌∙◌, subst}
+use Rattle.std.specs.Prelude.{Bool, Result, Ok, Err, IfOk, OnOk, OnErr}
+use Rattle.std.proofs.lemmas.Option.{slice_get_read}
+use Rattle.outside.specs.Lists.{Journals}
+use Rattle.protocol_spec.specs.Chain.Certificates.{Rules}
+use Rattle.protocol_spec.specs.Member.Calls.{Call}
+use Rattle.protocol_spec.specs.Member.Member.{Member}
+use Rattle.scene_spec.specs.Posts.{Post, posts_behind, posts_with, reached_in, reached_post, record_left}
+use Rattle.world_core.specs.declared.reply.Reply.{Reply}
+use Rattle.world_core.specs.Crews.{IsPlaced, PostAfter, PostsAfter, fallen, fallen_at}
+use Rattle.world_core.specs.Replies.{Leaves, Replies}
+use Rattle.world_core.proofs.Placing.{AreWhole, changed_is, post_honest, post_placed, whole_with}
+
+-- ---- behind the call
+
+after_placed : {A E : Type 0} (stakes : List ℕ) (m : ℕ) (r : Rules) (call : Call) (old p : Post) (result : Result A E) → IsPlaced stakes m old.standing → PostAfter r call old p result → IsPlaced stakes m p.standing
+after_placed stakes m r call old p (Ok a) placed e = subst (λ (q : Post). IsPlaced stakes m q.standing) (sym e) (post_placed stakes m r call old (reached_post r call (Some old)) placed)
+after_placed stakes m r call old p (Err f) placed e = subst (λ (q : Post). IsPlaced stakes m q.standing) (sym e) tt
+
+after_honest : {A E : Type 0} (r : Rules) (call : Call) (old p : Post) (result : Result A E) → PostAfter r call old p result → p.honest ≡ old.honest
+after_honest r call old p (Ok a) e = ap (λ (q : Post). q.honest) e ∙ post_honest r call old (reached_post r call (Some old))
+after_honest r call old p (Err f) e = ap (λ (q : Post). q.honest) e
+
+pub whole_after : {A E : Type 0} (stakes : List ℕ) (flags : List Bool) (posts : List Post) (n m : ℕ) (r : Rules) (call : Call) (old p : Post) (result : Result A E) → n ≡ length posts → m < n → old ≡ get_or posts m old → AreWhole stakes flags posts
+    → IsPlaced stakes m old.standing → PostAfter r call old p result → AreWhole stakes flags (set posts m p)
+whole_after stakes flags posts n m r call old p result count low is whole placed e =
+    whole_with stakes flags posts n m old p count low is whole (after_placed stakes m r call old p result placed e) (after_honest r call old p result e)
+
+pub posts_after : {A E : Type 0} (posts : List Post) (n m : ℕ) (r : Rules) (call : Call) (old p : Post) (result : Result A E) → n ≡ length posts → m < n → old ≡ get_or posts m old → PostAfter r call old p result → PostsAfter r call m posts (set posts m p) result
+posts_after posts n m r call old p (Ok a) count low is e = ap (set posts m) e ∙ ap (posts_with r call posts m) (sym (slice_get_read posts n m old count low is))
+posts_after posts n m r call old p (Err f) count low is e = changed_is fallen posts n m old p count low is e
+
+-- ---- what is said of it
+
+pub said_in : {A E : Type 0} (Says : Member → A → Type 0) (posts : List Post) (n m : ℕ) (r : Rules) (call : Call) (old : Post) (result : Result (Reply A) E) → n ≡ length posts → m < n → old ≡ get_or posts m old
+    → IfOk result (Replies Says (reached_post r call (Some old))) → IfOk result (Replies Says (reached_in r posts m call))
+said_in Says posts n m r call old result count low is h = subst (λ (o : Option Post). IfOk result (Replies Says (reached_post r call o))) (sym (slice_get_read posts n m old count low is)) h
+
+pub left_in : {A E : Type 0} (before now : Option Journals) (posts : List Post) (n m : ℕ) (r : Rules) (call : Call) (old : Post) (result : Result A E) → n ≡ length posts → m < n → old ≡ get_or posts m old
+    → Leaves before now m (record_left (reached_post r call (Some old))) result → Leaves before now m (record_left (reached_in r posts m call)) result
+left_in before now posts n m r call old result count low is h = subst (λ (o : Option Post). Leaves before now m (record_left (reached_post r call o)) result) (sym (slice_get_read posts n m old count low is)) h
+
+-- ---- by how the call ended
+
+pub on_ok : {A E : Type 0} (r : Rules) (call : Call) (m : ℕ) (posts new : List Post) (result : Result A E) → PostsAfter r call m posts new result → OnOk result (new ≡ posts_behind r posts m call)
+on_ok r call m posts new (Ok a) e = e
+on_ok r call m posts new (Err f) e = tt
+
+pub on_err : {A E : Type 0} (r : Rules) (call : Call) (m : ℕ) (posts new : List Post) (result : Result A E) → PostsAfter r call m posts new result → OnErr result (new ≡ fallen_at posts m)
+on_err r call m posts new (Ok a) e = tt
+on_err r call m posts new (Err f) e = e

@@ -1,0 +1,254 @@
+-- False votes and certificates of a scene.
+use Rattle.std.proofs.Common.{arith, ◌≡◌, ◌∙◌, ap, sym, refl, subst, ◌≤◌, ◌<◌, ℕ, zero, suc, Bool, true, false, cond, List, [], ◌∷◌, ◌++◌, map, length, append_assoc, append-nil, Option, Some, None, option_map}
+use Rattle.std.specs.Prelude.{IfSome, bytes_eq, filter, find, fold, slice_get}
+use Rattle.digest_core.specs.declared.Digest.{Digest}
+use Rattle.quorum_core.specs.declared.signer.Signer.{Signer}
+use Rattle.wire_bcs.specs.Digests.{digest}
+use Rattle.chain_types.specs.declared.transactions.Input.{Input}
+use Rattle.chain_types.specs.declared.transactions.Input.TheVariants as input
+use Rattle.chain_types.specs.declared.transactions.Transaction.{Transaction}
+use Rattle.chain_types.specs.declared.transactions.SignedTx.{SignedTx}
+use Rattle.chain_types.specs.Digests.{is_object}
+use Rattle.chain_types.specs.Transactions as transactions
+use Rattle.chain_messages.specs.declared.messages.Certificate.{Certificate}
+use Rattle.chain_messages.specs.declared.messages.Statement.TheVariants as statement
+use Rattle.chain_messages.specs.Messages as messages
+use Rattle.protocol_spec.specs.Chain.Tests.{origins_eq}
+use Rattle.protocol_spec.specs.Chain.Words.{Each, first_some, last_where, where_true}
+use Rattle.report_text.specs.declared.lines.Line.{Line}
+use Rattle.report_text.specs.declared.lines.Line.TheVariants as line
+use Rattle.report_text.specs.declared.lines.CertText.TheVariants as cert_text
+use Rattle.world_spec.specs.Setting.{Name, Trust}
+use Rattle.world_spec.specs.World.{Formed, Made, Said, honest_seat, list_or_none, said_by}
+use Rattle.world_spec.specs.Names.{cert_in, made_named}
+use Rattle.world_spec.specs.Report.{cert_collected, cert_lines, fvote_lines, origin_names}
+use Rattle.world_spec.specs.Step.{Collected, collected, differ, formed, formed_as, fvote_origins, fvoted, first_origins, lacks, last_said, no_origins, origin_word, origins_or, short, vote_in, votes_collected, whole}
+use Rattle.scene_spec.specs.Known.{Known, world_with}
+use Rattle.world_names.specs.declared.rows.MadeTx.{MadeTx}
+use Rattle.world_names.specs.Rows.{made_as}
+use Rattle.world_lines.specs.declared.certs.Collected.{Collected as Given}
+use Rattle.world_lines.specs.declared.certs.Collected.TheVariants as given
+use Rattle.world_lines.specs.Answers.{collected_as}
+use Rattle.world_lines.specs.Forming.{certificate_by}
+use Rattle.world_lines.specs.SaidVotes.{first_vote, flags_of, vote_by}
+use Rattle.world_lines.proofs.SaidWorlds.{first_from}
+use Rattle.scene_spec.specs.Posts.{Post}
+use Rattle.scene_spec.specs.Scene.{Scene, bare_seat, bare_setting, bare_world}
+use Rattle.world_core.specs.Crews.{honest_flags}
+use Rattle.world_core.specs.Sound.{IsSpelled, IsSpelledCert}
+use Rattle.world_core.specs.Votes.{first_origins_by, flag_at, is_whole, origins_by, with_none}
+
+-- ---- origins
+
+nones : (origins : List (Option Digest)) (inputs : List Input) → fold with_none origins inputs ≡ origins ++ map (λ (i : Input). let o : Option Digest = None in o) (filter is_object inputs)
+nones origins [] = sym (append-nil origins)
+nones origins (input.Pure bytes ∷ is) = nones origins is
+nones origins (input.Owned r ∷ is) = nones (origins ++ None ∷ []) is ∙ append_assoc origins (None ∷ []) (map (λ (i : Input). let o : Option Digest = None in o) (filter is_object is))
+nones origins (input.Immutable r ∷ is) = nones (origins ++ None ∷ []) is ∙ append_assoc origins (None ∷ []) (map (λ (i : Input). let o : Option Digest = None in o) (filter is_object is))
+nones origins (input.Shared id initial mutable ∷ is) = nones (origins ++ None ∷ []) is ∙ append_assoc origins (None ∷ []) (map (λ (i : Input). let o : Option Digest = None in o) (filter is_object is))
+
+pub all_none : (t : Transaction) → fold with_none (None ∷ []) t.inputs ≡ no_origins t
+all_none t = nones (None ∷ []) t.inputs
+
+pub words_named : (k : Known) (said : List Said) (honest : List Bool) (t : Made) (words : List (Option Name)) (origins : List (Option Digest))
+    → 0 < length words → origins ≡ map (origin_word (world_with k)) words → origins ≡ origins_by k said honest t words
+words_named k said honest t [] origins some is = absurd (omega arith)
+words_named k said honest t (word ∷ words) origins some is = is
+
+pub voted_first : (k : Known) (said : List Said) (honest : List Bool) (t : Made) (words : List (Option Name)) (origins vote : List (Option Digest))
+    → length words ≤ 0 → Some vote ≡ first_vote said t.digest honest → origins ≡ vote → origins ≡ origins_by k said honest t words
+voted_first k said honest t [] origins vote none is o = o ∙ ap (origins_or (no_origins t.signed.tx)) is
+voted_first k said honest t (word ∷ words) origins vote none is o = absurd (omega arith)
+
+pub none_voted : (k : Known) (said : List Said) (honest : List Bool) (t : Made) (words : List (Option Name)) (origins : List (Option Digest))
+    → length words ≤ 0 → None ≡ first_vote said t.digest honest → origins ≡ no_origins t.signed.tx → origins ≡ origins_by k said honest t words
+none_voted k said honest t [] origins none is o = o ∙ ap (origins_or (no_origins t.signed.tx)) is
+none_voted k said honest t (word ∷ words) origins none is o = absurd (omega arith)
+
+-- ---- a false vote in a scene
+
+flags_same : (posts : List Post) → flags_of (map bare_seat posts) ≡ honest_flags posts
+flags_same [] = refl
+flags_same (p ∷ ps) = ap (λ fs. p.honest ∷ fs) (flags_same ps)
+
+origins_same : (sc : Scene) (t : Made) (words : List (Option Name)) → origins_by sc.known sc.said (honest_flags sc.posts) t words ≡ fvote_origins (bare_world sc) t words
+origins_same sc t [] = ap (origins_or (no_origins t.signed.tx)) (sym (first_from (bare_world sc) t.digest 0 (map bare_seat sc.posts) ∙ ap (first_vote sc.said t.digest) (flags_same sc.posts)))
+origins_same sc t (word ∷ words) = refl
+
+honest_same : (posts : List Post) (m : ℕ) → flag_at (slice_get (honest_flags posts) m) ≡ honest_seat (slice_get (map bare_seat posts) m)
+honest_same [] m = refl
+honest_same (p ∷ ps) zero = refl
+honest_same (p ∷ ps) (suc m) = honest_same ps m
+
+pub unnamed_votes : (sc : Scene) (m : ℕ) (words : List (Option Name)) (t : Option Made) → None ≡ t → sc ≡ record sc { said = (fvoted (bare_world sc) m words t).said }
+unnamed_votes sc m words None e = refl
+unnamed_votes sc m words (Some t) e = absurd (cc)
+
+pub unnamed_lines : (sc : Scene) (m : ℕ) (name : Name) (words : List (Option Name)) (t : Option Made) (lines : List Line) → None ≡ t → lines ≡ line.Fvote m name [] ∷ [] → lines ≡ fvote_lines (bare_world sc) m name words t
+unnamed_lines sc m name words None lines e l = l
+unnamed_lines sc m name words (Some t) lines e l = absurd (cc)
+
+at_honest : (sc : Scene) (m : ℕ) (words : List (Option Name)) (t : Made) (b : Bool) → flag_at (slice_get (honest_flags sc.posts) m) ≡ b
+    → (fvoted (bare_world sc) m words (Some t)).said ≡ cond b sc.said (sc.said ++ said_by m (statement.Vote t.signed.tx.epoch t.digest (origins_by sc.known sc.said (honest_flags sc.posts) t words)) ∷ [])
+at_honest sc m words t true is = ap (λ b. (cond b (bare_world sc) (record (bare_world sc) { said = sc.said ++ said_by m (statement.Vote t.signed.tx.epoch t.digest (fvote_origins (bare_world sc) t words)) ∷ [] })).said) (sym (honest_same sc.posts m) ∙ is)
+at_honest sc m words t false is =
+    ap (λ b. (cond b (bare_world sc) (record (bare_world sc) { said = sc.said ++ said_by m (statement.Vote t.signed.tx.epoch t.digest (fvote_origins (bare_world sc) t words)) ∷ [] })).said) (sym (honest_same sc.posts m) ∙ is)
+    ∙ ap (λ os. sc.said ++ said_by m (statement.Vote t.signed.tx.epoch t.digest os) ∷ []) (sym (origins_same sc t words))
+
+pub honest_votes_not : (sc : Scene) (m : ℕ) (words : List (Option Name)) (made : MadeTx) (t : Option Made) → Some (made_as made) ≡ t → flag_at (slice_get (honest_flags sc.posts) m) ≡ true → sc.said ≡ (fvoted (bare_world sc) m words t).said
+honest_votes_not sc m words made None e is = absurd (cc)
+honest_votes_not sc m words made (Some t) e is = sym (at_honest sc m words t true is)
+
+pub faulty_votes : (sc : Scene) (m : ℕ) (words : List (Option Name)) (made : MadeTx) (t : Option Made) (origins : List (Option Digest)) (said : List Said) → Some (made_as made) ≡ t
+    → flag_at (slice_get (honest_flags sc.posts) m) ≡ false → origins ≡ origins_by sc.known sc.said (honest_flags sc.posts) (made_as made) words
+    → said ≡ sc.said ++ said_by m (statement.Vote made.signed.tx.epoch made.digest origins) ∷ [] → said ≡ (fvoted (bare_world sc) m words t).said
+faulty_votes sc m words made t origins said e is o s =
+    s ∙ ap (λ os. sc.said ++ said_by m (statement.Vote made.signed.tx.epoch made.digest os) ∷ []) o ∙ sym (at_honest sc m words (made_as made) false is) ∙ ap (λ x. (fvoted (bare_world sc) m words x).said) e
+
+pub vote_lines : (sc : Scene) (m : ℕ) (name : Name) (words : List (Option Name)) (made : MadeTx) (t : Option Made) (origins : List (Option Digest)) (lines : List Line) → Some (made_as made) ≡ t
+    → origins ≡ origins_by sc.known sc.said (honest_flags sc.posts) (made_as made) words → lines ≡ line.Fvote m name (origin_names (world_with sc.known) origins) ∷ [] → lines ≡ fvote_lines (bare_world sc) m name words t
+vote_lines sc m name words made t origins lines e o l =
+    l ∙ ap (λ x. line.Fvote m name (origin_names (world_with sc.known) x) ∷ []) (o ∙ origins_same sc (made_as made) words) ∙ ap (fvote_lines (bare_world sc) m name words) e
+
+-- ---- certificates
+
+named_spelled : (ts : List Made) (name : Name) (t : Made) → Each IsSpelled ts → find (λ (x : Made). bytes_eq x.name name) ts ≡ Some t → transactions.signed.short t.signed
+named_spelled [] name t all e = absurd (cc)
+named_spelled (x ∷ xs) name t all e = go (bytes_eq x.name name) refl (λ h. named_spelled xs name t all.1 h)
+  where
+    go : (b : Bool) → bytes_eq x.name name ≡ b → (find (λ (y : Made). bytes_eq y.name name) xs ≡ Some t → transactions.signed.short t.signed) → transactions.signed.short t.signed
+    go true is more = subst IsSpelled (same (sym (ap (λ c. cond c (Some x) (find (λ (y : Made). bytes_eq y.name name) xs)) is) ∙ e)) all.0
+      where
+        same : Some x ≡ Some t → x ≡ t
+        same h = cc
+    go false is more = more (sym (ap (λ c. cond c (Some x) (find (λ (y : Made). bytes_eq y.name name) xs)) is) ∙ e)
+
+-- a transaction of a name can be spelled
+pub spelled_named : (k : Known) (name : Name) (made : MadeTx) → Each IsSpelled k.txs → Some (made_as made) ≡ made_named (world_with k) name → transactions.signed.short made.signed
+spelled_named k name made all e = named_spelled k.txs name (made_as made) all (sym e)
+
+origin_short : (o : Option Digest) → IfSome o digest.short
+unfolding digest
+origin_short None = tt
+origin_short (Some d) = tt
+
+tx_short : (x : SignedTx) → transactions.signed.short x → transactions.transaction.short x.tx
+unfolding transactions.signed
+tx_short x is = is.0
+
+-- a certificate whose lists are not too long
+pub certificate_short : (seal : Signer → List ℕ → Digest) (t : MadeTx) (origins : List (Option Digest)) (ms : List ℕ) (c : Certificate)
+    → transactions.signed.short t.signed → length origins ≤ 2147483647 → length ms ≤ 2147483647 → c ≡ certificate_by seal (made_as t) origins ms → messages.certificate.short c
+unfolding messages.certificate messages.member_seal digest
+certificate_short seal t origins ms c tx few some is =
+    subst messages.certificate.short (sym is)
+    (tx_short t.signed tx, ((omega arith, λ k d l. origin_short _), (let n = seals_length ms in omega arith, λ k d l. (tt, tt))))
+  where
+    seals_length : (xs : List ℕ) → length (certificate_by seal (made_as t) origins xs).seals ≡ length xs
+    seals_length [] = refl
+    seals_length (x ∷ xs) = ap suc (seals_length xs)
+
+pub unnamed_forms : (trust : Trust) (sc : Scene) (ms : List ℕ) (t : Option Made) → None ≡ t → sc ≡ record sc { certs = (formed (bare_setting trust sc) (bare_world sc) ms t).certs }
+unnamed_forms trust sc ms None e = refl
+unnamed_forms trust sc ms (Some t) e = absurd (cc)
+
+pub unnamed_cert_lines : (trust : Trust) (sc : Scene) (name : Name) (ms : List ℕ) (t : Option Made) (lines : List Line) → None ≡ t → lines ≡ line.Cert name (cert_text.NoVote 0) ∷ [] → lines ≡ cert_lines (bare_setting trust sc) (bare_world sc) name ms t
+unnamed_cert_lines trust sc name ms None lines e l = l
+unnamed_cert_lines trust sc name ms (Some t) lines e l = absurd (cc)
+
+abbrev collects : Scene → Digest → List ℕ → Collected
+collects sc tx ms = collected origins_eq sc.stakes (λ m. last_said (vote_in tx) m sc.said) ms
+
+pub collected_lines : (trust : Trust) (sc : Scene) (name : Name) (ms : List ℕ) (made : MadeTx) (t : Option Made) (got : Given) (lines : List Line) → Some (made_as made) ≡ t
+    → collected_as got ≡ collects sc made.digest ms → lines ≡ line.Cert name (cert_collected ms (collected_as got)) ∷ [] → lines ≡ cert_lines (bare_setting trust sc) (bare_world sc) name ms t
+unfolding votes_collected
+collected_lines trust sc name ms made t got lines e c l =
+    l ∙ ap (λ y. line.Cert name (cert_collected ms y) ∷ []) c ∙ ap (cert_lines (bare_setting trust sc) (bare_world sc) name ms) e
+
+-- what is formed, by what was collected
+forms : (trust : Trust) (sc : Scene) (ms : List ℕ) (t : Made) (c : Collected) → c ≡ collects sc t.digest ms → (formed_as (bare_setting trust sc) (bare_world sc) t ms c).certs ≡ (formed (bare_setting trust sc) (bare_world sc) ms (Some t)).certs
+unfolding votes_collected
+forms trust sc ms t c is = ap (λ x. (formed_as (bare_setting trust sc) (bare_world sc) t ms x).certs) is
+
+first_same : (sc : Scene) (tx : Digest) (ms : List ℕ) → first_origins_by sc.said tx ms ≡ first_origins (bare_world sc) tx ms
+first_same sc tx [] = refl
+first_same sc tx (m ∷ ms) = refl
+
+pub whole_forms : (trust : Trust) (sc : Scene) (ms : List ℕ) (made : MadeTx) (t : Option Made) (got : Given) (cert : Certificate) (certs : List Formed) → Some (made_as made) ≡ t
+    → collected_as got ≡ collects sc made.digest ms → is_whole got ≡ true → cert ≡ certificate_by trust.seal (made_as made) (first_origins_by sc.said made.digest ms) ms
+    → certs ≡ sc.certs ++ record { name = made.name; cert = cert } ∷ [] → certs ≡ (formed (bare_setting trust sc) (bare_world sc) ms t).certs
+whole_forms trust sc ms made t (given.Lacks m) cert certs e c is b n = absurd (cc)
+whole_forms trust sc ms made t (given.Short w total) cert certs e c is b n = absurd (cc)
+whole_forms trust sc ms made t (given.Differ x y) cert certs e c is b n = absurd (cc)
+whole_forms trust sc ms made t given.Whole cert certs e c is b n =
+    n
+    ∙ ap (λ (x : Certificate). sc.certs ++ record { name = made.name; cert = x } ∷ []) (b ∙ ap (λ os. certificate_by trust.seal (made_as made) os ms) (first_same sc made.digest ms))
+    ∙ forms trust sc ms (made_as made) whole c
+    ∙ ap (λ x. (formed (bare_setting trust sc) (bare_world sc) ms x).certs) e
+
+pub others_form : (trust : Trust) (sc : Scene) (ms : List ℕ) (made : MadeTx) (t : Option Made) (got : Given) → Some (made_as made) ≡ t
+    → collected_as got ≡ collects sc made.digest ms → is_whole got ≡ false → sc.certs ≡ (formed (bare_setting trust sc) (bare_world sc) ms t).certs
+others_form trust sc ms made t (given.Lacks m) e c is = forms trust sc ms (made_as made) (lacks m) c ∙ ap (λ x. (formed (bare_setting trust sc) (bare_world sc) ms x).certs) e
+others_form trust sc ms made t (given.Short w total) e c is = forms trust sc ms (made_as made) (short w total) c ∙ ap (λ x. (formed (bare_setting trust sc) (bare_world sc) ms x).certs) e
+others_form trust sc ms made t (given.Differ a b) e c is = forms trust sc ms (made_as made) (differ a b) c ∙ ap (λ x. (formed (bare_setting trust sc) (bare_world sc) ms x).certs) e
+others_form trust sc ms made t given.Whole e c is = absurd (cc)
+
+last_spelled : (fs : List Formed) (name : Name) (c : Certificate) → Each IsSpelledCert fs → option_map cert_in (last_where (λ (f : Formed). bytes_eq f.name name) fs) ≡ Some c → messages.certificate.short c
+last_spelled [] name c all e = absurd (cc)
+last_spelled (f ∷ fs) name c all e = go (last_where (λ (x : Formed). bytes_eq x.name name) fs) refl (bytes_eq f.name name) refl (λ h. last_spelled fs name c all.1 h)
+  where
+    at_last : (o : Option Formed) → last_where (λ (x : Formed). bytes_eq x.name name) fs ≡ o → option_map cert_in (first_some (o ∷ where_true (bytes_eq f.name name) f ∷ [])) ≡ Some c
+    at_last o is = sym (ap (λ y. option_map cert_in (first_some (y ∷ where_true (bytes_eq f.name name) f ∷ []))) is) ∙ e
+
+    go : (o : Option Formed) → last_where (λ (x : Formed). bytes_eq x.name name) fs ≡ o → (b : Bool) → bytes_eq f.name name ≡ b
+        → (option_map cert_in (last_where (λ (x : Formed). bytes_eq x.name name) fs) ≡ Some c → messages.certificate.short c) → messages.certificate.short c
+    go (Some x) is b at more = more (ap (option_map cert_in) is ∙ at_last (Some x) is)
+    go None is true at more = subst messages.certificate.short (same (sym (ap (λ y. option_map cert_in (first_some (None ∷ where_true y f ∷ []))) at) ∙ at_last None is)) all.0
+      where
+        same : Some f.cert ≡ Some c → f.cert ≡ c
+        same h = cc
+    go None is false at more = absurd (none (sym (ap (λ y. option_map cert_in (first_some (None ∷ where_true y f ∷ []))) at) ∙ at_last None is))
+      where
+        none : (let o : Option Certificate = None in o) ≡ Some c → ⊥
+        none h = cc
+
+-- a certificate of a name can be spelled
+pub spelled_cert : (fs : List Formed) (name : Name) (c : Certificate) → Each IsSpelledCert fs → Some c ≡ option_map cert_in (last_where (λ (f : Formed). bytes_eq f.name name) fs) → messages.certificate.short c
+spelled_cert fs name c all e = last_spelled fs name c all (sym e)
+
+-- the origins of the first of the members
+pub first_of_none : (said : List Said) (tx : Digest) (ms : List ℕ) (origins : List (Option Digest)) → ms ≡ [] → origins ≡ [] → origins ≡ first_origins_by said tx ms
+first_of_none said tx ms origins e o = o ∙ sym (ap (first_origins_by said tx) e)
+
+pub first_of_some : (said : List Said) (tx : Digest) (m : ℕ) (rest ms : List ℕ) (origins : List (Option Digest)) → ms ≡ m ∷ rest → origins ≡ list_or_none (vote_by said tx m) → origins ≡ first_origins_by said tx ms
+first_of_some said tx m rest ms origins e o = o ∙ sym (ap (first_origins_by said tx) e)
+
+-- ---- the same in a scene that is seen from inside
+
+abbrev with_certs : Scene → List Formed → Scene
+with_certs sc certs = record sc { certs = certs }
+
+pub form_others : (trust : Trust) (v sc : Scene) (name : Name) (ms : List ℕ) (made : MadeTx) (got : Given) (b : Bool) → v ≡ sc → Some (made_as made) ≡ made_named (bare_world v) name
+    → collected_as got ≡ collects v made.digest ms → b ≡ is_whole got → b ≡ false → sc ≡ with_certs sc (formed (bare_setting trust sc) (bare_world sc) ms (made_named (bare_world sc) name)).certs
+form_others trust v sc name ms made got b same e c w n =
+    subst (λ (x : Scene). x ≡ with_certs x (formed (bare_setting trust x) (bare_world x) ms (made_named (bare_world x) name)).certs) same
+    (ap (with_certs v) (others_form trust v ms made (made_named (bare_world v) name) got e c (sym w ∙ n)))
+
+pub form_whole : (trust : Trust) (v sc : Scene) (name : Name) (ms : List ℕ) (made : MadeTx) (got : Given) (b : Bool) (cert : Certificate) (certs : List Formed) → v ≡ sc → Some (made_as made) ≡ made_named (bare_world v) name
+    → collected_as got ≡ collects v made.digest ms → b ≡ is_whole got → b ≡ true → cert ≡ certificate_by trust.seal (made_as made) (first_origins_by v.said made.digest ms) ms
+    → certs ≡ v.certs ++ record { name = made.name; cert = cert } ∷ [] → with_certs v certs ≡ with_certs sc (formed (bare_setting trust sc) (bare_world sc) ms (made_named (bare_world sc) name)).certs
+form_whole trust v sc name ms made got b cert certs same e c w n by is =
+    subst (λ (x : Scene). with_certs v certs ≡ with_certs x (formed (bare_setting trust x) (bare_world x) ms (made_named (bare_world x) name)).certs) same
+    (ap (with_certs v) (whole_forms trust v ms made (made_named (bare_world v) name) got cert certs e c (sym w ∙ n) by is))
+
+pub form_lines : (trust : Trust) (v sc : Scene) (name : Name) (ms : List ℕ) (made : MadeTx) (got : Given) (lines : List Line) → v ≡ sc → Some (made_as made) ≡ made_named (bare_world v) name
+    → collected_as got ≡ collects v made.digest ms → lines ≡ line.Cert name (cert_collected ms (collected_as got)) ∷ [] → lines ≡ cert_lines (bare_setting trust sc) (bare_world sc) name ms (made_named (bare_world sc) name)
+form_lines trust v sc name ms made got lines same e c l =
+    subst (λ (x : Scene). lines ≡ cert_lines (bare_setting trust x) (bare_world x) name ms (made_named (bare_world x) name)) same
+    (collected_lines trust v name ms made (made_named (bare_world v) name) got lines e c l)
+
+pub false_lines : (v sc : Scene) (m : ℕ) (name : Name) (words : List (Option Name)) (made : MadeTx) (origins : List (Option Digest)) (lines : List Line) → v ≡ sc → Some (made_as made) ≡ made_named (bare_world v) name
+    → origins ≡ origins_by v.known v.said (honest_flags v.posts) (made_as made) words → lines ≡ line.Fvote m name (origin_names (world_with v.known) origins) ∷ [] → lines ≡ fvote_lines (bare_world sc) m name words (made_named (bare_world sc) name)
+false_lines v sc m name words made origins lines same e o l =
+    subst (λ (x : Scene). lines ≡ fvote_lines (bare_world x) m name words (made_named (bare_world x) name)) same
+    (vote_lines v m name words made (made_named (bare_world v) name) origins lines e o l)

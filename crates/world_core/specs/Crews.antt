@@ -1,0 +1,56 @@
+-- The members of a committee as they stand. Source: this profile.
+use Rattle.std.specs.Prelude.{◌≡◌, ℕ, Bool, List, Option, Some, None, Result, Ok, Err, map, slice_get, if◌then◌else◌}
+use Rattle.chain_types.specs.declared.objects.Object.{Object}
+use Rattle.protocol_spec.specs.Member.Member.{live_objects}
+use Rattle.scene_spec.specs.Seats.{Seat}
+use Rattle.protocol_spec.specs.Chain.Certificates.{Rules}
+use Rattle.protocol_spec.specs.Member.Calls.{Call}
+use Rattle.scene_spec.specs.Posts.{Post, changed_at, post_behind, posts_behind, reached_post, seat_at}
+
+-- the stakes of the committee, and its members
+pub record Crew : Type 0 where
+  pub stakes : List ℕ
+  pub posts : List Post
+
+-- a member that stands has this number, these stakes, and is up
+abbrev pub IsPlaced : List ℕ → ℕ → Option Seat → Type 0
+IsPlaced stakes m None = Unit {0}
+IsPlaced stakes m (Some seat) = seat ≡ seat_at stakes m seat.state
+
+abbrev pub IsPlacedPost : List ℕ → ℕ → Option Post → Type 0
+IsPlacedPost stakes m None = Unit {0}
+IsPlacedPost stakes m (Some p) = IsPlaced stakes m p.standing
+
+-- each member that stands has its place as its number
+abbrev pub ArePlaced : List ℕ → List Post → Type 0
+ArePlaced stakes posts = (m : ℕ) → IsPlacedPost stakes m (slice_get posts m)
+
+abbrev pub honest_flags : List Post → List Bool
+honest_flags posts = map (λ (p : Post). p.honest) posts
+
+-- the member, where it is honest and up
+abbrev pub honest_at : Option Post → Option Seat
+honest_at None = None
+honest_at (Some p) = if p.honest then p.standing else None
+
+-- what is shown of a member that stands: its epoch, and its live objects
+abbrev pub shown_of : Seat → ℕ × List Object
+shown_of seat = (seat.state.epoch, live_objects seat.state)
+
+-- ---- faults
+
+-- a member behind a fault of the keeper or want of memory is down
+abbrev pub fallen : Post → Post
+fallen p = record p { standing = None }
+
+abbrev pub fallen_at : List Post → ℕ → List Post
+fallen_at posts m = changed_at posts m fallen (slice_get posts m)
+
+-- a member behind a call that ended so
+abbrev pub PostAfter : {A E : Type 0} → Rules → Call → Post → Post → Result A E → Type 0
+PostAfter r call old new (Ok a) = new ≡ post_behind r call old (reached_post r call (Some old))
+PostAfter r call old new (Err e) = new ≡ fallen old
+
+abbrev pub PostsAfter : {A E : Type 0} → Rules → Call → ℕ → List Post → List Post → Result A E → Type 0
+PostsAfter r call m old new (Ok a) = new ≡ posts_behind r old m call
+PostsAfter r call m old new (Err e) = new ≡ fallen_at old m

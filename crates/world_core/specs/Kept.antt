@@ -1,0 +1,69 @@
+-- What a line leaves in told lists, and which lines hand a call to a member.
+use Rattle.std.specs.Prelude.{ℕ, Bool, true, false, Option, Some, None, Result, Ok, Err}
+use Rattle.outside.specs.Lists.{Journals, KeepsJournals}
+use Rattle.protocol_spec.specs.Chain.Certificates.{Rules}
+use Rattle.schedule_text.specs.declared.words.Event.{Event}
+use Rattle.schedule_text.specs.declared.words.Event.TheVariants as event
+use Rattle.protocol_spec.specs.Member.Calls.{Call}
+use Rattle.scene_spec.specs.Posts.{AddsLeft, MayAddLeft, reached_in, record_left}
+use Rattle.scene_spec.specs.Scene.{Scene}
+
+-- the record that the call of a line leaves was added, or nothing
+abbrev pub LeavesLeft : Rules → Scene → Option (ℕ × Call) → Option Journals → Option Journals → Type 0
+LeavesLeft r sc None before now = KeepsJournals before now
+LeavesLeft r sc (Some (m, call)) before now = AddsLeft before now m (record_left (reached_in r sc.posts m call))
+
+-- the same where the line did not end
+abbrev pub MayLeave : Rules → Scene → Option (ℕ × Call) → Option Journals → Option Journals → Type 0
+MayLeave r sc None before now = KeepsJournals before now
+MayLeave r sc (Some (m, call)) before now = MayAddLeft before now m (record_left (reached_in r sc.posts m call))
+
+abbrev pub LeavesAs : {A E : Type 0} → Rules → Scene → Option (ℕ × Call) → Option Journals → Option Journals → Result A E → Type 0
+LeavesAs r sc call before now (Ok a) = LeavesLeft r sc call before now
+LeavesAs r sc call before now (Err e) = MayLeave r sc call before now
+
+-- lines that hand a call to a member
+abbrev pub is_call : Event → Bool
+is_call (event.Tx name sender spoiled epoch gas budget inputs commands) = false
+is_call (event.Vote m tx) = true
+is_call (event.Fvote m tx origins) = false
+is_call (event.Cert tx members) = false
+is_call (event.Send m tx) = true
+is_call (event.Order tx) = false
+is_call (event.OrderEnd m) = false
+is_call event.OrderCommit = false
+is_call (event.See m entries) = false
+is_call (event.Run m workers) = true
+is_call (event.Close m) = false
+is_call (event.End m) = false
+is_call (event.Turn m) = false
+is_call (event.Show m) = false
+is_call (event.Stop m kept) = false
+is_call (event.Restart m) = false
+is_call (event.RawVote m bytes) = true
+is_call (event.RawHold m bytes) = true
+is_call (event.Ack m tx spoiled) = false
+is_call (event.Final tx members) = false
+
+-- lines that touch no record
+abbrev pub is_quiet : Event → Bool
+is_quiet (event.Tx name sender spoiled epoch gas budget inputs commands) = true
+is_quiet (event.Vote m tx) = false
+is_quiet (event.Fvote m tx origins) = true
+is_quiet (event.Cert tx members) = true
+is_quiet (event.Send m tx) = false
+is_quiet (event.Order tx) = false
+is_quiet (event.OrderEnd m) = false
+is_quiet event.OrderCommit = false
+is_quiet (event.See m entries) = false
+is_quiet (event.Run m workers) = false
+is_quiet (event.Close m) = false
+is_quiet (event.End m) = false
+is_quiet (event.Turn m) = false
+is_quiet (event.Show m) = true
+is_quiet (event.Stop m kept) = true
+is_quiet (event.Restart m) = false
+is_quiet (event.RawVote m bytes) = false
+is_quiet (event.RawHold m bytes) = false
+is_quiet (event.Ack m tx spoiled) = false
+is_quiet (event.Final tx members) = false

@@ -1,0 +1,13 @@
+pub mod Replies
+pub mod Crews
+pub mod SeatRestarts
+pub mod Forms
+pub mod Openings
+pub mod Trusts
+pub mod Sound
+pub mod Texts
+pub mod Kept
+pub mod Restarts
+pub mod Votes
+pub mod Stays
+pub mod Sums

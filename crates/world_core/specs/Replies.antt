@@ -1,0 +1,109 @@
+-- What is replied to a call on a member, against what the definition says becomes of the call. Source: this profile.
+use Rattle.std.specs.Prelude.{◌≡◌, ◌⊎◌, ℕ, Bool, true, false, List, [], Option, Some, None, option_map, Result, Ok, Err, IfOk}
+use Rattle.digest_core.specs.declared.Digest.{Digest}
+use Rattle.quorum_core.specs.declared.signer.Signer.{Signer}
+use Rattle.journal_core.specs.declared.records.Record.{Record}
+use Rattle.journal_core.specs.Records as journals
+use Rattle.outside.specs.Lists.{Journals, AddsRecord, KeepsJournals}
+use Rattle.protocol_spec.specs.Chain.Certificates.{Rules}
+use Rattle.answer_types.specs.declared.answers.Voted.{Voted as Sent}
+use Rattle.answer_types.specs.declared.answers.Ran.{Ran}
+use Rattle.answer_types.specs.declared.refusals.RunRefusal.{RunRefusal}
+use Rattle.answer_types.specs.declared.refusals.RunRefusal.TheVariants as no_run
+use Rattle.answer_types.specs.declared.refusals.VoteRefusal.{VoteRefusal}
+use Rattle.answer_types.specs.declared.refusals.VoteRefusal.TheVariants as no_vote
+use Rattle.answer_types.specs.declared.refusals.HoldRefusal.{HoldRefusal}
+use Rattle.answer_types.specs.declared.refusals.HoldRefusal.TheVariants as no_hold
+use Rattle.protocol_spec.specs.Member.Member.{Member}
+use Rattle.protocol_spec.specs.Member.Calls.{hold_answer, run_answer, vote_answer}
+use Rattle.world_spec.specs.World.{Reached, finds_down, stops, answers}
+use Rattle.validator_core.specs.Calls.{Holds, Runs, Votes, hold_ended, run_ended, vote_ended}
+use Rattle.validator_core.specs.Seats.{answered}
+use Rattle.scene_spec.specs.Posts.{AddsLeft, MayAddLeft}
+use Rattle.world_core.specs.declared.reply.SeatFault.{SeatFault}
+use Rattle.world_core.specs.declared.reply.SeatFault.TheVariants as faults
+use Rattle.world_core.specs.declared.reply.Reply.{Reply}
+use Rattle.world_core.specs.declared.reply.Reply.TheVariants as reply
+
+-- the call stopped at the append of its record
+pub record HasStopped (what : Reached) : Type 0 where
+  pub kept : Bool
+  pub due : Record
+  pub is : what ≡ stops kept due
+
+-- the call answered as said of the member before it
+pub record HasAnswered {A : Type 0} (Says : Member → A → Type 0) (what : Reached) (answer : A) : Type 0 where
+  pub before : Member
+  pub due : Option Record
+  pub is : what ≡ answers before due
+  pub says : Says before answer
+
+-- the call of a member that is up came to its answer, or to a stop
+abbrev pub Met : {A : Type 0} → (Member → A → Type 0) → Reached → Option A → Type 0
+Met Says what None = HasStopped what
+Met Says what (Some answer) = HasAnswered Says what answer
+
+abbrev pub Replies : {A : Type 0} → (Member → A → Type 0) → Reached → Reply A → Type 0
+Replies Says what reply.Down = what ≡ finds_down
+Replies Says what reply.Stopped = HasStopped what
+Replies Says what (reply.Answered answer) = HasAnswered Says what answer
+
+-- ---- what a member that is up answers; neither a fault of the keeper nor want of memory
+
+abbrev pub Accepting : Type 0
+Accepting = Signer → List ℕ → Digest → Bool
+
+-- the vote that the definition gives, sealed by the member
+pub record SaysVote (r : Rules) (accepts : Accepting) (m : ℕ) (bytes : List ℕ) (before : Member) (given : Result Sent VoteRefusal) : Type 0 where
+  pub answer : Votes accepts m (vote_answer r before bytes) given
+  pub ended : vote_ended given ≡ answered
+
+pub record SaysHold (r : Rules) (bytes : List ℕ) (before : Member) (given : Result Bool HoldRefusal) : Type 0 where
+  pub answer : Holds (hold_answer r before bytes) given
+  pub ended : hold_ended given ≡ answered
+
+-- no checkpoint is built
+pub record SaysRun (r : Rules) (before : Member) (given : Result Ran RunRefusal) : Type 0 where
+  pub answer : Runs (run_answer r before) given
+  pub built : IfOk given (λ (ran : Ran). ran.built ≡ [])
+  pub ended : run_ended given ≡ answered
+
+-- ---- the record
+
+-- Ok: the record that the call leaves was added, where there is one; else it was added or nothing was
+abbrev pub Leaves : {A E : Type 0} → Option Journals → Option Journals → ℕ → Option Record → Result A E → Type 0
+Leaves before now m x (Ok a) = AddsLeft before now m x
+Leaves before now m x (Err e) = MayAddLeft before now m x
+
+-- Ok: these bytes were added; else they were added or nothing was
+abbrev pub AddsBytes : {A E : Type 0} → Option Journals → Option Journals → ℕ → List ℕ → Result A E → Type 0
+AddsBytes before now m bytes (Ok a) = AddsRecord before now m bytes
+AddsBytes before now m bytes (Err e) = AddsRecord before now m bytes ⊎ KeepsJournals before now
+
+-- a stop that keeps adds these bytes, and one that loses adds nothing
+abbrev pub KeptWhere : {A E : Type 0} → Bool → Option Journals → Option Journals → ℕ → List ℕ → Result A E → Type 0
+KeptWhere true before now m bytes result = AddsBytes before now m bytes result
+KeptWhere false before now m bytes result = KeepsJournals before now
+
+-- ---- answers that are none
+
+abbrev pub vote_fault : Result Sent VoteRefusal → Option SeatFault
+vote_fault (Err no_vote.KeepFault) = Some faults.KeepFault
+vote_fault (Err no_vote.OutOfMemory) = Some faults.OutOfMemory
+vote_fault answer = None
+
+abbrev pub hold_fault : Result Bool HoldRefusal → Option SeatFault
+hold_fault (Err no_hold.KeepFault) = Some faults.KeepFault
+hold_fault (Err no_hold.OutOfMemory) = Some faults.OutOfMemory
+hold_fault answer = None
+
+abbrev pub run_fault : Result Ran RunRefusal → Option SeatFault
+run_fault (Err no_run.KeepFault) = Some faults.KeepFault
+run_fault (Err no_run.OutOfMemory) = Some faults.OutOfMemory
+run_fault answer = None
+
+-- ---- on paper
+
+-- the spelling of a record that is due
+abbrev pub spelled_due : Option Record → Option (List ℕ)
+spelled_due x = option_map journals.journal_record.spell x

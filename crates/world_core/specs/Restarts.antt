@@ -1,0 +1,69 @@
+-- What a restart leaves, and the line that it gives. Source: this profile.
+use Rattle.std.specs.Prelude.{◌≡◌, ℕ, Bool, List, [], ◌∷◌, Option, Some, None, Result, Ok, Err, length, slice_get}
+use Rattle.digest_core.specs.declared.Digest.{Digest}
+use Rattle.quorum_core.specs.declared.signer.Signer.{Signer}
+use Rattle.outside.specs.Lists.{Journals}
+use Rattle.schedule_text.specs.declared.words.Event.{Event}
+use Rattle.schedule_text.specs.declared.words.Event.TheVariants as event
+use Rattle.report_text.specs.declared.lines.Line.{Line}
+use Rattle.report_text.specs.declared.lines.Line.TheVariants as line
+use Rattle.report_text.specs.declared.lines.RestartText.TheVariants as restart_text
+use Rattle.protocol_spec.specs.Member.Member.{Member}
+use Rattle.scene_spec.specs.Starts.{started}
+use Rattle.scene_spec.specs.Posts.{Post, started_at}
+use Rattle.scene_spec.specs.Scene.{Scene, rules_in}
+use Rattle.world_core.specs.SeatRestarts.{HasBadRecord, IsJournal}
+use Rattle.world_core.specs.declared.world.WorldFault.{WorldFault}
+use Rattle.world_core.specs.declared.world.WorldFault.TheVariants as fault
+
+abbrev pub Accepting : Type 0
+Accepting = Signer → List ℕ → Digest → Bool
+
+-- the member started from its records, and the line says how many they are
+pub record ComesBack (accepts : Accepting) (told : Option Journals) (m : ℕ) (old new : Scene) (lines : List Line) : Type 0 where
+  pub kept : List (List ℕ)
+  pub state : Member
+  pub is : IsJournal told m kept
+  pub starts : started (rules_in accepts old) old.opening kept ≡ Ok state
+  pub scene : new ≡ record old { posts = started_at old.stakes old.posts m state }
+  pub says : lines ≡ line.Restart m (restart_text.Records (length kept)) ∷ []
+
+-- a member that is not there has no records
+pub record NoneComesBack (m : ℕ) (old new : Scene) (lines : List Line) : Type 0 where
+  pub scene : new ≡ old
+  pub says : lines ≡ line.Restart m (restart_text.Records 0) ∷ []
+
+-- the first record of this member from which it does not start stands at this place
+pub record StaysDown (accepts : Accepting) (told : Option Journals) (m : ℕ) (old : Scene) (member place : ℕ) : Type 0 where
+  pub who : member ≡ m
+  pub bad : HasBadRecord (rules_in accepts old) old.opening told m place
+
+abbrev pub RestartsAs : Accepting → Option Journals → ℕ → Scene → Scene → Option Post → Result (List Line) WorldFault → Type 0
+RestartsAs accepts told m old new (Some p) (Ok lines) = ComesBack accepts told m old new lines
+RestartsAs accepts told m old new None (Ok lines) = NoneComesBack m old new lines
+RestartsAs accepts told m old new p (Err (fault.BadRecord member place)) = StaysDown accepts told m old member place
+RestartsAs accepts told m old new p (Err fault.KeepFault) = Unit {0}
+RestartsAs accepts told m old new p (Err fault.OutOfMemory) = Unit {0}
+
+-- what a step says of a restart
+abbrev pub MayRestart : Accepting → Option Journals → Scene → Scene → Event → Result (List Line) WorldFault → Type 0
+MayRestart accepts told old new (event.Tx name sender spoiled epoch gas budget inputs commands) result = Unit {0}
+MayRestart accepts told old new (event.Vote m tx) result = Unit {0}
+MayRestart accepts told old new (event.Fvote m tx origins) result = Unit {0}
+MayRestart accepts told old new (event.Cert tx members) result = Unit {0}
+MayRestart accepts told old new (event.Send m tx) result = Unit {0}
+MayRestart accepts told old new (event.Order tx) result = Unit {0}
+MayRestart accepts told old new (event.OrderEnd m) result = Unit {0}
+MayRestart accepts told old new event.OrderCommit result = Unit {0}
+MayRestart accepts told old new (event.See m entries) result = Unit {0}
+MayRestart accepts told old new (event.Run m workers) result = Unit {0}
+MayRestart accepts told old new (event.Close m) result = Unit {0}
+MayRestart accepts told old new (event.End m) result = Unit {0}
+MayRestart accepts told old new (event.Turn m) result = Unit {0}
+MayRestart accepts told old new (event.Show m) result = Unit {0}
+MayRestart accepts told old new (event.Stop m kept) result = Unit {0}
+MayRestart accepts told old new (event.Restart m) result = RestartsAs accepts told m old new (slice_get old.posts m) result
+MayRestart accepts told old new (event.RawVote m bytes) result = Unit {0}
+MayRestart accepts told old new (event.RawHold m bytes) result = Unit {0}
+MayRestart accepts told old new (event.Ack m tx spoiled) result = Unit {0}
+MayRestart accepts told old new (event.Final tx members) result = Unit {0}

@@ -1,0 +1,20 @@
+-- What holds of each world: its transactions and certificates can be spelled, and its opening has no version twice.
+use Rattle.std.specs.Prelude.{◌≡◌, true, List, []}
+use Rattle.chain_types.specs.declared.objects.Object.{Object}
+use Rattle.chain_types.specs.Transactions as transactions
+use Rattle.chain_messages.specs.Messages as messages
+use Rattle.protocol_spec.specs.Chain.Words.{Each}
+use Rattle.version_store.specs.Stores.{are_new}
+use Rattle.world_spec.specs.World.{Formed, Made}
+use Rattle.scene_spec.specs.Known.{Known}
+
+abbrev pub IsSpelled : Made → Type 0
+IsSpelled t = transactions.signed.short t.signed
+
+abbrev pub IsSpelledCert : Formed → Type 0
+IsSpelledCert f = messages.certificate.short f.cert
+
+pub record IsSound (opening : List Object) (known : Known) (certs : List Formed) : Type 0 where
+  pub made : Each IsSpelled known.txs
+  pub formed : Each IsSpelledCert certs
+  pub apart : are_new [] opening ≡ true

@@ -1,0 +1,8 @@
+-- What no step changes.
+use Rattle.std.specs.Prelude.{◌≡◌, length}
+use Rattle.scene_spec.specs.Scene.{Scene}
+
+-- the number of members, and their stakes
+pub record Stays (old new : Scene) : Type 0 where
+  pub many : length new.posts ≡ length old.posts
+  pub staked : new.stakes ≡ old.stakes

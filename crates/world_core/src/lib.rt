@@ -1,0 +1,37 @@
+//! The world of a run: a committee and its events, line by line.
+//!
+//! [`World::new`] opens the committee of a schedule's set-up; [`World::step`] runs one line, hands its call to the
+//! member that it is for, and answers the lines that the report has for it. Contracts see the world as a scene:
+//! the stakes and the opening, what is known under names, what was said and formed, and the members as they
+//! stand. Each step is the definition's step of that scene, with its lines, and the keeper's lists grow by the
+//! record that the line leaves. [`PlainForms`] are the forms of line that are run: those that need no sequence.
+//! [`World::sums`] tells what a member has built and holds, in numbers.
+//! Each name, vote and version is found by a map, so a line costs time in proportion to its own words.
+//!
+//! Within, [`Seats`] are the members, up or down, with armed stops and restarts: each hands a call to the member that
+//! it is for, and says what became of it. A stop that is armed cuts the next call that has a record to append: the
+//! record is kept or lost, as was said, and the member is down until it restarts from the records of its keeper.
+#![tactic(auto)]
+
+mod calls;
+mod certs;
+mod forms;
+mod opening;
+mod quiet;
+mod reply;
+mod requests;
+mod restart;
+mod seat;
+mod seats;
+mod starts;
+mod step;
+mod stops;
+mod sums;
+mod votes;
+mod world;
+
+pub use forms::{PlainForms, is_plain};
+pub use reply::{Reply, RestartFault, SeatFault};
+pub use seats::Seats;
+pub use sums::Sums;
+pub use world::{World, WorldFault, WorldRefusal};

@@ -1,0 +1,228 @@
+//! What the set-up lines make: the stakes, who is honest, and the opening objects.
+
+ghost use Rattle.std.specs.Prelude.{◌≡◌, ◌++◌, ◌∷◌, [], IfOk, OnOk, false, fold, map, true};
+ghost use Rattle.world_spec.specs.Setting.{honest_of, objects_from, owned_thing, shared_thing, stakes_of, with_new};
+ghost use Rattle.world_core.specs.Openings.{has_id, object_id, with_flag, with_object, with_stake};
+
+use chain_types::{Address, Content, Object, ObjectId, Owner};
+use digest_core::{address_of, genesis_id};
+use indexmap::IndexSet;
+use schedule_text::Setup;
+use std::alloc::Global;
+use wire_bcs::{OutOfMemory, Seq};
+
+/// Adds the stake of a line that makes a member.
+fn add_stake(stakes: &mut Vec<u32>, line: &Setup) -> Result<(), OutOfMemory>
+    ensures { OnOk result (stakes.new.items ≡ with_stake stakes.old.items line.now) }
+{
+    match line {
+        Setup::Member { stake, .. } => {
+            stakes.push(*stake)?;
+            Ok(())
+        }
+        Setup::Coin { .. } | Setup::Counter { .. } | Setup::Cap { .. } | Setup::Writers(_) => {
+            Ok(())
+        }
+    }
+}
+
+/// Adds the stakes of the lines.
+fn add_stakes(stakes: &mut Vec<u32>, setup: &[Setup]) -> Result<(), OutOfMemory>
+    ensures { OnOk result (stakes.new.items ≡ fold with_stake stakes.old.items setup.now) }
+{
+    for line in setup {
+        add_stake(stakes, line)?;
+    }
+    Ok(())
+}
+
+/// The stakes of the members, by their numbers.
+#[tactic(auto, using(crate::proofs::SetUp::all_stakes))]
+pub(crate) fn stakes_of(alloc: Global, setup: &[Setup]) -> Result<Vec<u32>, OutOfMemory>
+    ensures { IfOk result (λ stakes. stakes.items ≡ stakes_of setup.now) }
+{
+    let mut stakes = Vec::new(alloc);
+    add_stakes(&mut stakes, setup)?;
+    Ok(stakes)
+}
+
+/// Adds the flag of a line that makes a member.
+fn add_flag(flags: &mut Vec<bool>, line: &Setup) -> Result<(), OutOfMemory>
+    ensures { OnOk result (flags.new.items ≡ with_flag flags.old.items line.now) }
+{
+    match line {
+        Setup::Member { honest, .. } => {
+            flags.push(*honest)?;
+            Ok(())
+        }
+        Setup::Coin { .. } | Setup::Counter { .. } | Setup::Cap { .. } | Setup::Writers(_) => {
+            Ok(())
+        }
+    }
+}
+
+/// Adds the flags of the lines.
+fn add_flags(flags: &mut Vec<bool>, setup: &[Setup]) -> Result<(), OutOfMemory>
+    ensures { OnOk result (flags.new.items ≡ fold with_flag flags.old.items setup.now) }
+{
+    for line in setup {
+        add_flag(flags, line)?;
+    }
+    Ok(())
+}
+
+/// Which members are honest, by their numbers.
+#[tactic(auto, using(crate::proofs::SetUp::all_flags))]
+pub(crate) fn honest_of(alloc: Global, setup: &[Setup]) -> Result<Vec<bool>, OutOfMemory>
+    ensures { IfOk result (λ flags. flags.items ≡ honest_of setup.now) }
+{
+    let mut flags = Vec::new(alloc);
+    add_flags(&mut flags, setup)?;
+    Ok(flags)
+}
+
+/// The n-th object of the set-up, a user's. Takes no memory.
+fn owned(number: usize, user: &[u8], content: Content) -> Object
+    ensures { result ≡ owned_thing number user.now content }
+{
+    Object {
+        id: ObjectId(genesis_id(number as u64)),
+        version: 1,
+        owner: Owner::Address(Address(address_of(user))),
+        content,
+    }
+}
+
+/// The n-th object of the set-up, shared. Takes no memory.
+fn shared(number: usize, content: Content) -> Object
+    ensures { result ≡ shared_thing number content }
+{
+    Object {
+        id: ObjectId(genesis_id(number as u64)),
+        version: 1,
+        owner: Owner::Shared(1),
+        content,
+    }
+}
+
+/// Adds the object of a line that makes one.
+fn add_object(objects: &mut Vec<Object>, line: &Setup) -> Result<(), OutOfMemory>
+    ensures { OnOk result (objects.new.items ≡ with_object objects.old.items line.now) }
+{
+    let number = objects.as_slice().len();
+    let object = match line {
+        Setup::Coin { owner, balance, .. } => owned(
+            number,
+            owner.as_slice(),
+            Content::Coin {
+                currency: 0,
+                balance: *balance,
+            },
+        ),
+        Setup::Counter { value, .. } => shared(number, Content::Counter { value: *value }),
+        Setup::Cap {
+            owner,
+            currency,
+            ..
+        } => owned(
+            number,
+            owner.as_slice(),
+            Content::Cap {
+                currency: *currency,
+                supply: 0,
+            },
+        ),
+        Setup::Member { .. } | Setup::Writers(_) => return Ok(()),
+    };
+    objects.push(object)?;
+    Ok(())
+}
+
+/// Adds the objects of the lines.
+fn add_objects(objects: &mut Vec<Object>, setup: &[Setup]) -> Result<(), OutOfMemory>
+    ensures { OnOk result (objects.new.items ≡ fold with_object objects.old.items setup.now) }
+{
+    for line in setup {
+        add_object(objects, line)?;
+    }
+    Ok(())
+}
+
+/// The objects of the lines, in their order.
+#[tactic(auto, using(crate::proofs::SetUp::all_objects))]
+fn objects_of(alloc: Global, setup: &[Setup]) -> Result<Vec<Object>, OutOfMemory>
+    ensures { IfOk result (λ objects. objects.items ≡ objects_from 0 setup.now) }
+{
+    let mut objects = Vec::new(alloc);
+    add_objects(&mut objects, setup)?;
+    Ok(objects)
+}
+
+/// Adds an id that is not there.
+fn insert_new_id(seen: &mut IndexSet<ObjectId>, id: ObjectId) -> Result<(), OutOfMemory>
+    requires { has_id seen.old.keys id ≡ false }
+    ensures { OnOk result (seen.new.keys ≡ seen.old.keys ++ id ∷ []) }
+{
+    seen.insert(id)?;
+    Ok(())
+}
+
+/// Whether an id is there. Takes no memory.
+fn is_seen(seen: &IndexSet<ObjectId>, id: &ObjectId) -> bool
+    ensures { result ≡ has_id seen.now.keys id.now }
+{
+    seen.contains(id)
+}
+
+/// Adds an object, unless an earlier one has its id; `seen` has the ids of those that are there.
+#[tactic(auto, using(crate::proofs::Opened::left_out, crate::proofs::Opened::added, crate::proofs::Opened::id_added))]
+fn add_new(
+    objects: &mut Vec<Object>,
+    seen: &mut IndexSet<ObjectId>,
+    object: &Object,
+) -> Result<(), OutOfMemory>
+    requires { seen.old.keys ≡ map object_id objects.old.items }
+    ensures objects { OnOk result (objects.new.items ≡ with_new objects.old.items object.now) }
+    ensures seen { OnOk result (seen.new.keys ≡ map object_id objects.new.items) }
+{
+    if is_seen(seen, &object.id) {
+        return Ok(());
+    }
+    insert_new_id(seen, object.id)?;
+    objects.push(*object)?;
+    Ok(())
+}
+
+/// Adds the objects, without those whose id an earlier one has.
+fn add_all_new(
+    kept: &mut Vec<Object>,
+    seen: &mut IndexSet<ObjectId>,
+    objects: &[Object],
+) -> Result<(), OutOfMemory>
+    requires { seen.old.keys ≡ map object_id kept.old.items }
+    ensures { OnOk result (kept.new.items ≡ fold with_new kept.old.items objects.now) }
+{
+    for object in objects {
+        add_new(kept, seen, object)?;
+    }
+    Ok(())
+}
+
+/// The objects without those whose id an earlier one has.
+fn without_repeats(alloc: Global, objects: &[Object]) -> Result<Vec<Object>, OutOfMemory>
+    ensures { IfOk result (λ kept. kept.items ≡ fold with_new [] objects.now) }
+{
+    let mut kept = Vec::new(alloc);
+    let mut seen = IndexSet::new(alloc);
+    add_all_new(&mut kept, &mut seen, objects)?;
+    Ok(kept)
+}
+
+/// The objects with which epoch 0 opens: of objects with one id the first.
+pub(crate) fn opening_of(alloc: Global, setup: &[Setup]) -> Result<Seq<Object>, OutOfMemory>
+    ensures { IfOk result (λ objects. objects ≡ fold with_new [] (objects_from 0 setup.now)) }
+{
+    let objects = objects_of(alloc, setup)?;
+    let kept = without_repeats(alloc, objects.as_slice())?;
+    Ok(Seq::from_vec(kept))
+}

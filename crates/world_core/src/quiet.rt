@@ -1,0 +1,130 @@
+//! Lines that hand no call to a member and restart none.
+
+ghost use Rattle.std.specs.Prelude.{◌≡◌, ◌∷◌, [], IfOk, OnOk, slice_get, true};
+ghost use Rattle.report_text.specs.declared.lines.Line.TheVariants as line;
+ghost use Rattle.world_names.specs.Lines.{line_of};
+ghost use Rattle.scene_spec.specs.Posts.{armed_at};
+ghost use Rattle.scene_spec.specs.Steps.{lines_in, standing_at, steps_to, with_tx};
+ghost use Rattle.world_core.specs.Kept.{is_quiet};
+ghost use Rattle.world_core.specs.Texts.{show_by};
+ghost use Rattle.world_core.specs.Trusts.{trust_by};
+
+use crate::world::{World, one_line};
+use report_text::{Line, ShowText};
+use schedule_text::Event;
+use wire_bcs::{OutOfMemory, Seq};
+use world_lines::shown_lines;
+use world_names::{MakeRefusal, MakesSeals, TxLine, make};
+
+impl World {
+    /// The line `tx`: makes the transaction of the words. One that cannot be spelled counts as want of memory; no
+    /// text of a schedule is long enough to say one.
+    #[tactic(auto, using(crate::proofs::Sound::sound_made))]
+    fn make_tx<S: MakesSeals>(
+        &mut self,
+        sealer: &S,
+        words: &TxLine<'_>,
+    ) -> Result<Seq<Line>, OutOfMemory>
+        ensures world { OnOk result (self.new ≡ with_tx (trust_by (S.made sealer.now) (S.accepts sealer.now)) self.old (line_of words.now)) }
+        ensures lines { IfOk result (λ lines. lines ≡ line.TxMade words.now.name.now ∷ []) }
+    {
+        let made = match make(self.alloc, &self.directory, &self.seats, sealer, words) {
+            Ok(made) => made,
+            Err(MakeRefusal::TooLong | MakeRefusal::OutOfMemory) => return Err(OutOfMemory),
+        };
+        self.directory.add_made(words, made)?;
+        let tx = Seq::from_slice(self.alloc, words.name)?;
+        one_line(self.alloc, Line::TxMade { tx })
+    }
+
+    /// The line `stop`: the next record of the member will be kept or lost, and it stops there.
+    fn stop(&mut self, member: u32, kept: bool) -> Result<Seq<Line>, OutOfMemory>
+        ensures world { OnOk result (self.new ≡ record self.old { posts = armed_at self.old.posts member kept }) }
+        ensures lines { IfOk result (λ lines. lines ≡ line.Stop member kept ∷ []) }
+    {
+        self.seats.arm(member, kept);
+        let member = member as u64;
+        one_line(self.alloc, Line::Stop { member, kept })
+    }
+
+    /// The line `show`: the objects that a member holds.
+    #[tactic(auto, using(crate::proofs::Texts::shown_some, crate::proofs::Texts::shown_none))]
+    fn show(&self, member: u32) -> Result<Seq<Line>, OutOfMemory>
+        ensures { IfOk result (λ lines. lines ≡ show_by self.now.known member (standing_at (slice_get self.now.posts member))) }
+    {
+        match self.seats.show(member)? {
+            Some((epoch, objects)) => {
+                shown_lines(&self.directory, member, epoch, objects.as_slice())
+            }
+            None => one_line(
+                self.alloc,
+                Line::Show {
+                    member: member as u64,
+                    text: ShowText::Down,
+                },
+            ),
+        }
+    }
+
+    /// Runs a line that hands no call to a member and restarts none.
+    #[tactic(auto, unfolding(scene_spec::specs::Steps::steps_to, scene_spec::specs::Steps::lines_in), using(crate::proofs::Texts::show_is))]
+    pub(crate) fn run_quiet<S: MakesSeals>(
+        &mut self,
+        sealer: &S,
+        event: &Event,
+    ) -> Result<Seq<Line>, OutOfMemory>
+        requires { is_quiet event.now ≡ true }
+        ensures world { OnOk result (self.new ≡ steps_to (trust_by (S.made sealer.now) (S.accepts sealer.now)) self.old event.now) }
+        ensures lines { IfOk result (λ lines. lines ≡ lines_in (trust_by (S.made sealer.now) (S.accepts sealer.now)) self.old event.now) }
+    {
+        match event {
+            Event::Tx {
+                name,
+                sender,
+                spoiled,
+                epoch,
+                gas,
+                budget,
+                inputs,
+                commands,
+            } => {
+                let words = TxLine {
+                    name: name.as_slice(),
+                    sender: sender.as_slice(),
+                    spoiled: *spoiled,
+                    epoch: *epoch,
+                    gas,
+                    budget: *budget,
+                    inputs: inputs.as_slice(),
+                    commands: commands.as_slice(),
+                };
+                self.make_tx(sealer, &words)
+            }
+            Event::Fvote {
+                member,
+                tx,
+                origins,
+            } => self.false_vote(*member, tx.as_slice(), origins.as_slice()),
+            Event::Cert { tx, members } => {
+                self.form_cert(sealer, tx.as_slice(), members.as_slice())
+            }
+            Event::Show(member) => self.show(*member),
+            Event::Stop { member, kept } => self.stop(*member, *kept),
+            Event::Vote { .. }
+            | Event::Send { .. }
+            | Event::Order(_)
+            | Event::OrderEnd(_)
+            | Event::OrderCommit
+            | Event::See { .. }
+            | Event::Run { .. }
+            | Event::Close(_)
+            | Event::End(_)
+            | Event::Turn(_)
+            | Event::Restart(_)
+            | Event::RawVote { .. }
+            | Event::RawHold { .. }
+            | Event::Ack { .. }
+            | Event::Final { .. } => unreachable!(),
+        }
+    }
+}

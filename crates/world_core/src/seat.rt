@@ -1,0 +1,132 @@
+//! One member, its stop included.
+
+ghost use Rattle.std.specs.Prelude.{◌≡◌, ◌<◌, ◌≤◌, IfOk, IsErrOf, None, Some, if◌then◌else◌, option_copied};
+ghost use Rattle.outside.specs.Causes.{Rose};
+ghost use Rattle.scene_spec.specs.RulesFor.{rules_for};
+ghost use Rattle.scene_spec.specs.Posts.{arming, reached_post, record_left};
+ghost use Rattle.scene_spec.specs.Steps.{held_by};
+ghost use Rattle.world_core.specs.declared.reply.SeatFault.TheVariants as faults;
+ghost use Rattle.world_core.specs.Crews.{IsPlaced, PostAfter, fallen, honest_at};
+ghost use Rattle.world_core.specs.Replies.{Leaves, Replies};
+
+use crate::reply::{Reply, SeatFault};
+use crate::requests::Asks;
+use crate::stops::meet;
+use chain_types::ObjectKey;
+use digest_core::Digest;
+use outside::Keeper;
+use quorum_core::{Committee, Sealer};
+use std::alloc::Global;
+use std::marker::Model;
+use validator_core::Validator;
+
+/// A member: whether it is honest, the member where it is up, and an armed stop, which keeps the next record or
+/// loses it. Contracts see the definition's post.
+#[derive(Drop)]
+pub(crate) struct Seat {
+    pub(crate) honest: bool,
+    pub(crate) validator: Option<Validator>,
+    pub(crate) armed: Option<bool>,
+}
+
+impl Model for Seat {
+    ghost use Rattle.scene_spec.specs.Posts.{Post};
+
+    ghost Value = { Post };
+
+    ghost view = { λ s. record { honest = s.honest; standing = s.validator; armed = s.armed } };
+}
+
+impl Seat {
+    /// Arms a stop. Takes no memory.
+    pub(crate) fn arm(&mut self, kept: bool)
+        ensures { self.new ≡ arming kept self.old }
+    {
+        self.armed = Some(kept);
+    }
+
+    /// The member starts, and no stop is armed. Takes no memory.
+    pub(crate) fn start(&mut self, validator: Validator)
+        ensures { self.new ≡ record { honest = self.old.honest; standing = Some validator; armed = None } }
+    {
+        self.validator = Some(validator);
+        self.armed = None;
+    }
+
+    /// The member is down, and no stop is armed. Takes no memory.
+    fn stop(&mut self)
+        ensures { self.new ≡ record self.old { standing = None; armed = None } }
+    {
+        self.validator = None;
+        self.armed = None;
+    }
+
+    /// The member is down. Takes no memory.
+    fn fall(&mut self)
+        ensures { self.new ≡ fallen self.old }
+    {
+        self.validator = None;
+    }
+
+    /// The member, where it is honest and up. Takes no memory.
+    pub(crate) fn honest(&self) -> Option<&Validator>
+        ensures { option_copied result ≡ honest_at (Some self.now) }
+    {
+        if self.honest {
+            self.validator.as_ref()
+        } else {
+            None
+        }
+    }
+
+    /// The digest that the member has of a version, where it is honest, up and holds it. Takes no memory.
+    pub(crate) fn held_digest(&self, key: &ObjectKey) -> Option<Digest>
+        ensures { result ≡ (if self.now.honest then held_by key.now self.now.standing else None) }
+    {
+        if !self.honest {
+            return None;
+        }
+        match &self.validator {
+            Some(validator) => validator.held_digest(key),
+            None => None,
+        }
+    }
+
+    /// Asks the member, of this number in its committee. Behind a refusal it is down.
+    pub(crate) fn call<D: Keeper, S: Sealer, Q: Asks>(
+        &mut self,
+        alloc: Global,
+        keeper: &mut D,
+        sealer: &S,
+        _committee: &Committee,
+        member: u32,
+        request: &Q,
+    ) -> Result<Reply<Q::Answer>, SeatFault>
+        requires known { member < D.width keeper.old }
+        requires few { member < 64 }
+        requires placed { IsPlaced _committee.now member self.old.standing }
+        ensures answer { IfOk result (Replies (Q.says request.now (rules_for _committee.now (S.accepts sealer.now)) (S.accepts sealer.now) member) (reached_post (rules_for _committee.now (S.accepts sealer.now)) (Q.call request.now) (Some self.old))) }
+        ensures post { PostAfter (rules_for _committee.now (S.accepts sealer.now)) (Q.call request.now) self.old self.new result }
+        ensures kept { Leaves (D.lists keeper.old) (D.lists keeper.new) member (record_left (reached_post (rules_for _committee.now (S.accepts sealer.now)) (Q.call request.now) (Some self.old))) result }
+        ensures width { D.width keeper.new ≡ D.width keeper.old }
+        ensures later { D.failed keeper.old ≤ D.failed keeper.new }
+        ensures fault { IsErrOf result faults.KeepFault → Rose (D.failed keeper.old) (D.failed keeper.new) }
+    {
+        let Some(validator) = &mut self.validator else {
+            return Ok(Reply::Down);
+        };
+        match meet(
+            alloc, validator, keeper, sealer, member, self.armed, request,
+        ) {
+            Ok(Some(answer)) => Ok(Reply::Answered(answer)),
+            Ok(None) => {
+                self.stop();
+                Ok(Reply::Stopped)
+            }
+            Err(fault) => {
+                self.fall();
+                Err(fault)
+            }
+        }
+    }
+}

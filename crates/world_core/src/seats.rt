@@ -1,0 +1,331 @@
+//! The members of a committee.
+
+ghost use Rattle.std.specs.Prelude.{◌≡◌, ◌≤◌, ℕ, [], IfOk, IsErrOf, OnErr, OnOk, option_copied, option_map, length, slice_get, true};
+ghost use Rattle.outside.specs.Causes.{Rose};
+ghost use Rattle.outside.specs.Lists.{KeepsJournals};
+ghost use Rattle.scene_spec.specs.RulesFor.{rules_for};
+ghost use Rattle.protocol_spec.specs.Member.Calls.{holds, runs, votes};
+ghost use Rattle.version_store.specs.Stores.{are_new};
+ghost use Rattle.scene_spec.specs.Posts.{armed_at, new_posts, posts_behind, reached_in, record_left};
+ghost use Rattle.scene_spec.specs.Steps.{held_in, standing_at};
+ghost use Rattle.world_core.specs.declared.reply.SeatFault.TheVariants as faults;
+ghost use Rattle.world_core.specs.declared.reply.RestartFault.TheVariants as restart_faults;
+ghost use Rattle.world_core.specs.Crews.{PostsAfter, fallen_at, honest_at, honest_flags, shown_of};
+ghost use Rattle.world_core.specs.Replies.{Leaves, Replies, SaysHold, SaysRun, SaysVote};
+ghost use Rattle.world_core.specs.SeatRestarts.{HasBadRecord, Restarted};
+
+use crate::reply::{Reply, RestartFault, SeatFault};
+use crate::requests::{Asks, HoldRequest, RunRequest, VoteRequest};
+use crate::seat::Seat;
+use crate::starts::{records_of, start_new};
+use chain_types::{Object, ObjectKey};
+use digest_core::Digest;
+use outside::{Keeper, OutFault};
+use quorum_core::{Committee, Sealer};
+use std::alloc::Global;
+use std::marker::Model;
+use validator_core::{HoldRefusal, Ran, RunRefusal, StartRefusal, Validator, VoteRefusal, Voted};
+use wire_bcs::{OutOfMemory, Seq};
+use world_names::HeldDigests;
+
+/// The members of a committee. Contracts see the stakes, and the members as the definition's posts.
+#[derive(Drop)]
+pub struct Seats {
+    committee: Committee,
+    flags: Seq<bool>,
+    seats: Vec<Seat>,
+}
+
+impl Model for Seats {
+    ghost use Rattle.std.specs.Prelude.{◌≡◌, ◌≤◌, length};
+    ghost use Rattle.world_core.specs.Crews.{Crew, ArePlaced, honest_flags};
+
+    ghost Value = { Crew };
+
+    ghost view = { λ s. record { stakes = s.committee; posts = s.seats.items } };
+
+    ghost invariant = { λ s. (ArePlaced s.committee s.seats.items) × (s.flags ≡ honest_flags s.seats.items) × (length s.seats.items ≤ 64) };
+}
+
+/// New members, by whether they are honest, of which the first has number 0.
+#[tactic(auto, using(crate::proofs::Placing::new_more))]
+fn new_seats<S: Sealer>(
+    alloc: Global,
+    committee: &Committee,
+    honest: &[bool],
+    opening: &Seq<Object>,
+    sealer: &S,
+) -> Result<Vec<Seat>, OutOfMemory>
+    requires apart { are_new [] opening.now ≡ true }
+    requires few { length honest.now ≤ 64 }
+    ensures { IfOk result (λ seats. seats.items ≡ new_posts committee.now opening.now 0 honest.now) }
+{
+    let mut seats = Vec::new(alloc);
+    let mut member = 0;
+    let mut rest = honest;
+    while let [flag, after @ ..] = rest {
+        let validator = start_new(alloc, member, committee, opening, sealer)?;
+        seats.push(Seat {
+            honest: *flag,
+            validator: Some(validator),
+            armed: None,
+        })?;
+        member += 1;
+        rest = after;
+    }
+    Ok(seats)
+}
+
+impl Seats {
+    /// The members of a new committee, by whether they are honest: each is up, in an epoch 0 that opens with these
+    /// objects, none of them twice.
+    pub fn new<S: Sealer>(
+        alloc: Global,
+        committee: &Committee,
+        honest: &[bool],
+        opening: &Seq<Object>,
+        sealer: &S,
+    ) -> Result<Seats, OutOfMemory>
+        requires apart { are_new [] opening.now ≡ true }
+        requires few { length honest.now ≤ 64 }
+        ensures { IfOk result (λ seats. seats ≡ record { stakes = committee.now; posts = new_posts committee.now opening.now 0 honest.now }) }
+    {
+        let seats = new_seats(alloc, committee, honest, opening, sealer)?;
+        let flags = Seq::from_slice(alloc, honest)?;
+        Ok(Seats {
+            committee: committee.copy(),
+            flags,
+            seats,
+        })
+    }
+
+    /// The number of members, at most 64. Takes no memory.
+    pub fn len(&self) -> u32
+        ensures value { result ≡ length self.now.posts }
+        ensures most { result ≤ 64 }
+    {
+        self.seats.len() as u32
+    }
+
+    /// Whether each member is honest, by its number. Takes no memory.
+    pub fn flags(&self) -> &[bool]
+        ensures { result.now ≡ honest_flags self.now.posts }
+    {
+        self.flags.as_slice()
+    }
+
+    /// The committee. Takes no memory.
+    pub fn committee(&self) -> &Committee
+        ensures { result.now ≡ self.now.stakes }
+    {
+        &self.committee
+    }
+
+    /// Arms a stop: the next record of the member is kept or lost, and the member stops there. One that is not
+    /// there is left out. Takes no memory.
+    pub fn arm(&mut self, member: u32, kept: bool)
+        ensures posts { self.new.posts ≡ armed_at self.old.posts member kept }
+        ensures stakes { self.new.stakes ≡ self.old.stakes }
+        ensures count { length self.new.posts ≡ length self.old.posts }
+    {
+        if member as usize >= self.seats.len() {
+            return;
+        }
+        let seat = &mut self.seats[member as usize];
+        seat.arm(kept);
+    }
+
+    /// Asks a member.
+    fn call<D: Keeper, S: Sealer, Q: Asks>(
+        &mut self,
+        alloc: Global,
+        keeper: &mut D,
+        sealer: &S,
+        member: u32,
+        request: &Q,
+    ) -> Result<Reply<Q::Answer>, SeatFault>
+        requires known { length self.old.posts ≤ D.width keeper.old }
+        ensures answer { IfOk result (Replies (Q.says request.now (rules_for self.old.stakes (S.accepts sealer.now)) (S.accepts sealer.now) member) (reached_in (rules_for self.old.stakes (S.accepts sealer.now)) self.old.posts member (Q.call request.now))) }
+        ensures posts { PostsAfter (rules_for self.old.stakes (S.accepts sealer.now)) (Q.call request.now) member self.old.posts self.new.posts result }
+        ensures stakes { self.new.stakes ≡ self.old.stakes }
+        ensures count { length self.new.posts ≡ length self.old.posts }
+        ensures kept { Leaves (D.lists keeper.old) (D.lists keeper.new) member (record_left (reached_in (rules_for self.old.stakes (S.accepts sealer.now)) self.old.posts member (Q.call request.now))) result }
+        ensures width { D.width keeper.new ≡ D.width keeper.old }
+        ensures later { D.failed keeper.old ≤ D.failed keeper.new }
+        ensures fault { IsErrOf result faults.KeepFault → Rose (D.failed keeper.old) (D.failed keeper.new) }
+    {
+        if member as usize >= self.seats.len() {
+            return Ok(Reply::Down);
+        }
+        let seat = &mut self.seats[member as usize];
+        seat.call(alloc, keeper, sealer, &self.committee, member, request)
+    }
+
+    /// Asks a member for its vote for the transaction that the bytes spell (Sui Lutris). `Down`: the member is
+    /// down or not there. `Stopped`: a stop was armed and a record was due; the member is down, and its record was
+    /// kept where the stop keeps. Else it answered, and its record stands. Behind a refusal the member is down, and
+    /// its record stands or does not; the other members stay.
+    #[tactic(auto, using(crate::proofs::Calling::on_ok, crate::proofs::Calling::on_err))]
+    pub fn vote<D: Keeper, S: Sealer>(
+        &mut self,
+        alloc: Global,
+        keeper: &mut D,
+        sealer: &S,
+        member: u32,
+        bytes: &[u8],
+    ) -> Result<Reply<Result<Voted, VoteRefusal>>, SeatFault>
+        requires known { length self.old.posts ≤ D.width keeper.old }
+        ensures answer { IfOk result (Replies (SaysVote (rules_for self.old.stakes (S.accepts sealer.now)) (S.accepts sealer.now) member bytes.now) (reached_in (rules_for self.old.stakes (S.accepts sealer.now)) self.old.posts member (votes bytes.now))) }
+        ensures posts { OnOk result (self.new.posts ≡ posts_behind (rules_for self.old.stakes (S.accepts sealer.now)) self.old.posts member (votes bytes.now)) }
+        ensures fallen { OnErr result (self.new.posts ≡ fallen_at self.old.posts member) }
+        ensures stakes { self.new.stakes ≡ self.old.stakes }
+        ensures count { length self.new.posts ≡ length self.old.posts }
+        ensures kept { Leaves (D.lists keeper.old) (D.lists keeper.new) member (record_left (reached_in (rules_for self.old.stakes (S.accepts sealer.now)) self.old.posts member (votes bytes.now))) result }
+        ensures width { D.width keeper.new ≡ D.width keeper.old }
+        ensures later { D.failed keeper.old ≤ D.failed keeper.new }
+        ensures fault { IsErrOf result faults.KeepFault → Rose (D.failed keeper.old) (D.failed keeper.new) }
+    {
+        self.call(alloc, keeper, sealer, member, &VoteRequest { bytes })
+    }
+
+    /// Hands a certificate to a member (Sui Lutris). Replies and refusals are those of [`Seats::vote`].
+    #[tactic(auto, using(crate::proofs::Calling::on_ok, crate::proofs::Calling::on_err))]
+    pub fn hold<D: Keeper, S: Sealer>(
+        &mut self,
+        alloc: Global,
+        keeper: &mut D,
+        sealer: &S,
+        member: u32,
+        bytes: &[u8],
+    ) -> Result<Reply<Result<bool, HoldRefusal>>, SeatFault>
+        requires known { length self.old.posts ≤ D.width keeper.old }
+        ensures answer { IfOk result (Replies (SaysHold (rules_for self.old.stakes (S.accepts sealer.now)) bytes.now) (reached_in (rules_for self.old.stakes (S.accepts sealer.now)) self.old.posts member (holds bytes.now))) }
+        ensures posts { OnOk result (self.new.posts ≡ posts_behind (rules_for self.old.stakes (S.accepts sealer.now)) self.old.posts member (holds bytes.now)) }
+        ensures fallen { OnErr result (self.new.posts ≡ fallen_at self.old.posts member) }
+        ensures stakes { self.new.stakes ≡ self.old.stakes }
+        ensures count { length self.new.posts ≡ length self.old.posts }
+        ensures kept { Leaves (D.lists keeper.old) (D.lists keeper.new) member (record_left (reached_in (rules_for self.old.stakes (S.accepts sealer.now)) self.old.posts member (holds bytes.now))) result }
+        ensures width { D.width keeper.new ≡ D.width keeper.old }
+        ensures later { D.failed keeper.old ≤ D.failed keeper.new }
+        ensures fault { IsErrOf result faults.KeepFault → Rose (D.failed keeper.old) (D.failed keeper.new) }
+    {
+        self.call(alloc, keeper, sealer, member, &HoldRequest { bytes })
+    }
+
+    /// Lets a member run what it holds, on the caller's thread (Sui Lutris). The seals play no part in it. Replies and
+    /// refusals are those of [`Seats::vote`].
+    #[tactic(auto, using(crate::proofs::Calling::on_ok, crate::proofs::Calling::on_err))]
+    pub fn run<D: Keeper, S: Sealer>(
+        &mut self,
+        alloc: Global,
+        keeper: &mut D,
+        sealer: &S,
+        member: u32,
+    ) -> Result<Reply<Result<Ran, RunRefusal>>, SeatFault>
+        requires known { length self.old.posts ≤ D.width keeper.old }
+        ensures answer { IfOk result (Replies (SaysRun (rules_for self.old.stakes (S.accepts sealer.now))) (reached_in (rules_for self.old.stakes (S.accepts sealer.now)) self.old.posts member runs)) }
+        ensures posts { OnOk result (self.new.posts ≡ posts_behind (rules_for self.old.stakes (S.accepts sealer.now)) self.old.posts member runs) }
+        ensures fallen { OnErr result (self.new.posts ≡ fallen_at self.old.posts member) }
+        ensures stakes { self.new.stakes ≡ self.old.stakes }
+        ensures count { length self.new.posts ≡ length self.old.posts }
+        ensures kept { Leaves (D.lists keeper.old) (D.lists keeper.new) member (record_left (reached_in (rules_for self.old.stakes (S.accepts sealer.now)) self.old.posts member runs)) result }
+        ensures width { D.width keeper.new ≡ D.width keeper.old }
+        ensures later { D.failed keeper.old ≤ D.failed keeper.new }
+        ensures fault { IsErrOf result faults.KeepFault → Rose (D.failed keeper.old) (D.failed keeper.new) }
+    {
+        self.call(alloc, keeper, sealer, member, &RunRequest)
+    }
+
+    /// Starts a member from the records that its keeper has, in an epoch 0 that opens with these objects, and
+    /// answers how many they are. No stop is armed behind it. A member that is not there: 0, and nothing changes.
+    /// Behind a refusal nothing changes.
+    pub fn restart<D: Keeper, S: Sealer>(
+        &mut self,
+        alloc: Global,
+        keeper: &mut D,
+        sealer: &S,
+        opening: &Seq<Object>,
+        member: u32,
+    ) -> Result<u64, RestartFault>
+        requires known { length self.old.posts ≤ D.width keeper.old }
+        requires apart { are_new [] opening.now ≡ true }
+        ensures ok { IfOk result (Restarted (rules_for self.old.stakes (S.accepts sealer.now)) opening.now (D.lists keeper.old) self.old.stakes member self.old.posts self.new.posts (slice_get self.old.posts member)) }
+        ensures bad { (place : ℕ) → IsErrOf result (restart_faults.BadRecord place) → HasBadRecord (rules_for self.old.stakes (S.accepts sealer.now)) opening.now (D.lists keeper.old) member place }
+        ensures stay { OnErr result (self.new ≡ self.old) }
+        ensures stakes { self.new.stakes ≡ self.old.stakes }
+        ensures count { length self.new.posts ≡ length self.old.posts }
+        ensures lists { KeepsJournals (D.lists keeper.old) (D.lists keeper.new) }
+        ensures width { D.width keeper.new ≡ D.width keeper.old }
+        ensures later { D.failed keeper.old ≤ D.failed keeper.new }
+        ensures fault { IsErrOf result restart_faults.KeepFault → Rose (D.failed keeper.old) (D.failed keeper.new) }
+    {
+        if member as usize >= self.seats.len() {
+            return Ok(0);
+        }
+        let kept = match records_of(alloc, keeper, member) {
+            Ok(kept) => kept,
+            Err(OutFault::Failed) => return Err(RestartFault::KeepFault),
+            Err(OutFault::OutOfMemory) => return Err(RestartFault::OutOfMemory),
+        };
+        match Validator::start(alloc, member, &self.committee, opening, &kept, sealer) {
+            Ok(validator) => {
+                let seat = &mut self.seats[member as usize];
+                seat.start(validator);
+                Ok(kept.len())
+            }
+            Err(StartRefusal::BadRecord { place, why: _ }) => Err(RestartFault::BadRecord {
+                place,
+            }),
+            Err(StartRefusal::OutOfMemory) => Err(RestartFault::OutOfMemory),
+        }
+    }
+
+    /// A member that is honest and up; none where it is faulty, down or not there. Takes no memory.
+    pub fn honest(&self, member: u32) -> Option<&Validator>
+        ensures { option_copied result ≡ honest_at (slice_get self.now.posts member) }
+    {
+        match self.seats.get(member as usize) {
+            Some(seat) => seat.honest(),
+            None => None,
+        }
+    }
+
+    /// The epoch of a member that is up, and its live objects by ascending id; none where it is down or not there.
+    pub fn show(&self, member: u32) -> Result<Option<(u64, Seq<Object>)>, OutOfMemory>
+        ensures { IfOk result (λ shown. shown ≡ option_map shown_of (standing_at (slice_get self.now.posts member))) }
+    {
+        let Some(seat) = self.seats.get(member as usize) else {
+            return Ok(None);
+        };
+        let Some(validator) = &seat.validator else {
+            return Ok(None);
+        };
+        let objects = validator.live_list()?;
+        Ok(Some((validator.epoch(), objects)))
+    }
+}
+
+impl HeldDigests for Seats {
+    ghost held = { λ s. held_in s.posts };
+
+    fn held_digest(&self, key: &ObjectKey) -> Option<Digest>
+        ensures { result ≡ held_in self.now.posts key.now }
+    {
+        digest_in(self.seats.as_slice(), key)
+    }
+}
+
+/// The digest that the first honest member has that is up and holds the version.
+#[tactic(auto, using(crate::proofs::Holders::held_next, crate::proofs::Holders::held_here))]
+fn digest_in(seats: &[Seat], key: &ObjectKey) -> Option<Digest>
+    ensures { result ≡ held_in seats.now key.now }
+{
+    let mut rest = seats;
+    while let [seat, after @ ..] = rest {
+        if let Some(digest) = seat.held_digest(key) {
+            return Some(digest);
+        }
+        rest = after;
+    }
+    None
+}

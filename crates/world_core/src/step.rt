@@ -1,0 +1,75 @@
+//! One line of the schedule.
+
+ghost use Rattle.std.specs.Prelude.{◌≡◌, ◌≤◌, ℕ, IfOk, IsErrOf, OnOk, false, length, true};
+ghost use Rattle.outside.specs.Causes.{Rose};
+ghost use Rattle.scene_spec.specs.Scene.{rules_in};
+ghost use Rattle.scene_spec.specs.Steps.{call_of, lines_in, steps_to};
+ghost use Rattle.scene_spec.specs.Worlds.{is_plain, is_restart};
+ghost use Rattle.world_core.specs.declared.world.WorldFault.TheVariants as fault;
+ghost use Rattle.world_core.specs.Kept.{LeavesAs};
+ghost use Rattle.world_core.specs.Restarts.{MayRestart};
+ghost use Rattle.world_core.specs.Stays.{Stays};
+ghost use Rattle.world_core.specs.Trusts.{trust_by};
+
+use crate::SeatFault;
+use crate::world::{World, WorldFault};
+use outside::Keeper;
+use report_text::Line;
+use schedule_text::Event;
+use wire_bcs::{OutOfMemory, Seq};
+use world_names::MakesSeals;
+
+impl World {
+    /// Runs one line, and answers the lines that the report has for it. The record that its call leaves is
+    /// appended before it answers. `KeepFault`: the keeper failed, and its count of faults rose. `BadRecord`: the
+    /// member of a `restart` line does not start from its records. Behind a fault nothing is said of the world.
+    #[tactic(auto, unfolding(scene_spec::specs::Steps::call_of), using(crate::proofs::Steps::fault_left, crate::proofs::Steps::quiet_left, crate::proofs::Stays::restart_stays))]
+    pub fn step<D: Keeper, S: MakesSeals>(
+        &mut self,
+        keeper: &mut D,
+        sealer: &S,
+        event: &Event,
+    ) -> Result<Seq<Line>, WorldFault>
+        requires room { length self.old.posts ≤ D.width keeper.old }
+        requires plain { is_plain event.now ≡ true }
+        ensures world { OnOk result (is_restart event.now ≡ false → self.new ≡ steps_to (trust_by (S.made sealer.now) (S.accepts sealer.now)) self.old event.now) }
+        ensures lines { IfOk result (λ lines. is_restart event.now ≡ false → lines ≡ lines_in (trust_by (S.made sealer.now) (S.accepts sealer.now)) self.old event.now) }
+        ensures kept { LeavesAs (rules_in (S.accepts sealer.now) self.old) self.old (call_of self.old event.now) (D.lists keeper.old) (D.lists keeper.new) result }
+        ensures restart { MayRestart (S.accepts sealer.now) (D.lists keeper.old) self.old self.new event.now result }
+        ensures stay { OnOk result (Stays self.old self.new) }
+        ensures width { D.width keeper.new ≡ D.width keeper.old }
+        ensures later { D.failed keeper.old ≤ D.failed keeper.new }
+        ensures fault { IsErrOf result fault.KeepFault → Rose (D.failed keeper.old) (D.failed keeper.new) }
+        ensures bad { (m place : ℕ) → IsErrOf result (fault.BadRecord m place) → is_restart event.now ≡ true }
+    {
+        match event {
+            Event::Restart(member) => self.restart(keeper, sealer, *member),
+            Event::Vote { .. }
+            | Event::Send { .. }
+            | Event::Run { .. }
+            | Event::RawVote { .. }
+            | Event::RawHold { .. } => match self.run_call(keeper, sealer, event) {
+                Ok(lines) => Ok(lines),
+                Err(SeatFault::KeepFault) => Err(WorldFault::KeepFault),
+                Err(SeatFault::OutOfMemory) => Err(WorldFault::OutOfMemory),
+            },
+            Event::Tx { .. }
+            | Event::Fvote { .. }
+            | Event::Cert { .. }
+            | Event::Show(_)
+            | Event::Stop { .. } => match self.run_quiet(sealer, event) {
+                Ok(lines) => Ok(lines),
+                Err(OutOfMemory) => Err(WorldFault::OutOfMemory),
+            },
+            Event::Order(_)
+            | Event::OrderEnd(_)
+            | Event::OrderCommit
+            | Event::See { .. }
+            | Event::Close(_)
+            | Event::End(_)
+            | Event::Turn(_)
+            | Event::Ack { .. }
+            | Event::Final { .. } => unreachable!(),
+        }
+    }
+}

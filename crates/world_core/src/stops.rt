@@ -1,0 +1,156 @@
+//! Requests to a member whose stop may be armed.
+
+ghost use Rattle.std.specs.Prelude.{◌≡◌, ◌<◌, ◌≤◌, IfOk, IsErrOf, OnOk, length, slice_get, true};
+ghost use Rattle.outside.specs.Causes.{Rose};
+ghost use Rattle.outside.specs.Lists.{journal_of};
+ghost use Rattle.protocol_spec.specs.Member.Calls.{due};
+ghost use Rattle.world_spec.specs.World.{reached_up};
+ghost use Rattle.scene_spec.specs.Seats.{rules_of_seat};
+ghost use Rattle.scene_spec.specs.Posts.{record_left, seat_behind};
+ghost use Rattle.world_core.specs.declared.reply.SeatFault.TheVariants as faults;
+ghost use Rattle.world_core.specs.Replies.{AddsBytes, KeptWhere, Leaves, Met, spelled_due};
+
+use crate::reply::SeatFault;
+use crate::requests::Asks;
+use outside::{Keeper, MemKeeper, OutFault};
+use quorum_core::Sealer;
+use std::alloc::Global;
+use validator_core::Validator;
+use wire_bcs::{OutOfMemory, Seq};
+
+/// The first record of a member; none where it has none. Any failure is taken for want of memory.
+fn first_record(paper: &mut MemKeeper, member: u32) -> Result<Option<Seq<u8>>, OutOfMemory>
+    requires known { member < length paper.old.lists }
+    ensures { IfOk result (λ first. first ≡ slice_get (journal_of paper.old.lists member) 0) }
+{
+    if paper.count(member) == 0 {
+        return Ok(None);
+    }
+    match paper.read(member, 0) {
+        Ok(record) => Ok(Some(record)),
+        Err(_) => Err(OutOfMemory),
+    }
+}
+
+/// Asks a member that is up and keeps no record: the answer, and the spelling of the record that is due.
+#[tactic(auto, using(crate::proofs::Replying::paper_due))]
+fn ask_on_paper<S: Sealer, Q: Asks>(
+    alloc: Global,
+    validator: &mut Validator,
+    sealer: &S,
+    member: u32,
+    request: &Q,
+) -> Result<(Q::Answer, Option<Seq<u8>>), OutOfMemory>
+    requires few { member < 64 }
+    requires number { validator.old.member ≡ member }
+    requires up { validator.old.up ≡ true }
+    ensures answer { IfOk result (λ given. Q.says request.now (rules_of_seat validator.old (S.accepts sealer.now)) (S.accepts sealer.now) validator.old.member validator.old.state given.0) }
+    ensures state { OnOk result (validator.new ≡ seat_behind (rules_of_seat validator.old (S.accepts sealer.now)) (Q.call request.now) validator.old) }
+    ensures due { IfOk result (λ given. given.1 ≡ spelled_due (due (rules_of_seat validator.old (S.accepts sealer.now)) validator.old.state (Q.call request.now))) }
+{
+    let mut paper = MemKeeper::new(alloc, member + 1, [].as_slice())?;
+    let answer = match request.ask(validator, &mut paper, sealer) {
+        Ok(answer) => answer,
+        Err(_) => return Err(OutOfMemory),
+    };
+    let due = first_record(&mut paper, member)?;
+    Ok((answer, due))
+}
+
+/// Appends the bytes of a record. Those of 2^31 bytes, more than any record has, count as want of memory.
+fn append<D: Keeper>(keeper: &mut D, member: u32, bytes: &[u8]) -> Result<(), SeatFault>
+    requires known { member < D.width keeper.old }
+    ensures kept { AddsBytes (D.lists keeper.old) (D.lists keeper.new) member bytes.now result }
+    ensures width { D.width keeper.new ≡ D.width keeper.old }
+    ensures later { D.failed keeper.old ≤ D.failed keeper.new }
+    ensures fault { IsErrOf result faults.KeepFault → Rose (D.failed keeper.old) (D.failed keeper.new) }
+{
+    if bytes.len() >= 1 << 31 {
+        return Err(SeatFault::OutOfMemory);
+    }
+    match keeper.append(member, bytes) {
+        Ok(()) => Ok(()),
+        Err(OutFault::Failed) => Err(SeatFault::KeepFault),
+        Err(OutFault::OutOfMemory) => Err(SeatFault::OutOfMemory),
+    }
+}
+
+/// Appends the bytes of a record where a stop keeps it.
+fn stop<D: Keeper>(keeper: &mut D, member: u32, kept: bool, bytes: &[u8]) -> Result<(), SeatFault>
+    requires known { member < D.width keeper.old }
+    ensures kept { KeptWhere kept (D.lists keeper.old) (D.lists keeper.new) member bytes.now result }
+    ensures width { D.width keeper.new ≡ D.width keeper.old }
+    ensures later { D.failed keeper.old ≤ D.failed keeper.new }
+    ensures fault { IsErrOf result faults.KeepFault → Rose (D.failed keeper.old) (D.failed keeper.new) }
+{
+    if !kept {
+        return Ok(());
+    }
+    append(keeper, member, bytes)
+}
+
+/// Asks a member that is up and has an armed stop, which keeps the record or loses it: its answer; none where
+/// it stops.
+#[tactic(auto, using(crate::proofs::Replying::met_idle, crate::proofs::Replying::met_stop, crate::proofs::Replying::left_idle, crate::proofs::Replying::left_stop, crate::proofs::Replying::left_same))]
+fn ask_armed<D: Keeper, S: Sealer, Q: Asks>(
+    alloc: Global,
+    validator: &mut Validator,
+    keeper: &mut D,
+    sealer: &S,
+    member: u32,
+    kept: bool,
+    request: &Q,
+) -> Result<Option<Q::Answer>, SeatFault>
+    requires known { member < D.width keeper.old }
+    requires few { member < 64 }
+    requires number { validator.old.member ≡ member }
+    requires up { validator.old.up ≡ true }
+    ensures answer { IfOk result (Met (Q.says request.now (rules_of_seat validator.old (S.accepts sealer.now)) (S.accepts sealer.now) validator.old.member) (reached_up validator.old.state (Some kept) (due (rules_of_seat validator.old (S.accepts sealer.now)) validator.old.state (Q.call request.now)))) }
+    ensures state { OnOk result (validator.new ≡ seat_behind (rules_of_seat validator.old (S.accepts sealer.now)) (Q.call request.now) validator.old) }
+    ensures kept { Leaves (D.lists keeper.old) (D.lists keeper.new) member (record_left (reached_up validator.old.state (Some kept) (due (rules_of_seat validator.old (S.accepts sealer.now)) validator.old.state (Q.call request.now)))) result }
+    ensures width { D.width keeper.new ≡ D.width keeper.old }
+    ensures later { D.failed keeper.old ≤ D.failed keeper.new }
+    ensures fault { IsErrOf result faults.KeepFault → Rose (D.failed keeper.old) (D.failed keeper.new) }
+{
+    let (answer, due) = match ask_on_paper(alloc, validator, sealer, member, request) {
+        Ok(given) => given,
+        Err(OutOfMemory) => return Err(SeatFault::OutOfMemory),
+    };
+    let Some(bytes) = due else {
+        return Ok(Some(answer));
+    };
+    match stop(keeper, member, kept, bytes.as_slice()) {
+        Ok(()) => Ok(None),
+        Err(fault) => Err(fault),
+    }
+}
+
+/// Asks a member that is up: its answer; none where it stops at an armed stop.
+pub(crate) fn meet<D: Keeper, S: Sealer, Q: Asks>(
+    alloc: Global,
+    validator: &mut Validator,
+    keeper: &mut D,
+    sealer: &S,
+    member: u32,
+    armed: Option<bool>,
+    request: &Q,
+) -> Result<Option<Q::Answer>, SeatFault>
+    requires known { member < D.width keeper.old }
+    requires few { member < 64 }
+    requires number { validator.old.member ≡ member }
+    requires up { validator.old.up ≡ true }
+    ensures answer { IfOk result (Met (Q.says request.now (rules_of_seat validator.old (S.accepts sealer.now)) (S.accepts sealer.now) validator.old.member) (reached_up validator.old.state armed (due (rules_of_seat validator.old (S.accepts sealer.now)) validator.old.state (Q.call request.now)))) }
+    ensures state { OnOk result (validator.new ≡ seat_behind (rules_of_seat validator.old (S.accepts sealer.now)) (Q.call request.now) validator.old) }
+    ensures kept { Leaves (D.lists keeper.old) (D.lists keeper.new) member (record_left (reached_up validator.old.state armed (due (rules_of_seat validator.old (S.accepts sealer.now)) validator.old.state (Q.call request.now)))) result }
+    ensures width { D.width keeper.new ≡ D.width keeper.old }
+    ensures later { D.failed keeper.old ≤ D.failed keeper.new }
+    ensures fault { IsErrOf result faults.KeepFault → Rose (D.failed keeper.old) (D.failed keeper.new) }
+{
+    let Some(kept) = armed else {
+        return match request.ask(validator, keeper, sealer) {
+            Ok(answer) => Ok(Some(answer)),
+            Err(fault) => Err(fault),
+        };
+    };
+    ask_armed(alloc, validator, keeper, sealer, member, kept, request)
+}

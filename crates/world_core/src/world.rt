@@ -1,0 +1,122 @@
+//! The world, and how it opens.
+
+ghost use Rattle.std.specs.Prelude.{◌≡◌, ◌∷◌, [], IfOk, IsErrOf, Ok};
+ghost use Rattle.quorum_core.specs.Committee.{committee_of};
+ghost use Rattle.world_spec.specs.Setting.{setting_of, stakes_of};
+ghost use Rattle.scene_spec.specs.Scene.{new_scene};
+ghost use Rattle.world_core.specs.declared.world.WorldRefusal.TheVariants as refusal;
+ghost use Rattle.world_core.specs.Openings.{IsRefused};
+ghost use Rattle.world_core.specs.Trusts.{trust_by};
+
+use crate::Seats;
+use crate::opening::{honest_of, opening_of, stakes_of};
+use chain_types::Object;
+use quorum_core::Committee;
+use report_text::Line;
+use schedule_text::Setup;
+use std::alloc::Global;
+use std::marker::Model;
+use wire_bcs::{OutOfMemory, Seq};
+use world_lines::{CertBook, SaidBook};
+use world_names::{Directory, MakesSeals};
+
+/// Why a set-up opens no world.
+#[derive(Clone, Copy, Debug, PartialEq, Eq)]
+pub enum WorldRefusal {
+    /// Its members are no committee: there are none or more than 64, or one has no stake.
+    NoCommittee,
+    OutOfMemory,
+}
+
+/// Why a line did not come to its end. Nothing is said of the world behind it.
+#[derive(Clone, Copy, Debug, PartialEq, Eq)]
+pub enum WorldFault {
+    /// A record was not kept or not read, and the keeper's count of faults rose.
+    KeepFault,
+    /// The first record from which the member does not start, counted from 0.
+    BadRecord { member: u32, place: u64 },
+    OutOfMemory,
+}
+
+/// The world of a run. Contracts see the definition's scene.
+#[derive(Drop)]
+pub struct World {
+    pub(crate) opening: Seq<Object>,
+    pub(crate) directory: Directory,
+    pub(crate) said: SaidBook,
+    pub(crate) certs: CertBook,
+    pub(crate) seats: Seats,
+    pub(crate) alloc: Global,
+}
+
+impl Model for World {
+    ghost use Rattle.scene_spec.specs.Scene.{Scene};
+    ghost use Rattle.world_core.specs.Sound.{IsSound};
+
+    ghost Value = { Scene };
+
+    ghost view = { λ w. record { stakes = w.seats.stakes; opening = w.opening; known = w.directory; said = w.said; certs = w.certs; posts = w.seats.posts } };
+
+    ghost invariant = { λ w. IsSound w.opening w.directory w.certs };
+}
+
+/// A list of one line.
+pub(crate) fn one_line(alloc: Global, line: Line) -> Result<Seq<Line>, OutOfMemory>
+    ensures { IfOk result (λ lines. lines ≡ line ∷ []) }
+{
+    let mut lines = Seq::new(alloc);
+    lines.push(line)?;
+    Ok(lines)
+}
+
+impl World {
+    /// The world of a set-up whose members are this committee.
+    #[tactic(auto, unfolding(world_spec::specs::Setting::setting_of), using(crate::proofs::Sound::few_flags, crate::proofs::Sound::sound_first, crate::proofs::Opened::opening_apart))]
+    fn open<S: MakesSeals>(
+        alloc: Global,
+        setup: &[Setup],
+        committee: &Committee,
+        sealer: &S,
+    ) -> Result<World, OutOfMemory>
+        requires { committee_of (stakes_of setup.now) ≡ Ok committee.now }
+        ensures { IfOk result (λ w. w ≡ new_scene (setting_of (trust_by (S.made sealer.now) (S.accepts sealer.now)) setup.now) setup.now) }
+    {
+        let honest = honest_of(alloc, setup)?;
+        let opening = opening_of(alloc, setup)?;
+        let seats = Seats::new(alloc, committee, honest.as_slice(), &opening, sealer)?;
+        let directory = Directory::new(alloc, setup)?;
+        Ok(World {
+            opening,
+            directory,
+            said: SaidBook::new(alloc),
+            certs: CertBook::new(alloc),
+            seats,
+            alloc,
+        })
+    }
+
+    /// The world before the first line: each member of the set-up is up, and has opened epoch 0 with the set-up's
+    /// objects. `NoCommittee` comes only where the members are no committee, and the world only where they are one.
+    #[tactic(auto, using(crate::proofs::Sound::committee_whole))]
+    pub fn new<S: MakesSeals>(
+        alloc: Global,
+        setup: &[Setup],
+        sealer: &S,
+    ) -> Result<World, WorldRefusal>
+        ensures opened { IfOk result (λ w. w ≡ new_scene (setting_of (trust_by (S.made sealer.now) (S.accepts sealer.now)) setup.now) setup.now) }
+        ensures committee { IfOk result (λ _. committee_of (stakes_of setup.now) ≡ Ok (stakes_of setup.now)) }
+        ensures refused { IsErrOf result refusal.NoCommittee → IsRefused (committee_of (stakes_of setup.now)) }
+    {
+        let Ok(stakes) = stakes_of(alloc, setup) else {
+            return Err(WorldRefusal::OutOfMemory);
+        };
+        let committee = match Committee::new(stakes.as_slice()) {
+            Ok(committee) => committee,
+            Err(_refusal) => return Err(WorldRefusal::NoCommittee),
+        };
+        match World::open(alloc, setup, &committee, sealer) {
+            Ok(world) => Ok(world),
+            Err(OutOfMemory) => Err(WorldRefusal::OutOfMemory),
+        }
+    }
+}

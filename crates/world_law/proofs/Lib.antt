@@ -1,4 +1,0 @@
-mod Lines
-mod Seats
-mod Workers
-mod Older

@@ -1,5 +1,0 @@
-use Rattle.world_lines.proofs.Worlds.{hold_same, run_same, shown_same, vote_same}
-use Rattle.world_lines.proofs.law.lines_in_a_world.Goals as goal
-
-pub returns : goal.returns
-returns c = record { votes = vote_same; holds = hold_same; runs = run_same; shows = shown_same }

@@ -1,0 +1,80 @@
+//! The certificate of members that vote alike.
+
+ghost use Rattle.std.specs.Prelude.{◌≡◌, IfOk, map};
+ghost use Rattle.world_names.specs.Rows.{made_as};
+ghost use Rattle.world_lines.specs.Forming.{certificate_by, sealed_with, vote_bytes};
+
+use chain_messages::{Certificate, MemberSeal, Statement, encode_statement};
+use digest_core::Digest;
+use quorum_core::Signer;
+use std::alloc::Global;
+use wire_bcs::{Duplicate, OutOfMemory, Seq};
+use world_names::{MadeTx, MakesSeals};
+
+/// The bytes that a voter for a transaction seals. More than 2147483647 origins have no spelling, which is told as want
+/// of memory.
+#[tactic(auto, using(crate::proofs::Spelled::vote_short))]
+fn vote_bytes(
+    alloc: Global,
+    made: &MadeTx,
+    origins: &[Option<Digest>],
+) -> Result<Seq<u8>, OutOfMemory>
+    ensures { IfOk result (λ bytes. bytes ≡ vote_bytes (made_as made.now) origins.now) }
+{
+    if origins.len() > 2147483647 {
+        return Err(OutOfMemory);
+    }
+    let vote = Statement::Vote {
+        epoch: made.signed.tx.epoch,
+        tx: made.digest,
+        origins: Seq::from_slice(alloc, origins)?,
+    };
+    encode_statement(alloc, &vote)
+}
+
+/// The seal of a member over these bytes. Takes no memory.
+fn seal_of<S: MakesSeals>(sealer: &S, bytes: &[u8], member: u32) -> MemberSeal
+    ensures { result ≡ sealed_with (S.made sealer.now) bytes.now member }
+{
+    MemberSeal {
+        member,
+        seal: sealer.make_seal(&Signer::Member(member), bytes),
+    }
+}
+
+/// The seals of members over these bytes, in their order.
+fn seals_of<S: MakesSeals>(
+    alloc: Global,
+    sealer: &S,
+    bytes: &[u8],
+    members: &[u32],
+) -> Result<Vec<MemberSeal>, OutOfMemory>
+    ensures { IfOk result (λ seals. seals.items ≡ map (sealed_with (S.made sealer.now) bytes.now) members.now) }
+{
+    Ok(
+        members
+            .iter()
+            .map(|member| seal_of(sealer, bytes, *member))
+            .collect(alloc)?,
+    )
+}
+
+/// The certificate of these members' votes for a transaction, which name these origins: each member seals the same
+/// bytes. Origins that are too many to be spelled, more than 2147483647, are told as want of memory.
+pub fn certificate<S: MakesSeals>(
+    alloc: Global,
+    sealer: &S,
+    made: &MadeTx,
+    origins: &[Option<Digest>],
+    members: &[u32],
+) -> Result<Certificate, OutOfMemory>
+    ensures { IfOk result (λ cert. cert ≡ certificate_by (S.made sealer.now) (made_as made.now) origins.now members.now) }
+{
+    let bytes = vote_bytes(alloc, made, origins)?;
+    let seals = seals_of(alloc, sealer, bytes.as_slice(), members)?;
+    Ok(Certificate {
+        tx: made.signed.tx.copy()?,
+        origins: Seq::from_slice(alloc, origins)?,
+        seals: Seq::from_vec(seals),
+    })
+}

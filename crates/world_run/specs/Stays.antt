@@ -1,8 +1,0 @@
--- What no step changes.
-use Rattle.std.specs.Prelude.{◌≡◌, length}
-use Rattle.world_scene.specs.Scene.{Scene}
-
--- the number of members, and their stakes
-pub record Stays (old new : Scene) : Type 0 where
-  pub many : length new.posts ≡ length old.posts
-  pub staked : new.stakes ≡ old.stakes

@@ -1,4 +1,0 @@
-pub mod Posts
-pub mod Scene
-pub mod Steps
-pub mod Worlds

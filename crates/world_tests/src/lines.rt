@@ -1,0 +1,260 @@
+//! Lines over a directory with one coin, as they are printed.
+
+use answer_types::{HoldRefusal, Left, Ran, RunRefusal, VoteRefusal};
+use chain_types::{CertRefusal, Content, Object, ObjectId, ObjectKey, Owner};
+use checkpoint_core::{Checkpoint, Item};
+use digest_core::{Digest, genesis_id};
+use effects_core::{Effects, Status};
+use report_text::{CertText, Line, print_line};
+use schedule_text::Setup;
+use std::alloc::Global;
+use std::test::Fail;
+use wire_bcs::{OutOfMemory, Seq};
+use world_lines::{Collected, cert_text, hold_text, run_lines, shown_lines, vote_text};
+use world_names::Directory;
+
+/// The line of the coin c of ann.
+fn coin_line(alloc: Global) -> Result<Setup, OutOfMemory> {
+    Ok(Setup::Coin {
+        name: Seq::from_slice(alloc, b"c".as_slice())?,
+        owner: Seq::from_slice(alloc, b"ann".as_slice())?,
+        balance: 500,
+    })
+}
+
+/// The directory of that line.
+fn set_up(alloc: Global) -> Result<Directory, OutOfMemory> {
+    let mut lines = Seq::new(alloc);
+    lines.push(coin_line(alloc)?)?;
+    Directory::new(alloc, lines.as_slice())
+}
+
+fn coin_key(version: u64) -> ObjectKey {
+    ObjectKey {
+        id: ObjectId(genesis_id(0)),
+        version,
+    }
+}
+
+/// A list of one line.
+fn one(alloc: Global, line: Line) -> Result<Seq<Line>, OutOfMemory> {
+    let mut lines = Seq::new(alloc);
+    lines.push(line)?;
+    Ok(lines)
+}
+
+/// The text of the lines.
+fn printed(alloc: Global, lines: &Seq<Line>) -> Result<Seq<u8>, OutOfMemory> {
+    let mut out = Seq::new(alloc);
+    for line in lines.as_slice() {
+        print_line(line, &mut out)?;
+    }
+    Ok(out)
+}
+
+/// What was executed: one transaction, which was aborted.
+fn executed(alloc: Global) -> Result<Seq<Effects>, OutOfMemory> {
+    let mut executed = Seq::new(alloc);
+    executed.push(Effects {
+        tx: Digest([9; 32]),
+        status: Status::Aborted {
+            command: 1,
+            code: 2,
+        },
+        version: 5,
+        gas: 1000,
+        created: 0,
+        written: Seq::new(alloc),
+        deleted: Seq::new(alloc),
+    })?;
+    Ok(executed)
+}
+
+/// What was built: one checkpoint, the last.
+fn built(alloc: Global) -> Result<Seq<Checkpoint>, OutOfMemory> {
+    let items = [Item {
+        tx: Digest([9; 32]),
+        effects: Digest([7; 32]),
+    }];
+    let mut built = Seq::new(alloc);
+    built.push(Checkpoint {
+        epoch: 0,
+        number: 3,
+        parent: Digest([0; 32]),
+        items: Seq::from_slice(alloc, items.as_slice())?,
+        last: true,
+    })?;
+    Ok(built)
+}
+
+/// What was left: one transaction, whose coin is absent.
+fn left(alloc: Global) -> Result<Seq<Left>, OutOfMemory> {
+    let mut left = Seq::new(alloc);
+    left.push(Left {
+        tx: Digest([8; 32]),
+        key: Some(coin_key(4)),
+    })?;
+    Ok(left)
+}
+
+/// A run that executed one transaction, left one and built one checkpoint.
+fn ran(alloc: Global) -> Result<Ran, OutOfMemory> {
+    let executed = executed(alloc)?;
+    let left = left(alloc)?;
+    let built = built(alloc)?;
+    Ok(Ran {
+        executed,
+        left,
+        built,
+    })
+}
+
+/// What is said of: an answer, or an object that is shown.
+#[derive(Clone, Copy)]
+enum Said {
+    NoVote(VoteRefusal),
+    Hold(Result<bool, HoldRefusal>),
+    Ran,
+    NoRun(RunRefusal),
+    Shown(Object),
+}
+
+/// The lines of a refusal of a vote.
+fn vote_lines(directory: &Directory, refusal: VoteRefusal) -> Result<Seq<Line>, OutOfMemory> {
+    let text = vote_text(directory, &Err(refusal))?;
+    one(directory.allocator(), Line::RawVote { member: 0, text })
+}
+
+/// The lines of an answer to a certificate.
+fn hold_lines(
+    directory: &Directory,
+    answer: &Result<bool, HoldRefusal>,
+) -> Result<Seq<Line>, OutOfMemory> {
+    let text = hold_text(directory, answer)?;
+    one(directory.allocator(), Line::RawHold { member: 0, text })
+}
+
+/// The lines of a run that executed one transaction, left one and built one checkpoint.
+fn ran_lines(directory: &Directory) -> Result<Seq<Line>, OutOfMemory> {
+    let answer = Ok(ran(directory.allocator())?);
+    run_lines(directory, 2, &answer)
+}
+
+/// The lines of a run that did not come to be.
+fn no_run_lines(directory: &Directory, refusal: RunRefusal) -> Result<Seq<Line>, OutOfMemory> {
+    run_lines(directory, 2, &Err(refusal))
+}
+
+/// The lines of what is said.
+fn lines_in(directory: &Directory, said: Said) -> Result<Seq<Line>, OutOfMemory> {
+    match said {
+        Said::NoVote(refusal) => vote_lines(directory, refusal),
+        Said::Hold(answer) => hold_lines(directory, &answer),
+        Said::Ran => ran_lines(directory),
+        Said::NoRun(refusal) => no_run_lines(directory, refusal),
+        Said::Shown(object) => shown_lines(directory, 0, 1, [object].as_slice()),
+    }
+}
+
+/// The lines of what is said over the directory.
+fn lines_of(alloc: Global, said: Said) -> Result<Seq<Line>, OutOfMemory> {
+    let directory = set_up(alloc)?;
+    lines_in(&directory, said)
+}
+
+/// The text of what is said.
+fn text_of(alloc: Global, said: Said) -> Result<Seq<u8>, OutOfMemory> {
+    let lines = lines_of(alloc, said)?;
+    printed(alloc, &lines)
+}
+
+#[test]
+fn says_why_there_is_no_vote(rt: HostRuntime) -> Result<(), Fail> {
+    let refusal = VoteRefusal::Locked {
+        key: coin_key(3),
+        by: Digest([9; 32]),
+    };
+    let text = text_of(rt.alloc(), Said::NoVote(refusal))?;
+    assert_eq!(rt; text.as_slice(), "raw 0 vote: locked c@3 by ?\n".as_bytes());
+    Ok(())
+}
+
+#[test]
+fn says_that_it_is_held(rt: HostRuntime) -> Result<(), Fail> {
+    let text = text_of(rt.alloc(), Said::Hold(Ok(true)))?;
+    assert_eq!(rt; text.as_slice(), "raw 0 hold: held\n".as_bytes());
+    Ok(())
+}
+
+#[test]
+fn says_why_it_is_not_held(rt: HostRuntime) -> Result<(), Fail> {
+    let short = HoldRefusal::Cert(CertRefusal::ShortStake {
+        weight: 2,
+        total: 4,
+    });
+    let text = text_of(rt.alloc(), Said::Hold(Err(short)))?;
+    assert_eq!(rt;
+        text.as_slice(),
+        "raw 0 hold: short stake 2 of 4\n".as_bytes()
+    );
+    Ok(())
+}
+
+#[test]
+fn says_what_a_run_did(rt: HostRuntime) -> Result<(), Fail> {
+    let text = text_of(rt.alloc(), Said::Ran)?;
+    let wanted =
+        "run 2: executed 1\n  ? aborted at 1 code 2 v5 gas 1000\n  ? absent c@4\n  checkpoint 3: ? last\n";
+    assert_eq!(rt; text.as_slice(), wanted.as_bytes());
+    Ok(())
+}
+
+#[test]
+fn says_that_a_member_is_down(rt: HostRuntime) -> Result<(), Fail> {
+    let text = text_of(rt.alloc(), Said::NoRun(RunRefusal::Down))?;
+    assert_eq!(rt; text.as_slice(), "run 2: down\n".as_bytes());
+    Ok(())
+}
+
+#[test]
+fn shows_objects(rt: HostRuntime) -> Result<(), Fail> {
+    let key = Object {
+        id: ObjectId(Digest([1; 32])),
+        version: 2,
+        owner: Owner::Immutable,
+        content: Content::VaultKey {
+            vault: ObjectId(genesis_id(0)),
+        },
+    };
+    let text = text_of(rt.alloc(), Said::Shown(key))?;
+    let wanted = "show 0: epoch 1 objects 1\n  ? v2 frozen key c\n";
+    assert_eq!(rt; text.as_slice(), wanted.as_bytes());
+    Ok(())
+}
+
+/// The lines of a certificate with this ending.
+fn cert_lines(alloc: Global, text: CertText) -> Result<Seq<Line>, OutOfMemory> {
+    let tx = Seq::from_slice(alloc, b"t".as_slice())?;
+    one(alloc, Line::Cert { tx, text })
+}
+
+/// The lines of what collecting the votes of the members 0 and 2 gave.
+fn collected_lines(alloc: Global, collected: Collected) -> Result<Seq<Line>, OutOfMemory> {
+    let text = cert_text(alloc, [0, 2].as_slice(), &collected)?;
+    cert_lines(alloc, text)
+}
+
+/// The text for what collecting the votes of the members 0 and 2 gave.
+fn collected(alloc: Global, collected: Collected) -> Result<Seq<u8>, OutOfMemory> {
+    let lines = collected_lines(alloc, collected)?;
+    printed(alloc, &lines)
+}
+
+#[test]
+fn says_what_collecting_gave(rt: HostRuntime) -> Result<(), Fail> {
+    let formed = collected(rt.alloc(), Collected::Whole)?;
+    assert_eq!(rt; formed.as_slice(), "cert t: formed by 0 2\n".as_bytes());
+    let differ = collected(rt.alloc(), Collected::Differ { a: 0, b: 2 })?;
+    assert_eq!(rt; differ.as_slice(), "cert t: differ 0 2\n".as_bytes());
+    Ok(())
+}

@@ -1,0 +1,225 @@
+//! Votes of members for one transaction, and the certificate of two of them.
+
+use chain_messages::{Certificate, MemberSeal, Statement};
+use chain_types::{Address, ObjectId, ObjectRef, SignedTx, Transaction};
+use digest_core::Digest;
+use quorum_core::{Committee, KeyedSeal};
+use std::alloc::Global;
+use std::test::Fail;
+use wire_bcs::{OutOfMemory, Seq};
+use world_lines::{CertBook, Collected, SaidBook, certificate};
+use world_names::MadeTx;
+
+const TX: Digest = Digest([7; 32]);
+
+const OTHER: Digest = Digest([8; 32]);
+
+const ONE: Digest = Digest([1; 32]);
+
+/// The seals of members 2 and 0 under the secret of nines, over the vote of epoch 5 for `TX` that names no origin and
+/// then `ONE`: computed elsewhere.
+const SEALS: [[u8; 32]; 2] = [
+    [
+        225, 227, 116, 187, 131, 240, 200, 177, 132, 111, 88, 78, 32, 249, 190, 61, 225, 38, 93,
+        106, 62, 131, 130, 4, 186, 99, 128, 108, 219, 53, 40, 59,
+    ],
+    [
+        80, 203, 175, 16, 178, 68, 38, 154, 202, 135, 64, 92, 180, 205, 226, 215, 3, 98, 231, 147,
+        75, 45, 72, 86, 170, 229, 184, 148, 117, 132, 46, 50,
+    ],
+];
+
+/// A member votes for a transaction, and names one origin.
+fn vote(
+    alloc: Global,
+    book: &mut SaidBook,
+    member: u32,
+    tx: Digest,
+    origin: Option<Digest>,
+) -> Result<(), OutOfMemory> {
+    let mut origins = Seq::new(alloc);
+    origins.push(origin)?;
+    let vote = Statement::Vote {
+        epoch: 5,
+        tx,
+        origins,
+    };
+    book.say(member, vote)
+}
+
+/// The first origin of a vote.
+fn origin(vote: Option<&Seq<Option<Digest>>>) -> Option<Option<Digest>> {
+    match vote {
+        Some(origins) => origins.as_slice().get(0).copied(),
+        None => None,
+    }
+}
+
+/// Votes for `TX` of the members 0, 1 and 2, of which the last differs.
+fn three_votes(alloc: Global) -> Result<SaidBook, OutOfMemory> {
+    let mut book = SaidBook::new(alloc);
+    vote(alloc, &mut book, 0, TX, None)?;
+    vote(alloc, &mut book, 1, TX, None)?;
+    vote(alloc, &mut book, 2, TX, Some(ONE))?;
+    Ok(book)
+}
+
+/// What the votes of these members for `TX` give in a committee with these stakes.
+fn collected(book: &SaidBook, stakes: &[u32], members: &[u32]) -> Option<Collected> {
+    match Committee::new(stakes) {
+        Ok(committee) => Some(book.collect(&committee, &TX, members)),
+        Err(_) => None,
+    }
+}
+
+/// A transaction of epoch 5 with this budget.
+fn transaction(alloc: Global, budget: u64) -> Transaction {
+    Transaction {
+        sender: Address(Digest([3; 32])),
+        epoch: 5,
+        gas: ObjectRef {
+            id: ObjectId(Digest([4; 32])),
+            version: 1,
+            digest: Digest([6; 32]),
+        },
+        budget,
+        inputs: Seq::new(alloc),
+        commands: Seq::new(alloc),
+    }
+}
+
+/// A certificate without votes, of the transaction with this budget.
+fn unsealed(alloc: Global, budget: u64) -> Certificate {
+    Certificate {
+        tx: transaction(alloc, budget),
+        origins: Seq::new(alloc),
+        seals: Seq::new(alloc),
+    }
+}
+
+/// The budget in the last certificate of this name.
+fn budget(book: &CertBook, name: &[u8]) -> Option<u64> {
+    match book.last_named(name) {
+        Some(cert) => Some(cert.tx.budget),
+        None => None,
+    }
+}
+
+#[test]
+fn a_members_last_vote_counts(rt: HostRuntime) -> Result<(), Fail> {
+    let alloc = rt.alloc();
+    let mut book = SaidBook::new(alloc);
+    vote(alloc, &mut book, 1, TX, None)?;
+    vote(alloc, &mut book, 1, TX, Some(ONE))?;
+    vote(alloc, &mut book, 1, OTHER, None)?;
+    book.say(1, Statement::End { epoch: 5 })?;
+    assert_eq!(rt; origin(book.last_vote(1, &TX)), Some(Some(ONE)));
+    assert_eq!(rt; origin(book.last_vote(1, &OTHER)), Some(None));
+    assert_eq!(rt; origin(book.last_vote(0, &TX)), None);
+    Ok(())
+}
+
+#[test]
+fn the_lowest_honest_member_is_asked_first(rt: HostRuntime) -> Result<(), Fail> {
+    let alloc = rt.alloc();
+    let mut book = SaidBook::new(alloc);
+    vote(alloc, &mut book, 2, TX, Some(ONE))?;
+    vote(alloc, &mut book, 0, TX, None)?;
+    let behind = [false, true, true];
+    assert_eq!(rt;
+        origin(book.first_vote(behind.as_slice(), &TX)),
+        Some(Some(ONE))
+    );
+    assert_eq!(rt;
+        origin(book.first_vote([true, true, true].as_slice(), &TX)),
+        Some(None)
+    );
+    assert_eq!(rt; origin(book.first_vote(&behind[..2], &TX)), None);
+    Ok(())
+}
+
+#[test]
+fn votes_are_collected_in_the_order_of_the_causes(rt: HostRuntime) -> Result<(), Fail> {
+    let book = three_votes(rt.alloc())?;
+    let equal = [1, 1, 1, 1];
+    let lacks = collected(&book, equal.as_slice(), [2, 3, 0].as_slice());
+    assert_eq!(rt; lacks, Some(Collected::Lacks(3)));
+    let short = collected(&book, equal.as_slice(), [0, 2].as_slice());
+    assert_eq!(rt;
+        short,
+        Some(Collected::Short {
+            weight: 2,
+            total: 4
+        })
+    );
+    let differ = collected(&book, equal.as_slice(), [0, 1, 2].as_slice());
+    assert_eq!(rt; differ, Some(Collected::Differ { a: 0, b: 2 }));
+    let whole = collected(&book, [2, 2, 1].as_slice(), [1, 0].as_slice());
+    assert_eq!(rt; whole, Some(Collected::Whole));
+    Ok(())
+}
+
+#[test]
+fn a_member_named_twice_weighs_once(rt: HostRuntime) -> Result<(), Fail> {
+    let book = three_votes(rt.alloc())?;
+    let twice = collected(&book, [1, 1, 1].as_slice(), [0, 1, 0].as_slice());
+    // Exactly two thirds are no quorum.
+    assert_eq!(rt;
+        twice,
+        Some(Collected::Short {
+            weight: 2,
+            total: 3
+        })
+    );
+    let nobody = collected(&book, [1, 1, 1].as_slice(), [].as_slice());
+    assert_eq!(rt;
+        nobody,
+        Some(Collected::Short {
+            weight: 0,
+            total: 3
+        })
+    );
+    Ok(())
+}
+
+#[test]
+fn a_names_last_certificate_is_found(rt: HostRuntime) -> Result<(), Fail> {
+    let alloc = rt.alloc();
+    let mut book = CertBook::new(alloc);
+    book.add(b"a".as_slice(), unsealed(alloc, 1))?;
+    book.add(b"b".as_slice(), unsealed(alloc, 2))?;
+    book.add(b"a".as_slice(), unsealed(alloc, 3))?;
+    assert_eq!(rt; budget(&book, b"a".as_slice()), Some(3));
+    assert_eq!(rt; budget(&book, b"b".as_slice()), Some(2));
+    assert_eq!(rt; budget(&book, b"ab".as_slice()), None);
+    Ok(())
+}
+
+#[test]
+fn each_voter_seals_the_vote(rt: HostRuntime) -> Result<(), Fail> {
+    let alloc = rt.alloc();
+    let made = MadeTx {
+        name: Seq::from_slice(alloc, b"t".as_slice())?,
+        digest: TX,
+        signed: SignedTx {
+            tx: transaction(alloc, 1),
+            seal: ONE,
+        },
+    };
+    let origins = [None, Some(ONE)];
+    let sealer = KeyedSeal::new([9; 32]);
+    let cert = certificate(alloc, &sealer, &made, origins.as_slice(), [2, 0].as_slice())?;
+    assert_eq!(rt; cert.origins.as_slice(), origins.as_slice());
+    let seals = [
+        MemberSeal {
+            member: 2,
+            seal: Digest(SEALS[0]),
+        },
+        MemberSeal {
+            member: 0,
+            seal: Digest(SEALS[1]),
+        },
+    ];
+    assert_eq!(rt; cert.seals.as_slice(), seals.as_slice());
+    Ok(())
+}
