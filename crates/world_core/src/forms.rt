@@ -23,7 +23,7 @@ fn is_plain_setup(line: &Setup) -> bool
 }
 
 /// Whether the event needs no sequence. Takes no memory.
-pub(crate) fn is_plain(event: &Event) -> bool
+pub fn is_plain(event: &Event) -> bool
     ensures { result ≡ is_plain event.now }
 {
     match event {

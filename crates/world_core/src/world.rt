@@ -1,6 +1,6 @@
 //! The world, and how it opens.
 
-ghost use Rattle.std.specs.Prelude.{◌≡◌, ◌∷◌, [], IfOk, IsErrOf, Ok};
+ghost use Rattle.std.specs.Prelude.{◌≡◌, ◌≤◌, ◌∷◌, [], IfOk, IsErrOf, Ok, length};
 ghost use Rattle.quorum_core.specs.Committee.{committee_of};
 ghost use Rattle.world_spec.specs.Setting.{setting_of, stakes_of};
 ghost use Rattle.scene_spec.specs.Scene.{new_scene};
@@ -118,5 +118,13 @@ impl World {
             Ok(world) => Ok(world),
             Err(OutOfMemory) => Err(WorldRefusal::OutOfMemory),
         }
+    }
+
+    /// The number of members, at most 64: the keeper of [`World::step`] has a list for each. Takes no memory.
+    pub fn members(&self) -> u32
+        ensures value { result ≡ length self.now.posts }
+        ensures most { result ≤ 64 }
+    {
+        self.seats.len()
     }
 }

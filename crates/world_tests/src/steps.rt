@@ -1,7 +1,5 @@
 //! Schedules of one member, over a keeper in memory. The lines that are wanted were worked by hand from the rules.
 
-ghost use Rattle.std.specs.Prelude.{◌≡◌, length};
-
 use outside::{Keeper, MemKeeper};
 use quorum_core::KeyedSeal;
 use report_text::{Line, print_line};
@@ -30,16 +28,9 @@ pub(crate) fn opened(alloc: Global, setup: &Seq<Setup>) -> Result<World, WorldRe
     World::new(alloc, setup.as_slice(), &sealer())
 }
 
-/// How many members the world has.
-fn members(world: &World) -> u32
-    ensures { result ≡ length world.now.posts }
-{
-    world.members()
-}
-
 /// Runs a line of a form that is run, where the keeper has a list for each member.
 fn step(world: &mut World, keeper: &mut MemKeeper, event: &Event) -> Result<Seq<Line>, WorldFault> {
-    if !is_plain(event) || members(world) > keeper.members() {
+    if !is_plain(event) || world.members() > keeper.members() {
         return Err(WorldFault::OutOfMemory);
     }
     world.step(keeper, &sealer(), event)
