@@ -9,8 +9,7 @@ ghost use Rattle.protocol_spec.specs.Chain.Certificates.{cert_refusal, vote_of, 
 ghost use Rattle.cert_rules.specs.Answers.{Checks};
 ghost use Rattle.cert_rules.specs.Parts.{member_refusal, object_refusal, refused_seal};
 
-use crate::roll::{is_roll, members_of};
-use chain_messages::{Certificate, MemberSeal, Statement, encode_statement};
+use chain_messages::{Certificate, MemberSeal, Statement, encode_statement, members_of};
 use chain_types::{CertRefusal, object_count, tx_digest};
 use quorum_core::{Committee, Sealer, Signer};
 use std::alloc::Global;
@@ -51,7 +50,7 @@ fn check_objects(alloc: Global, cert: &Certificate) -> Result<(), CertRefusal>
 fn check_members(committee: &Committee, members: &[u32]) -> Result<(), CertRefusal>
     ensures { result ≡ unless_refused (member_refusal committee.now members.now) tt }
 {
-    if !is_roll(committee, members) {
+    if !committee.is_roll(members) {
         return Err(CertRefusal::Order);
     }
     let weight = committee.weight(members);

@@ -10,7 +10,6 @@
 #![tactic(auto)]
 
 mod check;
-mod roll;
 mod votes;
 
 pub use chain_types::CertRefusal;

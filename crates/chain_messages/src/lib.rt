@@ -2,9 +2,11 @@
 //! the consensus sequence.
 #![tactic(auto)]
 
+mod members;
 mod messages;
 mod messages_wire;
 
+pub use members::members_of;
 pub use messages::{Certificate, Entry, MemberSeal, Sealed, Statement};
 pub use messages_wire::{
     decode_certificate, decode_entry, decode_sealed, decode_statement, encode_certificate,

@@ -3,8 +3,7 @@
 -- versions are Lamport clocks; which versions count is this profile's choice).
 use Rattle.std.specs.Prelude.{ℕ, suc, max, Bool, true, false, List, ◌∷◌, length, filter, filter_map, fold, Option, Some, None}
 use Rattle.digest_core.specs.declared.Digest.{Digest}
-use Rattle.digest_core.specs.declared.TheConstants.{TAG_OBJECT, TAG_TRANSACTION}
-use Rattle.digest_core.specs.Tagged.{tagged_digest}
+use Rattle.digest_core.specs.Tagged.{object_tag, tagged_digest, transaction_tag}
 use Rattle.chain_types.specs.declared.objects.Object.{Object}
 use Rattle.chain_types.specs.declared.objects.ObjectKey.{ObjectKey}
 use Rattle.chain_types.specs.declared.objects.ObjectRef.{ObjectRef}
@@ -16,11 +15,11 @@ use Rattle.chain_types.specs.Transactions.{transaction}
 
 -- the digest of an object
 unfoldable pub digest_of_object : Object → Digest
-digest_of_object o = tagged_digest TAG_OBJECT (object.spell o)
+digest_of_object o = tagged_digest object_tag (object.spell o)
 
 -- the digest of a transaction
 unfoldable pub transaction_digest : Transaction → Digest
-transaction_digest t = tagged_digest TAG_TRANSACTION (transaction.spell t)
+transaction_digest t = tagged_digest transaction_tag (transaction.spell t)
 
 -- the key that a reference names
 abbrev pub key_of : ObjectRef → ObjectKey

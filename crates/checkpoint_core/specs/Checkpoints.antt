@@ -1,8 +1,7 @@
 -- Checkpoints on the wire (BCS), and their digests (this profile).
 use Rattle.std.specs.Prelude.{refl}
 use Rattle.digest_core.specs.declared.Digest.{Digest}
-use Rattle.digest_core.specs.declared.TheConstants.{TAG_CHECKPOINT}
-use Rattle.digest_core.specs.Tagged.{tagged_digest}
+use Rattle.digest_core.specs.Tagged.{checkpoint_tag, tagged_digest}
 use Rattle.wire_bcs.specs.Codec.{Codec}
 use Rattle.wire_bcs.specs.Items.{number, bool_codec}
 use Rattle.wire_bcs.specs.Shapes.{pair, by, seq}
@@ -22,4 +21,4 @@ checkpoint = by (λ c. (c.epoch, (c.number, (c.parent, (c.items, c.last)))))
 
 -- the digest of a checkpoint
 unfoldable pub digest_of_checkpoint : Checkpoint → Digest
-digest_of_checkpoint c = tagged_digest TAG_CHECKPOINT (checkpoint.spell c)
+digest_of_checkpoint c = tagged_digest checkpoint_tag (checkpoint.spell c)

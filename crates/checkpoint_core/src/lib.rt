@@ -3,6 +3,8 @@
 
 mod checkpoints;
 mod checkpoints_wire;
+mod links;
 
 pub use checkpoints::{Checkpoint, Item};
 pub use checkpoints_wire::checkpoint_digest;
+pub use links::{LinkRefusal, check_link};

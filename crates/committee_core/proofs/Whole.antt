@@ -3,8 +3,7 @@ use Rattle.std.proofs.Common.{◌≡◌, ℕ, ◌≤◌, inl, Bool, true, false,
 use Rattle.std.proofs.lemmas.Bool.Decides.{nat_tests}
 use Rattle.std.proofs.KnownBytes.{Appends-nil}
 use Rattle.std.specs.Str.{bytes_eq}
-use Rattle.digest_core.specs.declared.TheConstants.{TAG_SEAL}
-use Rattle.digest_core.specs.Tagged.{tagged_digest}
+use Rattle.digest_core.specs.Tagged.{seal_tag, tagged_digest}
 use Rattle.quorum_core.specs.declared.signer.Signer.{Signer}
 use Rattle.quorum_core.specs.Signers as codecs
 use Rattle.quorum_core.specs.Seals.{keyed_seal as sealed_under}
@@ -50,7 +49,7 @@ refusal_cut trust text r held held' kept is cut = subst (λ (x : Result Schedule
 
 same-seal : (secret : List ℕ) (signer : Signer) (bytes : List ℕ) → sealed_under secret signer bytes ≡ keyed_seal secret signer bytes
 unfolding sealed_under keyed_seal
-same-seal secret signer bytes = ap (tagged_digest TAG_SEAL) (append_assoc secret (codecs.signer.spell signer) bytes)
+same-seal secret signer bytes = ap (tagged_digest seal_tag) (append_assoc secret (codecs.signer.spell signer) bytes)
 
 keyed-seals : (secret : List ℕ) → trust_by (λ signer bytes. sealed_under secret signer bytes) (λ signer bytes seal. bytes_eq seal.0 (sealed_under secret signer bytes).0) ≡ keyed secret
 keyed-seals secret = λ i. record {

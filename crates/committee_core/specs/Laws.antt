@@ -1,4 +1,4 @@
--- The laws of scenes that a run stands on, for these seals. The public functions of `world_scene` prove them.
+-- The laws of scenes that a run stands on, for these seals. The public functions of `run_law` prove them.
 use Rattle.std.specs.Prelude.{◌≡◌, ◌<◌, ℕ, false, true, List, [], ◌∷◌, length, Option, Some, None, Ok}
 use Rattle.outside.specs.Lists.{Journals}
 use Rattle.protocol_spec.specs.Chain.Words.{Each}

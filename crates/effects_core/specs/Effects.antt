@@ -2,8 +2,7 @@
 use Rattle.std.specs.Prelude.{ℕ, ◌⊎◌, refl}
 use Rattle.std.proofs.Common.{inl, inr}
 use Rattle.digest_core.specs.declared.Digest.{Digest}
-use Rattle.digest_core.specs.declared.TheConstants.{TAG_EFFECTS}
-use Rattle.digest_core.specs.Tagged.{tagged_digest}
+use Rattle.digest_core.specs.Tagged.{effects_tag, tagged_digest}
 use Rattle.wire_bcs.specs.Codec.{Codec}
 use Rattle.wire_bcs.specs.Items.{number, nothing}
 use Rattle.wire_bcs.specs.Shapes.{pair, by, seq}
@@ -49,4 +48,4 @@ effects = by (λ e. (e.tx, (e.status, (e.version, (e.gas, (e.created, (e.written
 
 -- the digest of a transaction's effects
 unfoldable pub digest_of_effects : Effects → Digest
-digest_of_effects e = tagged_digest TAG_EFFECTS (effects.spell e)
+digest_of_effects e = tagged_digest effects_tag (effects.spell e)

@@ -2,6 +2,8 @@
 #![tactic(auto)]
 
 #[cfg(test)]
+mod scenario;
+#[cfg(test)]
 mod states;
 #[cfg(test)]
 mod validators;

@@ -7,6 +7,7 @@
 #![tactic(auto)]
 
 mod committee;
+mod roll;
 mod sealer;
 mod signer;
 

@@ -7,8 +7,7 @@ use Rattle.sha2.proofs.Facts256.{length-sha256}
 use Rattle.wire_bcs.specs.declared.fault.WireFault.{WireFault}
 use Rattle.wire_bcs.specs.Items.{length_limit}
 use Rattle.digest_core.specs.declared.Digest.{Digest}
-use Rattle.digest_core.specs.declared.TheConstants.{TAG_TRANSACTION}
-use Rattle.digest_core.specs.Tagged.{tagged_digest}
+use Rattle.digest_core.specs.Tagged.{tagged_digest, transaction_tag}
 use Rattle.chain_types.specs.Equal.{digest_eq}
 use Rattle.chain_types.specs.Transactions as transactions
 use Rattle.chain_types.specs.Digests.{transaction_digest, key_of, is_object}
@@ -92,7 +91,7 @@ tagged-digest tag bytes = length-sha256 (tag ∷ bytes)
 
 pub digest-of : (t : Transaction) → IsDigest (transaction_digest t)
 unfolding transaction_digest
-digest-of t = tagged-digest TAG_TRANSACTION (transactions.transaction.spell t)
+digest-of t = tagged-digest transaction_tag (transactions.transaction.spell t)
 
 -- ---- origins
 

@@ -1,3 +1,4 @@
+use crate::rows::Refused;
 use digest_core::Digest;
 use std::alloc::{AllocError, Global};
 use std::test::Fail;
@@ -175,9 +176,6 @@ fn keeps_lists(rt: HostRuntime) -> Result<(), Fail> {
     assert_eq!(rt; list.as_slice(), [9, 8, 5, 6].as_slice());
     Ok(())
 }
-
-/// So many of the good bytes, and then others; where and why these are no value.
-type Refused<'a> = (usize, &'a [u8], u64, u8);
 
 /// The first row that does not hold of the type.
 fn first_wrong<T: Wire>(

@@ -18,4 +18,6 @@ mod quorums;
 #[cfg(test)]
 mod records;
 #[cfg(test)]
+mod rows;
+#[cfg(test)]
 mod transactions;

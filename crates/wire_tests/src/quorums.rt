@@ -1,29 +1,8 @@
+use crate::rows::first_wrong;
 use digest_core::Digest;
 use quorum_core::{Committee, CommitteeRefusal, KeyedSeal, Sealer, Signer};
-use std::alloc::{AllocError, Global};
 use std::test::Fail;
-use wire_bcs::{Unread, Wire, WireFault, decode, encode};
-
-/// So many of the good bytes, and then others; where and why these are no value.
-type Refused<'a> = (usize, &'a [u8], u64, u8);
-
-/// The first row that does not hold of the type.
-fn first_wrong<T: Wire>(
-    alloc: Global,
-    good: &[u8],
-    rows: &[Refused],
-) -> Result<Option<usize>, AllocError> {
-    for (row, (kept, others, at, why)) in rows.iter().enumerate() {
-        let mut bytes = Vec::from_slice(alloc, good.get(..*kept).unwrap_or_default())?;
-        bytes.extend_from_slice(others)?;
-        let read: Result<T, Unread> = decode(alloc, bytes.as_slice());
-        let want = WireFault { at: *at, why: *why };
-        if !matches!(read, Err(Unread::Wire(found)) if found == want) {
-            return Ok(Some(row));
-        }
-    }
-    Ok(None)
-}
+use wire_bcs::{decode, encode};
 
 #[test]
 fn reads_signers(rt: HostRuntime) -> Result<(), Fail> {

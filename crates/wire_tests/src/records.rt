@@ -1,60 +1,9 @@
+use crate::rows::{GREATEST, LARGE, LONG, WIDE, first_wrong, is_spelling, joined};
 use digest_core::Digest;
 use journal_core::{RanItem, Record, decode_record, encode_record};
 use std::alloc::{AllocError, Global};
 use std::test::Fail;
-use wire_bcs::{Duplicate, Unread, Wire, WireFault, decode, encode};
-
-/// Whether the bytes are read, and what is read is spelled so again.
-fn is_spelling<T: Wire>(alloc: Global, bytes: &[u8]) -> bool {
-    let read: Result<T, Unread> = decode(alloc, bytes);
-    match read {
-        Ok(value) => match encode(alloc, &value) {
-            Ok(again) => again.as_slice() == bytes,
-            Err(_) => false,
-        },
-        Err(_) => false,
-    }
-}
-
-/// So many of the good bytes, and then others; where and why these are no value.
-type Refused<'a> = (usize, &'a [u8], u64, u8);
-
-/// The first row that does not hold of the type.
-fn first_wrong<T: Wire>(
-    alloc: Global,
-    good: &[u8],
-    rows: &[Refused],
-) -> Result<Option<usize>, AllocError> {
-    for (row, (kept, others, at, why)) in rows.iter().enumerate() {
-        let mut bytes = Vec::from_slice(alloc, good.get(..*kept).unwrap_or_default())?;
-        bytes.extend_from_slice(others)?;
-        let read: Result<T, Unread> = decode(alloc, bytes.as_slice());
-        let want = WireFault { at: *at, why: *why };
-        if !matches!(read, Err(Unread::Wire(found)) if found == want) {
-            return Ok(Some(row));
-        }
-    }
-    Ok(None)
-}
-
-/// The pieces, one behind the other.
-fn joined(alloc: Global, pieces: &[&[u8]]) -> Result<Vec<u8>, AllocError> {
-    let mut bytes = Vec::new(alloc);
-    for piece in pieces {
-        bytes.extend_from_slice(piece)?;
-    }
-    Ok(bytes)
-}
-
-/// A length or a number in the spellings that are refused: with a zero byte at its end, with more than 32
-/// bits, and 2147483648.
-const LONG: &[u8] = &[0x80, 0];
-
-const WIDE: &[u8] = &[0xff, 0xff, 0xff, 0xff, 0x10];
-
-const LARGE: &[u8] = &[0x80, 0x80, 0x80, 0x80, 8];
-/// The greatest length.
-const GREATEST: &[u8] = &[0xff, 0xff, 0xff, 0xff, 7];
+use wire_bcs::{Duplicate, decode};
 
 #[test]
 fn reads_items_of_runs(rt: HostRuntime) -> Result<(), Fail> {

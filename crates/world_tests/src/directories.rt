@@ -1,5 +1,6 @@
 //! A directory of a coin and a counter, and one transaction.
 
+use crate::common::{coin_line, counter_line, text};
 use chain_types::{
     Address, Argument, Command, Content, Object, ObjectId, ObjectKey, ObjectRef, Owner, SignedTx,
     Transaction,
@@ -13,27 +14,6 @@ use world_names::{Directory, MadeTx, TxLine};
 
 /// The digest of the transaction t.
 const TX: Digest = Digest([9; 32]);
-
-fn text(alloc: Global, word: &[u8]) -> Result<Seq<u8>, OutOfMemory> {
-    Seq::from_slice(alloc, word)
-}
-
-/// The line of a coin.
-fn coin_line(alloc: Global) -> Result<Setup, OutOfMemory> {
-    Ok(Setup::Coin {
-        name: text(alloc, b"c".as_slice())?,
-        owner: text(alloc, b"ann".as_slice())?,
-        balance: 500,
-    })
-}
-
-/// The line of a counter.
-fn counter_line(alloc: Global) -> Result<Setup, OutOfMemory> {
-    Ok(Setup::Counter {
-        name: text(alloc, b"n".as_slice())?,
-        value: 7,
-    })
-}
 
 /// The coin c of ann, and the counter n.
 fn set_up(alloc: Global) -> Result<Directory, OutOfMemory> {

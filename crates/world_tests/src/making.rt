@@ -4,6 +4,7 @@
 ghost use Rattle.std.specs.Prelude.{◌≡◌, Some, None, if◌then◌else◌};
 ghost use Rattle.chain_types.specs.Equal.{key_eq};
 
+use crate::common::{coin_line, counter_line, text};
 use chain_types::{ObjectId, ObjectKey};
 use digest_core::{Digest, genesis_id};
 use quorum_core::KeyedSeal;
@@ -65,27 +66,6 @@ fn coin_held() -> OneHeld {
         },
         digest: Digest([6; 32]),
     }
-}
-
-fn text(alloc: Global, word: &[u8]) -> Result<Seq<u8>, OutOfMemory> {
-    Seq::from_slice(alloc, word)
-}
-
-/// The line of a coin.
-fn coin_line(alloc: Global) -> Result<Setup, OutOfMemory> {
-    Ok(Setup::Coin {
-        name: text(alloc, b"c".as_slice())?,
-        owner: text(alloc, b"ann".as_slice())?,
-        balance: 500,
-    })
-}
-
-/// The line of a counter.
-fn counter_line(alloc: Global) -> Result<Setup, OutOfMemory> {
-    Ok(Setup::Counter {
-        name: text(alloc, b"n".as_slice())?,
-        value: 7,
-    })
 }
 
 /// The coin c and the counter n.

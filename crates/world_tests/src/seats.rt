@@ -2,20 +2,17 @@
 
 ghost use Rattle.std.specs.Prelude.{◌≡◌, IfOk, length};
 
+use crate::common::sealer;
 use chain_types::{ObjectId, ObjectKey};
 use digest_core::Digest;
 use outside::{Keeper, MemKeeper};
-use quorum_core::{Committee, KeyedSeal};
+use quorum_core::Committee;
 use std::alloc::Global;
 use std::test::Fail;
 use validator_core::{HoldRefusal, VoteRefusal};
 use wire_bcs::Seq;
 use world_core::{Reply, RestartFault, Seats};
 use world_names::HeldDigests;
-
-fn sealer() -> KeyedSeal {
-    KeyedSeal::new([7; 32])
-}
 
 fn seats(alloc: Global) -> Result<Seats, Fail>
     ensures { IfOk result (λ seats. length seats.posts ≡ 2) }

@@ -1,7 +1,7 @@
 //! Schedules of one member, over a keeper in memory. The lines that are wanted were worked by hand from the rules.
 
+use crate::common::sealer;
 use outside::{Keeper, MemKeeper};
-use quorum_core::KeyedSeal;
 use report_text::{Line, print_line};
 use schedule_text::{Event, Schedule, Setup, read_schedule};
 use std::alloc::Global;
@@ -18,10 +18,6 @@ vote 0 t1\ncert t1 0\nsend 0 t1\nrun 0 1\nshow 0\n";
 const RESTART: &str = "member 1 honest\ncoin g0 alice 10000\n\
 tx t1 alice 0 g0@1 2000 a:bob transfer(gas,i0)\n\
 stop 0 kept\nvote 0 t1\nshow 0\nrestart 0\nvote 0 t1\n";
-
-fn sealer() -> KeyedSeal {
-    KeyedSeal::new([7; 32])
-}
 
 /// The world of a set-up.
 pub(crate) fn opened(alloc: Global, setup: &Seq<Setup>) -> Result<World, WorldRefusal> {

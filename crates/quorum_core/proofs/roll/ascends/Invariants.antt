@@ -1,6 +1,6 @@
 use Rattle.std.proofs.Common.{◌≡◌, ◌∷◌, length}
 use Rattle.quorum_core.specs.Committee.{ascends}
-use Rattle.cert_rules.proofs.roll.ascends.Given as goal
+use Rattle.quorum_core.proofs.roll.ascends.Given as goal
 
 -- what is left ascends from the last member where all do
 abbrev pub invariant-loop-rest : goal.invariant-loop-rest

@@ -1,19 +1,9 @@
 //! Members in order.
 
-ghost use Rattle.std.specs.Prelude.{◌≡◌, IfOk, map};
+ghost use Rattle.std.specs.Prelude.{◌≡◌};
 ghost use Rattle.quorum_core.specs.Committee.{all_known, ascends, is_roll};
 
-use chain_messages::MemberSeal;
-use quorum_core::Committee;
-use std::alloc::Global;
-use wire_bcs::OutOfMemory;
-
-/// The members who sealed, in the order of the seals.
-pub(crate) fn members_of(alloc: Global, seals: &[MemberSeal]) -> Result<Vec<u32>, OutOfMemory>
-    ensures { IfOk result (λ members. members.items ≡ map (λ seal. seal.member) seals.now) }
-{
-    Ok(seals.iter().map(|seal| seal.member).collect(alloc)?)
-}
+use crate::committee::Committee;
 
 /// Whether each member is greater than the one before.
 fn ascends(members: &[u32]) -> bool
@@ -48,9 +38,12 @@ fn all_known(committee: &Committee, members: &[u32]) -> bool
     true
 }
 
-/// Whether the members ascend, are distinct and are known.
-pub(crate) fn is_roll(committee: &Committee, members: &[u32]) -> bool
-    ensures { result ≡ is_roll committee.now members.now }
-{
-    ascends(members) && all_known(committee, members)
+impl Committee {
+    /// Whether the members ascend, are distinct and are known: those that a certificate or a link of a chain may
+    /// name (Sui Lutris). Takes no memory.
+    pub fn is_roll(&self, members: &[u32]) -> bool
+        ensures { result ≡ is_roll self.now members.now }
+    {
+        ascends(members) && all_known(self, members)
+    }
 }
