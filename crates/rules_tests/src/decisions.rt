@@ -1,8 +1,7 @@
-//! Each case of the rule, on a store of five objects.
+//! The origins of a vote. Each case in which there is no vote is a case of conformance.
 
 use chain_types::{
-    Address, Content, Input, Object, ObjectId, ObjectKey, ObjectRef, Owner, Transaction,
-    object_digest,
+    Address, Content, Input, Object, ObjectId, ObjectRef, Owner, Transaction, object_digest,
 };
 use digest_core::Digest;
 use effects_core::{Effects, Status};
@@ -10,12 +9,10 @@ use lock_table::LockTable;
 use std::alloc::Global;
 use std::test::Fail;
 use version_store::Store;
-use vote_rules::{DecideRefusal, decide};
+use vote_rules::decide;
 use wire_bcs::{OutOfMemory, Seq};
 
 const ALICE: Address = Address(Digest([0xa; 32]));
-
-const BOB: Address = Address(Digest([0xb; 32]));
 
 const OTHER_TX: Digest = Digest([9; 32]);
 
@@ -46,22 +43,6 @@ fn gas() -> Object {
 /// A coin of Alice's in another currency.
 fn hers() -> Object {
     object(2, Owner::Address(ALICE), 7, 10)
-}
-
-fn his() -> Object {
-    object(3, Owner::Address(BOB), 0, 10)
-}
-
-fn shared() -> Object {
-    object(5, Owner::Shared(1), 0, 10)
-}
-
-fn unknown() -> ObjectRef {
-    ObjectRef {
-        id: ObjectId(Digest([6; 32])),
-        version: 1,
-        digest: OTHER_TX,
-    }
 }
 
 /// A store that opens with these objects, where none stands there twice.
@@ -99,145 +80,6 @@ fn transaction(
         inputs,
         commands: Seq::new(alloc),
     })
-}
-
-/// Why there is no vote.
-fn refusal_by(
-    alloc: Global,
-    store: &Store,
-    locks: &LockTable,
-    tx: &Transaction,
-) -> Option<DecideRefusal> {
-    match decide(alloc, store, locks, tx, &THIS_TX) {
-        Ok(_origins) => None,
-        Err(refusal) => Some(refusal),
-    }
-}
-
-/// Why there is no vote for a transaction with this gas and one input, where these objects are held.
-fn refusal(
-    alloc: Global,
-    held: &[Object],
-    gas: ObjectRef,
-    input: Input,
-) -> Result<Option<DecideRefusal>, Fail> {
-    let tx = transaction(alloc, gas, 2000, input)?;
-    let store = store_of(alloc, held)?;
-    Ok(refusal_by(alloc, &store, &LockTable::new(alloc), &tx))
-}
-
-#[test]
-fn what_is_not_held_is_absent(rt: HostRuntime) -> Result<(), Fail> {
-    let input = Input::Owned(unknown());
-    let found = refusal(rt.alloc(), [gas()].as_slice(), reference(&gas()), input)?;
-    assert_eq!(rt; found, Some(DecideRefusal::Absent(unknown().key())));
-    Ok(())
-}
-
-#[test]
-fn another_digest_comes_before_another_owner(rt: HostRuntime) -> Result<(), Fail> {
-    let altered = ObjectRef {
-        digest: OTHER_TX,
-        ..reference(&his())
-    };
-    let held = [gas(), his()];
-    let found = refusal(
-        rt.alloc(),
-        held.as_slice(),
-        reference(&gas()),
-        Input::Owned(altered),
-    )?;
-    assert_eq!(rt; found, Some(DecideRefusal::WrongDigest(altered.key())));
-    Ok(())
-}
-
-#[test]
-fn what_is_anothers_is_refused(rt: HostRuntime) -> Result<(), Fail> {
-    let input = Input::Owned(reference(&his()));
-    let held = [gas(), his()];
-    let found = refusal(rt.alloc(), held.as_slice(), reference(&gas()), input)?;
-    assert_eq!(rt;
-        found,
-        Some(DecideRefusal::WrongOwner(reference(&his()).key()))
-    );
-    Ok(())
-}
-
-#[test]
-fn gas_is_of_the_gas_currency(rt: HostRuntime) -> Result<(), Fail> {
-    let input = Input::Owned(reference(&gas()));
-    let held = [gas(), hers()];
-    let found = refusal(rt.alloc(), held.as_slice(), reference(&hers()), input)?;
-    assert_eq!(rt;
-        found,
-        Some(DecideRefusal::WrongKind(reference(&hers()).key()))
-    );
-    Ok(())
-}
-
-#[test]
-fn an_immutable_input_is_immutable(rt: HostRuntime) -> Result<(), Fail> {
-    let input = Input::Immutable(reference(&hers()));
-    let held = [gas(), hers()];
-    let found = refusal(rt.alloc(), held.as_slice(), reference(&gas()), input)?;
-    assert_eq!(rt;
-        found,
-        Some(DecideRefusal::WrongKind(reference(&hers()).key()))
-    );
-    Ok(())
-}
-
-#[test]
-fn a_shared_object_is_shared_since(rt: HostRuntime) -> Result<(), Fail> {
-    let key = ObjectKey {
-        id: shared().id,
-        version: 2,
-    };
-    let input = Input::Shared {
-        id: key.id,
-        initial: key.version,
-        mutable: true,
-    };
-    let held = [gas(), shared()];
-    let found = refusal(rt.alloc(), held.as_slice(), reference(&gas()), input)?;
-    assert_eq!(rt; found, Some(DecideRefusal::WrongKind(key)));
-    Ok(())
-}
-
-#[test]
-fn gas_holds_the_budget(rt: HostRuntime) -> Result<(), Fail> {
-    let alloc = rt.alloc();
-    let tx = transaction(alloc, reference(&gas()), 5001, Input::Pure(Seq::new(alloc)))?;
-    let store = store_of(alloc, [gas()].as_slice())?;
-    let poor = DecideRefusal::PoorGas {
-        had: 5000,
-        want: 5001,
-    };
-    let found = refusal_by(alloc, &store, &LockTable::new(alloc), &tx);
-    assert_eq!(rt; found, Some(poor));
-    Ok(())
-}
-
-/// Locks that the other transaction holds.
-fn locks_of(alloc: Global, key: ObjectKey) -> Result<LockTable, Fail> {
-    let mut locks = LockTable::new(alloc);
-    let keys = Seq::from_slice(alloc, [key].as_slice())?;
-    match locks.lock_all(&keys, &OTHER_TX) {
-        Ok(()) => Ok(locks),
-        Err(_) => Err(Fail::new("the key is free")),
-    }
-}
-
-#[test]
-fn a_lock_of_another_transaction_is_named(rt: HostRuntime) -> Result<(), Fail> {
-    let alloc = rt.alloc();
-    let key = reference(&gas()).key();
-    let tx = transaction(alloc, reference(&gas()), 2000, Input::Pure(Seq::new(alloc)))?;
-    let store = store_of(alloc, [gas()].as_slice())?;
-    let locks = locks_of(alloc, key)?;
-    let found = refusal_by(alloc, &store, &locks, &tx);
-    assert_eq!(rt; found, Some(DecideRefusal::Locked { key, by: OTHER_TX }));
-    Ok(())
 }
 
 #[test]
@@ -289,18 +131,6 @@ fn spends_gas(alloc: Global, store: &mut Store) -> Result<bool, OutOfMemory> {
     }
     store.write(effects, objects, &keys)?;
     Ok(true)
-}
-
-#[test]
-fn what_was_consumed_is_refused(rt: HostRuntime) -> Result<(), Fail> {
-    let alloc = rt.alloc();
-    let mut store = store_of(alloc, [gas()].as_slice())?;
-    assert!(rt; spends_gas(alloc, &mut store)?);
-    let tx = transaction(alloc, reference(&gas()), 2000, Input::Pure(Seq::new(alloc)))?;
-    let found = refusal_by(alloc, &store, &LockTable::new(alloc), &tx);
-    let key = reference(&gas()).key();
-    assert_eq!(rt; found, Some(DecideRefusal::Consumed { key, by: OTHER_TX }));
-    Ok(())
 }
 
 #[test]

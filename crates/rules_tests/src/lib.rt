@@ -1,12 +1,6 @@
-//! Tests of the rules: shapes, locks, stores, votes, certificates, natives, blocks and rounds.
+//! Tests of the rules: tables, shapes, locks, stores, votes and certificates.
 #![tactic(auto)]
 
-#[cfg(test)]
-mod block_faults;
-#[cfg(test)]
-mod block_runs;
-#[cfg(test)]
-mod blocks;
 #[cfg(test)]
 mod certificates;
 #[cfg(test)]
@@ -17,10 +11,6 @@ mod holders;
 mod locks;
 #[cfg(test)]
 mod names;
-#[cfg(test)]
-mod natives;
-#[cfg(test)]
-mod rounds;
 #[cfg(test)]
 mod rows;
 #[cfg(test)]

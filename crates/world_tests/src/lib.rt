@@ -1,16 +1,8 @@
-//! Tests of names, lines, seats and whole steps of a world.
+//! Tests of seats, of whole steps of a world, and of its sums.
 #![tactic(auto)]
 
 #[cfg(test)]
 mod common;
-#[cfg(test)]
-mod directories;
-#[cfg(test)]
-mod lines;
-#[cfg(test)]
-mod making;
-#[cfg(test)]
-mod said;
 #[cfg(test)]
 mod seats;
 #[cfg(test)]

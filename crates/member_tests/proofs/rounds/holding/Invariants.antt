@@ -1,6 +1,6 @@
 use Rattle.std.proofs.Common.{◌≤◌, ◌-◌, length, take}
 use Rattle.exec_plan.specs.Waits.{IsWaiting}
-use Rattle.rules_tests.proofs.rounds.holding.Given as goal
+use Rattle.member_tests.proofs.rounds.holding.Given as goal
 
 -- what was passed is held
 abbrev pub invariant-loop-count : goal.invariant-loop-count
