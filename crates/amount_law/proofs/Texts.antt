@@ -73,7 +73,7 @@ money-amount (content.Vault currency balance) less = less
 money-amount (content.VaultKey vault) less = less
 money-amount (content.Limit value) less = omega arith
 
-money-amounts : (os : List Object) → Each IsAmount os → Each HoldsAmount os
+pub money-amounts : (os : List Object) → Each IsAmount os → Each HoldsAmount os
 money-amounts [] each = tt
 money-amounts (o ∷ os) each = (money-amount o.content each.0, money-amounts os each.1)
 

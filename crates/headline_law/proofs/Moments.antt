@@ -1,0 +1,69 @@
+-- Each moment of an honest run.
+use Rattle.std.proofs.Common.{◌≡◌, List, [], ◌∷◌, ◌++◌, Some, Ok, refl, sym, subst, append_assoc, ap}
+use Rattle.std.specs.Prelude.{ℕ, slice_get}
+use Rattle.schedule_text.specs.declared.words.Schedule.{Schedule}
+use Rattle.schedule_text.specs.declared.words.Event.{Event}
+use Rattle.schedule_text.specs.Schedule.{schedule_of}
+use Rattle.world_spec.specs.Setting.{Trust, setting_of}
+use Rattle.world_spec.specs.World.{Seat, member_in}
+use Rattle.world_spec.specs.Run.{world_after}
+use Rattle.world_spec.specs.Assumptions.{IsHonestRun}
+use Rattle.safety_law.proofs.Fronts.{honest-front}
+use Rattle.safety_law.proofs.Forks.{no-fork}
+use Rattle.safety_law.proofs.Owner.{owner, signed}
+use Rattle.safety_law.proofs.Voted.{certified-is}
+use Rattle.agreement_law.proofs.SetUp.{set-up-apart}
+use Rattle.agreement_law.proofs.Opened.{every-opening, opened-alike}
+use Rattle.agreement_law.proofs.OneList.{built-is-of-thread, one-list}
+use Rattle.agreement_law.proofs.Sums.{are-backed, only-gas, set-up-backed}
+use Rattle.ready_law.proofs.Running.{no-run-leaves-anything}
+use Rattle.amount_law.proofs.Epochs.{gas-was-held}
+use Rattle.amount_law.proofs.Texts.{money-amounts, no-gas-cap, set-up-amounts}
+use Rattle.headline_law.specs.Headline.{Agree, AreSafe, Holds, Stands}
+
+append_nil : {A : Type 0} (xs : List A) → xs ++ [] ≡ xs
+append_nil [] = refl
+append_nil (x ∷ xs) = ap (λ ys. x ∷ ys) (append_nil xs)
+
+module _ (text : List ℕ) (t : Schedule) (read : schedule_of text ≡ Ok t) (trust : Trust) (front back : List Event) (cut : t.events ≡ front ++ back)
+    (run_is : IsHonestRun (setting_of trust t.setup) t.events) where
+  honest : IsHonestRun (setting_of trust t.setup) front
+  honest = honest-front (setting_of trust t.setup) front back (subst (IsHonestRun (setting_of trust t.setup)) cut run_is)
+
+  -- a front, and nothing behind it
+  honest_here : IsHonestRun (setting_of trust t.setup) (front ++ [])
+  honest_here = subst (IsHonestRun (setting_of trust t.setup)) (sym (append_nil front)) honest
+
+  safe : AreSafe (setting_of trust t.setup) front
+  safe = record {
+    one_owner = λ c d one other. owner (setting_of trust t.setup) front honest c d (certified-is (setting_of trust t.setup) front c one) (certified-is (setting_of trust t.setup) front d other);
+    signed = λ c is. signed (setting_of trust t.setup) front honest c (certified-is (setting_of trust t.setup) front c is);
+  }
+
+  stands : (m : ℕ) (seat : Seat) → slice_get (world_after (setting_of trust t.setup) front).seats m ≡ Some seat
+      → Stands (setting_of trust t.setup) (world_after (setting_of trust t.setup) front) (member_in (setting_of trust t.setup) seat)
+  stands m seat at =
+      let s = setting_of trust t.setup in
+      let apart = set-up-apart trust t.setup in
+      let held = gas-was-held s front honest apart (money-amounts s.opening (set-up-amounts text t read trust)) m seat at in
+      record {
+        opens = every-opening s front honest apart m seat at;
+        builds = built-is-of-thread s front honest apart m seat at;
+        runs_on = no-fork s front [] honest_here m seat at;
+        leaves = no-run-leaves-anything s front honest apart m seat at;
+        gas = only-gas s front honest apart (no-gas-cap text t read trust) m seat at held;
+        backed = λ currency other. are-backed s front honest apart currency other (set-up-backed trust t.setup currency other) m seat at held;
+      }
+
+  agree : (m n : ℕ) (a b : Seat) → slice_get (world_after (setting_of trust t.setup) front).seats m ≡ Some a → slice_get (world_after (setting_of trust t.setup) front).seats n ≡ Some b
+      → Agree (member_in (setting_of trust t.setup) a) (member_in (setting_of trust t.setup) b)
+  agree m n a b one other =
+      let s = setting_of trust t.setup in
+      let later = subst (λ (es : List Event). slice_get (world_after s es).seats n ≡ Some b) (sym (append_nil front)) other in
+      record {
+        openings = opened-alike s front [] honest_here (set-up-apart trust t.setup) m n a b one later;
+        checkpoints = one-list s front [] honest_here (set-up-apart trust t.setup) m n a b one later;
+      }
+
+  pub moment_holds : Holds (setting_of trust t.setup) front
+  moment_holds = record { certified = safe; member = stands; members = agree }

@@ -1,0 +1,71 @@
+-- The headline, on one page: what holds of every moment of every run in which under a third of the stake is faulty, no
+-- statement is forged and no digests collide, whatever is delivered, lost, repeated, stopped and started again. Source:
+-- Sui Lutris.
+use Rattle.std.specs.Prelude.{◌≡◌, ◌≢◌, ◌<◌, ◌+◌, ◌⊎◌, ℕ, suc, true, List, [], ◌++◌, slice_get, Some, None, Ok}
+use Rattle.chain_types.specs.declared.objects.ObjectKey.{ObjectKey}
+use Rattle.chain_types.specs.declared.transactions.SignedTx.{SignedTx}
+use Rattle.chain_types.specs.Digests.{consumed_keys}
+use Rattle.chain_messages.specs.declared.messages.Certificate.{Certificate}
+use Rattle.answer_types.specs.declared.answers.Ran.{Ran}
+use Rattle.schedule_text.specs.declared.words.Schedule.{Schedule}
+use Rattle.schedule_text.specs.declared.words.Event.{Event}
+use Rattle.schedule_text.specs.Schedule.{schedule_of}
+use Rattle.protocol_spec.specs.Chain.Words.{Has, IsFront}
+use Rattle.protocol_spec.specs.Chain.Keys.{currency_sum}
+use Rattle.protocol_spec.specs.Chain.Certificates.{accepts_sender}
+use Rattle.protocol_spec.specs.Member.Member.{Member, built, fork_of}
+use Rattle.protocol_spec.specs.Member.Calls.{run_answer}
+use Rattle.world_spec.specs.Setting.{Setting, Trust, setting_of}
+use Rattle.world_spec.specs.World.{Seat, World, is_honest, member_in}
+use Rattle.world_spec.specs.Openings.{opening_at}
+use Rattle.world_spec.specs.Run.{world_after}
+use Rattle.world_spec.specs.Assumptions.{IsCertified, IsHonestRun}
+use Rattle.block_law.specs.Money.{supply_sum}
+use Rattle.safety_law.specs.Owners.{all_handed}
+use Rattle.agreement_law.specs.Opened.{OpensAsLeft}
+use Rattle.agreement_law.specs.Past.{past_at}
+use Rattle.agreement_law.specs.Sums.{epoch_gas}
+
+-- what holds of the certified transactions
+pub record AreSafe (s : Setting) (events : List Event) : Type 0 where
+  -- two of one epoch that consume one version are one transaction
+  pub one_owner : (c d : Certificate) → IsCertified s events c → IsCertified s events d → c.tx.epoch ≡ d.tx.epoch
+      → (key : ObjectKey) → Has (consumed_keys c.tx) key → Has (consumed_keys d.tx) key → c.tx ≡ d.tx
+  -- some honest member was handed each with its sender's accepted seal
+  pub signed : (c : Certificate) → IsCertified s events c
+      → (m : ℕ) × (x : SignedTx) × (is_honest (world_after s events) m ≡ true) × Has (all_handed s events m) x × (x.tx ≡ c.tx) × (accepts_sender s.rules x.tx x.seal ≡ true)
+
+-- what holds of a member
+pub record Stands (s : Setting) (w : World) (m : Member) : Type 0 where
+  -- it opened its epoch with what one thread leaves that executes the checkpointed transactions of the epochs before, in order
+  pub opens : OpensAsLeft s w.sequences m
+  -- the checkpoints that it has built are the first of that thread: numbers, parents, transactions, effects
+  pub builds : IsFront (built m) (past_at s w.sequences (suc m.epoch))
+  -- it holds no two certificates that consume one version, so it is not halted
+  pub runs_on : fork_of m ≡ None
+  -- a run leaves nothing that waits for nothing
+  pub leaves : (ran : Ran) → run_answer s.rules m ≡ Ok ran → ran.left ≡ []
+  -- of the currency of gas, all that went in an epoch that it left is the gas of the checkpointed transactions
+  pub gas : (epoch : ℕ) → epoch < m.epoch
+      → currency_sum (opening_at s w.sequences (suc epoch)) 0 + epoch_gas s w.sequences epoch ≡ currency_sum (opening_at s w.sequences epoch) 0
+  -- of each other currency its opening objects hold as much as their caps say
+  pub backed : (currency : ℕ) → currency ≢ 0 → currency_sum m.opening currency ≡ supply_sum m.opening currency
+
+-- what holds of two members
+pub record Agree (a b : Member) : Type 0 where
+  -- in one epoch they opened it with equal objects
+  pub openings : a.epoch ≡ b.epoch → a.opening ≡ b.opening
+  -- of what they have built, in whatever epochs, the one is a front of the other
+  pub checkpoints : IsFront (built a) (built b) ⊎ IsFront (built b) (built a)
+
+-- the moment behind these events
+pub record Holds (s : Setting) (events : List Event) : Type 0 where
+  pub certified : AreSafe s events
+  pub member : (m : ℕ) (seat : Seat) → slice_get (world_after s events).seats m ≡ Some seat → Stands s (world_after s events) (member_in s seat)
+  pub members : (m n : ℕ) (a b : Seat) → slice_get (world_after s events).seats m ≡ Some a → slice_get (world_after s events).seats n ≡ Some b
+      → Agree (member_in s a) (member_in s b)
+
+-- whatever text is read as a schedule, and whatever seals are accepted: each moment of its run, if the run is honest
+abbrev pub EveryMomentHolds : Type 0
+EveryMomentHolds = (text : List ℕ) (t : Schedule) → schedule_of text ≡ Ok t → (trust : Trust) → IsHonestRun (setting_of trust t.setup) t.events
+    → (front back : List Event) → t.events ≡ front ++ back → Holds (setting_of trust t.setup) front

@@ -1,0 +1,4 @@
+pub mod Shorts
+pub mod Certifying
+pub mod Walking
+pub mod Sealing

@@ -1,0 +1,5 @@
+pub mod Chains
+pub mod Certified
+pub mod Causes
+pub mod Found
+pub mod Making

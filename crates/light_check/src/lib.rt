@@ -1,0 +1,22 @@
+//! The light client: who trusts the stakes of a committee alone checks a chain of its checkpoints (Sui Lutris).
+//!
+//! A [`Chain`] is a list of checkpoints, each with the seals of members on it. [`check_chain`] tells whether it is
+//! certified, or the first link that is not, with the first cause; [`find`] looks for a transaction in it, and
+//! [`make_chain`] seals checkpoints as members do.
+#![tactic(auto)]
+
+mod chain;
+mod chain_wire;
+mod check;
+mod finding;
+mod link;
+mod make;
+
+pub use chain::{Chain, ChainRefusal, Link};
+pub use chain_wire::{decode_chain, encode_chain};
+pub use check::check_chain;
+pub use finding::find;
+pub use make::make_chain;
+
+#[cfg(test)]
+mod tests;

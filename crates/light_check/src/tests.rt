@@ -1,0 +1,151 @@
+//! A chain of two checkpoints of a committee of four, of which three sealed. The digests and the seals are those of an
+//! independent SHA-256 over spellings that were made by hand.
+
+ghost use Rattle.light_check.specs.Chains as codecs;
+
+use crate::{Chain, ChainRefusal, check_chain, decode_chain, encode_chain, find, make_chain};
+use checkpoint_core::Checkpoint;
+use digest_core::Digest;
+use quorum_core::{Committee, KeyedSeal};
+use std::alloc::Global;
+use std::test::Fail;
+use wire_bcs::{OutOfMemory, Seq, decode};
+
+/// The digest of the first checkpoint.
+const FIRST: [u8; 32] = [
+    65, 154, 227, 247, 211, 219, 164, 245, 1, 251, 104, 74, 134, 188, 7, 85, 148, 208, 46, 10, 36,
+    158, 40, 33, 210, 161, 195, 191, 4, 129, 163, 190,
+];
+
+/// The seals of members 0, 1 and 2 on the first checkpoint.
+const FIRST_SEALS: [[u8; 32]; 3] = [
+    [
+        223, 247, 124, 229, 133, 152, 68, 109, 197, 8, 67, 138, 80, 16, 230, 107, 218, 50, 207,
+        137, 168, 206, 70, 92, 186, 176, 60, 65, 97, 174, 209, 165,
+    ],
+    [
+        235, 38, 104, 191, 195, 125, 37, 3, 162, 173, 181, 248, 0, 126, 20, 218, 218, 218, 191, 82,
+        69, 131, 96, 26, 7, 225, 221, 57, 141, 32, 16, 93,
+    ],
+    [
+        157, 189, 226, 82, 250, 196, 47, 86, 141, 124, 41, 21, 141, 163, 156, 131, 52, 12, 209, 62,
+        198, 57, 36, 91, 135, 57, 206, 186, 51, 203, 235, 168,
+    ],
+];
+
+/// The same on the second.
+const SECOND_SEALS: [[u8; 32]; 3] = [
+    [
+        28, 165, 172, 101, 240, 177, 234, 124, 58, 128, 56, 202, 207, 223, 152, 6, 27, 56, 98, 174,
+        29, 49, 95, 78, 102, 37, 131, 67, 26, 4, 81, 50,
+    ],
+    [
+        216, 96, 190, 2, 105, 203, 124, 57, 245, 24, 114, 95, 4, 197, 88, 162, 28, 140, 169, 129,
+        6, 1, 174, 192, 136, 228, 82, 33, 163, 208, 230, 22,
+    ],
+    [
+        86, 27, 240, 177, 54, 241, 82, 254, 41, 19, 197, 104, 180, 137, 10, 78, 23, 238, 28, 221,
+        123, 244, 229, 194, 122, 44, 200, 170, 191, 52, 67, 215,
+    ],
+];
+
+/// Adds the first checkpoint: of number 0, with one transaction.
+fn add_first(bytes: &mut Vec<u8>) -> Result<(), OutOfMemory> {
+    bytes.extend_from_slice([0; 48].as_slice())?;
+    bytes.push(1)?;
+    bytes.extend_from_slice([0x11; 32].as_slice())?;
+    bytes.extend_from_slice([0x22; 32].as_slice())?;
+    bytes.push(0)?;
+    Ok(())
+}
+
+/// Adds the second: of number 1, empty, and the last of its epoch.
+fn add_second(bytes: &mut Vec<u8>) -> Result<(), OutOfMemory> {
+    bytes.extend_from_slice([0, 0, 0, 0, 0, 0, 0, 0, 1, 0, 0, 0, 0, 0, 0, 0].as_slice())?;
+    bytes.extend_from_slice(FIRST.as_slice())?;
+    bytes.extend_from_slice([0, 1].as_slice())?;
+    Ok(())
+}
+
+/// Adds a list of so many seals, of members 0, 1 and so on.
+fn add_seals(bytes: &mut Vec<u8>, count: u8, seals: &[[u8; 32]]) -> Result<(), OutOfMemory> {
+    bytes.push(count)?;
+    let mut member = 0;
+    for seal in seals {
+        bytes.extend_from_slice([member, 0, 0, 0].as_slice())?;
+        bytes.extend_from_slice(seal.as_slice())?;
+        member = 1 + member % 2;
+    }
+    Ok(())
+}
+
+/// The chain, whose second link has so many of the seals.
+fn chain_bytes(alloc: Global, sealed: u8) -> Result<Vec<u8>, OutOfMemory> {
+    let mut bytes = Vec::new(alloc);
+    bytes.push(2)?;
+    add_first(&mut bytes)?;
+    add_seals(&mut bytes, 3, FIRST_SEALS.as_slice())?;
+    add_second(&mut bytes)?;
+    add_seals(
+        &mut bytes,
+        sealed,
+        SECOND_SEALS.get(..sealed as usize).unwrap_or_default(),
+    )?;
+    Ok(bytes)
+}
+
+fn sealer() -> KeyedSeal {
+    KeyedSeal::new([7; 32])
+}
+
+/// What a client says of the chain that trusts four members with a stake of 1 each.
+fn checks(alloc: Global, chain: &Chain) -> Result<(), ChainRefusal>
+    requires { codecs.chain.short chain.now }
+{
+    match Committee::new([1; 4].as_slice()) {
+        Ok(committee) => check_chain(alloc, chain, &committee, &sealer()),
+        Err(_) => Err(ChainRefusal::OutOfMemory),
+    }
+}
+
+#[test]
+fn a_chain_of_a_quorum_is_certified(rt: HostRuntime) -> Result<(), Fail> {
+    let alloc = rt.alloc();
+    let bytes = chain_bytes(alloc, 3)?;
+    let chain = decode_chain(alloc, bytes.as_slice())?;
+    assert_eq!(rt; checks(alloc, &chain), Ok(()));
+    let found = find(&chain, &Digest([0x11; 32]));
+    assert_eq!(rt; found, Some((0, Digest([0x22; 32]))));
+    Ok(())
+}
+
+#[test]
+fn two_of_four_are_no_quorum(rt: HostRuntime) -> Result<(), Fail> {
+    let alloc = rt.alloc();
+    let bytes = chain_bytes(alloc, 2)?;
+    let chain = decode_chain(alloc, bytes.as_slice())?;
+    let bad = ChainRefusal::Bad { place: 1, cause: 5 };
+    assert_eq!(rt; checks(alloc, &chain), Err(bad));
+    Ok(())
+}
+
+/// The spelling of the chain that members 0, 1 and 2 make of the checkpoints.
+#[tactic(auto, unfolding(crate::specs::Chains::checkpoints))]
+fn made(alloc: Global, bytes: &[u8]) -> Result<Seq<u8>, Fail> {
+    let checkpoints: Seq<Checkpoint> = decode(alloc, bytes)?;
+    let chain = make_chain(alloc, &checkpoints, [0, 1, 2].as_slice(), &sealer())?;
+    Ok(encode_chain(alloc, &chain)?)
+}
+
+#[test]
+fn members_seal_a_chain(rt: HostRuntime) -> Result<(), Fail> {
+    let alloc = rt.alloc();
+    let mut bytes = Vec::new(alloc);
+    bytes.push(2)?;
+    add_first(&mut bytes)?;
+    add_second(&mut bytes)?;
+    let spelled = made(alloc, bytes.as_slice())?;
+    let want = chain_bytes(alloc, 3)?;
+    assert_eq!(rt; spelled.as_slice(), want.as_slice());
+    Ok(())
+}
