@@ -1,6 +1,7 @@
 """Reads the manual: its examples, its forms and its tables; and the forms and lines that the program's sources have."""
 
 import glob
+import hashlib
 import os
 import re
 import subprocess
@@ -178,4 +179,61 @@ def reports():
     for path in sorted(glob.glob(f"{TOP}/conformance/*/*.report")):
         with open(path, encoding="utf-8", errors="replace") as it:
             found[os.path.relpath(path, f"{TOP}/conformance").removesuffix(".report")] = it.read()
+    return found
+
+
+def section(path, heading):
+    """What stands under a heading of a document."""
+    found = re.search(rf"(?ms)^#+ {re.escape(heading)}$(.*?)(?=^#|\Z)", read(path))
+    return found[1] if found else ""
+
+
+def table_bytes(path, heading):
+    """The bytes that the table of a chapter has in its column Bytes, one behind the other."""
+    column, found = None, ""
+    for line in section(path, heading).split("\n"):
+        cells = [it.strip() for it in line.strip("|").split("|")] if line.startswith("|") else []
+        if "Bytes" in cells:
+            column = cells.index("Bytes")
+        elif column is not None and len(cells) > column:
+            found += "".join(re.findall(r"`([0-9a-f]+)`", cells[column]))
+    return bytes.fromhex(found)
+
+
+def tagged(tag, text):
+    """The digest of bytes under a tag, in hexadecimal."""
+    return hashlib.sha256(bytes([tag]) + text).hexdigest()
+
+
+def worked_digests(path):
+    """The digests that a document of formats must name, by what they are of: made of the bytes in its own tables."""
+    tx, eight_zeros = table_bytes(path, "A transaction"), bytes(8)
+    return {
+        "the name `alice`": tagged(0x41, b"alice"),
+        "the name `bob`": tagged(0x41, b"bob"),
+        "number 0, the id of `g0`": tagged(0x47, eight_zeros),
+        "version 1 of `g0`": tagged(0x4F, table_bytes(path, "An object")),
+        "the transaction `t1`": tagged(0x54, tx),
+        "number 0 of `t1`, the id of `t1.0`": tagged(0x49, bytes.fromhex(tagged(0x54, tx)) + eight_zeros),
+        "the effects of `t1`": tagged(0x45, table_bytes(path, "Effects")),
+    }
+
+
+def slug(heading):
+    """The anchor of a heading, as it is made on the pages of a repository."""
+    return re.sub(r"[^a-z0-9 _-]", "", heading.lower()).replace(" ", "-")
+
+
+def broken_links(path):
+    """The links of a document to files or headings that are not there."""
+    found, text = [], re.sub(r"(?ms)^```.*?^```$", "", read(path))
+    for target in re.findall(r"\]\(([^)\s]+)\)", text):
+        file, _, anchor = target.partition("#")
+        at = os.path.normpath(f"{os.path.dirname(path)}/{file}") if file else path
+        if target.startswith("http"):
+            continue
+        if not os.path.exists(f"{TOP}/{at}"):
+            found.append(f"{path}: the link {target} leads nowhere")
+        elif anchor and anchor not in {slug(it) for it in re.findall(r"(?m)^#+ (.*)$", read(at))}:
+            found.append(f"{path}: the link {target} leads to no heading")
     return found
