@@ -82,14 +82,22 @@ def examples(path):
     return found
 
 
-def source_with(crate, declared):
-    """The text of the source file of a crate that has this declaration."""
-    for path in sorted(glob.glob(f"{TOP}/crates/{crate}/src/**/*.rt", recursive=True)):
+# What the sources declare by which the words of a schedule, the causes and the lines of a report are found, in whatever crate they stand.
+WORDS, CAUSES, LINES = "pub enum InputWord {", "pub enum Cause {", "pub enum VoteText {"
+
+
+def home_of(declared):
+    """The crate whose sources have this declaration, and the text of the file that has it."""
+    for path in sorted(glob.glob(f"{TOP}/crates/*/src/**/*.rt", recursive=True)):
         with open(path, encoding="utf-8") as it:
             text = it.read()
         if declared in text:
-            return text
-    raise SystemExit(f"no source of {crate} has {declared}")
+            return os.path.relpath(path, f"{TOP}/crates").split(os.sep)[0], text
+    raise SystemExit(f"no source has {declared}")
+
+
+def source_with(declared):
+    return home_of(declared)[1]
 
 
 def variants(text):
@@ -102,19 +110,19 @@ def variants(text):
 
 def forms():
     """The forms of the language: the code spans of the comments at the words of a schedule."""
-    comments = re.findall(r"(?m)^ *///(.*)$", source_with("schedule_text", "pub enum Event {"))
+    comments = re.findall(r"(?m)^ *///(.*)$", source_with(WORDS))
     return set(SPAN.findall("\n".join(comments)))
 
 
 def without_form():
     """Variants of the words whose comments have no code span, other than those whose form is a name alone."""
-    found = variants(source_with("schedule_text", "pub enum Event {"))
+    found = variants(source_with(WORDS))
     return [f"{enum}::{name}" for enum, all_of in found.items() for comment, name, _ in all_of if enum in ("Setup", "Event", "InputWord") and not SPAN.search(comment)]
 
 
-def literals(crate):
-    """The words that a crate's specifications spell out."""
-    found = set()
+def literals():
+    """The words of the language: those that the specifications of its crate spell out."""
+    found, crate = set(), home_of(WORDS)[0]
     for path in glob.glob(f"{TOP}/crates/{crate}/specs/**/*.antt", recursive=True):
         with open(path, encoding="utf-8") as it:
             found |= set(re.findall(r'codes "([^"]*)"', it.read()))
@@ -123,7 +131,7 @@ def literals(crate):
 
 def causes():
     """The numbers of the causes of a refusal."""
-    text = source_with("schedule_text", "pub enum Cause {")
+    text = source_with(CAUSES)
     return sorted(int(it) for it in re.findall(r"Cause::\w+ => (\d+)", text))
 
 
@@ -135,11 +143,11 @@ def forms_of(comment):
 
 def lines():
     """The forms of all lines of a report. Where two lines end in the same texts, the second one's form is its head and `..`."""
-    found, text, written = variants(source_with("report_text", "pub enum Line {")), [], set()
+    found, text, written = variants(source_with(LINES)), [], set()
     for comment, name, held in found["Line"]:
         heads, kind = forms_of(comment), re.search(r"text: (\w+)", held)
         if not heads:
-            raise SystemExit(f"the line {name} of report_text has no form in its comment")
+            raise SystemExit(f"the line {name} of a report has no form in its comment")
         if kind is None:
             text += heads
         elif kind[1] in written:

@@ -4,6 +4,7 @@ The proved program counts only while a note beside it says that it was made of t
 now. `note` writes that note, for those who have just proved and built it.
 """
 
+import functools
 import hashlib
 import os
 import re
@@ -60,6 +61,7 @@ def sources_sum(top=TOP):
     return total.hexdigest()
 
 
+@functools.lru_cache(maxsize=None)
 def kit():
     """The one line that names the kit, or none where there is no `rt`."""
     if not shutil.which("rt"):
