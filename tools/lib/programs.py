@@ -15,7 +15,7 @@ import tempfile
 TOP = os.path.dirname(os.path.dirname(os.path.dirname(os.path.abspath(__file__))))
 NAME = "committee"
 PARTS = ("src", "specs", "proofs", "c")
-SECONDS = 120
+SECONDS = 600
 
 
 def uses(top=TOP):
