@@ -1,0 +1,93 @@
+"""Reads a schedule and its report side by side: each event with the lines that it gave."""
+
+import re
+
+SETUP = ("member", "coin", "counter", "cap", "writers")
+# The words of an event whose second word is a member.
+OF_MEMBER = ("vote", "fvote", "send", "see", "run", "close", "end", "turn", "show", "stop", "restart", "raw", "ack")
+
+
+class Line:
+    """A line of a schedule that counts: its number, its text and its words, and what the report says of it."""
+
+    def __init__(self, number, text):
+        self.number, self.text, self.words, self.said = number, text, text.split(" "), []
+
+    word = property(lambda self: self.words[0])
+    is_setup = property(lambda self: self.word in SETUP)
+
+    @property
+    def member(self):
+        """The member that the event asks, or none."""
+        if self.word in OF_MEMBER and len(self.words) > 1 and self.words[1].isdigit():
+            return int(self.words[1])
+        return int(self.words[2]) if self.words[:2] == ["order", "end"] else None
+
+    @property
+    def tx(self):
+        """The name of the transaction that the event is about, or none."""
+        at = {"tx": 1, "cert": 1, "final": 1, "vote": 2, "fvote": 2, "send": 2, "ack": 2}.get(self.word)
+        if self.word == "order" and self.words[1] not in ("end", "commit"):
+            at = 1
+        return self.words[at] if at and len(self.words) > at else None
+
+    @property
+    def answer(self):
+        """What stands behind the head of the first line that it gave, or nothing."""
+        return self.said[0].partition(": ")[2] if self.said else ""
+
+
+def lines_of(text):
+    """The lines of a schedule that count."""
+    numbered = enumerate(text.decode("latin-1").split("\n"), 1)
+    return [Line(number, line) for number, line in numbered if line and not line.startswith("#")]
+
+
+def refusal(report):
+    """The line and the cause, where the report is a refusal."""
+    found = re.fullmatch(r"refused line (\d+) cause (\d+)\n?", report)
+    return (int(found[1]), int(found[2])) if found else None
+
+
+def is_of(event, line):
+    """Whether a line of the report is one more of a `see` event."""
+    return event.word == "see" and line.startswith(f"see {event.words[1]} entry ")
+
+
+def read(schedule, report):
+    """The set-up lines and the events of a schedule, each event with its lines of the report."""
+    found = lines_of(schedule)
+    setup, events = [it for it in found if it.is_setup], [it for it in found if not it.is_setup]
+    at = -1
+    for line in report.splitlines():
+        if not line.startswith("  ") and not (at >= 0 and is_of(events[at], line) and events[at].said):
+            at += 1
+        if 0 <= at < len(events):
+            events[at].said.append(line)
+    return setup, events
+
+
+def executions(event):
+    """What a run says of each transaction that it executed: name, `done`, `failed` or `aborted`, version, gas, and the line."""
+    found = []
+    for line in event.said[1:]:
+        done = re.fullmatch(r"  (\S+) (done|failed|aborted)\b.* v(\d+) gas (\d+)", line)
+        if done:
+            found.append((done[1], done[2], int(done[3]), int(done[4]), line.strip()))
+    return found
+
+
+def shown(event):
+    """What a show says of each object: name, version, owner and content."""
+    found = [re.fullmatch(r"  (\S+) v(\d+) (.*)", line) for line in event.said[1:]] if event.word == "show" else []
+    return [(it[1], int(it[2]), it[3]) for it in found if it]
+
+
+def references(line):
+    """The versions that a `tx` line names: how (gas, o, i, s or r), the object, the version."""
+    found = [("gas", *line.words[4].rstrip("!").split("@"))]
+    for word in line.words[6:]:
+        named = re.fullmatch(r"([oisr]):([\w.]+)@(\d+)!?", word)
+        if named:
+            found.append((named[1], named[2], named[3]))
+    return [(how, name, int(version)) for how, name, version in found]
