@@ -3,3 +3,4 @@ pub mod Certified
 pub mod Causes
 pub mod Found
 pub mod Making
+pub mod Blamed

@@ -11,12 +11,14 @@ mod check;
 mod finding;
 mod link;
 mod make;
+mod rivals;
 
 pub use chain::{Chain, ChainRefusal, Link};
 pub use chain_wire::{decode_chain, encode_chain};
 pub use check::check_chain;
 pub use finding::find;
 pub use make::make_chain;
+pub use rivals::{DoubleVote, blame};
 
 #[cfg(test)]
 mod tests;

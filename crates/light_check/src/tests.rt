@@ -2,8 +2,14 @@
 //! independent SHA-256 over spellings that were made by hand.
 
 ghost use Rattle.light_check.specs.Chains as codecs;
+ghost use Rattle.std.specs.Prelude.{IfOk};
+ghost use Rattle.chain_types.specs.Transactions.{transaction};
 
-use crate::{Chain, ChainRefusal, check_chain, decode_chain, encode_chain, find, make_chain};
+use crate::{
+    Chain, ChainRefusal, blame, check_chain, decode_chain, encode_chain, find, make_chain,
+};
+use chain_messages::{Certificate, MemberSeal};
+use chain_types::{Address, ObjectId, ObjectKey, ObjectRef, Transaction};
 use checkpoint_core::Checkpoint;
 use digest_core::Digest;
 use quorum_core::{Committee, KeyedSeal};
@@ -147,5 +153,89 @@ fn members_seal_a_chain(rt: HostRuntime) -> Result<(), Fail> {
     let spelled = made(alloc, bytes.as_slice())?;
     let want = chain_bytes(alloc, 3)?;
     assert_eq!(rt; spelled.as_slice(), want.as_slice());
+    Ok(())
+}
+
+/// The version of the coin of this number.
+fn coin(number: u8) -> ObjectKey {
+    ObjectKey {
+        id: ObjectId(Digest([number; 32])),
+        version: 1,
+    }
+}
+
+/// Seals of these members, in their order.
+fn seals(alloc: Global, members: &[u32]) -> Result<Seq<MemberSeal>, OutOfMemory> {
+    let mut seals = Seq::new(alloc);
+    for member in members {
+        seals.push(MemberSeal {
+            member: *member,
+            seal: Digest([0; 32]),
+        })?;
+    }
+    Ok(seals)
+}
+
+/// A certificate, with seals of these members, of a transaction that consumes the coin of this number alone.
+#[tactic(auto, unfolding(chain_types::specs::Transactions::transaction))]
+fn certified(
+    alloc: Global,
+    epoch: u64,
+    number: u8,
+    budget: u64,
+    members: &[u32],
+) -> Result<Certificate, OutOfMemory>
+    ensures { IfOk result (λ cert. transaction.short cert.tx) }
+{
+    let gas = ObjectRef {
+        id: coin(number).id,
+        version: 1,
+        digest: Digest([0; 32]),
+    };
+    let tx = Transaction {
+        epoch,
+        sender: Address(Digest([1; 32])),
+        gas,
+        budget,
+        inputs: Seq::new(alloc),
+        commands: Seq::new(alloc),
+    };
+    Ok(Certificate {
+        tx,
+        origins: Seq::new(alloc),
+        seals: seals(alloc, members)?,
+    })
+}
+
+/// Whether nobody is blamed for a transaction of epoch 0 over coin 7 and this one.
+fn blames_nobody(alloc: Global, epoch: u64, number: u8, budget: u64) -> Result<bool, OutOfMemory> {
+    let one = certified(alloc, 0, 7, 2000, [0, 1, 2].as_slice())?;
+    let other = certified(alloc, epoch, number, budget, [2, 1, 3].as_slice())?;
+    Ok(blame(alloc, &one, &other)?.is_none())
+}
+
+#[test]
+fn who_sealed_both_is_to_blame(rt: HostRuntime) -> Result<(), Fail> {
+    let alloc = rt.alloc();
+    let one = certified(alloc, 0, 7, 2000, [0, 1, 2].as_slice())?;
+    let other = certified(alloc, 0, 7, 3000, [2, 1, 3].as_slice())?;
+    let Some(found) = blame(alloc, &one, &other)? else {
+        return Err(Fail::new("somebody is to blame"));
+    };
+    assert_eq!(rt; found.key, coin(7));
+    assert_eq!(rt; found.members.as_slice(), [2, 1].as_slice());
+    Ok(())
+}
+
+#[test]
+fn no_two_votes_on_a_version_blame_nobody(rt: HostRuntime) -> Result<(), Fail> {
+    let alloc = rt.alloc();
+    let again = blames_nobody(alloc, 0, 7, 2000)?;
+    let of_another_coin = blames_nobody(alloc, 0, 8, 3000)?;
+    let an_epoch_later = blames_nobody(alloc, 1, 7, 3000)?;
+    assert_eq!(rt;
+        (again, of_another_coin, an_epoch_later),
+        (true, true, true)
+    );
     Ok(())
 }

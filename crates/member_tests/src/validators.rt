@@ -1,6 +1,8 @@
 //! A member that is a committee by itself, over a coin of alice's that she sends to bob. The digests and seals
 //! are those of an independent SHA-256 over spellings that were made by hand.
 
+ghost use Rattle.std.specs.Prelude.{◌≡◌, IfOk};
+
 use crate::scenario::{
     EFFECTS_DIGEST, SENT_DIGEST, TX_DIGEST, certified, coin, joined, signed, with_tx,
 };
@@ -15,7 +17,9 @@ use validator_core::Validator;
 use wire_bcs::{OutOfMemory, Seq};
 
 /// The member, from at most two records.
-fn started(alloc: Global, kept: &Seq<Seq<u8>>) -> Result<Validator, StartRefusal> {
+fn started(alloc: Global, kept: &Seq<Seq<u8>>) -> Result<Validator, StartRefusal>
+    ensures { IfOk result (λ member. member.member ≡ 0) }
+{
     if kept.len() > 2 {
         return Err(StartRefusal::OutOfMemory);
     }
@@ -30,7 +34,9 @@ fn started(alloc: Global, kept: &Seq<Seq<u8>>) -> Result<Validator, StartRefusal
 }
 
 /// The member, where it starts.
-fn member_of(alloc: Global, kept: &Seq<Seq<u8>>) -> Result<Validator, Fail> {
+fn member_of(alloc: Global, kept: &Seq<Seq<u8>>) -> Result<Validator, Fail>
+    ensures { IfOk result (λ member. member.member ≡ 0) }
+{
     match started(alloc, kept) {
         Ok(member) => Ok(member),
         Err(_) => Err(Fail::new("the member starts")),
@@ -38,8 +44,12 @@ fn member_of(alloc: Global, kept: &Seq<Seq<u8>>) -> Result<Validator, Fail> {
 }
 
 /// Whether the vote is fresh, where there is one.
-fn votes(member: &mut Validator, keeper: &mut MemKeeper, bytes: &[u8]) -> Option<bool> {
-    if member.member >= keeper.members() {
+#[tactic(auto, using(crate::proofs::Numbers::keeps_number))]
+fn votes(member: &mut Validator, keeper: &mut MemKeeper, bytes: &[u8]) -> Option<bool>
+    requires number { member.old.member ≡ 0 }
+    ensures number { member.new.member ≡ 0 }
+{
+    if keeper.members() == 0 {
         return None;
     }
     match member.vote(keeper, &KeyedSeal::new([9; 32]), bytes) {
@@ -49,16 +59,24 @@ fn votes(member: &mut Validator, keeper: &mut MemKeeper, bytes: &[u8]) -> Option
 }
 
 /// Whether the certificate is newly held, where it is held.
-fn holds(member: &mut Validator, keeper: &mut MemKeeper, bytes: &[u8]) -> Option<bool> {
-    if member.member >= keeper.members() {
+#[tactic(auto, using(crate::proofs::Numbers::keeps_number))]
+fn holds(member: &mut Validator, keeper: &mut MemKeeper, bytes: &[u8]) -> Option<bool>
+    requires number { member.old.member ≡ 0 }
+    ensures number { member.new.member ≡ 0 }
+{
+    if keeper.members() == 0 {
         return None;
     }
     member.hold(keeper, &KeyedSeal::new([9; 32]), bytes).ok()
 }
 
 /// How many transactions a run executes.
-fn runs(member: &mut Validator, keeper: &mut MemKeeper) -> Option<u64> {
-    if member.member >= keeper.members() {
+#[tactic(auto, using(crate::proofs::Numbers::keeps_number))]
+fn runs(member: &mut Validator, keeper: &mut MemKeeper) -> Option<u64>
+    requires number { member.old.member ≡ 0 }
+    ensures number { member.new.member ≡ 0 }
+{
+    if keeper.members() == 0 {
         return None;
     }
     match member.run(keeper) {
@@ -68,8 +86,12 @@ fn runs(member: &mut Validator, keeper: &mut MemKeeper) -> Option<u64> {
 }
 
 /// Whether the member closes its epoch, where it may be asked to.
-fn closes(member: &mut Validator, keeper: &mut MemKeeper) -> Option<bool> {
-    if member.member >= keeper.members() {
+#[tactic(auto, using(crate::proofs::Numbers::keeps_number))]
+fn closes(member: &mut Validator, keeper: &mut MemKeeper) -> Option<bool>
+    requires number { member.old.member ≡ 0 }
+    ensures number { member.new.member ≡ 0 }
+{
+    if keeper.members() == 0 {
         return None;
     }
     member.close(keeper).ok()
@@ -138,7 +160,9 @@ fn vote_and_close(alloc: Global) -> Result<Seq<Seq<u8>>, OutOfMemory> {
 }
 
 /// A member that voted and closed.
-fn behind_close(alloc: Global) -> Result<Validator, Fail> {
+fn behind_close(alloc: Global) -> Result<Validator, Fail>
+    ensures { IfOk result (λ member. member.member ≡ 0) }
+{
     let kept = vote_and_close(alloc)?;
     member_of(alloc, &kept)
 }

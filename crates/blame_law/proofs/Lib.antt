@@ -1,0 +1,3 @@
+pub mod Blaming
+pub mod Sound
+pub mod Heavy
