@@ -1,0 +1,12 @@
+pub mod Appending
+pub mod Changes
+pub mod Counting
+pub mod Gates
+pub mod Heads
+pub mod Listing
+pub mod Mending
+pub mod Moments
+pub mod Opening
+pub mod Reading
+pub mod Recording
+pub mod Walking

@@ -1,0 +1,147 @@
+-- A disk, moment by moment, and what a crash may leave. Source: this profile.
+use Rattle.std.specs.Prelude.{◌≡◌, ℕ, ◌+◌, ◌<◌, ◌≤◌, max, List, [], ◌∷◌, ◌++◌, ◌⊎◌, length, take, drop, slice_index, Option, Some, None, Result, Ok, MatchResult}
+use Rattle.disk_log.specs.declared.moment.Span.{Span}
+use Rattle.disk_log.specs.declared.moment.Moment.{Moment}
+use Rattle.outside.specs.declared.faults.OutFault.{OutFault}
+use Rattle.outside.specs.declared.faults.OutFault.TheVariants as fault
+use Rattle.outside.specs.declared.faults.Failed.{Failed as Fault}
+
+-- ---- one moment
+
+-- the place lies in none of the ranges
+abbrev pub IsOutside : List Span → ℕ → Type 0
+IsOutside [] k = Unit {0}
+IsOutside (span ∷ spans) k = ((k < span.at) ⊎ (span.at + span.count ≤ k)) × IsOutside spans k
+
+-- what a crash at this moment may leave: any bytes, of a length from the stable size to the greatest size
+-- since, that outside the ranges are the stable ones
+pub record IsImage (m : Moment) (image : List ℕ) : Type 0 where
+  pub no_shorter : length m.stable ≤ length image
+  pub no_longer : length image ≤ m.most
+  pub kept : (k : ℕ) → k < length m.stable → IsOutside m.ranges k → slice_index image k ≡ slice_index m.stable k
+
+-- these bytes, all of them stable
+pub record IsSettled (m : Moment) (bytes : List ℕ) : Type 0 where
+  pub reads : m.reads ≡ bytes
+  pub stable : m.stable ≡ bytes
+  pub most : m.most ≡ length bytes
+  pub ranges : m.ranges ≡ []
+
+-- other bytes in a range, and past the old end; the same elsewhere
+pub record IsTorn (at count : ℕ) (old new : List ℕ) : Type 0 where
+  pub no_shorter : length old ≤ length new
+  pub no_longer : length new ≤ max (length old) (at + count)
+  pub kept : (k : ℕ) → k < length old → (k < at) ⊎ (at + count ≤ k) → slice_index new k ≡ slice_index old k
+
+-- the bytes with these at a place
+abbrev pub with_bytes : List ℕ → ℕ → List ℕ → List ℕ
+with_bytes old at bytes = take at old ++ bytes ++ drop (at + length bytes) old
+
+-- behind a write or a try of so many bytes at a place
+pub record IsTouched (old new : Moment) (at count : ℕ) : Type 0 where
+  pub stable : new.stable ≡ old.stable
+  pub most : new.most ≡ max old.most (at + count)
+  pub ranges : new.ranges ≡ old.ranges ++ record { at = at; count = count } ∷ []
+
+-- ---- all moments
+
+-- the moments so far: those behind, the first of them first, and the one that is now
+pub record History : Type 0 where
+  pub past : List Moment
+  pub now : Moment
+
+abbrev pub moments : History → List Moment
+moments h = h.past ++ h.now ∷ []
+
+-- one moment more
+abbrev pub later : History → Moment → History
+later h m = record { past = h.past ++ h.now ∷ []; now = m }
+
+-- at each of these moments a crash leaves only files that have P
+abbrev pub EachImage : (List ℕ → Type 0) → List Moment → Type 0
+EachImage P [] = Unit {0}
+EachImage P (m ∷ ms) = ((image : List ℕ) → IsImage m image → P image) × EachImage P ms
+
+-- at each moment from the old one on, itself with them, a crash leaves only files that have P; the moments
+-- before it are as they were
+pub record LeavesOnly (P : List ℕ → Type 0) (old new : History) : Type 0 where
+  pub more : List Moment
+  pub is : moments new ≡ moments old ++ more
+  pub each : EachImage P (old.now ∷ more)
+
+-- what holds of the moments, where they are told
+abbrev pub IfTold : Option History → (History → Type 0) → Type 0
+IfTold None P = Unit {0}
+IfTold (Some h) P = P h
+
+-- what reads give is stable
+abbrev pub IsQuiet : History → Type 0
+IsQuiet h = IsSettled h.now h.now.reads
+
+-- ---- what the calls of a disk do to told moments
+
+-- one moment more, in which what reads give has these bytes at their place
+abbrev pub Wrote : History → Option History → ℕ → List ℕ → Type 0
+Wrote old new at bytes =
+    (m : Moment) × (new ≡ Some (later old m)) × IsTouched old.now m at (length bytes) × (m.reads ≡ with_bytes old.now.reads at bytes)
+
+-- one moment more, in which what reads give may have changed in the range
+abbrev pub Tried : History → Option History → ℕ → ℕ → Type 0
+Tried old new at count =
+    (m : Moment) × (new ≡ Some (later old m)) × IsTouched old.now m at count × IsTorn at count old.now.reads m.reads
+
+-- what a write does: at Ok the bytes are written, after a fault they were tried, and where memory was refused
+-- nothing changed. A disk that tells no moments never does
+abbrev pub Written : Option History → Option History → ℕ → List ℕ → Result (Unit {0}) OutFault → Type 0
+Written None new at bytes result = new ≡ None
+Written (Some old) new at bytes result = MatchResult result (λ _. Wrote old new at bytes) (after_fault old new at bytes)
+  where
+    after_fault : History → Option History → ℕ → List ℕ → OutFault → Type 0
+    after_fault old new at bytes fault.Failed = Tried old new at (length bytes)
+    after_fault old new at bytes fault.OutOfMemory = new ≡ Some old
+
+-- what reads give is stable, in one moment more, or it was already
+abbrev pub Settles : History → Option History → Type 0
+Settles old new =
+    ((m : Moment) × (new ≡ Some (later old m)) × IsSettled m old.now.reads) ⊎ ((new ≡ Some old) × IsSettled old.now old.now.reads)
+
+-- what a sync does: at Ok what reads give is stable, after a fault nothing changed
+abbrev pub Synced : Option History → Option History → Result (Unit {0}) Fault → Type 0
+Synced None new result = new ≡ None
+Synced (Some old) new result = MatchResult result (λ _. Settles old new) (λ _. new ≡ Some old)
+
+-- what a read gives
+abbrev pub IsGiven : Option History → ℕ → List ℕ → Type 0
+IsGiven None at bytes = Unit {0}
+IsGiven (Some h) at bytes = bytes ≡ take (length bytes) (drop at h.now.reads)
+
+-- the size is that of the told bytes
+abbrev pub HasExtent : Option History → ℕ → Type 0
+HasExtent None extent = Unit {0}
+HasExtent (Some h) extent = length h.now.reads ≡ extent
+
+-- a write up to this end makes the file as long, if it was not; a failed one as long at most
+abbrev pub GrowsTo : ℕ → ℕ → ℕ → Result (Unit {0}) OutFault → Type 0
+GrowsTo old new end result = MatchResult result (λ _. new ≡ max old end) (after_fault old new end)
+  where
+    after_fault : ℕ → ℕ → ℕ → OutFault → Type 0
+    after_fault old new end fault.Failed = (old ≤ new) × (new ≤ max old end)
+    after_fault old new end fault.OutOfMemory = new ≡ old
+
+-- ---- a write and a sync behind it, on a disk whose bytes are stable
+
+-- what a put that failed leaves
+abbrev pub after_put : History → History → ℕ → ℕ → OutFault → Type 0
+after_put old new at count fault.Failed = IsTorn at count old.now.reads new.now.reads
+after_put old new at count fault.OutOfMemory = new ≡ old
+
+-- until the end of the call a crash leaves any bytes in the range and the old ones elsewhere; at Ok the bytes are
+-- stable, and where memory was refused nothing changed
+pub record IsPut (old new : History) (at : ℕ) (bytes : List ℕ) (result : Result (Unit {0}) OutFault) : Type 0 where
+  pub torn : LeavesOnly (IsTorn at (length bytes) old.now.reads) old new
+  pub ended : MatchResult result (λ _. IsSettled new.now (with_bytes old.now.reads at bytes)) (after_put old new at (length bytes))
+
+-- the same, where the moments are told
+abbrev pub Put : Option History → Option History → ℕ → List ℕ → Result (Unit {0}) OutFault → Type 0
+Put None new at bytes result = new ≡ None
+Put (Some old) new at bytes result = (h : History) × (new ≡ Some h) × IsPut old h at bytes result
