@@ -66,8 +66,15 @@ fn found(alloc: Global, contents: &[u8]) -> Result<(u64, u64), OutOfMemory> {
     let disk = MemDisk::new(alloc, contents, &[])?;
     match DiskLog::open(alloc, disk, 2) {
         Ok(log) => Ok(counts(log)),
-        Err((_disk, OpenRefusal::BadMember { at })) => Ok((100, at)),
-        Err((_disk, _refusal)) => Ok((200, 0)),
+        Err((_disk, refusal)) => Ok(refused(refusal)),
+    }
+}
+
+/// The numbers for an opening that was refused.
+fn refused(refusal: OpenRefusal) -> (u64, u64) {
+    match refusal {
+        OpenRefusal::BadMember { at } => (100, at),
+        _ => (200, 0),
     }
 }
 
@@ -108,7 +115,7 @@ fn a_sync_that_fails(rt: HostRuntime) -> Result<(), Fail> {
     // The opening of an empty file makes three calls, so the fifth is the first sync of the append.
     let left = left_by(rt.alloc(), &[], [5].as_slice(), [7, 8].as_slice())?;
     assert_eq!(rt; left.answer, 4);
-    assert_eq!(rt; left.bytes.as_slice()[0], 0);
+    assert_eq!(rt; left.bytes.as_slice().first().copied(), Some(0));
     assert_eq!(rt; found(rt.alloc(), left.bytes.as_slice())?, (0, 0));
     Ok(())
 }
