@@ -5,7 +5,7 @@ use Rattle.protocol_spec.specs.Chain.Certificates.{Rules}
 use Rattle.journal_core.specs.declared.records.Record.{Record}
 use Rattle.journal_core.specs.Records as journals
 use Rattle.protocol_spec.specs.Member.Calls.{Call}
-use Rattle.scene_spec.specs.RulesFor.{rules_for}
+use Rattle.scene_spec.specs.Terms.{rules_for}
 use Rattle.report_text.specs.declared.lines.Line.{Line}
 use Rattle.report_text.specs.declared.lines.Line.TheVariants as line
 use Rattle.report_text.specs.declared.lines.RestartText.TheVariants as restart_text
@@ -69,7 +69,7 @@ seats-length trust s w sc shows = ap (λ (x : Scene). length x.posts) shows.scen
 
 -- the rules and the opening objects of a scene are those of the setting
 pub rules-shown : (trust : Trust) (s : Setting) (w : World) (sc : Scene) → Shows trust s w sc → rules_in trust.accepts sc ≡ s.rules
-rules-shown trust s w sc shows = ap (λ (x : Scene). rules_for x.stakes trust.accepts) shows.scene ∙ sym shows.rules
+rules-shown trust s w sc shows = ap (λ (x : Scene). rules_for x.terms trust.accepts) shows.scene ∙ sym shows.rules
 
 pub started-shown : (trust : Trust) (s : Setting) (w : World) (sc : Scene) (kept : List (List ℕ)) → Shows trust s w sc
     → started (rules_in trust.accepts sc) sc.opening kept ≡ started s.rules s.opening kept

@@ -11,6 +11,7 @@ use Rattle.quorum_core.specs.Committee.{committee_of}
 use Rattle.schedule_text.specs.declared.words.Setup.{Setup}
 use Rattle.schedule_text.specs.declared.words.Setup.TheVariants as setup
 use Rattle.world_spec.specs.Setting.{Trust, honest_of, setting_of, stakes_of}
+use Rattle.scene_spec.specs.Terms.{Terms}
 use Rattle.scene_spec.specs.Posts.{new_posts}
 use Rattle.scene_spec.specs.Scene.{Scene, new_scene}
 use Rattle.committee_core.specs.Journals.{AreAtLeast, AreEmpty}
@@ -25,9 +26,9 @@ few-members : (stakes : List ℕ) → committee_of stakes ≡ Ok stakes → leng
 unfolding committee_of
 few-members stakes h = few-where (length stakes) (length stakes == 0) (nat_lt 64 (length stakes)) _ stakes refl h
 
-posts-of : (stakes : List ℕ) (opening : List Object) (m : ℕ) (flags : List Bool) → length (new_posts stakes opening m flags) ≡ length flags
-posts-of stakes opening m [] = refl
-posts-of stakes opening m (honest ∷ flags) = ap suc (posts-of stakes opening (suc m) flags)
+posts-of : (terms : Terms) (opening : List Object) (m : ℕ) (flags : List Bool) → length (new_posts terms opening m flags) ≡ length flags
+posts-of terms opening m [] = refl
+posts-of terms opening m (honest ∷ flags) = ap suc (posts-of terms opening (suc m) flags)
 
 as-many : (lines : List Setup) → length (honest_of lines) ≡ length (stakes_of lines)
 as-many [] = refl

@@ -91,7 +91,7 @@ steps-length trust sc (event.Ack m tx spoiled) = refl
 steps-length trust sc (event.Final tx members) = refl
 
 back-length : (accepts : Accepting) (told : Option Journals) (m : ℕ) (sc now : Scene) (p : Option Post) (given : List Line) → RestartsAs accepts told m sc now p (Ok given) → length now.posts ≡ length sc.posts
-back-length accepts told m sc now (Some p) given back = ap (λ (x : Scene). length x.posts) back.scene ∙ changed-length sc.posts m (starting sc.stakes m back.state) (slice_get sc.posts m)
+back-length accepts told m sc now (Some p) given back = ap (λ (x : Scene). length x.posts) back.scene ∙ changed-length sc.posts m (starting sc.terms m back.state) (slice_get sc.posts m)
 back-length accepts told m sc now None given back = ap (λ (x : Scene). length x.posts) back.scene
 
 stay-as : (trust : Trust) (e : Event) (sc now : Scene) (told told' : Option Journals) (given : List Line) (restarts : Bool) → is_restart e ≡ restarts → IsTaken trust e sc now told told' given → length now.posts ≡ length sc.posts

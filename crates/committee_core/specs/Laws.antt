@@ -25,7 +25,7 @@ pub record SceneLaws (trust : Trust) : Type 0 where
   pub first : (lines : List Setup) → Each (IsTrueOf is_plain_setup) lines → Shows trust (setting_of trust lines) (new_world (setting_of trust lines)) (new_scene (setting_of trust lines) lines)
   pub steps : (s : Setting) (w : World) (sc : Scene) (e : Event) → Shows trust s w sc → is_plain e ≡ true → is_restart e ≡ false → Shows trust s (happens s w e) (steps_to trust sc e)
   pub lines : (s : Setting) (w : World) (sc : Scene) (e : Event) → Shows trust s w sc → is_plain e ≡ true → is_restart e ≡ false → lines_of s w e ≡ lines_in trust sc e
-  pub restart : (s : Setting) (w : World) (sc : Scene) (m : ℕ) (state : Member) → Shows trust s w sc → Restarts s w → m < length w.seats → started s.rules s.opening (journal_in w m) ≡ Ok state → Shows trust s (happens s w (event.Restart m)) (record sc { posts = started_at sc.stakes sc.posts m state })
+  pub restart : (s : Setting) (w : World) (sc : Scene) (m : ℕ) (state : Member) → Shows trust s w sc → Restarts s w → m < length w.seats → started s.rules s.opening (journal_in w m) ≡ Ok state → Shows trust s (happens s w (event.Restart m)) (record sc { posts = started_at sc.terms sc.posts m state })
   pub restarted : (s : Setting) (w : World) (m : ℕ) → lines_of s w (event.Restart m) ≡ line.Restart m (restart_text.Records (length (journal_in w m))) ∷ []
   -- told lists follow the journals
   pub called : (s : Setting) (w : World) (sc : Scene) (e : Event) (m : ℕ) (call : Call) (before now : Option Journals) → Shows trust s w sc → is_plain e ≡ true → call_of sc e ≡ Some (m, call) → HasRoom before w → Tells before w → AddsLeft before now m (record_left (reached_in (rules_in trust.accepts sc) sc.posts m call)) → Tells now (happens s w e)

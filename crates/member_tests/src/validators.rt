@@ -30,7 +30,7 @@ fn started(alloc: Global, kept: &Seq<Seq<u8>>) -> Result<Validator, StartRefusal
         return Err(StartRefusal::OutOfMemory);
     };
     let sealer = KeyedSeal::new([9; 32]);
-    Validator::start(alloc, 0, &committee, &opening, kept, &sealer)
+    Validator::start(alloc, 0, &committee, &opening, None, kept, &sealer)
 }
 
 /// The member, where it starts.

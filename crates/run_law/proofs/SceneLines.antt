@@ -24,7 +24,7 @@ use Rattle.world_spec.specs.Names.{cert_named, made_named}
 use Rattle.world_spec.specs.Step.{Collected, fvote_origins}
 use Rattle.world_spec.specs.Report.{cert_collected, cert_lines, fvote_lines, hold_reached, hold_said, is_seat_up, lines_of, origin_name, origin_names, record_count, run_reached, send_said, show_up, vote_lines, vote_reached, vote_said}
 use Rattle.scene_spec.proofs.LineWorlds.{vote_same, hold_same, run_same, shown_same}
-use Rattle.scene_spec.specs.RulesFor.{rules_for}
+use Rattle.scene_spec.specs.Terms.{rules_for, terms_of}
 use Rattle.scene_spec.specs.Posts.{Post, reached_in, seat_at}
 use Rattle.scene_spec.specs.Scene.{Scene, bare_setting, bare_world, rules_in}
 use Rattle.scene_spec.specs.Steps.{hold_text_in, lines_in, send_text_in, show_in, standing_at, vote_lines_in, vote_text_in}
@@ -32,7 +32,7 @@ use Rattle.scene_spec.specs.Worlds.{Shows, is_plain, is_restart, journal_in, pos
 use Rattle.run_law.proofs.ScenePosts.{place, posts-get, reached-same}
 use Rattle.run_law.proofs.SceneSteps.{origins-same, collected-same}
 
-module _ (trust : Trust) (s : Setting) (rules : s.rules ≡ rules_for s.rules.stakes trust.accepts) (seal : s.seal ≡ trust.seal) (w : World) where
+module _ (trust : Trust) (s : Setting) (rules : s.rules ≡ rules_for (terms_of s.rules) trust.accepts) (seal : s.seal ≡ trust.seal) (w : World) where
   abbrev bare_s : Setting
   bare_s = bare_setting trust (scene_of s w)
 
@@ -107,7 +107,7 @@ module _ (trust : Trust) (s : Setting) (rules : s.rules ≡ rules_for s.rules.st
   run-said m = run-lines m (reached s w m runs) ∙ ap (λ (r : Reached). run_reached bare_s bare_w m r) (reached-here m runs)
 
   show-where : (m k : ℕ) (seat : worlds.Seat) (up : Bool)
-      → show_up s w m up (state_of s seat) ≡ show_in trust (scene_of s w) m (cond up (Some (seat_at s.rules.stakes k (member_in s seat))) None)
+      → show_up s w m up (state_of s seat) ≡ show_in trust (scene_of s w) m (cond up (Some (seat_at (terms_of s.rules) k (member_in s seat))) None)
   show-where m k seat true =
       let n = member_in s seat in
       shown_same s w m n.epoch (live_objects n) ∙ sym (shown_same bare_s bare_w m n.epoch (live_objects n))

@@ -10,6 +10,7 @@ use Rattle.world_spec.specs.World.{Said, World, Reached, finds_down, stops, answ
 use Rattle.world_spec.specs.Step.{on_seat}
 use Rattle.safety_law.proofs.Apart.{state-push}
 use Rattle.safety_law.proofs.InWorld.{answered-due}
+use Rattle.scene_spec.specs.Terms.{terms_of}
 use Rattle.scene_spec.specs.Seats.{Seat}
 use Rattle.scene_spec.specs.Posts.{Post, changed_at, post_behind, posts_behind, posts_with, reached_in, reached_post, reached_standing, seat_at, seat_behind, stated_in}
 use Rattle.scene_spec.specs.Scene.{Scene}
@@ -52,7 +53,7 @@ posts-set s k (x ∷ xs) (suc m) seat = ap (λ (ps : List Post). post_of s k x �
 
 module _ (s : Setting) where
   reached-standing : (call : Call) (k : ℕ) (seat : worlds.Seat) (up : Bool)
-      → reached_standing s.rules call seat.armed (cond up (Some (seat_at s.rules.stakes k (member_in s seat))) None)
+      → reached_standing s.rules call seat.armed (cond up (Some (seat_at (terms_of s.rules) k (member_in s seat))) None)
       ≡ cond up (reached_up (member_in s seat) seat.armed (due s.rules (member_in s seat) call)) finds_down
   reached-standing call k seat true = refl
   reached-standing call k seat false = refl
@@ -81,12 +82,12 @@ module _ (s : Setting) where
   after-appended records (Some x) = sym (state-push s.rules s.opening records x)
 
   standing-behind : (call : Call) (k : ℕ) (seat : worlds.Seat) (x : Option Record) (up : Bool) → due s.rules (member_in s seat) call ≡ x
-      → option_map (seat_behind s.rules call) (cond up (Some (seat_at s.rules.stakes k (member_in s seat))) None)
-      ≡ cond up (Some (seat_at s.rules.stakes k (state s.rules s.opening (appended seat.records x)))) None
+      → option_map (seat_behind s.rules call) (cond up (Some (seat_at (terms_of s.rules) k (member_in s seat))) None)
+      ≡ cond up (Some (seat_at (terms_of s.rules) k (state s.rules s.opening (appended seat.records x)))) None
   standing-behind call k seat x false d = refl
   standing-behind call k seat x true d =
-      ap (λ (y : Option Record). Some (seat_at s.rules.stakes k (after_due s.rules (member_in s seat) y))) d
-      ∙ ap (λ (m : Member). Some (seat_at s.rules.stakes k m)) (after-appended seat.records x)
+      ap (λ (y : Option Record). Some (seat_at (terms_of s.rules) k (after_due s.rules (member_in s seat) y))) d
+      ∙ ap (λ (m : Member). Some (seat_at (terms_of s.rules) k m)) (after-appended seat.records x)
 
   post-left : (call : Call) (k : ℕ) (seat : worlds.Seat) (r : Reached) → reached_seat s call seat ≡ r → post_behind s.rules call (post_of s k seat) r ≡ post_of s k (left_by seat r)
   post-left call k seat finds_down e = refl

@@ -16,7 +16,7 @@ use Rattle.world_spec.specs.Names.{cert_named, made_named}
 use Rattle.world_spec.specs.Making.{made_by_line}
 use Rattle.world_spec.specs.Step.{Collected, lacks, short, differ, whole, acked, appended_entry, armed_seat, end_in, entries_left, formed, formed_as, fvoted, happens, has_ended, honest_end, last_said, on_seat, ordered, ordered_end, risen_if, sealed_end, sent, started_seat, voted_on, votes_collected}
 use Rattle.world_spec.specs.Run.{records_of}
-use Rattle.scene_spec.specs.RulesFor.{rules_for}
+use Rattle.scene_spec.specs.Terms.{rules_for, terms_of}
 use Rattle.scene_spec.specs.Posts.{AddsLeft, MayAddLeft, reached_in, record_left}
 use Rattle.scene_spec.specs.Scene.{Scene, rules_in}
 use Rattle.scene_spec.specs.Steps.{call_of, call_on, held_call, signed_call}
@@ -117,7 +117,7 @@ line-call s w (event.Ack n tx spoiled) m call plain e = absurd (cc)
 line-call s w (event.Final tx members) m call plain e = absurd (cc)
 
 -- what a line's call leaves in the scene is what it leaves in the world
-left-same : (trust : Trust) (s : Setting) (w : World) (m : ℕ) (call : Call) → s.rules ≡ rules_for s.rules.stakes trust.accepts
+left-same : (trust : Trust) (s : Setting) (w : World) (m : ℕ) (call : Call) → s.rules ≡ rules_for (terms_of s.rules) trust.accepts
     → record_left (reached_in (rules_in trust.accepts (scene_of s w)) (posts_from s 0 w.seats) m call) ≡ record_left (reached s w m call)
 left-same trust s w m call rules =
     ap (λ (r : Rules). record_left (reached_in r (posts_from s 0 w.seats) m call)) (sym rules)

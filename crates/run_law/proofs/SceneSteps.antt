@@ -19,7 +19,7 @@ use Rattle.protocol_spec.specs.Chain.Words.{Each, first_some, first_of}
 use Rattle.protocol_spec.specs.Chain.Certificates.{Rules}
 use Rattle.protocol_spec.specs.Member.Member.{Member, state}
 use Rattle.protocol_spec.specs.Member.Calls.{Call, runs, votes, holds}
-use Rattle.world_spec.specs.Setting.{Name, Trust, Setting, setting_of, writers_of}
+use Rattle.world_spec.specs.Setting.{Name, Trust, Setting, setting_of}
 use Rattle.world_spec.specs.World as worlds
 use Rattle.world_spec.specs.World.{Made, World, called_in, honest_seat, is_honest, member_in, new_seat, new_world, says_first}
 use Rattle.world_spec.specs.Names.{made_named, cert_named}
@@ -29,7 +29,7 @@ use Rattle.world_spec.specs.Run.{records_of}
 use Rattle.scene_spec.specs.Known.{names_of, with_line}
 use Rattle.scene_spec.specs.MadeLines.{line_made}
 use Rattle.scene_spec.proofs.MadeWorlds.{line_same}
-use Rattle.scene_spec.specs.RulesFor.{rules_for}
+use Rattle.scene_spec.specs.Terms.{rules_for, terms_of}
 use Rattle.answer_types.specs.declared.refusals.StartRefusal.{StartRefusal}
 use Rattle.scene_spec.specs.Starts.{started}
 use Rattle.scene_spec.specs.Posts.{Post, arming, new_posts, seat_at, started_at, starting}
@@ -40,15 +40,7 @@ use Rattle.run_law.proofs.ScenePosts.{place-first, called-same, called-open, cha
 
 -- ---- the first scene
 
-no-writers : (lines : List Setup) → Each (IsTrueOf is_plain_setup) lines → writers_of lines ≡ None
-no-writers [] plain = refl
-no-writers (setup.Member stake honest ∷ lines) plain = no-writers lines plain.1
-no-writers (setup.Coin name who balance ∷ lines) plain = no-writers lines plain.1
-no-writers (setup.Counter name value ∷ lines) plain = no-writers lines plain.1
-no-writers (setup.Cap name who currency ∷ lines) plain = no-writers lines plain.1
-no-writers (setup.Writers n ∷ lines) plain = let e = plain.0 in absurd (cc)
-
-fresh-posts : (s : Setting) (k : ℕ) (honest : List Bool) → new_posts s.rules.stakes s.opening k honest ≡ posts_from s k (map new_seat honest)
+fresh-posts : (s : Setting) (k : ℕ) (honest : List Bool) → new_posts (terms_of s.rules) s.opening k honest ≡ posts_from s k (map new_seat honest)
 unfolding state
 fresh-posts s k [] = refl
 fresh-posts s k (h ∷ honest) = ap (λ (ps : List Post). post_of s k (new_seat h) ∷ ps) (fresh-posts s (suc k) honest)
@@ -58,7 +50,7 @@ unfolding setting_of new_world
 first-shown trust lines plain =
     let s = setting_of trust lines in
     record {
-      rules = ap (λ (n : Option ℕ). record { stakes = s.rules.stakes; writers = n; accepts = trust.accepts }) (no-writers lines plain);
+      rules = refl;
       seal = refl;
       epoch = refl;
       sequences = refl;
@@ -78,7 +70,7 @@ posts-shown trust s w sc shows = ap (λ (x : Scene). length x.posts) shows.scene
 module _ (s : Setting) where
   held-one : (key : ObjectKey) (k : ℕ) (seat : worlds.Seat) (honest up : Bool)
       → cond (honest && up) (held_digest key (member_in s seat)) None
-      ≡ cond honest (held_by key (cond up (Some (seat_at s.rules.stakes k (member_in s seat))) None)) None
+      ≡ cond honest (held_by key (cond up (Some (seat_at (terms_of s.rules) k (member_in s seat))) None)) None
   held-one key k seat true true = refl
   held-one key k seat true false = refl
   held-one key k seat false true = refl
@@ -225,7 +217,7 @@ module _ (s : Setting) where
   open-step w (event.Ack m tx spoiled) plain = absurd (cc)
   open-step w (event.Final tx members) plain = absurd (cc)
 
-  module _ (trust : Trust) (rules : s.rules ≡ rules_for s.rules.stakes trust.accepts) (seal : s.seal ≡ trust.seal) (w : World) where
+  module _ (trust : Trust) (rules : s.rules ≡ rules_for (terms_of s.rules) trust.accepts) (seal : s.seal ≡ trust.seal) (w : World) where
     abbrev CalledBy : Option (ℕ × Call) → World → Type 0
     CalledBy call next = scene_of s next ≡ called_by s.rules (scene_of s w) call
 
@@ -275,17 +267,17 @@ said-state : (m n : Member) → ok_state m ≡ ok_state n → m ≡ n
 said-state m n e = cc
 
 restart-same : (s : Setting) (w : World) (m : ℕ) (state : Member) → Restarts s w → started s.rules s.opening (journal_in w m) ≡ Ok state
-    → scene_of s (happens s w (event.Restart m)) ≡ record (scene_of s w) { posts = started_at s.rules.stakes (posts_from s 0 w.seats) m state }
+    → scene_of s (happens s w (event.Restart m)) ≡ record (scene_of s w) { posts = started_at (terms_of s.rules) (posts_from s 0 w.seats) m state }
 unfolding happens
 restart-same s w m state restarts starts =
-    changed-same s w m started_seat (starting s.rules.stakes m state) (λ seat at.
+    changed-same s w m started_seat (starting (terms_of s.rules) m state) (λ seat at.
     let from : started s.rules s.opening (spelled seat.records) ≡ Ok state = subst (λ (x : Option worlds.Seat). started s.rules s.opening (spelled (records_of x)) ≡ Ok state) at starts in
     let is : state ≡ member_in s seat = said-state state (member_in s seat) (sym from ∙ restarts.starts m seat at) in
-    ap (λ (x : Member). record { honest = seat.honest; standing = Some (seat_at s.rules.stakes m x); armed = None }) is
-    ∙ ap (λ (k : ℕ). record { honest = seat.honest; standing = Some (seat_at s.rules.stakes k (member_in s seat)); armed = None }) (sym (place-first m)))
+    ap (λ (x : Member). record { honest = seat.honest; standing = Some (seat_at (terms_of s.rules) m x); armed = None }) is
+    ∙ ap (λ (k : ℕ). record { honest = seat.honest; standing = Some (seat_at (terms_of s.rules) k (member_in s seat)); armed = None }) (sym (place-first m)))
 
 pub restart-shown : (trust : Trust) (s : Setting) (w : World) (sc : Scene) (m : ℕ) (state : Member) → Shows trust s w sc → Restarts s w → m < length w.seats → started s.rules s.opening (journal_in w m) ≡ Ok state
-    → Shows trust s (happens s w (event.Restart m)) (record sc { posts = started_at sc.stakes sc.posts m state })
+    → Shows trust s (happens s w (event.Restart m)) (record sc { posts = started_at sc.terms sc.posts m state })
 restart-shown trust s w sc m state shows restarts lt starts =
-    shown-in trust s w sc (event.Restart m) (record sc { posts = started_at sc.stakes sc.posts m state }) shows refl
-    (ap (λ (x : Scene). record x { posts = started_at x.stakes x.posts m state }) shows.scene ∙ sym (restart-same s w m state restarts starts))
+    shown-in trust s w sc (event.Restart m) (record sc { posts = started_at sc.terms sc.posts m state }) shows refl
+    (ap (λ (x : Scene). record x { posts = started_at x.terms x.posts m state }) shows.scene ∙ sym (restart-same s w m state restarts starts))

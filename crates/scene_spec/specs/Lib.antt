@@ -1,4 +1,4 @@
-pub mod RulesFor
+pub mod Terms
 pub mod Taken
 pub mod Starts
 pub mod Seats

@@ -10,6 +10,7 @@ use Rattle.protocol_spec.specs.Chain.Certificates.{Rules}
 use Rattle.protocol_spec.specs.Member.Member.{Member, fresh}
 use Rattle.protocol_spec.specs.Member.Calls.{Call, called, due}
 use Rattle.world_spec.specs.World.{Reached, finds_down, stops, answers, reached_up, stated}
+use Rattle.scene_spec.specs.Terms.{Terms}
 use Rattle.scene_spec.specs.Seats.{Seat}
 
 -- whether the member is honest, the member where it is up, and an armed stop, which keeps the next record or loses it
@@ -19,16 +20,16 @@ pub record Post : Type 0 where
   pub armed : Option Bool
 
 -- a member that is up
-abbrev pub seat_at : List ℕ → ℕ → Member → Seat
-seat_at stakes m state = record { member = m; stakes = stakes; up = true; state = state }
+abbrev pub seat_at : Terms → ℕ → Member → Seat
+seat_at terms m state = record { member = m; terms = terms; up = true; state = state }
 
-abbrev pub standing_with : List ℕ → ℕ → Bool → Member → Post
-standing_with stakes m honest state = record { honest = honest; standing = Some (seat_at stakes m state); armed = None }
+abbrev pub standing_with : Terms → ℕ → Bool → Member → Post
+standing_with terms m honest state = record { honest = honest; standing = Some (seat_at terms m state); armed = None }
 
 -- the members at the start, of which the first has this number
-abbrev pub new_posts : List ℕ → List Object → ℕ → List Bool → List Post
-new_posts stakes opening m [] = []
-new_posts stakes opening m (honest ∷ flags) = standing_with stakes m honest (fresh opening) ∷ new_posts stakes opening (suc m) flags
+abbrev pub new_posts : Terms → List Object → ℕ → List Bool → List Post
+new_posts terms opening m [] = []
+new_posts terms opening m (honest ∷ flags) = standing_with terms m honest (fresh opening) ∷ new_posts terms opening (suc m) flags
 
 -- ---- what becomes of a call
 
@@ -95,9 +96,9 @@ arming kept p = record p { armed = Some kept }
 abbrev pub armed_at : List Post → ℕ → Bool → List Post
 armed_at posts m kept = changed_at posts m (arming kept) (slice_get posts m)
 
-abbrev pub starting : List ℕ → ℕ → Member → Post → Post
-starting stakes m state p = standing_with stakes m p.honest state
+abbrev pub starting : Terms → ℕ → Member → Post → Post
+starting terms m state p = standing_with terms m p.honest state
 
 -- a member starts in this state
-abbrev pub started_at : List ℕ → List Post → ℕ → Member → List Post
-started_at stakes posts m state = changed_at posts m (starting stakes m state) (slice_get posts m)
+abbrev pub started_at : Terms → List Post → ℕ → Member → List Post
+started_at terms posts m state = changed_at posts m (starting terms m state) (slice_get posts m)

@@ -10,12 +10,12 @@ use Rattle.world_spec.specs.Setting.{Trust, Setting}
 use Rattle.world_spec.specs.World as worlds
 use Rattle.world_spec.specs.World.{World, Said, Formed}
 use Rattle.scene_spec.specs.Known.{Known, known_by}
-use Rattle.scene_spec.specs.RulesFor.{rules_for}
+use Rattle.scene_spec.specs.Terms.{Terms, rules_for, terms_of}
 use Rattle.scene_spec.specs.Posts.{Post, new_posts}
 
 pub record Scene : Type 0 where
-  -- the stakes of the members, and the objects with which epoch 0 opens
-  pub stakes : List ℕ
+  -- the terms of the committee, and the objects with which epoch 0 opens
+  pub terms : Terms
   pub opening : List Object
   pub known : Known
   pub said : List Said
@@ -25,17 +25,17 @@ pub record Scene : Type 0 where
 -- the scene before the first line
 abbrev pub new_scene : Setting → List Setup → Scene
 new_scene s setup = record {
-  stakes = s.rules.stakes;
+  terms = terms_of s.rules;
   opening = s.opening;
   known = known_by setup;
   said = [];
   certs = [];
-  posts = new_posts s.rules.stakes s.opening 0 s.honest;
+  posts = new_posts (terms_of s.rules) s.opening 0 s.honest;
 }
 
 -- the rules of the committee, by whose seals are accepted
 abbrev pub rules_in : (Signer → List ℕ → Digest → Bool) → Scene → Rules
-rules_in accepts sc = rules_for sc.stakes accepts
+rules_in accepts sc = rules_for sc.terms accepts
 
 -- A setting and a world that have what the scene has, and no records. The definitions of names, of false votes
 -- and of certificates look at nothing else.

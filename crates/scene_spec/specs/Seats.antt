@@ -6,17 +6,17 @@ use Rattle.journal_core.specs.declared.records.Record.{Record}
 use Rattle.protocol_spec.specs.Chain.Certificates.{Rules}
 use Rattle.protocol_spec.specs.Member.Member.{Member}
 use Rattle.protocol_spec.specs.Member.Calls.{Call, called, due}
-use Rattle.scene_spec.specs.RulesFor.{rules_for}
+use Rattle.scene_spec.specs.Terms.{Terms, rules_for}
 
--- the number of the member, the stakes of its committee, whether it is up, and its state
+-- the number of the member, the terms of its committee, whether it is up, and its state
 pub record Seat : Type 0 where
   pub member : ℕ
-  pub stakes : List ℕ
+  pub terms : Terms
   pub up : Bool
   pub state : Member
 
 abbrev pub rules_of_seat : Seat → (Signer → List ℕ → Digest → Bool) → Rules
-rules_of_seat seat accepts = rules_for seat.stakes accepts
+rules_of_seat seat accepts = rules_for seat.terms accepts
 
 -- the same where no seal is accepted, for calls in which the rules play no part
 abbrev pub bare_rules : Seat → Rules

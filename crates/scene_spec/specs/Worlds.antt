@@ -21,7 +21,7 @@ use Rattle.world_spec.specs.World as worlds
 use Rattle.world_spec.specs.World.{World, member_in}
 use Rattle.world_spec.specs.Run.{records_of}
 use Rattle.scene_spec.specs.Known.{names_of}
-use Rattle.scene_spec.specs.RulesFor.{rules_for}
+use Rattle.scene_spec.specs.Terms.{rules_for, terms_of}
 use Rattle.scene_spec.specs.Seats.{Seat}
 use Rattle.scene_spec.specs.Starts.{started}
 use Rattle.scene_spec.specs.Posts.{Post, seat_at}
@@ -30,7 +30,7 @@ use Rattle.scene_spec.specs.Scene.{Scene}
 -- ---- the scene of a world
 
 abbrev pub standing_of : Setting → ℕ → worlds.Seat → Option Seat
-standing_of s m seat = if seat.up then Some (seat_at s.rules.stakes m (member_in s seat)) else None
+standing_of s m seat = if seat.up then Some (seat_at (terms_of s.rules) m (member_in s seat)) else None
 
 abbrev pub post_of : Setting → ℕ → worlds.Seat → Post
 post_of s m seat = record { honest = seat.honest; standing = standing_of s m seat; armed = seat.armed }
@@ -41,7 +41,7 @@ posts_from s m (seat ∷ seats) = post_of s m seat ∷ posts_from s (suc m) seat
 
 abbrev pub scene_of : Setting → World → Scene
 scene_of s w = record {
-  stakes = s.rules.stakes;
+  terms = terms_of s.rules;
   opening = s.opening;
   known = names_of s w;
   said = w.said;
@@ -49,9 +49,9 @@ scene_of s w = record {
   posts = posts_from s 0 w.seats;
 }
 
--- a setting whose sequence has no limit of writers, with these seals, and a world in which nothing was ordered
+-- a setting with these seals, and a world in which nothing was ordered
 pub record Shows (trust : Trust) (s : Setting) (w : World) (sc : Scene) : Type 0 where
-  pub rules : s.rules ≡ rules_for s.rules.stakes trust.accepts
+  pub rules : s.rules ≡ rules_for (terms_of s.rules) trust.accepts
   pub seal : s.seal ≡ trust.seal
   pub epoch : w.epoch ≡ 0
   pub sequences : w.sequences ≡ [] ∷ []

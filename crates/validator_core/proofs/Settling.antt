@@ -17,7 +17,7 @@ use Rattle.answer_types.specs.declared.refusals.HoldRefusal.{HoldRefusal}
 use Rattle.answer_types.specs.declared.refusals.HoldRefusal.TheVariants as no_hold
 use Rattle.protocol_spec.specs.Member.Member.{Member, after}
 use Rattle.protocol_spec.specs.Member.Calls.{Call, Voted, after_due, called, due, hold_answer, holds, kept_vote, vote_answer, vote_record, votes}
-use Rattle.scene_spec.specs.RulesFor.{rules_for}
+use Rattle.scene_spec.specs.Terms.{Terms, rules_for}
 use Rattle.validator_core.specs.Answers.{sealed_as}
 use Rattle.validator_core.specs.Calls.{Holds, Votes, hold_said, vote_said}
 use Rattle.validator_core.specs.Seats.{Becomes, Behaves, Ended, Journaled, Keeps, answered, fell, has_fallen}
@@ -35,9 +35,9 @@ settles r call old state answered up is =
     ap (λ (s : Member). record old { state = s; up = true }) is
     ∙ ap (λ (b : Bool). record old { state = called r old.state call; up = b }) (sym up)
     ∙ ap (λ (b : Bool). cond b (record old { state = called r old.state call }) old) (sym up)
-settles r call old state fell up is = record { member = refl; stakes = refl; up = refl }
+settles r call old state fell up is = record { member = refl; terms = refl; up = refl }
 
--- ---- votes: the stakes play no part
+-- ---- votes: the terms play no part
 
 same_vote : (r r' : Rules) (m : Member) (x : Result SignedTx WireFault) (a : Result Voted VoteRefusal) → after_due r m (vote_record x a) ≡ after_due r' m (vote_record x a)
 unfolding after
@@ -52,14 +52,14 @@ same_vote r r' m (Ok s) (Ok v) = go v.fresh v.statement
     go true (statement.Checkpoint epoch number digest) = refl
     go true (statement.Ack epoch tx effects) = refl
 
-same_called : (accepts : Signing) (stakes bytes : List ℕ) (m : Member) → called (sealed_as accepts) m (votes bytes) ≡ called (rules_for stakes accepts) m (votes bytes)
+same_called : (accepts : Signing) (terms : Terms) (bytes : List ℕ) (m : Member) → called (sealed_as accepts) m (votes bytes) ≡ called (rules_for terms accepts) m (votes bytes)
 unfolding due vote_answer
-same_called accepts stakes bytes m = same_vote (sealed_as accepts) (rules_for stakes accepts) m (read_signed bytes) (vote_answer (sealed_as accepts) m bytes)
+same_called accepts terms bytes m = same_vote (sealed_as accepts) (rules_for terms accepts) m (read_signed bytes) (vote_answer (sealed_as accepts) m bytes)
 
 pub vote_settles : (accepts : Signing) (old : Seat) (bytes : List ℕ) (state : Member) (e : Ended) → old.up ≡ true → Becomes (called (sealed_as accepts) old.state (votes bytes)) state e
     → Behaves (rules_of_seat old accepts) (votes bytes) old (seat_with old state e) e
 vote_settles accepts old bytes state e up h =
-    settles (rules_of_seat old accepts) (votes bytes) old state e up (subst (λ (next : Member). Becomes next state e) (same_called accepts old.stakes bytes old.state) h)
+    settles (rules_of_seat old accepts) (votes bytes) old state e up (subst (λ (next : Member). Becomes next state e) (same_called accepts old.terms bytes old.state) h)
 
 pub vote_at : (accepts : Signing) (old : Seat) (bytes : List ℕ) (answer : Result Sent VoteRefusal) → old.up ≡ true → Votes accepts old.member (vote_answer (sealed_as accepts) old.state bytes) answer
     → Votes accepts old.member (vote_said (rules_of_seat old accepts) old bytes) answer
@@ -75,17 +75,17 @@ vote_due_at accepts old bytes before now e up h =
 
 -- ---- certificates
 
-pub hold_settles : (accepts : Signing) (old : Seat) (bytes : List ℕ) (state : Member) (e : Ended) → old.up ≡ true → Becomes (called (rules_for old.stakes accepts) old.state (holds bytes)) state e
+pub hold_settles : (accepts : Signing) (old : Seat) (bytes : List ℕ) (state : Member) (e : Ended) → old.up ≡ true → Becomes (called (rules_for old.terms accepts) old.state (holds bytes)) state e
     → Behaves (rules_of_seat old accepts) (holds bytes) old (seat_with old state e) e
 hold_settles accepts old bytes state e up h = settles (rules_of_seat old accepts) (holds bytes) old state e up h
 
-pub hold_at : (accepts : Signing) (old : Seat) (bytes : List ℕ) (answer : Result Bool HoldRefusal) → old.up ≡ true → Holds (hold_answer (rules_for old.stakes accepts) old.state bytes) answer
+pub hold_at : (accepts : Signing) (old : Seat) (bytes : List ℕ) (answer : Result Bool HoldRefusal) → old.up ≡ true → Holds (hold_answer (rules_for old.terms accepts) old.state bytes) answer
     → Holds (hold_said (rules_of_seat old accepts) old bytes) answer
 hold_at accepts old bytes answer up h =
     subst (λ said. Holds said answer) (ap (λ (b : Bool). cond b (hold_answer (rules_of_seat old accepts) old.state bytes) (Err no_hold.Down)) (sym up)) h
 
 pub hold_due_at : (accepts : Signing) (old : Seat) (bytes : List ℕ) (before now : Option Journals) (e : Ended) → old.up ≡ true
-    → Journaled before now old.member (due (rules_for old.stakes accepts) old.state (holds bytes)) e → Journaled before now old.member (due_at (rules_of_seat old accepts) old (holds bytes)) e
+    → Journaled before now old.member (due (rules_for old.terms accepts) old.state (holds bytes)) e → Journaled before now old.member (due_at (rules_of_seat old accepts) old (holds bytes)) e
 hold_due_at accepts old bytes before now e up h =
     subst (λ (x : Option Record). Journaled before now old.member x e) (ap (λ (b : Bool). cond b (due (rules_of_seat old accepts) old.state (holds bytes)) None) (sym up)) h
 

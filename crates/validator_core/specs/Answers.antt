@@ -26,11 +26,15 @@ use Rattle.protocol_spec.specs.Member.Calls.{Voted, full, halted}
 use Rattle.validator_core.specs.declared.votes.Decision.{Decision}
 use Rattle.validator_core.specs.declared.holds.Holding.{Holding}
 use Rattle.validator_core.specs.declared.holds.Holding.TheVariants as holding
-use Rattle.scene_spec.specs.RulesFor.{rules_for}
+use Rattle.scene_spec.specs.Terms.{Terms, rules_for}
 
--- the same, where the stakes play no part
+-- a committee of nobody
+abbrev pub no_terms : Terms
+no_terms = record { stakes = []; writers = None }
+
+-- the rules, where the terms play no part
 abbrev pub sealed_as : (Signer → List ℕ → Digest → Bool) → Rules
-sealed_as accepts = rules_for [] accepts
+sealed_as accepts = rules_for no_terms accepts
 
 -- ---- votes
 
@@ -120,7 +124,7 @@ close_stopped m = first_some (halted no_close.Halted m ∷ full no_close.Full m 
 
 -- the rules of a committee that accepts no seal, for calls in which the rules play no part
 abbrev pub bare : Rules
-bare = rules_for [] (λ by bytes seal. false)
+bare = rules_for no_terms (λ by bytes seal. false)
 
 -- what holds where a record was taken
 abbrev pub OnTaken : {E : Type 0} → Result Bool E → Type 0 → Type 0

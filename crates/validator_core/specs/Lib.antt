@@ -1,4 +1,5 @@
 pub mod Answers
+pub mod Limits
 pub mod Sound
 pub mod Steps
 pub mod Built

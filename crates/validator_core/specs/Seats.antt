@@ -23,7 +23,7 @@ has_fallen fell = true
 -- a member that fell
 pub record Fell (old new : Seat) : Type 0 where
   pub member : new.member ≡ old.member
-  pub stakes : new.stakes ≡ old.stakes
+  pub terms : new.terms ≡ old.terms
   pub up : new.up ≡ false
 
 -- the state behind a call that answered

@@ -1,8 +1,9 @@
 -- The start of a member from the records that it kept. Source: this profile.
-use Rattle.std.specs.Prelude.{◌≡◌, ℕ, true, List, Result, Ok, Err}
+use Rattle.std.specs.Prelude.{◌≡◌, ℕ, true, Result, Ok, Err}
 use Rattle.answer_types.specs.declared.refusals.StartRefusal.{StartRefusal}
 use Rattle.answer_types.specs.declared.refusals.StartRefusal.TheVariants as no_start
 use Rattle.protocol_spec.specs.Member.Member.{Member}
+use Rattle.scene_spec.specs.Terms.{Terms}
 use Rattle.scene_spec.specs.Seats.{Seat}
 
 -- a member that is up in the state that is said, or the refusal; want of memory says nothing
@@ -11,7 +12,7 @@ StateAs said state (Ok done) = said ≡ Ok state
 StateAs said state (Err no_start.OutOfMemory) = Unit {0}
 StateAs said state (Err (no_start.BadRecord place why)) = said ≡ Err (no_start.BadRecord place why)
 
-abbrev pub Starts : Result Member StartRefusal → ℕ → List ℕ → Result Seat StartRefusal → Type 0
-Starts said member stakes (Ok seat) = (said ≡ Ok seat.state) × (seat.member ≡ member) × (seat.stakes ≡ stakes) × (seat.up ≡ true)
-Starts said member stakes (Err no_start.OutOfMemory) = Unit {0}
-Starts said member stakes (Err (no_start.BadRecord place why)) = said ≡ Err (no_start.BadRecord place why)
+abbrev pub Starts : Result Member StartRefusal → ℕ → Terms → Result Seat StartRefusal → Type 0
+Starts said member terms (Ok seat) = (said ≡ Ok seat.state) × (seat.member ≡ member) × (seat.terms ≡ terms) × (seat.up ≡ true)
+Starts said member terms (Err no_start.OutOfMemory) = Unit {0}
+Starts said member terms (Err (no_start.BadRecord place why)) = said ≡ Err (no_start.BadRecord place why)

@@ -10,7 +10,8 @@ ghost use Rattle.protocol_spec.specs.Member.Calls.{called, due, hold_answer, hol
 ghost use Rattle.answer_types.specs.declared.refusals.HoldRefusal.TheVariants as no_hold;
 ghost use Rattle.answer_types.specs.declared.refusals.VoteRefusal.TheVariants as no_vote;
 ghost use Rattle.validator_core.specs.Answers.{IsFree, sealed_as};
-ghost use Rattle.scene_spec.specs.RulesFor.{rules_for};
+ghost use Rattle.scene_spec.specs.Terms.{rules_for};
+ghost use Rattle.validator_core.specs.Limits.{terms_at};
 ghost use Rattle.validator_core.specs.Steps.{voted};
 ghost use Rattle.journal_core.specs.Records as journals;
 ghost use Rattle.validator_core.specs.Taking.{MayTake, taken};
@@ -59,9 +60,10 @@ fn seal_vote<S: Sealer>(
 
 /// Takes a record of the transaction of this digest.
 fn take(state: &mut State, kept: Record, digest: Digest) -> Result<(), OutOfMemory>
-    requires may { MayTake state.old digest kept }
-    requires room { nat_le record_limit state.old.records ≡ false }
-    ensures { OnOk result (state.new ≡ taken state.old kept) }
+    requires may { MayTake state.old.member digest kept }
+    requires room { nat_le record_limit state.old.member.records ≡ false }
+    ensures state { OnOk result (state.new.member ≡ taken state.old.member kept) }
+    ensures limit { state.new.writers ≡ state.old.writers }
 {
     match kept {
         Record::Vote { tx, origins } => state.take_vote(&tx, digest, origins),
@@ -82,14 +84,15 @@ fn keep<D: Keeper>(
     digest: Digest,
 ) -> Result<(), Unkept>
     requires known { member < D.width keeper.old }
-    requires may { MayTake state.old digest kept }
+    requires may { MayTake state.old.member digest kept }
     requires short { journals.journal_record.short kept }
-    requires room { nat_le record_limit state.old.records ≡ false }
-    ensures state { OnOk result (state.new ≡ taken state.old kept) }
+    requires room { nat_le record_limit state.old.member.records ≡ false }
+    ensures state { OnOk result (state.new.member ≡ taken state.old.member kept) }
     ensures kept { Appended (D.lists keeper.old) (D.lists keeper.new) member kept result }
     ensures width { D.width keeper.new ≡ D.width keeper.old }
     ensures later { D.failed keeper.old ≤ D.failed keeper.new }
     ensures fault { IsErrOf result unkept.KeepFault → Rose (D.failed keeper.old) (D.failed keeper.new) }
+    ensures limit { state.new.writers ≡ state.old.writers }
 {
     match append(state.allocator(), keeper, member, &kept) {
         Ok(()) => {}
@@ -112,14 +115,15 @@ fn keep_vote<D: Keeper>(
 ) -> Result<(), Unkept>
     requires known { member < D.width keeper.old }
     requires short { transaction.short tx }
-    requires free { IsFree state.old tx decision }
+    requires free { IsFree state.old.member tx decision }
     requires fresh { decision.fresh ≡ true }
-    requires room { nat_le record_limit state.old.records ≡ false }
-    ensures state { OnOk result (state.new ≡ voted state.old tx decision.origins) }
+    requires room { nat_le record_limit state.old.member.records ≡ false }
+    ensures state { OnOk result (state.new.member ≡ voted state.old.member tx decision.origins) }
     ensures kept { Appended (D.lists keeper.old) (D.lists keeper.new) member (record_as.Vote tx decision.origins) result }
     ensures width { D.width keeper.new ≡ D.width keeper.old }
     ensures later { D.failed keeper.old ≤ D.failed keeper.new }
     ensures fault { IsErrOf result unkept.KeepFault → Rose (D.failed keeper.old) (D.failed keeper.new) }
+    ensures limit { state.new.writers ≡ state.old.writers }
 {
     let digest = decision.digest;
     let kept = Record::Vote {
@@ -139,12 +143,13 @@ pub(crate) fn vote<D: Keeper, S: Sealer>(
     bytes: &[u8],
 ) -> Result<Voted, VoteRefusal>
     requires known { member < D.width keeper.old }
-    ensures answer { Votes (S.accepts sealer.now) member (vote_answer (sealed_as (S.accepts sealer.now)) state.old bytes.now) result }
-    ensures state { Becomes (called (sealed_as (S.accepts sealer.now)) state.old (votes bytes.now)) state.new (vote_ended result) }
-    ensures kept { Journaled (D.lists keeper.old) (D.lists keeper.new) member (due (sealed_as (S.accepts sealer.now)) state.old (votes bytes.now)) (vote_ended result) }
+    ensures answer { Votes (S.accepts sealer.now) member (vote_answer (sealed_as (S.accepts sealer.now)) state.old.member bytes.now) result }
+    ensures state { Becomes (called (sealed_as (S.accepts sealer.now)) state.old.member (votes bytes.now)) state.new.member (vote_ended result) }
+    ensures kept { Journaled (D.lists keeper.old) (D.lists keeper.new) member (due (sealed_as (S.accepts sealer.now)) state.old.member (votes bytes.now)) (vote_ended result) }
     ensures width { D.width keeper.new ≡ D.width keeper.old }
     ensures later { D.failed keeper.old ≤ D.failed keeper.new }
     ensures fault { IsErrOf result no_vote.KeepFault → Rose (D.failed keeper.old) (D.failed keeper.new) }
+    ensures limit { state.new.writers ≡ state.old.writers }
 {
     let (tx, decision) = state.vote(sealer, bytes)?;
     let epoch = state.epoch();
@@ -202,12 +207,13 @@ pub(crate) fn hold<D: Keeper, S: Sealer>(
     bytes: &[u8],
 ) -> Result<bool, HoldRefusal>
     requires known { member < D.width keeper.old }
-    ensures answer { Holds (hold_answer (rules_for committee.now (S.accepts sealer.now)) state.old bytes.now) result }
-    ensures state { Becomes (called (rules_for committee.now (S.accepts sealer.now)) state.old (holds bytes.now)) state.new (hold_ended result) }
-    ensures kept { Journaled (D.lists keeper.old) (D.lists keeper.new) member (due (rules_for committee.now (S.accepts sealer.now)) state.old (holds bytes.now)) (hold_ended result) }
+    ensures answer { Holds (hold_answer (rules_for (terms_at state.old committee.now) (S.accepts sealer.now)) state.old.member bytes.now) result }
+    ensures state { Becomes (called (rules_for (terms_at state.old committee.now) (S.accepts sealer.now)) state.old.member (holds bytes.now)) state.new.member (hold_ended result) }
+    ensures kept { Journaled (D.lists keeper.old) (D.lists keeper.new) member (due (rules_for (terms_at state.old committee.now) (S.accepts sealer.now)) state.old.member (holds bytes.now)) (hold_ended result) }
     ensures width { D.width keeper.new ≡ D.width keeper.old }
     ensures later { D.failed keeper.old ≤ D.failed keeper.new }
     ensures fault { IsErrOf result no_hold.KeepFault → Rose (D.failed keeper.old) (D.failed keeper.new) }
+    ensures limit { state.new.writers ≡ state.old.writers }
 {
     let (cert, holding) = state.hold(committee, sealer, bytes)?;
     match holding {

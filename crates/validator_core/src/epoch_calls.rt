@@ -29,12 +29,13 @@ fn keep_run<D: Keeper>(
     effects: &[Effects],
 ) -> Result<(), Unkept>
     requires known { member < D.width keeper.old }
-    requires room { nat_le record_limit state.old.records ≡ false }
-    ensures state { OnOk result (state.new ≡ counted_where (ran_record (items_of effects.now)) state.old) }
+    requires room { nat_le record_limit state.old.member.records ≡ false }
+    ensures state { OnOk result (state.new.member ≡ counted_where (ran_record (items_of effects.now)) state.old.member) }
     ensures kept { AppendedWhere (D.lists keeper.old) (D.lists keeper.new) member (ran_record (items_of effects.now)) result }
     ensures width { D.width keeper.new ≡ D.width keeper.old }
     ensures later { D.failed keeper.old ≤ D.failed keeper.new }
     ensures fault { IsErrOf result unkept.KeepFault → Rose (D.failed keeper.old) (D.failed keeper.new) }
+    ensures limit { state.new.writers ≡ state.old.writers }
 {
     let kept = match ran_record(state.allocator(), effects) {
         Ok(Some(kept)) => kept,
@@ -57,13 +58,14 @@ pub(crate) fn run<D: Keeper>(
     member: u32,
 ) -> Result<Ran, RunRefusal>
     requires known { member < D.width keeper.old }
-    ensures answer { Runs (run_answer bare state.old) result }
+    ensures answer { Runs (run_answer bare state.old.member) result }
     ensures built { IfOk result (λ ran. ran.built ≡ []) }
-    ensures state { Becomes (called bare state.old runs) state.new (run_ended result) }
-    ensures kept { Journaled (D.lists keeper.old) (D.lists keeper.new) member (due bare state.old runs) (run_ended result) }
+    ensures state { Becomes (called bare state.old.member runs) state.new.member (run_ended result) }
+    ensures kept { Journaled (D.lists keeper.old) (D.lists keeper.new) member (due bare state.old.member runs) (run_ended result) }
     ensures width { D.width keeper.new ≡ D.width keeper.old }
     ensures later { D.failed keeper.old ≤ D.failed keeper.new }
     ensures fault { IsErrOf result no_run.KeepFault → Rose (D.failed keeper.old) (D.failed keeper.new) }
+    ensures limit { state.new.writers ≡ state.old.writers }
 {
     match state.check_run() {
         Ok(()) => {}
@@ -91,12 +93,13 @@ pub(crate) fn run_fell(answer: &Result<Ran, RunRefusal>) -> bool
 #[tactic(auto, unfolding(journal_core::specs::Records::journal_record))]
 fn keep_close<D: Keeper>(state: &mut State, keeper: &mut D, member: u32) -> Result<(), Unkept>
     requires known { member < D.width keeper.old }
-    requires room { nat_le record_limit state.old.records ≡ false }
-    ensures state { OnOk result (state.new ≡ closing state.old) }
+    requires room { nat_le record_limit state.old.member.records ≡ false }
+    ensures state { OnOk result (state.new.member ≡ closing state.old.member) }
     ensures kept { Appended (D.lists keeper.old) (D.lists keeper.new) member record_as.Close result }
     ensures width { D.width keeper.new ≡ D.width keeper.old }
     ensures later { D.failed keeper.old ≤ D.failed keeper.new }
     ensures fault { IsErrOf result unkept.KeepFault → Rose (D.failed keeper.old) (D.failed keeper.new) }
+    ensures limit { state.new.writers ≡ state.old.writers }
 {
     match append(state.allocator(), keeper, member, &Record::Close) {
         Ok(()) => {}
@@ -114,12 +117,13 @@ pub(crate) fn close<D: Keeper>(
     member: u32,
 ) -> Result<bool, CloseRefusal>
     requires known { member < D.width keeper.old }
-    ensures answer { Closes (close_answer bare state.old) result }
-    ensures state { Becomes (called bare state.old closes) state.new (close_ended result) }
-    ensures kept { Journaled (D.lists keeper.old) (D.lists keeper.new) member (due bare state.old closes) (close_ended result) }
+    ensures answer { Closes (close_answer bare state.old.member) result }
+    ensures state { Becomes (called bare state.old.member closes) state.new.member (close_ended result) }
+    ensures kept { Journaled (D.lists keeper.old) (D.lists keeper.new) member (due bare state.old.member closes) (close_ended result) }
     ensures width { D.width keeper.new ≡ D.width keeper.old }
     ensures later { D.failed keeper.old ≤ D.failed keeper.new }
     ensures fault { IsErrOf result no_close.KeepFault → Rose (D.failed keeper.old) (D.failed keeper.new) }
+    ensures limit { state.new.writers ≡ state.old.writers }
 {
     match state.check_close() {
         Ok(()) => {}

@@ -10,7 +10,8 @@ ghost use Rattle.chain_messages.specs.Messages.{certificate};
 ghost use Rattle.protocol_spec.specs.Member.Member.{fork_of};
 ghost use Rattle.protocol_spec.specs.Member.Calls.{due, hold_answer, hold_certificate, hold_stopped, holds, new_hold, record_limit};
 ghost use Rattle.validator_core.specs.Answers.{HoldDue, HoldsAs, IsHeldAs, holding_in};
-ghost use Rattle.scene_spec.specs.RulesFor.{rules_for};
+ghost use Rattle.scene_spec.specs.Terms.{rules_for};
+ghost use Rattle.validator_core.specs.Limits.{terms_at};
 
 use crate::state::State;
 use answer_types::HoldRefusal;
@@ -39,8 +40,8 @@ pub enum Holding {
 impl State {
     /// Whether a certificate may be handed in.
     pub(crate) fn check_hold(&self) -> Result<(), HoldRefusal>
-        ensures value { result ≡ unless_refused (hold_stopped self.now) tt }
-        ensures room { IfOk result (λ _. nat_le record_limit self.now.records ≡ false) }
+        ensures value { result ≡ unless_refused (hold_stopped self.now.member) tt }
+        ensures room { IfOk result (λ _. nat_le record_limit self.now.member.records ≡ false) }
         ensures never { IsErrOf result no_hold.KeepFault → ⊥ }
     {
         if let Some((first, second)) = self.fork() {
@@ -61,9 +62,9 @@ impl State {
         digest: Digest,
     ) -> Result<Holding, HoldRefusal>
         requires digest { digest ≡ transaction_digest cert.now.tx }
-        requires new { is_some (held_of self.now.held digest) ≡ false }
-        ensures answer { HoldsAs (new_hold (rules_for committee.now (S.accepts sealer.now)) self.now cert.now) result }
-        ensures held { IfOk result (λ h. IsHeldAs self.now cert.now h) }
+        requires new { is_some (held_of self.now.member.held digest) ≡ false }
+        ensures answer { HoldsAs (new_hold (rules_for (terms_at self.now committee.now) (S.accepts sealer.now)) self.now.member cert.now) result }
+        ensures held { IfOk result (λ h. IsHeldAs self.now.member cert.now h) }
         ensures never { IsErrOf result no_hold.KeepFault → ⊥ }
     {
         if self.is_closed() {
@@ -91,8 +92,8 @@ impl State {
         cert: &Certificate,
     ) -> Result<Holding, HoldRefusal>
         requires { transaction.short cert.now.tx }
-        ensures answer { HoldsAs (hold_certificate (rules_for committee.now (S.accepts sealer.now)) self.now cert.now) result }
-        ensures held { IfOk result (λ h. IsHeldAs self.now cert.now h) }
+        ensures answer { HoldsAs (hold_certificate (rules_for (terms_at self.now committee.now) (S.accepts sealer.now)) self.now.member cert.now) result }
+        ensures held { IfOk result (λ h. IsHeldAs self.now.member cert.now h) }
         ensures never { IsErrOf result no_hold.KeepFault → ⊥ }
     {
         let want = self.epoch();
@@ -120,13 +121,13 @@ impl State {
         sealer: &S,
         bytes: &[u8],
     ) -> Result<(Certificate, Holding), HoldRefusal>
-        ensures answer { HoldsAs (hold_answer (rules_for committee.now (S.accepts sealer.now)) self.now bytes.now) (holding_in result) }
-        ensures due { HoldDue (due (rules_for committee.now (S.accepts sealer.now)) self.now (holds bytes.now)) result }
-        ensures held { IfOk result (λ h. IsHeldAs self.now h.0 h.1) }
+        ensures answer { HoldsAs (hold_answer (rules_for (terms_at self.now committee.now) (S.accepts sealer.now)) self.now.member bytes.now) (holding_in result) }
+        ensures due { HoldDue (due (rules_for (terms_at self.now committee.now) (S.accepts sealer.now)) self.now.member (holds bytes.now)) result }
+        ensures held { IfOk result (λ h. IsHeldAs self.now.member h.0 h.1) }
         ensures short { IfOk result (λ h. certificate.short h.0) }
-        ensures room { IfOk result (λ _. nat_le record_limit self.now.records ≡ false) }
+        ensures room { IfOk result (λ _. nat_le record_limit self.now.member.records ≡ false) }
         ensures never { IsErrOf result no_hold.KeepFault → ⊥ }
-        ensures able { IsErrOf result no_hold.OutOfMemory → fork_of self.now ≡ None }
+        ensures able { IsErrOf result no_hold.OutOfMemory → fork_of self.now.member ≡ None }
     {
         self.check_hold()?;
         let cert = match decode_certificate(self.alloc, bytes) {

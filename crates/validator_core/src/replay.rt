@@ -14,7 +14,8 @@ ghost use Rattle.protocol_spec.specs.Member.Member.{after, with_rounds};
 ghost use Rattle.protocol_spec.specs.Member.Replay.{is_allowed, ran_item_eq};
 ghost use Rattle.scene_spec.specs.Taken.{is_taken};
 ghost use Rattle.validator_core.specs.Answers.{OnTaken, bare, sealed_as};
-ghost use Rattle.scene_spec.specs.RulesFor.{rules_for};
+ghost use Rattle.scene_spec.specs.Terms.{rules_for};
+ghost use Rattle.validator_core.specs.Limits.{terms_at};
 ghost use Rattle.validator_core.specs.Steps.{closing, counted, holding, voted};
 
 use crate::holds::Holding;
@@ -71,8 +72,9 @@ impl State {
         origins: Seq<Option<Digest>>,
     ) -> Result<bool, OutOfMemory>
         requires { transaction.short tx.now }
-        ensures taken { IfOk result (λ taken. taken ≡ is_allowed (sealed_as (S.accepts sealer.now)) self.old (record_as.Vote tx.now origins)) }
-        ensures state { OnTaken result (self.new ≡ voted self.old tx.now origins) }
+        ensures taken { IfOk result (λ taken. taken ≡ is_allowed (sealed_as (S.accepts sealer.now)) self.old.member (record_as.Vote tx.now origins)) }
+        ensures state { OnTaken result (self.new.member ≡ voted self.old.member tx.now origins) }
+        ensures limit { self.new.writers ≡ self.old.writers }
     {
         if self.check_vote().is_err() {
             return Ok(false);
@@ -101,8 +103,9 @@ impl State {
         cert: Certificate,
     ) -> Result<bool, OutOfMemory>
         requires { certificate.short cert }
-        ensures taken { IfOk result (λ taken. taken ≡ is_allowed (rules_for committee.now (S.accepts sealer.now)) self.old (record_as.Hold cert)) }
-        ensures state { OnTaken result (self.new ≡ holding self.old cert) }
+        ensures taken { IfOk result (λ taken. taken ≡ is_allowed (rules_for (terms_at self.old committee.now) (S.accepts sealer.now)) self.old.member (record_as.Hold cert)) }
+        ensures state { OnTaken result (self.new.member ≡ holding self.old.member cert) }
+        ensures limit { self.new.writers ≡ self.old.writers }
     {
         if self.check_hold().is_err() {
             return Ok(false);
@@ -131,8 +134,9 @@ impl State {
     /// Takes the record of a close, where the member may close in this state.
     #[tactic(auto, unfolding(protocol_spec::specs::Member::Replay::is_allowed, protocol_spec::specs::Member::Calls::close_answer))]
     pub(crate) fn take_close_back(&mut self) -> bool
-        ensures taken { result ≡ is_allowed bare self.old record_as.Close }
-        ensures state { result ≡ true → self.new ≡ closing self.old }
+        ensures taken { result ≡ is_allowed bare self.old.member record_as.Close }
+        ensures state { result ≡ true → self.new.member ≡ closing self.old.member }
+        ensures limit { self.new.writers ≡ self.old.writers }
     {
         if self.check_close().is_err() {
             return false;
@@ -147,16 +151,17 @@ impl State {
     /// Whether a run may be asked for.
     #[tactic(auto, unfolding(protocol_spec::specs::Member::Calls::run_answer), using(crate::proofs::Cases::goes_alike))]
     fn may_run(&self) -> bool
-        ensures value { result ≡ is_ok (run_answer bare self.now) }
-        ensures room { result ≡ true → nat_le record_limit self.now.records ≡ false }
+        ensures value { result ≡ is_ok (run_answer bare self.now.member) }
+        ensures room { result ≡ true → nat_le record_limit self.now.member.records ≡ false }
     {
         self.check_run().is_ok()
     }
 
     /// Runs once more: the items of the record of the run.
     fn rerun(&mut self) -> Result<Seq<RanItem>, OutOfMemory>
-        ensures state { OnOk result (self.new ≡ with_rounds self.old) }
-        ensures items { IfOk result (λ items. items ≡ ran_items self.old) }
+        ensures state { OnOk result (self.new.member ≡ with_rounds self.old.member) }
+        ensures items { IfOk result (λ items. items ≡ ran_items self.old.member) }
+        ensures limit { self.new.writers ≡ self.old.writers }
     {
         let effects = self.execute()?;
         ran_items(self.alloc, effects.as_slice())
@@ -165,8 +170,9 @@ impl State {
     /// Takes the record of a run of these transactions, where a run executes them in this state.
     #[tactic(auto, unfolding(protocol_spec::specs::Member::Replay::is_allowed))]
     pub(crate) fn take_txs_back(&mut self, txs: &[Digest]) -> Result<bool, OutOfMemory>
-        ensures taken { IfOk result (λ taken. taken ≡ is_allowed bare self.old (record_as.Ran txs.now)) }
-        ensures state { OnTaken result (self.new ≡ counted (with_rounds self.old)) }
+        ensures taken { IfOk result (λ taken. taken ≡ is_allowed bare self.old.member (record_as.Ran txs.now)) }
+        ensures state { OnTaken result (self.new.member ≡ counted (with_rounds self.old.member)) }
+        ensures limit { self.new.writers ≡ self.old.writers }
     {
         if !self.may_run() || txs.is_empty() {
             return Ok(false);
@@ -182,8 +188,9 @@ impl State {
     /// Takes the record of a run of these items, where a run has them in this state.
     #[tactic(auto, unfolding(protocol_spec::specs::Member::Replay::is_allowed))]
     pub(crate) fn take_items_back(&mut self, items: &[RanItem]) -> Result<bool, OutOfMemory>
-        ensures taken { IfOk result (λ taken. taken ≡ is_allowed bare self.old (record_as.Ran2 items.now)) }
-        ensures state { OnTaken result (self.new ≡ counted (with_rounds self.old)) }
+        ensures taken { IfOk result (λ taken. taken ≡ is_allowed bare self.old.member (record_as.Ran2 items.now)) }
+        ensures state { OnTaken result (self.new.member ≡ counted (with_rounds self.old.member)) }
+        ensures limit { self.new.writers ≡ self.old.writers }
     {
         if !self.may_run() || items.is_empty() {
             return Ok(false);
@@ -207,8 +214,9 @@ impl State {
         kept: Record,
     ) -> Result<bool, OutOfMemory>
         requires { journals.journal_record.short kept }
-        ensures taken { IfOk result (λ taken. taken ≡ is_taken (rules_for committee.now (S.accepts sealer.now)) self.old kept) }
-        ensures state { OnTaken result (self.new ≡ after (rules_for committee.now (S.accepts sealer.now)) self.old kept) }
+        ensures taken { IfOk result (λ taken. taken ≡ is_taken (rules_for (terms_at self.old committee.now) (S.accepts sealer.now)) self.old.member kept) }
+        ensures state { OnTaken result (self.new.member ≡ after (rules_for (terms_at self.old committee.now) (S.accepts sealer.now)) self.old.member kept) }
+        ensures limit { self.new.writers ≡ self.old.writers }
     {
         match kept {
             Record::Vote { tx, origins } => self.take_vote_back(sealer, &tx, origins),

@@ -85,10 +85,11 @@ impl State {
     /// The items of the record that is due are those of the effects. No checkpoint is built, since no entry of the
     /// sequence is seen yet. Where memory is refused the state is not to be used.
     pub fn run(&mut self) -> Result<Ran, OutOfMemory>
-        ensures state { OnOk result (self.new ≡ with_rounds self.old) }
-        ensures ran { IfOk result (λ ran. ran ≡ ran_as self.old (rounds (books self.old) self.old.executed) (with_rounds self.old)) }
-        ensures items { IfOk result (λ ran. items_of ran.executed ≡ ran_items self.old) }
+        ensures state { OnOk result (self.new.member ≡ with_rounds self.old.member) }
+        ensures ran { IfOk result (λ ran. ran ≡ ran_as self.old.member (rounds (books self.old.member) self.old.member.executed) (with_rounds self.old.member)) }
+        ensures items { IfOk result (λ ran. items_of ran.executed ≡ ran_items self.old.member) }
         ensures built { IfOk result (λ ran. ran.built ≡ []) }
+        ensures limit { self.new.writers ≡ self.old.writers }
     {
         let executed = self.execute()?;
         Ok(Ran {
@@ -100,8 +101,8 @@ impl State {
 
     /// Whether a run may be asked for. Order of the refusals: `Halted`, `Full`. Takes no memory.
     pub fn check_run(&self) -> Result<(), RunRefusal>
-        ensures value { result ≡ unless_refused (run_stopped self.now) tt }
-        ensures room { IfOk result (λ _. nat_le record_limit self.now.records ≡ false) }
+        ensures value { result ≡ unless_refused (run_stopped self.now.member) tt }
+        ensures room { IfOk result (λ _. nat_le record_limit self.now.member.records ≡ false) }
     {
         if let Some((first, second)) = self.fork() {
             return Err(RunRefusal::Halted { first, second });
@@ -114,8 +115,8 @@ impl State {
 
     /// Whether a close may be asked for. Order of the refusals: `Halted`, `Full`. Takes no memory.
     pub fn check_close(&self) -> Result<(), CloseRefusal>
-        ensures value { result ≡ unless_refused (close_stopped self.now) tt }
-        ensures room { IfOk result (λ _. nat_le record_limit self.now.records ≡ false) }
+        ensures value { result ≡ unless_refused (close_stopped self.now.member) tt }
+        ensures room { IfOk result (λ _. nat_le record_limit self.now.member.records ≡ false) }
     {
         if let Some((first, second)) = self.fork() {
             return Err(CloseRefusal::Halted { first, second });

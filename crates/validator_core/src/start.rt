@@ -1,7 +1,8 @@
 //! The start of a member.
 
 ghost use Rattle.std.specs.Prelude.{◌<◌, ◌^◌, length};
-ghost use Rattle.scene_spec.specs.RulesFor.{rules_for};
+ghost use Rattle.scene_spec.specs.Terms.{rules_for};
+ghost use Rattle.validator_core.specs.Limits.{terms_at};
 ghost use Rattle.validator_core.specs.Starts.{StateAs};
 ghost use Rattle.scene_spec.specs.Starts.{read_record, started_from, taken_at};
 
@@ -19,7 +20,8 @@ fn take_one<S: Sealer>(
     place: u64,
     bytes: &[u8],
 ) -> Result<(), StartRefusal>
-    ensures { StateAs (taken_at (rules_for committee.now (S.accepts sealer.now)) state.old place (read_record bytes.now)) state.new result }
+    ensures state { StateAs (taken_at (rules_for (terms_at state.old committee.now) (S.accepts sealer.now)) state.old.member place (read_record bytes.now)) state.new.member result }
+    ensures limit { state.new.writers ≡ state.old.writers }
 {
     let record = match decode_record(state.allocator(), bytes) {
         Ok(record) => record,
@@ -42,7 +44,8 @@ pub(crate) fn take_all<S: Sealer>(
     kept: &[Seq<u8>],
 ) -> Result<(), StartRefusal>
     requires { length kept.now < 2 ^ 64 }
-    ensures { StateAs (started_from (rules_for committee.now (S.accepts sealer.now)) state.old 0 kept.now) state.new result }
+    ensures state { StateAs (started_from (rules_for (terms_at state.old committee.now) (S.accepts sealer.now)) state.old.member 0 kept.now) state.new.member result }
+    ensures limit { state.new.writers ≡ state.old.writers }
 {
     let mut place = 0;
     let mut rest = kept;

@@ -41,9 +41,10 @@ fn forget_all(alloc: Global, held: &mut HeldBook, waiting: &mut Waiting)
 }
 
 /// What a member has in the present epoch. Contracts see the definitions' record of it, in which no entry of a
-/// sequence was seen and no epoch has ended.
+/// sequence was seen and no epoch has ended, beside the limit of writers of its sequences.
 #[derive(Drop)]
 pub struct State {
+    writers: Option<u32>,
     records: u64,
     epoch: u64,
     closed: bool,
@@ -56,26 +57,31 @@ pub struct State {
 
 impl Model for State {
     ghost use Rattle.std.specs.Prelude.{[]};
-    ghost use Rattle.protocol_spec.specs.Member.Member.{Member};
     ghost use Rattle.protocol_spec.specs.Member.Sequence.{nothing_seen};
+    ghost use Rattle.validator_core.specs.Limits.{Limited};
     ghost use Rattle.validator_core.specs.Sound.{Stands};
 
-    ghost Value = { Member };
+    ghost Value = { Limited };
 
-    ghost view = { λ s. record { records = s.records; epoch = s.epoch; opening = s.store.opening; executed = s.store.executed; votes = s.votes; held = s.held; sequence = nothing_seen; closed = s.closed; past = [] } };
+    ghost view = { λ s. record { writers = s.writers; member = record { records = s.records; epoch = s.epoch; opening = s.store.opening; executed = s.store.executed; votes = s.votes; held = s.held; sequence = nothing_seen; closed = s.closed; past = [] } } };
 
     ghost invariant = { λ s. Stands s.votes s.held s.store s.waiting };
 }
 
 impl State {
     /// A member that has no records, in an epoch 0 that opens with these objects, of which none stands there
-    /// twice.
-    pub fn fresh(alloc: Global, opening: &Seq<Object>) -> Result<State, OutOfMemory>
+    /// twice. Its sequences have this limit of writers for an object between two marks, or none.
+    pub fn fresh(
+        alloc: Global,
+        opening: &Seq<Object>,
+        writers: Option<u32>,
+    ) -> Result<State, OutOfMemory>
         requires { are_new [] opening.now ≡ true }
-        ensures { IfOk result (λ s. s ≡ fresh opening.now) }
+        ensures { IfOk result (λ s. s ≡ record { writers = writers; member = fresh opening.now }) }
     {
         let store = Store::opening(alloc, opening)?;
         Ok(State {
+            writers,
             records: 0,
             epoch: 0,
             closed: false,
@@ -92,23 +98,30 @@ impl State {
         self.alloc
     }
 
+    /// The limit of writers. Takes no memory.
+    pub fn writers(&self) -> Option<u32>
+        ensures { result ≡ self.now.writers }
+    {
+        self.writers
+    }
+
     /// The number of records. Takes no memory.
     pub fn records(&self) -> u64
-        ensures { result ≡ self.now.records }
+        ensures { result ≡ self.now.member.records }
     {
         self.records
     }
 
     /// The present epoch. Takes no memory.
     pub fn epoch(&self) -> u64
-        ensures { result ≡ self.now.epoch }
+        ensures { result ≡ self.now.member.epoch }
     {
         self.epoch
     }
 
     /// The number of entries of the epoch's sequence that the member has seen: none yet. Takes no memory.
     pub fn seen(&self) -> u64
-        ensures { result ≡ self.now.sequence.number }
+        ensures { result ≡ self.now.member.sequence.number }
     {
         let _ = &self.records;
         0
@@ -117,7 +130,7 @@ impl State {
     /// The number of checkpoints that the member has built: none yet, since it sees no entry. Takes no memory.
     #[tactic(auto, unfolding(protocol_spec::specs::Member::Member::built))]
     pub fn checkpoints(&self) -> u64
-        ensures { result ≡ length (built_by self.now) }
+        ensures { result ≡ length (built_by self.now.member) }
     {
         let _ = &self.records;
         0
@@ -126,7 +139,7 @@ impl State {
     /// The number of transactions in the checkpoints that the member has built. Takes no memory.
     #[tactic(auto, unfolding(protocol_spec::specs::Member::Member::built))]
     pub fn checkpointed(&self) -> u64
-        ensures { result ≡ transactions_in (built_by self.now) }
+        ensures { result ≡ transactions_in (built_by self.now.member) }
     {
         let _ = &self.records;
         0
@@ -134,7 +147,7 @@ impl State {
 
     /// Whether the member closed the epoch. Takes no memory.
     pub fn is_closed(&self) -> bool
-        ensures { result ≡ self.now.closed }
+        ensures { result ≡ self.now.member.closed }
     {
         self.closed
     }
@@ -142,28 +155,28 @@ impl State {
     /// The transactions of the fork that the member met, if it met one. Takes no memory.
     #[tactic(auto, unfolding(protocol_spec::specs::Member::Member::fork_of))]
     pub fn fork(&self) -> Option<(Digest, Digest)>
-        ensures { result ≡ option_map (λ (f : Fork). (f.first, f.second)) (fork_of self.now) }
+        ensures { result ≡ option_map (λ (f : Fork). (f.first, f.second)) (fork_of self.now.member) }
     {
         self.held.fork()
     }
 
     /// Whether the list of records has no room for one more. Takes no memory.
     pub fn is_full(&self) -> bool
-        ensures { result ≡ nat_le record_limit self.now.records }
+        ensures { result ≡ nat_le record_limit self.now.member.records }
     {
         self.records >= RECORD_LIMIT
     }
 
     /// The object of a held version. Takes no memory.
     pub fn object(&self, key: &ObjectKey) -> Option<&Object>
-        ensures { option_copied result ≡ option_map object_in (version_at (versions self.now.opening self.now.executed) key.now) }
+        ensures { option_copied result ≡ option_map object_in (version_at (versions self.now.member.opening self.now.member.executed) key.now) }
     {
         self.store.get(key)
     }
 
     /// The live objects by ascending id.
     pub fn live_list(&self) -> Result<Seq<Object>, OutOfMemory>
-        ensures { IfOk result (λ objects. objects ≡ live_objects self.now) }
+        ensures { IfOk result (λ objects. objects ≡ live_objects self.now.member) }
     {
         self.store.live_list()
     }
@@ -171,7 +184,7 @@ impl State {
     /// The origins that the vote for this transaction named, where one was given. Takes no memory.
     pub(crate) fn given(&self, tx: &Digest) -> Option<&Seq<Option<Digest>>>
         ensures few { IfSome result (λ o. length o.now ≤ 257) }
-        ensures value { option_map (λ (o : _). o.now) result ≡ option_map (λ (v : Cast). v.origins) (vote_for self.now tx.now) }
+        ensures value { option_map (λ (o : _). o.now) result ≡ option_map (λ (v : Cast). v.origins) (vote_for self.now.member tx.now) }
     {
         self.votes.origins(tx)
     }
@@ -182,21 +195,21 @@ impl State {
         tx: &Transaction,
         digest: &Digest,
     ) -> Result<Seq<Option<Digest>>, DecideRefusal>
-        ensures { Decides (vote_refusal (ballot self.now) tx.now digest.now) (vote_origins (ballot self.now) tx.now) result }
+        ensures { Decides (vote_refusal (ballot self.now.member) tx.now digest.now) (vote_origins (ballot self.now.member) tx.now) result }
     {
         self.votes.decide(self.alloc, &self.store, tx, digest)
     }
 
     /// Whether a certificate of the transaction is held. Takes no memory.
     pub(crate) fn holds(&self, tx: &Digest) -> bool
-        ensures { result ≡ is_some (held_of self.now.held tx.now) }
+        ensures { result ≡ is_some (held_of self.now.member.held tx.now) }
     {
         self.held.has(tx)
     }
 
     /// The first of the keys that a held certificate consumes, and its transaction. Takes no memory.
     pub(crate) fn consumed_by(&self, keys: &[ObjectKey]) -> Option<(ObjectKey, Digest)>
-        ensures { result ≡ first_of (λ key. option_map (λ (e : H). (key, e.digest)) (find (consumes key) self.now.held)) keys.now }
+        ensures { result ≡ first_of (λ key. option_map (λ (e : H). (key, e.digest)) (find (consumes key) self.now.member.held)) keys.now }
     {
         self.held.fork_with(keys)
     }
@@ -210,11 +223,12 @@ impl State {
         origins: Seq<Option<Digest>>,
     ) -> Result<(), OutOfMemory>
         requires digest { digest ≡ transaction_digest tx.now }
-        requires new { vote_for self.old digest ≡ None }
-        requires free { first_of (locked self.old.votes digest) (consumed_keys tx.now) ≡ None }
+        requires new { vote_for self.old.member digest ≡ None }
+        requires free { first_of (locked self.old.member.votes digest) (consumed_keys tx.now) ≡ None }
         requires few { length origins ≤ 257 }
-        requires room { nat_le record_limit self.old.records ≡ false }
-        ensures { OnOk result (self.new ≡ voted self.old tx.now origins) }
+        requires room { nat_le record_limit self.old.member.records ≡ false }
+        ensures state { OnOk result (self.new.member ≡ voted self.old.member tx.now origins) }
+        ensures limit { self.new.writers ≡ self.old.writers }
     {
         let consumed = chain_types::owned_keys(self.alloc, tx)?;
         self.votes.cast(digest, consumed, origins)?;
@@ -228,9 +242,10 @@ impl State {
     pub fn take_hold(&mut self, held: Held) -> Result<(), OutOfMemory>
         requires digest { held.digest ≡ transaction_digest held.cert.tx }
         requires shape { shape_fault held.cert.tx ≡ None }
-        requires new { is_some (held_of self.old.held held.digest) ≡ false }
-        requires room { nat_le record_limit self.old.records ≡ false }
-        ensures { OnOk result (self.new ≡ holding self.old held.cert) }
+        requires new { is_some (held_of self.old.member.held held.digest) ≡ false }
+        requires room { nat_le record_limit self.old.member.records ≡ false }
+        ensures state { OnOk result (self.new.member ≡ holding self.old.member held.cert) }
+        ensures limit { self.new.writers ≡ self.old.writers }
     {
         self.waiting.hold(&self.store, self.held.as_slice(), &held)?;
         match self.held.hold(held) {
@@ -250,10 +265,11 @@ impl State {
     /// is built, since no entry is seen. Where memory is refused the state is not to be used.
     #[tactic(auto, unfolding(protocol_spec::specs::Member::Member::built), using(crate::proofs::Named::ran_named))]
     pub fn execute(&mut self) -> Result<Seq<Effects>, OutOfMemory>
-        ensures state { OnOk result (self.new ≡ with_rounds self.old) }
-        ensures effects { IfOk result (λ effects. effects ≡ map effects_of (rounds (books self.old) self.old.executed)) }
-        ensures items { IfOk result (λ effects. items_of effects ≡ ran_items self.old) }
-        ensures built { newly_built self.old (with_rounds self.old) ≡ [] }
+        ensures state { OnOk result (self.new.member ≡ with_rounds self.old.member) }
+        ensures effects { IfOk result (λ effects. effects ≡ map effects_of (rounds (books self.old.member) self.old.member.executed)) }
+        ensures items { IfOk result (λ effects. items_of effects ≡ ran_items self.old.member) }
+        ensures built { newly_built self.old.member (with_rounds self.old.member) ≡ [] }
+        ensures limit { self.new.writers ≡ self.old.writers }
     {
         let ran = exec_plan::run(
             self.alloc,
@@ -273,23 +289,25 @@ impl State {
     /// The held certificates that a run left although all that they waited for is executed.
     #[tactic(auto, unfolding(protocol_spec::specs::Member::Rounds::left))]
     pub fn left(&self) -> Result<Seq<Left>, OutOfMemory>
-        ensures { IfOk result (λ all. all ≡ left (books self.now) self.now.executed) }
+        ensures { IfOk result (λ all. all ≡ left (books self.now.member) self.now.member.executed) }
     {
         exec_plan::left(self.alloc, &self.store, &self.waiting, self.held.as_slice())
     }
 
     /// Counts the record of a run. Takes no memory.
     pub fn count_run(&mut self)
-        requires room { nat_le record_limit self.old.records ≡ false }
-        ensures { self.new ≡ counted self.old }
+        requires room { nat_le record_limit self.old.member.records ≡ false }
+        ensures state { self.new.member ≡ counted self.old.member }
+        ensures limit { self.new.writers ≡ self.old.writers }
     {
         self.records += 1;
     }
 
     /// Takes the record of a close. Takes no memory.
     pub fn take_close(&mut self)
-        requires room { nat_le record_limit self.old.records ≡ false }
-        ensures { self.new ≡ closing self.old }
+        requires room { nat_le record_limit self.old.member.records ≡ false }
+        ensures state { self.new.member ≡ closing self.old.member }
+        ensures limit { self.new.writers ≡ self.old.writers }
     {
         self.closed = true;
         self.records += 1;

@@ -11,7 +11,7 @@ ghost use Rattle.answer_types.specs.declared.refusals.VoteRefusal.TheVariants as
 ghost use Rattle.answer_types.specs.declared.refusals.CloseRefusal.TheVariants as no_close;
 ghost use Rattle.answer_types.specs.declared.refusals.RunRefusal.TheVariants as no_run;
 ghost use Rattle.validator_core.specs.Calls.{Closes, Holds, Runs, Votes, close_ended, close_said, hold_ended, hold_said, run_ended, run_said, vote_ended, vote_said};
-ghost use Rattle.scene_spec.specs.RulesFor.{rules_for};
+ghost use Rattle.scene_spec.specs.Terms.{rules_for};
 ghost use Rattle.validator_core.specs.Built.{transactions_in};
 ghost use Rattle.version_store.specs.Stores.{are_new};
 ghost use Rattle.validator_core.specs.Starts.{Starts};
@@ -30,7 +30,7 @@ use std::alloc::Global;
 use std::marker::Model;
 use wire_bcs::{OutOfMemory, Seq};
 
-/// A member of a committee. Contracts see its number, the committee's stakes, whether it is up, and its state.
+/// A member of a committee. Contracts see its number, the committee's terms, whether it is up, and its state.
 #[derive(Drop)]
 pub struct Validator {
     pub(crate) member: u32,
@@ -44,12 +44,12 @@ impl Model for Validator {
 
     ghost Value = { Seat };
 
-    ghost view = { λ v. record { member = v.member; stakes = v.committee; up = v.up; state = v.state } };
+    ghost view = { λ v. record { member = v.member; terms = record { stakes = v.committee; writers = v.state.writers }; up = v.up; state = v.state.member } };
 }
 
 impl Validator {
     /// Starts the member of this number from the records that it kept, none for a new one, in an epoch 0 that opens
-    /// with these objects, none of them twice. `BadRecord` comes exactly at the first record that does not decode
+    /// with these objects, none of them twice; its sequences have this limit of writers, or none. `BadRecord` comes exactly at the first record that does not decode
     /// (1), or that no call would have appended (2). Records of votes, certificates, runs and closes are taken, a
     /// run's in both forms, with effects and without; those of entries and turns are not taken yet.
     #[tactic(auto, unfolding(scene_spec::specs::Starts::started))]
@@ -58,14 +58,15 @@ impl Validator {
         member: u32,
         committee: &Committee,
         opening: &Seq<Object>,
+        writers: Option<u32>,
         kept: &Seq<Seq<u8>>,
         sealer: &S,
     ) -> Result<Validator, StartRefusal>
         requires apart { are_new [] opening.now ≡ true }
         requires count { length kept.now < 2 ^ 64 }
-        ensures { Starts (started (rules_for committee.now (S.accepts sealer.now)) opening.now kept.now) member committee.now result }
+        ensures { Starts (started (rules_for (record { stakes = committee.now; writers = writers }) (S.accepts sealer.now)) opening.now kept.now) member (record { stakes = committee.now; writers = writers }) result }
     {
-        let Ok(mut state) = State::fresh(alloc, opening) else {
+        let Ok(mut state) = State::fresh(alloc, opening, writers) else {
             return Err(StartRefusal::OutOfMemory);
         };
         match take_all(&mut state, committee, sealer, kept.as_slice()) {

@@ -62,8 +62,8 @@ fn again(digest: Digest, origins: &Seq<Option<Digest>>) -> Result<Decision, Vote
 impl State {
     /// Whether a vote may be asked for.
     pub(crate) fn check_vote(&self) -> Result<(), VoteRefusal>
-        ensures value { result ≡ unless_refused (vote_stopped self.now) tt }
-        ensures room { IfOk result (λ _. nat_le record_limit self.now.records ≡ false) }
+        ensures value { result ≡ unless_refused (vote_stopped self.now.member) tt }
+        ensures room { IfOk result (λ _. nat_le record_limit self.now.member.records ≡ false) }
         ensures never { IsErrOf result no_vote.KeepFault → ⊥ }
     {
         if let Some((first, second)) = self.fork() {
@@ -97,9 +97,9 @@ impl State {
         sealed: bool,
     ) -> Result<Decision, VoteRefusal>
         requires digest { digest ≡ transaction_digest tx.now }
-        requires new { vote_for self.now digest ≡ None }
-        ensures answer { VotesAs self.now.epoch (new_vote self.now tx.now (unsealed_where sealed)) result }
-        ensures free { IfOk result (λ d. IsFree self.now tx.now d) }
+        requires new { vote_for self.now.member digest ≡ None }
+        ensures answer { VotesAs self.now.member.epoch (new_vote self.now.member tx.now (unsealed_where sealed)) result }
+        ensures free { IfOk result (λ d. IsFree self.now.member tx.now d) }
         ensures never { IsErrOf result no_vote.KeepFault → ⊥ }
     {
         if self.is_closed() {
@@ -127,8 +127,8 @@ impl State {
     /// new one. Order of the refusals: `WrongEpoch`, `Closed`, `Invalid`, `Unsealed`, the vote rule's.
     pub fn vote_on(&self, tx: &Transaction, sealed: bool) -> Result<Decision, VoteRefusal>
         requires { transaction.short tx.now }
-        ensures answer { VotesAs self.now.epoch (vote_on self.now tx.now (unsealed_where sealed)) result }
-        ensures free { IfOk result (λ d. IsFree self.now tx.now d) }
+        ensures answer { VotesAs self.now.member.epoch (vote_on self.now.member tx.now (unsealed_where sealed)) result }
+        ensures free { IfOk result (λ d. IsFree self.now.member tx.now d) }
         ensures never { IsErrOf result no_vote.KeepFault → ⊥ }
     {
         let want = self.epoch();
@@ -155,13 +155,13 @@ impl State {
         sealer: &S,
         bytes: &[u8],
     ) -> Result<(Transaction, Decision), VoteRefusal>
-        ensures answer { VotesAs self.now.epoch (vote_answer (sealed_as (S.accepts sealer.now)) self.now bytes.now) (decision_in result) }
-        ensures due { VoteDue (due (sealed_as (S.accepts sealer.now)) self.now (votes bytes.now)) result }
-        ensures free { IfOk result (λ v. IsFree self.now v.0 v.1) }
+        ensures answer { VotesAs self.now.member.epoch (vote_answer (sealed_as (S.accepts sealer.now)) self.now.member bytes.now) (decision_in result) }
+        ensures due { VoteDue (due (sealed_as (S.accepts sealer.now)) self.now.member (votes bytes.now)) result }
+        ensures free { IfOk result (λ v. IsFree self.now.member v.0 v.1) }
         ensures short { IfOk result (λ v. transaction.short v.0) }
-        ensures room { IfOk result (λ _. nat_le record_limit self.now.records ≡ false) }
+        ensures room { IfOk result (λ _. nat_le record_limit self.now.member.records ≡ false) }
         ensures never { IsErrOf result no_vote.KeepFault → ⊥ }
-        ensures able { IsErrOf result no_vote.OutOfMemory → fork_of self.now ≡ None }
+        ensures able { IsErrOf result no_vote.OutOfMemory → fork_of self.now.member ≡ None }
     {
         self.check_vote()?;
         let signed = match decode_signed(self.alloc, bytes) {

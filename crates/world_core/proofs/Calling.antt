@@ -6,6 +6,7 @@ use Rattle.outside.specs.Lists.{Journals}
 use Rattle.protocol_spec.specs.Chain.Certificates.{Rules}
 use Rattle.protocol_spec.specs.Member.Calls.{Call}
 use Rattle.protocol_spec.specs.Member.Member.{Member}
+use Rattle.scene_spec.specs.Terms.{Terms}
 use Rattle.scene_spec.specs.Posts.{Post, posts_behind, posts_with, reached_in, reached_post, record_left}
 use Rattle.world_core.specs.declared.reply.Reply.{Reply}
 use Rattle.world_core.specs.Crews.{IsPlaced, PostAfter, PostsAfter, fallen, fallen_at}
@@ -14,18 +15,18 @@ use Rattle.world_core.proofs.Placing.{AreWhole, changed_is, post_honest, post_pl
 
 -- ---- behind the call
 
-after_placed : {A E : Type 0} (stakes : List ℕ) (m : ℕ) (r : Rules) (call : Call) (old p : Post) (result : Result A E) → IsPlaced stakes m old.standing → PostAfter r call old p result → IsPlaced stakes m p.standing
-after_placed stakes m r call old p (Ok a) placed e = subst (λ (q : Post). IsPlaced stakes m q.standing) (sym e) (post_placed stakes m r call old (reached_post r call (Some old)) placed)
-after_placed stakes m r call old p (Err f) placed e = subst (λ (q : Post). IsPlaced stakes m q.standing) (sym e) tt
+after_placed : {A E : Type 0} (terms : Terms) (m : ℕ) (r : Rules) (call : Call) (old p : Post) (result : Result A E) → IsPlaced terms m old.standing → PostAfter r call old p result → IsPlaced terms m p.standing
+after_placed terms m r call old p (Ok a) placed e = subst (λ (q : Post). IsPlaced terms m q.standing) (sym e) (post_placed terms m r call old (reached_post r call (Some old)) placed)
+after_placed terms m r call old p (Err f) placed e = subst (λ (q : Post). IsPlaced terms m q.standing) (sym e) tt
 
 after_honest : {A E : Type 0} (r : Rules) (call : Call) (old p : Post) (result : Result A E) → PostAfter r call old p result → p.honest ≡ old.honest
 after_honest r call old p (Ok a) e = ap (λ (q : Post). q.honest) e ∙ post_honest r call old (reached_post r call (Some old))
 after_honest r call old p (Err f) e = ap (λ (q : Post). q.honest) e
 
-pub whole_after : {A E : Type 0} (stakes : List ℕ) (flags : List Bool) (posts : List Post) (n m : ℕ) (r : Rules) (call : Call) (old p : Post) (result : Result A E) → n ≡ length posts → m < n → old ≡ get_or posts m old → AreWhole stakes flags posts
-    → IsPlaced stakes m old.standing → PostAfter r call old p result → AreWhole stakes flags (set posts m p)
-whole_after stakes flags posts n m r call old p result count low is whole placed e =
-    whole_with stakes flags posts n m old p count low is whole (after_placed stakes m r call old p result placed e) (after_honest r call old p result e)
+pub whole_after : {A E : Type 0} (terms : Terms) (flags : List Bool) (posts : List Post) (n m : ℕ) (r : Rules) (call : Call) (old p : Post) (result : Result A E) → n ≡ length posts → m < n → old ≡ get_or posts m old → AreWhole terms flags posts
+    → IsPlaced terms m old.standing → PostAfter r call old p result → AreWhole terms flags (set posts m p)
+whole_after terms flags posts n m r call old p result count low is whole placed e =
+    whole_with terms flags posts n m old p count low is whole (after_placed terms m r call old p result placed e) (after_honest r call old p result e)
 
 pub posts_after : {A E : Type 0} (posts : List Post) (n m : ℕ) (r : Rules) (call : Call) (old p : Post) (result : Result A E) → n ≡ length posts → m < n → old ≡ get_or posts m old → PostAfter r call old p result → PostsAfter r call m posts (set posts m p) result
 posts_after posts n m r call old p (Ok a) count low is e = ap (set posts m) e ∙ ap (posts_with r call posts m) (sym (slice_get_read posts n m old count low is))

@@ -8,6 +8,7 @@ use Rattle.protocol_spec.specs.Member.Calls.{Call, called}
 use Rattle.protocol_spec.specs.Member.Member.{fresh}
 use Rattle.world_spec.specs.World.{Reached, finds_down, stops, answers}
 use Rattle.scene_spec.specs.Seats.{Seat}
+use Rattle.scene_spec.specs.Terms.{Terms}
 use Rattle.scene_spec.specs.Posts.{Post, changed_at, new_posts, post_behind, seat_at, seat_behind, standing_with}
 use Rattle.world_core.specs.Crews.{ArePlaced, IsPlaced, IsPlacedPost, honest_flags}
 
@@ -26,33 +27,33 @@ set_flags (x ∷ posts) zero old p e same = let is : x ≡ old = cc in ap (λ (h
 set_flags (x ∷ posts) (suc m) old p e same = ap (λ (hs : List Bool). x.honest ∷ hs) (set_flags posts m old p e same)
 
 -- what holds of the members together
-abbrev pub AreWhole : List ℕ → List Bool → List Post → Type 0
-AreWhole stakes flags posts = ArePlaced stakes posts × (flags ≡ honest_flags posts) × (length posts ≤ 64)
+abbrev pub AreWhole : Terms → List Bool → List Post → Type 0
+AreWhole terms flags posts = ArePlaced terms posts × (flags ≡ honest_flags posts) × (length posts ≤ 64)
 
-pub placed_in : (stakes : List ℕ) (posts : List Post) (n m : ℕ) (old : Post) → n ≡ length posts → m < n → old ≡ get_or posts m old → ArePlaced stakes posts → IsPlaced stakes m old.standing
-placed_in stakes posts n m old count low is placed = subst (IsPlacedPost stakes m) (slice_get_read posts n m old count low is) (placed m)
+pub placed_in : (terms : Terms) (posts : List Post) (n m : ℕ) (old : Post) → n ≡ length posts → m < n → old ≡ get_or posts m old → ArePlaced terms posts → IsPlaced terms m old.standing
+placed_in terms posts n m old count low is placed = subst (IsPlacedPost terms m) (slice_get_read posts n m old count low is) (placed m)
 
-pub whole_with : (stakes : List ℕ) (flags : List Bool) (posts : List Post) (n m : ℕ) (old p : Post) → n ≡ length posts → m < n → old ≡ get_or posts m old → AreWhole stakes flags posts → IsPlaced stakes m p.standing → p.honest ≡ old.honest
-    → AreWhole stakes flags (set posts m p)
-whole_with stakes flags posts n m old p count low is whole placed same =
-    (set_all (IsPlacedPost stakes) posts m p whole.0 placed, whole.1 ∙ set_flags posts m old p (slice_get_read posts n m old count low is) same, subst (λ (k : ℕ). k ≤ 64) (sym (length-set posts m p)) whole.2)
+pub whole_with : (terms : Terms) (flags : List Bool) (posts : List Post) (n m : ℕ) (old p : Post) → n ≡ length posts → m < n → old ≡ get_or posts m old → AreWhole terms flags posts → IsPlaced terms m p.standing → p.honest ≡ old.honest
+    → AreWhole terms flags (set posts m p)
+whole_with terms flags posts n m old p count low is whole placed same =
+    (set_all (IsPlacedPost terms) posts m p whole.0 placed, whole.1 ∙ set_flags posts m old p (slice_get_read posts n m old count low is) same, subst (λ (k : ℕ). k ≤ 64) (sym (length-set posts m p)) whole.2)
 
 pub changed_is : (change : Post → Post) (posts : List Post) (n m : ℕ) (old p : Post) → n ≡ length posts → m < n → old ≡ get_or posts m old → p ≡ change old → set posts m p ≡ changed_at posts m change (slice_get posts m)
 changed_is change posts n m old p count low is e = ap (set posts m) e ∙ ap (changed_at posts m change) (sym (slice_get_read posts n m old count low is))
 
 -- ---- behind a call
 
-pub placed_behind : (stakes : List ℕ) (m : ℕ) (r : Rules) (call : Call) (old : Seat) → old ≡ seat_at stakes m old.state → seat_behind r call old ≡ seat_at stakes m (called r old.state call)
-placed_behind stakes m r call old e = ap (λ (s : Seat). record s { state = called r old.state call }) e
+pub placed_behind : (terms : Terms) (m : ℕ) (r : Rules) (call : Call) (old : Seat) → old ≡ seat_at terms m old.state → seat_behind r call old ≡ seat_at terms m (called r old.state call)
+placed_behind terms m r call old e = ap (λ (s : Seat). record s { state = called r old.state call }) e
 
-standing_behind : (stakes : List ℕ) (m : ℕ) (r : Rules) (call : Call) (o : Option Seat) → IsPlaced stakes m o → IsPlaced stakes m (option_map (seat_behind r call) o)
-standing_behind stakes m r call None placed = tt
-standing_behind stakes m r call (Some seat) placed = placed_behind stakes m r call seat placed
+standing_behind : (terms : Terms) (m : ℕ) (r : Rules) (call : Call) (o : Option Seat) → IsPlaced terms m o → IsPlaced terms m (option_map (seat_behind r call) o)
+standing_behind terms m r call None placed = tt
+standing_behind terms m r call (Some seat) placed = placed_behind terms m r call seat placed
 
-pub post_placed : (stakes : List ℕ) (m : ℕ) (r : Rules) (call : Call) (p : Post) (what : Reached) → IsPlaced stakes m p.standing → IsPlaced stakes m (post_behind r call p what).standing
-post_placed stakes m r call p finds_down placed = placed
-post_placed stakes m r call p (stops kept x) placed = tt
-post_placed stakes m r call p (answers before x) placed = standing_behind stakes m r call p.standing placed
+pub post_placed : (terms : Terms) (m : ℕ) (r : Rules) (call : Call) (p : Post) (what : Reached) → IsPlaced terms m p.standing → IsPlaced terms m (post_behind r call p what).standing
+post_placed terms m r call p finds_down placed = placed
+post_placed terms m r call p (stops kept x) placed = tt
+post_placed terms m r call p (answers before x) placed = standing_behind terms m r call p.standing placed
 
 pub post_honest : (r : Rules) (call : Call) (p : Post) (what : Reached) → (post_behind r call p what).honest ≡ p.honest
 post_honest r call p finds_down = refl
@@ -61,30 +62,30 @@ post_honest r call p (answers before x) = refl
 
 -- ---- new members
 
-pub new_placed : (stakes : List ℕ) (opening : List Object) (flags : List Bool) (first k : ℕ) → IsPlacedPost stakes (first + k) (slice_get (new_posts stakes opening first flags) k)
-new_placed stakes opening [] first k = tt
-new_placed stakes opening (honest ∷ flags) first zero = let e : first ≡ first + 0 = omega arith in ap (λ (m : ℕ). seat_at stakes m (fresh opening)) e
-new_placed stakes opening (honest ∷ flags) first (suc k) = let e : suc first + k ≡ first + suc k = omega arith in subst (λ (m : ℕ). IsPlacedPost stakes m (slice_get (new_posts stakes opening (suc first) flags) k)) e (new_placed stakes opening flags (suc first) k)
+pub new_placed : (terms : Terms) (opening : List Object) (flags : List Bool) (first k : ℕ) → IsPlacedPost terms (first + k) (slice_get (new_posts terms opening first flags) k)
+new_placed terms opening [] first k = tt
+new_placed terms opening (honest ∷ flags) first zero = let e : first ≡ first + 0 = omega arith in ap (λ (m : ℕ). seat_at terms m (fresh opening)) e
+new_placed terms opening (honest ∷ flags) first (suc k) = let e : suc first + k ≡ first + suc k = omega arith in subst (λ (m : ℕ). IsPlacedPost terms m (slice_get (new_posts terms opening (suc first) flags) k)) e (new_placed terms opening flags (suc first) k)
 
-pub new_flags : (stakes : List ℕ) (opening : List Object) (flags : List Bool) (first : ℕ) → flags ≡ honest_flags (new_posts stakes opening first flags)
-new_flags stakes opening [] first = refl
-new_flags stakes opening (honest ∷ flags) first = ap (λ (hs : List Bool). honest ∷ hs) (new_flags stakes opening flags (suc first))
+pub new_flags : (terms : Terms) (opening : List Object) (flags : List Bool) (first : ℕ) → flags ≡ honest_flags (new_posts terms opening first flags)
+new_flags terms opening [] first = refl
+new_flags terms opening (honest ∷ flags) first = ap (λ (hs : List Bool). honest ∷ hs) (new_flags terms opening flags (suc first))
 
-pub new_length : (stakes : List ℕ) (opening : List Object) (flags : List Bool) (first : ℕ) → length (new_posts stakes opening first flags) ≡ length flags
-new_length stakes opening [] first = refl
-new_length stakes opening (honest ∷ flags) first = ap suc (new_length stakes opening flags (suc first))
+pub new_length : (terms : Terms) (opening : List Object) (flags : List Bool) (first : ℕ) → length (new_posts terms opening first flags) ≡ length flags
+new_length terms opening [] first = refl
+new_length terms opening (honest ∷ flags) first = ap suc (new_length terms opening flags (suc first))
 
-pub new_whole : (stakes : List ℕ) (opening : List Object) (flags : List Bool) → length flags ≤ 64 → AreWhole stakes flags (new_posts stakes opening 0 flags)
-new_whole stakes opening flags few =
-    (λ k. (let e : 0 + k ≡ k = omega arith in subst (λ (m : ℕ). IsPlacedPost stakes m (slice_get (new_posts stakes opening 0 flags) k)) e (new_placed stakes opening flags 0 k)), new_flags stakes opening flags 0, subst (λ (n : ℕ). n ≤ 64) (sym (new_length stakes opening flags 0)) few)
+pub new_whole : (terms : Terms) (opening : List Object) (flags : List Bool) → length flags ≤ 64 → AreWhole terms flags (new_posts terms opening 0 flags)
+new_whole terms opening flags few =
+    (λ k. (let e : 0 + k ≡ k = omega arith in subst (λ (m : ℕ). IsPlacedPost terms m (slice_get (new_posts terms opening 0 flags) k)) e (new_placed terms opening flags 0 k)), new_flags terms opening flags 0, subst (λ (n : ℕ). n ≤ 64) (sym (new_length terms opening flags 0)) few)
 
-pub new_more : (stakes : List ℕ) (opening : List Object) (acc : List Post) (m : ℕ) (honest : Bool) (flags : List Bool) (p : Post) → p ≡ standing_with stakes m honest (fresh opening)
-    → (acc ++ p ∷ []) ++ new_posts stakes opening (m + 1) flags ≡ acc ++ new_posts stakes opening m (honest ∷ flags)
-new_more stakes opening acc m honest flags p e =
-    append_assoc acc (p ∷ []) (new_posts stakes opening (m + 1) flags)
-    ∙ ap (λ (q : Post). acc ++ q ∷ new_posts stakes opening (m + 1) flags) e
-    ∙ ap (λ (n : ℕ). acc ++ standing_with stakes m honest (fresh opening) ∷ new_posts stakes opening n flags) (add-one m)
+pub new_more : (terms : Terms) (opening : List Object) (acc : List Post) (m : ℕ) (honest : Bool) (flags : List Bool) (p : Post) → p ≡ standing_with terms m honest (fresh opening)
+    → (acc ++ p ∷ []) ++ new_posts terms opening (m + 1) flags ≡ acc ++ new_posts terms opening m (honest ∷ flags)
+new_more terms opening acc m honest flags p e =
+    append_assoc acc (p ∷ []) (new_posts terms opening (m + 1) flags)
+    ∙ ap (λ (q : Post). acc ++ q ∷ new_posts terms opening (m + 1) flags) e
+    ∙ ap (λ (n : ℕ). acc ++ standing_with terms m honest (fresh opening) ∷ new_posts terms opening n flags) (add-one m)
 
-pub new_is : (stakes : List ℕ) (opening : List Object) (flags : List Bool) (given : List ℕ) (kept : List Bool) (posts : List Post) → given ≡ stakes → kept ≡ flags → posts ≡ new_posts stakes opening 0 flags → length flags ≤ 64 → AreWhole given kept posts
-new_is stakes opening flags given kept posts same_stakes same_flags is few =
-    subst (λ (s : List ℕ). AreWhole s kept posts) (sym same_stakes) (subst (λ (f : List Bool). AreWhole stakes f posts) (sym same_flags) (subst (λ (p : List Post). AreWhole stakes flags p) (sym is) (new_whole stakes opening flags few)))
+pub new_is : (terms : Terms) (opening : List Object) (flags : List Bool) (given : Terms) (kept : List Bool) (posts : List Post) → given ≡ terms → kept ≡ flags → posts ≡ new_posts terms opening 0 flags → length flags ≤ 64 → AreWhole given kept posts
+new_is terms opening flags given kept posts same_terms same_flags is few =
+    subst (λ (s : Terms). AreWhole s kept posts) (sym same_terms) (subst (λ (f : List Bool). AreWhole terms f posts) (sym same_flags) (subst (λ (p : List Post). AreWhole terms flags p) (sym is) (new_whole terms opening flags few)))

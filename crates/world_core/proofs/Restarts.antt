@@ -9,7 +9,7 @@ use Rattle.scene_spec.specs.Scene.{Scene, rules_in}
 use Rattle.world_core.specs.SeatRestarts.{Restarted}
 use Rattle.world_core.specs.Restarts.{Accepting, RestartsAs}
 
-pub comes_back : (accepts : Accepting) (told : Option Journals) (m : ℕ) (old new : Scene) (p : Option Post) (count : ℕ) (lines : List Line) → Restarted (rules_in accepts old) old.opening told old.stakes m old.posts new.posts p count
+pub comes_back : (accepts : Accepting) (told : Option Journals) (m : ℕ) (old new : Scene) (p : Option Post) (count : ℕ) (lines : List Line) → Restarted (rules_in accepts old) old.opening told old.terms m old.posts new.posts p count
     → new ≡ record old { posts = new.posts } → lines ≡ line.Restart m (restart_text.Records count) ∷ [] → RestartsAs accepts told m old new p (Ok lines)
 comes_back accepts told m old new None count lines is n l =
     record {

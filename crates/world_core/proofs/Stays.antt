@@ -1,4 +1,4 @@
--- A step leaves the number of members and the stakes as they are.
+-- A step leaves the number of members and the terms as they are.
 use Rattle.std.proofs.Common.{◌≡◌, ◌∙◌, ap, sym, refl, subst, ℕ, zero, suc, List, [], ◌∷◌, length, Option, Some, None, Result, Ok, Err}
 use Rattle.std.specs.Prelude.{OnOk, slice_get, slice_set}
 use Rattle.outside.specs.Lists.{Journals}
@@ -61,10 +61,10 @@ stays trust sc (event.Final tx members) = record { many = refl; staked = refl }
 pub restart_stays : (accepts : Accepting) (told : Option Journals) (m : ℕ) (old new : Scene) (p : Option Post) (result : Result (List Line) WorldFault) → RestartsAs accepts told m old new p result → OnOk result (Stays old new)
 restart_stays accepts told m old new (Some p) (Ok lines) is =
     record {
-      many = ap (λ (x : Scene). length x.posts) is.scene ∙ changed_many old.posts m (starting old.stakes m is.state) (slice_get old.posts m);
-      staked = ap (λ (x : Scene). x.stakes) is.scene;
+      many = ap (λ (x : Scene). length x.posts) is.scene ∙ changed_many old.posts m (starting old.terms m is.state) (slice_get old.posts m);
+      terms = ap (λ (x : Scene). x.terms) is.scene;
     }
-restart_stays accepts told m old new None (Ok lines) is = record { many = ap (λ (x : Scene). length x.posts) is.scene; staked = ap (λ (x : Scene). x.stakes) is.scene }
+restart_stays accepts told m old new None (Ok lines) is = record { many = ap (λ (x : Scene). length x.posts) is.scene; terms = ap (λ (x : Scene). x.terms) is.scene }
 restart_stays accepts told m old new p (Err e) is = tt
 
 pub step_stays : (trust : Trust) (old new : Scene) (e : Event) → new ≡ steps_to trust old e → Stays old new

@@ -157,7 +157,7 @@ unnamed_cert_lines trust sc name ms None lines e l = l
 unnamed_cert_lines trust sc name ms (Some t) lines e l = absurd (cc)
 
 abbrev collects : Scene → Digest → List ℕ → Collected
-collects sc tx ms = collected origins_eq sc.stakes (λ m. last_said (vote_in tx) m sc.said) ms
+collects sc tx ms = collected origins_eq sc.terms.stakes (λ m. last_said (vote_in tx) m sc.said) ms
 
 pub collected_lines : (trust : Trust) (sc : Scene) (name : Name) (ms : List ℕ) (made : MadeTx) (t : Option Made) (got : Given) (lines : List Line) → Some (made_as made) ≡ t
     → collected_as got ≡ collects sc made.digest ms → lines ≡ line.Cert name (cert_collected ms (collected_as got)) ∷ [] → lines ≡ cert_lines (bare_setting trust sc) (bare_world sc) name ms t

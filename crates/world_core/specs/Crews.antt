@@ -2,28 +2,29 @@
 use Rattle.std.specs.Prelude.{◌≡◌, ℕ, Bool, List, Option, Some, None, Result, Ok, Err, map, slice_get, if◌then◌else◌}
 use Rattle.chain_types.specs.declared.objects.Object.{Object}
 use Rattle.protocol_spec.specs.Member.Member.{live_objects}
+use Rattle.scene_spec.specs.Terms.{Terms}
 use Rattle.scene_spec.specs.Seats.{Seat}
 use Rattle.protocol_spec.specs.Chain.Certificates.{Rules}
 use Rattle.protocol_spec.specs.Member.Calls.{Call}
 use Rattle.scene_spec.specs.Posts.{Post, changed_at, post_behind, posts_behind, reached_post, seat_at}
 
--- the stakes of the committee, and its members
+-- the terms of the committee, and its members
 pub record Crew : Type 0 where
-  pub stakes : List ℕ
+  pub terms : Terms
   pub posts : List Post
 
--- a member that stands has this number, these stakes, and is up
-abbrev pub IsPlaced : List ℕ → ℕ → Option Seat → Type 0
-IsPlaced stakes m None = Unit {0}
-IsPlaced stakes m (Some seat) = seat ≡ seat_at stakes m seat.state
+-- a member that stands has this number, these terms, and is up
+abbrev pub IsPlaced : Terms → ℕ → Option Seat → Type 0
+IsPlaced terms m None = Unit {0}
+IsPlaced terms m (Some seat) = seat ≡ seat_at terms m seat.state
 
-abbrev pub IsPlacedPost : List ℕ → ℕ → Option Post → Type 0
-IsPlacedPost stakes m None = Unit {0}
-IsPlacedPost stakes m (Some p) = IsPlaced stakes m p.standing
+abbrev pub IsPlacedPost : Terms → ℕ → Option Post → Type 0
+IsPlacedPost terms m None = Unit {0}
+IsPlacedPost terms m (Some p) = IsPlaced terms m p.standing
 
 -- each member that stands has its place as its number
-abbrev pub ArePlaced : List ℕ → List Post → Type 0
-ArePlaced stakes posts = (m : ℕ) → IsPlacedPost stakes m (slice_get posts m)
+abbrev pub ArePlaced : Terms → List Post → Type 0
+ArePlaced terms posts = (m : ℕ) → IsPlacedPost terms m (slice_get posts m)
 
 abbrev pub honest_flags : List Post → List Bool
 honest_flags posts = map (λ (p : Post). p.honest) posts

@@ -25,7 +25,7 @@ pub record ComesBack (accepts : Accepting) (told : Option Journals) (m : ℕ) (o
   pub state : Member
   pub is : IsJournal told m kept
   pub starts : started (rules_in accepts old) old.opening kept ≡ Ok state
-  pub scene : new ≡ record old { posts = started_at old.stakes old.posts m state }
+  pub scene : new ≡ record old { posts = started_at old.terms old.posts m state }
   pub says : lines ≡ line.Restart m (restart_text.Records (length kept)) ∷ []
 
 -- a member that is not there has no records

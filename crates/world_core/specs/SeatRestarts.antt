@@ -6,6 +6,7 @@ use Rattle.protocol_spec.specs.Chain.Certificates.{Rules}
 use Rattle.answer_types.specs.declared.refusals.StartRefusal.TheVariants as no_start
 use Rattle.protocol_spec.specs.Member.Member.{Member}
 use Rattle.scene_spec.specs.Starts.{started}
+use Rattle.scene_spec.specs.Terms.{Terms}
 use Rattle.scene_spec.specs.Posts.{Post, started_at}
 
 -- these are the records of a member, where lists are told
@@ -14,22 +15,22 @@ IsJournal None m kept = Unit {0}
 IsJournal (Some lists) m kept = kept ≡ journal_of lists m
 
 -- the member started from so many records
-pub record HasRestarted (r : Rules) (opening : List Object) (told : Option Journals) (stakes : List ℕ) (m : ℕ) (old new : List Post) (count : ℕ) : Type 0 where
+pub record HasRestarted (r : Rules) (opening : List Object) (told : Option Journals) (terms : Terms) (m : ℕ) (old new : List Post) (count : ℕ) : Type 0 where
   pub kept : List (List ℕ)
   pub state : Member
   pub is : IsJournal told m kept
   pub many : count ≡ length kept
   pub starts : started r opening kept ≡ Ok state
-  pub posts : new ≡ started_at stakes old m state
+  pub posts : new ≡ started_at terms old m state
 
 -- a member that is not there leaves all as it was
 pub record NoneRestarted (old new : List Post) (count : ℕ) : Type 0 where
   pub many : count ≡ 0
   pub posts : new ≡ old
 
-abbrev pub Restarted : Rules → List Object → Option Journals → List ℕ → ℕ → List Post → List Post → Option Post → ℕ → Type 0
-Restarted r opening told stakes m old new None count = NoneRestarted old new count
-Restarted r opening told stakes m old new (Some p) count = HasRestarted r opening told stakes m old new count
+abbrev pub Restarted : Rules → List Object → Option Journals → Terms → ℕ → List Post → List Post → Option Post → ℕ → Type 0
+Restarted r opening told terms m old new None count = NoneRestarted old new count
+Restarted r opening told terms m old new (Some p) count = HasRestarted r opening told terms m old new count
 
 -- the record at this place is the first from which the member does not start
 pub record HasBadRecord (r : Rules) (opening : List Object) (told : Option Journals) (m : ℕ) (place : ℕ) : Type 0 where

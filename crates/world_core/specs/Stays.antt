@@ -2,7 +2,7 @@
 use Rattle.std.specs.Prelude.{◌≡◌, length}
 use Rattle.scene_spec.specs.Scene.{Scene}
 
--- the number of members, and their stakes
+-- the number of members, and the terms of their committee
 pub record Stays (old new : Scene) : Type 0 where
   pub many : length new.posts ≡ length old.posts
-  pub staked : new.stakes ≡ old.stakes
+  pub terms : new.terms ≡ old.terms

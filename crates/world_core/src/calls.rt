@@ -5,7 +5,7 @@ ghost use Rattle.chain_messages.specs.Messages as codecs;
 ghost use Rattle.chain_types.specs.Transactions as tx_codecs;
 ghost use Rattle.outside.specs.Causes.{Rose};
 ghost use Rattle.report_text.specs.declared.lines.Line.TheVariants as line;
-ghost use Rattle.scene_spec.specs.RulesFor.{rules_for};
+ghost use Rattle.scene_spec.specs.Terms.{rules_for};
 ghost use Rattle.protocol_spec.specs.Member.Calls.{holds, runs, votes};
 ghost use Rattle.schedule_text.specs.declared.words.Event.TheVariants as events;
 ghost use Rattle.world_spec.specs.Names.{cert_named, made_named};
@@ -68,11 +68,11 @@ fn ask<D: Keeper, S: Sealer>(
     bytes: &[u8],
 ) -> Result<VoteText, SeatFault>
     requires known { length seats.old.posts ≤ D.width keeper.old }
-    ensures text { IfOk result (λ text. text ≡ vote_text_by directory.now (rules_for seats.old.stakes (S.accepts sealer.now)) bytes.now (reached_in (rules_for seats.old.stakes (S.accepts sealer.now)) seats.old.posts member (votes bytes.now))) }
-    ensures said { OnOk result (said.new ≡ said.old ++ map (said_by member) (stated_in (rules_for seats.old.stakes (S.accepts sealer.now)) (votes bytes.now) (reached_in (rules_for seats.old.stakes (S.accepts sealer.now)) seats.old.posts member (votes bytes.now)))) }
-    ensures posts { OnOk result (seats.new.posts ≡ posts_behind (rules_for seats.old.stakes (S.accepts sealer.now)) seats.old.posts member (votes bytes.now)) }
-    ensures stakes { seats.new.stakes ≡ seats.old.stakes }
-    ensures kept { Leaves (D.lists keeper.old) (D.lists keeper.new) member (record_left (reached_in (rules_for seats.old.stakes (S.accepts sealer.now)) seats.old.posts member (votes bytes.now))) result }
+    ensures text { IfOk result (λ text. text ≡ vote_text_by directory.now (rules_for seats.old.terms (S.accepts sealer.now)) bytes.now (reached_in (rules_for seats.old.terms (S.accepts sealer.now)) seats.old.posts member (votes bytes.now))) }
+    ensures said { OnOk result (said.new ≡ said.old ++ map (said_by member) (stated_in (rules_for seats.old.terms (S.accepts sealer.now)) (votes bytes.now) (reached_in (rules_for seats.old.terms (S.accepts sealer.now)) seats.old.posts member (votes bytes.now)))) }
+    ensures posts { OnOk result (seats.new.posts ≡ posts_behind (rules_for seats.old.terms (S.accepts sealer.now)) seats.old.posts member (votes bytes.now)) }
+    ensures terms { seats.new.terms ≡ seats.old.terms }
+    ensures kept { Leaves (D.lists keeper.old) (D.lists keeper.new) member (record_left (reached_in (rules_for seats.old.terms (S.accepts sealer.now)) seats.old.posts member (votes bytes.now))) result }
     ensures width { D.width keeper.new ≡ D.width keeper.old }
     ensures later { D.failed keeper.old ≤ D.failed keeper.new }
     ensures fault { IsErrOf result fault.KeepFault → Rose (D.failed keeper.old) (D.failed keeper.new) }
@@ -102,10 +102,10 @@ fn hand<D: Keeper, S: Sealer>(
     bytes: &[u8],
 ) -> Result<SendText, SeatFault>
     requires known { length seats.old.posts ≤ D.width keeper.old }
-    ensures text { IfOk result (λ text. text ≡ hold_text_by directory.now (rules_for seats.old.stakes (S.accepts sealer.now)) bytes.now (reached_in (rules_for seats.old.stakes (S.accepts sealer.now)) seats.old.posts member (holds bytes.now))) }
-    ensures posts { OnOk result (seats.new.posts ≡ posts_behind (rules_for seats.old.stakes (S.accepts sealer.now)) seats.old.posts member (holds bytes.now)) }
-    ensures stakes { seats.new.stakes ≡ seats.old.stakes }
-    ensures kept { Leaves (D.lists keeper.old) (D.lists keeper.new) member (record_left (reached_in (rules_for seats.old.stakes (S.accepts sealer.now)) seats.old.posts member (holds bytes.now))) result }
+    ensures text { IfOk result (λ text. text ≡ hold_text_by directory.now (rules_for seats.old.terms (S.accepts sealer.now)) bytes.now (reached_in (rules_for seats.old.terms (S.accepts sealer.now)) seats.old.posts member (holds bytes.now))) }
+    ensures posts { OnOk result (seats.new.posts ≡ posts_behind (rules_for seats.old.terms (S.accepts sealer.now)) seats.old.posts member (holds bytes.now)) }
+    ensures terms { seats.new.terms ≡ seats.old.terms }
+    ensures kept { Leaves (D.lists keeper.old) (D.lists keeper.new) member (record_left (reached_in (rules_for seats.old.terms (S.accepts sealer.now)) seats.old.posts member (holds bytes.now))) result }
     ensures width { D.width keeper.new ≡ D.width keeper.old }
     ensures later { D.failed keeper.old ≤ D.failed keeper.new }
     ensures fault { IsErrOf result fault.KeepFault → Rose (D.failed keeper.old) (D.failed keeper.new) }
@@ -146,11 +146,11 @@ fn run<D: Keeper, S: Sealer>(
     member: u32,
 ) -> Result<Seq<Line>, SeatFault>
     requires known { length seats.old.posts ≤ D.width keeper.old }
-    ensures lines { IfOk result (λ lines. lines ≡ run_lines_by directory.now (rules_for seats.old.stakes (S.accepts sealer.now)) member (reached_in (rules_for seats.old.stakes (S.accepts sealer.now)) seats.old.posts member runs)) }
-    ensures said { OnOk result ((said : List Said) → said ≡ said ++ map (said_by member) (stated_in (rules_for seats.old.stakes (S.accepts sealer.now)) runs (reached_in (rules_for seats.old.stakes (S.accepts sealer.now)) seats.old.posts member runs))) }
-    ensures posts { OnOk result (seats.new.posts ≡ posts_behind (rules_for seats.old.stakes (S.accepts sealer.now)) seats.old.posts member runs) }
-    ensures stakes { seats.new.stakes ≡ seats.old.stakes }
-    ensures kept { Leaves (D.lists keeper.old) (D.lists keeper.new) member (record_left (reached_in (rules_for seats.old.stakes (S.accepts sealer.now)) seats.old.posts member runs)) result }
+    ensures lines { IfOk result (λ lines. lines ≡ run_lines_by directory.now (rules_for seats.old.terms (S.accepts sealer.now)) member (reached_in (rules_for seats.old.terms (S.accepts sealer.now)) seats.old.posts member runs)) }
+    ensures said { OnOk result ((said : List Said) → said ≡ said ++ map (said_by member) (stated_in (rules_for seats.old.terms (S.accepts sealer.now)) runs (reached_in (rules_for seats.old.terms (S.accepts sealer.now)) seats.old.posts member runs))) }
+    ensures posts { OnOk result (seats.new.posts ≡ posts_behind (rules_for seats.old.terms (S.accepts sealer.now)) seats.old.posts member runs) }
+    ensures terms { seats.new.terms ≡ seats.old.terms }
+    ensures kept { Leaves (D.lists keeper.old) (D.lists keeper.new) member (record_left (reached_in (rules_for seats.old.terms (S.accepts sealer.now)) seats.old.posts member runs)) result }
     ensures width { D.width keeper.new ≡ D.width keeper.old }
     ensures later { D.failed keeper.old ≤ D.failed keeper.new }
     ensures fault { IsErrOf result fault.KeepFault → Rose (D.failed keeper.old) (D.failed keeper.new) }

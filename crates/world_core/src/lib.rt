@@ -2,7 +2,7 @@
 //!
 //! [`World::new`] opens the committee of a schedule's set-up; [`World::step`] runs one line, hands its call to the
 //! member that it is for, and answers the lines that the report has for it. Contracts see the world as a scene:
-//! the stakes and the opening, what is known under names, what was said and formed, and the members as they
+//! the terms and the opening, what is known under names, what was said and formed, and the members as they
 //! stand. Each step is the definition's step of that scene, with its lines, and the keeper's lists grow by the
 //! record that the line leaves. [`PlainForms`] are the forms of line that are run: those that need no sequence.
 //! [`World::sums`] tells what a member has built and holds, in numbers.
@@ -27,6 +27,7 @@ mod starts;
 mod step;
 mod stops;
 mod sums;
+mod terms;
 mod votes;
 mod world;
 
@@ -34,4 +35,5 @@ pub use forms::{PlainForms, is_plain};
 pub use reply::{Reply, RestartFault, SeatFault};
 pub use seats::Seats;
 pub use sums::Sums;
+pub use terms::Terms;
 pub use world::{World, WorldFault, WorldRefusal};

@@ -1,7 +1,7 @@
 //! What the set-up lines make: the stakes, who is honest, and the opening objects.
 
 ghost use Rattle.std.specs.Prelude.{◌≡◌, ◌++◌, ◌∷◌, [], IfOk, OnOk, false, fold, map, true};
-ghost use Rattle.world_spec.specs.Setting.{honest_of, objects_from, owned_thing, shared_thing, stakes_of, with_new};
+ghost use Rattle.world_spec.specs.Setting.{honest_of, objects_from, owned_thing, shared_thing, stakes_of, with_new, writers_of};
 ghost use Rattle.world_core.specs.Openings.{has_id, object_id, with_flag, with_object, with_stake};
 
 use chain_types::{Address, Content, Object, ObjectId, Owner};
@@ -44,6 +44,20 @@ pub(crate) fn stakes_of(alloc: Global, setup: &[Setup]) -> Result<Vec<u32>, OutO
     let mut stakes = Vec::new(alloc);
     add_stakes(&mut stakes, setup)?;
     Ok(stakes)
+}
+
+/// The limit of writers, if a line gives one. Takes no memory.
+pub(crate) fn writers_of(setup: &[Setup]) -> Option<u32>
+    ensures { result ≡ writers_of setup.now }
+{
+    let mut rest = setup;
+    while let [line, after @ ..] = rest {
+        if let Setup::Writers(limit) = line {
+            return Some(*limit);
+        }
+        rest = after;
+    }
+    None
 }
 
 /// Adds the flag of a line that makes a member.

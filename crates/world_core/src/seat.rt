@@ -2,7 +2,7 @@
 
 ghost use Rattle.std.specs.Prelude.{◌≡◌, ◌<◌, ◌≤◌, IfOk, IsErrOf, None, Some, if◌then◌else◌, option_copied};
 ghost use Rattle.outside.specs.Causes.{Rose};
-ghost use Rattle.scene_spec.specs.RulesFor.{rules_for};
+ghost use Rattle.scene_spec.specs.Terms.{rules_for};
 ghost use Rattle.scene_spec.specs.Posts.{arming, reached_post, record_left};
 ghost use Rattle.scene_spec.specs.Steps.{held_by};
 ghost use Rattle.world_core.specs.declared.reply.SeatFault.TheVariants as faults;
@@ -12,10 +12,11 @@ ghost use Rattle.world_core.specs.Replies.{Leaves, Replies};
 use crate::reply::{Reply, SeatFault};
 use crate::requests::Asks;
 use crate::stops::meet;
+use crate::terms::Terms;
 use chain_types::ObjectKey;
 use digest_core::Digest;
 use outside::Keeper;
-use quorum_core::{Committee, Sealer};
+use quorum_core::Sealer;
 use std::alloc::Global;
 use std::marker::Model;
 use validator_core::Validator;
@@ -98,16 +99,16 @@ impl Seat {
         alloc: Global,
         keeper: &mut D,
         sealer: &S,
-        _committee: &Committee,
+        _terms: &Terms,
         member: u32,
         request: &Q,
     ) -> Result<Reply<Q::Answer>, SeatFault>
         requires known { member < D.width keeper.old }
         requires few { member < 64 }
-        requires placed { IsPlaced _committee.now member self.old.standing }
-        ensures answer { IfOk result (Replies (Q.says request.now (rules_for _committee.now (S.accepts sealer.now)) (S.accepts sealer.now) member) (reached_post (rules_for _committee.now (S.accepts sealer.now)) (Q.call request.now) (Some self.old))) }
-        ensures post { PostAfter (rules_for _committee.now (S.accepts sealer.now)) (Q.call request.now) self.old self.new result }
-        ensures kept { Leaves (D.lists keeper.old) (D.lists keeper.new) member (record_left (reached_post (rules_for _committee.now (S.accepts sealer.now)) (Q.call request.now) (Some self.old))) result }
+        requires placed { IsPlaced _terms.now member self.old.standing }
+        ensures answer { IfOk result (Replies (Q.says request.now (rules_for _terms.now (S.accepts sealer.now)) (S.accepts sealer.now) member) (reached_post (rules_for _terms.now (S.accepts sealer.now)) (Q.call request.now) (Some self.old))) }
+        ensures post { PostAfter (rules_for _terms.now (S.accepts sealer.now)) (Q.call request.now) self.old self.new result }
+        ensures kept { Leaves (D.lists keeper.old) (D.lists keeper.new) member (record_left (reached_post (rules_for _terms.now (S.accepts sealer.now)) (Q.call request.now) (Some self.old))) result }
         ensures width { D.width keeper.new ≡ D.width keeper.old }
         ensures later { D.failed keeper.old ≤ D.failed keeper.new }
         ensures fault { IsErrOf result faults.KeepFault → Rose (D.failed keeper.old) (D.failed keeper.new) }

@@ -3,7 +3,7 @@
 ghost use Rattle.std.specs.Prelude.{◌≡◌, ◌≤◌, ℕ, [], IfOk, IsErrOf, OnErr, OnOk, option_copied, option_map, length, slice_get, true};
 ghost use Rattle.outside.specs.Causes.{Rose};
 ghost use Rattle.outside.specs.Lists.{KeepsJournals};
-ghost use Rattle.scene_spec.specs.RulesFor.{rules_for};
+ghost use Rattle.scene_spec.specs.Terms.{rules_for};
 ghost use Rattle.protocol_spec.specs.Member.Calls.{holds, runs, votes};
 ghost use Rattle.version_store.specs.Stores.{are_new};
 ghost use Rattle.scene_spec.specs.Posts.{armed_at, new_posts, posts_behind, reached_in, record_left};
@@ -18,6 +18,7 @@ use crate::reply::{Reply, RestartFault, SeatFault};
 use crate::requests::{Asks, HoldRequest, RunRequest, VoteRequest};
 use crate::seat::Seat;
 use crate::starts::{records_of, start_new};
+use crate::terms::Terms;
 use chain_types::{Object, ObjectKey};
 use digest_core::Digest;
 use outside::{Keeper, OutFault};
@@ -28,10 +29,10 @@ use validator_core::{HoldRefusal, Ran, RunRefusal, StartRefusal, Validator, Vote
 use wire_bcs::{OutOfMemory, Seq};
 use world_names::HeldDigests;
 
-/// The members of a committee. Contracts see the stakes, and the members as the definition's posts.
+/// The members of a committee. Contracts see its terms, and the members as the definition's posts.
 #[derive(Drop)]
 pub struct Seats {
-    committee: Committee,
+    terms: Terms,
     flags: Seq<bool>,
     seats: Vec<Seat>,
 }
@@ -42,29 +43,29 @@ impl Model for Seats {
 
     ghost Value = { Crew };
 
-    ghost view = { λ s. record { stakes = s.committee; posts = s.seats.items } };
+    ghost view = { λ s. record { terms = s.terms; posts = s.seats.items } };
 
-    ghost invariant = { λ s. (ArePlaced s.committee s.seats.items) × (s.flags ≡ honest_flags s.seats.items) × (length s.seats.items ≤ 64) };
+    ghost invariant = { λ s. (ArePlaced s.terms s.seats.items) × (s.flags ≡ honest_flags s.seats.items) × (length s.seats.items ≤ 64) };
 }
 
 /// New members, by whether they are honest, of which the first has number 0.
 #[tactic(auto, using(crate::proofs::Placing::new_more))]
 fn new_seats<S: Sealer>(
     alloc: Global,
-    committee: &Committee,
+    terms: &Terms,
     honest: &[bool],
     opening: &Seq<Object>,
     sealer: &S,
 ) -> Result<Vec<Seat>, OutOfMemory>
     requires apart { are_new [] opening.now ≡ true }
     requires few { length honest.now ≤ 64 }
-    ensures { IfOk result (λ seats. seats.items ≡ new_posts committee.now opening.now 0 honest.now) }
+    ensures { IfOk result (λ seats. seats.items ≡ new_posts terms.now opening.now 0 honest.now) }
 {
     let mut seats = Vec::new(alloc);
     let mut member = 0;
     let mut rest = honest;
     while let [flag, after @ ..] = rest {
-        let validator = start_new(alloc, member, committee, opening, sealer)?;
+        let validator = start_new(alloc, member, terms, opening, sealer)?;
         seats.push(Seat {
             honest: *flag,
             validator: Some(validator),
@@ -77,23 +78,23 @@ fn new_seats<S: Sealer>(
 }
 
 impl Seats {
-    /// The members of a new committee, by whether they are honest: each is up, in an epoch 0 that opens with these
+    /// The members of a new committee of these terms, by whether they are honest: each is up, in an epoch 0 that opens with these
     /// objects, none of them twice.
     pub fn new<S: Sealer>(
         alloc: Global,
-        committee: &Committee,
+        terms: &Terms,
         honest: &[bool],
         opening: &Seq<Object>,
         sealer: &S,
     ) -> Result<Seats, OutOfMemory>
         requires apart { are_new [] opening.now ≡ true }
         requires few { length honest.now ≤ 64 }
-        ensures { IfOk result (λ seats. seats ≡ record { stakes = committee.now; posts = new_posts committee.now opening.now 0 honest.now }) }
+        ensures { IfOk result (λ seats. seats ≡ record { terms = terms.now; posts = new_posts terms.now opening.now 0 honest.now }) }
     {
-        let seats = new_seats(alloc, committee, honest, opening, sealer)?;
+        let seats = new_seats(alloc, terms, honest, opening, sealer)?;
         let flags = Seq::from_slice(alloc, honest)?;
         Ok(Seats {
-            committee: committee.copy(),
+            terms: terms.copy(),
             flags,
             seats,
         })
@@ -116,16 +117,16 @@ impl Seats {
 
     /// The committee. Takes no memory.
     pub fn committee(&self) -> &Committee
-        ensures { result.now ≡ self.now.stakes }
+        ensures { result.now ≡ self.now.terms.stakes }
     {
-        &self.committee
+        &self.terms.committee
     }
 
     /// Arms a stop: the next record of the member is kept or lost, and the member stops there. One that is not
     /// there is left out. Takes no memory.
     pub fn arm(&mut self, member: u32, kept: bool)
         ensures posts { self.new.posts ≡ armed_at self.old.posts member kept }
-        ensures stakes { self.new.stakes ≡ self.old.stakes }
+        ensures terms { self.new.terms ≡ self.old.terms }
         ensures count { length self.new.posts ≡ length self.old.posts }
     {
         if member as usize >= self.seats.len() {
@@ -145,11 +146,11 @@ impl Seats {
         request: &Q,
     ) -> Result<Reply<Q::Answer>, SeatFault>
         requires known { length self.old.posts ≤ D.width keeper.old }
-        ensures answer { IfOk result (Replies (Q.says request.now (rules_for self.old.stakes (S.accepts sealer.now)) (S.accepts sealer.now) member) (reached_in (rules_for self.old.stakes (S.accepts sealer.now)) self.old.posts member (Q.call request.now))) }
-        ensures posts { PostsAfter (rules_for self.old.stakes (S.accepts sealer.now)) (Q.call request.now) member self.old.posts self.new.posts result }
-        ensures stakes { self.new.stakes ≡ self.old.stakes }
+        ensures answer { IfOk result (Replies (Q.says request.now (rules_for self.old.terms (S.accepts sealer.now)) (S.accepts sealer.now) member) (reached_in (rules_for self.old.terms (S.accepts sealer.now)) self.old.posts member (Q.call request.now))) }
+        ensures posts { PostsAfter (rules_for self.old.terms (S.accepts sealer.now)) (Q.call request.now) member self.old.posts self.new.posts result }
+        ensures terms { self.new.terms ≡ self.old.terms }
         ensures count { length self.new.posts ≡ length self.old.posts }
-        ensures kept { Leaves (D.lists keeper.old) (D.lists keeper.new) member (record_left (reached_in (rules_for self.old.stakes (S.accepts sealer.now)) self.old.posts member (Q.call request.now))) result }
+        ensures kept { Leaves (D.lists keeper.old) (D.lists keeper.new) member (record_left (reached_in (rules_for self.old.terms (S.accepts sealer.now)) self.old.posts member (Q.call request.now))) result }
         ensures width { D.width keeper.new ≡ D.width keeper.old }
         ensures later { D.failed keeper.old ≤ D.failed keeper.new }
         ensures fault { IsErrOf result faults.KeepFault → Rose (D.failed keeper.old) (D.failed keeper.new) }
@@ -158,7 +159,7 @@ impl Seats {
             return Ok(Reply::Down);
         }
         let seat = &mut self.seats[member as usize];
-        seat.call(alloc, keeper, sealer, &self.committee, member, request)
+        seat.call(alloc, keeper, sealer, &self.terms, member, request)
     }
 
     /// Asks a member for its vote for the transaction that the bytes spell (Sui Lutris). `Down`: the member is
@@ -175,12 +176,12 @@ impl Seats {
         bytes: &[u8],
     ) -> Result<Reply<Result<Voted, VoteRefusal>>, SeatFault>
         requires known { length self.old.posts ≤ D.width keeper.old }
-        ensures answer { IfOk result (Replies (SaysVote (rules_for self.old.stakes (S.accepts sealer.now)) (S.accepts sealer.now) member bytes.now) (reached_in (rules_for self.old.stakes (S.accepts sealer.now)) self.old.posts member (votes bytes.now))) }
-        ensures posts { OnOk result (self.new.posts ≡ posts_behind (rules_for self.old.stakes (S.accepts sealer.now)) self.old.posts member (votes bytes.now)) }
+        ensures answer { IfOk result (Replies (SaysVote (rules_for self.old.terms (S.accepts sealer.now)) (S.accepts sealer.now) member bytes.now) (reached_in (rules_for self.old.terms (S.accepts sealer.now)) self.old.posts member (votes bytes.now))) }
+        ensures posts { OnOk result (self.new.posts ≡ posts_behind (rules_for self.old.terms (S.accepts sealer.now)) self.old.posts member (votes bytes.now)) }
         ensures fallen { OnErr result (self.new.posts ≡ fallen_at self.old.posts member) }
-        ensures stakes { self.new.stakes ≡ self.old.stakes }
+        ensures terms { self.new.terms ≡ self.old.terms }
         ensures count { length self.new.posts ≡ length self.old.posts }
-        ensures kept { Leaves (D.lists keeper.old) (D.lists keeper.new) member (record_left (reached_in (rules_for self.old.stakes (S.accepts sealer.now)) self.old.posts member (votes bytes.now))) result }
+        ensures kept { Leaves (D.lists keeper.old) (D.lists keeper.new) member (record_left (reached_in (rules_for self.old.terms (S.accepts sealer.now)) self.old.posts member (votes bytes.now))) result }
         ensures width { D.width keeper.new ≡ D.width keeper.old }
         ensures later { D.failed keeper.old ≤ D.failed keeper.new }
         ensures fault { IsErrOf result faults.KeepFault → Rose (D.failed keeper.old) (D.failed keeper.new) }
@@ -199,12 +200,12 @@ impl Seats {
         bytes: &[u8],
     ) -> Result<Reply<Result<bool, HoldRefusal>>, SeatFault>
         requires known { length self.old.posts ≤ D.width keeper.old }
-        ensures answer { IfOk result (Replies (SaysHold (rules_for self.old.stakes (S.accepts sealer.now)) bytes.now) (reached_in (rules_for self.old.stakes (S.accepts sealer.now)) self.old.posts member (holds bytes.now))) }
-        ensures posts { OnOk result (self.new.posts ≡ posts_behind (rules_for self.old.stakes (S.accepts sealer.now)) self.old.posts member (holds bytes.now)) }
+        ensures answer { IfOk result (Replies (SaysHold (rules_for self.old.terms (S.accepts sealer.now)) bytes.now) (reached_in (rules_for self.old.terms (S.accepts sealer.now)) self.old.posts member (holds bytes.now))) }
+        ensures posts { OnOk result (self.new.posts ≡ posts_behind (rules_for self.old.terms (S.accepts sealer.now)) self.old.posts member (holds bytes.now)) }
         ensures fallen { OnErr result (self.new.posts ≡ fallen_at self.old.posts member) }
-        ensures stakes { self.new.stakes ≡ self.old.stakes }
+        ensures terms { self.new.terms ≡ self.old.terms }
         ensures count { length self.new.posts ≡ length self.old.posts }
-        ensures kept { Leaves (D.lists keeper.old) (D.lists keeper.new) member (record_left (reached_in (rules_for self.old.stakes (S.accepts sealer.now)) self.old.posts member (holds bytes.now))) result }
+        ensures kept { Leaves (D.lists keeper.old) (D.lists keeper.new) member (record_left (reached_in (rules_for self.old.terms (S.accepts sealer.now)) self.old.posts member (holds bytes.now))) result }
         ensures width { D.width keeper.new ≡ D.width keeper.old }
         ensures later { D.failed keeper.old ≤ D.failed keeper.new }
         ensures fault { IsErrOf result faults.KeepFault → Rose (D.failed keeper.old) (D.failed keeper.new) }
@@ -223,12 +224,12 @@ impl Seats {
         member: u32,
     ) -> Result<Reply<Result<Ran, RunRefusal>>, SeatFault>
         requires known { length self.old.posts ≤ D.width keeper.old }
-        ensures answer { IfOk result (Replies (SaysRun (rules_for self.old.stakes (S.accepts sealer.now))) (reached_in (rules_for self.old.stakes (S.accepts sealer.now)) self.old.posts member runs)) }
-        ensures posts { OnOk result (self.new.posts ≡ posts_behind (rules_for self.old.stakes (S.accepts sealer.now)) self.old.posts member runs) }
+        ensures answer { IfOk result (Replies (SaysRun (rules_for self.old.terms (S.accepts sealer.now))) (reached_in (rules_for self.old.terms (S.accepts sealer.now)) self.old.posts member runs)) }
+        ensures posts { OnOk result (self.new.posts ≡ posts_behind (rules_for self.old.terms (S.accepts sealer.now)) self.old.posts member runs) }
         ensures fallen { OnErr result (self.new.posts ≡ fallen_at self.old.posts member) }
-        ensures stakes { self.new.stakes ≡ self.old.stakes }
+        ensures terms { self.new.terms ≡ self.old.terms }
         ensures count { length self.new.posts ≡ length self.old.posts }
-        ensures kept { Leaves (D.lists keeper.old) (D.lists keeper.new) member (record_left (reached_in (rules_for self.old.stakes (S.accepts sealer.now)) self.old.posts member runs)) result }
+        ensures kept { Leaves (D.lists keeper.old) (D.lists keeper.new) member (record_left (reached_in (rules_for self.old.terms (S.accepts sealer.now)) self.old.posts member runs)) result }
         ensures width { D.width keeper.new ≡ D.width keeper.old }
         ensures later { D.failed keeper.old ≤ D.failed keeper.new }
         ensures fault { IsErrOf result faults.KeepFault → Rose (D.failed keeper.old) (D.failed keeper.new) }
@@ -249,10 +250,10 @@ impl Seats {
     ) -> Result<u64, RestartFault>
         requires known { length self.old.posts ≤ D.width keeper.old }
         requires apart { are_new [] opening.now ≡ true }
-        ensures ok { IfOk result (Restarted (rules_for self.old.stakes (S.accepts sealer.now)) opening.now (D.lists keeper.old) self.old.stakes member self.old.posts self.new.posts (slice_get self.old.posts member)) }
-        ensures bad { (place : ℕ) → IsErrOf result (restart_faults.BadRecord place) → HasBadRecord (rules_for self.old.stakes (S.accepts sealer.now)) opening.now (D.lists keeper.old) member place }
+        ensures ok { IfOk result (Restarted (rules_for self.old.terms (S.accepts sealer.now)) opening.now (D.lists keeper.old) self.old.terms member self.old.posts self.new.posts (slice_get self.old.posts member)) }
+        ensures bad { (place : ℕ) → IsErrOf result (restart_faults.BadRecord place) → HasBadRecord (rules_for self.old.terms (S.accepts sealer.now)) opening.now (D.lists keeper.old) member place }
         ensures stay { OnErr result (self.new ≡ self.old) }
-        ensures stakes { self.new.stakes ≡ self.old.stakes }
+        ensures terms { self.new.terms ≡ self.old.terms }
         ensures count { length self.new.posts ≡ length self.old.posts }
         ensures lists { KeepsJournals (D.lists keeper.old) (D.lists keeper.new) }
         ensures width { D.width keeper.new ≡ D.width keeper.old }
@@ -267,7 +268,15 @@ impl Seats {
             Err(OutFault::Failed) => return Err(RestartFault::KeepFault),
             Err(OutFault::OutOfMemory) => return Err(RestartFault::OutOfMemory),
         };
-        match Validator::start(alloc, member, &self.committee, opening, &kept, sealer) {
+        match Validator::start(
+            alloc,
+            member,
+            &self.terms.committee,
+            opening,
+            self.terms.writers,
+            &kept,
+            sealer,
+        ) {
             Ok(validator) => {
                 let seat = &mut self.seats[member as usize];
                 seat.start(validator);

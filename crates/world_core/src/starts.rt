@@ -9,9 +9,10 @@ ghost use Rattle.version_store.specs.Stores.{are_new};
 ghost use Rattle.scene_spec.specs.Posts.{seat_at};
 ghost use Rattle.world_core.specs.SeatRestarts.{IsJournal};
 
+use crate::terms::Terms;
 use chain_types::Object;
 use outside::{Keeper, OutFault};
-use quorum_core::{Committee, Sealer};
+use quorum_core::Sealer;
 use std::alloc::Global;
 use validator_core::{StartRefusal, Validator};
 use wire_bcs::{OutOfMemory, Seq};
@@ -21,15 +22,23 @@ use wire_bcs::{OutOfMemory, Seq};
 pub(crate) fn start_new<S: Sealer>(
     alloc: Global,
     member: u32,
-    committee: &Committee,
+    terms: &Terms,
     opening: &Seq<Object>,
     sealer: &S,
 ) -> Result<Validator, OutOfMemory>
     requires { are_new [] opening.now ≡ true }
-    ensures { IfOk result (λ seat. seat ≡ seat_at committee.now member (fresh opening.now)) }
+    ensures { IfOk result (λ seat. seat ≡ seat_at terms.now member (fresh opening.now)) }
 {
     let none = Seq::new(alloc);
-    match Validator::start(alloc, member, committee, opening, &none, sealer) {
+    match Validator::start(
+        alloc,
+        member,
+        &terms.committee,
+        opening,
+        terms.writers,
+        &none,
+        sealer,
+    ) {
         Ok(validator) => Ok(validator),
         Err(StartRefusal::BadRecord { .. }) => unreachable!(),
         Err(StartRefusal::OutOfMemory) => Err(OutOfMemory),

@@ -9,7 +9,8 @@ ghost use Rattle.world_core.specs.Openings.{IsRefused};
 ghost use Rattle.world_core.specs.Trusts.{trust_by};
 
 use crate::Seats;
-use crate::opening::{honest_of, opening_of, stakes_of};
+use crate::opening::{honest_of, opening_of, stakes_of, writers_of};
+use crate::terms::Terms;
 use chain_types::Object;
 use quorum_core::Committee;
 use report_text::Line;
@@ -55,7 +56,7 @@ impl Model for World {
 
     ghost Value = { Scene };
 
-    ghost view = { λ w. record { stakes = w.seats.stakes; opening = w.opening; known = w.directory; said = w.said; certs = w.certs; posts = w.seats.posts } };
+    ghost view = { λ w. record { terms = w.seats.terms; opening = w.opening; known = w.directory; said = w.said; certs = w.certs; posts = w.seats.posts } };
 
     ghost invariant = { λ w. IsSound w.opening w.directory w.certs };
 }
@@ -83,7 +84,11 @@ impl World {
     {
         let honest = honest_of(alloc, setup)?;
         let opening = opening_of(alloc, setup)?;
-        let seats = Seats::new(alloc, committee, honest.as_slice(), &opening, sealer)?;
+        let terms = Terms {
+            committee: committee.copy(),
+            writers: writers_of(setup),
+        };
+        let seats = Seats::new(alloc, &terms, honest.as_slice(), &opening, sealer)?;
         let directory = Directory::new(alloc, setup)?;
         Ok(World {
             opening,

@@ -11,7 +11,7 @@ use std::alloc::Global;
 use std::test::Fail;
 use validator_core::{HoldRefusal, VoteRefusal};
 use wire_bcs::Seq;
-use world_core::{Reply, RestartFault, Seats};
+use world_core::{Reply, RestartFault, Seats, Terms};
 use world_names::HeldDigests;
 
 fn seats(alloc: Global) -> Result<Seats, Fail>
@@ -20,9 +20,13 @@ fn seats(alloc: Global) -> Result<Seats, Fail>
     let Ok(committee) = Committee::new([1, 1].as_slice()) else {
         return Err(Fail::new("two stakes are a committee"));
     };
+    let terms = Terms {
+        committee,
+        writers: None,
+    };
     let opening = Seq::new(alloc);
     let honest = [true, false];
-    Ok(Seats::new(alloc, &committee, honest.as_slice(), &opening, &sealer())?)
+    Ok(Seats::new(alloc, &terms, honest.as_slice(), &opening, &sealer())?)
 }
 
 /// A keeper of two lists that never fails.

@@ -11,17 +11,17 @@ use Rattle.validator_core.proofs.Running.{close_due, close_goes, close_maybe_kep
 use Rattle.validator_core.proofs.epoch_calls.close.Goals as goal
 
 pub returns-in-Err-clause-kept : goal.returns-in-Err-clause-kept
-returns-in-Err-clause-kept g c = close_unkept c.args.state.now c.in-Err.refusal (g.D.Keeper.lists c.args.keeper.now) c.args.member c.in-Err.ensures.value
+returns-in-Err-clause-kept g c = close_unkept c.args.state.now.member c.in-Err.refusal (g.D.Keeper.lists c.args.keeper.now) c.args.member c.in-Err.ensures.value
 
 pub returns-then-is_closed-clause-kept : goal.returns-then-is_closed-clause-kept
 returns-then-is_closed-clause-kept g c =
-    let m = c.args.state.now in
+    let m = c.args.state.now.member in
     journals_same (g.D.Keeper.lists c.args.keeper.now) c.args.member (due bare m closes) answered
     (close_due m false (close_goes m true c.in-Ok.ensures.value (cc (c.is_closed.ensures, c.if-is_closed.true))))
 
 pub returns-in_err-keep_close-clause-kept : goal.returns-in_err-keep_close-clause-kept
 returns-in_err-keep_close-clause-kept g c =
-    let m = c.args.state.now in
+    let m = c.args.state.now.member in
     let before = g.D.Keeper.lists c.args.keeper.now in
     let now = g.D.Keeper.lists c.keep_close.new.keeper in
     let is : due bare m closes ≡ Some record_as.Close = close_due m true (close_goes m false c.in-Ok.ensures.value (cc (c.is_closed.ensures, c.if-is_closed.false))) in
@@ -32,6 +32,6 @@ returns-in_err-keep_close-clause-kept g c =
 
 pub returns-clause-kept : goal.returns-clause-kept
 returns-clause-kept g c =
-    let m = c.args.state.now in
+    let m = c.args.state.now.member in
     let is : due bare m closes ≡ Some record_as.Close = close_due m true (close_goes m false c.in-Ok.ensures.value (cc (c.is_closed.ensures, c.if-is_closed.false))) in
     is_kept (g.D.Keeper.lists c.args.keeper.now) (g.D.Keeper.lists c.keep_close.new.keeper) c.args.member (due bare m closes) (Some record_as.Close) is c.in_ok-keep_close.ensures.kept

@@ -15,11 +15,11 @@ use Rattle.validator_core.proofs.Running.{is_kept, run_called, run_due, run_goes
 use Rattle.validator_core.proofs.epoch_calls.run.Goals as goal
 
 pub returns-in-Err-clause-kept : goal.returns-in-Err-clause-kept
-returns-in-Err-clause-kept g c = run_unkept c.args.state.now c.in-Err.refusal (g.D.Keeper.lists c.args.keeper.now) c.args.member c.in-Err.ensures.value
+returns-in-Err-clause-kept g c = run_unkept c.args.state.now.member c.in-Err.refusal (g.D.Keeper.lists c.args.keeper.now) c.args.member c.in-Err.ensures.value
 
 pub returns-in_err-keep_run-clause-kept : goal.returns-in_err-keep_run-clause-kept
 returns-in_err-keep_run-clause-kept g c =
-    let m = c.args.state.now in
+    let m = c.args.state.now.member in
     let before = g.D.Keeper.lists c.args.keeper.now in
     let now = g.D.Keeper.lists c.keep_run.new.keeper in
     let items : List RanItem = items_of c.as_slice.result.now in
@@ -32,15 +32,15 @@ returns-in_err-keep_run-clause-kept g c =
 
 pub returns-clause-state : goal.returns-clause-state
 returns-clause-state g c =
-    let m = c.args.state.now in
+    let m = c.args.state.now.member in
     let items : List RanItem = items_of c.as_slice.result.now in
     let these : items ≡ ran_items m = ap (λ (es : List Effects). items_of es) c.as_slice.ensures.value ∙ c.in-Ok-run.ensures.items in
-    run_called m c.keep_run.new.state c.in-Ok-run.ran items (run_goes m c.in-Ok-run.ran c.in-Ok.ensures.value c.in-Ok-run.ensures.ran) these
+    run_called m c.keep_run.new.state.member c.in-Ok-run.ran items (run_goes m c.in-Ok-run.ran c.in-Ok.ensures.value c.in-Ok-run.ensures.ran) these
     (c.in_ok-keep_run.ensures.state ∙ ap (λ (next : Member). counted_where (ran_record items) next) c.in-Ok-run.ensures.state)
 
 pub returns-clause-kept : goal.returns-clause-kept
 returns-clause-kept g c =
-    let m = c.args.state.now in
+    let m = c.args.state.now.member in
     let items : List RanItem = items_of c.as_slice.result.now in
     let these : items ≡ ran_items m = ap (λ (es : List Effects). items_of es) c.as_slice.ensures.value ∙ c.in-Ok-run.ensures.items in
     is_kept (g.D.Keeper.lists c.args.keeper.now) (g.D.Keeper.lists c.keep_run.new.keeper) c.args.member (due bare m runs) (ran_record items)

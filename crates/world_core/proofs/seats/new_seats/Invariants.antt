@@ -5,7 +5,7 @@ use Rattle.world_core.proofs.seats.new_seats.Given as goal
 -- the members that are made, and those that are left, come to all
 abbrev pub invariant-loop-rest : goal.invariant-loop-rest
 invariant-loop-rest g l = record {
-  same : l.seats.items ++ new_posts l.committee l.opening l.member l.rest ≡ new_posts l.committee l.opening 0 l.honest;
+  same : l.seats.items ++ new_posts l.terms l.opening l.member l.rest ≡ new_posts l.terms l.opening 0 l.honest;
   count : l.member + length l.rest ≡ length l.honest;
 }
 

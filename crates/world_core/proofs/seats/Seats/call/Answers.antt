@@ -1,6 +1,6 @@
 use Rattle.std.proofs.Common.{subst, ◌∙◌, set}
 use Rattle.std.specs.Prelude.{IfOk}
-use Rattle.scene_spec.specs.RulesFor.{rules_for}
+use Rattle.scene_spec.specs.Terms.{rules_for}
 use Rattle.scene_spec.specs.Posts.{reached_in, record_left}
 use Rattle.world_core.specs.Crews.{Crew, PostsAfter}
 use Rattle.world_core.specs.Replies.{Leaves, Replies}
@@ -11,17 +11,17 @@ use Rattle.world_core.proofs.seats.Seats.call.Goals as goal
 pub invariant_of-self : goal.invariant_of-self
 invariant_of-self g c =
     let s = c.self.inside in
-    let r = rules_for s.committee (g.S.Sealer.accepts c.args.sealer.now) in
-    whole_after s.committee s.flags s.seats.items c.len.result c.args.member r (g.Q.Asks.call c.args.request.now) c.index_mut-seat.result.now c.call.new.self c.call.result (c.len.ensures ∙ s.seats.ok.0) c.if-member-len.false c.index_mut-seat.ensures.value c.self.invariant
-    (placed_in s.committee s.seats.items c.len.result c.args.member c.index_mut-seat.result.now (c.len.ensures ∙ s.seats.ok.0) c.if-member-len.false c.index_mut-seat.ensures.value c.self.invariant.0)
+    let r = rules_for s.terms (g.S.Sealer.accepts c.args.sealer.now) in
+    whole_after s.terms s.flags s.seats.items c.len.result c.args.member r (g.Q.Asks.call c.args.request.now) c.index_mut-seat.result.now c.call.new.self c.call.result (c.len.ensures ∙ s.seats.ok.0) c.if-member-len.false c.index_mut-seat.ensures.value c.self.invariant
+    (placed_in s.terms s.seats.items c.len.result c.args.member c.index_mut-seat.result.now (c.len.ensures ∙ s.seats.ok.0) c.if-member-len.false c.index_mut-seat.ensures.value c.self.invariant.0)
     c.call.ensures.post
 
 pub returns-clause-answer : goal.returns-clause-answer
 returns-clause-answer g c =
     let s = c.self.inside in
     let accepts = g.S.Sealer.accepts c.args.sealer.now in
-    subst (λ (w : Crew). IfOk c.call.result (Replies (g.Q.Asks.says c.args.request.now (rules_for w.stakes accepts) accepts c.args.member) (reached_in (rules_for w.stakes accepts) w.posts c.args.member (g.Q.Asks.call c.args.request.now)))) c.self.view_is
-    (said_in (g.Q.Asks.says c.args.request.now (rules_for s.committee accepts) accepts c.args.member) s.seats.items c.len.result c.args.member (rules_for s.committee accepts) (g.Q.Asks.call c.args.request.now) c.index_mut-seat.result.now c.call.result
+    subst (λ (w : Crew). IfOk c.call.result (Replies (g.Q.Asks.says c.args.request.now (rules_for w.terms accepts) accepts c.args.member) (reached_in (rules_for w.terms accepts) w.posts c.args.member (g.Q.Asks.call c.args.request.now)))) c.self.view_is
+    (said_in (g.Q.Asks.says c.args.request.now (rules_for s.terms accepts) accepts c.args.member) s.seats.items c.len.result c.args.member (rules_for s.terms accepts) (g.Q.Asks.call c.args.request.now) c.index_mut-seat.result.now c.call.result
     (c.len.ensures ∙ s.seats.ok.0) c.if-member-len.false c.index_mut-seat.ensures.value c.call.ensures.answer)
 
 pub returns-clause-posts : goal.returns-clause-posts
@@ -29,14 +29,14 @@ returns-clause-posts g c =
     let s = c.self.inside in
     let accepts = g.S.Sealer.accepts c.args.sealer.now in
     let call = g.Q.Asks.call c.args.request.now in
-    subst (λ (w : Crew). PostsAfter (rules_for w.stakes accepts) call c.args.member w.posts (set s.seats.items c.args.member c.call.new.self) c.call.result) c.self.view_is
-    (posts_after s.seats.items c.len.result c.args.member (rules_for s.committee accepts) call c.index_mut-seat.result.now c.call.new.self c.call.result (c.len.ensures ∙ s.seats.ok.0) c.if-member-len.false c.index_mut-seat.ensures.value c.call.ensures.post)
+    subst (λ (w : Crew). PostsAfter (rules_for w.terms accepts) call c.args.member w.posts (set s.seats.items c.args.member c.call.new.self) c.call.result) c.self.view_is
+    (posts_after s.seats.items c.len.result c.args.member (rules_for s.terms accepts) call c.index_mut-seat.result.now c.call.new.self c.call.result (c.len.ensures ∙ s.seats.ok.0) c.if-member-len.false c.index_mut-seat.ensures.value c.call.ensures.post)
 
 pub returns-clause-kept : goal.returns-clause-kept
 returns-clause-kept g c =
     let s = c.self.inside in
     let accepts = g.S.Sealer.accepts c.args.sealer.now in
     let call = g.Q.Asks.call c.args.request.now in
-    subst (λ (w : Crew). Leaves (g.D.Keeper.lists c.args.keeper.now) (g.D.Keeper.lists c.call.new.keeper) c.args.member (record_left (reached_in (rules_for w.stakes accepts) w.posts c.args.member call)) c.call.result) c.self.view_is
-    (left_in (g.D.Keeper.lists c.args.keeper.now) (g.D.Keeper.lists c.call.new.keeper) s.seats.items c.len.result c.args.member (rules_for s.committee accepts) call c.index_mut-seat.result.now c.call.result (c.len.ensures ∙ s.seats.ok.0) c.if-member-len.false
+    subst (λ (w : Crew). Leaves (g.D.Keeper.lists c.args.keeper.now) (g.D.Keeper.lists c.call.new.keeper) c.args.member (record_left (reached_in (rules_for w.terms accepts) w.posts c.args.member call)) c.call.result) c.self.view_is
+    (left_in (g.D.Keeper.lists c.args.keeper.now) (g.D.Keeper.lists c.call.new.keeper) s.seats.items c.len.result c.args.member (rules_for s.terms accepts) call c.index_mut-seat.result.now c.call.result (c.len.ensures ∙ s.seats.ok.0) c.if-member-len.false
     c.index_mut-seat.ensures.value c.call.ensures.kept)
