@@ -6,7 +6,7 @@ use chain_types::{Address, Input, ObjectId, ObjectKey, ObjectRef, Transaction};
 use digest_core::Digest;
 use std::alloc::Global;
 use std::test::Fail;
-use vote_rules::HeldBook;
+use vote_rules::{Fork, HeldBook};
 use wire_bcs::{OutOfMemory, Seq};
 
 const ONE: Digest = Digest([1; 32]);
@@ -123,6 +123,11 @@ fn the_first_fork_stays(rt: HostRuntime) -> Result<(), Fail> {
     assert_eq!(rt; book.fork(), None);
     assert!(rt; holds(alloc, &mut book, TWO, 7, 6)?);
     assert!(rt; holds(alloc, &mut book, THREE, 7, 8)?);
-    assert_eq!(rt; book.fork(), Some((ONE, TWO)));
+    let fork = Fork {
+        key: key(6),
+        first: ONE,
+        second: TWO,
+    };
+    assert_eq!(rt; book.fork(), Some(fork));
     Ok(())
 }

@@ -157,7 +157,10 @@ impl State {
     pub fn fork(&self) -> Option<(Digest, Digest)>
         ensures { result ≡ option_map (λ (f : Fork). (f.first, f.second)) (fork_of self.now.member) }
     {
-        self.held.fork()
+        match self.held.fork() {
+            Some(fork) => Some((fork.first, fork.second)),
+            None => None,
+        }
     }
 
     /// Whether the list of records has no room for one more. Takes no memory.

@@ -17,6 +17,7 @@ use Rattle.protocol_spec.specs.Chain.Words.{first_of, first_some, repeats}
 use Rattle.answer_types.specs.declared.answers.Held.{Held}
 use Rattle.protocol_spec.specs.Member.Checkpoints.{held_of}
 use Rattle.protocol_spec.specs.Member.Member.{consumes, fork_in}
+use Rattle.vote_rules.specs.declared.held_book.Fork.{Fork as Sides}
 use Rattle.vote_rules.specs.Holders.{IsKept, at_place, cert_of, digest_of, fork_by, meets, sides, with_holders}
 use Rattle.vote_rules.proofs.Forks.{fork_more, holder_more}
 
@@ -88,7 +89,7 @@ still_apart (x ∷ xs) d apart new =
     by false b false e apart new more = more apart new
 
 -- of a transaction of which none is held: what is held behind it, and that all is kept
-module _ (items : List Held) (digests : List Digest) (holders : List (ObjectKey × Digest)) (held : List Held) (h : Held) {after : List Held} {noted : List Digest} {holding : List (ObjectKey × Digest)} {fork now : Option (Digest × Digest)}
+module _ (items : List Held) (digests : List Digest) (holders : List (ObjectKey × Digest)) (held : List Held) (h : Held) {after : List Held} {noted : List Digest} {holding : List (ObjectKey × Digest)} {fork now : Option Sides}
     (kept : IsKept items digests holders fork) (view : items ≡ held) (new : is_some (held_of held h.digest) ≡ false)
     (after_is : after ≡ items ++ h ∷ []) (noted_is : noted ≡ digests ++ h.digest ∷ []) (holding_is : holding ≡ with_holders h.digest holders (consumed_keys h.cert.tx))
     (now_is : now ≡ first_some (option_map sides (fork_in [] held) ∷ fork_by h.digest (first_of (meets held) (consumed_keys h.cert.tx)) ∷ [])) where
@@ -116,7 +117,7 @@ module _ (items : List Held) (digests : List Digest) (holders : List (ObjectKey 
 
 -- the book behind one more certificate, for which room was made everywhere
 pub held_more : (items : List Held) (digests : List Digest) (holders : List (ObjectKey × Digest)) (held : List Held) (h : Held)
-    {mid after : List Held} {ds noted : List Digest} {between holding : List (ObjectKey × Digest)} {looked entered : List ObjectKey} {fork now : Option (Digest × Digest)}
+    {mid after : List Held} {ds noted : List Digest} {between holding : List (ObjectKey × Digest)} {looked entered : List ObjectKey} {fork now : Option Sides}
     → IsKept items digests holders fork → items ≡ held → is_some (held_of held h.digest) ≡ false
     → looked ≡ consumed_keys h.cert.tx → entered ≡ consumed_keys h.cert.tx
     → mid ≡ items → after ≡ mid ++ h ∷ []

@@ -10,6 +10,7 @@ use Rattle.protocol_spec.specs.Chain.Words.{repeats}
 use Rattle.chain_messages.specs.declared.messages.Certificate.{Certificate}
 use Rattle.answer_types.specs.declared.answers.Held.{Held}
 use Rattle.protocol_spec.specs.Member.Member.{Fork, consumes, fork_in}
+use Rattle.vote_rules.specs.declared.held_book.Fork.{Fork as Sides}
 
 -- ---- what is held, and its parts
 
@@ -42,19 +43,19 @@ meets held key = option_map (λ (e : Held). (key, e.digest)) (find (consumes key
 
 -- ---- forks
 
--- the two transactions of a fork
-abbrev pub sides : Fork → Digest × Digest
-sides f = (f.first, f.second)
+-- a fork as the code has it
+abbrev pub sides : Fork → Sides
+sides f = record { key = f.key; first = f.first; second = f.second }
 
 -- the fork of a transaction with the one that it meets
-abbrev pub fork_by : Digest → Option (ObjectKey × Digest) → Option (Digest × Digest)
-fork_by tx met = option_map (λ (m : ObjectKey × Digest). (m.1, tx)) met
+abbrev pub fork_by : Digest → Option (ObjectKey × Digest) → Option Sides
+fork_by tx met = option_map (λ (m : ObjectKey × Digest). record { key = m.0; first = m.1; second = tx }) met
 
 -- ---- how the maps are kept
 
 -- the digests are those of what is held, none twice; of each version the first held transaction that consumes it is
 -- known, and so is the first fork
-pub record IsKept (held : List Held) (digests : List Digest) (holders : List (ObjectKey × Digest)) (fork : Option (Digest × Digest)) : Type 0 where
+pub record IsKept (held : List Held) (digests : List Digest) (holders : List (ObjectKey × Digest)) (fork : Option Sides) : Type 0 where
   pub digests_of : digests ≡ map digest_of held
   pub apart : repeats digest_eq (map digest_of held) ≡ false
   pub first_holder : (key : ObjectKey) → lookup (key_eq key) holders ≡ option_map digest_of (find (consumes key) held)

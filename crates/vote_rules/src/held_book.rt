@@ -78,6 +78,14 @@ fn cert_at(held: &[Held], place: Option<usize>) -> Option<&Certificate>
     }
 }
 
+/// Two held transactions that consume one version, the one held before first.
+#[derive(Clone, Copy, Debug, PartialEq, Eq)]
+pub struct Fork {
+    pub key: ObjectKey,
+    pub first: Digest,
+    pub second: Digest,
+}
+
 /// The certificates that a member holds in one epoch. Contracts see them in the order of holding.
 #[derive(Drop)]
 pub struct HeldBook {
@@ -86,8 +94,7 @@ pub struct HeldBook {
     digests: IndexSet<Digest>,
     /// The first held transaction that consumes each version.
     holders: IndexMap<ObjectKey, Digest>,
-    /// The first two held transactions that consume one version.
-    fork: Option<(Digest, Digest)>,
+    fork: Option<Fork>,
     alloc: Global,
 }
 
@@ -167,15 +174,15 @@ impl HeldBook {
         None
     }
 
-    /// The first fork: the two transactions, the one held before first. Takes no memory.
-    pub fn fork(&self) -> Option<(Digest, Digest)>
+    /// The first fork among those held. Takes no memory.
+    pub fn fork(&self) -> Option<Fork>
         ensures { result ≡ option_map sides (fork_in [] self.now) }
     {
         self.fork
     }
 
     /// The first fork, where a transaction that consumes these versions is held too. Takes no memory.
-    fn fork_behind(&self, keys: &[ObjectKey], tx: &Digest) -> Option<(Digest, Digest)>
+    fn fork_behind(&self, keys: &[ObjectKey], tx: &Digest) -> Option<Fork>
         ensures { result ≡ first_some (option_map sides (fork_in [] self.now) ∷ fork_by tx.now (first_of (meets self.now) keys.now) ∷ []) }
     {
         let known = self.fork();
@@ -183,7 +190,11 @@ impl HeldBook {
             return known;
         }
         match self.fork_with(keys) {
-            Some((_, first)) => Some((first, *tx)),
+            Some((key, first)) => Some(Fork {
+                key,
+                first,
+                second: *tx,
+            }),
             None => None,
         }
     }

@@ -13,6 +13,6 @@ mod rule;
 mod vote_book;
 
 pub use chain_types::DecideRefusal;
-pub use held_book::HeldBook;
+pub use held_book::{Fork, HeldBook};
 pub use rule::decide;
 pub use vote_book::VoteBook;
