@@ -17,7 +17,10 @@ use Rattle.answer_types.specs.declared.refusals.RunRefusal.{RunRefusal}
 use Rattle.answer_types.specs.declared.refusals.RunRefusal.TheVariants as no_run
 use Rattle.answer_types.specs.declared.refusals.CloseRefusal.{CloseRefusal}
 use Rattle.answer_types.specs.declared.refusals.CloseRefusal.TheVariants as no_close
-use Rattle.protocol_spec.specs.Member.Calls.{Voted, close_answer, hold_answer, run_answer, vote_answer}
+use Rattle.answer_types.specs.declared.answers.Seen.{Seen}
+use Rattle.answer_types.specs.declared.refusals.SeeRefusal.{SeeRefusal}
+use Rattle.answer_types.specs.declared.refusals.SeeRefusal.TheVariants as no_see
+use Rattle.protocol_spec.specs.Member.Calls.{Voted, close_answer, hold_answer, run_answer, see_answer, vote_answer}
 use Rattle.validator_core.specs.declared.keeping.Unkept.{Unkept}
 use Rattle.validator_core.specs.declared.keeping.Unkept.TheVariants as unkept
 use Rattle.validator_core.specs.Seats.{Ended, answered, fell}
@@ -69,6 +72,27 @@ hold_ended (Ok new) = answered
 hold_ended (Err no_hold.OutOfMemory) = fell
 hold_ended (Err no_hold.KeepFault) = fell
 hold_ended (Err refusal) = answered
+
+-- ---- see
+
+abbrev pub see_said : Rules → Seat → ℕ → List ℕ → Result Seen SeeRefusal
+see_said r seat number bytes = if seat.up then see_answer r seat.state number bytes else Err no_see.Down
+
+abbrev pub Sees : Result Seen SeeRefusal → Result Seen SeeRefusal → Type 0
+Sees said (Ok seen) = said ≡ Ok seen
+Sees said (Err no_see.OutOfMemory) = Unit {0}
+Sees said (Err no_see.KeepFault) = Unit {0}
+Sees said (Err refusal) = said ≡ Err refusal
+
+abbrev pub unkept_see : Unkept → SeeRefusal
+unkept_see unkept.KeepFault = no_see.KeepFault
+unkept_see unkept.OutOfMemory = no_see.OutOfMemory
+
+abbrev pub see_ended : Result Seen SeeRefusal → Ended
+see_ended (Ok seen) = answered
+see_ended (Err no_see.OutOfMemory) = fell
+see_ended (Err no_see.KeepFault) = fell
+see_ended (Err refusal) = answered
 
 -- ---- run
 

@@ -5,9 +5,9 @@ ghost use Rattle.journal_core.specs.Records as journals;
 ghost use Rattle.outside.specs.Causes.{Rose};
 ghost use Rattle.validator_core.specs.declared.keeping.Unkept.TheVariants as unkept;
 ghost use Rattle.validator_core.specs.Seats.{Appended};
-ghost use Rattle.validator_core.specs.Calls.{unkept_close, unkept_hold, unkept_run, unkept_vote};
+ghost use Rattle.validator_core.specs.Calls.{unkept_close, unkept_hold, unkept_run, unkept_see, unkept_vote};
 
-use answer_types::{CloseRefusal, HoldRefusal, RunRefusal, VoteRefusal};
+use answer_types::{CloseRefusal, HoldRefusal, RunRefusal, SeeRefusal, VoteRefusal};
 use journal_core::{Record, encode_record};
 use outside::{Keeper, OutFault};
 use std::alloc::Global;
@@ -37,6 +37,17 @@ impl From<Unkept> for HoldRefusal {
         match why {
             Unkept::KeepFault => HoldRefusal::KeepFault,
             Unkept::OutOfMemory => HoldRefusal::OutOfMemory,
+        }
+    }
+}
+
+impl From<Unkept> for SeeRefusal {
+    ghost from_gives = { λ why given. given ≡ unkept_see why };
+
+    fn from(why: Unkept) -> SeeRefusal {
+        match why {
+            Unkept::KeepFault => SeeRefusal::KeepFault,
+            Unkept::OutOfMemory => SeeRefusal::OutOfMemory,
         }
     }
 }

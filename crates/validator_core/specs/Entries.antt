@@ -1,0 +1,42 @@
+-- What an entry of the sequence is to a member, as the code has it.
+use Rattle.std.specs.Prelude.{◌≡◌, ◌<◌, ◌+◌, ℕ, false, List, None, length}
+use Rattle.chain_types.specs.Digests.{transaction_digest}
+use Rattle.answer_types.specs.declared.answers.Held.{Held}
+use Rattle.protocol_spec.specs.Chain.Certificates.{Rules}
+use Rattle.protocol_spec.specs.Chain.Committee.{is_among}
+use Rattle.protocol_spec.specs.Chain.Keys.{objects_of}
+use Rattle.protocol_spec.specs.Chain.Shape.{shape_fault}
+use Rattle.protocol_spec.specs.Member.Admission.{is_known}
+use Rattle.protocol_spec.specs.Member.Member.{Member, held_with}
+use Rattle.protocol_spec.specs.Member.Sequence.{Sequence, What, commits, counts, ignores, takes, with_entry}
+use Rattle.validator_core.specs.declared.entries.Arrival.{Arrival}
+use Rattle.validator_core.specs.declared.entries.Arrival.TheVariants as arrival
+
+abbrev pub what_as : Arrival → What
+what_as (arrival.Takes h) = takes h
+what_as arrival.Commits = commits
+what_as (arrival.Counts m) = counts m
+what_as (arrival.Ignores cause) = ignores cause
+
+-- a valid certificate whose transaction is not in the sequence
+pub record IsArriving (q : Sequence) (h : Held) : Type 0 where
+  pub is : h.digest ≡ transaction_digest h.cert.tx
+  pub shape : shape_fault h.cert.tx ≡ None
+  pub origins : length h.cert.origins ≡ length (objects_of h.cert.tx)
+  pub new : is_known q.admission h.digest ≡ false
+
+-- an End of a known member of which none was counted
+pub record IsEnding (stakes : List ℕ) (q : Sequence) (m : ℕ) : Type 0 where
+  pub known : m < length stakes
+  pub new : is_among q.counted m ≡ false
+
+-- what an entry must be that is taken
+abbrev pub MayArrive : List ℕ → Sequence → Arrival → Type 0
+MayArrive stakes q (arrival.Takes h) = IsArriving q h
+MayArrive stakes q arrival.Commits = Unit {0}
+MayArrive stakes q (arrival.Counts m) = IsEnding stakes q m
+MayArrive stakes q (arrival.Ignores cause) = Unit {0}
+
+-- the member behind such an entry
+abbrev pub behind_entry : Rules → Member → What → Member
+behind_entry r m what = record m { sequence = with_entry r m.opening m.sequence what; held = held_with m.held what; records = m.records + 1 }

@@ -1,0 +1,143 @@
+//! What an entry of the consensus sequence is to a member.
+
+ghost use Rattle.std.specs.Prelude.{◌≡◌, ◌&&◌, IfOk, Ok, length, nat_lt};
+ghost use Rattle.chain_messages.specs.Messages.{certificate, sealed, statement};
+ghost use Rattle.chain_messages.specs.declared.messages.Entry.TheVariants as read;
+ghost use Rattle.chain_messages.specs.declared.messages.Statement.TheVariants as statements;
+ghost use Rattle.protocol_spec.specs.Chain.Certificates.{accepts_statement};
+ghost use Rattle.protocol_spec.specs.Member.Sequence.{what_of, what_read, what_stated};
+ghost use Rattle.scene_spec.specs.Terms.{rules_for};
+ghost use Rattle.validator_core.specs.Entries.{MayArrive, what_as};
+ghost use Rattle.validator_core.specs.Limits.{terms_at};
+
+use crate::state::State;
+use answer_types::{Held, Ignore};
+use cert_rules::check_cert;
+use chain_messages::{
+    Certificate, Entry, Sealed, Statement, decode_entry, encode_statement,
+};
+use chain_types::{CertRefusal, tx_digest};
+use quorum_core::{Committee, Sealer, Signer};
+use wire_bcs::{OutOfMemory, Unread};
+
+/// What an entry is, before it is taken.
+#[derive(Debug, Drop)]
+pub(crate) enum Arrival {
+    /// A valid certificate whose transaction is not in the sequence.
+    Takes(Held),
+    /// The mark at which a checkpoint is cut.
+    Commits,
+    /// An accepted End of a member of which none was counted.
+    Counts(u32),
+    Ignores(Ignore),
+}
+
+impl State {
+    /// Whether a member is known and its seal on its statement is accepted.
+    fn is_accepted<S: Sealer>(
+        &self,
+        committee: &Committee,
+        sealer: &S,
+        said: &Sealed,
+    ) -> Result<bool, OutOfMemory>
+        requires { statement.short said.now.statement }
+        ensures { IfOk result (λ accepted. accepted ≡ nat_lt said.now.member (length committee.now) && accepts_statement (rules_for (terms_at self.now committee.now) (S.accepts sealer.now)) said.now.member said.now.statement said.now.seal) }
+    {
+        if said.member >= committee.len() {
+            return Ok(false);
+        }
+        let bytes = encode_statement(self.alloc, &said.statement)?;
+        Ok(sealer.check(&Signer::Member(said.member), bytes.as_slice(), &said.seal))
+    }
+
+    /// An End of an epoch. Order of the causes: `Epoch`, `Seal`, `Repeat`.
+    fn read_end<S: Sealer>(
+        &self,
+        committee: &Committee,
+        sealer: &S,
+        said: &Sealed,
+        epoch: u64,
+    ) -> Result<Arrival, OutOfMemory>
+        requires short { statement.short said.now.statement }
+        requires end { said.now.statement ≡ statements.End epoch }
+        ensures what { IfOk result (λ a. what_stated (rules_for (terms_at self.now committee.now) (S.accepts sealer.now)) self.now.member.epoch self.now.member.sequence said.now (statements.End epoch) ≡ what_as a) }
+        ensures may { IfOk result (MayArrive committee.now self.now.member.sequence) }
+    {
+        if epoch != self.epoch() {
+            return Ok(Arrival::Ignores(Ignore::Epoch));
+        }
+        if !self.is_accepted(committee, sealer, said)? {
+            return Ok(Arrival::Ignores(Ignore::Seal));
+        }
+        if self.is_counted(said.member) {
+            return Ok(Arrival::Ignores(Ignore::Repeat));
+        }
+        Ok(Arrival::Counts(said.member))
+    }
+
+    /// What a member stated: only an End counts.
+    fn read_stated<S: Sealer>(
+        &self,
+        committee: &Committee,
+        sealer: &S,
+        said: &Sealed,
+    ) -> Result<Arrival, OutOfMemory>
+        requires { sealed.short said.now }
+        ensures what { IfOk result (λ a. what_stated (rules_for (terms_at self.now committee.now) (S.accepts sealer.now)) self.now.member.epoch self.now.member.sequence said.now said.now.statement ≡ what_as a) }
+        ensures may { IfOk result (MayArrive committee.now self.now.member.sequence) }
+    {
+        match said.statement {
+            Statement::End { epoch } => self.read_end(committee, sealer, said, epoch),
+            Statement::Vote { .. } | Statement::Checkpoint { .. } | Statement::Ack { .. } => {
+                Ok(Arrival::Ignores(Ignore::Statement))
+            }
+        }
+    }
+
+    /// A certificate. Order of the causes: `Epoch`, `Cert`, `Repeat`.
+    fn read_cert<S: Sealer>(
+        &self,
+        committee: &Committee,
+        sealer: &S,
+        cert: Certificate,
+    ) -> Result<Arrival, OutOfMemory>
+        requires { certificate.short cert }
+        ensures what { IfOk result (λ a. what_read (rules_for (terms_at self.now committee.now) (S.accepts sealer.now)) self.now.member.epoch self.now.member.sequence (Ok (read.Cert cert)) ≡ what_as a) }
+        ensures may { IfOk result (MayArrive committee.now self.now.member.sequence) }
+    {
+        if cert.tx.epoch != self.epoch() {
+            return Ok(Arrival::Ignores(Ignore::Epoch));
+        }
+        match check_cert(self.alloc, &cert, committee, sealer) {
+            Ok(()) => {}
+            Err(CertRefusal::OutOfMemory) => return Err(OutOfMemory),
+            Err(_refusal) => return Ok(Arrival::Ignores(Ignore::Cert)),
+        }
+        let digest = tx_digest(self.alloc, &cert.tx)?;
+        if self.is_ordered(&digest) {
+            return Ok(Arrival::Ignores(Ignore::Repeat));
+        }
+        Ok(Arrival::Takes(Held { digest, cert }))
+    }
+
+    /// What the bytes of the next entry are to the member (Sui Lutris; the causes and their order are this profile's):
+    /// bytes that spell no entry are ignored as `Malformed`.
+    #[tactic(auto, unfolding(protocol_spec::specs::Member::Sequence::what_of, protocol_spec::specs::Chain::Certificates::read_entry, chain_messages::specs::Messages::entry))]
+    pub(crate) fn read_entry<S: Sealer>(
+        &self,
+        committee: &Committee,
+        sealer: &S,
+        bytes: &[u8],
+    ) -> Result<Arrival, OutOfMemory>
+        ensures what { IfOk result (λ a. what_of (rules_for (terms_at self.now committee.now) (S.accepts sealer.now)) self.now.member.epoch self.now.member.sequence bytes.now ≡ what_as a) }
+        ensures may { IfOk result (MayArrive committee.now self.now.member.sequence) }
+    {
+        match decode_entry(self.alloc, bytes) {
+            Ok(Entry::Cert(cert)) => self.read_cert(committee, sealer, cert),
+            Ok(Entry::End(said)) => self.read_stated(committee, sealer, &said),
+            Ok(Entry::Commit) => Ok(Arrival::Commits),
+            Err(Unread::Wire(_)) => Ok(Arrival::Ignores(Ignore::Malformed)),
+            Err(Unread::OutOfMemory) => Err(OutOfMemory),
+        }
+    }
+}
