@@ -1,6 +1,6 @@
 //! The start of a member.
 
-ghost use Rattle.std.specs.Prelude.{◌<◌, ◌^◌, length};
+ghost use Rattle.std.specs.Prelude.{◌≡◌, ◌<◌, ◌^◌, length};
 ghost use Rattle.scene_spec.specs.Terms.{rules_for};
 ghost use Rattle.validator_core.specs.Limits.{terms_at};
 ghost use Rattle.validator_core.specs.Starts.{StateAs};
