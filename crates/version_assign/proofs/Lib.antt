@@ -15,3 +15,4 @@ pub mod Clearing
 pub mod Entering
 pub mod Opening
 pub mod Listing
+pub mod Sharing

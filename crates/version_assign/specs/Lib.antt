@@ -2,3 +2,4 @@ pub mod Lines
 pub mod Calls
 pub mod Books
 pub mod Steps
+pub mod Sharing

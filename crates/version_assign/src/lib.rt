@@ -12,9 +12,11 @@ mod asking;
 mod begun;
 mod book;
 mod entries;
+mod laws;
 mod lines;
 mod shared;
 mod taken;
 
 pub use admission::Admission;
+pub use laws::shared_objects_serve;
 pub use taken::Taken;
