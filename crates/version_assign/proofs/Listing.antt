@@ -1,0 +1,58 @@
+-- Lists that are collected from a place on.
+use Rattle.std.proofs.Common.{◌≡◌, ℕ, zero, suc, List, [], ◌∷◌, ◌++◌, Option, Some, None, length, map, refl, ap, sym, subst, ◌∙◌, ◌+◌, ◌≤◌, ◌<◌, arith, add-one, append_assoc, append-nil, drop, slice_get, option_map}
+use Rattle.std.proofs.Math.ListN.{drop_of_length-le, get_or}
+use Rattle.protocol_spec.specs.Chain.Words.{Each}
+
+-- the next one, and those behind it
+pub next_at : {A : Type 0} → (xs : List A) (i : ℕ) (x : A) → slice_get xs i ≡ Some x → drop i xs ≡ x ∷ drop (suc i) xs
+next_at [] zero x at = absurd (cc)
+next_at [] (suc i) x at = absurd (cc)
+next_at (y ∷ ys) zero x at = ap (λ z. z ∷ ys) (same at)
+  where
+    same : Some y ≡ Some x → y ≡ x
+    same f = cc
+next_at (y ∷ ys) (suc i) x at = next_at ys i x at
+
+pub one_listed : {A B : Type 0} → (f : A → B) (xs : List A) (i : ℕ) (x : A) (list more all : List B) → slice_get xs i ≡ Some x → more ≡ list ++ f x ∷ [] → list ++ map f (drop i xs) ≡ all → more ++ map f (drop (i + 1) xs) ≡ all
+one_listed f xs i x list more all at is same =
+    rw add-one
+    (ap (λ ys. ys ++ map f (drop (suc i) xs)) is
+    ∙ append_assoc list (f x ∷ []) (map f (drop (suc i) xs))
+    ∙ ap (λ ys. list ++ map f ys) (sym (next_at xs i x at))
+    ∙ same)
+
+pub all_listed : {A B : Type 0} → (f : A → B) (xs : List A) (i : ℕ) (list all : List B) → length xs ≤ i → list ++ map f (drop i xs) ≡ all → list ≡ all
+all_listed f xs i list all past same = sym (append-nil list) ∙ ap (λ ys. list ++ map f ys) (sym (drop_of_length-le xs past)) ∙ same
+
+-- within the list there is one
+pub some_at : {A : Type 0} → (xs : List A) (i : ℕ) → i < length xs → slice_get xs i ≡ None → ⊥
+some_at [] i within none = absurd (omega (arith, within))
+some_at (x ∷ xs) zero within none = cc
+some_at (x ∷ xs) (suc i) within none = some_at xs i (omega arith) none
+
+pub get_at : {A : Type 0} → (xs : List A) (i : ℕ) (d : A) → i < length xs → slice_get xs i ≡ Some (get_or xs i d)
+get_at [] i d within = absurd (omega (arith, within))
+get_at (x ∷ xs) zero d within = refl
+get_at (x ∷ xs) (suc i) d within = get_at xs i d (omega arith)
+
+pub each_at : {A : Type 0} (P : A → Type 0) (xs : List A) (i : ℕ) (x : A) → Each P xs → slice_get xs i ≡ Some x → P x
+each_at P [] zero x all at = absurd (cc)
+each_at P [] (suc i) x all at = absurd (cc)
+each_at P (y ∷ ys) zero x all at = go (same at) all.0
+  where
+    same : Some y ≡ Some x → y ≡ x
+    same f = cc
+
+    go : y ≡ x → P y → P x
+    go e p = subst P e p
+each_at P (y ∷ ys) (suc i) x all at = each_at P ys i x all.1 at
+
+pub next_listed : {A B : Type 0} → (f : A → B) (xs : List A) (i : ℕ) (y : B) (list more all : List B) → option_map f (slice_get xs i) ≡ Some y → more ≡ list ++ y ∷ [] → list ++ map f (drop i xs) ≡ all → more ++ map f (drop (i + 1) xs) ≡ all
+next_listed {A} {B} f xs i y list more all at is same = go (slice_get xs i) refl at
+  where
+    one : {C : Type 0} → (a b : C) → Some a ≡ Some b → a ≡ b
+    one a b e = cc
+
+    go : (o : Option A) → slice_get xs i ≡ o → option_map f o ≡ Some y → more ++ map f (drop (i + 1) xs) ≡ all
+    go None e found = absurd (cc)
+    go (Some x) e found = one_listed f xs i x list more all e (is ∙ ap (λ z. list ++ z ∷ []) (sym (one (f x) y found))) same

@@ -1,0 +1,5 @@
+pub mod Lines
+pub mod Calls
+pub mod Books
+pub mod Steps
+pub mod Sharing

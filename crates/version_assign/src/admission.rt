@@ -1,0 +1,184 @@
+//! The admission, and what it answers.
+
+ghost use Rattle.std.specs.Prelude.{◌≡◌, ℕ, ◌<◌, ◌^◌, [], Some, IfOk, OnErr, OnOk, None, false, length, map, option_map, slice_get};
+ghost use Rattle.protocol_spec.specs.Chain.Words.{repeats};
+ghost use Rattle.protocol_spec.specs.Chain.Keys.{objects_of};
+ghost use Rattle.protocol_spec.specs.Chain.Shape.{shape_fault};
+ghost use Rattle.chain_types.specs.Equal.{id_eq};
+ghost use Rattle.protocol_spec.specs.Member.Admission.{Admitted, assigned_of, deferred_on, digest_of_admitted, is_known, pending_on};
+ghost use Rattle.version_assign.specs.Calls.{admitted_since, dropped_since, id_of, opened, uncut, version_of, with_cut, with_entry, with_mark};
+
+use crate::book::Book;
+use crate::shared::shared_objects;
+use crate::taken::Taken;
+use answer_types::Assigned;
+use chain_messages::Certificate;
+use chain_types::{Object, ObjectId};
+use digest_core::Digest;
+use indexmap::{IndexMap, IndexSet};
+use std::alloc::Global;
+use std::marker::Model;
+use wire_bcs::{OutOfMemory, Seq};
+
+/// The certificates of one epoch's sequence: those that were admitted, dropped, or wait. Contracts see the shared
+/// objects with which the epoch opened, the limit of writers, and these lists.
+#[derive(Drop)]
+pub struct Admission {
+    book: Book,
+    alloc: Global,
+}
+
+impl Model for Admission {
+    ghost use Rattle.version_assign.specs.Calls.{Admitting};
+
+    ghost Value = { Admitting };
+
+    ghost use Rattle.version_assign.specs.Books.{IsKept, shown};
+
+    ghost view = { λ a. shown a.book };
+
+    ghost invariant = { λ a. IsKept a.book };
+}
+
+/// A limit is below 2^32.
+fn bound(limit: u32)
+    ensures { limit < 2 ^ 32 }
+{
+    let _limit = limit;
+}
+
+/// A limit, where there is one, is below 2^32.
+fn bound_of(writers: Option<u32>)
+    ensures { (n : ℕ) → writers ≡ Some n → n < 2 ^ 32 }
+{
+    match writers {
+        Some(limit) => bound(limit),
+        None => {}
+    }
+}
+
+impl Admission {
+    /// Before the first entry of an epoch that opens with these objects, of which no two have one id. With a limit no
+    /// more transactions than that write an object from one mark to the next.
+    pub fn new(
+        alloc: Global,
+        opening: &Seq<Object>,
+        writers: Option<u32>,
+    ) -> Result<Admission, OutOfMemory>
+        requires { repeats id_eq (map id_of opening.now) ≡ false }
+        ensures { IfOk result (λ a. a ≡ opened opening.now writers) }
+    {
+        bound_of(writers);
+        let book = Book {
+            rows: Vec::new(alloc),
+            known: IndexSet::new(alloc),
+            admitted: IndexMap::new(alloc),
+            dropped: Vec::new(alloc),
+            marked: 0,
+            waiting: 0,
+            low: 0,
+            lines: IndexMap::new(alloc),
+            opening: shared_objects(alloc, opening)?,
+            writers,
+        };
+        Ok(Admission { book, alloc })
+    }
+
+    /// Whether the transaction is in the sequence. Takes no memory.
+    pub fn is_known(&self, tx: &Digest) -> bool
+        ensures { result ≡ is_known self.now.admission tx.now }
+    {
+        self.book.known.contains(tx)
+    }
+
+    /// A certificate's entry, of valid shape and with one origin for each object; its transaction, of this digest, is
+    /// not in the sequence. It waits until its origins are admitted and each object that it writes has fewer writers
+    /// since the last mark than the limit; then it is admitted (and its shared inputs are assigned their current
+    /// versions, Sui Lutris), or dropped where its version would be 2^62 or more, or where a shared input of no origin
+    /// was not shared as the epoch opened. So are, in order of arrival, those that waited for it. A refusal changes
+    /// nothing.
+    pub fn push(&mut self, tx: &Digest, cert: &Certificate) -> Result<Taken, OutOfMemory>
+        requires shaped { shape_fault cert.now.tx ≡ None }
+        requires origins { length cert.now.origins ≡ length (objects_of cert.now.tx) }
+        requires new { is_known self.old.admission tx.now ≡ false }
+        ensures entered { OnOk result (self.new ≡ with_entry self.old (record { digest = tx.now; cert = cert.now })) }
+        ensures admitted { IfOk result (λ taken. taken.admitted ≡ admitted_since self.old.admission self.new.admission) }
+        ensures dropped { IfOk result (λ taken. taken.dropped ≡ dropped_since self.old.admission self.new.admission) }
+        ensures err { OnErr result (self.new ≡ self.old) }
+    {
+        self.book.push(self.alloc, tx, cert)
+    }
+
+    /// A Commit mark, behind its cut: the writers are counted anew, and what waited for that is admitted or dropped,
+    /// in order of arrival. A refusal changes nothing.
+    pub fn mark(&mut self) -> Result<Taken, OutOfMemory>
+        ensures passed { OnOk result (self.new ≡ with_mark self.old) }
+        ensures admitted { IfOk result (λ taken. taken.admitted ≡ admitted_since self.old.admission self.new.admission) }
+        ensures dropped { IfOk result (λ taken. taken.dropped ≡ dropped_since self.old.admission self.new.admission) }
+        ensures err { OnErr result (self.new ≡ self.old) }
+    {
+        self.book.mark(self.alloc)
+    }
+
+    /// The transactions admitted since the last cut or mark, which are cut with it. A refusal cuts nothing.
+    pub fn cut(&mut self) -> Result<Seq<Digest>, OutOfMemory>
+        ensures txs { IfOk result (λ txs. txs ≡ uncut self.old) }
+        ensures ok { OnOk result (self.new ≡ with_cut self.old) }
+        ensures err { OnErr result (self.new ≡ self.old) }
+    {
+        let txs = self.book.uncut(self.alloc)?;
+        self.book.cut();
+        Ok(txs)
+    }
+
+    /// The transactions admitted since the last cut or mark.
+    pub fn uncut(&self) -> Result<Seq<Digest>, OutOfMemory>
+        ensures { IfOk result (λ txs. txs ≡ uncut self.now) }
+    {
+        self.book.uncut(self.alloc)
+    }
+
+    /// The first origin that is not admitted, of a transaction that waits; none exactly where it does not wait, or all
+    /// its origins are admitted. Takes no memory.
+    pub fn pending_on(&self, tx: &Digest) -> Option<Digest>
+        ensures { result ≡ pending_on self.now.admission tx.now }
+    {
+        self.book.pending_on(tx)
+    }
+
+    /// The first object in input order that has as many writers as the limit, of a transaction that waits and writes
+    /// it; none exactly where it does not wait, or an origin is not admitted. Takes no memory.
+    pub fn deferred_on(&self, tx: &Digest) -> Option<ObjectId>
+        ensures { result ≡ deferred_on self.now.writers self.now.admission tx.now }
+    {
+        self.book.deferred_on(tx)
+    }
+
+    /// The versions assigned to a transaction's shared inputs; none exactly where it is not admitted. Takes no memory.
+    pub fn assigned(&self, tx: &Digest) -> Option<&Seq<Assigned>>
+        ensures { option_map (λ (a : _). a.now) result ≡ assigned_of self.now.admission tx.now }
+    {
+        self.book.assigned(tx)
+    }
+
+    /// The version at which a transaction writes; none exactly where it is not admitted. Takes no memory.
+    pub fn version(&self, tx: &Digest) -> Option<u64>
+        ensures { result ≡ version_of self.now.admission tx.now }
+    {
+        self.book.version(tx)
+    }
+
+    /// How many transactions were admitted. Takes no memory.
+    pub fn admitted_count(&self) -> usize
+        ensures { result ≡ length self.now.admission.admitted }
+    {
+        self.book.admitted.len()
+    }
+
+    /// The admitted transaction at a place, from 0, in order of admission. Takes no memory.
+    pub fn admitted_at(&self, place: usize) -> Option<Digest>
+        ensures { result ≡ option_map digest_of_admitted (slice_get self.now.admission.admitted place) }
+    {
+        self.book.admitted_at(place)
+    }
+}

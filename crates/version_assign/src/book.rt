@@ -1,0 +1,379 @@
+//! The tables of an admission.
+
+ghost use Rattle.std.specs.Prelude.{◌≡◌, fold, ◌+◌, ◌-◌, ◌<◌, ◌≤◌, ◌&&◌, ◌++◌, ◌∷◌, [], IfOk, IfSome, OnErr, OnOk, Option, Some, None, ℕ, Bool, true, false, drop, filter_map, find, is_some, length, map, not, slice_get, slice_set};
+ghost use Rattle.std.specs.List.{list_all, list_any};
+ghost use Rattle.std.specs.Vec.{vec_capacity, vec_len};
+ghost use Rattle.chain_types.specs.Equal.{digest_eq};
+ghost use Rattle.protocol_spec.specs.Chain.Words.{first_of};
+ghost use Rattle.protocol_spec.specs.Chain.Keys.{mutable_id};
+ghost use Rattle.protocol_spec.specs.Member.Admission.{full_id, has_room, is_admitted, is_free, missing_origin};
+ghost use Rattle.version_assign.specs.Books.{IsKept, IsSkipped, admission_of, lacks_one, placed, row_at, shown, version_within};
+ghost use Rattle.version_assign.specs.Calls.{settled, with_taken};
+ghost use Rattle.indexmap.specs.IndexMap.{spare};
+ghost use Rattle.version_assign.specs.Lines.{are_lined, filled, greater_assigned, greater_named, greatest_of, named_version};
+ghost use Rattle.version_assign.specs.Steps.{Admits, Drops, Gives, Skips, TakesOut, full_one, is_free_one, judged};
+
+use crate::lines::{Line, fill, line_at, move_lines};
+use answer_types::{Assigned, Held};
+use chain_messages::Certificate;
+use chain_types::{Input, Object, ObjectId, Producer};
+use digest_core::Digest;
+use indexmap::{IndexMap, IndexSet};
+use tables::insert_in_room;
+use wire_bcs::Seq;
+
+/// A certificate that waits, and what its shared inputs would be assigned if nobody had named them before.
+#[derive(Debug, Drop)]
+pub(crate) struct Row {
+    pub(crate) held: Held,
+    pub(crate) assigned: Vec<Assigned>,
+}
+
+/// An admitted certificate: the version at which it writes, and the versions of its shared inputs.
+#[derive(Debug, Drop)]
+pub(crate) struct Admit {
+    pub(crate) cert: Certificate,
+    pub(crate) version: u64,
+    pub(crate) assigned: Seq<Assigned>,
+}
+
+/// The tables.
+#[derive(Drop)]
+pub(crate) struct Book {
+    /// In order of arrival; none where the certificate was admitted or dropped.
+    pub(crate) rows: Vec<Option<Row>>,
+    /// The digests of all of them, in the same order.
+    pub(crate) known: IndexSet<Digest>,
+    pub(crate) admitted: IndexMap<Digest, Admit>,
+    pub(crate) dropped: Vec<Digest>,
+    /// How many were admitted before the last mark.
+    pub(crate) marked: usize,
+    /// How many wait.
+    pub(crate) waiting: usize,
+    /// No certificate waits at a place below this one.
+    pub(crate) low: usize,
+    pub(crate) lines: IndexMap<ObjectId, Line>,
+    /// The shared objects with which the epoch opened.
+    pub(crate) opening: IndexMap<ObjectId, Object>,
+    pub(crate) writers: Option<u32>,
+}
+
+/// Takes the row at a place, where there is one.
+fn take_row(rows: &mut Vec<Option<Row>>, place: usize) -> Option<Row>
+    ensures taken { result ≡ row_at rows.old.items place }
+    ensures left { rows.new.items ≡ slice_set rows.old.items place None }
+{
+    if place < rows.len() {
+        return std::mem::replace(&mut rows[place], None);
+    }
+    None
+}
+
+/// Whether no certificate waits at a place.
+fn is_taken(rows: &[Option<Row>], place: usize) -> bool
+    ensures { result ≡ not (is_some (row_at rows.now place)) }
+{
+    match rows.get(place) {
+        Some(Some(_)) => false,
+        Some(None) => true,
+        None => true,
+    }
+}
+
+/// Puts a digest behind the others; there is room.
+pub(crate) fn push_in_room(all: &mut Vec<Digest>, tx: Digest)
+    requires { vec_len all.old < vec_capacity all.old }
+    ensures items { all.new.items ≡ all.old.items ++ tx ∷ [] }
+    ensures len { vec_len all.new ≡ vec_len all.old + 1 }
+    ensures capacity { vec_capacity all.old ≤ vec_capacity all.new }
+{
+    match all.push(tx) {
+        Ok(()) => {}
+        Err(_) => unreachable!(),
+    }
+}
+
+/// Whether this would begin in the opening, and is no shared object of it.
+fn lacks_one(opening: &IndexMap<ObjectId, Object>, one: &Assigned) -> bool
+    ensures { result ≡ lacks_one opening.now.entries one.now }
+{
+    matches!(one.writer, Producer::Opening) && !opening.contains_key(&one.id)
+}
+
+/// Whether one of these is.
+fn lacks_any(opening: &IndexMap<ObjectId, Object>, assigned: &[Assigned]) -> bool
+    ensures { result ≡ list_any (lacks_one opening.now.entries) assigned.now }
+{
+    for one in assigned {
+        if lacks_one(opening, one) {
+            return true;
+        }
+    }
+    false
+}
+
+/// The version that an owned or immutable input names.
+fn named_version(input: &Input) -> u64
+    ensures { result ≡ named_version input.now }
+{
+    match input {
+        Input::Owned(reference) => reference.version,
+        Input::Immutable(reference) => reference.version,
+        Input::Pure(_) => 0,
+        Input::Shared { .. } => 0,
+    }
+}
+
+/// The greatest of this version and those that the inputs name.
+fn greatest_named(greatest: u64, inputs: &[Input]) -> u64
+    ensures { result ≡ fold greater_named greatest inputs.now }
+{
+    let mut greatest = greatest;
+    let mut rest = inputs;
+    while let [input, after @ ..] = rest {
+        greatest = greatest.max(named_version(input));
+        rest = after;
+    }
+    greatest
+}
+
+/// The greatest of this version and those assigned.
+fn greatest_assigned(greatest: u64, assigned: &[Assigned]) -> u64
+    ensures { result ≡ fold greater_assigned greatest assigned.now }
+{
+    let mut greatest = greatest;
+    let mut rest = assigned;
+    while let [one, after @ ..] = rest {
+        greatest = greatest.max(one.version);
+        rest = after;
+    }
+    greatest
+}
+
+/// The version behind this one, if it stays below the limit and nothing is lacking.
+fn version_within(lacks: bool, greatest: u64) -> Option<u64>
+    ensures { result ≡ version_within lacks greatest }
+{
+    if lacks || greatest >= 4611686018427387903 {
+        None
+    } else {
+        Some(greatest + 1)
+    }
+}
+
+impl Book {
+    /// Whether the transaction was admitted.
+    #[tactic(auto, using(crate::proofs::Finding::admitted_is))]
+    pub(crate) fn is_admitted(&self, tx: &Digest) -> bool
+        ensures { result ≡ is_admitted (admission_of self.now).admitted tx.now }
+    {
+        self.admitted.contains_key(tx)
+    }
+
+    /// The first of these origins that is not admitted.
+    pub(crate) fn missing(&self, origins: &[Option<Digest>]) -> Option<Digest>
+        ensures { result ≡ first_of (missing_origin (admission_of self.now)) origins.now }
+    {
+        let mut rest = origins;
+        while let [origin, after @ ..] = rest {
+            if let Some(tx) = origin {
+                if !self.is_admitted(tx) {
+                    return Some(*tx);
+                }
+            }
+            rest = after;
+        }
+        None
+    }
+
+    /// Whether the object has fewer writers than the limit.
+    fn has_room(&self, id: &ObjectId) -> bool
+        requires { IsKept self.now }
+        ensures { result ≡ has_room self.now.writers (admission_of self.now) id.now }
+    {
+        match self.writers {
+            Some(limit) => line_at(&self.lines, id).writers < limit,
+            None => true,
+        }
+    }
+
+    /// The object that the input writes, where it has its writers.
+    fn full_one(&self, input: &Input) -> Option<ObjectId>
+        requires { IsKept self.now }
+        ensures { result ≡ full_one self.now.writers (admission_of self.now) input.now }
+    {
+        if let Input::Shared { id, mutable, .. } = input {
+            if *mutable && !self.has_room(id) {
+                return Some(*id);
+            }
+        }
+        None
+    }
+
+    /// The first object that these inputs write and that has its writers.
+    pub(crate) fn full(&self, inputs: &[Input]) -> Option<ObjectId>
+        requires { IsKept self.now }
+        ensures { result ≡ first_of (full_one self.now.writers (admission_of self.now)) inputs.now }
+    {
+        let mut rest = inputs;
+        while let [input, after @ ..] = rest {
+            let full = self.full_one(input);
+            if full.is_some() {
+                return full;
+            }
+            rest = after;
+        }
+        None
+    }
+
+    /// Whether the certificate is free.
+    fn is_free(&self, held: &Held) -> bool
+        requires { IsKept self.now }
+        ensures { result ≡ is_free self.now.writers (admission_of self.now) held.now }
+    {
+        self.missing(held.cert.origins.as_slice()).is_none()
+            && self.full(held.cert.tx.inputs.as_slice()).is_none()
+    }
+
+    /// Whether a certificate waits at a place and is free.
+    fn is_free_at(&self, place: usize) -> bool
+        requires { IsKept self.now }
+        ensures { result ≡ is_free_one (shown self.now) (placed self.now.rows.items (Some place)) }
+    {
+        match self.rows.get(place) {
+            Some(Some(row)) => self.is_free(&row.held),
+            Some(None) => false,
+            None => false,
+        }
+    }
+
+    /// The first place at which a free certificate waits.
+    fn first_free(&self) -> Option<usize>
+        requires { IsKept self.now }
+        ensures place { placed self.now.rows.items result ≡ find (is_free self.now.writers (admission_of self.now)) (admission_of self.now).pending }
+        ensures free { IfSome result (λ place. is_free_one (shown self.now) (placed self.now.rows.items (Some place)) ≡ true) }
+    {
+        for place in self.low..self.rows.len() {
+            if self.is_free_at(place) {
+                return Some(place);
+            }
+        }
+        None
+    }
+
+    /// The first place, from this one on, at which a certificate waits, or the number of rows.
+    fn skipped(&self) -> usize
+        requires { IsSkipped self.now.low self.now.rows.items }
+        ensures { IsSkipped result self.now.rows.items }
+    {
+        let mut low = self.low;
+        while low < self.rows.len() && is_taken(&self.rows, low) {
+            low += 1;
+        }
+        low
+    }
+
+    /// Skips the places at which no certificate waits.
+    fn skip(&mut self)
+        requires { IsSkipped self.old.low self.old.rows.items }
+        ensures { Skips self.old self.new }
+    {
+        self.low = self.skipped();
+    }
+
+    /// Puts the current versions into a row; the version at which it would write, none where it is dropped.
+    fn judge(&self, row: &mut Row) -> Option<u64>
+        ensures held { row.new.held ≡ row.old.held }
+        ensures filled { row.new.assigned.items ≡ map (filled self.now.lines.entries) row.old.assigned.items }
+        ensures version { result ≡ judged self.now.opening.entries self.now.lines.entries row.old.held.cert row.old.assigned.items }
+    {
+        let lacks = lacks_any(&self.opening, row.assigned.as_slice());
+        fill(&self.lines, row.assigned.as_mut_slice());
+        let tx = &row.held.cert.tx;
+        let named = greatest_named(tx.gas.version, tx.inputs.as_slice());
+        version_within(lacks, greatest_assigned(named, row.assigned.as_slice()))
+    }
+
+    /// Admits a certificate at a version.
+    fn admit(&mut self, row: Row, version: u64)
+        requires room { 0 < spare self.old.admitted }
+        requires lined { are_lined self.old.lines.entries row.assigned.items ≡ true }
+        ensures { Admits self.old self.new row.held row.assigned.items version }
+    {
+        let tx = row.held.digest;
+        move_lines(&mut self.lines, row.assigned.as_slice(), version, tx);
+        let admit = Admit {
+            cert: row.held.cert,
+            version,
+            assigned: Seq::from_vec(row.assigned),
+        };
+        insert_in_room(&mut self.admitted, tx, admit);
+    }
+
+    /// Drops a certificate.
+    fn drop_out(&mut self, row: &Row)
+        requires { vec_len self.old.dropped < vec_capacity self.old.dropped }
+        ensures { Drops self.old self.new row.now.held }
+    {
+        push_in_room(&mut self.dropped, row.held.digest);
+    }
+
+    /// Admits or drops a certificate that was taken out.
+    fn give(&mut self, row: Row)
+        requires admitted { 0 < spare self.old.admitted }
+        requires dropped { vec_len self.old.dropped < vec_capacity self.old.dropped }
+        requires lined { are_lined self.old.lines.entries row.assigned.items ≡ true }
+        ensures { Gives self.old self.new row.held row.assigned.items (judged self.old.opening.entries self.old.lines.entries row.held.cert row.assigned.items) }
+    {
+        let mut row = row;
+        match self.judge(&mut row) {
+            Some(version) => self.admit(row, version),
+            None => self.drop_out(&row),
+        }
+    }
+
+    /// Takes out the certificate that waits at a place.
+    fn take_out(&mut self, place: usize) -> Row
+        requires there { is_some (row_at self.old.rows.items place) ≡ true }
+        requires waits { 0 < self.old.waiting }
+        ensures { TakesOut self.old self.new place result }
+    {
+        self.waiting -= 1;
+        match take_row(&mut self.rows, place) {
+            Some(row) => row,
+            None => unreachable!(),
+        }
+    }
+
+    /// Admits or drops the certificate at a place, where one waits, which is free.
+    fn take(&mut self, place: usize)
+        requires kept { IsKept self.old }
+        requires free { is_free_one (shown self.old) (placed self.old.rows.items (Some place)) ≡ true }
+        ensures kept { IsKept self.new }
+        ensures taken { shown self.new ≡ with_taken (shown self.old) (placed self.old.rows.items (Some place)) }
+    {
+        let row = self.take_out(place);
+        self.give(row);
+    }
+
+    /// Admits or drops the first free certificate, again and again until none is free.
+    fn settle(&mut self)
+        requires { IsKept self.old }
+        ensures kept { IsKept self.new }
+        ensures settled { shown self.new ≡ settled (shown self.old) }
+    {
+        while let Some(place) = self.first_free() {
+            self.take(place);
+        }
+    }
+
+    /// The same; behind it the places are skipped at which nothing waits.
+    pub(crate) fn settle_all(&mut self)
+        requires { IsKept self.old }
+        ensures kept { IsKept self.new }
+        ensures settled { shown self.new ≡ settled (shown self.old) }
+    {
+        self.settle();
+        self.skip();
+    }
+}

@@ -1,0 +1,275 @@
+//! Entries and marks: what can be refused memory comes first, and then what cannot.
+
+ghost use Rattle.std.specs.Prelude.{◌≡◌, ◌+◌, ◌-◌, ◌<◌, ◌≤◌, ◌^◌, ◌++◌, ◌∷◌, [], IfOk, OnErr, OnOk, Some, None, false, drop, length, map, option_map, slice_get};
+ghost use Rattle.std.specs.List.{list_any};
+ghost use Rattle.std.specs.Vec.{vec_capacity, vec_len};
+ghost use Rattle.indexmap.specs.IndexSet.{spare as set_spare};
+ghost use Rattle.chain_types.specs.Equal.{digest_eq};
+ghost use Rattle.protocol_spec.specs.Chain.Words.{Each};
+ghost use Rattle.protocol_spec.specs.Chain.Keys.{objects_of};
+ghost use Rattle.protocol_spec.specs.Chain.Shape.{shape_fault};
+ghost use Rattle.protocol_spec.specs.Member.Admission.{is_known};
+ghost use Rattle.version_assign.specs.Books.{IsKept, IsLet, admission_of, begun_of, opening_of, shown};
+ghost use Rattle.version_assign.specs.Calls.{admitted_since, dropped_since, settled, uncut, with_cut, with_entry, with_mark};
+ghost use Rattle.version_assign.specs.Lines.{begun_behind};
+ghost use Rattle.version_assign.specs.Steps.{AddsRow, HasRowRoom, Marks, MakesRoom, clear_each, clear_found, digest_in, IsRowOf};
+
+use crate::begun::all_begun;
+use crate::book::{Admit, Book, Row, push_in_room};
+use crate::lines::{Line, clear_lines, make_lines};
+use crate::taken::Taken;
+use answer_types::{Assigned, Held};
+use chain_messages::Certificate;
+use chain_types::ObjectId;
+use digest_core::Digest;
+use indexmap::{IndexMap, IndexSet};
+use std::alloc::Global;
+use wire_bcs::{Duplicate, OutOfMemory, Seq};
+
+/// Notes a digest that is new; there is room.
+fn note_digest(known: &mut IndexSet<Digest>, tx: Digest)
+    requires room { 0 < set_spare known.old }
+    requires new { list_any (λ d. digest_eq tx d) known.old.keys ≡ false }
+    ensures { known.new.keys ≡ known.old.keys ++ tx ∷ [] }
+{
+    match known.insert(tx) {
+        Ok(_) => {}
+        Err(_) => unreachable!(),
+    }
+}
+
+/// Puts a row behind the others; there is room.
+fn push_row(rows: &mut Vec<Option<Row>>, row: Row)
+    requires { vec_len rows.old < vec_capacity rows.old }
+    ensures { rows.new.items ≡ rows.old.items ++ Some row ∷ [] }
+{
+    match rows.push(Some(row)) {
+        Ok(()) => {}
+        Err(_) => unreachable!(),
+    }
+}
+
+/// Forgets the writers of what the admitted transaction at a place wrote.
+fn clear_at(lines: &mut IndexMap<ObjectId, Line>, admitted: &IndexMap<Digest, Admit>, place: usize)
+    requires { Each (IsLet lines.old.entries) admitted.now.entries }
+    ensures { lines.new.entries ≡ clear_found lines.old.entries (slice_get admitted.now.entries place) }
+{
+    if let Some((_, admit)) = admitted.get_index(place) {
+        clear_lines(lines, admit.assigned.as_slice());
+    }
+}
+
+/// Forgets the writers of what was admitted from this place on.
+fn clear_since(
+    lines: &mut IndexMap<ObjectId, Line>,
+    admitted: &IndexMap<Digest, Admit>,
+    from: usize,
+)
+    requires { Each (IsLet lines.old.entries) admitted.now.entries }
+    ensures { lines.new.entries ≡ clear_each lines.old.entries (drop from admitted.now.entries) }
+{
+    for place in from..admitted.len() {
+        clear_at(lines, admitted, place);
+    }
+}
+
+/// The admitted transaction at a place.
+fn digest_at(admitted: &IndexMap<Digest, Admit>, place: usize) -> Digest
+    requires { place < length admitted.now.entries }
+    ensures { option_map digest_in (slice_get admitted.now.entries place) ≡ Some result }
+{
+    match admitted.get_index(place) {
+        Some((tx, _)) => *tx,
+        None => unreachable!(),
+    }
+}
+
+/// Lists the transactions that were admitted from this place on; there is room.
+fn list_admitted(list: Vec<Digest>, admitted: &IndexMap<Digest, Admit>, from: usize) -> Vec<Digest>
+    requires empty { list.items ≡ [] }
+    requires room { length admitted.now.entries ≤ from + vec_capacity list }
+    ensures { result.items ≡ map digest_in (drop from admitted.now.entries) }
+{
+    let mut list = list;
+    for place in from..admitted.len() {
+        push_in_room(&mut list, digest_at(admitted, place));
+    }
+    list
+}
+
+/// Lists the digests from this place on; there is room.
+fn list_dropped(list: Vec<Digest>, dropped: &[Digest], from: usize) -> Vec<Digest>
+    requires empty { list.items ≡ [] }
+    requires room { length dropped.now ≤ from + vec_capacity list }
+    ensures { result.items ≡ drop from dropped.now }
+{
+    let mut list = list;
+    for place in from..dropped.len() {
+        push_in_room(&mut list, dropped[place]);
+    }
+    list
+}
+
+impl Book {
+    /// The row of a certificate.
+    fn row_of(&self, alloc: Global, tx: &Digest, cert: &Certificate) -> Result<Row, OutOfMemory>
+        requires { IsKept self.now }
+        ensures { IfOk result (λ row. IsRowOf (opening_of self.now) (record { digest = tx.now; cert = cert.now }) row) }
+    {
+        let assigned = all_begun(alloc, &self.opening, cert)?;
+        let cert = cert.copy()?;
+        Ok(Row {
+            held: Held { digest: *tx, cert },
+            assigned,
+        })
+    }
+
+    /// Makes room for one more row: behind it nothing that waits can be refused memory.
+    fn make_room(&mut self, assigned: &[Assigned]) -> Result<(), OutOfMemory>
+        ensures kept { MakesRoom self.old self.new }
+        ensures room { OnOk result (HasRowRoom self.new assigned.now) }
+    {
+        let Some(waiting) = self.waiting.checked_add(1) else {
+            return Err(OutOfMemory);
+        };
+        self.rows.reserve(1)?;
+        self.known.reserve(1)?;
+        self.admitted.reserve(waiting)?;
+        self.dropped.reserve(waiting)?;
+        make_lines(&mut self.lines, assigned)
+    }
+
+    /// One more row; there is room.
+    fn add_row(&mut self, row: Row)
+        requires room { HasRowRoom self.old row.assigned.items }
+        requires new { list_any (λ d. digest_eq row.held.digest d) self.old.known.keys ≡ false }
+        ensures { AddsRow self.old self.new row }
+    {
+        note_digest(&mut self.known, row.held.digest);
+        push_row(&mut self.rows, row);
+        self.waiting += 1;
+    }
+
+    /// Puts what was admitted and dropped since into these lists; there is room.
+    fn list_taken(
+        &self,
+        admitted: Vec<Digest>,
+        dropped: Vec<Digest>,
+        from: usize,
+        from_dropped: usize,
+    ) -> Taken
+        requires empty { (admitted.items ≡ []) × (dropped.items ≡ []) }
+        requires room { (length self.now.admitted.entries ≤ from + vec_capacity admitted) × (length self.now.dropped.items ≤ from_dropped + vec_capacity dropped) }
+        ensures admitted { result.admitted ≡ map digest_in (drop from self.now.admitted.entries) }
+        ensures dropped { result.dropped ≡ drop from_dropped self.now.dropped.items }
+    {
+        let admitted = list_admitted(admitted, &self.admitted, from);
+        let dropped = list_dropped(dropped, self.dropped.as_slice(), from_dropped);
+        Taken {
+            admitted: Seq::from_vec(admitted),
+            dropped: Seq::from_vec(dropped),
+        }
+    }
+
+    /// Takes all that is free, and lists it; there is room.
+    fn settle_listed(&mut self, admitted: Vec<Digest>, dropped: Vec<Digest>) -> Taken
+        requires kept { IsKept self.old }
+        requires empty { (admitted.items ≡ []) × (dropped.items ≡ []) }
+        requires room { (self.old.waiting ≤ vec_capacity admitted) × (self.old.waiting ≤ vec_capacity dropped) }
+        ensures kept { IsKept self.new }
+        ensures settled { shown self.new ≡ settled (shown self.old) }
+        ensures admitted { result.admitted ≡ admitted_since (admission_of self.old) (admission_of self.new) }
+        ensures dropped { result.dropped ≡ dropped_since (admission_of self.old) (admission_of self.new) }
+    {
+        let from = self.admitted.len();
+        let from_dropped = self.dropped.len();
+        self.settle_all();
+        self.list_taken(admitted, dropped, from, from_dropped)
+    }
+
+    /// A certificate's entry, for which there is room.
+    fn enter(&mut self, row: Row, admitted: Vec<Digest>, dropped: Vec<Digest>) -> Taken
+        requires kept { IsKept self.old }
+        requires room { HasRowRoom self.old row.assigned.items }
+        requires shaped { shape_fault row.held.cert.tx ≡ None }
+        requires origins { length row.held.cert.origins ≡ length (objects_of row.held.cert.tx) }
+        requires begins { row.assigned.items ≡ begun_behind (opening_of self.old) row.held.cert.tx.inputs row.held.cert.origins }
+        requires new { is_known (admission_of self.old) row.held.digest ≡ false }
+        requires empty { (admitted.items ≡ []) × (dropped.items ≡ []) }
+        requires lists { (self.old.waiting + 1 ≤ vec_capacity admitted) × (self.old.waiting + 1 ≤ vec_capacity dropped) }
+        ensures kept { IsKept self.new }
+        ensures entered { shown self.new ≡ with_entry (shown self.old) row.held }
+        ensures admitted { result.admitted ≡ admitted_since (admission_of self.old) (admission_of self.new) }
+        ensures dropped { result.dropped ≡ dropped_since (admission_of self.old) (admission_of self.new) }
+    {
+        self.add_row(row);
+        self.settle_listed(admitted, dropped)
+    }
+
+    /// A certificate's entry. A refusal changes nothing.
+    pub(crate) fn push(
+        &mut self,
+        alloc: Global,
+        tx: &Digest,
+        cert: &Certificate,
+    ) -> Result<Taken, OutOfMemory>
+        requires kept { IsKept self.old }
+        requires shaped { shape_fault cert.now.tx ≡ None }
+        requires origins { length cert.now.origins ≡ length (objects_of cert.now.tx) }
+        requires new { is_known (admission_of self.old) tx.now ≡ false }
+        ensures kept { IsKept self.new }
+        ensures entered { OnOk result (shown self.new ≡ with_entry (shown self.old) (record { digest = tx.now; cert = cert.now })) }
+        ensures admitted { IfOk result (λ taken. taken.admitted ≡ admitted_since (admission_of self.old) (admission_of self.new)) }
+        ensures dropped { IfOk result (λ taken. taken.dropped ≡ dropped_since (admission_of self.old) (admission_of self.new)) }
+        ensures err { OnErr result (shown self.new ≡ shown self.old) }
+    {
+        let row = self.row_of(alloc, tx, cert)?;
+        self.make_room(row.assigned.as_slice())?;
+        let admitted = Vec::with_capacity(alloc, self.waiting + 1)?;
+        let dropped = Vec::with_capacity(alloc, self.waiting + 1)?;
+        Ok(self.enter(row, admitted, dropped))
+    }
+
+    /// What was admitted is in a checkpoint: it counts no more for the limit of writers.
+    fn pass(&mut self)
+        requires { Each (IsLet self.old.lines.entries) self.old.admitted.entries }
+        ensures { Marks self.old self.new }
+    {
+        clear_since(&mut self.lines, &self.admitted, self.marked);
+        self.marked = self.admitted.len();
+    }
+
+    /// The same.
+    pub(crate) fn cut(&mut self)
+        requires { IsKept self.old }
+        ensures kept { IsKept self.new }
+        ensures cut { shown self.new ≡ with_cut (shown self.old) }
+        ensures waiting { self.new.waiting ≡ self.old.waiting }
+    {
+        self.pass();
+    }
+
+    /// The transactions that were admitted since the last mark.
+    pub(crate) fn uncut(&self, alloc: Global) -> Result<Seq<Digest>, OutOfMemory>
+        requires { IsKept self.now }
+        ensures { IfOk result (λ txs. txs ≡ uncut (shown self.now)) }
+    {
+        let list = Vec::with_capacity(alloc, self.admitted.len().saturating_sub(self.marked))?;
+        Ok(Seq::from_vec(list_admitted(list, &self.admitted, self.marked)))
+    }
+
+    /// A mark, behind its cut. A refusal changes nothing.
+    pub(crate) fn mark(&mut self, alloc: Global) -> Result<Taken, OutOfMemory>
+        requires { IsKept self.old }
+        ensures kept { IsKept self.new }
+        ensures passed { OnOk result (shown self.new ≡ with_mark (shown self.old)) }
+        ensures admitted { IfOk result (λ taken. taken.admitted ≡ admitted_since (admission_of self.old) (admission_of self.new)) }
+        ensures dropped { IfOk result (λ taken. taken.dropped ≡ dropped_since (admission_of self.old) (admission_of self.new)) }
+        ensures err { OnErr result (shown self.new ≡ shown self.old) }
+    {
+        let admitted = Vec::with_capacity(alloc, self.waiting)?;
+        let dropped = Vec::with_capacity(alloc, self.waiting)?;
+        self.cut();
+        Ok(self.settle_listed(admitted, dropped))
+    }
+}

@@ -1,0 +1,11 @@
+//! What a call took.
+
+use digest_core::Digest;
+use wire_bcs::Seq;
+
+/// The transactions that a call admitted, and those that it dropped, each in order.
+#[derive(Debug, Drop)]
+pub struct Taken {
+    pub admitted: Seq<Digest>,
+    pub dropped: Seq<Digest>,
+}
