@@ -13,17 +13,17 @@ use Rattle.protocol_spec.specs.Chain.Keys.{fits}
 use Rattle.protocol_spec.specs.Chain.Tests.{has_key}
 use Rattle.protocol_spec.specs.Block.Execution.{execution, written_keys}
 use Rattle.protocol_spec.specs.Member.Versions.{Execution, is_executed, versions}
+use Rattle.protocol_spec.specs.Member.Admission.{Admission}
 use Rattle.protocol_spec.specs.Member.Rounds.{Books, clashes, executes_as, holds_key, may_run, present, ready, ready_as, ready_on, round_add, round_among, round_of, wants_of, writes_new}
 use Rattle.version_store.proofs.Equality.{digest_self}
 use Rattle.version_store.specs.Stores.{Stored}
 use Rattle.exec_plan.specs.Books.{AreApart, books_of, ready_in}
-use Rattle.exec_plan.specs.Makers.{are_made}
+use Rattle.exec_plan.specs.Makers.{are_made, is_made}
 use Rattle.exec_plan.specs.Runs.{IsNext, with_executions}
 use Rattle.exec_plan.specs.Written.{writes}
 use Rattle.exec_plan.proofs.Following.{any_join, executed_join, holds_join, round_next}
-use Rattle.exec_plan.proofs.Making.{made_wants}
 use Rattle.exec_plan.proofs.Readying.{is_ready, ready_alike}
-use Rattle.exec_plan.proofs.Settling.{is_done_for, present_later, settled}
+use Rattle.exec_plan.proofs.Settling.{present_later, settled}
 
 or_true : (a b : Bool) → a ≡ true → (a || b) ≡ true
 or_true a b is = ap (λ c. c || b) is
@@ -104,7 +104,7 @@ module _ (b : Books) (executed : List Execution) where
 -- ---- what clashes is not ready any more
 
 module _ (b : Books) (before more : List Execution) (h : Held) (x : Execution) where
-  pub clash_rests : Along (IsNext b.opening) before more → list_all (is_done_for before) (wants_of b.admission h) ≡ true → ready b before h ≡ Some x → list_any (writes more) (written_keys x.gave) ≡ true
+  pub clash_rests : Along (IsNext b.opening) before more → list_all (is_made before) (wants_of b.admission h) ≡ true → ready b before h ≡ Some x → list_any (writes more) (written_keys x.gave) ≡ true
       → ready b (before ++ more) h ≡ None
   unfolding ready
   clash_rests along done is clash =
@@ -136,36 +136,33 @@ module _ (b : Books) (before more : List Execution) (h : Held) (x : Execution) w
 
 -- ---- behind a round
 
-abbrev pub round_in : Stored → List Held → List Execution
-round_in s held = round_of (books_of s held) s.executed
+abbrev pub round_in : Stored → Admission → List Held → List Execution
+round_in s a held = round_of (books_of s a held) s.executed
 
-module _ (s : Stored) (held : List Held) (apart : AreApart held) where
+module _ (s : Stored) (a : Admission) (held : List Held) (apart : AreApart held) where
   abbrev b : Books
-  b = books_of s held
+  b = books_of s a held
 
   abbrev round : List Execution
-  round = round_in s held
+  round = round_in s a held
 
-  made : (h : Held) → are_made s.executed h.cert ≡ true → list_all (is_done_for s.executed) (wants_of b.admission h) ≡ true
-  made h is = made_wants s.executed h ∙ is
-
-  -- a certificate that was not ready, although all that it needs was made, is not ready
-  pub stays_unready : (h : Held) → are_made s.executed h.cert ≡ true → ready_in s h ≡ None → ready_in (with_executions s round) h ≡ None
-  stays_unready h is none =
-      ready_alike (with_executions s round) held h
-      ∙ settled b s.executed round h (round_next b s.executed apart) (made h is) (sym (ready_alike s held h) ∙ none)
+  -- a certificate that was not ready, although all that it wants was made, is not ready
+  pub stays_unready : (h : Held) → are_made s.executed a h ≡ true → ready_in s a h ≡ None → ready_in (with_executions s round) a h ≡ None
+  stays_unready h made none =
+      ready_alike (with_executions s round) a held h
+      ∙ settled b s.executed round h (round_next b s.executed apart) made (sym (ready_alike s a held h) ∙ none)
 
   -- one that the round looked at was executed, or is not ready
-  pub looked_at : (place : ℕ) (h : Held) → slice_get held place ≡ Some h → are_made s.executed h.cert ≡ true
-      → (is_executed (s.executed ++ round) h.digest ≡ true) ⊎ (ready_in (with_executions s round) h ≡ None)
+  pub looked_at : (place : ℕ) (h : Held) → slice_get held place ≡ Some h → are_made s.executed a h ≡ true
+      → (is_executed (s.executed ++ round) h.digest ≡ true) ⊎ (ready_in (with_executions s round) a h ≡ None)
   unfolding round_of
-  looked_at place h at is = go (ready b s.executed h) refl
+  looked_at place h at made = go (ready b s.executed h) refl
     where
-      either : (x : Execution) → ready b s.executed h ≡ Some x → IsCovered round h x → (is_executed (s.executed ++ round) h.digest ≡ true) ⊎ (ready_in (with_executions s round) h ≡ None)
+      either : (x : Execution) → ready b s.executed h ≡ Some x → IsCovered round h x → (is_executed (s.executed ++ round) h.digest ≡ true) ⊎ (ready_in (with_executions s round) a h ≡ None)
       either x e (inl ran) = inl (executed_join s.executed round h.digest ∙ true_or (is_executed s.executed h.digest) (is_executed round h.digest) ran)
       either x e (inr clash) =
-          inr (ready_alike (with_executions s round) held h ∙ clash_rests b s.executed round h x (round_next b s.executed apart) (made h is) e clash)
+          inr (ready_alike (with_executions s round) a held h ∙ clash_rests b s.executed round h x (round_next b s.executed apart) made e clash)
 
-      go : (o : Option Execution) → ready b s.executed h ≡ o → (is_executed (s.executed ++ round) h.digest ≡ true) ⊎ (ready_in (with_executions s round) h ≡ None)
-      go None e = inr (stays_unready h is (ready_alike s held h ∙ e))
+      go : (o : Option Execution) → ready b s.executed h ≡ o → (is_executed (s.executed ++ round) h.digest ≡ true) ⊎ (ready_in (with_executions s round) a h ≡ None)
+      go None e = inr (stays_unready h made (ready_alike s a held h ∙ e))
       go (Some x) e = either x e (covered_at b s.executed held [] place h x at e)

@@ -1,5 +1,6 @@
 pub mod Joined
 pub mod Executing
+pub mod Growing
 pub mod Readying
 pub mod Rounding
 pub mod Following

@@ -4,14 +4,15 @@ use Rattle.chain_types.specs.declared.objects.Object.{Object}
 use Rattle.answer_types.specs.declared.pieces.Executed.{Executed}
 use Rattle.answer_types.specs.declared.answers.Held.{Held}
 use Rattle.protocol_spec.specs.Chain.Words.{where_true}
-use Rattle.protocol_spec.specs.Chain.Keys.{fits, has_shared_input}
+use Rattle.protocol_spec.specs.Chain.Keys.{fits}
 use Rattle.protocol_spec.proofs.ListLemmas.{and-first, not-true}
 use Rattle.protocol_spec.specs.Block.Execution.{execution, written_keys}
 use Rattle.protocol_spec.specs.Member.Versions.{Execution, is_executed, versions}
-use Rattle.protocol_spec.specs.Member.Rounds.{Books, executes_as, may_run, present, ready, ready_as, ready_on, writes_new}
+use Rattle.protocol_spec.specs.Member.Admission.{Admission}
+use Rattle.protocol_spec.specs.Member.Rounds.{Books, executes_as, may_run, present, ready, ready_as, ready_on, wants_of, writes_new}
 use Rattle.version_store.specs.Stores.{Stored, held_in}
-use Rattle.exec_plan.specs.Books.{books_of, ready_in}
-use Rattle.exec_plan.specs.Needs.{needs_of, present_after}
+use Rattle.exec_plan.specs.Books.{books_of, is_let, ready_in}
+use Rattle.exec_plan.specs.Wants.{present_after}
 use Rattle.exec_plan.proofs.Joined.{present_so}
 
 -- a certificate that was executed is not ready
@@ -20,9 +21,9 @@ unfolding ready
 executed_rests b executed h is = ap (λ e. cond (not e && may_run b h) (ready_on b executed h (present b executed h)) None) is
 
 -- of the books, only the opening objects and the admission count
-pub ready_alike : (s : Stored) (held : List Held) (h : Held) → ready_in s h ≡ ready (books_of s held) s.executed h
+pub ready_alike : (s : Stored) (a : Admission) (held : List Held) (h : Held) → ready_in s a h ≡ ready (books_of s a held) s.executed h
 unfolding ready present
-ready_alike s held h = refl
+ready_alike s a held h = refl
 
 -- what is ready was not executed, is executed under its digest, and writes what is new
 pub record IsReady (b : Books) (executed : List Execution) (h : Held) (x : Execution) : Type 0 where
@@ -55,22 +56,24 @@ is_ready b executed h x e = go (not (is_executed executed h.digest) && may_run b
     go true may None e = absurd (cc)
     go true may (Some objects) e = fitting objects (fits h.cert.tx objects) (not-true (is_executed executed h.digest) (and-first (not (is_executed executed h.digest)) (may_run b h) may)) e
 
--- a certificate that names no shared object is ready where what it needs is there, fits it, and gives what is new
-pub ready_step : (s : Stored) (h : Held) → ready_in s h ≡ cond (is_executed s.executed h.digest || has_shared_input h.cert.tx) None (ready_on (books_of s []) s.executed h (present_after (held_in s) [] (needs_of h.cert)))
+-- a certificate that may run is ready where what it wants is there, fits it, and gives what is new
+pub ready_step : (s : Stored) (a : Admission) (h : Held)
+    → ready_in s a h ≡ cond (is_executed s.executed h.digest || not (is_let a h)) None (ready_on (books_of s a []) s.executed h (present_after (held_in s) [] (wants_of a h)))
 unfolding ready
-ready_step s h = go (is_executed s.executed h.digest) (has_shared_input h.cert.tx) ∙ ap (λ (p : Option (List Object)). cond (is_executed s.executed h.digest || has_shared_input h.cert.tx) None (ready_on (books_of s []) s.executed h p)) (present_so s [] h)
+ready_step s a h =
+    go (is_executed s.executed h.digest) (is_let a h) (present (books_of s a []) s.executed h)
+    ∙ ap (λ (p : Option (List Object)). cond (is_executed s.executed h.digest || not (is_let a h)) None (ready_on (books_of s a []) s.executed h p)) (present_so s a [] h)
   where
-    go : (e sh : Bool) → cond (not e && (not sh || false)) (ready_on (books_of s []) s.executed h (present (books_of s []) s.executed h)) None
-        ≡ cond (e || sh) None (ready_on (books_of s []) s.executed h (present (books_of s []) s.executed h))
-    go true sh = refl
-    go false true = refl
-    go false false = refl
+    go : (e m : Bool) (p : Option (List Object)) → cond (not e && m) (ready_on (books_of s a []) s.executed h p) None ≡ cond (e || not m) None (ready_on (books_of s a []) s.executed h p)
+    go true m p = refl
+    go false true p = refl
+    go false false p = refl
 
--- while nothing is admitted, one that names a shared object is not
-pub shared_rests : (s : Stored) (h : Held) → has_shared_input h.cert.tx ≡ true → ready_in s h ≡ None
-shared_rests s h shared = ready_step s h ∙ go (is_executed s.executed h.digest) (has_shared_input h.cert.tx) shared
+-- one that needs its admission is not
+pub unlet_rests : (s : Stored) (a : Admission) (h : Held) → is_let a h ≡ false → ready_in s a h ≡ None
+unlet_rests s a h out = ready_step s a h ∙ go (is_executed s.executed h.digest) (is_let a h) out
   where
-    go : (e sh : Bool) → sh ≡ true → cond (e || sh) None (ready_on (books_of s []) s.executed h (present_after (held_in s) [] (needs_of h.cert))) ≡ None
-    go true sh is = refl
-    go false true is = refl
-    go false false is = absurd (cc)
+    go : (e m : Bool) → m ≡ false → cond (e || not m) None (ready_on (books_of s a []) s.executed h (present_after (held_in s) [] (wants_of a h))) ≡ None
+    go true m is = refl
+    go false false is = refl
+    go false true is = absurd (cc)

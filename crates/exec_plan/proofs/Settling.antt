@@ -18,6 +18,7 @@ use Rattle.protocol_spec.specs.Block.Execution.{execution, written_keys}
 use Rattle.protocol_spec.specs.Member.Versions.{Execution, Version, is_executed, object_in, opened, versions, written, written_by}
 use Rattle.protocol_spec.specs.Member.Rounds.{Books, Wanted, executes_as, found, holds_key, is_maker_done, is_wanted, may_run, present, ready, ready_as, ready_on, wants_of, writes_new}
 use Rattle.version_store.proofs.Equality.{digest_same}
+use Rattle.exec_plan.specs.Makers.{is_made}
 use Rattle.exec_plan.specs.Runs.{IsNext}
 use Rattle.exec_plan.specs.Written.{writes}
 use Rattle.exec_plan.proofs.Following.{executed_join, holds_join, versions_join}
@@ -115,13 +116,10 @@ found_later opening before more w along done = go w.producer done
         ap (λ vs. option_map object_in (find (is_wanted w.key (Some p)) vs)) (versions_join opening before more)
         ∙ ap (option_map object_in) (find_none (is_wanted w.key (Some p)) (versions opening before) (flat_map written_by more) (none_by w.key p more (others_later opening p before more done along)))
 
-abbrev pub is_done_for : List Execution → Wanted → Bool
-is_done_for executed w = is_maker_done executed w.producer
-
-all_found_later : (opening : List Object) (before more : List Execution) (ws : List Wanted) → Along (IsNext opening) before more → list_all (is_done_for before) ws ≡ true
+all_found_later : (opening : List Object) (before more : List Execution) (ws : List Wanted) → Along (IsNext opening) before more → list_all (is_made before) ws ≡ true
     → all_some (map (found (versions opening (before ++ more))) ws) ≡ all_some (map (found (versions opening before)) ws)
 all_found_later opening before more [] along done = refl
-all_found_later opening before more (w ∷ ws) along done = go (is_done_for before w) refl done (λ d. all_found_later opening before more ws along d)
+all_found_later opening before more (w ∷ ws) along done = go (is_made before w) refl done (λ d. all_found_later opening before more ws along d)
   where
     Rest : Type 0
     Rest = all_some (map (found (versions opening (before ++ more))) ws) ≡ all_some (map (found (versions opening before)) ws)
@@ -130,14 +128,14 @@ all_found_later opening before more (w ∷ ws) along done = go (is_done_for befo
     behind None rest = refl
     behind (Some o) rest = ap (onto_some o) rest
 
-    go : (b : Bool) → is_done_for before w ≡ b → (b && list_all (is_done_for before) ws) ≡ true → (list_all (is_done_for before) ws ≡ true → Rest)
+    go : (b : Bool) → is_made before w ≡ b → (b && list_all (is_made before) ws) ≡ true → (list_all (is_made before) ws ≡ true → Rest)
         → all_some (found (versions opening (before ++ more)) w ∷ map (found (versions opening (before ++ more))) ws) ≡ all_some (found (versions opening before) w ∷ map (found (versions opening before)) ws)
     go false is done rest = absurd (cc)
     go true is done rest =
         ap (λ (f : Option Object). all_some (f ∷ map (found (versions opening (before ++ more))) ws)) (found_later opening before more w along is)
         ∙ behind (found (versions opening before) w) (rest done)
 
-pub present_later : (b : Books) (before more : List Execution) (h : Held) → Along (IsNext b.opening) before more → list_all (is_done_for before) (wants_of b.admission h) ≡ true
+pub present_later : (b : Books) (before more : List Execution) (h : Held) → Along (IsNext b.opening) before more → list_all (is_made before) (wants_of b.admission h) ≡ true
     → present b (before ++ more) h ≡ present b before h
 unfolding present
 present_later b before more h along done = all_found_later b.opening before more (wants_of b.admission h) along done
@@ -171,7 +169,7 @@ never_new opening before more keys old = go (list_any (holds_key (versions openi
 
 module _ (b : Books) (before more : List Execution) (h : Held) where
   -- A certificate whose makers are all done and that is not ready is not ready behind more executions
-  pub settled : Along (IsNext b.opening) before more → list_all (is_done_for before) (wants_of b.admission h) ≡ true → ready b before h ≡ None → ready b (before ++ more) h ≡ None
+  pub settled : Along (IsNext b.opening) before more → list_all (is_made before) (wants_of b.admission h) ≡ true → ready b before h ≡ None → ready b (before ++ more) h ≡ None
   unfolding ready
   settled along done none =
       ap (λ (p : Option (List Object)). cond (not (is_executed (before ++ more) h.digest) && may_run b h) (ready_on b (before ++ more) h p) None) (present_later b before more h along done)

@@ -1,10 +1,10 @@
 -- Places that are kept behind transactions.
-use Rattle.std.specs.Prelude.{◌≡◌, ◌⊎◌, ℕ, List, [], unwrap_or}
+use Rattle.std.specs.Prelude.{◌≡◌, ◌⊎◌, ℕ, Bool, List, [], unwrap_or}
+use Rattle.std.specs.List.{list_any}
 use Rattle.std.specs.Map.{lookup}
 use Rattle.digest_core.specs.declared.Digest.{Digest}
 use Rattle.chain_types.specs.Equal.{digest_eq}
 use Rattle.protocol_spec.specs.Chain.Words.{Has}
-use Rattle.protocol_spec.specs.Member.Versions.{Execution, is_executed}
 
 abbrev pub Lists : Type 0
 Lists = List (Digest × List ℕ)
@@ -17,11 +17,14 @@ listed lists tx = unwrap_or (lookup (digest_eq tx) lists) []
 abbrev pub KeepsListed : Lists → Lists → Type 0
 KeepsListed old new = (tx : Digest) (place : ℕ) → Has (listed old tx) place → Has (listed new tx) place
 
--- a place that is kept behind a transaction, which is none of these executions but those that are left
-pub record StaysListed (lists : Lists) (left all : List Execution) (tx : Digest) (place : ℕ) : Type 0 where
+abbrev pub is_among : List Digest → Digest → Bool
+is_among txs tx = list_any (λ (d : Digest). digest_eq d tx) txs
+
+-- a place that is kept behind a transaction, which is none of these but those that are left
+pub record StaysListed (lists : Lists) (left all : List Digest) (tx : Digest) (place : ℕ) : Type 0 where
   pub listed : Has (listed lists tx) place
-  pub out : is_executed all tx ≡ is_executed left tx
+  pub out : is_among all tx ≡ is_among left tx
 
 -- each place that was kept behind a transaction was freed, or stays listed behind it
-pub record Frees (old new : Lists) (freed : List ℕ) (left all : List Execution) : Type 0 where
+pub record Frees (old new : Lists) (freed : List ℕ) (left all : List Digest) : Type 0 where
   pub at : (tx : Digest) (place : ℕ) → Has (listed old tx) place → Has freed place ⊎ StaysListed new left all tx place

@@ -1,4 +1,4 @@
--- What a run works on while nothing is admitted. Source: Sui Lutris (execution of certificates).
+-- What a run works on. Source: Sui Lutris (execution of certificates).
 use Rattle.std.specs.Prelude.{◌≡◌, Bool, false, not, ◌&&◌, List, [], map, Option, None}
 use Rattle.std.specs.List.{list_all}
 use Rattle.digest_core.specs.declared.Digest.{Digest}
@@ -7,17 +7,16 @@ use Rattle.answer_types.specs.declared.answers.Held.{Held}
 use Rattle.chain_types.specs.Equal.{digest_eq}
 use Rattle.chain_types.specs.Digests.{transaction_digest}
 use Rattle.protocol_spec.specs.Chain.Words.{repeats, where_true}
-use Rattle.protocol_spec.specs.Chain.Keys.{has_shared_input}
 use Rattle.protocol_spec.specs.Chain.Shape.{shape_fault}
 use Rattle.protocol_spec.specs.Member.Versions.{Execution, is_executed}
-use Rattle.protocol_spec.specs.Member.Admission.{nothing_admitted}
+use Rattle.protocol_spec.specs.Member.Admission.{Admission}
 use Rattle.answer_types.specs.declared.answers.Left.{Left}
-use Rattle.protocol_spec.specs.Member.Rounds.{Books, is_due, is_origin_done, left_as, ready}
+use Rattle.protocol_spec.specs.Member.Rounds.{Books, is_due, is_origin_done, left_as, may_run, ready}
 use Rattle.version_store.specs.Stores.{Stored}
 
--- the books of an epoch in which nothing is admitted
-abbrev pub books_of : Stored → List Held → Books
-books_of s held = record { opening = s.opening; held = held; admission = nothing_admitted }
+-- the books of a store, the admission of its epoch, and what is held
+abbrev pub books_of : Stored → Admission → List Held → Books
+books_of s a held = record { opening = s.opening; held = held; admission = a }
 
 -- a held certificate of a transaction of valid shape, under the transaction's digest
 abbrev pub IsSound : Held → Type 0
@@ -32,17 +31,24 @@ AreApart held = repeats digest_eq (map digest_of_held held) ≡ false
 
 -- ---- one certificate
 
+-- the certificate needs no admission, or its transaction is admitted
+abbrev pub is_let : Admission → Held → Bool
+is_let a h = may_run (record { opening = []; held = []; admission = a }) h
+
 -- what the certificate's execution gives, where it is ready in this store
-abbrev pub ready_in : Stored → Held → Option Execution
-ready_in s h = ready (books_of s []) s.executed h
+abbrev pub ready_in : Stored → Admission → Held → Option Execution
+ready_in s a h = ready (books_of s a []) s.executed h
+
+abbrev pub digest_of : Execution → Digest
+digest_of x = x.digest
 
 abbrev pub effects_of : Execution → Effects
 effects_of x = x.gave.effects
 
 -- the certificate as a run leaves it, where it is not executed although all that it waits for is
-abbrev pub left_in : Stored → Held → Option Left
-left_in s h = where_true (is_due (books_of s []) s.executed h) (left_as (books_of s []) s.executed h)
+abbrev pub left_in : Stored → Admission → Held → Option Left
+left_in s a h = where_true (is_due (books_of s a []) s.executed h) (left_as (books_of s a []) s.executed h)
 
--- not executed, with no shared input, and all its origins executed
-abbrev pub is_left_over : List Execution → Held → Bool
-is_left_over executed h = not (is_executed executed h.digest) && not (has_shared_input h.cert.tx) && list_all (is_origin_done executed) h.cert.origins
+-- it may run and is not executed, although all its origins are
+abbrev pub may_be_left : List Execution → Admission → Held → Bool
+may_be_left executed a h = not (is_executed executed h.digest) && is_let a h && list_all (is_origin_done executed) h.cert.origins

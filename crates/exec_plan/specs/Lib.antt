@@ -1,5 +1,5 @@
 pub mod Books
-pub mod Needs
+pub mod Wants
 pub mod Makers
 pub mod Behind
 pub mod Steps

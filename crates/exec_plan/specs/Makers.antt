@@ -1,15 +1,14 @@
--- The transactions that make what a certificate needs.
+-- The transactions that make what a certificate wants.
 use Rattle.std.specs.Prelude.{Bool, not, List, map, Option, Some, None}
 use Rattle.std.specs.List.{list_all}
 use Rattle.digest_core.specs.declared.Digest.{Digest}
 use Rattle.chain_types.specs.declared.objects.Producer.{Producer}
 use Rattle.chain_types.specs.declared.objects.Producer.TheVariants as producers
-use Rattle.chain_messages.specs.declared.messages.Certificate.{Certificate}
+use Rattle.answer_types.specs.declared.answers.Held.{Held}
 use Rattle.protocol_spec.specs.Chain.Words.{Has, first_of, where_true}
 use Rattle.protocol_spec.specs.Member.Versions.{Execution, is_executed}
-use Rattle.protocol_spec.specs.Member.Rounds.{is_maker_done}
-use Rattle.exec_plan.specs.Needs.{needs_of}
-use Rattle.exec_plan.specs.declared.inputs.Needed.{Needed}
+use Rattle.protocol_spec.specs.Member.Admission.{Admission}
+use Rattle.protocol_spec.specs.Member.Rounds.{Wanted, is_maker_done, wants_of}
 
 -- the transaction that makes a version, where it is not executed
 abbrev pub unmade_by : List Execution → Option Producer → Option Digest
@@ -17,23 +16,23 @@ unmade_by executed None = None
 unmade_by executed (Some producers.Opening) = None
 unmade_by executed (Some (producers.Tx tx)) = where_true (not (is_executed executed tx)) tx
 
-abbrev pub unmade : List Execution → Needed → Option Digest
-unmade executed n = unmade_by executed n.maker
+abbrev pub unmade : List Execution → Wanted → Option Digest
+unmade executed w = unmade_by executed w.producer
 
--- the first transaction, not executed, that makes what the certificate needs
-abbrev pub awaited_of : List Execution → Certificate → Option Digest
-awaited_of executed c = first_of (unmade executed) (needs_of c)
+-- the first transaction, not executed, that makes what the certificate wants
+abbrev pub awaited_of : List Execution → Admission → Held → Option Digest
+awaited_of executed a h = first_of (unmade executed) (wants_of a h)
 
-abbrev pub is_made : List Execution → Needed → Bool
-is_made executed n = is_maker_done executed n.maker
+abbrev pub is_made : List Execution → Wanted → Bool
+is_made executed w = is_maker_done executed w.producer
 
--- all transactions that make what the certificate needs are executed
-abbrev pub are_made : List Execution → Certificate → Bool
-are_made executed c = list_all (is_made executed) (needs_of c)
+-- all transactions that make what the certificate wants are executed
+abbrev pub are_made : List Execution → Admission → Held → Bool
+are_made executed a h = list_all (is_made executed) (wants_of a h)
 
-abbrev pub maker_in : Needed → Option Producer
-maker_in n = n.maker
+abbrev pub producer_in : Wanted → Option Producer
+producer_in w = w.producer
 
--- the transaction makes what the certificate needs
-abbrev pub Makes : Digest → Certificate → Type 0
-Makes tx c = Has (map maker_in (needs_of c)) (Some (producers.Tx tx))
+-- the transaction makes what the certificate wants
+abbrev pub Makes : Digest → Admission → Held → Type 0
+Makes tx a h = Has (map producer_in (wants_of a h)) (Some (producers.Tx tx))

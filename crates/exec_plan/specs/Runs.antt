@@ -4,6 +4,7 @@ use Rattle.chain_types.specs.declared.objects.Object.{Object}
 use Rattle.answer_types.specs.declared.answers.Held.{Held}
 use Rattle.protocol_spec.specs.Block.Execution.{written_keys}
 use Rattle.protocol_spec.specs.Member.Versions.{Execution, is_executed, versions}
+use Rattle.protocol_spec.specs.Member.Admission.{Admission}
 use Rattle.protocol_spec.specs.Member.Rounds.{rounds_within, writes_new}
 use Rattle.version_store.specs.Stores.{Stored}
 use Rattle.exec_plan.specs.Books.{books_of}
@@ -17,5 +18,5 @@ abbrev pub with_executions : Stored → List Execution → Stored
 with_executions s more = record s { executed = s.executed ++ more }
 
 -- at most so many rounds behind what was executed
-abbrev pub rounds_left : ℕ → Stored → List Held → List Execution
-rounds_left n s held = rounds_within n (books_of s held) s.executed
+abbrev pub rounds_left : ℕ → Stored → Admission → List Held → List Execution
+rounds_left n s a held = rounds_within n (books_of s a held) s.executed

@@ -3,6 +3,7 @@ use Rattle.std.specs.Prelude.{ℕ, List, [], ◌∷◌, ◌++◌, Option, Some, 
 use Rattle.answer_types.specs.declared.answers.Held.{Held}
 use Rattle.answer_types.specs.declared.answers.Left.{Left}
 use Rattle.protocol_spec.specs.Member.Versions.{Execution}
+use Rattle.protocol_spec.specs.Member.Admission.{Admission}
 use Rattle.protocol_spec.specs.Member.Rounds.{round_add}
 use Rattle.version_store.specs.Stores.{Stored}
 use Rattle.exec_plan.specs.Books.{left_in, ready_in}
@@ -10,24 +11,24 @@ use Rattle.exec_plan.specs.Books.{left_in, ready_in}
 -- ---- the places of held certificates
 
 -- what the certificate at a place gives, where there is one and it is ready
-abbrev pub ready_of : Stored → Option Held → Option Execution
-ready_of s None = None
-ready_of s (Some h) = ready_in s h
+abbrev pub ready_of : Stored → Admission → Option Held → Option Execution
+ready_of s a None = None
+ready_of s a (Some h) = ready_in s a h
 
 -- the round so far, and behind it the certificates at these places that are ready
-abbrev pub round_at : Stored → List Held → List Execution → List ℕ → List Execution
-round_at s held round [] = round
-round_at s held round (place ∷ places) = round_at s held (round_add round (ready_of s (slice_get held place))) places
+abbrev pub round_at : Stored → Admission → List Held → List Execution → List ℕ → List Execution
+round_at s a held round [] = round
+round_at s a held round (place ∷ places) = round_at s a held (round_add round (ready_of s a (slice_get held place))) places
 
-abbrev pub left_of : Stored → Option Held → Option Left
-left_of s None = None
-left_of s (Some h) = left_in s h
+abbrev pub left_of : Stored → Admission → Option Held → Option Left
+left_of s a None = None
+left_of s a (Some h) = left_in s a h
 
 abbrev pub left_add : List Left → Option Left → List Left
 left_add left None = left
 left_add left (Some one) = left ++ one ∷ []
 
 -- those left so far, and behind them those of these places
-abbrev pub left_after : Stored → List Held → List Left → List ℕ → List Left
-left_after s held left [] = left
-left_after s held left (place ∷ places) = left_after s held (left_add left (left_of s (slice_get held place))) places
+abbrev pub left_after : Stored → Admission → List Held → List Left → List ℕ → List Left
+left_after s a held left [] = left
+left_after s a held left (place ∷ places) = left_after s a held (left_add left (left_of s a (slice_get held place))) places

@@ -1,17 +1,21 @@
-//! The versions that a certificate's inputs need.
+//! The versions that a certificate's inputs want.
 
-ghost use Rattle.std.specs.Prelude.{◌≡◌, [], IfOk, map, option_copied, true};
+ghost use Rattle.std.specs.Prelude.{◌≡◌, [], IfOk, None, Some, find, map, option_copied, true};
 ghost use Rattle.chain_types.specs.Digests.{is_object};
 ghost use Rattle.protocol_spec.specs.Chain.Keys.{has_shared_input, is_shared_input, objects_of};
 ghost use Rattle.protocol_spec.specs.Chain.Words.{first_of};
-ghost use Rattle.protocol_spec.specs.Member.Rounds.{found};
-ghost use Rattle.exec_plan.specs.Needs.{maker_of, missing_in, named_in, needed_after, needed_of, needs_of, present_after, wanted_in};
+ghost use Rattle.protocol_spec.specs.Member.Admission.{assigned_of};
+ghost use Rattle.protocol_spec.specs.Member.Rounds.{assigned_id, found, is_of_id, missing, producer_of, wanted_as, wants_of};
+ghost use Rattle.exec_plan.specs.Books.{is_let};
+ghost use Rattle.exec_plan.specs.Wants.{named_in, present_after, want_of, wants_after};
 ghost use Rattle.version_store.specs.Stores.{held_in};
 
-use chain_messages::Certificate;
-use chain_types::{Input, Object, ObjectKey, Producer, Transaction};
+use answer_types::{Assigned, Held};
+use chain_types::{Input, Object, ObjectId, ObjectKey, Producer, Transaction};
 use digest_core::Digest;
 use std::alloc::Global;
+use std::marker::Model;
+use version_assign::Admission;
 use version_store::Store;
 use wire_bcs::{OutOfMemory, Seq};
 
@@ -30,7 +34,7 @@ fn is_shared_input(input: &Input) -> bool
 }
 
 /// Whether a transaction names a shared object.
-pub(crate) fn has_shared_input(tx: &Transaction) -> bool
+fn has_shared_input(tx: &Transaction) -> bool
     ensures { result ≡ has_shared_input tx.now }
 {
     for input in tx.inputs.as_slice() {
@@ -41,19 +45,51 @@ pub(crate) fn has_shared_input(tx: &Transaction) -> bool
     false
 }
 
-/// An object that a transaction names: its version, or where it begins if it is shared.
-#[derive(Clone, Copy, Debug)]
-pub(crate) struct Named {
-    key: ObjectKey,
-    is_shared: bool,
+/// Whether a certificate names no shared object, or is admitted.
+#[tactic(auto, using(crate::proofs::Growing::assigned_is))]
+pub(crate) fn is_let(admission: &Admission, held: &Held) -> bool
+    ensures { result ≡ is_let admission.now.admission held.now }
+{
+    !has_shared_input(&held.cert.tx) || admission.assigned(&held.digest).is_some()
 }
 
-/// What a transaction needs: a version, and who made it; nobody, for no version is assigned to a shared
-/// object.
+/// An object that a transaction names: a version, or a shared object and where it begins.
 #[derive(Clone, Copy, Debug)]
-pub(crate) struct Needed {
+pub(crate) enum Named {
+    Version(ObjectKey),
+    Shared { id: ObjectId, initial: u64 },
+}
+
+/// What a transaction wants: a version, and who made it; nobody, where a shared object was not assigned.
+/// Contracts see the definitions' record of it.
+#[derive(Debug, Drop)]
+pub(crate) struct Want {
     key: ObjectKey,
-    pub(crate) maker: Option<Producer>,
+    maker: Option<Producer>,
+}
+
+impl Model for Want {
+    ghost use Rattle.protocol_spec.specs.Member.Rounds.{Wanted};
+
+    ghost Value = { Wanted };
+
+    ghost view = { λ w. record { key = w.key; producer = w.maker } };
+}
+
+impl Want {
+    /// The key of the version.
+    fn key(&self) -> ObjectKey
+        ensures { result ≡ self.now.key }
+    {
+        self.key
+    }
+
+    /// Who made the version.
+    pub(crate) fn maker(&self) -> Option<Producer>
+        ensures { result ≡ self.now.producer }
+    {
+        self.maker
+    }
 }
 
 /// The object that an input names.
@@ -62,20 +98,11 @@ fn name_of(input: &Input) -> Named
     ensures { result ≡ named_in input.now }
 {
     match input {
-        Input::Owned(reference) => Named {
-            key: reference.key(),
-            is_shared: false,
-        },
-        Input::Immutable(reference) => Named {
-            key: reference.key(),
-            is_shared: false,
-        },
-        Input::Shared { id, initial, .. } => Named {
-            key: ObjectKey {
-                id: *id,
-                version: *initial,
-            },
-            is_shared: true,
+        Input::Owned(reference) => Named::Version(reference.key()),
+        Input::Immutable(reference) => Named::Version(reference.key()),
+        Input::Shared { id, initial, .. } => Named::Shared {
+            id: *id,
+            initial: *initial,
         },
         Input::Pure(_) => unreachable!(),
     }
@@ -86,10 +113,7 @@ fn all_named(alloc: Global, tx: &Transaction) -> Result<Seq<Named>, OutOfMemory>
     ensures { IfOk result (λ all. all ≡ map named_in (objects_of tx.now)) }
 {
     let mut all = Seq::new(alloc);
-    all.push(Named {
-        key: tx.gas.key(),
-        is_shared: false,
-    })?;
+    all.push(Named::Version(tx.gas.key()))?;
     for input in tx.inputs.as_slice() {
         if is_object(input) {
             all.push(name_of(input))?;
@@ -98,36 +122,86 @@ fn all_named(alloc: Global, tx: &Transaction) -> Result<Seq<Named>, OutOfMemory>
     Ok(all)
 }
 
-/// Who makes a version of this origin; nobody, for a shared object.
-fn maker(is_shared: bool, origin: Option<Digest>) -> Option<Producer>
-    ensures { result ≡ maker_of is_shared origin }
+/// Who made a version of this origin.
+fn maker_of(origin: Option<Digest>) -> Producer
+    ensures { result ≡ producer_of origin }
 {
-    if is_shared {
-        return None;
-    }
     match origin {
-        Some(tx) => Some(Producer::Tx(tx)),
-        None => Some(Producer::Opening),
+        Some(tx) => Producer::Tx(tx),
+        None => Producer::Opening,
     }
 }
 
-/// What is needed of an object of this origin.
-fn need_of(named: Named, origin: Option<Digest>) -> Needed
-    ensures { result ≡ needed_of named origin }
+/// The assigned version of this object.
+fn with_id(assigned: &[Assigned], id: &ObjectId) -> Option<Assigned>
+    ensures { result ≡ find (is_of_id id.now) assigned.now }
 {
-    Needed {
-        key: named.key,
-        maker: maker(named.is_shared, origin),
+    let mut rest = assigned;
+    while let [one, after @ ..] = rest {
+        if one.id == *id {
+            return Some(*one);
+        }
+        rest = after;
+    }
+    None
+}
+
+/// The version of a shared object that was assigned to a transaction.
+fn assigned_version(admission: &Admission, tx: &Digest, id: &ObjectId) -> Option<Assigned>
+    ensures { result ≡ assigned_id (assigned_of admission.now.admission tx.now) id.now }
+{
+    match admission.assigned(tx) {
+        Some(assigned) => with_id(assigned.as_slice(), id),
+        None => None,
     }
 }
 
-/// What is needed of these objects, each of its origin, behind what is needed so far.
-fn needed_after(
-    all: Seq<Needed>,
+/// What is wanted of a shared object: the assigned version of its writer.
+fn want_shared(id: ObjectId, initial: u64, assigned: Option<Assigned>) -> Want
+    ensures { result ≡ wanted_as id initial assigned }
+{
+    match assigned {
+        Some(assigned) => Want {
+            key: ObjectKey {
+                id,
+                version: assigned.version,
+            },
+            maker: Some(assigned.writer),
+        },
+        None => Want {
+            key: ObjectKey {
+                id,
+                version: initial,
+            },
+            maker: None,
+        },
+    }
+}
+
+/// What a transaction wants of an object of this origin.
+fn want_of(admission: &Admission, tx: &Digest, named: Named, origin: Option<Digest>) -> Want
+    ensures { result ≡ want_of (assigned_of admission.now.admission tx.now) named origin }
+{
+    match named {
+        Named::Version(key) => Want {
+            key,
+            maker: Some(maker_of(origin)),
+        },
+        Named::Shared { id, initial } => {
+            want_shared(id, initial, assigned_version(admission, tx, &id))
+        }
+    }
+}
+
+/// What a transaction wants of these objects, each of its origin, behind what it wants so far.
+fn wants_after(
+    all: Seq<Want>,
+    admission: &Admission,
+    tx: &Digest,
     named: &[Named],
     origins: &[Option<Digest>],
-) -> Result<Seq<Needed>, OutOfMemory>
-    ensures { IfOk result (λ more. more ≡ needed_after all named.now origins.now) }
+) -> Result<Seq<Want>, OutOfMemory>
+    ensures { IfOk result (λ more. more ≡ wants_after (assigned_of admission.now.admission tx.now) all named.now origins.now) }
 {
     let mut all = all;
     let mut left = named;
@@ -136,43 +210,55 @@ fn needed_after(
         let [origin, others @ ..] = rest else {
             return Ok(all);
         };
-        all.push(need_of(*named, *origin))?;
+        all.push(want_of(admission, tx, *named, *origin))?;
         left = after;
         rest = others;
     }
     Ok(all)
 }
 
-/// What a certificate's transaction needs, gas first.
-pub(crate) fn needs(alloc: Global, cert: &Certificate) -> Result<Seq<Needed>, OutOfMemory>
-    ensures { IfOk result (λ all. all ≡ needs_of cert.now) }
+/// What a certificate's transaction wants, gas first: each named version of its origin, and of a shared object
+/// the assigned version of its writer.
+#[tactic(auto, using(crate::proofs::Joined::wants_are))]
+pub(crate) fn wants(
+    alloc: Global,
+    admission: &Admission,
+    held: &Held,
+) -> Result<Seq<Want>, OutOfMemory>
+    ensures { IfOk result (λ all. all ≡ wants_of admission.now.admission held.now) }
 {
-    let named = all_named(alloc, &cert.tx)?;
-    needed_after(Seq::new(alloc), named.as_slice(), cert.origins.as_slice())
+    let named = all_named(alloc, &held.cert.tx)?;
+    wants_after(
+        Seq::new(alloc),
+        admission,
+        &held.digest,
+        named.as_slice(),
+        held.cert.origins.as_slice(),
+    )
 }
 
-/// The object that is needed, where it is held.
-fn found<'a>(store: &'a Store, needed: &Needed) -> Option<&'a Object>
-    ensures { option_copied result ≡ found (held_in store.now) (wanted_in needed.now) }
+/// The object that is wanted, where it is held.
+fn found<'a>(store: &'a Store, want: &Want) -> Option<&'a Object>
+    ensures { option_copied result ≡ found (held_in store.now) want.now }
 {
-    match &needed.maker {
-        Some(maker) => store.found(&needed.key, maker),
+    match want.maker() {
+        Some(maker) => store.found(&want.key(), &maker),
         None => None,
     }
 }
 
-/// All objects that are needed; none where one is not held.
+/// All objects that are wanted; none where one is not held.
 pub(crate) fn present(
     alloc: Global,
     store: &Store,
-    needs: &[Needed],
+    wants: &[Want],
 ) -> Result<Option<Seq<Object>>, OutOfMemory>
-    ensures { IfOk result (λ all. all ≡ present_after (held_in store.now) [] needs.now) }
+    ensures { IfOk result (λ all. all ≡ present_after (held_in store.now) [] wants.now) }
 {
     let mut objects = Seq::new(alloc);
-    let mut rest = needs;
-    while let [needed, after @ ..] = rest {
-        let Some(object) = found(store, needed) else {
+    let mut rest = wants;
+    while let [want, after @ ..] = rest {
+        let Some(object) = found(store, want) else {
             return Ok(None);
         };
         objects.push(*object)?;
@@ -181,14 +267,14 @@ pub(crate) fn present(
     Ok(Some(objects))
 }
 
-/// The first version that is needed and is not held.
-pub(crate) fn first_missing(store: &Store, needs: &[Needed]) -> Option<ObjectKey>
-    ensures { result ≡ first_of (missing_in (held_in store.now)) needs.now }
+/// The first version that is wanted and is not held.
+pub(crate) fn first_missing(store: &Store, wants: &[Want]) -> Option<ObjectKey>
+    ensures { result ≡ first_of (missing (held_in store.now)) wants.now }
 {
-    let mut rest = needs;
-    while let [needed, after @ ..] = rest {
-        if found(store, needed).is_none() {
-            return Some(needed.key);
+    let mut rest = wants;
+    while let [want, after @ ..] = rest {
+        if found(store, want).is_none() {
+            return Some(want.key());
         }
         rest = after;
     }

@@ -3,15 +3,17 @@
 ghost use Rattle.std.specs.Prelude.{◌≡◌, [], IfOk, OnOk, slice_get};
 ghost use Rattle.std.specs.List.{list_all};
 ghost use Rattle.protocol_spec.specs.Member.Rounds.{is_origin_done, left};
-ghost use Rattle.exec_plan.specs.Books.{books_of, is_left_over, left_in};
+ghost use Rattle.exec_plan.specs.Books.{books_of, left_in, may_be_left};
 ghost use Rattle.exec_plan.specs.Steps.{left_add, left_after, left_of};
 ghost use Rattle.exec_plan.specs.Waits.{IsWaiting};
 
-use crate::inputs::{first_missing, has_shared_input, needs};
+use crate::inputs::{first_missing, is_let, wants};
+use crate::makers::first_unmade;
 use crate::waiting::Waiting;
 use answer_types::{Held, Left};
 use digest_core::Digest;
 use std::alloc::Global;
+use version_assign::Admission;
 use version_store::Store;
 use wire_bcs::{OutOfMemory, Seq};
 
@@ -39,27 +41,35 @@ fn are_origins_done(store: &Store, origins: &[Option<Digest>]) -> bool
     true
 }
 
-/// Whether a certificate is not executed although all its origins are, and names no shared object.
-fn is_left(store: &Store, held: &Held) -> bool
-    ensures { result ≡ is_left_over store.now.executed held.now }
+/// Whether a certificate may run and is not executed, although all its origins are.
+fn may_be_left(store: &Store, admission: &Admission, held: &Held) -> bool
+    ensures { result ≡ may_be_left store.now.executed admission.now.admission held.now }
 {
     !store.is_executed(&held.digest)
-        && !has_shared_input(&held.cert.tx)
+        && is_let(admission, held)
         && are_origins_done(store, held.cert.origins.as_slice())
 }
 
 /// The certificate as it is left, where it is.
 #[tactic(auto, using(crate::proofs::LeftOver::left_so))]
-fn left_one(alloc: Global, store: &Store, held: &Held) -> Result<Option<Left>, OutOfMemory>
-    ensures { IfOk result (λ one. one ≡ left_in store.now held.now) }
+fn left_one(
+    alloc: Global,
+    store: &Store,
+    admission: &Admission,
+    held: &Held,
+) -> Result<Option<Left>, OutOfMemory>
+    ensures { IfOk result (λ one. one ≡ left_in store.now admission.now.admission held.now) }
 {
-    if !is_left(store, held) {
+    if !may_be_left(store, admission, held) {
         return Ok(None);
     }
-    let needs = needs(alloc, &held.cert)?;
+    let wants = wants(alloc, admission, held)?;
+    if first_unmade(store, wants.as_slice()).is_some() {
+        return Ok(None);
+    }
     Ok(Some(Left {
         tx: held.digest,
-        key: first_missing(store, needs.as_slice()),
+        key: first_missing(store, wants.as_slice()),
     }))
 }
 
@@ -67,13 +77,14 @@ fn left_one(alloc: Global, store: &Store, held: &Held) -> Result<Option<Left>, O
 fn left_at(
     alloc: Global,
     store: &Store,
+    admission: &Admission,
     held: &[Held],
     place: usize,
 ) -> Result<Option<Left>, OutOfMemory>
-    ensures { IfOk result (λ one. one ≡ left_of store.now (slice_get held.now place)) }
+    ensures { IfOk result (λ one. one ≡ left_of store.now admission.now.admission (slice_get held.now place)) }
 {
     match held.get(place) {
-        Some(held) => left_one(alloc, store, held),
+        Some(held) => left_one(alloc, store, admission, held),
         None => Ok(None),
     }
 }
@@ -92,15 +103,16 @@ fn add_left(left: &mut Seq<Left>, one: Option<Left>) -> Result<(), OutOfMemory>
 fn left_among(
     alloc: Global,
     store: &Store,
+    admission: &Admission,
     held: &[Held],
     places: &[usize],
 ) -> Result<Seq<Left>, OutOfMemory>
-    ensures { IfOk result (λ left. left ≡ left_after store.now held.now [] places.now) }
+    ensures { IfOk result (λ left. left ≡ left_after store.now admission.now.admission held.now [] places.now) }
 {
     let mut left = Seq::new(alloc);
     let mut rest = places;
     while let [place, after @ ..] = rest {
-        let one = left_at(alloc, store, held, *place)?;
+        let one = left_at(alloc, store, admission, held, *place)?;
         add_left(&mut left, one)?;
         rest = after;
     }
@@ -108,19 +120,20 @@ fn left_among(
 }
 
 /// The held certificates that are not executed although all that they wait for is, in order of holding:
-/// each with the first version that is not held, or with none where what it needs is held and it does not
-/// fit, or what it writes is not new. Looks at the certificates that wait for no transaction and are not
-/// executed.
+/// each with the first version that is not held, or with none where what it wants is held and it does not
+/// fit, or what it writes is not new. One that names a shared object is among them once it is admitted.
+/// Looks at the certificates that wait for nothing and are not executed.
 #[tactic(auto, using(crate::proofs::Filing::left_now))]
 pub fn left(
     alloc: Global,
     store: &Store,
+    admission: &Admission,
     waiting: &Waiting,
     held: &[Held],
 ) -> Result<Seq<Left>, OutOfMemory>
-    requires waiting { IsWaiting store.now held.now waiting.now }
-    ensures { IfOk result (λ all. all ≡ left (books_of store.now held.now) store.now.executed) }
+    requires waiting { IsWaiting store.now admission.now.admission held.now waiting.now }
+    ensures { IfOk result (λ all. all ≡ left (books_of store.now admission.now.admission held.now) store.now.executed) }
 {
     let places = waiting.open_places(alloc)?;
-    left_among(alloc, store, held, places.as_slice())
+    left_among(alloc, store, admission, held, places.as_slice())
 }

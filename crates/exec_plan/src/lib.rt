@@ -2,10 +2,11 @@
 //!
 //! [`run`] executes the certificates that a member holds, round after round: a round has those that are
 //! ready behind the rounds before it, in order of holding, and reads the store as it was before the round.
-//! [`left`] tells which certificates a run leaves although all that they waited for is executed. Nothing is
-//! admitted yet, so a certificate with a shared input does not run. A [`Waiting`] keeps the places of the
-//! held certificates that are not executed, each behind a transaction that it waits for: a run looks at a
-//! certificate when such a transaction is executed, and once when there is none left.
+//! A certificate with a shared input runs once it is admitted, and reads the version that admission
+//! assigned. [`left`] tells which certificates a run leaves although all that they waited for is executed.
+//! A [`Waiting`] keeps the places of the held certificates that are not executed: behind their own
+//! transaction until that is admitted, and then behind a transaction that makes what they want. A run looks
+//! at a certificate when such a transaction is executed, and once when there is none left.
 #![tactic(auto)]
 
 mod behind;

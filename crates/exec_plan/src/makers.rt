@@ -4,11 +4,12 @@ ghost use Rattle.std.specs.Prelude.{◌≡◌, IfOk};
 ghost use Rattle.protocol_spec.specs.Chain.Words.{first_of};
 ghost use Rattle.exec_plan.specs.Makers.{awaited_of, unmade, unmade_by};
 
-use crate::inputs::{Needed, needs};
-use chain_messages::Certificate;
+use crate::inputs::{Want, wants};
+use answer_types::Held;
 use chain_types::Producer;
 use digest_core::Digest;
 use std::alloc::Global;
+use version_assign::Admission;
 use version_store::Store;
 use wire_bcs::OutOfMemory;
 
@@ -28,13 +29,13 @@ fn unmade_by(store: &Store, maker: &Option<Producer>) -> Option<Digest>
     }
 }
 
-/// The first transaction, not executed, that makes one of the needed versions.
-fn first_unmade(store: &Store, needs: &[Needed]) -> Option<Digest>
-    ensures { result ≡ first_of (unmade store.now.executed) needs.now }
+/// The first transaction, not executed, that makes one of the wanted versions.
+pub(crate) fn first_unmade(store: &Store, wants: &[Want]) -> Option<Digest>
+    ensures { result ≡ first_of (unmade store.now.executed) wants.now }
 {
-    let mut rest = needs;
-    while let [needed, after @ ..] = rest {
-        if let Some(tx) = unmade_by(store, &needed.maker) {
+    let mut rest = wants;
+    while let [want, after @ ..] = rest {
+        if let Some(tx) = unmade_by(store, &want.maker()) {
             return Some(tx);
         }
         rest = after;
@@ -42,15 +43,16 @@ fn first_unmade(store: &Store, needs: &[Needed]) -> Option<Digest>
     None
 }
 
-/// The first transaction, not executed, that makes a version that the certificate needs; none where all are
+/// The first transaction, not executed, that makes a version that the certificate wants; none where all are
 /// executed.
 pub(crate) fn awaited(
     alloc: Global,
     store: &Store,
-    cert: &Certificate,
+    admission: &Admission,
+    held: &Held,
 ) -> Result<Option<Digest>, OutOfMemory>
-    ensures { IfOk result (λ tx. tx ≡ awaited_of store.now.executed cert.now) }
+    ensures { IfOk result (λ tx. tx ≡ awaited_of store.now.executed admission.now.admission held.now) }
 {
-    let needs = needs(alloc, cert)?;
-    Ok(first_unmade(store, needs.as_slice()))
+    let wants = wants(alloc, admission, held)?;
+    Ok(first_unmade(store, wants.as_slice()))
 }

@@ -4,17 +4,19 @@ ghost use Rattle.std.specs.Prelude.{◌≡◌, [], IfOk, slice_get, true};
 ghost use Rattle.protocol_spec.specs.Block.Execution.{execution};
 ghost use Rattle.protocol_spec.specs.Chain.Keys.{fits};
 ghost use Rattle.protocol_spec.specs.Chain.Words.{Each};
+ghost use Rattle.protocol_spec.specs.Member.Admission.{nothing_admitted};
 ghost use Rattle.protocol_spec.specs.Member.Rounds.{ready_as};
 ghost use Rattle.exec_plan.specs.Books.{IsSound, books_of, ready_in};
 ghost use Rattle.exec_plan.specs.Steps.{ready_of};
 
-use crate::inputs::{has_shared_input, needs, present};
+use crate::inputs::{is_let, present, wants};
 use answer_types::{Executed, Held};
 use chain_types::{Object, ObjectKey, owned_keys};
 use digest_core::Digest;
 use ptb_run::{execute, fits};
 use std::alloc::Global;
 use std::marker::Model;
+use version_assign::Admission;
 use version_store::Store;
 use wire_bcs::{OutOfMemory, Seq};
 
@@ -60,7 +62,7 @@ fn ran_on(
 ) -> Result<Option<Ran>, OutOfMemory>
     requires sound { IsSound held.now }
     requires fit { fits held.now.cert.tx objects.now ≡ true }
-    ensures { IfOk result (λ ran. ran ≡ ready_as (books_of store.now []) store.now.executed held.now (execution held.now.cert.tx objects.now)) }
+    ensures { IfOk result (λ ran. ran ≡ ready_as (books_of store.now nothing_admitted []) store.now.executed held.now (execution held.now.cert.tx objects.now)) }
 {
     let gave = execute(alloc, &held.cert.tx, &held.digest, objects)?;
     if !store.are_new(&gave.objects)? {
@@ -70,18 +72,24 @@ fn ran_on(
     Ok(Some(Ran { consumed, gave }))
 }
 
-/// What the execution of a certificate gives, where it is ready in this store: it is not executed, all
-/// versions that it needs are held and fit it, and all that it writes is new.
+/// What the execution of a certificate gives, where it is ready in this store: it is not executed, it is
+/// admitted if it names a shared object, all versions that it wants are held and fit it, and all that it
+/// writes is new.
 #[tactic(auto, using(crate::proofs::Readying::ready_step))]
-pub(crate) fn ready(alloc: Global, store: &Store, held: &Held) -> Result<Option<Ran>, OutOfMemory>
+pub(crate) fn ready(
+    alloc: Global,
+    store: &Store,
+    admission: &Admission,
+    held: &Held,
+) -> Result<Option<Ran>, OutOfMemory>
     requires sound { IsSound held.now }
-    ensures { IfOk result (λ ran. ran ≡ ready_in store.now held.now) }
+    ensures { IfOk result (λ ran. ran ≡ ready_in store.now admission.now.admission held.now) }
 {
-    if store.is_executed(&held.digest) || has_shared_input(&held.cert.tx) {
+    if store.is_executed(&held.digest) || !is_let(admission, held) {
         return Ok(None);
     }
-    let needs = needs(alloc, &held.cert)?;
-    let Some(objects) = present(alloc, store, needs.as_slice())? else {
+    let wants = wants(alloc, admission, held)?;
+    let Some(objects) = present(alloc, store, wants.as_slice())? else {
         return Ok(None);
     };
     if !fits(&held.cert.tx, &objects) {
@@ -95,14 +103,15 @@ pub(crate) fn ready(alloc: Global, store: &Store, held: &Held) -> Result<Option<
 pub(crate) fn ready_at(
     alloc: Global,
     store: &Store,
+    admission: &Admission,
     held: &[Held],
     place: usize,
 ) -> Result<Option<Ran>, OutOfMemory>
     requires sound { Each IsSound held.now }
-    ensures { IfOk result (λ ran. ran ≡ ready_of store.now (slice_get held.now place)) }
+    ensures { IfOk result (λ ran. ran ≡ ready_of store.now admission.now.admission (slice_get held.now place)) }
 {
     match held.get(place) {
-        Some(held) => ready(alloc, store, held),
+        Some(held) => ready(alloc, store, admission, held),
         None => Ok(None),
     }
 }

@@ -7,7 +7,7 @@ ghost use Rattle.chain_types.specs.Equal.{key_eq};
 ghost use Rattle.protocol_spec.specs.Chain.Words.{Each};
 ghost use Rattle.protocol_spec.specs.Chain.Keys.{object_key};
 ghost use Rattle.protocol_spec.specs.Member.Rounds.{round_add};
-ghost use Rattle.exec_plan.specs.Books.{IsSound};
+ghost use Rattle.exec_plan.specs.Books.{IsSound, digest_of};
 ghost use Rattle.exec_plan.specs.Steps.{round_at};
 ghost use Rattle.exec_plan.specs.Written.{writes};
 ghost use Rattle.protocol_spec.specs.Chain.Shape.{is_empty_list};
@@ -15,11 +15,13 @@ ghost use Rattle.protocol_spec.specs.Chain.Shape.{is_empty_list};
 use crate::readiness::{Ran, ready_at};
 use answer_types::Held;
 use chain_types::{Object, ObjectKey};
+use digest_core::Digest;
 use indexmap::IndexSet;
 use std::alloc::Global;
 use std::marker::Model;
+use version_assign::Admission;
 use version_store::Store;
-use wire_bcs::OutOfMemory;
+use wire_bcs::{OutOfMemory, Seq};
 
 /// The members of a round. Contracts see their executions, in order.
 #[derive(Drop)]
@@ -71,6 +73,19 @@ fn add_keys(written: &mut IndexSet<ObjectKey>, objects: &[Object]) -> Result<(),
     Ok(())
 }
 
+/// The transactions that ran, in order.
+fn digests_of(alloc: Global, ran: &[Ran]) -> Result<Seq<Digest>, OutOfMemory>
+    ensures { IfOk result (λ txs. txs ≡ map digest_of ran.now) }
+{
+    let mut txs = Seq::new(alloc);
+    let mut rest = ran;
+    while let [ran, after @ ..] = rest {
+        txs.push(ran.digest())?;
+        rest = after;
+    }
+    Ok(txs)
+}
+
 impl Round {
     /// A round with no members. Takes no memory.
     pub(crate) fn new(alloc: Global) -> Round
@@ -87,6 +102,13 @@ impl Round {
         ensures { result ≡ is_empty_list self.now }
     {
         self.ran.is_empty()
+    }
+
+    /// The transactions of its members, in order.
+    pub(crate) fn digests(&self, alloc: Global) -> Result<Seq<Digest>, OutOfMemory>
+        ensures { IfOk result (λ txs. txs ≡ map digest_of self.now) }
+    {
+        digests_of(alloc, self.ran.as_slice())
     }
 
     /// Whether a member writes this version. Takes no memory.
@@ -146,16 +168,17 @@ impl Round {
 pub(crate) fn round_at(
     alloc: Global,
     store: &Store,
+    admission: &Admission,
     held: &[Held],
     places: &[usize],
 ) -> Result<Round, OutOfMemory>
     requires sound { Each IsSound held.now }
-    ensures { IfOk result (λ round. round ≡ round_at store.now held.now [] places.now) }
+    ensures { IfOk result (λ round. round ≡ round_at store.now admission.now.admission held.now [] places.now) }
 {
     let mut round = Round::new(alloc);
     let mut rest = places;
     while let [place, after @ ..] = rest {
-        let ran = ready_at(alloc, store, held, *place)?;
+        let ran = ready_at(alloc, store, admission, held, *place)?;
         round = round.add(ran)?;
         rest = after;
     }

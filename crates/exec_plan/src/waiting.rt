@@ -1,37 +1,38 @@
 //! The held certificates that are not executed, by what they wait for.
 
-ghost use Rattle.std.specs.Prelude.{◌≡◌, ◌++◌, ◌∷◌, [], IfOk, OnErr, OnOk, Some, false, slice_get};
+ghost use Rattle.std.specs.Prelude.{◌≡◌, ◌++◌, ◌∷◌, [], IfOk, OnErr, OnOk, Some, slice_get};
 ghost use Rattle.std.specs.List.Sorted.{IsStrictlySortedBy};
 ghost use Rattle.std.specs.Ordering.{nat_cmp};
-ghost use Rattle.digest_core.specs.declared.Digest.{Digest as Key};
-ghost use Rattle.chain_types.specs.Equal.{digest_eq};
 ghost use Rattle.answer_types.specs.declared.answers.Held.{Held as H};
+ghost use Rattle.protocol_spec.specs.Member.Admission.{Admission as A};
 ghost use Rattle.version_store.specs.Stores.{Stored};
-ghost use Rattle.exec_plan.specs.Behind.{Frees, listed};
+ghost use Rattle.exec_plan.specs.Behind.{Frees};
 ghost use Rattle.exec_plan.specs.Places.{is_pending, placed_after, settled_after};
-ghost use Rattle.exec_plan.specs.Waits.{Filed, IsFiled, IsWaiting, KeepsPlaces};
+ghost use Rattle.exec_plan.specs.Waits.{Filed, IsFiled, IsWaiting, KeepsPlaces, StoodBefore};
 
-use crate::behind::{add_behind, take_behind};
-use crate::inputs::has_shared_input;
+use crate::behind::{add_behind, free_behind};
+use crate::inputs::is_let;
 use crate::makers::awaited;
-use crate::readiness::Ran;
 use answer_types::Held;
 use digest_core::Digest;
 use indexmap::IndexMap;
 use std::alloc::Global;
 use std::collections::BTreeSet;
+use version_assign::Admission;
 use version_store::Store;
 use wire_bcs::{OutOfMemory, Seq};
 
-/// The held certificates that are not executed, by what they wait for: each is kept behind one transaction
-/// that it waits for; once there is none, the next round looks at it, and behind that round it is executed,
-/// or stays for ever.
+/// The held certificates that are not executed, by what they wait for: one that names a shared object for
+/// its admission, and each that may run for a transaction that makes what it wants; once there is none, the
+/// next round looks at it, and behind that round it is executed, or stays for ever.
 #[derive(Drop)]
 pub struct Waiting {
     /// The places of certificates that wait for nothing, and that no round looked at.
     next: BTreeSet<usize>,
     /// The places of those that a round looked at and left.
     settled: BTreeSet<usize>,
+    /// The places of those that need an admission, each behind its own transaction.
+    unadmitted: IndexMap<Digest, Seq<usize>>,
     /// The places of all others, each behind a transaction that is not executed.
     behind: IndexMap<Digest, Seq<usize>>,
     alloc: Global,
@@ -71,29 +72,36 @@ impl Waiting {
     /// Nothing waits where nothing is held. Takes no memory.
     #[tactic(auto, using(crate::proofs::Filing::nothing_waits))]
     pub fn new(alloc: Global) -> Waiting
-        ensures { (s : Stored) → IsWaiting s [] result }
+        ensures { (s : Stored) (a : A) → IsWaiting s a [] result }
     {
         Waiting {
             next: BTreeSet::new(alloc),
             settled: BTreeSet::new(alloc),
+            unadmitted: IndexMap::new(alloc),
             behind: IndexMap::new(alloc),
             alloc,
         }
     }
 
-    /// Keeps a held certificate's place behind the first transaction that it waits for, or for the next round. One
-    /// that names a shared object cannot run, since nothing is admitted.
-    fn file(&mut self, store: &Store, place: usize, held: &Held) -> Result<(), OutOfMemory>
+    /// Keeps a held certificate's place until its transaction is admitted, behind the first transaction that it
+    /// waits for, or for the next round.
+    fn file(
+        &mut self,
+        store: &Store,
+        admission: &Admission,
+        place: usize,
+        held: &Held,
+    ) -> Result<(), OutOfMemory>
         ensures kept { KeepsPlaces self.old self.new }
-        ensures filed { OnOk result (Filed store.now [] self.new place held.now) }
+        ensures filed { OnOk result (Filed store.now admission.now.admission [] self.new place held.now) }
     {
         if store.is_executed(&held.digest) {
             return Ok(());
         }
-        if has_shared_input(&held.cert.tx) {
-            return Ok(());
+        if !is_let(admission, held) {
+            return add_behind(self.alloc, &mut self.unadmitted, held.digest, place);
         }
-        match awaited(self.alloc, store, &held.cert)? {
+        match awaited(self.alloc, store, admission, held)? {
             Some(tx) => add_behind(self.alloc, &mut self.behind, tx, place),
             None => {
                 self.next.insert(place)?;
@@ -103,21 +111,49 @@ impl Waiting {
     }
 
     /// One more certificate is held, behind these. After a refusal all that waited waits.
-    pub fn hold(&mut self, store: &Store, held: &[Held], new: &Held) -> Result<(), OutOfMemory>
-        requires { IsWaiting store.now held.now self.old }
-        ensures ok { OnOk result (IsWaiting store.now (held.now ++ new.now ∷ []) self.new) }
-        ensures err { OnErr result (IsWaiting store.now held.now self.new) }
+    pub fn hold(
+        &mut self,
+        store: &Store,
+        admission: &Admission,
+        held: &[Held],
+        new: &Held,
+    ) -> Result<(), OutOfMemory>
+        requires { IsWaiting store.now admission.now.admission held.now self.old }
+        ensures ok { OnOk result (IsWaiting store.now admission.now.admission (held.now ++ new.now ∷ []) self.new) }
+        ensures err { OnErr result (IsWaiting store.now admission.now.admission held.now self.new) }
     {
-        self.file(store, held.len(), new)
+        self.file(store, admission, held.len(), new)
     }
 
-    /// The same of the certificate at a place, where there is one.
-    fn file_at(&mut self, store: &Store, held: &[Held], place: usize) -> Result<(), OutOfMemory>
+    /// These transactions, and no others, were newly admitted: those of them that are held wait for what they want
+    /// now. The only error is that memory is refused: nothing is then promised of what waits.
+    pub fn admit(
+        &mut self,
+        store: &Store,
+        admission: &Admission,
+        held: &[Held],
+        txs: &[Digest],
+    ) -> Result<(), OutOfMemory>
+        requires { StoodBefore store.now admission.now.admission txs.now held.now self.old }
+        ensures { OnOk result (IsWaiting store.now admission.now.admission held.now self.new) }
+    {
+        let woken = self.wake(txs)?;
+        self.file_each(store, admission, held, woken.as_slice())
+    }
+
+    /// The same as [`Waiting::hold`] does, of the certificate at a place, where there is one.
+    fn file_at(
+        &mut self,
+        store: &Store,
+        admission: &Admission,
+        held: &[Held],
+        place: usize,
+    ) -> Result<(), OutOfMemory>
         ensures kept { KeepsPlaces self.old self.new }
-        ensures filed { OnOk result ((h : H) → slice_get held.now place ≡ Some h → Filed store.now [] self.new place h) }
+        ensures filed { OnOk result ((h : H) → slice_get held.now place ≡ Some h → Filed store.now admission.now.admission [] self.new place h) }
     {
         match held.get(place) {
-            Some(held) => self.file(store, place, held),
+            Some(held) => self.file(store, admission, place, held),
             None => Ok(()),
         }
     }
@@ -126,15 +162,16 @@ impl Waiting {
     pub(crate) fn file_each(
         &mut self,
         store: &Store,
+        admission: &Admission,
         held: &[Held],
         places: &[usize],
     ) -> Result<(), OutOfMemory>
-        requires { IsFiled store.now places.now held.now self.old }
-        ensures { OnOk result (IsWaiting store.now held.now self.new) }
+        requires { IsFiled store.now admission.now.admission places.now held.now self.old }
+        ensures { OnOk result (IsWaiting store.now admission.now.admission held.now self.new) }
     {
         let mut rest = places;
         while let [place, after @ ..] = rest {
-            self.file_at(store, held, *place)?;
+            self.file_at(store, admission, held, *place)?;
             rest = after;
         }
         Ok(())
@@ -167,6 +204,7 @@ impl Waiting {
         places: &[usize],
     ) -> Result<(), OutOfMemory>
         ensures settled { OnOk result (self.new.settled.keys ≡ settled_after store.now.executed held.now self.old.settled.keys places.now) }
+        ensures unadmitted { self.new.unadmitted.entries ≡ self.old.unadmitted.entries }
         ensures behind { self.new.behind.entries ≡ self.old.behind.entries }
     {
         let mut rest = places;
@@ -180,29 +218,22 @@ impl Waiting {
         Ok(())
     }
 
-    /// Takes out the places behind a transaction, and adds them to those that were freed.
-    fn free_one(&mut self, freed: &mut Seq<usize>, tx: &Digest) -> Result<(), OutOfMemory>
+    /// Takes out the places behind these transactions, which were executed.
+    pub(crate) fn free(&mut self, txs: &[Digest]) -> Result<Seq<usize>, OutOfMemory>
         ensures settled { self.new.settled.keys ≡ self.old.settled.keys }
-        ensures freed { OnOk result (freed.new ≡ freed.old ++ listed self.old.behind.entries tx.now) }
-        ensures others { OnOk result ((d : Key) → digest_eq tx.now d ≡ false → listed self.new.behind.entries d ≡ listed self.old.behind.entries d) }
+        ensures unadmitted { self.new.unadmitted.entries ≡ self.old.unadmitted.entries }
+        ensures freed { IfOk result (λ freed. Frees self.old.behind.entries self.new.behind.entries freed [] txs.now) }
     {
-        match take_behind(&mut self.behind, tx) {
-            Some(places) => freed.extend(places.as_slice()),
-            None => Ok(()),
-        }
+        free_behind(self.alloc, &mut self.behind, txs)
     }
 
-    /// Takes out the places behind the transactions of a round.
-    pub(crate) fn free(&mut self, round: &[Ran]) -> Result<Seq<usize>, OutOfMemory>
+    /// Takes out the places of these transactions' certificates, which were admitted.
+    fn wake(&mut self, txs: &[Digest]) -> Result<Seq<usize>, OutOfMemory>
+        ensures next { self.new.next.keys ≡ self.old.next.keys }
         ensures settled { self.new.settled.keys ≡ self.old.settled.keys }
-        ensures freed { IfOk result (λ freed. Frees self.old.behind.entries self.new.behind.entries freed [] round.now) }
+        ensures behind { self.new.behind.entries ≡ self.old.behind.entries }
+        ensures woken { IfOk result (λ woken. Frees self.old.unadmitted.entries self.new.unadmitted.entries woken [] txs.now) }
     {
-        let mut freed = Seq::new(self.alloc);
-        let mut rest = round;
-        while let [ran, after @ ..] = rest {
-            self.free_one(&mut freed, &ran.digest())?;
-            rest = after;
-        }
-        Ok(freed)
+        free_behind(self.alloc, &mut self.unadmitted, txs)
     }
 }

@@ -4,7 +4,7 @@ use Rattle.exec_plan.proofs.leaving.left_among.Given as goal
 
 -- what is passed later, behind those left so far, comes to all that are left
 abbrev pub invariant-loop-rest : goal.invariant-loop-rest
-invariant-loop-rest l = left_after l.store l.held l.left l.rest ≡ left_after l.store l.held [] l.places
+invariant-loop-rest l = left_after l.store l.admission.admission l.held l.left l.rest ≡ left_after l.store l.admission.admission l.held [] l.places
 
 abbrev pub decreases-loop-rest : goal.decreases-loop-rest
 decreases-loop-rest l = length l.rest

@@ -8,9 +8,9 @@ use Rattle.exec_plan.proofs.running.run.Given as goal
 abbrev pub invariant-loop-left : goal.invariant-loop-left
 invariant-loop-left l = record {
   opening : l.store.opening ≡ l.fn.store.opening;
-  executed : l.store.executed ++ rounds_left l.left l.store l.held ≡ l.fn.store.executed ++ rounds_left (length l.held) l.fn.store l.held;
-  copied : l.effects ++ map effects_of (rounds_left l.left l.store l.held) ≡ map effects_of (rounds_left (length l.held) l.fn.store l.held);
-  waiting : IsWaiting l.store l.held l.waiting;
+  executed : l.store.executed ++ rounds_left l.left l.store l.admission.admission l.held ≡ l.fn.store.executed ++ rounds_left (length l.held) l.fn.store l.admission.admission l.held;
+  copied : l.effects ++ map effects_of (rounds_left l.left l.store l.admission.admission l.held) ≡ map effects_of (rounds_left (length l.held) l.fn.store l.admission.admission l.held);
+  waiting : IsWaiting l.store l.admission.admission l.held l.waiting;
 }
 
 abbrev pub decreases-loop-left : goal.decreases-loop-left

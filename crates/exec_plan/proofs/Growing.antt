@@ -1,0 +1,176 @@
+-- What more admitted transactions change: nothing for a certificate that may run already.
+use Rattle.std.proofs.Common.{◌≡◌, ℕ, zero, suc, Bool, true, false, cond, not, ◌&&◌, ◌||◌, List, [], ◌∷◌, ◌++◌, map, length, Option, Some, None, is_some, refl, ap, sym, ◌∙◌, append_assoc, append-nil}
+use Rattle.std.specs.Prelude.{drop, filter, find, option_map, zip}
+use Rattle.std.specs.List.{list_any}
+use Rattle.digest_core.specs.declared.Digest.{Digest}
+use Rattle.chain_types.specs.declared.objects.Object.{Object}
+use Rattle.chain_types.specs.declared.transactions.Input.{Input}
+use Rattle.chain_types.specs.declared.transactions.Input.TheVariants as inputs
+use Rattle.chain_types.specs.declared.transactions.Transaction.{Transaction}
+use Rattle.chain_types.specs.Digests.{is_object}
+use Rattle.chain_types.specs.Equal.{digest_eq}
+use Rattle.answer_types.specs.declared.answers.Assigned.{Assigned}
+use Rattle.answer_types.specs.declared.answers.Held.{Held}
+use Rattle.protocol_spec.specs.Chain.Words.{all_some}
+use Rattle.protocol_spec.specs.Chain.Keys.{has_shared_input, is_shared_input, objects_of}
+use Rattle.protocol_spec.specs.Member.Versions.{Execution, is_executed, versions}
+use Rattle.protocol_spec.specs.Member.Admission.{Admission, Admitted, admit, assigned_in, assigned_of, digest_of_admitted, entered, is_admitted, is_dropped, is_free, joined_inputs, passed_mark, take_all, take_free, taken, taken_as, taken_next}
+use Rattle.protocol_spec.specs.Member.Rounds.{Wanted, found, present, ready, ready_on, wanted_by, wants_of}
+use Rattle.version_store.specs.Stores.{Stored}
+use Rattle.exec_plan.specs.Behind.{is_among}
+use Rattle.exec_plan.specs.Books.{books_of, is_let, ready_in}
+use Rattle.exec_plan.specs.Waits.{Admits}
+use Rattle.exec_plan.proofs.Following.{any_join}
+
+-- ---- who is admitted
+
+abbrev of_tx : Digest → Admitted → Bool
+of_tx tx x = digest_eq x.digest tx
+
+found_any : (tx : Digest) (admitted : List Admitted) → is_some (find (of_tx tx) admitted) ≡ is_admitted admitted tx
+found_any tx [] = refl
+found_any tx (x ∷ xs) = go (of_tx tx x) (found_any tx xs)
+  where
+    go : (b : Bool) → is_some (find (of_tx tx) xs) ≡ is_admitted xs tx → is_some (cond b (Some x) (find (of_tx tx) xs)) ≡ (b || is_admitted xs tx)
+    go true rest = refl
+    go false rest = rest
+
+pub some_mapped : {A B : Type 0} (f : A → B) (o : Option A) → is_some (option_map f o) ≡ is_some o
+some_mapped f None = refl
+some_mapped f (Some x) = refl
+
+-- versions are assigned to exactly those that are admitted
+pub assigned_is : (a : Admission) (tx : Digest) → is_some (assigned_of a tx) ≡ is_admitted a.admitted tx
+unfolding assigned_of
+assigned_is a tx = some_mapped assigned_in (find (of_tx tx) a.admitted) ∙ found_any tx a.admitted
+
+-- one that names a shared object may run where versions are assigned to it
+pub let_is : (a : Admission) (h : Held) {b : Bool} → has_shared_input h.cert.tx ≡ true → b ≡ is_some (assigned_of a h.digest) → b ≡ is_let a h
+let_is a h shared is = is ∙ assigned_is a h.digest ∙ ap (λ s. not s || is_admitted a.admitted h.digest) (sym shared)
+
+-- ---- what is wanted
+
+-- a transaction of no shared object wants the same, whatever is assigned
+same_wants : (is : List Input) (os : List (Option Digest)) (a b : Option (List Assigned)) → list_any is_shared_input is ≡ false → map (wanted_by a) (zip (filter is_object is) os) ≡ map (wanted_by b) (zip (filter is_object is) os)
+same_wants [] os a b none = refl
+same_wants (inputs.Pure bytes ∷ is) os a b none = same_wants is os a b none
+same_wants (inputs.Owned r ∷ is) [] a b none = refl
+same_wants (inputs.Owned r ∷ is) (o ∷ os) a b none = ap (λ ws. wanted_by a (inputs.Owned r, o) ∷ ws) (same_wants is os a b none)
+same_wants (inputs.Immutable r ∷ is) [] a b none = refl
+same_wants (inputs.Immutable r ∷ is) (o ∷ os) a b none = ap (λ ws. wanted_by a (inputs.Immutable r, o) ∷ ws) (same_wants is os a b none)
+same_wants (inputs.Shared id initial mutable ∷ is) os a b none = absurd (cc)
+
+found_more : (tx : Digest) (xs ys : List Admitted) → is_admitted xs tx ≡ true → find (of_tx tx) (xs ++ ys) ≡ find (of_tx tx) xs
+found_more tx [] ys there = absurd (cc)
+found_more tx (x ∷ xs) ys there = go (of_tx tx x) there (found_more tx xs ys)
+  where
+    go : (b : Bool) → (b || is_admitted xs tx) ≡ true → (is_admitted xs tx ≡ true → find (of_tx tx) (xs ++ ys) ≡ find (of_tx tx) xs) → cond b (Some x) (find (of_tx tx) (xs ++ ys)) ≡ cond b (Some x) (find (of_tx tx) xs)
+    go true there rest = refl
+    go false there rest = rest there
+
+-- who is named among these
+named_any : (tx : Digest) (more : List Admitted) → is_among (map digest_of_admitted more) tx ≡ is_admitted more tx
+named_any tx [] = refl
+named_any tx (x ∷ xs) = ap (λ b. digest_eq x.digest tx || b) (named_any tx xs)
+
+module _ (before after : Admission) (txs : List Digest) (admits : Admits before after txs) where
+  -- what is assigned to an admitted transaction stays
+  assigned_grow : (tx : Digest) → is_admitted before.admitted tx ≡ true → assigned_of after tx ≡ assigned_of before tx
+  unfolding assigned_of
+  assigned_grow tx there =
+      ap (λ (admitted : List Admitted). option_map assigned_in (find (of_tx tx) admitted)) admits.admitted
+      ∙ ap (option_map assigned_in) (found_more tx before.admitted admits.more there)
+
+  admitted_grow : (tx : Digest) → is_admitted after.admitted tx ≡ (is_admitted before.admitted tx || is_among txs tx)
+  admitted_grow tx =
+      ap (λ (admitted : List Admitted). is_admitted admitted tx) admits.admitted
+      ∙ any_join (of_tx tx) before.admitted admits.more
+      ∙ ap (λ b. is_admitted before.admitted tx || b) (sym (ap (λ ds. is_among ds tx) admits.named ∙ named_any tx admits.more))
+
+  -- a certificate may run where it might before, or is newly admitted
+  pub let_grow : (h : Held) → is_let before h ≡ true → is_let after h ≡ true
+  let_grow h may = go (not (has_shared_input h.cert.tx)) (is_admitted before.admitted h.digest) refl may
+    where
+      go : (n d : Bool) → is_admitted before.admitted h.digest ≡ d → (n || d) ≡ true → (n || is_admitted after.admitted h.digest) ≡ true
+      go true d there e = refl
+      go false true there e = admitted_grow h.digest ∙ ap (λ b. b || is_among txs h.digest) there
+      go false false there e = absurd (cc)
+
+  pub still_out : (h : Held) → is_let before h ≡ false → is_among txs h.digest ≡ false → is_let after h ≡ false
+  still_out h out none = go (not (has_shared_input h.cert.tx)) (is_admitted before.admitted h.digest) refl out
+    where
+      go : (n d : Bool) → is_admitted before.admitted h.digest ≡ d → (n || d) ≡ false → (n || is_admitted after.admitted h.digest) ≡ false
+      go true d there e = absurd (cc)
+      go false true there e = absurd (cc)
+      go false false there e = admitted_grow h.digest ∙ ap (λ b. b || is_among txs h.digest) there ∙ none
+
+  -- and it wants what it wanted
+  pub wants_grow : (h : Held) → is_let before h ≡ true → wants_of after h ≡ wants_of before h
+  unfolding wants_of
+  wants_grow h may = go (has_shared_input h.cert.tx) refl (is_admitted before.admitted h.digest) refl may
+    where
+      owned : (t : Transaction) (os : List (Option Digest)) (a b : Option (List Assigned)) → has_shared_input t ≡ false → map (wanted_by a) (zip (objects_of t) os) ≡ map (wanted_by b) (zip (objects_of t) os)
+      owned t [] a b none = refl
+      owned t (o ∷ os) a b none = ap (λ ws. wanted_by a (inputs.Owned t.gas, o) ∷ ws) (same_wants t.inputs os a b none)
+
+      go : (s : Bool) → has_shared_input h.cert.tx ≡ s → (d : Bool) → is_admitted before.admitted h.digest ≡ d → (not s || d) ≡ true
+          → map (wanted_by (assigned_of after h.digest)) (joined_inputs h.cert) ≡ map (wanted_by (assigned_of before h.digest)) (joined_inputs h.cert)
+      go false none d there e = owned h.cert.tx h.cert.origins (assigned_of after h.digest) (assigned_of before h.digest) none
+      go true some true there e = ap (λ (assigned : Option (List Assigned)). map (wanted_by assigned) (joined_inputs h.cert)) (assigned_grow h.digest there)
+      go true some false there e = absurd (cc)
+
+  -- so what it gives stays
+  pub ready_grow : (s : Stored) (h : Held) → is_let before h ≡ true → ready_in s after h ≡ ready_in s before h
+  unfolding ready present
+  ready_grow s h may =
+      ap (λ m. gives m (wants_of after h)) (let_grow h may ∙ sym may)
+      ∙ ap (λ ws. gives (is_let before h) ws) (wants_grow h may)
+    where
+      gives : Bool → List Wanted → Option Execution
+      gives m ws =
+          cond (not (is_executed s.executed h.digest) && m) (ready_on (books_of s before []) s.executed h (all_some (map (found (versions s.opening s.executed)) ws))) None
+
+-- ---- what an entry and a mark admit
+
+abbrev Goes : Admission → Admission → Type 0
+Goes a b = (more : List Admitted) × (b.admitted ≡ a.admitted ++ more)
+
+goes_same : (a : Admission) → Goes a a
+goes_same a = ([], sym (append-nil a.admitted))
+
+goes_then : (a b c : Admission) → Goes a b → Goes b c → Goes a c
+goes_then a b c (more, e) (rest, k) = (more ++ rest, k ∙ ap (λ xs. xs ++ rest) e ∙ append_assoc a.admitted more rest)
+
+goes_taken : (opening : List Object) (b : Bool) (a : Admission) (h : Held) → Goes a (taken_as b opening a h)
+goes_taken opening true a h = ([], sym (append-nil a.admitted))
+goes_taken opening false a h = (admit opening a.admitted h ∷ [], refl)
+
+goes_next : (opening : List Object) (next : Admission → Admission) → ((a : Admission) → Goes a (next a)) → (a : Admission) (h : Option Held) → Goes a (taken_next next opening a h)
+goes_next opening next goes a None = goes_same a
+goes_next opening next goes a (Some h) = goes_then a (taken opening a h) (next (taken opening a h)) (goes_taken opening (is_dropped opening a.admitted h.cert) a h) (goes (taken opening a h))
+
+goes_free : (writers : Option ℕ) (opening : List Object) (n : ℕ) (a : Admission) → Goes a (take_free writers opening n a)
+goes_free writers opening zero a = goes_same a
+goes_free writers opening (suc n) a = goes_next opening (take_free writers opening n) (goes_free writers opening n) a (find (is_free writers a) a.pending)
+
+behind_front : {A : Type 0} → (xs ys : List A) → drop (length xs) (xs ++ ys) ≡ ys
+behind_front [] ys = refl
+behind_front (x ∷ xs) ys = behind_front xs ys
+
+goes_admits : (a b : Admission) → Goes a b → Admits a b (map digest_of_admitted (drop (length a.admitted) b.admitted))
+goes_admits a b (more, e) = record {
+  more = more;
+  admitted = e;
+  named = ap (map digest_of_admitted) (ap (drop (length a.admitted)) e ∙ behind_front a.admitted more);
+}
+
+-- between an admission and that behind an entry, what stands behind the earlier ones was admitted
+pub entry_admits : (writers : Option ℕ) (opening : List Object) (a : Admission) (h : Held)
+    → Admits a (entered writers opening a h) (map digest_of_admitted (drop (length a.admitted) (entered writers opening a h).admitted))
+unfolding entered
+entry_admits writers opening a h = goes_admits a (take_all writers opening (record a { pending = a.pending ++ h ∷ [] })) (goes_free writers opening (length (a.pending ++ h ∷ [])) (record a { pending = a.pending ++ h ∷ [] }))
+
+-- the same of a mark
+pub mark_admits : (writers : Option ℕ) (opening : List Object) (a : Admission) → Admits a (passed_mark writers opening a) (map digest_of_admitted (drop (length a.admitted) (passed_mark writers opening a).admitted))
+unfolding passed_mark
+mark_admits writers opening a = goes_admits a (take_all writers opening (record a { marked = length a.admitted })) (goes_free writers opening (length a.pending) (record a { marked = length a.admitted }))

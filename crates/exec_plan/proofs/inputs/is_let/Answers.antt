@@ -1,0 +1,8 @@
+use Rattle.std.proofs.Common.{◌∙◌, ap, sym, is_some}
+use Rattle.exec_plan.proofs.Growing.{let_is, some_mapped}
+use Rattle.exec_plan.proofs.inputs.is_let.Goals as goal
+
+pub returns-else-not-has_shared_input : goal.returns-else-not-has_shared_input
+returns-else-not-has_shared_input c =
+    let_is c.args.admission.now.admission c.args.held.now (sym c.has_shared_input.ensures ∙ c.if-not-has_shared_input.false)
+    (c.is_some.ensures ∙ sym (some_mapped _ c.assigned.result) ∙ ap is_some c.assigned.ensures)
