@@ -1,16 +1,21 @@
 -- The start of a member from the records that it kept. Source: this profile.
-use Rattle.std.specs.Prelude.{ℕ, ◌+◌, List, [], ◌∷◌, Result, Ok, Err, if◌then◌else◌}
+use Rattle.std.specs.Prelude.{◌≡◌, ℕ, ◌+◌, false, List, [], ◌∷◌, map, Result, Ok, Err, if◌then◌else◌}
 use Rattle.wire_bcs.specs.Whole.{whole}
 use Rattle.wire_bcs.specs.declared.fault.WireFault.{WireFault}
 use Rattle.chain_types.specs.declared.objects.Object.{Object}
+use Rattle.chain_types.specs.Equal.{id_eq}
 use Rattle.protocol_spec.specs.Chain.Certificates.{Rules, read_as}
-use Rattle.protocol_spec.specs.Chain.Words.{and_then}
+use Rattle.protocol_spec.specs.Chain.Words.{and_then, repeats}
 use Rattle.journal_core.specs.declared.records.Record.{Record}
 use Rattle.journal_core.specs.Records as journals
 use Rattle.answer_types.specs.declared.refusals.StartRefusal.{StartRefusal}
 use Rattle.answer_types.specs.declared.refusals.StartRefusal.TheVariants as no_start
 use Rattle.protocol_spec.specs.Member.Member.{Member, after, fresh}
 use Rattle.scene_spec.specs.Taken.{is_taken}
+
+-- no two objects have one id
+abbrev pub AreApart : List Object → Type 0
+AreApart objects = repeats id_eq (map (λ (o : Object). o.id) objects) ≡ false
 
 abbrev pub read_record : List ℕ → Result Record WireFault
 read_record bytes = read_as (whole journals.journal_record bytes)

@@ -1,4 +1,7 @@
 pub mod Cases
+pub mod Opening
+pub mod Refusing
+pub mod Seeing
 pub mod Named
 pub mod Spelled
 pub mod Casting

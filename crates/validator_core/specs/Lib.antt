@@ -1,5 +1,6 @@
 pub mod Answers
 pub mod Limits
+pub mod Entries
 pub mod Sound
 pub mod Steps
 pub mod Built

@@ -14,7 +14,8 @@ ghost use Rattle.exec_plan.specs.Waits.{IsWaiting};
 ghost use Rattle.validator_core.specs.Built.{transactions_in};
 ghost use Rattle.validator_core.specs.Steps.{closing, counted, holding, items_of, voted};
 ghost use Rattle.vote_rules.specs.Decide.{Decides};
-ghost use Rattle.version_store.specs.Stores.{Stored, are_new};
+ghost use Rattle.scene_spec.specs.Starts.{AreApart};
+ghost use Rattle.version_store.specs.Stores.{Stored};
 ghost use Rattle.answer_types.specs.declared.answers.Held.{Held as H};
 
 use answer_types::{Held, Left};
@@ -76,7 +77,7 @@ impl State {
         opening: &Seq<Object>,
         writers: Option<u32>,
     ) -> Result<State, OutOfMemory>
-        requires { are_new [] opening.now ≡ true }
+        requires { AreApart opening.now }
         ensures { IfOk result (λ s. s ≡ record { writers = writers; member = fresh opening.now }) }
     {
         let store = Store::opening(alloc, opening)?;

@@ -13,9 +13,8 @@ ghost use Rattle.answer_types.specs.declared.refusals.RunRefusal.TheVariants as 
 ghost use Rattle.validator_core.specs.Calls.{Closes, Holds, Runs, Votes, close_ended, close_said, hold_ended, hold_said, run_ended, run_said, vote_ended, vote_said};
 ghost use Rattle.scene_spec.specs.Terms.{rules_for};
 ghost use Rattle.validator_core.specs.Built.{transactions_in};
-ghost use Rattle.version_store.specs.Stores.{are_new};
+ghost use Rattle.scene_spec.specs.Starts.{AreApart, started};
 ghost use Rattle.validator_core.specs.Starts.{Starts};
-ghost use Rattle.scene_spec.specs.Starts.{started};
 ghost use Rattle.validator_core.specs.Seats.{Behaves, Fell, Journaled};
 ghost use Rattle.scene_spec.specs.Seats.{bare_rules, due_at, rules_of_seat};
 
@@ -62,7 +61,7 @@ impl Validator {
         kept: &Seq<Seq<u8>>,
         sealer: &S,
     ) -> Result<Validator, StartRefusal>
-        requires apart { are_new [] opening.now ≡ true }
+        requires apart { AreApart opening.now }
         requires count { length kept.now < 2 ^ 64 }
         ensures { Starts (started (rules_for (record { stakes = committee.now; writers = writers }) (S.accepts sealer.now)) opening.now kept.now) member (record { stakes = committee.now; writers = writers }) result }
     {

@@ -1,16 +1,12 @@
--- Objects of which none has the id of an earlier one are versions of which none stands twice.
-use Rattle.std.proofs.Common.{◌≡◌, Bool, true, false, cond, ◌&&◌, ◌||◌, not, List, [], ◌∷◌, ◌++◌, map, refl, ap, sym, ◌∙◌}
-use Rattle.std.specs.Prelude.{fold, ◌==◌}
+-- Objects without those whose id an earlier one has.
+use Rattle.std.proofs.Common.{◌≡◌, Bool, true, false, cond, ◌||◌, List, [], ◌∷◌, ◌++◌, map, refl, ap, sym, ◌∙◌}
+use Rattle.std.specs.Prelude.{fold}
 use Rattle.std.specs.List.{list_any}
 use Rattle.std.proofs.lemmas.List.{map-append}
 use Rattle.chain_types.specs.declared.objects.Object.{Object}
 use Rattle.chain_types.specs.declared.objects.ObjectId.{ObjectId}
-use Rattle.chain_types.specs.declared.objects.ObjectKey.{ObjectKey}
-use Rattle.chain_types.specs.Equal.{id_eq, key_eq}
+use Rattle.chain_types.specs.Equal.{id_eq}
 use Rattle.protocol_spec.specs.Chain.Words.{repeats}
-use Rattle.protocol_spec.specs.Chain.Keys.{object_key}
-use Rattle.protocol_spec.specs.Member.Rounds.{holds_key}
-use Rattle.version_store.specs.Stores.{are_new}
 use Rattle.version_store.proofs.Equality.{id_same, id_self, turn}
 use Rattle.schedule_text.specs.declared.words.Setup.{Setup}
 use Rattle.world_spec.specs.Setting.{objects_from, with_new}
@@ -33,7 +29,7 @@ added objects new o ids same has is = is ∙ sym (new_if objects o ids false sam
 pub id_added : (objects new : List Object) (o : Object) (ids more : List ObjectId) → ids ≡ map object_id objects → more ≡ ids ++ o.id ∷ [] → new ≡ objects ++ o ∷ [] → more ≡ map object_id new
 id_added objects new o ids more same is now = is ∙ ap (λ xs. xs ++ o.id ∷ []) same ∙ sym (ap (map object_id) now ∙ map-append object_id objects (o ∷ []))
 
--- ---- no version twice
+-- ---- no id twice
 
 either_false : (a b : Bool) → (a || b) ≡ false → (a ≡ false) × (b ≡ false)
 either_false true b e = absurd (cc)
@@ -51,43 +47,32 @@ any_push test (y ∷ ys) x = go (test y) (any_push test ys x)
     go true e = refl
     go false e = e
 
-repeats_push : (ks : List ObjectKey) (k : ObjectKey) → repeats key_eq ks ≡ false → list_any (λ q. key_eq q k) ks ≡ false → repeats key_eq (ks ++ k ∷ []) ≡ false
+repeats_push : (ids : List ObjectId) (k : ObjectId) → repeats id_eq ids ≡ false → list_any (λ q. id_eq q k) ids ≡ false → repeats id_eq (ids ++ k ∷ []) ≡ false
 repeats_push [] k apart others = refl
 repeats_push (q ∷ qs) k apart others =
-    let n : (list_any (key_eq q) qs ≡ false) × (repeats key_eq qs ≡ false) = either_false (list_any (key_eq q) qs) (repeats key_eq qs) apart in
-    let o : (key_eq q k ≡ false) × (list_any (λ p. key_eq p k) qs ≡ false) = either_false (key_eq q k) (list_any (λ p. key_eq p k) qs) others in
-    ap (λ b. b || repeats key_eq (qs ++ k ∷ [])) (any_push (key_eq q) qs k ∙ ap (λ b. b || key_eq q k) n.0 ∙ o.0)
+    let n : (list_any (id_eq q) qs ≡ false) × (repeats id_eq qs ≡ false) = either_false (list_any (id_eq q) qs) (repeats id_eq qs) apart in
+    let o : (id_eq q k ≡ false) × (list_any (λ p. id_eq p k) qs ≡ false) = either_false (id_eq q k) (list_any (λ p. id_eq p k) qs) others in
+    ap (λ b. b || repeats id_eq (qs ++ k ∷ [])) (any_push (id_eq q) qs k ∙ ap (λ b. b || id_eq q k) n.0 ∙ o.0)
     ∙ repeats_push qs k n.1 o.1
 
-other_keys : (objects : List Object) (o : Object) → list_any (λ (p : Object). id_eq p.id o.id) objects ≡ false → list_any (λ q. key_eq q (object_key o)) (map object_key objects) ≡ false
-other_keys [] o e = refl
-other_keys (p ∷ ps) o e =
-    let h : (id_eq p.id o.id ≡ false) × (list_any (λ (q : Object). id_eq q.id o.id) ps ≡ false) = either_false (id_eq p.id o.id) (list_any (λ (q : Object). id_eq q.id o.id) ps) e in
-    ap (λ b. (b && (p.version == o.version)) || list_any (λ q. key_eq q (object_key o)) (map object_key ps)) h.0
-    ∙ other_keys ps o h.1
+among_ids : (objects : List Object) (o : Object) → list_any (λ q. id_eq q o.id) (map object_id objects) ≡ list_any (λ (p : Object). id_eq p.id o.id) objects
+among_ids [] o = refl
+among_ids (p ∷ ps) o = ap (λ b. id_eq p.id o.id || b) (among_ids ps o)
 
-one_new : (objects : List Object) (o : Object) → repeats key_eq (map object_key objects) ≡ false → repeats key_eq (map object_key (with_new objects o)) ≡ false
+one_new : (objects : List Object) (o : Object) → repeats id_eq (map object_id objects) ≡ false → repeats id_eq (map object_id (with_new objects o)) ≡ false
 one_new objects o apart = go (list_any (λ (p : Object). id_eq p.id o.id) objects) refl
   where
-    go : (b : Bool) → list_any (λ (p : Object). id_eq p.id o.id) objects ≡ b → repeats key_eq (map object_key (with_new objects o)) ≡ false
-    go true is = ap (λ b. repeats key_eq (map object_key (cond b objects (objects ++ o ∷ [])))) is ∙ apart
+    go : (b : Bool) → list_any (λ (p : Object). id_eq p.id o.id) objects ≡ b → repeats id_eq (map object_id (with_new objects o)) ≡ false
+    go true is = ap (λ b. repeats id_eq (map object_id (cond b objects (objects ++ o ∷ [])))) is ∙ apart
     go false is =
-        ap (λ b. repeats key_eq (map object_key (cond b objects (objects ++ o ∷ [])))) is
-        ∙ ap (repeats key_eq) (map-append object_key objects (o ∷ []))
-        ∙ repeats_push (map object_key objects) (object_key o) apart (other_keys objects o is)
+        ap (λ b. repeats id_eq (map object_id (cond b objects (objects ++ o ∷ [])))) is
+        ∙ ap (repeats id_eq) (map-append object_id objects (o ∷ []))
+        ∙ repeats_push (map object_id objects) o.id apart (among_ids objects o ∙ is)
 
-all_new : (objects more : List Object) → repeats key_eq (map object_key objects) ≡ false → repeats key_eq (map object_key (fold with_new objects more)) ≡ false
+all_new : (objects more : List Object) → repeats id_eq (map object_id objects) ≡ false → repeats id_eq (map object_id (fold with_new objects more)) ≡ false
 all_new objects [] apart = apart
 all_new objects (o ∷ os) apart = all_new (with_new objects o) os (one_new objects o apart)
 
-none_held : (keys : List ObjectKey) → list_any (holds_key []) keys ≡ false
-none_held [] = refl
-none_held (k ∷ ks) = none_held ks
-
-pub opening_new : (lines : List Setup) → are_new [] (fold with_new [] (objects_from 0 lines)) ≡ true
-opening_new lines =
-    ap (λ b. not b && not (repeats key_eq (map object_key (fold with_new [] (objects_from 0 lines))))) (none_held (map object_key (fold with_new [] (objects_from 0 lines))))
-    ∙ ap (λ b. not b) (all_new [] (objects_from 0 lines) refl)
-
-pub opening_apart : (lines : List Setup) (opening : List Object) → opening ≡ fold with_new [] (objects_from 0 lines) → are_new [] opening ≡ true
-opening_apart lines opening is = ap (are_new []) is ∙ opening_new lines
+-- the objects of a set-up have distinct ids
+pub opening_apart : (lines : List Setup) (opening : List Object) → opening ≡ fold with_new [] (objects_from 0 lines) → repeats id_eq (map object_id opening) ≡ false
+opening_apart lines opening is = ap (λ (os : List Object). repeats id_eq (map object_id os)) is ∙ all_new [] (objects_from 0 lines) refl

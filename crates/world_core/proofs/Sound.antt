@@ -11,7 +11,6 @@ use Rattle.quorum_core.specs.Committee.{committee_of, without_zero, zero_from}
 use Rattle.quorum_core.specs.declared.committee.CommitteeRefusal.TheVariants as refusal
 use Rattle.schedule_text.specs.declared.words.Setup.{Setup}
 use Rattle.schedule_text.specs.declared.words.Setup.TheVariants as line
-use Rattle.version_store.specs.Stores.{are_new}
 use Rattle.world_spec.specs.Setting.{Name, Trust, honest_of, objects_from, stakes_of, with_new}
 use Rattle.world_spec.specs.World.{Formed, Made}
 use Rattle.world_spec.specs.Making.{TxLine}
@@ -20,7 +19,7 @@ use Rattle.scene_spec.specs.MadeLines.{line_made}
 use Rattle.scene_spec.specs.Scene.{Scene}
 use Rattle.scene_spec.specs.Steps.{held_in, with_tx}
 use Rattle.world_core.specs.Sound.{IsSound, IsSpelled, IsSpelledCert}
-use Rattle.world_core.proofs.Opened.{opening_new}
+use Rattle.world_core.proofs.Opened.{opening_apart}
 
 each_push : {A : Type 0} (P : A → Type 0) (xs : List A) (x : A) → Each P xs → P x → Each P (xs ++ x ∷ [])
 each_push P [] x all one = (one, tt)
@@ -32,7 +31,7 @@ sound_first lines opening known certs o k c =
     record {
       made = subst (λ (x : Known). Each IsSpelled x.txs) (sym k) tt;
       formed = subst (λ (x : List Formed). Each IsSpelledCert x) (sym c) tt;
-      apart = ap (are_new []) o ∙ opening_new lines;
+      apart = opening_apart lines opening o;
     }
 
 -- one more transaction

@@ -4,7 +4,7 @@ use Rattle.chain_types.specs.declared.objects.Object.{Object}
 use Rattle.chain_types.specs.Transactions as transactions
 use Rattle.chain_messages.specs.Messages as messages
 use Rattle.protocol_spec.specs.Chain.Words.{Each}
-use Rattle.version_store.specs.Stores.{are_new}
+use Rattle.scene_spec.specs.Starts.{AreApart}
 use Rattle.world_spec.specs.World.{Formed, Made}
 use Rattle.scene_spec.specs.Known.{Known}
 
@@ -17,4 +17,4 @@ IsSpelledCert f = messages.certificate.short f.cert
 pub record IsSound (opening : List Object) (known : Known) (certs : List Formed) : Type 0 where
   pub made : Each IsSpelled known.txs
   pub formed : Each IsSpelledCert certs
-  pub apart : are_new [] opening ≡ true
+  pub apart : AreApart opening

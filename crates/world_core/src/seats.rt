@@ -5,7 +5,7 @@ ghost use Rattle.outside.specs.Causes.{Rose};
 ghost use Rattle.outside.specs.Lists.{KeepsJournals};
 ghost use Rattle.scene_spec.specs.Terms.{rules_for};
 ghost use Rattle.protocol_spec.specs.Member.Calls.{holds, runs, votes};
-ghost use Rattle.version_store.specs.Stores.{are_new};
+ghost use Rattle.scene_spec.specs.Starts.{AreApart};
 ghost use Rattle.scene_spec.specs.Posts.{armed_at, new_posts, posts_behind, reached_in, record_left};
 ghost use Rattle.scene_spec.specs.Steps.{held_in, standing_at};
 ghost use Rattle.world_core.specs.declared.reply.SeatFault.TheVariants as faults;
@@ -57,7 +57,7 @@ fn new_seats<S: Sealer>(
     opening: &Seq<Object>,
     sealer: &S,
 ) -> Result<Vec<Seat>, OutOfMemory>
-    requires apart { are_new [] opening.now ≡ true }
+    requires apart { AreApart opening.now }
     requires few { length honest.now ≤ 64 }
     ensures { IfOk result (λ seats. seats.items ≡ new_posts terms.now opening.now 0 honest.now) }
 {
@@ -87,7 +87,7 @@ impl Seats {
         opening: &Seq<Object>,
         sealer: &S,
     ) -> Result<Seats, OutOfMemory>
-        requires apart { are_new [] opening.now ≡ true }
+        requires apart { AreApart opening.now }
         requires few { length honest.now ≤ 64 }
         ensures { IfOk result (λ seats. seats ≡ record { terms = terms.now; posts = new_posts terms.now opening.now 0 honest.now }) }
     {
@@ -249,7 +249,7 @@ impl Seats {
         member: u32,
     ) -> Result<u64, RestartFault>
         requires known { length self.old.posts ≤ D.width keeper.old }
-        requires apart { are_new [] opening.now ≡ true }
+        requires apart { AreApart opening.now }
         ensures ok { IfOk result (Restarted (rules_for self.old.terms (S.accepts sealer.now)) opening.now (D.lists keeper.old) self.old.terms member self.old.posts self.new.posts (slice_get self.old.posts member)) }
         ensures bad { (place : ℕ) → IsErrOf result (restart_faults.BadRecord place) → HasBadRecord (rules_for self.old.terms (S.accepts sealer.now)) opening.now (D.lists keeper.old) member place }
         ensures stay { OnErr result (self.new ≡ self.old) }

@@ -5,7 +5,7 @@ ghost use Rattle.outside.specs.Causes.{Rose};
 ghost use Rattle.outside.specs.Lists.{KeepsJournals};
 ghost use Rattle.outside.specs.declared.faults.OutFault.TheVariants as out;
 ghost use Rattle.protocol_spec.specs.Member.Member.{fresh};
-ghost use Rattle.version_store.specs.Stores.{are_new};
+ghost use Rattle.scene_spec.specs.Starts.{AreApart};
 ghost use Rattle.scene_spec.specs.Posts.{seat_at};
 ghost use Rattle.world_core.specs.SeatRestarts.{IsJournal};
 
@@ -26,7 +26,7 @@ pub(crate) fn start_new<S: Sealer>(
     opening: &Seq<Object>,
     sealer: &S,
 ) -> Result<Validator, OutOfMemory>
-    requires { are_new [] opening.now ≡ true }
+    requires { AreApart opening.now }
     ensures { IfOk result (λ seat. seat ≡ seat_at terms.now member (fresh opening.now)) }
 {
     let none = Seq::new(alloc);
