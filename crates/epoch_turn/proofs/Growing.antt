@@ -1,5 +1,5 @@
 -- A chain goes on from what was built of it.
-use Rattle.std.proofs.Common.{◌≡◌, ◌∙◌, refl, sym, ap, subst, arith, ℕ, zero, suc, ◌+◌, ◌-◌, ◌<◌, ◌≤◌, Bool, true, false, cond, List, [], ◌∷◌, ◌++◌, length, take, drop, length-append, length-drop, append_assoc, append-nil}
+use Rattle.std.proofs.Common.{◌≡◌, ◌∙◌, refl, sym, ap, subst, arith, ℕ, zero, suc, ◌+◌, ◌-◌, ◌<◌, ◌≤◌, Bool, true, false, cond, List, [], ◌∷◌, ◌++◌, length, take, drop, length-append, length-take-le, length-drop, append_assoc, append-nil}
 use Rattle.std.specs.Prelude.{Option, Some, None, map}
 use Rattle.std.specs.List.{list_all}
 use Rattle.std.proofs.lemmas.Bool.{cond-true}
@@ -20,7 +20,7 @@ use Rattle.epoch_turn.specs.Dues.{due_item, front_length, is_due_done, size_of}
 use Rattle.epoch_turn.specs.Chains.{Chaining, IsBehind, advanced, due_chain, due_checkpoint}
 use Rattle.epoch_turn.specs.Kept.{Ends, IsKept, Takes, growth_of, grown, grown_all, next_checkpoint, shown, tip_after}
 use Rattle.epoch_turn.proofs.Building.{items_many}
-use Rattle.epoch_turn.proofs.Fronts.{front_behind, front_reaches}
+use Rattle.epoch_turn.proofs.Fronts.{front_behind, front_most, front_reaches}
 
 -- ---- lists
 
@@ -34,7 +34,38 @@ sizes_split zero marks = omega arith
 sizes_split (suc k) [] = refl
 sizes_split (suc k) (m ∷ ms) = let rest = sizes_split k ms in omega (arith, rest)
 
-drop_nothing : {A : Type 0} (n : ℕ) → drop n [] ≡ [] {A}
+pub sizes_more : (marks more : List CutMark) → size_of (marks ++ more) ≡ size_of marks + size_of more
+sizes_more [] more = omega arith
+sizes_more (m ∷ ms) more = let rest = sizes_more ms more in omega (arith, rest)
+
+take_nothing : (n : ℕ) → take {A = CutMark} n [] ≡ []
+take_nothing zero = refl
+take_nothing (suc n) = refl
+
+sizes_take : (k n : ℕ) (marks : List CutMark) → size_of (take (k + n) marks) ≡ size_of (take k marks) + size_of (take n (drop k marks))
+sizes_take zero n marks = ap (λ i. size_of (take i marks)) (none n) ∙ sym (sum (size_of (take n marks)))
+  where
+    none : (n : ℕ) → zero + n ≡ n
+    none n = omega arith
+
+    sum : (n : ℕ) → 0 + n ≡ n
+    sum n = omega arith
+sizes_take (suc k) n [] = nothing n ∙ sym (both n)
+  where
+    nothing : (n : ℕ) → size_of (take (suc k + n) []) ≡ 0
+    nothing n = ap size_of (take_nothing (suc k + n))
+
+    both : (n : ℕ) → 0 + size_of (take n (drop (suc k) [])) ≡ 0
+    both n = let e = ap size_of (take_nothing n) in omega (arith, e)
+sizes_take (suc k) n (m ∷ ms) = ap (λ i. size_of (take i (m ∷ ms))) (next k n) ∙ more (sizes_take k n ms)
+  where
+    next : (k n : ℕ) → suc k + n ≡ suc (k + n)
+    next k n = omega arith
+
+    more : size_of (take (k + n) ms) ≡ size_of (take k ms) + size_of (take n (drop k ms)) → m.size + size_of (take (k + n) ms) ≡ (m.size + size_of (take k ms)) + size_of (take n (drop k ms))
+    more e = omega (arith, e)
+
+drop_nothing : {A : Type 0} (n : ℕ) → drop {A = A} n [] ≡ []
 drop_nothing zero = refl
 drop_nothing (suc n) = refl
 
@@ -242,3 +273,76 @@ module _ (epoch : ℕ) (executed : List Execution) where
 
       left : length (drop t.tip.taken t.due.items) ≡ length t.due.items - t.tip.taken
       left = length-drop t.tip.taken t.due.items
+
+-- ---- all that can be built is built
+
+module _ (epoch : ℕ) (executed : List Execution) (old new : Rows) (done : ℕ) (kept : IsKept old) (behind : IsBehind epoch executed (shown old)) (takes : Takes (growth_of epoch executed old) done old new) where
+  all : Grows epoch executed old.items.items (record { fresh = []; tip = old.tip }) (drop old.tip.taken old.due.items) (drop old.tip.cuts old.marks.items) (growth_of epoch executed old)
+  all = grows epoch executed old.items.items (record { fresh = []; tip = old.tip }) (drop old.tip.taken old.due.items) (drop old.tip.cuts old.marks.items)
+      (subst (λ (xs : List Checkpoint). Ends xs old.tip) (sym (append-nil old.items.items)) kept.ends) (starts epoch executed old kept behind).sizes
+
+  whole : new.items.items ≡ due_chain epoch executed (take old.opened old.items.items) old.due.items old.marks.items
+  whole = takes.items ∙ all.built ∙ ap (λ (xs : List Checkpoint). due_chain epoch executed xs (drop old.tip.taken old.due.items) (drop old.tip.cuts old.marks.items)) (append-nil old.items.items)
+      ∙ (starts epoch executed old kept behind).rest
+
+  cut_more : new.tip.cuts ≡ old.tip.cuts + all.many
+  cut_more = ap (λ (t : Tip). t.cuts) takes.tip ∙ all.cuts
+
+  within : all.many ≤ length (drop old.tip.cuts old.marks.items)
+  within = all.within
+
+  left : length (drop old.tip.cuts old.marks.items) ≡ length old.marks.items - old.tip.cuts
+  left = length-drop old.tip.cuts old.marks.items
+
+  cuts_long : new.opened + new.tip.cuts ≡ length new.items.items
+  cuts_long =
+      let fresh : length (growth_of epoch executed old).fresh ≡ 0 + all.many = all.long in
+      let items = ap length takes.items in
+      let both = length-append old.items.items (growth_of epoch executed old).fresh in
+      let opened = takes.opened in
+      let split = kept.split in
+      omega (arith, cut_more, fresh, items, both, opened, split)
+
+  few : new.tip.cuts ≤ length new.marks.items
+  few = let marks = ap length takes.marks in let k = kept.few in omega (arith, cut_more, within, left, marks, k)
+
+  taken : new.tip.taken ≡ size_of (take new.tip.cuts new.marks.items)
+  taken =
+      let old_taken = kept.begins in
+      let tip : new.tip.taken ≡ old.tip.taken + size_of (take all.many (drop old.tip.cuts old.marks.items)) = ap (λ (t : Tip). t.taken) takes.tip ∙ all.taken in
+      let both = sizes_take old.tip.cuts all.many old.marks.items in
+      let marks : size_of (take new.tip.cuts new.marks.items) ≡ size_of (take (old.tip.cuts + all.many) old.marks.items) =
+          ap (λ n. size_of (take n new.marks.items)) cut_more ∙ ap (λ (ms : List CutMark). size_of (take (old.tip.cuts + all.many) ms)) takes.marks in
+      omega (arith, old_taken, tip, both, marks)
+
+  pub all_kept : done ≡ front_length (is_due_done executed) old.due.items → IsKept new
+  all_kept found = record {
+    ends = subst (λ (xs : List Checkpoint). Ends xs new.tip) (sym takes.items) (subst (λ (t : Tip). Ends (old.items.items ++ (growth_of epoch executed old).fresh) t) (sym takes.tip) all.ends);
+    split = cuts_long;
+    few = few;
+    begins = taken;
+    sized = takes.cut ∙ kept.sized ∙ ap size_of (sym takes.marks);
+    room = let cut = takes.cut in let room = kept.room in let due = ap length takes.due in omega (arith, cut, room, due);
+    ahead =
+        let most = front_most (is_due_done executed) old.due.items in
+        let found_now = takes.found in
+        let due = ap length takes.due in
+        omega (arith, most, found, found_now, due);
+  }
+
+  opened_same : take new.opened new.items.items ≡ take old.opened old.items.items
+  opened_same =
+      ap (λ n. take n new.items.items) takes.opened ∙ ap (take old.opened) takes.items
+      ∙ take-append-le old.opened old.items.items (growth_of epoch executed old).fresh (let s = kept.split in omega (arith, s))
+
+  pub all_shown : done ≡ front_length (is_due_done executed) old.due.items → shown new ≡ advanced epoch executed (shown old)
+  all_shown found =
+      let seen : List Checkpoint → List Checkpoint → List Due → List CutMark → ℕ → Chaining = λ past built due marks done. record { past = past; built = built; due = due; marks = marks; done = done } in
+      ap (λ past. seen past new.items.items new.due.items new.marks.items new.done) opened_same
+      ∙ ap (λ built. seen (take old.opened old.items.items) built new.due.items new.marks.items new.done) whole
+      ∙ ap (λ due. seen (take old.opened old.items.items) built due new.marks.items new.done) takes.due
+      ∙ ap (λ marks. seen (take old.opened old.items.items) built old.due.items marks new.done) takes.marks
+      ∙ ap (seen (take old.opened old.items.items) built old.due.items old.marks.items) (takes.found ∙ found)
+    where
+      built : List Checkpoint
+      built = due_chain epoch executed (take old.opened old.items.items) old.due.items old.marks.items
