@@ -1,5 +1,5 @@
 -- Checkpoints on the wire (BCS), and their digests (this profile).
-use Rattle.std.specs.Prelude.{refl}
+use Rattle.std.specs.Prelude.{ℕ, List, length, sum_by, refl}
 use Rattle.digest_core.specs.declared.Digest.{Digest}
 use Rattle.digest_core.specs.Tagged.{checkpoint_tag, tagged_digest}
 use Rattle.wire_bcs.specs.Codec.{Codec}
@@ -22,3 +22,7 @@ checkpoint = by (λ c. (c.epoch, (c.number, (c.parent, (c.items, c.last)))))
 -- the digest of a checkpoint
 unfoldable pub digest_of_checkpoint : Checkpoint → Digest
 digest_of_checkpoint c = tagged_digest checkpoint_tag (checkpoint.spell c)
+
+-- how many transactions stand in these checkpoints
+abbrev pub transactions_in : List Checkpoint → ℕ
+transactions_in checkpoints = sum_by (λ (c : Checkpoint). length c.items) checkpoints

@@ -1,6 +1,6 @@
 //! Effects on the wire, and their digests.
 
-ghost use Rattle.std.specs.Prelude.{◌≡◌, IfOk};
+ghost use Rattle.std.specs.Prelude.{◌≡◌, IfOk, true};
 ghost use Rattle.effects_core.specs.Effects as codecs;
 
 use crate::effects::{Effects, Status, Written};
@@ -116,6 +116,19 @@ impl Duplicate for Effects {
             written: self.written.copy()?,
             deleted: self.deleted.copy()?,
         })
+    }
+}
+
+/// How long a list is at least that cannot be spelled.
+const TOO_LONG: u64 = 2_147_483_648;
+
+impl Effects {
+    /// Whether they can be spelled: their lists are at most 2147483647 long. Takes no memory.
+    #[tactic(auto, using(crate::proofs::Shorts::effects_short))]
+    pub fn is_short(&self) -> bool
+        ensures { result ≡ true → codecs.effects.short self.now }
+    {
+        self.written.len() < TOO_LONG && self.deleted.len() < TOO_LONG
     }
 }
 

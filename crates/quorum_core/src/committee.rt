@@ -107,7 +107,7 @@ impl Committee {
     }
 
     /// The stakes, lent.
-    fn stakes(&self) -> &[u32]
+    pub(crate) fn stakes(&self) -> &[u32]
         ensures value { result.now ≡ self.now }
         ensures short { length result.now ≤ 64 }
     {

@@ -9,8 +9,10 @@
 mod committee;
 mod roll;
 mod sealer;
+mod sets;
 mod signer;
 
 pub use committee::{Committee, CommitteeRefusal};
 pub use sealer::{KeyedSeal, Sealer};
+pub use sets::is_among;
 pub use signer::Signer;

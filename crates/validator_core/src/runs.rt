@@ -1,7 +1,6 @@
 //! Runs and the close of an epoch, and the records of runs.
 
 ghost use Rattle.std.specs.Prelude.{◌≡◌, [], IfOk, IfSome, OnOk, false, nat_le, true};
-ghost use Rattle.effects_core.specs.Effects as codecs;
 ghost use Rattle.journal_core.specs.Records as journals;
 ghost use Rattle.protocol_spec.specs.Chain.Words.{unless_refused};
 ghost use Rattle.protocol_spec.specs.Member.Calls.{ran_as, ran_items, ran_record, record_limit};
@@ -20,20 +19,12 @@ use wire_bcs::{OutOfMemory, Seq};
 /// How long a list is at least that cannot be spelled.
 const TOO_LONG: u64 = 2_147_483_648;
 
-/// Whether the lists of these effects can be spelled.
-#[tactic(auto, using(crate::proofs::Spelled::effects_short))]
-fn is_short(effects: &Effects) -> bool
-    ensures { result ≡ true → codecs.effects.short effects.now }
-{
-    effects.written.len() < TOO_LONG && effects.deleted.len() < TOO_LONG
-}
-
 /// The item of an executed transaction. A list of 2^31 objects, more than a transaction can write, counts as want
 /// of memory.
 fn item_of(alloc: Global, effects: &Effects) -> Result<RanItem, OutOfMemory>
     ensures { IfOk result (λ item. item ≡ item_of effects.now) }
 {
-    if !is_short(effects) {
+    if !effects.is_short() {
         return Err(OutOfMemory);
     }
     Ok(RanItem {

@@ -1,9 +1,8 @@
 -- The votes that count: a member's last, and that of the first honest member. Source: this profile; votes are those
 -- of Sui Lutris.
-use Rattle.std.specs.Prelude.{ℕ, Bool, false, not, List, map, slice_get, Option, Some, None, unwrap_or, if◌then◌else◌}
+use Rattle.std.specs.Prelude.{ℕ, Bool, false, not, List, map, Option, Some, None, if◌then◌else◌}
 use Rattle.std.specs.List.{enumerate_from}
 use Rattle.digest_core.specs.declared.Digest.{Digest}
-use Rattle.quorum_core.specs.Committee.{is_among}
 use Rattle.protocol_spec.specs.Chain.Tests.{origins_eq}
 use Rattle.protocol_spec.specs.Chain.Words.{first_of}
 use Rattle.world_spec.specs.World.{Said, Seat}
@@ -43,7 +42,3 @@ differs (Some x) (Some y) = not (origins_eq x y)
 -- the two members, where their votes differ
 abbrev pub differs_in : List Said → Digest → ℕ → ℕ → Option Collected
 differs_in said tx a b = differ_from origins_eq a (vote_by said tx a) b (vote_by said tx b)
-
--- what a member adds to the weight of a list of members
-abbrev pub stake_in : List ℕ → List ℕ → ℕ → ℕ
-stake_in stakes members m = if is_among members m then unwrap_or (slice_get stakes m) 0 else 0

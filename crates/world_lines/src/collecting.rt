@@ -1,61 +1,17 @@
 //! What the last votes of members give.
 
-ghost use Rattle.std.specs.Prelude.{◌≡◌, ◌≤◌, ℕ, option_copied, option_map, slice_get, unwrap_or};
-ghost use Rattle.quorum_core.specs.Committee.{is_among, weight};
+ghost use Rattle.std.specs.Prelude.{◌≡◌, ℕ, option_copied, option_map};
 ghost use Rattle.protocol_spec.specs.Chain.Tests.{origins_eq};
 ghost use Rattle.protocol_spec.specs.Chain.Words.{first_of};
 ghost use Rattle.world_spec.specs.Step.{collected, differ, differs_among, lacks, last_said, vote_in};
 ghost use Rattle.world_lines.specs.Answers.{collected_as};
-ghost use Rattle.world_lines.specs.SaidVotes.{differs, differs_in, lacks_vote, stake_in, vote_by};
+ghost use Rattle.world_lines.specs.SaidVotes.{differs, differs_in, lacks_vote, vote_by};
 
 use crate::Collected;
 use crate::said::SaidBook;
 use digest_core::Digest;
 use quorum_core::Committee;
 use wire_bcs::Seq;
-
-/// Whether the member is among these. Takes no memory.
-fn is_among(members: &[u32], member: u32) -> bool
-    ensures { result ≡ is_among members.now member }
-{
-    members.iter().any(|m| *m == member)
-}
-
-/// The stake of a member; 0 where the member is not known. Takes no memory.
-fn stake_of(committee: &Committee, member: u32) -> u64
-    ensures value { result ≡ unwrap_or (slice_get committee.now member) 0 }
-    ensures below { result ≤ 4294967295 }
-{
-    match committee.stake(member) {
-        Some(stake) => stake as u64,
-        None => 0,
-    }
-}
-
-/// What a member adds to the weight of these members. Takes no memory.
-fn stake_in(committee: &Committee, members: &[u32], member: u32) -> u64
-    ensures value { result ≡ stake_in committee.now members.now member }
-    ensures below { result ≤ 4294967295 }
-{
-    if is_among(members, member) {
-        return stake_of(committee, member);
-    }
-    0
-}
-
-/// The weight of the set of these members. Takes no memory.
-#[tactic(auto, using(crate::proofs::Weights::adds_next), unfolding(quorum_core::specs::Committee::weight_of))]
-fn weight_of(committee: &Committee, members: &[u32]) -> u64
-    ensures value { result ≡ weight committee.now members.now }
-{
-    let mut sum = 0;
-    let mut member = 0;
-    while member < committee.len() {
-        sum += stake_in(committee, members, member);
-        member += 1;
-    }
-    sum
-}
 
 /// Whether two lists of origins are the same. Takes no memory.
 fn same_origins(a: &[Option<Digest>], b: &[Option<Digest>]) -> bool
@@ -129,14 +85,13 @@ impl SaidBook {
     /// What the last votes of these members for a transaction give: the first member without one, too little stake,
     /// the first two that differ, or that all agree. The members may come in any order, and more than once: their
     /// stake is that of their set. Takes no memory.
-    #[tactic(auto, using(quorum_core::proofs::Weights::weight_most))]
     pub fn collect(&self, committee: &Committee, tx: &Digest, members: &[u32]) -> Collected
         ensures { collected_as result ≡ collected origins_eq committee.now (λ m. last_said (vote_in tx.now) m self.now) members.now }
     {
         if let Some(member) = self.first_lacking(tx, members) {
             return Collected::Lacks(member);
         }
-        let weight = weight_of(committee, members);
+        let weight = committee.weight_of_set(members);
         if !committee.is_quorum(weight) {
             return Collected::Short {
                 weight,

@@ -1,0 +1,5 @@
+mod Building
+mod Counting
+pub mod Fronts
+pub mod Growing
+mod Marking

@@ -1,0 +1,75 @@
+-- What a chain of checkpoints is seen as, and what its calls make of it. Source: Sui Lutris.
+use Rattle.std.specs.Prelude.{ℕ, ◌≤◌, ◌-◌, ◌==◌, Bool, false, List, [], ◌∷◌, ◌++◌, map, take, drop, length, if◌then◌else◌}
+use Rattle.std.specs.List.{list_all}
+use Rattle.digest_core.specs.declared.Digest.{Digest}
+use Rattle.checkpoint_core.specs.declared.checkpoints.Checkpoint.{Checkpoint}
+use Rattle.protocol_spec.specs.Chain.Words.{IsFront, last_of}
+use Rattle.protocol_spec.specs.Member.Versions.{Execution}
+use Rattle.protocol_spec.specs.Member.Checkpoints.{digest_before}
+use Rattle.epoch_turn.specs.declared.due.Due.{Due}
+use Rattle.epoch_turn.specs.declared.due.CutMark.{CutMark}
+use Rattle.epoch_turn.specs.Dues.{is_due_done, due_item, front_length, size_of}
+
+-- The checkpoints of the epochs before, and all that were built; the epoch's admitted transactions, and how many of
+-- them each of its cuts has; and how many at their front were found done.
+pub record Chaining : Type 0 where
+  pub past : List Checkpoint
+  pub built : List Checkpoint
+  pub due : List Due
+  pub marks : List CutMark
+  pub done : ℕ
+
+abbrev pub nothing_built : Chaining
+nothing_built = record { past = []; built = []; due = []; marks = []; done = 0 }
+
+abbrev pub tx_of : Due → Digest
+tx_of d = d.tx
+
+-- ---- what is told
+
+abbrev pub with_due : Chaining → Due → Chaining
+with_due c d = record c { due = c.due ++ d ∷ [] }
+
+-- how many were admitted since the last cut
+abbrev pub uncut : Chaining → ℕ
+uncut c = length c.due - size_of c.marks
+
+abbrev pub with_cut : Bool → Chaining → Chaining
+with_cut last c = record c { marks = c.marks ++ record { size = uncut c; last = last } ∷ [] }
+
+-- a Commit mark cuts them, if there are any
+abbrev pub with_mark : Chaining → Chaining
+with_mark c = if uncut c == 0 then c else with_cut false c
+
+-- the next epoch
+abbrev pub turned : Chaining → Chaining
+turned c = record { past = c.built; built = c.built; due = []; marks = []; done = 0 }
+
+-- ---- what is built
+
+-- the checkpoint of a cut behind those before it
+abbrev pub due_checkpoint : ℕ → List Execution → List Checkpoint → List Due → Bool → Checkpoint
+due_checkpoint epoch executed before txs last = record {
+  epoch = epoch;
+  number = length before;
+  parent = digest_before (last_of before);
+  items = map (due_item executed) txs;
+  last = last;
+}
+
+-- The checkpoints of the cuts, up to the first that is not done: those of `chained`, by what a chain looks at.
+abbrev pub due_chain : ℕ → List Execution → List Checkpoint → List Due → List CutMark → List Checkpoint
+due_chain epoch executed before due [] = before
+due_chain epoch executed before due (m ∷ ms) =
+    if list_all (is_due_done executed) (take m.size due)
+    then due_chain epoch executed (before ++ due_checkpoint epoch executed before (take m.size due) m.last ∷ []) (drop m.size due) ms
+    else before
+
+-- all is built that can be
+abbrev pub advanced : ℕ → List Execution → Chaining → Chaining
+advanced epoch executed c = record c { built = due_chain epoch executed c.past c.due c.marks; done = front_length (is_due_done executed) c.due }
+
+-- what was built and found done so far is a front of what can be
+pub record IsBehind (epoch : ℕ) (executed : List Execution) (c : Chaining) : Type 0 where
+  pub front : IsFront c.built (due_chain epoch executed c.past c.due c.marks)
+  pub found : c.done ≤ front_length (is_due_done executed) c.due

@@ -1,0 +1,36 @@
+-- What a chain looks at of admitted transactions and of their cuts. Source: Sui Lutris.
+use Rattle.std.specs.Prelude.{ℕ, suc, ◌+◌, Bool, ◌&&◌, List, [], ◌∷◌, map, take, drop, if◌then◌else◌}
+use Rattle.checkpoint_core.specs.declared.checkpoints.Item.{Item}
+use Rattle.answer_types.specs.declared.answers.Held.{Held}
+use Rattle.protocol_spec.specs.Member.Versions.{Execution, execution_of, is_executed}
+use Rattle.protocol_spec.specs.Member.Admission.{Admitted}
+use Rattle.protocol_spec.specs.Member.Sequence.{Cut}
+use Rattle.protocol_spec.specs.Member.Checkpoints.{held_of, names_same_origins, effects_digest_of}
+use Rattle.epoch_turn.specs.declared.due.Due.{Due}
+use Rattle.epoch_turn.specs.declared.due.CutMark.{CutMark}
+
+-- an admitted transaction, where these certificates are held
+abbrev pub due_of : List Held → Admitted → Due
+due_of held a = record { tx = a.digest; same = names_same_origins (held_of held a.digest) a }
+
+-- it is done where these are executed
+abbrev pub is_due_done : List Execution → Due → Bool
+is_due_done executed d = is_executed executed d.tx && d.same
+
+abbrev pub due_item : List Execution → Due → Item
+due_item executed d = record { tx = d.tx; effects = effects_digest_of (execution_of executed d.tx) }
+
+-- how many at the front of a list pass a test
+abbrev pub front_length : {A : Type 0} → (A → Bool) → List A → ℕ
+front_length test [] = 0
+front_length test (x ∷ xs) = if test x then suc (front_length test xs) else 0
+
+-- the cuts of a list of admitted transactions: each has the next so many of them
+abbrev pub cuts_of : List Admitted → List CutMark → List Cut
+cuts_of admitted [] = []
+cuts_of admitted (m ∷ ms) = record { txs = take m.size admitted; last = m.last } ∷ cuts_of (drop m.size admitted) ms
+
+-- how many of them are cut
+abbrev pub size_of : List CutMark → ℕ
+size_of [] = 0
+size_of (m ∷ ms) = m.size + size_of ms

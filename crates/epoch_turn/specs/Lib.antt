@@ -1,0 +1,4 @@
+pub mod Chains
+pub mod Dues
+pub mod Ends
+pub mod Kept

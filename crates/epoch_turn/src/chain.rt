@@ -1,0 +1,124 @@
+//! The chain, and what it answers.
+
+ghost use Rattle.std.specs.Prelude.{◌≡◌, List, IfOk, OnErr, OnOk, drop, false, length, map, option_map, slice_get, true};
+ghost use Rattle.answer_types.specs.declared.answers.Held.{Held};
+ghost use Rattle.checkpoint_core.specs.Checkpoints.{transactions_in};
+ghost use Rattle.protocol_spec.specs.Member.Admission.{Admitted};
+ghost use Rattle.protocol_spec.specs.Member.Checkpoints.{chained};
+ghost use Rattle.epoch_turn.specs.Chains.{IsBehind, advanced, nothing_built, tx_of, turned, with_cut, with_due, with_mark};
+ghost use Rattle.epoch_turn.specs.Dues.{cuts_of, due_of};
+
+use crate::due::Due;
+use crate::rows::Rows;
+use checkpoint_core::Checkpoint;
+use digest_core::Digest;
+use std::alloc::Global;
+use std::marker::Model;
+use version_store::Store;
+use wire_bcs::{OutOfMemory, Seq};
+
+/// The checkpoints of a member, over all its epochs. Contracts see them, and of the present epoch what was admitted,
+/// where it was cut, and how much of it at the front was found done.
+#[derive(Drop)]
+pub struct Chain {
+    rows: Rows,
+    alloc: Global,
+}
+
+impl Model for Chain {
+    ghost use Rattle.epoch_turn.specs.Chains.{Chaining};
+    ghost use Rattle.epoch_turn.specs.Kept.{IsKept, shown};
+
+    ghost Value = { Chaining };
+
+    ghost view = { λ c. shown c.rows };
+
+    ghost invariant = { λ c. IsKept c.rows };
+}
+
+impl Chain {
+    /// Nothing built, in epoch 0. Takes no memory.
+    pub fn new(alloc: Global) -> Chain
+        ensures { result ≡ nothing_built }
+    {
+        Chain {
+            rows: Rows::new(alloc),
+            alloc,
+        }
+    }
+
+    /// Tells what was admitted next. A refusal changes nothing.
+    pub fn admit(&mut self, due: Due) -> Result<(), OutOfMemory>
+        ensures ok { OnOk result (self.new ≡ with_due self.old due) }
+        ensures err { OnErr result (self.new ≡ self.old) }
+    {
+        self.rows.admit(due)
+    }
+
+    /// Tells of a Commit mark: what was admitted since the last cut is cut, if anything was (Sui Lutris). A refusal
+    /// changes nothing.
+    pub fn mark(&mut self) -> Result<(), OutOfMemory>
+        ensures ok { OnOk result (self.new ≡ with_mark self.old) }
+        ensures err { OnErr result (self.new ≡ self.old) }
+    {
+        self.rows.mark()
+    }
+
+    /// Tells of the end of the epoch: what was admitted since the last cut is the last cut, empty or not. A refusal
+    /// changes nothing.
+    pub fn end(&mut self) -> Result<(), OutOfMemory>
+        ensures ok { OnOk result (self.new ≡ with_cut true self.old) }
+        ensures err { OnErr result (self.new ≡ self.old) }
+    {
+        self.rows.cut(true)
+    }
+
+    /// Builds the checkpoints of the epoch's cuts, up to the first that has a transaction which is not done, and
+    /// answers those that are new (Sui Lutris). A refusal changes nothing.
+    pub fn advance(&mut self, epoch: u64, store: &Store) -> Result<Seq<Checkpoint>, OutOfMemory>
+        requires { IsBehind epoch store.now.executed self.old }
+        ensures ok { OnOk result (self.new ≡ advanced epoch store.now.executed self.old) }
+        ensures new { IfOk result (λ new. new ≡ drop (length self.old.built) self.new.built) }
+        ensures err { OnErr result (self.new ≡ self.old) }
+    {
+        self.rows.advance(self.alloc, epoch, store)
+    }
+
+    /// The first admitted transaction that was not found done; none exactly where all were. Takes no memory.
+    pub fn waits(&self) -> Option<Digest>
+        ensures { result ≡ option_map tx_of (slice_get self.now.due self.now.done) }
+    {
+        match self.rows.due.get(self.rows.done) {
+            Some(due) => Some(due.tx),
+            None => None,
+        }
+    }
+
+    /// The number of checkpoints built, over all epochs. Takes no memory.
+    pub fn len(&self) -> u64
+        ensures { result ≡ length self.now.built }
+    {
+        self.rows.tip.number
+    }
+
+    /// The number of transactions that stand in them. Takes no memory.
+    pub fn transactions(&self) -> u64
+        ensures { result ≡ transactions_in self.now.built }
+    {
+        self.rows.tip.transactions
+    }
+
+    /// The checkpoint of this number; none exactly where it was not built. Takes no memory.
+    pub fn checkpoint(&self, number: u64) -> Option<&Checkpoint>
+        ensures { option_map (λ (c : _). c.now) result ≡ slice_get self.now.built number }
+    {
+        self.rows.items.get(number as usize)
+    }
+
+    /// Goes to the next epoch, in which nothing is admitted yet. Takes no memory.
+    pub fn turn(&mut self)
+        ensures { self.new ≡ turned self.old }
+    {
+        self.rows.turn();
+    }
+}

@@ -1,0 +1,62 @@
+//! What a chain looks at of admitted transactions and of their cuts.
+
+ghost use Rattle.std.specs.Prelude.{◌≡◌, ◌≤◌, drop, length};
+ghost use Rattle.epoch_turn.specs.Dues.{front_length, is_due_done};
+
+use digest_core::Digest;
+use version_store::Store;
+
+/// An admitted transaction.
+#[derive(Clone, Copy, Debug, PartialEq, Eq)]
+pub struct Due {
+    pub tx: Digest,
+    /// Whether the certificate that is held of it names the origins with which it was admitted.
+    pub same: bool,
+}
+
+/// A cut of the admitted transactions: how many it has, and whether it is the last of its epoch.
+#[derive(Clone, Copy, Debug, PartialEq, Eq)]
+pub struct CutMark {
+    pub size: usize,
+    pub last: bool,
+}
+
+/// The transactions from this place on.
+pub(crate) fn due_from(due: &[Due], place: usize) -> &[Due]
+    requires { place ≤ length due.now }
+    ensures { result.now ≡ drop place due.now }
+{
+    &due[place..]
+}
+
+/// The cuts from this place on.
+pub(crate) fn marks_from(marks: &[CutMark], place: usize) -> &[CutMark]
+    requires { place ≤ length marks.now }
+    ensures { result.now ≡ drop place marks.now }
+{
+    &marks[place..]
+}
+
+/// Whether a transaction is done.
+fn is_done(due: &Due, store: &Store) -> bool
+    ensures { result ≡ is_due_done store.now.executed due.now }
+{
+    store.is_executed(&due.tx) && due.same
+}
+
+/// How many of them at the front are done.
+pub(crate) fn front_done(due: &[Due], store: &Store) -> usize
+    ensures value { result ≡ front_length (is_due_done store.now.executed) due.now }
+    ensures most { result ≤ length due.now }
+{
+    let mut done = 0;
+    let mut rest = due;
+    while let [one, after @ ..] = rest {
+        if !is_done(one, store) {
+            return done;
+        }
+        done += 1;
+        rest = after;
+    }
+    done
+}

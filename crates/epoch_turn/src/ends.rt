@@ -1,0 +1,98 @@
+//! The members that said End.
+
+ghost use Rattle.std.specs.Prelude.{◌≡◌, ◌<◌, ◌≤◌, ◌∷◌, ◌++◌, [], false, length, nat_eq, true};
+ghost use Rattle.std.specs.List.{IsDistinct};
+ghost use Rattle.quorum_core.specs.Committee.{all_known, is_among, total_of};
+ghost use Rattle.epoch_turn.specs.Ends.{counted_after, said_of_end, said_of_weight};
+
+use quorum_core::Committee;
+use std::marker::Model;
+
+/// What an End statement of a member adds.
+#[derive(Clone, Copy, Debug, PartialEq, Eq)]
+pub enum Counted {
+    /// The member was counted before.
+    Repeat,
+    /// The weight of the members counted so far, which are no quorum.
+    Weight(u64),
+    /// Their weight, where they are a quorum: the epoch ends.
+    Ended(u64),
+}
+
+/// The members whose End was counted. Contracts see them in the order of counting.
+#[derive(Drop)]
+pub struct EndCount {
+    members: [u32; 64],
+    count: u32,
+}
+
+impl Model for EndCount {
+    ghost use Rattle.std.specs.Prelude.{ℕ, List, take};
+    ghost use Rattle.epoch_turn.specs.Ends.{IsCount};
+
+    ghost Value = { List ℕ };
+
+    ghost view = { λ c. take c.count c.members };
+
+    ghost invariant = { λ c. IsCount c.count (take c.count c.members) };
+}
+
+/// What is said of this weight.
+fn said_of(committee: &Committee, weight: u64) -> Counted
+    requires { weight ≤ total_of committee.now }
+    ensures { result ≡ said_of_weight committee.now weight }
+{
+    if committee.is_quorum(weight) {
+        Counted::Ended(weight)
+    } else {
+        Counted::Weight(weight)
+    }
+}
+
+impl EndCount {
+    /// Nobody counted. Takes no memory.
+    #[tactic(auto, using(crate::proofs::Counting::nobody))]
+    pub fn new() -> EndCount
+        ensures { result ≡ [] }
+    {
+        EndCount {
+            members: [0; 64],
+            count: 0,
+        }
+    }
+
+    /// The members counted, in the order of counting, none of them twice. Takes no memory.
+    pub fn as_slice(&self) -> &[u32]
+        ensures value { result.now ≡ self.now }
+        ensures once { IsDistinct nat_eq result.now }
+    {
+        &self.members[..self.count as usize]
+    }
+
+    /// Puts a member behind the others. Takes no memory.
+    fn push(&mut self, member: u32)
+        requires room { length self.old < 64 }
+        requires new { is_among self.old member ≡ false }
+        ensures { self.new ≡ self.old ++ member ∷ [] }
+    {
+        self.members[self.count as usize] = member;
+        self.count += 1;
+    }
+
+    /// Counts a member that said End, unless it was counted before: the epoch ends where those counted are a quorum
+    /// with it (Sui Lutris). The committee knows the member and those counted before. Takes no memory.
+    #[tactic(auto, using(crate::proofs::Counting::has_room))]
+    pub fn count(&mut self, committee: &Committee, member: u32) -> Counted
+        requires known { member < length committee.now }
+        requires before { all_known committee.now self.old ≡ true }
+        ensures counted { self.new ≡ counted_after self.old member }
+        ensures answer { result ≡ said_of_end committee.now self.old member }
+    {
+        let _few = committee.len();
+        if quorum_core::is_among(self.as_slice(), member) {
+            return Counted::Repeat;
+        }
+        self.push(member);
+        said_of(committee, committee.weight_of_set(self.as_slice()))
+    }
+}

@@ -1,0 +1,184 @@
+//! How a chain grows.
+
+ghost use Rattle.std.specs.Prelude.{◌≡◌, ◌<◌, ◌≤◌, ◌^◌, [], IfOk, OnOk, length, map};
+ghost use Rattle.checkpoint_core.specs.Checkpoints as codecs;
+ghost use Rattle.protocol_spec.specs.Member.Checkpoints.{effects_digest_of};
+ghost use Rattle.protocol_spec.specs.Member.Versions.{execution_of};
+ghost use Rattle.epoch_turn.specs.Dues.{due_item, front_length, is_due_done, size_of};
+ghost use Rattle.epoch_turn.specs.Kept.{grown, grown_all, grown_by, items_after, next_checkpoint, tip_after};
+
+use crate::due::{CutMark, Due};
+use checkpoint_core::{Checkpoint, Item, checkpoint_digest};
+use digest_core::Digest;
+use effects_core::effects_digest;
+use std::alloc::Global;
+use version_store::Store;
+use wire_bcs::{OutOfMemory, Seq};
+
+/// How long a list is at least that cannot be spelled.
+const TOO_LONG: usize = 2_147_483_648;
+
+/// Where a chain ends.
+#[derive(Clone, Copy)]
+pub(crate) struct Tip {
+    /// The number of the next checkpoint.
+    pub(crate) number: u64,
+    /// The digest of the last one; 32 zero bytes where there is none.
+    pub(crate) digest: Digest,
+    /// How many transactions stand in all of them.
+    pub(crate) transactions: u64,
+    /// How many of the epoch's cuts have their checkpoint.
+    pub(crate) cuts: usize,
+    /// How many of the epoch's transactions these cuts have.
+    pub(crate) taken: usize,
+}
+
+/// Checkpoints that are new, and where the chain ends behind them.
+#[derive(Drop)]
+pub(crate) struct Growth {
+    pub(crate) fresh: Seq<Checkpoint>,
+    pub(crate) tip: Tip,
+}
+
+/// The digest of what an executed transaction did. A list of 2^31 objects, more than a transaction can write, counts
+/// as want of memory.
+#[tactic(auto, using(crate::proofs::Building::digest_known, crate::proofs::Building::digest_unknown))]
+fn effects_digest_in(alloc: Global, store: &Store, tx: &Digest) -> Result<Digest, OutOfMemory>
+    ensures { IfOk result (λ d. d ≡ effects_digest_of (execution_of store.now.executed tx.now)) }
+{
+    match store.executed(tx) {
+        Some(effects) => {
+            if !effects.is_short() {
+                return Err(OutOfMemory);
+            }
+            effects_digest(alloc, effects)
+        }
+        None => Ok(Digest([0; 32])),
+    }
+}
+
+/// The items of these transactions, one behind the other.
+fn collect_items(alloc: Global, store: &Store, txs: &[Due]) -> Result<Seq<Item>, OutOfMemory>
+    ensures { IfOk result (λ items. items ≡ items_after store.now.executed [] txs.now) }
+{
+    let mut items = Seq::new(alloc);
+    let mut rest = txs;
+    while let [one, after @ ..] = rest {
+        let effects = effects_digest_in(alloc, store, &one.tx)?;
+        items.push(Item { tx: one.tx, effects })?;
+        rest = after;
+    }
+    Ok(items)
+}
+
+/// The items of these transactions, in order.
+#[tactic(auto, using(crate::proofs::Building::items_all))]
+fn items_of(alloc: Global, store: &Store, txs: &[Due]) -> Result<Seq<Item>, OutOfMemory>
+    ensures { IfOk result (λ items. items ≡ map (due_item store.now.executed) txs.now) }
+{
+    collect_items(alloc, store, txs)
+}
+
+impl Tip {
+    /// The next checkpoint, of these transactions.
+    fn next(
+        &self,
+        alloc: Global,
+        epoch: u64,
+        store: &Store,
+        txs: &[Due],
+        last: bool,
+    ) -> Result<Checkpoint, OutOfMemory>
+        ensures { IfOk result (λ c. c ≡ next_checkpoint epoch store.now.executed self.now txs.now last) }
+    {
+        Ok(Checkpoint {
+            epoch,
+            number: self.number,
+            parent: self.digest,
+            items: items_of(alloc, store, txs)?,
+            last,
+        })
+    }
+
+    /// Where the chain ends behind one more checkpoint, with so many transactions and this digest. A number or a count
+    /// past its type counts as want of memory.
+    fn behind(&self, size: usize, digest: Digest) -> Result<Tip, OutOfMemory>
+        ensures { IfOk result (λ tip. tip ≡ tip_after self.now size digest) }
+    {
+        let number = self.number.checked_add(1).ok_or(OutOfMemory)?;
+        let transactions = self.transactions.checked_add(size as u64).ok_or(OutOfMemory)?;
+        let cuts = self.cuts.checked_add(1).ok_or(OutOfMemory)?;
+        let taken = self.taken.checked_add(size).ok_or(OutOfMemory)?;
+        Ok(Tip {
+            number,
+            digest,
+            transactions,
+            cuts,
+            taken,
+        })
+    }
+}
+
+impl Growth {
+    /// Adds a checkpoint with so many transactions.
+    #[tactic(auto, using(crate::proofs::Building::checkpoint_short))]
+    fn push(&mut self, alloc: Global, size: usize, next: Checkpoint) -> Result<(), OutOfMemory>
+        requires { length next.items < 2147483648 }
+        ensures { OnOk result (self.new ≡ grown_by self.old size next) }
+    {
+        let digest = checkpoint_digest(alloc, &next)?;
+        self.tip = self.tip.behind(size, digest)?;
+        self.fresh.push(next)?;
+        Ok(())
+    }
+
+    /// Adds the checkpoint of these transactions. A list of 2^31 of them counts as want of memory.
+    #[tactic(auto, using(crate::proofs::Building::items_many))]
+    fn add(
+        &mut self,
+        alloc: Global,
+        epoch: u64,
+        store: &Store,
+        txs: &[Due],
+        last: bool,
+    ) -> Result<(), OutOfMemory>
+        ensures { OnOk result (self.new ≡ grown epoch store.now.executed self.old txs.now last) }
+    {
+        if txs.len() >= TOO_LONG {
+            return Err(OutOfMemory);
+        }
+        let next = self.tip.next(alloc, epoch, store, txs, last)?;
+        self.push(alloc, txs.len(), next)
+    }
+
+    /// Adds the checkpoints of the cuts of these transactions, up to the first that is not done; so many transactions
+    /// at the front are.
+    pub(crate) fn add_all(
+        &mut self,
+        alloc: Global,
+        epoch: u64,
+        store: &Store,
+        due: &[Due],
+        marks: &[CutMark],
+        ready: usize,
+    ) -> Result<(), OutOfMemory>
+        requires ready { ready ≡ front_length (is_due_done store.now.executed) due.now }
+        requires sizes { size_of marks.now ≤ length due.now }
+        ensures { OnOk result (self.new ≡ grown_all epoch store.now.executed self.old due.now marks.now) }
+    {
+        let mut ready = ready;
+        let mut left = due;
+        let mut rest = marks;
+        while let [mark, after @ ..] = rest {
+            if ready < mark.size {
+                return Ok(());
+            }
+            let (txs, others) = left.split_at(mark.size);
+            self.add(alloc, epoch, store, txs, mark.last)?;
+            ready -= mark.size;
+            left = others;
+            rest = after;
+        }
+        Ok(())
+    }
+}

@@ -1,0 +1,17 @@
+//! What a member does towards the end of an epoch: it counts the members that said End, and builds checkpoints.
+//!
+//! An [`EndCount`] tells when the members that said End are a quorum. A [`Chain`] is told what was admitted and where
+//! it was cut, and each [`Chain::advance`] builds the checkpoints of those cuts whose transactions are all done by
+//! then: at constant work for each transaction, since what is done stays done. Its numbers and parents go on over the
+//! epochs.
+#![tactic(auto)]
+
+mod chain;
+mod due;
+mod ends;
+mod growth;
+mod rows;
+
+pub use chain::Chain;
+pub use due::{CutMark, Due};
+pub use ends::{Counted, EndCount};

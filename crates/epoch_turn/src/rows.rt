@@ -1,0 +1,175 @@
+//! The tables of a chain.
+
+ghost use Rattle.std.specs.Prelude.{◌≡◌, ◌≤◌, [], IfOk, OnErr, OnOk, drop, false, length, true};
+ghost use Rattle.epoch_turn.specs.Chains.{IsBehind, advanced, nothing_built, turned, with_cut, with_due, with_mark};
+ghost use Rattle.epoch_turn.specs.Dues.{front_length, is_due_done};
+ghost use Rattle.epoch_turn.specs.Kept.{IsKept, Keeps, Takes, growth_of, shown};
+
+use crate::due::{CutMark, Due, due_from, front_done, marks_from};
+use crate::growth::{Growth, Tip};
+use checkpoint_core::Checkpoint;
+use digest_core::Digest;
+use std::alloc::Global;
+use version_store::Store;
+use wire_bcs::{Duplicate, OutOfMemory, Seq};
+
+/// The tables.
+#[derive(Drop)]
+pub(crate) struct Rows {
+    /// All checkpoints that were built.
+    pub(crate) items: Vec<Checkpoint>,
+    /// How many of them the epochs before built.
+    pub(crate) opened: usize,
+    pub(crate) tip: Tip,
+    /// The transactions admitted in the epoch.
+    pub(crate) due: Vec<Due>,
+    /// The epoch's cuts.
+    pub(crate) marks: Vec<CutMark>,
+    /// How many of the transactions they have.
+    pub(crate) cut: usize,
+    /// How many of the transactions at the front are done.
+    pub(crate) done: usize,
+}
+
+impl Rows {
+    /// Nothing built, in epoch 0.
+    pub(crate) fn new(alloc: Global) -> Rows
+        ensures kept { IsKept result }
+        ensures value { shown result ≡ nothing_built }
+    {
+        Rows {
+            items: Vec::new(alloc),
+            opened: 0,
+            tip: Tip {
+                number: 0,
+                digest: Digest([0; 32]),
+                transactions: 0,
+                cuts: 0,
+                taken: 0,
+            },
+            due: Vec::new(alloc),
+            marks: Vec::new(alloc),
+            cut: 0,
+            done: 0,
+        }
+    }
+
+    /// Adds an admitted transaction. A refusal changes nothing.
+    pub(crate) fn admit(&mut self, due: Due) -> Result<(), OutOfMemory>
+        requires { IsKept self.old }
+        ensures kept { IsKept self.new }
+        ensures ok { OnOk result (shown self.new ≡ with_due (shown self.old) due) }
+        ensures err { OnErr result (shown self.new ≡ shown self.old) }
+    {
+        self.due.push(due)?;
+        Ok(())
+    }
+
+    /// Cuts what was admitted since the last cut. A refusal changes nothing.
+    pub(crate) fn cut(&mut self, last: bool) -> Result<(), OutOfMemory>
+        requires { IsKept self.old }
+        ensures kept { IsKept self.new }
+        ensures ok { OnOk result (shown self.new ≡ with_cut last (shown self.old)) }
+        ensures err { OnErr result (shown self.new ≡ shown self.old) }
+    {
+        let size = self.due.len() - self.cut;
+        self.marks.push(CutMark { size, last })?;
+        self.cut = self.due.len();
+        Ok(())
+    }
+
+    /// A Commit mark: cuts what was admitted since the last cut, if anything was. A refusal changes nothing.
+    pub(crate) fn mark(&mut self) -> Result<(), OutOfMemory>
+        requires { IsKept self.old }
+        ensures kept { IsKept self.new }
+        ensures ok { OnOk result (shown self.new ≡ with_mark (shown self.old)) }
+        ensures err { OnErr result (shown self.new ≡ shown self.old) }
+    {
+        if self.cut == self.due.len() {
+            return Ok(());
+        }
+        self.cut(false)
+    }
+
+    /// Goes to the next epoch.
+    pub(crate) fn turn(&mut self)
+        requires { IsKept self.old }
+        ensures kept { IsKept self.new }
+        ensures value { shown self.new ≡ turned (shown self.old) }
+    {
+        self.opened = self.items.len();
+        self.tip.cuts = 0;
+        self.tip.taken = 0;
+        self.due.clear();
+        self.marks.clear();
+        self.cut = 0;
+        self.done = 0;
+    }
+
+    /// How many of the transactions at the front are done now.
+    #[tactic(auto, using(crate::proofs::Fronts::front_behind))]
+    fn find_done(&self, store: &Store) -> usize
+        requires kept { IsKept self.now }
+        requires found { self.now.done ≤ front_length (is_due_done store.now.executed) self.now.due.items }
+        ensures { result ≡ front_length (is_due_done store.now.executed) self.now.due.items }
+    {
+        self.done + front_done(due_from(&self.due, self.done), store)
+    }
+
+    /// The checkpoints that come next.
+    fn growth(
+        &self,
+        alloc: Global,
+        epoch: u64,
+        store: &Store,
+        done: usize,
+    ) -> Result<Growth, OutOfMemory>
+        requires kept { IsKept self.now }
+        requires behind { IsBehind epoch store.now.executed (shown self.now) }
+        requires done { done ≡ front_length (is_due_done store.now.executed) self.now.due.items }
+        ensures { IfOk result (λ g. g ≡ growth_of epoch store.now.executed self.now) }
+    {
+        let mut growth = Growth {
+            fresh: Seq::new(alloc),
+            tip: self.tip,
+        };
+        let due = due_from(&self.due, self.tip.taken);
+        let marks = marks_from(&self.marks, self.tip.cuts);
+        growth.add_all(alloc, epoch, store, due, marks, done - self.tip.taken)?;
+        Ok(growth)
+    }
+
+    /// Takes them. A refusal changes nothing.
+    fn take(&mut self, growth: Growth, done: usize) -> Result<(), OutOfMemory>
+        ensures ok { OnOk result (Takes growth done self.old self.new) }
+        ensures err { OnErr result (Keeps self.old self.new) }
+    {
+        let Growth { fresh, tip } = growth;
+        let mut fresh = fresh.into_vec();
+        self.items.append(&mut fresh)?;
+        self.tip = tip;
+        self.done = done;
+        Ok(())
+    }
+
+    /// Builds the checkpoints of the cuts whose transactions are all done. A refusal changes nothing.
+    pub(crate) fn advance(
+        &mut self,
+        alloc: Global,
+        epoch: u64,
+        store: &Store,
+    ) -> Result<Seq<Checkpoint>, OutOfMemory>
+        requires kept { IsKept self.old }
+        requires behind { IsBehind epoch store.now.executed (shown self.old) }
+        ensures kept { IsKept self.new }
+        ensures ok { OnOk result (shown self.new ≡ advanced epoch store.now.executed (shown self.old)) }
+        ensures new { IfOk result (λ new. new ≡ drop (length (shown self.old).built) (shown self.new).built) }
+        ensures err { OnErr result (shown self.new ≡ shown self.old) }
+    {
+        let done = self.find_done(store);
+        let growth = self.growth(alloc, epoch, store, done)?;
+        let new = growth.fresh.copy()?;
+        self.take(growth, done)?;
+        Ok(new)
+    }
+}
