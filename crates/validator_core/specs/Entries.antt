@@ -1,7 +1,12 @@
 -- What an entry of the sequence is to a member, as the code has it.
-use Rattle.std.specs.Prelude.{◌≡◌, ◌<◌, ◌+◌, ℕ, false, List, None, length}
+use Rattle.std.specs.Prelude.{◌≡◌, ◌<◌, ◌+◌, ℕ, false, List, Option, Some, None, length}
+use Rattle.digest_core.specs.declared.Digest.{Digest}
+use Rattle.chain_types.specs.declared.objects.ObjectId.{ObjectId}
 use Rattle.chain_types.specs.Digests.{transaction_digest}
 use Rattle.answer_types.specs.declared.answers.Held.{Held}
+use Rattle.answer_types.specs.declared.answers.SeenWhat.{SeenWhat}
+use Rattle.answer_types.specs.declared.answers.SeenWhat.TheVariants as seen_as
+use Rattle.version_assign.specs.declared.taken.Taken.{Taken}
 use Rattle.protocol_spec.specs.Chain.Certificates.{Rules}
 use Rattle.protocol_spec.specs.Chain.Committee.{is_among}
 use Rattle.protocol_spec.specs.Chain.Keys.{objects_of}
@@ -36,6 +41,12 @@ MayArrive stakes q (arrival.Takes h) = IsArriving q h
 MayArrive stakes q arrival.Commits = Unit {0}
 MayArrive stakes q (arrival.Counts m) = IsEnding stakes q m
 MayArrive stakes q (arrival.Ignores cause) = Unit {0}
+
+-- what is answered of a transaction that came by the sequence, with what was taken
+abbrev pub waiting_answer : Option Digest → Option ObjectId → Digest → Taken → SeenWhat
+waiting_answer (Some origin) deferred tx t = seen_as.Pending tx origin
+waiting_answer None (Some id) tx t = seen_as.Deferred tx id
+waiting_answer None None tx t = seen_as.Taken t.admitted t.dropped
 
 -- the member behind such an entry
 abbrev pub behind_entry : Rules → Member → What → Member

@@ -1,6 +1,7 @@
 pub mod Answers
 pub mod Limits
 pub mod Entries
+pub mod Courses
 pub mod Sound
 pub mod Steps
 pub mod Built

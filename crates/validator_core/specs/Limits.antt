@@ -1,7 +1,13 @@
 -- What contracts see of the state of a member: the member, and the limit of writers of its sequences.
-use Rattle.std.specs.Prelude.{ℕ, List, Option}
+use Rattle.std.specs.Prelude.{ℕ, Bool, List, Option}
+use Rattle.digest_core.specs.declared.Digest.{Digest}
+use Rattle.quorum_core.specs.declared.signer.Signer.{Signer}
 use Rattle.protocol_spec.specs.Member.Member.{Member}
 use Rattle.scene_spec.specs.Terms.{Terms}
+
+-- which seals are accepted
+abbrev pub Accepting : Type 0
+Accepting = Signer → List ℕ → Digest → Bool
 
 pub record Limited : Type 0 where
   pub writers : Option ℕ

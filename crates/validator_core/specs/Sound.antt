@@ -1,12 +1,24 @@
--- What a state relies on: held certificates can be executed, and votes can be spelled.
-use Rattle.std.specs.Prelude.{◌≤◌, List, length}
-use Rattle.answer_types.specs.declared.answers.Held.{Held}
+-- What a state is seen as, and what it relies on.
+use Rattle.std.specs.Prelude.{ℕ, ◌≤◌, Bool, List, length}
 use Rattle.protocol_spec.specs.Chain.Words.{Each}
+use Rattle.protocol_spec.specs.Member.Member.{Member}
 use Rattle.protocol_spec.specs.Member.Votes.{Cast}
-use Rattle.version_store.specs.Stores.{Stored}
-use Rattle.exec_plan.specs.Books.{IsSound}
-use Rattle.exec_plan.specs.Waits.{IsWaiting}
-use Rattle.exec_plan.specs.declared.waiting.Waiting.{Waiting}
+use Rattle.validator_core.specs.Courses.{Coursed, IsSound}
+use Rattle.validator_core.specs.declared.course.Course.{Course}
+
+-- the member of so many records, whether it closed the epoch, its votes, and what else it has of the epoch
+abbrev pub member_with : ℕ → Bool → List Cast → Coursed → Member
+member_with records closed votes c = record {
+  records = records;
+  epoch = c.epoch;
+  opening = c.opening;
+  executed = c.executed;
+  votes = votes;
+  held = c.held;
+  sequence = c.sequence;
+  closed = closed;
+  past = c.past;
+}
 
 -- an origin for each object, of which a transaction of valid shape has 257 at most
 abbrev pub HasFew : Cast → Type 0
@@ -15,8 +27,8 @@ HasFew v = length v.origins ≤ 257
 abbrev pub AllFew : List Cast → Type 0
 AllFew votes = Each HasFew votes
 
--- what holds of the votes, of the certificates held, and of those that wait over the store
-pub record Stands (votes : List Cast) (held : List Held) (store : Stored) (waiting : Waiting) : Type 0 where
+-- votes can be spelled, what the epoch has is sound, and each entry that was seen has its record
+pub record Stands (records : ℕ) (votes : List Cast) (c : Course) : Type 0 where
   pub few : AllFew votes
-  pub sound : Each IsSound held
-  pub waits : IsWaiting store held waiting
+  pub sound : IsSound c
+  pub seen : c.seen ≤ records

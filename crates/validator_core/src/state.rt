@@ -1,72 +1,65 @@
 //! The state, and the records that it takes.
 
-ghost use Rattle.std.specs.Prelude.{◌≡◌, ◌≤◌, [], IfOk, IfSome, OnOk, None, false, true, find, is_some, option_copied, option_map, nat_le, length, map};
+ghost use Rattle.std.specs.Prelude.{◌≡◌, ◌≤◌, IfOk, IfSome, OnOk, None, false, true, find, is_some, option_copied, option_map, nat_le, length, map, slice_get};
+ghost use Rattle.checkpoint_core.specs.Checkpoints.{transactions_in};
 ghost use Rattle.chain_types.specs.Digests.{consumed_keys, transaction_digest};
+ghost use Rattle.quorum_core.specs.Committee.{is_among};
 ghost use Rattle.protocol_spec.specs.Chain.Shape.{shape_fault};
 ghost use Rattle.protocol_spec.specs.Chain.Words.{first_of};
+ghost use Rattle.protocol_spec.specs.Member.Admission.{is_known};
 ghost use Rattle.protocol_spec.specs.Member.Checkpoints.{held_of};
 ghost use Rattle.protocol_spec.specs.Member.Calls.{effects_of, newly_built, ran_items, record_limit};
-ghost use Rattle.protocol_spec.specs.Member.Member.{Fork, ballot, books, built as built_by, consumes, fork_of, fresh, live_objects, vote_for, with_rounds};
+ghost use Rattle.protocol_spec.specs.Member.Member.{Fork as TheFork, ballot, books, built as built_by, consumes, fork_of, fresh, live_objects, vote_for, with_rounds};
+ghost use Rattle.protocol_spec.specs.Member.Sequence.{seen_what};
 ghost use Rattle.protocol_spec.specs.Member.Versions.{Version, object_in, version_at, versions};
 ghost use Rattle.protocol_spec.specs.Member.Votes.{Cast, locked, vote_origins, vote_refusal};
 ghost use Rattle.protocol_spec.specs.Member.Rounds.{left, rounds};
-ghost use Rattle.exec_plan.specs.Waits.{IsWaiting};
-ghost use Rattle.validator_core.specs.Built.{transactions_in};
+ghost use Rattle.scene_spec.specs.Starts.{AreApart};
+ghost use Rattle.scene_spec.specs.Terms.{rules_for};
+ghost use Rattle.validator_core.specs.Entries.{MayArrive, behind_entry, what_as};
+ghost use Rattle.validator_core.specs.Limits.{Accepting, terms_at};
 ghost use Rattle.validator_core.specs.Steps.{closing, counted, holding, items_of, voted};
 ghost use Rattle.vote_rules.specs.Decide.{Decides};
-ghost use Rattle.scene_spec.specs.Starts.{AreApart};
-ghost use Rattle.version_store.specs.Stores.{Stored};
+ghost use Rattle.vote_rules.specs.Holders.{sides};
 ghost use Rattle.answer_types.specs.declared.answers.Held.{Held as H};
 
-use answer_types::{Held, Left};
+use crate::course::Course;
+use crate::entries::Arrival;
+use answer_types::{Held, Left, Seen};
 use chain_types::{DecideRefusal, Object, ObjectKey, Transaction};
+use checkpoint_core::Checkpoint;
 use digest_core::Digest;
 use effects_core::Effects;
-use exec_plan::Waiting;
+use quorum_core::Committee;
 use std::alloc::Global;
 use std::marker::Model;
-use version_store::Store;
-use vote_rules::{HeldBook, VoteBook};
+use vote_rules::{Fork, VoteBook};
 use wire_bcs::{OutOfMemory, Seq};
 
 /// How many records the list of a member has at most.
 const RECORD_LIMIT: u64 = 4_194_303;
 
-/// Holds nothing, where memory was refused half way. Takes no memory.
-fn forget_all(alloc: Global, held: &mut HeldBook, waiting: &mut Waiting)
-    ensures held { held.new ≡ [] }
-    ensures waits { (s : Stored) → IsWaiting s [] waiting.new }
-{
-    *held = HeldBook::new(alloc);
-    *waiting = Waiting::new(alloc);
-}
-
-/// What a member has in the present epoch. Contracts see the definitions' record of it, in which no entry of a
-/// sequence was seen and no epoch has ended, beside the limit of writers of its sequences.
+/// What a member has in the present epoch. Contracts see the definitions' record of it, beside the limit of writers of
+/// its sequences.
 #[derive(Drop)]
 pub struct State {
-    writers: Option<u32>,
     records: u64,
-    epoch: u64,
     closed: bool,
-    store: Store,
     votes: VoteBook,
-    held: HeldBook,
-    waiting: Waiting,
+    pub(crate) course: Course,
     pub(crate) alloc: Global,
 }
 
 impl Model for State {
-    ghost use Rattle.std.specs.Prelude.{[]};
-    ghost use Rattle.protocol_spec.specs.Member.Sequence.{nothing_seen};
     ghost use Rattle.validator_core.specs.Limits.{Limited};
-    ghost use Rattle.validator_core.specs.Sound.{Stands};
+    ghost use Rattle.validator_core.specs.Sound.{Stands, member_with};
+    ghost use Rattle.validator_core.specs.Courses.{coursed};
 
     ghost Value = { Limited };
 
-    ghost view = { λ s. record { writers = s.writers; member = record { records = s.records; epoch = s.epoch; opening = s.store.opening; executed = s.store.executed; votes = s.votes; held = s.held; sequence = nothing_seen; closed = s.closed; past = [] } } };
+    ghost view = { λ s. record { writers = s.course.admission.writers; member = member_with s.records s.closed s.votes (coursed s.course) } };
 
-    ghost invariant = { λ s. Stands s.votes s.held s.store s.waiting };
+    ghost invariant = { λ s. Stands s.records s.votes s.course };
 }
 
 impl State {
@@ -80,16 +73,11 @@ impl State {
         requires { AreApart opening.now }
         ensures { IfOk result (λ s. s ≡ record { writers = writers; member = fresh opening.now }) }
     {
-        let store = Store::opening(alloc, opening)?;
         Ok(State {
-            writers,
             records: 0,
-            epoch: 0,
             closed: false,
-            store,
             votes: VoteBook::new(alloc),
-            held: HeldBook::new(alloc),
-            waiting: Waiting::new(alloc),
+            course: Course::fresh(alloc, opening, writers)?,
             alloc,
         })
     }
@@ -97,13 +85,6 @@ impl State {
     /// The allocator that the state takes its memory from.
     pub fn allocator(&self) -> Global {
         self.alloc
-    }
-
-    /// The limit of writers. Takes no memory.
-    pub fn writers(&self) -> Option<u32>
-        ensures { result ≡ self.now.writers }
-    {
-        self.writers
     }
 
     /// The number of records. Takes no memory.
@@ -117,33 +98,59 @@ impl State {
     pub fn epoch(&self) -> u64
         ensures { result ≡ self.now.member.epoch }
     {
-        self.epoch
+        self.course.epoch
     }
 
-    /// The number of entries of the epoch's sequence that the member has seen: none yet. Takes no memory.
+    /// The number of entries of the epoch's sequence that the member has seen. Takes no memory.
     pub fn seen(&self) -> u64
         ensures { result ≡ self.now.member.sequence.number }
     {
-        let _ = &self.records;
-        0
+        self.course.seen
     }
 
-    /// The number of checkpoints that the member has built: none yet, since it sees no entry. Takes no memory.
-    #[tactic(auto, unfolding(protocol_spec::specs::Member::Member::built))]
+    /// Whether the member saw the end of the epoch. Takes no memory.
+    pub fn has_ended(&self) -> bool
+        ensures { result ≡ self.now.member.sequence.ended }
+    {
+        self.course.ended
+    }
+
+    /// Whether an End of this member was counted in the epoch. Takes no memory.
+    pub(crate) fn is_counted(&self, member: u32) -> bool
+        ensures { result ≡ is_among self.now.member.sequence.counted member }
+    {
+        quorum_core::is_among(self.course.ends.as_slice(), member)
+    }
+
+    /// Whether the transaction is in the sequence as the member has seen it. Takes no memory.
+    pub(crate) fn is_ordered(&self, tx: &Digest) -> bool
+        ensures { result ≡ is_known self.now.member.sequence.admission tx.now }
+    {
+        self.course.admission.is_known(tx)
+    }
+
+    /// The number of checkpoints that the member has built, over all its epochs. Takes no memory.
+    #[tactic(auto, unfolding(protocol_spec::specs::Member::Member::built), using(crate::proofs::Coursing::built_is))]
     pub fn checkpoints(&self) -> u64
         ensures { result ≡ length (built_by self.now.member) }
     {
-        let _ = &self.records;
-        0
+        self.course.chain.len()
     }
 
     /// The number of transactions in the checkpoints that the member has built. Takes no memory.
-    #[tactic(auto, unfolding(protocol_spec::specs::Member::Member::built))]
+    #[tactic(auto, unfolding(protocol_spec::specs::Member::Member::built), using(crate::proofs::Coursing::built_is))]
     pub fn checkpointed(&self) -> u64
         ensures { result ≡ transactions_in (built_by self.now.member) }
     {
-        let _ = &self.records;
-        0
+        self.course.chain.transactions()
+    }
+
+    /// The checkpoint of this number; none exactly where it was not built. Takes no memory.
+    #[tactic(auto, unfolding(protocol_spec::specs::Member::Member::built), using(crate::proofs::Coursing::built_is))]
+    pub fn checkpoint(&self, number: u64) -> Option<&Checkpoint>
+        ensures { option_map (λ (c : _). c.now) result ≡ slice_get (built_by self.now.member) number }
+    {
+        self.course.chain.checkpoint(number)
     }
 
     /// Whether the member closed the epoch. Takes no memory.
@@ -153,12 +160,19 @@ impl State {
         self.closed
     }
 
-    /// The transactions of the fork that the member met, if it met one. Takes no memory.
+    /// The fork that the member met, if it met one. Takes no memory.
     #[tactic(auto, unfolding(protocol_spec::specs::Member::Member::fork_of))]
-    pub fn fork(&self) -> Option<(Digest, Digest)>
-        ensures { result ≡ option_map (λ (f : Fork). (f.first, f.second)) (fork_of self.now.member) }
+    pub(crate) fn first_fork(&self) -> Option<Fork>
+        ensures { result ≡ option_map sides (fork_of self.now.member) }
     {
-        match self.held.fork() {
+        self.course.held.fork()
+    }
+
+    /// The transactions of the fork that the member met, if it met one. Takes no memory.
+    pub fn fork(&self) -> Option<(Digest, Digest)>
+        ensures { result ≡ option_map (λ (f : TheFork). (f.first, f.second)) (fork_of self.now.member) }
+    {
+        match self.first_fork() {
             Some(fork) => Some((fork.first, fork.second)),
             None => None,
         }
@@ -175,14 +189,14 @@ impl State {
     pub fn object(&self, key: &ObjectKey) -> Option<&Object>
         ensures { option_copied result ≡ option_map object_in (version_at (versions self.now.member.opening self.now.member.executed) key.now) }
     {
-        self.store.get(key)
+        self.course.store.get(key)
     }
 
     /// The live objects by ascending id.
     pub fn live_list(&self) -> Result<Seq<Object>, OutOfMemory>
         ensures { IfOk result (λ objects. objects ≡ live_objects self.now.member) }
     {
-        self.store.live_list()
+        self.course.store.live_list()
     }
 
     /// The origins that the vote for this transaction named, where one was given. Takes no memory.
@@ -201,21 +215,21 @@ impl State {
     ) -> Result<Seq<Option<Digest>>, DecideRefusal>
         ensures { Decides (vote_refusal (ballot self.now.member) tx.now digest.now) (vote_origins (ballot self.now.member) tx.now) result }
     {
-        self.votes.decide(self.alloc, &self.store, tx, digest)
+        self.votes.decide(self.alloc, &self.course.store, tx, digest)
     }
 
     /// Whether a certificate of the transaction is held. Takes no memory.
     pub(crate) fn holds(&self, tx: &Digest) -> bool
         ensures { result ≡ is_some (held_of self.now.member.held tx.now) }
     {
-        self.held.has(tx)
+        self.course.held.has(tx)
     }
 
     /// The first of the keys that a held certificate consumes, and its transaction. Takes no memory.
     pub(crate) fn consumed_by(&self, keys: &[ObjectKey]) -> Option<(ObjectKey, Digest)>
         ensures { result ≡ first_of (λ key. option_map (λ (e : H). (key, e.digest)) (find (consumes key) self.now.member.held)) keys.now }
     {
-        self.held.fork_with(keys)
+        self.course.held.fork_with(keys)
     }
 
     /// Takes the record of a vote for the transaction of this digest and these consumed keys. Where memory is
@@ -242,7 +256,6 @@ impl State {
 
     /// Takes the record of a certificate that is newly held, or is the evidence of a fork. Where memory is
     /// refused the state is not to be used.
-    #[tactic(auto, using(crate::proofs::Cases::one_more_sound))]
     pub fn take_hold(&mut self, held: Held) -> Result<(), OutOfMemory>
         requires digest { held.digest ≡ transaction_digest held.cert.tx }
         requires shape { shape_fault held.cert.tx ≡ None }
@@ -251,40 +264,60 @@ impl State {
         ensures state { OnOk result (self.new.member ≡ holding self.old.member held.cert) }
         ensures limit { self.new.writers ≡ self.old.writers }
     {
-        self.waiting.hold(&self.store, self.held.as_slice(), &held)?;
-        match self.held.hold(held) {
+        match self.course.hold(held) {
             Ok(()) => {
                 self.records += 1;
                 Ok(())
             }
             Err(OutOfMemory) => {
-                forget_all(self.alloc, &mut self.held, &mut self.waiting);
+                self.course.forget();
+                Err(OutOfMemory)
+            }
+        }
+    }
+
+    /// Takes an entry of the sequence, of which the record stands, and answers what it did and which checkpoints it
+    /// completed. Where memory is refused the state is not to be used.
+    pub(crate) fn take_entry(
+        &mut self,
+        committee: &Committee,
+        arrival: Arrival,
+    ) -> Result<Seen, OutOfMemory>
+        requires may { MayArrive committee.now self.old.member.sequence arrival }
+        requires open { self.old.member.sequence.ended ≡ false }
+        requires room { nat_le record_limit self.old.member.records ≡ false }
+        ensures state { OnOk result ((accepts : Accepting) → self.new.member ≡ behind_entry (rules_for (terms_at self.old committee.now) accepts) self.old.member (what_as arrival)) }
+        ensures what { IfOk result (λ seen. (accepts : Accepting) → seen.what ≡ seen_what (rules_for (terms_at self.old committee.now) accepts) self.old.member.sequence self.new.member.sequence (what_as arrival)) }
+        ensures built { IfOk result (λ seen. seen.built ≡ newly_built self.old.member self.new.member) }
+        ensures limit { self.new.writers ≡ self.old.writers }
+    {
+        match self.course.see(committee, arrival) {
+            Ok(seen) => {
+                self.records += 1;
+                Ok(seen)
+            }
+            Err(OutOfMemory) => {
+                self.course.forget();
                 Err(OutOfMemory)
             }
         }
     }
 
     /// Executes all held certificates that are ready, round after round (Sui Lutris), and answers their effects in
-    /// order; the record of it is to be counted. The items of that record are those of the effects, and no checkpoint
-    /// is built, since no entry is seen. Where memory is refused the state is not to be used.
+    /// order, and the checkpoints that are complete by it; the record of it is to be counted. The items of that record
+    /// are those of the effects. Where memory is refused the state is not to be used.
     #[tactic(auto, unfolding(protocol_spec::specs::Member::Member::built), using(crate::proofs::Named::ran_named))]
-    pub fn execute(&mut self) -> Result<Seq<Effects>, OutOfMemory>
+    pub fn execute(&mut self) -> Result<(Seq<Effects>, Seq<Checkpoint>), OutOfMemory>
         ensures state { OnOk result (self.new.member ≡ with_rounds self.old.member) }
-        ensures effects { IfOk result (λ effects. effects ≡ map effects_of (rounds (books self.old.member) self.old.member.executed)) }
-        ensures items { IfOk result (λ effects. items_of effects ≡ ran_items self.old.member) }
-        ensures built { newly_built self.old.member (with_rounds self.old.member) ≡ [] }
+        ensures effects { IfOk result (λ r. r.0 ≡ map effects_of (rounds (books self.old.member) self.old.member.executed)) }
+        ensures items { IfOk result (λ r. items_of r.0 ≡ ran_items self.old.member) }
+        ensures built { IfOk result (λ r. r.1 ≡ newly_built self.old.member (with_rounds self.old.member)) }
         ensures limit { self.new.writers ≡ self.old.writers }
     {
-        let ran = exec_plan::run(
-            self.alloc,
-            &mut self.store,
-            &mut self.waiting,
-            self.held.as_slice(),
-        );
-        match ran {
-            Ok(effects) => Ok(effects),
+        match self.course.run() {
+            Ok(done) => Ok(done),
             Err(OutOfMemory) => {
-                forget_all(self.alloc, &mut self.held, &mut self.waiting);
+                self.course.forget();
                 Err(OutOfMemory)
             }
         }
@@ -295,7 +328,7 @@ impl State {
     pub fn left(&self) -> Result<Seq<Left>, OutOfMemory>
         ensures { IfOk result (λ all. all ≡ left (books self.now.member) self.now.member.executed) }
     {
-        exec_plan::left(self.alloc, &self.store, &self.waiting, self.held.as_slice())
+        self.course.left()
     }
 
     /// Counts the record of a run. Takes no memory.

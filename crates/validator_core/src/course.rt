@@ -1,0 +1,176 @@
+//! What a member has of its epoch beside its votes: versions, certificates, the sequence as it has seen it, and the
+//! checkpoints.
+
+ghost use Rattle.std.specs.Prelude.{◌≡◌, ◌<◌, ◌≤◌, ◌^◌, [], IfOk, OnOk, drop, false, is_some, length, map};
+ghost use Rattle.chain_types.specs.Digests.{transaction_digest};
+ghost use Rattle.exec_plan.specs.Books.{books_of, effects_of};
+ghost use Rattle.protocol_spec.specs.Chain.Shape.{shape_fault};
+ghost use Rattle.protocol_spec.specs.Member.Admission.{digest_of_admitted};
+ghost use Rattle.protocol_spec.specs.Member.Checkpoints.{held_of};
+ghost use Rattle.protocol_spec.specs.Member.Rounds.{left, rounds};
+ghost use Rattle.scene_spec.specs.Starts.{AreApart};
+ghost use Rattle.validator_core.specs.Courses.{HasOpening, IsAdmitting, IsSound, IsUnbuilt, Stays, begun, built_in, coursed, newly_built, ran, with_held};
+
+use crate::telling::tell;
+use answer_types::{Held, Left};
+use chain_types::Object;
+use checkpoint_core::Checkpoint;
+use digest_core::Digest;
+use effects_core::Effects;
+use epoch_turn::{Chain, EndCount};
+use exec_plan::Waiting;
+use std::alloc::Global;
+use version_assign::Admission;
+use version_store::Store;
+use vote_rules::HeldBook;
+use wire_bcs::{OutOfMemory, Seq};
+
+/// An epoch of a member, as far as it went.
+#[derive(Drop)]
+pub(crate) struct Course {
+    pub(crate) epoch: u64,
+    pub(crate) store: Store,
+    pub(crate) held: HeldBook,
+    pub(crate) waiting: Waiting,
+    pub(crate) admission: Admission,
+    pub(crate) chain: Chain,
+    /// How many entries of the sequence were seen.
+    pub(crate) seen: u64,
+    pub(crate) ends: EndCount,
+    /// Whether the end of the epoch was seen.
+    pub(crate) ended: bool,
+    pub(crate) alloc: Global,
+}
+
+impl Course {
+    /// Epoch 0, which opens with these objects, none of them twice.
+    #[tactic(auto, using(crate::proofs::Opening::apart_new))]
+    pub(crate) fn fresh(
+        alloc: Global,
+        opening: &Seq<Object>,
+        writers: Option<u32>,
+    ) -> Result<Course, OutOfMemory>
+        requires { AreApart opening.now }
+        ensures sound { IfOk result IsSound }
+        ensures value { IfOk result (λ c. coursed c ≡ begun opening.now writers) }
+    {
+        Ok(Course {
+            epoch: 0,
+            store: Store::opening(alloc, opening)?,
+            held: HeldBook::new(alloc),
+            waiting: Waiting::new(alloc),
+            admission: Admission::new(alloc, opening, writers)?,
+            chain: Chain::new(alloc),
+            seen: 0,
+            ends: EndCount::new(),
+            ended: false,
+            alloc,
+        })
+    }
+
+    /// Holds nothing and has seen nothing, where memory was refused half way. Takes no memory.
+    pub(crate) fn forget(&mut self)
+        requires { HasOpening self.old }
+        ensures sound { IsSound self.new }
+        ensures stays { Stays self.old self.new }
+        ensures seen { self.new.seen ≡ self.old.seen }
+    {
+        self.held = HeldBook::new(self.alloc);
+        self.waiting = Waiting::new(self.alloc);
+        self.admission.clear();
+        self.chain = Chain::new(self.alloc);
+        self.ended = false;
+    }
+
+    /// Holds a certificate, of a transaction of which none is held.
+    pub(crate) fn hold(&mut self, new: Held) -> Result<(), OutOfMemory>
+        requires sound { IsSound self.old }
+        requires digest { new.digest ≡ transaction_digest new.cert.tx }
+        requires shape { shape_fault new.cert.tx ≡ None }
+        requires first { is_some (held_of self.old.held new.digest) ≡ false }
+        ensures sound { OnOk result (IsSound self.new) }
+        ensures value { OnOk result (coursed self.new ≡ with_held (coursed self.old) new) }
+        ensures stays { Stays self.old self.new }
+        ensures seen { self.new.seen ≡ self.old.seen }
+    {
+        self.waiting
+            .hold(&self.store, &self.admission, self.held.as_slice(), &new)?;
+        self.held.hold(new)
+    }
+
+    /// Tells the tables of the transactions that were admitted from a place on, which are these.
+    pub(crate) fn let_in(&mut self, from: usize, txs: &[Digest]) -> Result<(), OutOfMemory>
+        requires admitting { IsAdmitting from self.old }
+        requires txs { txs.now ≡ map digest_of_admitted (drop from self.old.admission.admission.admitted) }
+        ensures unbuilt { OnOk result (IsUnbuilt self.new) }
+        ensures value { OnOk result (coursed self.new ≡ coursed self.old) }
+        ensures built { self.new.chain.built ≡ self.old.chain.built }
+        ensures stays { Stays self.old self.new }
+        ensures seen { self.new.seen ≡ self.old.seen }
+    {
+        self.waiting
+            .admit(&self.store, &self.admission, self.held.as_slice(), txs)?;
+        tell(&mut self.chain, &self.held, &self.admission, from)
+    }
+
+    /// Builds the checkpoints of which all transactions are done (Sui Lutris), and answers those that are new.
+    pub(crate) fn advance(&mut self) -> Result<Seq<Checkpoint>, OutOfMemory>
+        requires { IsUnbuilt self.old }
+        ensures sound { OnOk result (IsSound self.new) }
+        ensures value { OnOk result (coursed self.new ≡ coursed self.old) }
+        ensures new { IfOk result (λ new. new ≡ drop (length self.old.chain.built) (built_in (coursed self.new))) }
+        ensures stays { Stays self.old self.new }
+        ensures seen { self.new.seen ≡ self.old.seen }
+    {
+        self.chain.advance(self.epoch, &self.store)
+    }
+
+    /// Executes all held certificates that are ready, round after round (Sui Lutris), and answers their effects in
+    /// order.
+    fn execute(&mut self) -> Result<Seq<Effects>, OutOfMemory>
+        requires { IsSound self.old }
+        ensures unbuilt { OnOk result (IsUnbuilt self.new) }
+        ensures value { OnOk result (coursed self.new ≡ ran (coursed self.old)) }
+        ensures effects { IfOk result (λ effects. effects ≡ map effects_of (rounds (books_of self.old.store self.old.admission.admission self.old.held) self.old.store.executed)) }
+        ensures built { self.new.chain.built ≡ self.old.chain.built }
+        ensures stays { Stays self.old self.new }
+        ensures seen { self.new.seen ≡ self.old.seen }
+    {
+        exec_plan::run(
+            self.alloc,
+            &mut self.store,
+            &self.admission,
+            &mut self.waiting,
+            self.held.as_slice(),
+        )
+    }
+
+    /// Runs, and builds the checkpoints that the run completes: the effects of what was executed, and these.
+    pub(crate) fn run(&mut self) -> Result<(Seq<Effects>, Seq<Checkpoint>), OutOfMemory>
+        requires { IsSound self.old }
+        ensures sound { OnOk result (IsSound self.new) }
+        ensures value { OnOk result (coursed self.new ≡ ran (coursed self.old)) }
+        ensures effects { IfOk result (λ r. r.0 ≡ map effects_of (rounds (books_of self.old.store self.old.admission.admission self.old.held) self.old.store.executed)) }
+        ensures built { IfOk result (λ r. r.1 ≡ newly_built (coursed self.old) (coursed self.new)) }
+        ensures stays { Stays self.old self.new }
+        ensures seen { self.new.seen ≡ self.old.seen }
+    {
+        let effects = self.execute()?;
+        let built = self.advance()?;
+        Ok((effects, built))
+    }
+
+    /// The held certificates that a run left although all that they waited for is executed.
+    pub(crate) fn left(&self) -> Result<Seq<Left>, OutOfMemory>
+        requires { IsSound self.now }
+        ensures { IfOk result (λ all. all ≡ left (books_of self.now.store self.now.admission.admission self.now.held) self.now.store.executed) }
+    {
+        exec_plan::left(
+            self.alloc,
+            &self.store,
+            &self.admission,
+            &self.waiting,
+            self.held.as_slice(),
+        )
+    }
+}

@@ -1,0 +1,83 @@
+//! A chain of checkpoints is told what was admitted.
+
+ghost use Rattle.std.specs.Prelude.{◌≡◌, ◌+◌, ◌<◌, ◌≤◌, IfOk, OnOk, Some, length, option_map, slice_get, take};
+ghost use Rattle.protocol_spec.specs.Chain.Tests.{origins_eq};
+ghost use Rattle.protocol_spec.specs.Member.Admission.{Admitted};
+ghost use Rattle.epoch_turn.specs.Chains.{IsTold, StaysBehind};
+ghost use Rattle.epoch_turn.specs.Dues.{due_of};
+
+use crate::replay::same_origins;
+use chain_messages::Certificate;
+use digest_core::Digest;
+use epoch_turn::{Chain, Due};
+use version_assign::Admission;
+use vote_rules::HeldBook;
+use wire_bcs::OutOfMemory;
+
+/// Whether the certificate that is held of a transaction names the origins of this one.
+fn is_same(held: &HeldBook, tx: &Digest, cert: &Certificate) -> bool
+    ensures { (a : Admitted) → a.digest ≡ tx.now → a.cert ≡ cert.now → result ≡ (due_of held.now a).same }
+{
+    match held.get(tx) {
+        Some(known) => same_origins(known.origins.as_slice(), cert.origins.as_slice()),
+        None => false,
+    }
+}
+
+/// What a chain is told of the transaction that was admitted at a place.
+fn due_at(held: &HeldBook, admission: &Admission, place: usize) -> Option<Due>
+    ensures { result ≡ option_map (due_of held.now) (slice_get admission.now.admission.admitted place) }
+{
+    let tx = admission.admitted_at(place)?;
+    let cert = admission.cert_at(place)?;
+    Some(Due {
+        tx,
+        same: is_same(held, &tx, cert),
+    })
+}
+
+/// Tells the chain of the transaction that was admitted at a place.
+fn tell_one(
+    chain: &mut Chain,
+    held: &HeldBook,
+    admission: &Admission,
+    place: usize,
+) -> Result<(), OutOfMemory>
+    requires there { place < length admission.now.admission.admitted }
+    requires told { IsTold held.now (take place admission.now.admission.admitted) chain.old }
+    ensures told { OnOk result (IsTold held.now (take (place + 1) admission.now.admission.admitted) chain.new) }
+    ensures marks { chain.new.marks ≡ chain.old.marks }
+    ensures past { chain.new.past ≡ chain.old.past }
+    ensures built { chain.new.built ≡ chain.old.built }
+    ensures more { length chain.old.due ≤ length chain.new.due }
+    ensures behind { StaysBehind chain.old chain.new }
+{
+    match due_at(held, admission, place) {
+        Some(due) => chain.admit(due),
+        None => unreachable!(),
+    }
+}
+
+/// Tells the chain of the transactions that were admitted from a place on.
+pub(crate) fn tell(
+    chain: &mut Chain,
+    held: &HeldBook,
+    admission: &Admission,
+    from: usize,
+) -> Result<(), OutOfMemory>
+    requires within { from ≤ length admission.now.admission.admitted }
+    requires told { IsTold held.now (take from admission.now.admission.admitted) chain.old }
+    ensures told { OnOk result (IsTold held.now admission.now.admission.admitted chain.new) }
+    ensures marks { chain.new.marks ≡ chain.old.marks }
+    ensures past { chain.new.past ≡ chain.old.past }
+    ensures built { chain.new.built ≡ chain.old.built }
+    ensures more { length chain.old.due ≤ length chain.new.due }
+    ensures behind { StaysBehind chain.old chain.new }
+{
+    let mut place = from;
+    while place < admission.admitted_count() {
+        tell_one(chain, held, admission, place)?;
+        place += 1;
+    }
+    Ok(())
+}
