@@ -1,7 +1,9 @@
 -- How many at the front of a list pass a test.
 use Rattle.std.proofs.Common.{◌≡◌, ◌∙◌, refl, sym, ap, arith, ℕ, zero, suc, ◌+◌, ◌-◌, ◌<◌, ◌≤◌, Bool, true, false, cond, ◌&&◌, List, [], ◌∷◌, ◌++◌, length, take, drop}
-use Rattle.std.specs.Prelude.{nat_le, nat_lt}
+use Rattle.std.specs.Prelude.{Option, Some, None, find, is_some}
+use Rattle.std.specs.Option.{option_or}
 use Rattle.std.specs.List.{list_all}
+use Rattle.std.proofs.lemmas.List.Folds.{find-append}
 use Rattle.epoch_turn.specs.Dues.{front_length}
 
 pub front_most : {A : Type 0} (test : A → Bool) (xs : List A) → front_length test xs ≤ length xs
@@ -40,3 +42,11 @@ front_behind test (suc n) (x ∷ xs) few = by (test x) few (front_behind test n 
     by : (b : Bool) → suc n ≤ cond b (suc (front_length test xs)) 0 → (n ≤ front_length test xs → n + front_length test (drop n xs) ≡ front_length test xs) → suc n + front_length test (drop n xs) ≡ cond b (suc (front_length test xs)) 0
     by true e more = let m = more (omega (arith, e)) in omega (arith, m)
     by false e more = absurd (omega (arith, e))
+
+-- what is found first is found in a longer list too
+pub found_stays : {A : Type 0} (test : A → Bool) (xs more : List A) → is_some (find test xs) ≡ true → find test (xs ++ more) ≡ find test xs
+found_stays test xs more some = find-append test xs more ∙ first (find test xs) (find test more) some
+  where
+    first : {A : Type 0} (o p : Option A) → is_some o ≡ true → option_or o p ≡ o
+    first None p some = absurd (cc)
+    first (Some x) p some = refl

@@ -69,7 +69,7 @@ drop_nothing : {A : Type 0} (n : ℕ) → drop {A = A} n [] ≡ []
 drop_nothing zero = refl
 drop_nothing (suc n) = refl
 
-drop_more : {A : Type 0} (m n : ℕ) (xs : List A) → drop (m + n) xs ≡ drop n (drop m xs)
+pub drop_more : {A : Type 0} (m n : ℕ) (xs : List A) → drop (m + n) xs ≡ drop n (drop m xs)
 drop_more zero n xs = ap (λ k. drop k xs) (none n)
   where
     none : (n : ℕ) → zero + n ≡ n
@@ -89,6 +89,10 @@ same_front {A} (x ∷ xs) (y ∷ ys) us vs e long =
     let first : x ≡ y = cc in
     let others : xs ++ us ≡ ys ++ vs = cc in
     ap (λ (z : A). z ∷ xs) first ∙ ap (λ (zs : List A). y ∷ zs) (same_front xs ys us vs others (omega (arith, long)))
+
+-- what is cut was admitted
+pub kept_sized : (t : Rows) → IsKept t → size_of (shown t).marks ≤ length (shown t).due
+kept_sized t kept = let sized = kept.sized in let room = kept.room in omega (arith, sized, room)
 
 -- ---- one checkpoint more
 

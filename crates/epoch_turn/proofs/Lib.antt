@@ -1,5 +1,7 @@
+pub mod Behind
 mod Building
 mod Counting
 pub mod Fronts
 pub mod Growing
 mod Marking
+pub mod Told

@@ -1,14 +1,17 @@
 -- What a chain of checkpoints is seen as, and what its calls make of it. Source: Sui Lutris.
-use Rattle.std.specs.Prelude.{ℕ, ◌≤◌, ◌-◌, ◌==◌, Bool, false, List, [], ◌∷◌, ◌++◌, map, take, drop, length, if◌then◌else◌}
+use Rattle.std.specs.Prelude.{◌≡◌, ℕ, ◌≤◌, ◌-◌, ◌==◌, Bool, not, false, List, [], ◌∷◌, ◌++◌, map, take, drop, length, Option, if◌then◌else◌}
 use Rattle.std.specs.List.{list_all}
 use Rattle.digest_core.specs.declared.Digest.{Digest}
 use Rattle.checkpoint_core.specs.declared.checkpoints.Checkpoint.{Checkpoint}
-use Rattle.protocol_spec.specs.Chain.Words.{IsFront, last_of}
+use Rattle.answer_types.specs.declared.answers.Held.{Held}
+use Rattle.protocol_spec.specs.Chain.Words.{IsFront, first_of, last_of, where_true}
 use Rattle.protocol_spec.specs.Member.Versions.{Execution}
-use Rattle.protocol_spec.specs.Member.Checkpoints.{digest_before}
+use Rattle.protocol_spec.specs.Member.Admission.{Admitted}
+use Rattle.protocol_spec.specs.Member.Sequence.{Cut, last_cut}
+use Rattle.protocol_spec.specs.Member.Checkpoints.{chained, digest_before, is_done}
 use Rattle.epoch_turn.specs.declared.due.Due.{Due}
 use Rattle.epoch_turn.specs.declared.due.CutMark.{CutMark}
-use Rattle.epoch_turn.specs.Dues.{is_due_done, due_item, front_length, size_of}
+use Rattle.epoch_turn.specs.Dues.{cuts_of, due_of, is_due_done, due_item, front_length, size_of}
 
 -- The checkpoints of the epochs before, and all that were built; the epoch's admitted transactions, and how many of
 -- them each of its cuts has; and how many at their front were found done.
@@ -73,3 +76,51 @@ advanced epoch executed c = record c { built = due_chain epoch executed c.past c
 pub record IsBehind (epoch : ℕ) (executed : List Execution) (c : Chaining) : Type 0 where
   pub front : IsFront c.built (due_chain epoch executed c.past c.due c.marks)
   pub found : c.done ≤ front_length (is_due_done executed) c.due
+
+-- it is where nothing is admitted yet
+abbrev pub StartsBehind : Chaining → Type 0
+StartsBehind c = (epoch : ℕ) (executed : List Execution) → IsBehind epoch executed c
+
+-- it is whatever else is executed
+abbrev pub IsAhead : ℕ → List Execution → Chaining → Type 0
+IsAhead epoch executed c = (more : List Execution) → IsBehind epoch (executed ++ more) c
+
+-- and it stays so
+abbrev pub StaysBehind : Chaining → Chaining → Type 0
+StaysBehind old new = (epoch : ℕ) (executed : List Execution) → IsBehind epoch executed old → IsBehind epoch executed new
+
+-- ---- what a chain stands for, at a member that has these certificates and executions
+
+-- what it was told are these
+abbrev pub IsTold : List Held → List Admitted → Chaining → Type 0
+IsTold held admitted c = c.due ≡ map (due_of held) admitted
+
+-- the cuts stay where more is admitted
+abbrev pub KeepsCuts : Chaining → Chaining → Type 0
+KeepsCuts old new = (held : List Held) (admitted more : List Admitted) → IsTold held admitted old → cuts_of (admitted ++ more) new.marks ≡ cuts_of admitted old.marks
+
+-- what was admitted since the last cut makes these
+abbrev pub AddsCuts : (List Admitted → List Cut) → Chaining → Chaining → Type 0
+AddsCuts made old new = (held : List Held) (admitted : List Admitted) → IsTold held admitted old → cuts_of admitted new.marks ≡ cuts_of admitted old.marks ++ made (drop (size_of old.marks) admitted)
+
+abbrev pub cuts_with : Bool → List Admitted → List Cut
+cuts_with last txs = record { txs = txs; last = last } ∷ []
+
+abbrev pub last_cuts : List Admitted → List Cut
+last_cuts txs = last_cut txs ∷ []
+
+-- all is built that can be, and found done that is
+pub record IsBuilt (epoch : ℕ) (held : List Held) (executed : List Execution) (admitted : List Admitted) (c : Chaining) : Type 0 where
+  pub told : IsTold held admitted c
+  pub built : c.built ≡ chained epoch held executed c.past (cuts_of admitted c.marks)
+  pub found : c.done ≡ front_length (is_done held executed) admitted
+
+abbrev pub BuildsAll : ℕ → List Execution → Chaining → Type 0
+BuildsAll epoch executed c = (held : List Held) (admitted : List Admitted) → IsTold held admitted c → IsBuilt epoch held executed admitted c
+
+-- the first admitted transaction that is not done
+abbrev pub waiting_one : List Held → List Execution → Admitted → Option Digest
+waiting_one held executed a = where_true (not (is_done held executed a)) a.digest
+
+abbrev pub FindsFirst : Option Digest → Chaining → Type 0
+FindsFirst answer c = (epoch : ℕ) (held : List Held) (executed : List Execution) (admitted : List Admitted) → IsBuilt epoch held executed admitted c → answer ≡ first_of (waiting_one held executed) admitted

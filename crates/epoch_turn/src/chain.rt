@@ -1,12 +1,9 @@
 //! The chain, and what it answers.
 
-ghost use Rattle.std.specs.Prelude.{◌≡◌, List, IfOk, OnErr, OnOk, drop, false, length, map, option_map, slice_get, true};
-ghost use Rattle.answer_types.specs.declared.answers.Held.{Held};
+ghost use Rattle.std.specs.Prelude.{◌≡◌, IfOk, OnErr, OnOk, drop, length, option_map, slice_get, true};
 ghost use Rattle.checkpoint_core.specs.Checkpoints.{transactions_in};
-ghost use Rattle.protocol_spec.specs.Member.Admission.{Admitted};
-ghost use Rattle.protocol_spec.specs.Member.Checkpoints.{chained};
-ghost use Rattle.epoch_turn.specs.Chains.{IsBehind, advanced, nothing_built, tx_of, turned, with_cut, with_due, with_mark};
-ghost use Rattle.epoch_turn.specs.Dues.{cuts_of, due_of};
+ghost use Rattle.protocol_spec.specs.Member.Sequence.{cut_of};
+ghost use Rattle.epoch_turn.specs.Chains.{AddsCuts, BuildsAll, FindsFirst, IsAhead, IsBehind, KeepsCuts, StartsBehind, StaysBehind, advanced, last_cuts, nothing_built, turned, tx_of, with_cut, with_due, with_mark};
 
 use crate::due::Due;
 use crate::rows::Rows;
@@ -39,7 +36,8 @@ impl Model for Chain {
 impl Chain {
     /// Nothing built, in epoch 0. Takes no memory.
     pub fn new(alloc: Global) -> Chain
-        ensures { result ≡ nothing_built }
+        ensures value { result ≡ nothing_built }
+        ensures behind { StartsBehind result }
     {
         Chain {
             rows: Rows::new(alloc),
@@ -50,6 +48,8 @@ impl Chain {
     /// Tells what was admitted next. A refusal changes nothing.
     pub fn admit(&mut self, due: Due) -> Result<(), OutOfMemory>
         ensures ok { OnOk result (self.new ≡ with_due self.old due) }
+        ensures cuts { OnOk result (KeepsCuts self.old self.new) }
+        ensures behind { StaysBehind self.old self.new }
         ensures err { OnErr result (self.new ≡ self.old) }
     {
         self.rows.admit(due)
@@ -59,6 +59,8 @@ impl Chain {
     /// changes nothing.
     pub fn mark(&mut self) -> Result<(), OutOfMemory>
         ensures ok { OnOk result (self.new ≡ with_mark self.old) }
+        ensures cuts { OnOk result (AddsCuts cut_of self.old self.new) }
+        ensures behind { StaysBehind self.old self.new }
         ensures err { OnErr result (self.new ≡ self.old) }
     {
         self.rows.mark()
@@ -68,6 +70,8 @@ impl Chain {
     /// changes nothing.
     pub fn end(&mut self) -> Result<(), OutOfMemory>
         ensures ok { OnOk result (self.new ≡ with_cut true self.old) }
+        ensures cuts { OnOk result (AddsCuts last_cuts self.old self.new) }
+        ensures behind { StaysBehind self.old self.new }
         ensures err { OnErr result (self.new ≡ self.old) }
     {
         self.rows.cut(true)
@@ -78,6 +82,8 @@ impl Chain {
     pub fn advance(&mut self, epoch: u64, store: &Store) -> Result<Seq<Checkpoint>, OutOfMemory>
         requires { IsBehind epoch store.now.executed self.old }
         ensures ok { OnOk result (self.new ≡ advanced epoch store.now.executed self.old) }
+        ensures all { OnOk result (BuildsAll epoch store.now.executed self.new) }
+        ensures behind { OnOk result (IsAhead epoch store.now.executed self.new) }
         ensures new { IfOk result (λ new. new ≡ drop (length self.old.built) self.new.built) }
         ensures err { OnErr result (self.new ≡ self.old) }
     {
@@ -86,12 +92,10 @@ impl Chain {
 
     /// The first admitted transaction that was not found done; none exactly where all were. Takes no memory.
     pub fn waits(&self) -> Option<Digest>
-        ensures { result ≡ option_map tx_of (slice_get self.now.due self.now.done) }
+        ensures value { result ≡ option_map tx_of (slice_get self.now.due self.now.done) }
+        ensures first { FindsFirst result self.now }
     {
-        match self.rows.due.get(self.rows.done) {
-            Some(due) => Some(due.tx),
-            None => None,
-        }
+        self.rows.waits()
     }
 
     /// The number of checkpoints built, over all epochs. Takes no memory.
@@ -117,7 +121,8 @@ impl Chain {
 
     /// Goes to the next epoch, in which nothing is admitted yet. Takes no memory.
     pub fn turn(&mut self)
-        ensures { self.new ≡ turned self.old }
+        ensures value { self.new ≡ turned self.old }
+        ensures behind { StartsBehind self.new }
     {
         self.rows.turn();
     }

@@ -1,7 +1,8 @@
 //! The tables of a chain.
 
-ghost use Rattle.std.specs.Prelude.{◌≡◌, ◌≤◌, [], IfOk, OnErr, OnOk, drop, false, length, true};
-ghost use Rattle.epoch_turn.specs.Chains.{IsBehind, advanced, nothing_built, turned, with_cut, with_due, with_mark};
+ghost use Rattle.std.specs.Prelude.{◌≡◌, ◌≤◌, IfOk, OnErr, OnOk, drop, false, length, option_map, slice_get};
+ghost use Rattle.protocol_spec.specs.Member.Sequence.{cut_of};
+ghost use Rattle.epoch_turn.specs.Chains.{AddsCuts, BuildsAll, IsAhead, IsBehind, KeepsCuts, StartsBehind, StaysBehind, advanced, cuts_with, nothing_built, turned, tx_of, with_cut, with_due, with_mark};
 ghost use Rattle.epoch_turn.specs.Dues.{front_length, is_due_done};
 ghost use Rattle.epoch_turn.specs.Kept.{IsKept, Keeps, Takes, growth_of, shown};
 
@@ -36,6 +37,7 @@ impl Rows {
     pub(crate) fn new(alloc: Global) -> Rows
         ensures kept { IsKept result }
         ensures value { shown result ≡ nothing_built }
+        ensures behind { StartsBehind (shown result) }
     {
         Rows {
             items: Vec::new(alloc),
@@ -59,6 +61,8 @@ impl Rows {
         requires { IsKept self.old }
         ensures kept { IsKept self.new }
         ensures ok { OnOk result (shown self.new ≡ with_due (shown self.old) due) }
+        ensures cuts { OnOk result (KeepsCuts (shown self.old) (shown self.new)) }
+        ensures behind { StaysBehind (shown self.old) (shown self.new) }
         ensures err { OnErr result (shown self.new ≡ shown self.old) }
     {
         self.due.push(due)?;
@@ -70,6 +74,8 @@ impl Rows {
         requires { IsKept self.old }
         ensures kept { IsKept self.new }
         ensures ok { OnOk result (shown self.new ≡ with_cut last (shown self.old)) }
+        ensures cuts { OnOk result (AddsCuts (cuts_with last) (shown self.old) (shown self.new)) }
+        ensures behind { StaysBehind (shown self.old) (shown self.new) }
         ensures err { OnErr result (shown self.new ≡ shown self.old) }
     {
         let size = self.due.len() - self.cut;
@@ -83,6 +89,8 @@ impl Rows {
         requires { IsKept self.old }
         ensures kept { IsKept self.new }
         ensures ok { OnOk result (shown self.new ≡ with_mark (shown self.old)) }
+        ensures cuts { OnOk result (AddsCuts cut_of (shown self.old) (shown self.new)) }
+        ensures behind { StaysBehind (shown self.old) (shown self.new) }
         ensures err { OnErr result (shown self.new ≡ shown self.old) }
     {
         if self.cut == self.due.len() {
@@ -91,11 +99,22 @@ impl Rows {
         self.cut(false)
     }
 
+    /// The first admitted transaction that was not found done.
+    pub(crate) fn waits(&self) -> Option<Digest>
+        ensures { result ≡ option_map tx_of (slice_get (shown self.now).due (shown self.now).done) }
+    {
+        match self.due.get(self.done) {
+            Some(due) => Some(due.tx),
+            None => None,
+        }
+    }
+
     /// Goes to the next epoch.
     pub(crate) fn turn(&mut self)
         requires { IsKept self.old }
         ensures kept { IsKept self.new }
         ensures value { shown self.new ≡ turned (shown self.old) }
+        ensures behind { StartsBehind (shown self.new) }
     {
         self.opened = self.items.len();
         self.tip.cuts = 0;
@@ -163,6 +182,8 @@ impl Rows {
         requires behind { IsBehind epoch store.now.executed (shown self.old) }
         ensures kept { IsKept self.new }
         ensures ok { OnOk result (shown self.new ≡ advanced epoch store.now.executed (shown self.old)) }
+        ensures all { OnOk result (BuildsAll epoch store.now.executed (shown self.new)) }
+        ensures behind { OnOk result (IsAhead epoch store.now.executed (shown self.new)) }
         ensures new { IfOk result (λ new. new ≡ drop (length (shown self.old).built) (shown self.new).built) }
         ensures err { OnErr result (shown self.new ≡ shown self.old) }
     {

@@ -1,9 +1,30 @@
-use Rattle.std.proofs.Common.{arith, ap, sym, ◌∙◌, ◌≡◌, ◌+◌, ◌-◌, ◌≤◌, length, length-append, take, List, [], ◌∷◌, ◌++◌}
+use Rattle.std.proofs.Common.{arith, ap, subst, sym, ◌∙◌, ◌≡◌, ◌+◌, ◌-◌, ◌≤◌, length, length-append, take, List, [], ◌∷◌, ◌++◌}
 use Rattle.std.proofs.lemmas.List.{take-append-le}
 use Rattle.epoch_turn.specs.declared.due.CutMark.{CutMark}
-use Rattle.epoch_turn.specs.Dues.{size_of}
+use Rattle.epoch_turn.specs.Chains.{Chaining, IsBehind, uncut, with_cut}
+use Rattle.epoch_turn.specs.Dues.{cuts_of, size_of}
+use Rattle.epoch_turn.specs.Kept.{shown}
+use Rattle.epoch_turn.proofs.Behind.{behind_cut}
 use Rattle.epoch_turn.proofs.Growing.{sizes_more}
+use Rattle.epoch_turn.proofs.Told.{adds_cuts}
 use Rattle.epoch_turn.proofs.rows.Rows.cut.Goals as goal
+
+marks_are : (c : goal.After-self-1) → c.push.new.self.items ≡ (with_cut c.args.last (shown c.args.self.now)).marks
+marks_are c =
+    let len = c.len.ensures in
+    let ok = c.args.self.now.due.ok.0 in
+    let sized = c.requires.sized in
+    let size : c.len.result - c.args.self.now.cut ≡ uncut (shown c.args.self.now) = omega (arith, len, ok, sized) in
+    c.in_ok-push.ensures.items ∙ ap (λ n. c.args.self.now.marks.items ++ record { size = n; last = c.args.last } ∷ []) size
+
+pub returns-clause-cuts : goal.returns-clause-cuts
+returns-clause-cuts c held admitted told = ap (cuts_of admitted) (marks_are c) ∙ adds_cuts c.args.last (shown c.args.self.now) held admitted told
+
+pub returns-clause-behind : goal.returns-clause-behind
+returns-clause-behind c epoch executed behind =
+    let old : Chaining = shown c.args.self.now in
+    let seen : List CutMark → Chaining = λ marks. record { past = old.past; built = old.built; due = old.due; marks = marks; done = old.done } in
+    subst (λ (ms : List CutMark). IsBehind epoch executed (seen ms)) (sym (marks_are c)) (behind_cut epoch executed old c.args.last behind)
 
 pub returns-clause-kept : goal.returns-clause-kept
 returns-clause-kept c =
