@@ -7,7 +7,7 @@ use Rattle.std.proofs.lemmas.Cmp.{nat_eq_equiv}
 use Rattle.std.proofs.lemmas.Map.Keys.{IsDistinct-push}
 use Rattle.std.proofs.lemmas.Map.Steps.{length-le_from_distinct_below}
 use Rattle.quorum_core.specs.Committee.{is_among, all_known}
-use Rattle.epoch_turn.specs.Ends.{IsCount}
+use Rattle.epoch_turn.specs.Ends.{IsCount, greatest}
 
 turned : (members : List ℕ) (member : ℕ) → list_any (nat_eq member) members ≡ is_among members member
 turned [] member = refl
@@ -31,20 +31,20 @@ below stakes (m ∷ ms) q known found =
 
 pub nobody : IsCount 0 []
 unfolding IsDistinct
-nobody = record { many = refl; once = tt }
+nobody = record { many = refl; once = tt; known = refl }
 
 -- one more member that was not counted
-pub one_more : (count : ℕ) (members : List ℕ) (member : ℕ) → is_among members member ≡ false → IsCount count members → IsCount (count + 1) (members ++ member ∷ [])
-one_more count members member new is = record {
+pub one_more : (count : ℕ) (members : List ℕ) (member : ℕ) → is_among members member ≡ false → member < 64 → IsCount count members → IsCount (count + 1) (members ++ member ∷ [])
+one_more count members member new less is = record {
   many = let l = length-append members (member ∷ []) in let m = is.many in omega (arith, l, m);
   once = IsDistinct-push nat_eq_equiv members member is.once (turned members member ∙ new);
+  known = one_known greatest members member less is.known;
 }
 
 -- there is room for it
-pub has_room : (stakes members : List ℕ) (member : ℕ) → IsDistinct nat_eq members → length stakes ≤ 64 → member < length stakes → all_known stakes members ≡ true
-    → is_among members member ≡ false → length members < 64
-has_room stakes members member once few less known new =
-    let more = one_more (length members) members member new (record { many = refl; once = once }) in
-    let most = length-le_from_distinct_below (members ++ member ∷ []) (length stakes) more.once (λ q. below stakes (members ++ member ∷ []) q (one_known stakes members member less known)) in
-    let m = more.many in
-    omega (arith, most, m, few)
+pub has_room : (members : List ℕ) (member : ℕ) → IsDistinct nat_eq members → all_known greatest members ≡ true → member < 64 → is_among members member ≡ false → length members < 64
+has_room members member once known less new =
+    let more = one_more (length members) members member new less (record { many = refl; once = once; known = known }) in
+    let most = length-le_from_distinct_below (members ++ member ∷ []) 64 more.once (λ q. below greatest (members ++ member ∷ []) q more.known) in
+    let l = length-append members (member ∷ []) in
+    omega (arith, most, l)

@@ -316,7 +316,7 @@ module _ (epoch : ℕ) (executed : List Execution) (old new : Rows) (done : ℕ)
       let tip : new.tip.taken ≡ old.tip.taken + size_of (take all.many (drop old.tip.cuts old.marks.items)) = ap (λ (t : Tip). t.taken) takes.tip ∙ all.taken in
       let both = sizes_take old.tip.cuts all.many old.marks.items in
       let marks : size_of (take new.tip.cuts new.marks.items) ≡ size_of (take (old.tip.cuts + all.many) old.marks.items) =
-          ap (λ n. size_of (take n new.marks.items)) cut_more ∙ ap (λ (ms : List CutMark). size_of (take (old.tip.cuts + all.many) ms)) takes.marks in
+      ap (λ n. size_of (take n new.marks.items)) cut_more ∙ ap (λ (ms : List CutMark). size_of (take (old.tip.cuts + all.many) ms)) takes.marks in
       omega (arith, old_taken, tip, both, marks)
 
   pub all_kept : done ≡ front_length (is_due_done executed) old.due.items → IsKept new

@@ -3,7 +3,7 @@
 ghost use Rattle.std.specs.Prelude.{◌≡◌, ◌<◌, ◌≤◌, ◌∷◌, ◌++◌, [], false, length, nat_eq, true};
 ghost use Rattle.std.specs.List.{IsDistinct};
 ghost use Rattle.quorum_core.specs.Committee.{all_known, is_among, total_of};
-ghost use Rattle.epoch_turn.specs.Ends.{counted_after, said_of_end, said_of_weight};
+ghost use Rattle.epoch_turn.specs.Ends.{counted_after, greatest, said_of_end, said_of_weight};
 
 use quorum_core::Committee;
 use std::marker::Model;
@@ -61,10 +61,12 @@ impl EndCount {
         }
     }
 
-    /// The members counted, in the order of counting, none of them twice. Takes no memory.
+    /// The members counted, in the order of counting, none of them twice, each of them known in the greatest committee.
+    /// Takes no memory.
     pub fn as_slice(&self) -> &[u32]
         ensures value { result.now ≡ self.now }
         ensures once { IsDistinct nat_eq result.now }
+        ensures known { all_known greatest result.now ≡ true }
     {
         &self.members[..self.count as usize]
     }
@@ -72,6 +74,7 @@ impl EndCount {
     /// Puts a member behind the others. Takes no memory.
     fn push(&mut self, member: u32)
         requires room { length self.old < 64 }
+        requires low { member < 64 }
         requires new { is_among self.old member ≡ false }
         ensures { self.new ≡ self.old ++ member ∷ [] }
     {
@@ -80,11 +83,10 @@ impl EndCount {
     }
 
     /// Counts a member that said End, unless it was counted before: the epoch ends where those counted are a quorum
-    /// with it (Sui Lutris). The committee knows the member and those counted before. Takes no memory.
+    /// with it (Sui Lutris). The committee knows the member. Takes no memory.
     #[tactic(auto, using(crate::proofs::Counting::has_room))]
     pub fn count(&mut self, committee: &Committee, member: u32) -> Counted
         requires known { member < length committee.now }
-        requires before { all_known committee.now self.old ≡ true }
         ensures counted { self.new ≡ counted_after self.old member }
         ensures answer { result ≡ said_of_end committee.now self.old member }
     {

@@ -5,7 +5,7 @@ ghost use Rattle.protocol_spec.specs.Chain.Words.{repeats};
 ghost use Rattle.protocol_spec.specs.Chain.Keys.{objects_of};
 ghost use Rattle.protocol_spec.specs.Chain.Shape.{shape_fault};
 ghost use Rattle.chain_types.specs.Equal.{id_eq};
-ghost use Rattle.protocol_spec.specs.Member.Admission.{Admitted, assigned_of, deferred_on, digest_of_admitted, is_known, pending_on};
+ghost use Rattle.protocol_spec.specs.Member.Admission.{Admitted, assigned_of, cert_of, deferred_on, digest_of_admitted, is_known, nothing_admitted, pending_on};
 ghost use Rattle.version_assign.specs.Calls.{admitted_since, dropped_since, id_of, opened, uncut, version_of, with_cut, with_entry, with_mark};
 
 use crate::book::Book;
@@ -180,5 +180,19 @@ impl Admission {
         ensures { result ≡ option_map digest_of_admitted (slice_get self.now.admission.admitted place) }
     {
         self.book.admitted_at(place)
+    }
+
+    /// The certificate with which the transaction at a place was admitted, from 0. Takes no memory.
+    pub fn cert_at(&self, place: usize) -> Option<&Certificate>
+        ensures { option_map (λ (c : _). c.now) result ≡ option_map cert_of (slice_get self.now.admission.admitted place) }
+    {
+        self.book.cert_at(place)
+    }
+
+    /// Goes back to where no entry of the epoch was seen. Takes no memory.
+    pub fn clear(&mut self)
+        ensures { self.new ≡ record self.old { admission = nothing_admitted } }
+    {
+        self.book.clear(self.alloc);
     }
 }

@@ -2,12 +2,13 @@
 
 ghost use Rattle.std.specs.Prelude.{◌≡◌, Some, None, option_map, position, slice_get};
 ghost use Rattle.chain_types.specs.Equal.{digest_eq};
-ghost use Rattle.protocol_spec.specs.Member.Admission.{assigned_of, deferred_by, deferred_on, digest_of_admitted, pending_certificate, pending_on};
+ghost use Rattle.protocol_spec.specs.Member.Admission.{assigned_of, cert_of, deferred_by, deferred_on, digest_of_admitted, pending_certificate, pending_on};
 ghost use Rattle.version_assign.specs.Books.{IsKept, admission_of, placed};
 ghost use Rattle.version_assign.specs.Calls.{version_of};
 
 use crate::book::{Book, Row};
 use answer_types::{Assigned, Held};
+use chain_messages::Certificate;
 use chain_types::ObjectId;
 use digest_core::Digest;
 use wire_bcs::Seq;
@@ -104,6 +105,16 @@ impl Book {
     {
         match self.admitted.get_index(place) {
             Some((tx, _)) => Some(*tx),
+            None => None,
+        }
+    }
+
+    /// The certificate with which the transaction at a place was admitted.
+    pub(crate) fn cert_at(&self, place: usize) -> Option<&Certificate>
+        ensures { option_map (λ (c : _). c.now) result ≡ option_map cert_of (slice_get (admission_of self.now).admitted place) }
+    {
+        match self.admitted.get_index(place) {
+            Some((_, admit)) => Some(&admit.cert),
             None => None,
         }
     }

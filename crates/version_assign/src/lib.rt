@@ -14,6 +14,7 @@ mod book;
 mod entries;
 mod laws;
 mod lines;
+mod renewing;
 mod shared;
 mod taken;
 

@@ -11,4 +11,4 @@ invariant_of-self c =
     let row = c.self.inside.members in
     let count = c.self.inside.count in
     let same : take (count + 1) (slice_set row count c.args.member) ≡ take count row ++ c.args.member ∷ [] = search (arith, common_steps) in
-    subst (IsCount (count + 1)) (sym same) (one_more count (take count row) c.args.member (ap (λ ms. is_among ms c.args.member) c.self.view_is ∙ c.requires.new) c.self.invariant)
+    subst (IsCount (count + 1)) (sym same) (one_more count (take count row) c.args.member (ap (λ ms. is_among ms c.args.member) c.self.view_is ∙ c.requires.new) c.requires.low c.self.invariant)

@@ -1,0 +1,27 @@
+//! An epoch's admission from its beginning once more.
+
+ghost use Rattle.std.specs.Prelude.{◌≡◌};
+ghost use Rattle.protocol_spec.specs.Member.Admission.{nothing_admitted};
+ghost use Rattle.version_assign.specs.Books.{IsKept, shown};
+
+use crate::book::Book;
+use indexmap::{IndexMap, IndexSet};
+use std::alloc::Global;
+
+impl Book {
+    /// Leaves the opening and the limit, and nothing else.
+    pub(crate) fn clear(&mut self, alloc: Global)
+        requires { IsKept self.old }
+        ensures kept { IsKept self.new }
+        ensures value { shown self.new ≡ record (shown self.old) { admission = nothing_admitted } }
+    {
+        self.rows = Vec::new(alloc);
+        self.known = IndexSet::new(alloc);
+        self.admitted = IndexMap::new(alloc);
+        self.dropped = Vec::new(alloc);
+        self.marked = 0;
+        self.waiting = 0;
+        self.low = 0;
+        self.lines = IndexMap::new(alloc);
+    }
+}
