@@ -1,6 +1,6 @@
 -- What was built stays a front of what can be, as more is admitted, cut and executed.
-use Rattle.std.proofs.Common.{◌≡◌, ◌∙◌, refl, sym, ap, subst, arith, ℕ, zero, suc, ◌+◌, ◌-◌, ◌<◌, ◌≤◌, Bool, true, false, cond, ◌&&◌, List, [], ◌∷◌, ◌++◌, length, take, drop, length-drop, append_assoc, append-nil}
-use Rattle.std.specs.Prelude.{Option, Some, None, find, is_some, map}
+use Rattle.std.proofs.Common.{◌≡◌, ◌∙◌, refl, sym, ap, subst, arith, ℕ, suc, ◌≤◌, Bool, true, false, cond, List, [], ◌∷◌, ◌++◌, length, take, drop, length-drop, append_assoc, append-nil}
+use Rattle.std.specs.Prelude.{Option, is_some, map}
 use Rattle.std.specs.List.{list_all}
 use Rattle.std.proofs.lemmas.Bool.{and_from, and_parts, cond-true}
 use Rattle.std.proofs.lemmas.List.{drop-append-le, take-append-le}
@@ -62,11 +62,12 @@ chain_executed epoch executed more before due (m ∷ ms) = by (list_all (is_due_
         → IsFront (cond b (due_chain epoch executed next (drop m.size due) ms) before) whole
     by false e rest = chain_front epoch (executed ++ more) before due (m ∷ ms)
     by true e (rest, is) =
-        let made : List Item → List Checkpoint = λ items. before ++ record { epoch = epoch; number = length before; parent = digest_before (last_of before); items = items; last = m.last } ∷ [] in
-        (rest,
-            cond-true (list_all (is_due_done (executed ++ more)) txs) (due_chain epoch (executed ++ more) (made (map (due_item (executed ++ more)) txs)) (drop m.size due) ms) before (all_stay executed more txs e)
-            ∙ ap (λ (items : List Item). due_chain epoch (executed ++ more) (made items) (drop m.size due) ms) (items_stay executed more txs e)
-            ∙ is)
+        let made : List Item → List Checkpoint = λ items. before ++ record { epoch = epoch; number = length before; parent = digest_before (last_of before); items = items; last = m.last } ∷ [] in (
+          rest,
+          cond-true (list_all (is_due_done (executed ++ more)) txs) (due_chain epoch (executed ++ more) (made (map (due_item (executed ++ more)) txs)) (drop m.size due) ms) before (all_stay executed more txs e)
+              ∙ ap (λ (items : List Item). due_chain epoch (executed ++ more) (made items) (drop m.size due) ms) (items_stay executed more txs e)
+              ∙ is,
+        )
 
 front_executed : (executed more : List Execution) (due : List Due) → front_length (is_due_done executed) due ≤ front_length (is_due_done (executed ++ more)) due
 front_executed executed more [] = omega arith

@@ -1,13 +1,13 @@
 -- A chain goes on from what was built of it.
-use Rattle.std.proofs.Common.{◌≡◌, ◌∙◌, refl, sym, ap, subst, arith, ℕ, zero, suc, ◌+◌, ◌-◌, ◌<◌, ◌≤◌, Bool, true, false, cond, List, [], ◌∷◌, ◌++◌, length, take, drop, length-append, length-take-le, length-drop, append_assoc, append-nil}
-use Rattle.std.specs.Prelude.{Option, Some, None, map}
+use Rattle.std.proofs.Common.{◌≡◌, ◌∙◌, refl, sym, ap, subst, arith, ℕ, zero, suc, ◌+◌, ◌-◌, ◌≤◌, Bool, true, false, cond, List, [], ◌∷◌, ◌++◌, length, take, drop, length-append, length-take-le, length-drop, append_assoc, append-nil}
+use Rattle.std.specs.Prelude.{Some, map}
 use Rattle.std.specs.List.{list_all}
 use Rattle.std.proofs.lemmas.Bool.{cond-true}
 use Rattle.std.proofs.lemmas.List.{take-append-le}
 use Rattle.std.proofs.lemmas.List.Sums.{sum_by-append}
 use Rattle.digest_core.specs.declared.Digest.{Digest}
 use Rattle.checkpoint_core.specs.declared.checkpoints.Checkpoint.{Checkpoint}
-use Rattle.checkpoint_core.specs.Checkpoints.{digest_of_checkpoint, transactions_in}
+use Rattle.checkpoint_core.specs.Checkpoints.{digest_of_checkpoint}
 use Rattle.protocol_spec.specs.Chain.Words.{IsFront, last_of}
 use Rattle.protocol_spec.specs.Member.Versions.{Execution}
 use Rattle.protocol_spec.specs.Member.Checkpoints.{digest_before}
@@ -316,7 +316,7 @@ module _ (epoch : ℕ) (executed : List Execution) (old new : Rows) (done : ℕ)
       let tip : new.tip.taken ≡ old.tip.taken + size_of (take all.many (drop old.tip.cuts old.marks.items)) = ap (λ (t : Tip). t.taken) takes.tip ∙ all.taken in
       let both = sizes_take old.tip.cuts all.many old.marks.items in
       let marks : size_of (take new.tip.cuts new.marks.items) ≡ size_of (take (old.tip.cuts + all.many) old.marks.items) =
-          ap (λ n. size_of (take n new.marks.items)) cut_more ∙ ap (λ (ms : List CutMark). size_of (take (old.tip.cuts + all.many) ms)) takes.marks in
+      ap (λ n. size_of (take n new.marks.items)) cut_more ∙ ap (λ (ms : List CutMark). size_of (take (old.tip.cuts + all.many) ms)) takes.marks in
       omega (arith, old_taken, tip, both, marks)
 
   pub all_kept : done ≡ front_length (is_due_done executed) old.due.items → IsKept new

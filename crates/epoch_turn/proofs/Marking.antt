@@ -1,5 +1,5 @@
 -- One cut after the other.
-use Rattle.std.proofs.Common.{◌≡◌, ◌∙◌, refl, sym, ap, subst, arith, ℕ, zero, suc, ◌+◌, ◌-◌, ◌<◌, ◌≤◌, Bool, true, false, cond, List, [], ◌∷◌, ◌++◌, length, take, drop, length-drop}
+use Rattle.std.proofs.Common.{◌≡◌, ◌∙◌, refl, sym, ap, arith, ℕ, suc, ◌+◌, ◌-◌, ◌<◌, ◌≤◌, Bool, true, false, cond, List, [], ◌∷◌, length, take, drop, length-drop}
 use Rattle.std.specs.Prelude.{slice_index_or}
 use Rattle.std.specs.List.{list_all}
 use Rattle.std.proofs.Math.Seq.{take-length}
@@ -49,7 +49,7 @@ module _ (epoch : ℕ) (executed : List Execution) where
       ∙ ap (λ x. grown_all epoch executed x (drop m.size left) ms) n
       ∙ ap (λ ds. grown_all epoch executed (grown epoch executed g ds m.last) (drop m.size left) ms) t
       ∙ sym (cond-true (list_all (is_due_done executed) (take m.size left)) (grown_all epoch executed (grown epoch executed g (take m.size left) m.last) (drop m.size left) ms) g
-          (front_passes (is_due_done executed) m.size left (omega (arith, less, is))))
+      (front_passes (is_due_done executed) m.size left (omega (arith, less, is))))
       ∙ w
 
   pub still_ready : (ready : ℕ) (left back : List Due) (rest : List CutMark) → ready ≡ front_length (is_due_done executed) left → (first_of_marks rest).size ≤ ready

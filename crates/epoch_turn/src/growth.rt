@@ -65,7 +65,10 @@ fn collect_items(alloc: Global, store: &Store, txs: &[Due]) -> Result<Seq<Item>,
     let mut rest = txs;
     while let [one, after @ ..] = rest {
         let effects = effects_digest_in(alloc, store, &one.tx)?;
-        items.push(Item { tx: one.tx, effects })?;
+        items.push(Item {
+            tx: one.tx,
+            effects,
+        })?;
         rest = after;
     }
     Ok(items)
@@ -106,7 +109,10 @@ impl Tip {
         ensures { IfOk result (λ tip. tip ≡ tip_after self.now size digest) }
     {
         let number = self.number.checked_add(1).ok_or(OutOfMemory)?;
-        let transactions = self.transactions.checked_add(size as u64).ok_or(OutOfMemory)?;
+        let transactions = self
+            .transactions
+            .checked_add(size as u64)
+            .ok_or(OutOfMemory)?;
         let cuts = self.cuts.checked_add(1).ok_or(OutOfMemory)?;
         let taken = self.taken.checked_add(size).ok_or(OutOfMemory)?;
         Ok(Tip {
