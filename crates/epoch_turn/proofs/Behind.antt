@@ -1,6 +1,6 @@
 -- What was built stays a front of what can be, as more is admitted, cut and executed.
-use Rattle.std.proofs.Common.{◌≡◌, ◌∙◌, refl, sym, ap, subst, arith, ℕ, zero, suc, ◌+◌, ◌-◌, ◌<◌, ◌≤◌, Bool, true, false, cond, ◌&&◌, List, [], ◌∷◌, ◌++◌, length, take, drop, length-drop, append_assoc, append-nil}
-use Rattle.std.specs.Prelude.{Option, Some, None, find, is_some, map}
+use Rattle.std.proofs.Common.{◌≡◌, ◌∙◌, refl, sym, ap, subst, arith, ℕ, suc, ◌≤◌, Bool, true, false, cond, List, [], ◌∷◌, ◌++◌, length, take, drop, length-drop, append_assoc, append-nil}
+use Rattle.std.specs.Prelude.{Option, is_some, map}
 use Rattle.std.specs.List.{list_all}
 use Rattle.std.proofs.lemmas.Bool.{and_from, and_parts, cond-true}
 use Rattle.std.proofs.lemmas.List.{drop-append-le, take-append-le}

@@ -1,8 +1,7 @@
 -- One checkpoint more.
-use Rattle.std.proofs.Common.{◌≡◌, ◌∙◌, refl, sym, ap, arith, ℕ, suc, ◌<◌, List, [], ◌∷◌, ◌++◌, Option, Some, None, option_map, length, append_assoc, append-nil}
+use Rattle.std.proofs.Common.{◌≡◌, ◌∙◌, refl, sym, ap, suc, ◌<◌, List, [], ◌∷◌, ◌++◌, Option, Some, None, option_map, length, append_assoc, append-nil}
 use Rattle.std.specs.Prelude.{map}
 use Rattle.wire_bcs.specs.Digests.{digest}
-use Rattle.digest_core.specs.declared.Digest.{Digest}
 use Rattle.effects_core.specs.declared.effects.Effects.{Effects}
 use Rattle.effects_core.specs.Effects.{digest_of_effects}
 use Rattle.checkpoint_core.specs.declared.checkpoints.Item.{Item}

@@ -1,5 +1,5 @@
 -- What a chain looks at of admitted transactions and of their cuts. Source: Sui Lutris.
-use Rattle.std.specs.Prelude.{ℕ, suc, ◌+◌, Bool, ◌&&◌, List, [], ◌∷◌, map, take, drop, if◌then◌else◌}
+use Rattle.std.specs.Prelude.{ℕ, suc, ◌+◌, Bool, ◌&&◌, List, [], ◌∷◌, take, drop, if◌then◌else◌}
 use Rattle.checkpoint_core.specs.declared.checkpoints.Item.{Item}
 use Rattle.answer_types.specs.declared.answers.Held.{Held}
 use Rattle.protocol_spec.specs.Member.Versions.{Execution, execution_of, is_executed}

@@ -1,4 +1,4 @@
-use Rattle.std.proofs.Common.{arith, sym, ◌∙◌}
+use Rattle.std.proofs.Common.{sym, ◌∙◌}
 use Rattle.epoch_turn.proofs.Marking.{goes_on, still_ready, still_sized, stops}
 use Rattle.epoch_turn.proofs.growth.Growth.add_all.Goals as goal
 

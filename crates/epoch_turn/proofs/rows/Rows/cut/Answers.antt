@@ -1,4 +1,4 @@
-use Rattle.std.proofs.Common.{arith, ap, subst, sym, ◌∙◌, ◌≡◌, ◌+◌, ◌-◌, ◌≤◌, length, length-append, take, List, [], ◌∷◌, ◌++◌}
+use Rattle.std.proofs.Common.{arith, ap, subst, sym, ◌∙◌, ◌≡◌, ◌-◌, length, length-append, take, List, [], ◌∷◌, ◌++◌}
 use Rattle.std.proofs.lemmas.List.{take-append-le}
 use Rattle.epoch_turn.specs.declared.due.CutMark.{CutMark}
 use Rattle.epoch_turn.specs.Chains.{Chaining, IsBehind, uncut, with_cut}

@@ -1,4 +1,4 @@
-use Rattle.std.proofs.Common.{arith, ap, sym, ◌∙◌, ◌≡◌, ◌≤◌, ◌-◌, length, drop}
+use Rattle.std.proofs.Common.{arith, ap, sym, ◌∙◌, ◌-◌, length, drop}
 use Rattle.epoch_turn.specs.Dues.{front_length, is_due_done, size_of}
 use Rattle.epoch_turn.proofs.Growing.{starts}
 use Rattle.epoch_turn.proofs.rows.Rows.growth.Goals as goal
