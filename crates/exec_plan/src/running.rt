@@ -35,6 +35,7 @@ fn run_round(
     ensures written { OnOk result (store.new ≡ with_executions store.old (round_of (books_of store.old admission.now.admission held.now) store.old.executed)) }
     ensures copied { OnOk result (effects.new ≡ effects.old ++ map effects_of (round_of (books_of store.old admission.now.admission held.now) store.old.executed)) }
     ensures waiting { OnOk result (IsWaiting store.new admission.now.admission held.now waiting.new) }
+    ensures opening { store.new.opening ≡ store.old.opening }
 {
     let places = waiting.next_places(alloc)?;
     let round = round_at(alloc, store, admission, held, places.as_slice())?;
@@ -52,7 +53,7 @@ fn run_round(
 /// object is ready once it is admitted, and reads the version that it was assigned. Each held certificate
 /// stands under its transaction's digest, and its transaction has a valid shape; no transaction is held
 /// twice. The only error is that memory is refused: part of the rounds is then executed, and nothing is
-/// promised of the store and of what waits. A round looks at the certificates of which all that they wait
+/// promised of the store, but for its opening, and of what waits. A round looks at the certificates of which all that they wait
 /// for is executed and that no round looked at before; behind it, those that wait for one of its
 /// transactions are looked at for what else they wait for.
 #[tactic(auto, unfolding(protocol_spec::specs::Member::Rounds::rounds))]
@@ -69,6 +70,7 @@ pub fn run(
     ensures written { OnOk result (store.new ≡ with_executions store.old (rounds (books_of store.old admission.now.admission held.now) store.old.executed)) }
     ensures effects { IfOk result (λ effects. effects ≡ map effects_of (rounds (books_of store.old admission.now.admission held.now) store.old.executed)) }
     ensures waiting { OnOk result (IsWaiting store.new admission.now.admission held.now waiting.new) }
+    ensures opening { store.new.opening ≡ store.old.opening }
 {
     let mut effects = Seq::new(alloc);
     let mut left = held.len();

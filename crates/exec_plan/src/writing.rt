@@ -34,6 +34,7 @@ fn write_one(store: &mut Store, effects: &mut Seq<Effects>, ran: &Ran) -> Result
     requires next { IsNext store.old.opening store.old.executed ran.now }
     ensures written { OnOk result (store.new ≡ with_execution store.old ran.now) }
     ensures copied { OnOk result (effects.new ≡ effects.old ++ effects_of ran.now ∷ []) }
+    ensures opening { store.new.opening ≡ store.old.opening }
 {
     effects.push(copy_of(&ran.gave.effects)?)?;
     let written = copy_of(&ran.gave.effects)?;
@@ -50,6 +51,7 @@ fn write_each(
     requires next { Along (IsNext store.old.opening) store.old.executed round.now }
     ensures written { OnOk result (store.new ≡ with_executions store.old round.now) }
     ensures copied { OnOk result (effects.new ≡ effects.old ++ map effects_of round.now) }
+    ensures opening { store.new.opening ≡ store.old.opening }
 {
     let mut rest = round;
     while let [ran, after @ ..] = rest {
@@ -68,6 +70,7 @@ pub(crate) fn write_all(
     requires next { Along (IsNext store.old.opening) store.old.executed round.now }
     ensures written { OnOk result (store.new ≡ with_executions store.old round.now) }
     ensures copied { OnOk result (effects.new ≡ effects.old ++ map effects_of round.now) }
+    ensures opening { store.new.opening ≡ store.old.opening }
 {
     write_each(store, effects, round.ran.as_slice())
 }

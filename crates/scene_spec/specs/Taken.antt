@@ -6,11 +6,11 @@ use Rattle.protocol_spec.specs.Chain.Certificates.{Rules}
 use Rattle.protocol_spec.specs.Member.Member.{Member}
 use Rattle.protocol_spec.specs.Member.Replay.{is_allowed}
 
--- the records of the calls that are answered so far: all but entries of the sequence and turns
+-- the records of the calls that are answered so far: all but turns
 abbrev pub is_answered : Record → Bool
 is_answered (record_as.Vote tx origins) = true
 is_answered (record_as.Hold cert) = true
-is_answered (record_as.See bytes) = false
+is_answered (record_as.See bytes) = true
 is_answered record_as.Close = true
 is_answered (record_as.Ran txs) = true
 is_answered record_as.Turn = false

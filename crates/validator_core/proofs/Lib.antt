@@ -1,4 +1,6 @@
 pub mod Cases
+pub mod Entering
+pub mod Coursing
 pub mod Opening
 pub mod Refusing
 pub mod Seeing

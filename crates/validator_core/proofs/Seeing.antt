@@ -71,13 +71,13 @@ module _ (r : Rules) (m : Member) (number : ℕ) (bytes : List ℕ) where
     unfolding due
     see_due = ap (see_record m number bytes) (none_stops (first_some (see_cases m number)) goes)
 
-    module _ (open : m.sequence.ended ≡ false) (what : What) (is : what_of r m.epoch m.sequence bytes ≡ what) (new : Member) (step : new ≡ behind_entry r m what) where
+    module _ (unended : m.sequence.ended ≡ false) (what : What) (is : what_of r m.epoch m.sequence bytes ≡ what) (new : Member) (step : new ≡ behind_entry r m what) where
       behind : new ≡ after r m (record_as.See bytes)
       unfolding after saw
       behind =
           step
           ∙ ap (λ (w : What). behind_entry r m w) (sym is)
-          ∙ ap (λ (b : Bool). record m { sequence = cond b m.sequence (with_entry r m.opening m.sequence (what_of r m.epoch m.sequence bytes)); held = held_with m.held (what_of r m.epoch m.sequence bytes); records = m.records + 1 }) (sym open)
+          ∙ ap (λ (b : Bool). record m { sequence = cond b m.sequence (with_entry r m.opening m.sequence (what_of r m.epoch m.sequence bytes)); held = held_with m.held (what_of r m.epoch m.sequence bytes); records = m.records + 1 }) (sym unended)
 
       pub see_called : new ≡ called r m (sees number bytes)
       see_called = behind ∙ ap (after_due r m) (sym see_due)

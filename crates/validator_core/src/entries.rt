@@ -13,9 +13,7 @@ ghost use Rattle.validator_core.specs.Limits.{terms_at};
 use crate::state::State;
 use answer_types::{Held, Ignore};
 use cert_rules::check_cert;
-use chain_messages::{
-    Certificate, Entry, Sealed, Statement, decode_entry, encode_statement,
-};
+use chain_messages::{Certificate, Entry, Sealed, Statement, decode_entry, encode_statement};
 use chain_types::{CertRefusal, tx_digest};
 use quorum_core::{Committee, Sealer, Signer};
 use wire_bcs::{OutOfMemory, Unread};

@@ -59,7 +59,6 @@ pub(crate) fn run<D: Keeper>(
 ) -> Result<Ran, RunRefusal>
     requires known { member < D.width keeper.old }
     ensures answer { Runs (run_answer bare state.old.member) result }
-    ensures built { IfOk result (λ ran. ran.built ≡ []) }
     ensures state { Becomes (called bare state.old.member runs) state.new.member (run_ended result) }
     ensures kept { Journaled (D.lists keeper.old) (D.lists keeper.new) member (due bare state.old.member runs) (run_ended result) }
     ensures width { D.width keeper.new ≡ D.width keeper.old }

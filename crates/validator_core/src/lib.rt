@@ -12,14 +12,19 @@
 #![tactic(auto)]
 
 mod calls;
+mod course;
+mod entries;
 mod epoch_calls;
 mod holds;
 mod keeping;
 mod laws;
 mod replay;
 mod runs;
+mod sees;
 mod start;
 mod state;
+mod taking;
+mod telling;
 mod validator;
 mod votes;
 

@@ -30,7 +30,7 @@ use quorum_core::{Committee, Sealer};
 use wire_bcs::{OutOfMemory, Seq};
 
 /// Whether two votes name the same origins.
-fn same_origins(a: &[Option<Digest>], b: &[Option<Digest>]) -> bool
+pub(crate) fn same_origins(a: &[Option<Digest>], b: &[Option<Digest>]) -> bool
     ensures { result ≡ origins_eq a.now b.now }
 {
     a == b
@@ -148,6 +148,26 @@ impl State {
         true
     }
 
+    /// Takes the record of an entry, where the member may see one in this state.
+    #[tactic(auto, unfolding(protocol_spec::specs::Member::Replay::is_allowed), using(crate::proofs::Seeing::see_taken_back, crate::proofs::Seeing::see_not_taken))]
+    pub(crate) fn take_see_back<S: Sealer>(
+        &mut self,
+        committee: &Committee,
+        sealer: &S,
+        bytes: &[u8],
+    ) -> Result<bool, OutOfMemory>
+        ensures taken { IfOk result (λ taken. taken ≡ is_allowed (rules_for (terms_at self.old committee.now) (S.accepts sealer.now)) self.old.member (record_as.See bytes.now)) }
+        ensures state { OnTaken result (self.new.member ≡ after (rules_for (terms_at self.old committee.now) (S.accepts sealer.now)) self.old.member (record_as.See bytes.now)) }
+        ensures limit { self.new.writers ≡ self.old.writers }
+    {
+        if self.check_see(self.seen()).is_err() {
+            return Ok(false);
+        }
+        let arrival = self.read_entry(committee, sealer, bytes)?;
+        self.take_entry(committee, arrival)?;
+        Ok(true)
+    }
+
     /// Whether a run may be asked for.
     #[tactic(auto, unfolding(protocol_spec::specs::Member::Calls::run_answer), using(crate::proofs::Cases::goes_alike))]
     fn may_run(&self) -> bool
@@ -163,7 +183,7 @@ impl State {
         ensures items { IfOk result (λ items. items ≡ ran_items self.old.member) }
         ensures limit { self.new.writers ≡ self.old.writers }
     {
-        let effects = self.execute()?;
+        let (effects, _built) = self.execute()?;
         ran_items(self.alloc, effects.as_slice())
     }
 
@@ -204,7 +224,7 @@ impl State {
     }
 
     /// Takes a record that was read back, where a call that is answered so far would append it in this state: that
-    /// of a vote, a certificate, a run or a close; else false. Where false is answered or memory is refused the
+    /// of a vote, a certificate, an entry, a run or a close; else false. Where false is answered or memory is refused the
     /// state is not to be used.
     #[tactic(auto, unfolding(scene_spec::specs::Taken::is_taken, protocol_spec::specs::Member::Replay::is_allowed, protocol_spec::specs::Member::Calls::run_answer, protocol_spec::specs::Member::Calls::close_answer, protocol_spec::specs::Member::Member::after, journal_core::specs::Records::journal_record))]
     pub fn take<S: Sealer>(
@@ -221,7 +241,7 @@ impl State {
         match kept {
             Record::Vote { tx, origins } => self.take_vote_back(sealer, &tx, origins),
             Record::Hold(cert) => self.take_hold_back(committee, sealer, cert),
-            Record::See(_bytes) => Ok(false),
+            Record::See(bytes) => self.take_see_back(committee, sealer, bytes.as_slice()),
             Record::Ran(txs) => self.take_txs_back(txs.as_slice()),
             Record::Ran2(items) => self.take_items_back(items.as_slice()),
             Record::Close => Ok(self.take_close_back()),

@@ -73,20 +73,18 @@ pub fn ran_record(alloc: Global, effects: &[Effects]) -> Result<Option<Record>, 
 
 impl State {
     /// Runs: executes all held certificates that are ready, round after round, and tells what is left (Sui Lutris).
-    /// The items of the record that is due are those of the effects. No checkpoint is built, since no entry of the
-    /// sequence is seen yet. Where memory is refused the state is not to be used.
+    /// The items of the record that is due are those of the effects. Where memory is refused the state is not to be used.
     pub fn run(&mut self) -> Result<Ran, OutOfMemory>
         ensures state { OnOk result (self.new.member ≡ with_rounds self.old.member) }
         ensures ran { IfOk result (λ ran. ran ≡ ran_as self.old.member (rounds (books self.old.member) self.old.member.executed) (with_rounds self.old.member)) }
         ensures items { IfOk result (λ ran. items_of ran.executed ≡ ran_items self.old.member) }
-        ensures built { IfOk result (λ ran. ran.built ≡ []) }
         ensures limit { self.new.writers ≡ self.old.writers }
     {
-        let executed = self.execute()?;
+        let (executed, built) = self.execute()?;
         Ok(Ran {
             executed,
             left: self.left()?,
-            built: Seq::new(self.alloc),
+            built,
         })
     }
 

@@ -28,7 +28,7 @@ impl State {
     pub(crate) fn check_see(&self, number: u64) -> Result<(), SeeRefusal>
         ensures value { result ≡ unless_refused (first_some (see_cases self.now.member number)) tt }
         ensures room { IfOk result (λ _. nat_le record_limit self.now.member.records ≡ false) }
-        ensures open { IfOk result (λ _. self.now.member.sequence.ended ≡ false) }
+        ensures unended { IfOk result (λ _. self.now.member.sequence.ended ≡ false) }
     {
         if let Some((first, second)) = self.fork() {
             return Err(SeeRefusal::Halted { first, second });

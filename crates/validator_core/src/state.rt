@@ -215,7 +215,8 @@ impl State {
     ) -> Result<Seq<Option<Digest>>, DecideRefusal>
         ensures { Decides (vote_refusal (ballot self.now.member) tx.now digest.now) (vote_origins (ballot self.now.member) tx.now) result }
     {
-        self.votes.decide(self.alloc, &self.course.store, tx, digest)
+        self.votes
+            .decide(self.alloc, &self.course.store, tx, digest)
     }
 
     /// Whether a certificate of the transaction is held. Takes no memory.
@@ -284,7 +285,7 @@ impl State {
         arrival: Arrival,
     ) -> Result<Seen, OutOfMemory>
         requires may { MayArrive committee.now self.old.member.sequence arrival }
-        requires open { self.old.member.sequence.ended ≡ false }
+        requires unended { self.old.member.sequence.ended ≡ false }
         requires room { nat_le record_limit self.old.member.records ≡ false }
         ensures state { OnOk result ((accepts : Accepting) → self.new.member ≡ behind_entry (rules_for (terms_at self.old committee.now) accepts) self.old.member (what_as arrival)) }
         ensures what { IfOk result (λ seen. (accepts : Accepting) → seen.what ≡ seen_what (rules_for (terms_at self.old committee.now) accepts) self.old.member.sequence self.new.member.sequence (what_as arrival)) }

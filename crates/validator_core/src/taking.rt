@@ -22,7 +22,7 @@ impl Course {
     fn bring(&mut self, new: Held) -> Result<Taken, OutOfMemory>
         requires sound { IsSound self.old }
         requires arriving { IsArriving (sequence_in self.old) new }
-        requires open { self.old.ended ≡ false }
+        requires unended { self.old.ended ≡ false }
         ensures admitting { OnOk result (IsAdmitting (length self.old.admission.admission.admitted) self.new) }
         ensures value { OnOk result (coursed self.new ≡ brings (coursed self.old) new) }
         ensures admitted { IfOk result (λ t. t.admitted ≡ newly_admitted (sequence_in self.old) (sequence_in self.new)) }
@@ -61,7 +61,7 @@ impl Course {
     fn enter(&mut self, new: Held) -> Result<SeenWhat, OutOfMemory>
         requires sound { IsSound self.old }
         requires arriving { IsArriving (sequence_in self.old) new }
-        requires open { self.old.ended ≡ false }
+        requires unended { self.old.ended ≡ false }
         ensures unbuilt { OnOk result (IsUnbuilt self.new) }
         ensures value { OnOk result (coursed self.new ≡ brings (coursed self.old) new) }
         ensures what { IfOk result (λ what. (r : Rules) → r.writers ≡ self.old.admission.writers → what ≡ seen_what r (sequence_in self.old) (sequence_in self.new) (takes new)) }
@@ -79,7 +79,7 @@ impl Course {
     /// A mark: what was admitted since the last one is cut, and what waited for the mark is taken behind it.
     fn pass_mark(&mut self) -> Result<SeenWhat, OutOfMemory>
         requires sound { IsSound self.old }
-        requires open { self.old.ended ≡ false }
+        requires unended { self.old.ended ≡ false }
         ensures unbuilt { OnOk result (IsUnbuilt self.new) }
         ensures value { OnOk result (coursed self.new ≡ marks (coursed self.old)) }
         ensures what { IfOk result (λ what. (r : Rules) → what ≡ seen_what r (sequence_in self.old) (sequence_in self.new) commits) }
@@ -102,7 +102,7 @@ impl Course {
     fn count_end(&mut self, committee: &Committee, member: u32) -> Result<SeenWhat, OutOfMemory>
         requires sound { IsSound self.old }
         requires ending { IsEnding committee.now (sequence_in self.old) member }
-        requires open { self.old.ended ≡ false }
+        requires unended { self.old.ended ≡ false }
         ensures unbuilt { OnOk result (IsUnbuilt self.new) }
         ensures value { OnOk result (coursed self.new ≡ ends committee.now (coursed self.old) member) }
         ensures what { IfOk result (λ what. (r : Rules) → r.stakes ≡ committee.now → what ≡ seen_what r (sequence_in self.old) (sequence_in self.new) (counts member)) }
@@ -125,7 +125,7 @@ impl Course {
     fn take(&mut self, committee: &Committee, arrival: Arrival) -> Result<SeenWhat, OutOfMemory>
         requires sound { IsSound self.old }
         requires may { MayArrive committee.now (sequence_in self.old) arrival }
-        requires open { self.old.ended ≡ false }
+        requires unended { self.old.ended ≡ false }
         ensures unbuilt { OnOk result (IsUnbuilt self.new) }
         ensures value { OnOk result (coursed self.new ≡ arrives committee.now (coursed self.old) arrival) }
         ensures what { IfOk result (λ what. (r : Rules) → r.stakes ≡ committee.now → r.writers ≡ self.old.admission.writers → what ≡ seen_what r (sequence_in self.old) (sequence_in self.new) (what_as arrival)) }
@@ -142,10 +142,14 @@ impl Course {
     }
 
     /// Takes the next entry of the sequence (Sui Lutris), and answers what it did, and which checkpoints it completed.
-    pub(crate) fn see(&mut self, committee: &Committee, arrival: Arrival) -> Result<Seen, OutOfMemory>
+    pub(crate) fn see(
+        &mut self,
+        committee: &Committee,
+        arrival: Arrival,
+    ) -> Result<Seen, OutOfMemory>
         requires sound { IsSound self.old }
         requires may { MayArrive committee.now (sequence_in self.old) arrival }
-        requires open { self.old.ended ≡ false }
+        requires unended { self.old.ended ≡ false }
         requires room { self.old.seen < 2 ^ 32 }
         ensures sound { OnOk result (IsSound self.new) }
         ensures value { OnOk result (coursed self.new ≡ numbered_in (arrives committee.now (coursed self.old) arrival)) }

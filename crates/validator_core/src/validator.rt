@@ -1,27 +1,31 @@
 //! The member.
 
-ghost use Rattle.std.specs.Prelude.{◌≡◌, ◌<◌, ◌≤◌, ◌^◌, [], IfOk, IsErrOf, length, option_map, true};
+ghost use Rattle.std.specs.Prelude.{◌≡◌, ◌<◌, ◌≤◌, ◌^◌, [], IfOk, IsErrOf, length, option_map, slice_get, true};
 ghost use Rattle.outside.specs.Causes.{Rose};
 ghost use Rattle.chain_types.specs.Digests.{digest_of_object};
 ghost use Rattle.protocol_spec.specs.Member.Versions.{Version, version_at, versions as versions_of};
 ghost use Rattle.protocol_spec.specs.Member.Member.{built as built_by, live_objects};
-ghost use Rattle.protocol_spec.specs.Member.Calls.{closes, holds, runs, votes};
+ghost use Rattle.protocol_spec.specs.Member.Calls.{closes, holds, runs, sees, votes};
 ghost use Rattle.answer_types.specs.declared.refusals.HoldRefusal.TheVariants as no_hold;
 ghost use Rattle.answer_types.specs.declared.refusals.VoteRefusal.TheVariants as no_vote;
 ghost use Rattle.answer_types.specs.declared.refusals.CloseRefusal.TheVariants as no_close;
 ghost use Rattle.answer_types.specs.declared.refusals.RunRefusal.TheVariants as no_run;
-ghost use Rattle.validator_core.specs.Calls.{Closes, Holds, Runs, Votes, close_ended, close_said, hold_ended, hold_said, run_ended, run_said, vote_ended, vote_said};
+ghost use Rattle.answer_types.specs.declared.refusals.SeeRefusal.TheVariants as no_see;
+ghost use Rattle.validator_core.specs.Calls.{Closes, Holds, Runs, Sees, Votes, close_ended, close_said, hold_ended, hold_said, run_ended, run_said, see_ended, see_said, vote_ended, vote_said};
 ghost use Rattle.scene_spec.specs.Terms.{rules_for};
-ghost use Rattle.validator_core.specs.Built.{transactions_in};
+ghost use Rattle.checkpoint_core.specs.Checkpoints.{transactions_in};
 ghost use Rattle.scene_spec.specs.Starts.{AreApart, started};
 ghost use Rattle.validator_core.specs.Starts.{Starts};
 ghost use Rattle.validator_core.specs.Seats.{Behaves, Fell, Journaled};
 ghost use Rattle.scene_spec.specs.Seats.{bare_rules, due_at, rules_of_seat};
 
 use crate::start::take_all;
-use crate::{State, calls, epoch_calls};
-use answer_types::{CloseRefusal, HoldRefusal, Ran, RunRefusal, StartRefusal, VoteRefusal, Voted};
+use crate::{State, calls, epoch_calls, sees};
+use answer_types::{
+    CloseRefusal, HoldRefusal, Ran, RunRefusal, SeeRefusal, Seen, StartRefusal, VoteRefusal, Voted,
+};
 use chain_types::{Object, ObjectKey, object_digest};
+use checkpoint_core::Checkpoint;
 use digest_core::Digest;
 use outside::Keeper;
 use quorum_core::{Committee, Sealer};
@@ -49,8 +53,8 @@ impl Model for Validator {
 impl Validator {
     /// Starts the member of this number from the records that it kept, none for a new one, in an epoch 0 that opens
     /// with these objects, none of them twice; its sequences have this limit of writers, or none. `BadRecord` comes exactly at the first record that does not decode
-    /// (1), or that no call would have appended (2). Records of votes, certificates, runs and closes are taken, a
-    /// run's in both forms, with effects and without; those of entries and turns are not taken yet.
+    /// (1), or that no call would have appended (2). Records of votes, certificates, entries, runs and closes are taken,
+    /// a run's in both forms, with effects and without; those of turns are not taken yet.
     #[tactic(auto, unfolding(scene_spec::specs::Starts::started))]
     pub fn start<S: Sealer>(
         alloc: Global,
@@ -115,6 +119,13 @@ impl Validator {
         ensures { result ≡ transactions_in (built_by self.now.state) }
     {
         self.state.checkpointed()
+    }
+
+    /// The checkpoint of this number; none exactly where it was not built. Takes no memory.
+    pub fn checkpoint(&self, number: u64) -> Option<&Checkpoint>
+        ensures { option_map (λ (c : _). c.now) result ≡ slice_get (built_by self.now.state) number }
+    {
+        self.state.checkpoint(number)
     }
 
     /// The digest of a held version; none exactly where the version is not held. Takes no memory.
@@ -196,16 +207,51 @@ impl Validator {
         answer
     }
 
+    /// Hands the next entry of the epoch's consensus sequence to the member, which has this number from 0 (Sui Lutris):
+    /// answers what it did, and the checkpoints that it completes. Order of the refusals: `Down`, `Halted`, `Full`,
+    /// `Over` where the end of the epoch was seen, `Gap` where `number` is not that of the entries seen, `KeepFault`,
+    /// `Fork`. The record is appended before the call answers, whatever the entry is. Behind `KeepFault` and want of
+    /// memory the member is down; behind `Fork` it is halted.
+    #[tactic(auto, using(crate::proofs::Seeing::see_settles, crate::proofs::Seeing::see_at, crate::proofs::Seeing::see_due_at, crate::proofs::Settling::down_keeps))]
+    pub fn see<D: Keeper, S: Sealer>(
+        &mut self,
+        keeper: &mut D,
+        sealer: &S,
+        number: u64,
+        bytes: &[u8],
+    ) -> Result<Seen, SeeRefusal>
+        requires known { self.old.member < D.width keeper.old }
+        ensures answer { Sees (see_said (rules_of_seat self.old (S.accepts sealer.now)) self.old number bytes.now) result }
+        ensures state { Behaves (rules_of_seat self.old (S.accepts sealer.now)) (sees number bytes.now) self.old self.new (see_ended result) }
+        ensures kept { Journaled (D.lists keeper.old) (D.lists keeper.new) self.old.member (due_at (rules_of_seat self.old (S.accepts sealer.now)) self.old (sees number bytes.now)) (see_ended result) }
+        ensures width { D.width keeper.new ≡ D.width keeper.old }
+        ensures later { D.failed keeper.old ≤ D.failed keeper.new }
+        ensures fault { IsErrOf result no_see.KeepFault → Rose (D.failed keeper.old) (D.failed keeper.new) }
+    {
+        if !self.up {
+            return Err(SeeRefusal::Down);
+        }
+        let answer = sees::see(
+            &mut self.state,
+            keeper,
+            sealer,
+            &self.committee,
+            self.member,
+            number,
+            bytes,
+        );
+        self.up = !sees::see_fell(&answer);
+        answer
+    }
+
     /// Lets the member execute what it holds, round after round (Sui Lutris): answers the effects in order, and the
-    /// certificates that it left although all that they waited for is executed. No checkpoint is built, since no
-    /// entry of the sequence is seen yet. Order of the refusals: `Down`, `Halted`, `Full`, `KeepFault`. The record of
-    /// a run that executed something is appended before the call answers. Behind `KeepFault` and want of memory the
-    /// member is down.
+    /// certificates that it left although all that they waited for is executed, and the checkpoints that the run
+    /// completes. Order of the refusals: `Down`, `Halted`, `Full`, `KeepFault`. The record of a run that executed
+    /// something is appended before the call answers. Behind `KeepFault` and want of memory the member is down.
     #[tactic(auto, using(crate::proofs::Running::run_settles, crate::proofs::Running::run_at, crate::proofs::Running::run_due_at, crate::proofs::Settling::down_keeps))]
     pub fn run<D: Keeper>(&mut self, keeper: &mut D) -> Result<Ran, RunRefusal>
         requires known { self.old.member < D.width keeper.old }
         ensures answer { Runs (run_said (bare_rules self.old) self.old) result }
-        ensures built { IfOk result (λ ran. ran.built ≡ []) }
         ensures state { Behaves (bare_rules self.old) runs self.old self.new (run_ended result) }
         ensures kept { Journaled (D.lists keeper.old) (D.lists keeper.new) self.old.member (due_at (bare_rules self.old) self.old runs) (run_ended result) }
         ensures width { D.width keeper.new ≡ D.width keeper.old }

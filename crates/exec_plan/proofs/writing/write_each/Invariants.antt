@@ -9,6 +9,7 @@ abbrev pub invariant-loop-rest : goal.invariant-loop-rest
 invariant-loop-rest l = record {
   next : Along (IsNext l.store.opening) l.store.executed l.rest;
   written : with_executions l.store l.rest ≡ with_executions l.fn.store l.round;
+  opening : l.store.opening ≡ l.fn.store.opening;
   copied : l.effects ++ map effects_of l.rest ≡ l.fn.effects ++ map effects_of l.round;
 }
 
