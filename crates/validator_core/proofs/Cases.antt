@@ -1,6 +1,7 @@
 -- The cases of each call, one lemma for each way through it.
 use Rattle.std.proofs.Common.{◌≡◌, ◌≤◌, ℕ, Bool, true, false, List, [], ◌∷◌, ◌++◌, length, Option, Some, None, refl, ap, sym, ◌∙◌, subst}
-use Rattle.std.specs.Prelude.{Result, Ok, Err, find, option_map, is_ok, IfSome}
+use Rattle.std.specs.Prelude.{Result, Ok, Err, ◌==◌, not, find, option_map, is_ok, IfSome}
+use Rattle.std.proofs.lemmas.Bool.{eqb-true}
 use Rattle.digest_core.specs.declared.Digest.{Digest}
 use Rattle.chain_types.specs.declared.objects.ObjectKey.{ObjectKey}
 use Rattle.chain_types.specs.Digests.{consumed_keys, transaction_digest}
@@ -20,20 +21,19 @@ use Rattle.answer_types.specs.declared.refusals.HoldRefusal.{HoldRefusal}
 use Rattle.answer_types.specs.declared.refusals.HoldRefusal.TheVariants as no_hold
 use Rattle.answer_types.specs.declared.answers.Ran.{Ran}
 use Rattle.answer_types.specs.declared.refusals.RunRefusal.{RunRefusal}
-use Rattle.protocol_spec.specs.Member.Sequence.{held_as}
+use Rattle.protocol_spec.specs.Member.Sequence.{Sequence, held_as}
 use Rattle.chain_types.specs.declared.transactions.Transaction.{Transaction}
 use Rattle.protocol_spec.specs.Chain.Keys.{objects_of}
 use Rattle.cert_rules.proofs.Whole.{few_objects}
 use Rattle.protocol_spec.specs.Member.Votes.{Ballot, Cast, origin_of, vote_origins, vote_refusal}
-use Rattle.version_store.specs.Stores.{Stored}
 use Rattle.exec_plan.specs.Books.{IsSound}
-use Rattle.exec_plan.specs.Waits.{IsWaiting}
-use Rattle.exec_plan.specs.declared.waiting.Waiting.{Waiting}
 use Rattle.protocol_spec.specs.Member.Member.{Fork, Member, ballot, consumes, fork_at, fork_with, vote_for}
 use Rattle.vote_rules.proofs.Free.{free_where_decided}
+use Rattle.protocol_spec.specs.Member.Admission.{is_known}
 use Rattle.validator_core.specs.Answers.{HoldDue, HoldsAs, IsFree}
+use Rattle.validator_core.specs.Entries.{IsArriving}
 use Rattle.protocol_spec.specs.Member.Calls.{due, hold_answer, hold_certificate, hold_read, hold_record, hold_stopped, holds, is_hold_kept, new_hold}
-use Rattle.validator_core.specs.Sound.{AllFew, HasFew, Stands}
+use Rattle.validator_core.specs.Sound.{AllFew, HasFew}
 
 -- ---- forks
 
@@ -92,6 +92,20 @@ shape_part (Some n) rest h = absurd (cc)
 pub valid_shape : (r : Rules) (c : Certificate) → cert_refusal r c ≡ None → shape_fault c.tx ≡ None
 unfolding cert_refusal
 valid_shape r c e = shape_part (shape_fault c.tx) _ e
+
+each_origin : (o : Option ℕ) (same : Bool) (rest : List (Option CertRefusal)) → first_some (option_map refused.Shape o ∷ where_true (not same) (refused.Shape 13) ∷ rest) ≡ None → same ≡ true
+each_origin None true rest h = refl
+each_origin None false rest h = absurd (cc)
+each_origin (Some n) same rest h = absurd (cc)
+
+-- and one origin for each object
+pub valid_origins : (r : Rules) (c : Certificate) → cert_refusal r c ≡ None → length c.origins ≡ length (objects_of c.tx)
+unfolding cert_refusal
+valid_origins r c e = eqb-true (length c.origins) (length (objects_of c.tx)) (each_origin (shape_fault c.tx) (length c.origins == length (objects_of c.tx)) _ e)
+
+-- so a valid one that is not in the sequence can be admitted
+pub arriving : (r : Rules) (q : Sequence) (c : Certificate) (digest : Digest) → digest ≡ transaction_digest c.tx → cert_refusal r c ≡ None → is_known q.admission digest ≡ false → IsArriving q (record { digest = digest; cert = c })
+arriving r q c digest is valid new = record { is = is; shape = valid_shape r c valid; origins = valid_origins r c valid; new = new }
 
 -- what is refused before it is kept has no record
 refused_unkept : (c : Certificate) (said : Result Bool HoldRefusal) (e : HoldRefusal) → HoldsAs said (Err e) → HoldDue (where_true (is_hold_kept said) (record_as.Hold c)) (Err e)
@@ -162,16 +176,6 @@ is_free m t digest origins is new few none named = record {
 pub goes_alike : (o : Option RunRefusal) (answer : Result (Unit {0}) RunRefusal) (ran : Ran) → answer ≡ unless_refused o tt → is_ok answer ≡ is_ok (unless_refused o ran)
 goes_alike None answer ran e = ap (λ (a : Result (Unit {0}) RunRefusal). is_ok a) e
 goes_alike (Some refusal) answer ran e = ap (λ (a : Result (Unit {0}) RunRefusal). is_ok a) e
-
--- ---- what a state relies on
-
--- a state that holds nothing
-pub nothing_held : (votes : List Cast) (held : List Held) (s : Stored) (w : Waiting) → AllFew votes → held ≡ [] → IsWaiting s [] w → Stands votes held s w
-nothing_held votes held s w few none waits = record {
-  few = few;
-  sound = subst (λ (hs : List Held). Each IsSound hs) (sym none) tt;
-  waits = subst (λ (hs : List Held). IsWaiting s hs w) (sym none) waits;
-}
 
 pub one_more_sound : (held : List Held) (h : Held) → Each IsSound held → shape_fault h.cert.tx ≡ None → h.digest ≡ transaction_digest h.cert.tx → Each IsSound (held ++ h ∷ [])
 one_more_sound held h sound shape digest = each-push IsSound held h sound (shape, digest)

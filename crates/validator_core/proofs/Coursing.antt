@@ -1,6 +1,6 @@
 -- How what a member has of its epoch stays sound.
-use Rattle.std.proofs.Common.{◌≡◌, ◌∙◌, arith, ℕ, zero, suc, ◌+◌, ◌-◌, ◌<◌, ◌≤◌, Bool, true, false, cond, List, [], ◌∷◌, ◌++◌, map, length, take, drop, refl, sym, ap, subst, append-nil, length-append, length-map}
-use Rattle.std.specs.Prelude.{Option, Some, None, find, is_some, ◌==◌}
+use Rattle.std.proofs.Common.{◌≡◌, ◌∙◌, arith, ℕ, zero, suc, ◌+◌, ◌-◌, ◌<◌, ◌≤◌, Bool, true, false, cond, List, [], ◌∷◌, ◌++◌, map, length, take, drop, refl, sym, ap, subst, append-nil, length-append}
+use Rattle.std.specs.Prelude.{Option, Some, None, IfOk, OnOk, Result, Ok, Err, find, is_some}
 use Rattle.chain_types.specs.declared.objects.Object.{Object}
 use Rattle.chain_types.specs.Equal.{digest_eq}
 use Rattle.checkpoint_core.specs.declared.checkpoints.Checkpoint.{Checkpoint}
@@ -18,7 +18,7 @@ use Rattle.exec_plan.specs.Books.{IsSound as IsSoundHeld}
 use Rattle.exec_plan.specs.Waits.{Admits, IsWaiting, StoodBefore}
 use Rattle.exec_plan.specs.declared.waiting.Waiting.{Waiting}
 use Rattle.version_assign.specs.Calls.{Admitting}
-use Rattle.version_assign.specs.Sharing.{HasShared, IsServed}
+use Rattle.version_assign.specs.Sharing.{HasShared, shared_of}
 use Rattle.version_store.specs.Stores.{Stored}
 use Rattle.validator_core.specs.declared.course.Course.{Course}
 use Rattle.validator_core.specs.Courses.{AreHeld, HasOpening, IsAdmitting, IsHeldIn, IsSound, IsUnbuilt, WaitsIn, built_in, coursed}
@@ -48,21 +48,19 @@ empty_sound c opening fresh none waits built starts = record {
 
 -- ---- one more certificate
 
-found_more : (held : List Held) (h : Held) (o : Option Held) (tx : Held → Bool) → find tx held ≡ o → is_some o ≡ true → is_some (find tx (held ++ h ∷ [])) ≡ true
-found_more [] h o test is some = absurd (let e : None ≡ o = is in cc)
-found_more (g ∷ gs) h o test is some = by (test g) refl
+found_more : (held : List Held) (h : Held) (test : Held → Bool) → is_some (find test held) ≡ true → is_some (find test (held ++ h ∷ [])) ≡ true
+found_more [] h test some = absurd (cc)
+found_more (g ∷ gs) h test some = by (test g) some (found_more gs h test)
   where
-    by : (b : Bool) → test g ≡ b → is_some (find test ((g ∷ gs) ++ h ∷ [])) ≡ true
-    by true e = ap (λ (b : Bool). is_some (cond b (Some g) (find test (gs ++ h ∷ [])))) e
-    by false e =
-        ap (λ (b : Bool). is_some (cond b (Some g) (find test (gs ++ h ∷ [])))) e
-        ∙ found_more gs h o test (sym (ap (λ (b : Bool). cond b (Some g) (find test gs)) e) ∙ is) some
+    by : (b : Bool) → is_some (cond b (Some g) (find test gs)) ≡ true → (is_some (find test gs) ≡ true → is_some (find test (gs ++ h ∷ [])) ≡ true) → is_some (cond b (Some g) (find test (gs ++ h ∷ []))) ≡ true
+    by true e rest = refl
+    by false e rest = rest e
 
 stays_held : (held : List Held) (h : Held) (a : Admitted) → IsHeldIn held a → IsHeldIn (held ++ h ∷ []) a
-stays_held held h a is = found_more held h (held_of held a.digest) (λ (x : Held). digest_eq x.digest a.digest) refl is
+stays_held held h a is = found_more held h (λ (x : Held). digest_eq x.digest a.digest) is
 
 stays_waiting : (held : List Held) (h g : Held) → WaitsIn held g → WaitsIn (held ++ h ∷ []) g
-stays_waiting held h g is = found_more held h (held_of held g.digest) (λ (x : Held). digest_eq x.digest g.digest) refl is
+stays_waiting held h g is = found_more held h (λ (x : Held). digest_eq x.digest g.digest) is
 
 each_as : {A : Type 0} (P Q : A → Type 0) (xs : List A) → ((x : A) → P x → Q x) → Each P xs → Each Q xs
 each_as P Q [] to each = tt
@@ -99,3 +97,78 @@ hold_sound c h held waiting sound one is waits = subst (λ (hs : List Held). IsS
       ahead = sound.ahead;
       all = sound.all;
     }
+
+-- ---- what was admitted is told
+
+abbrev pub told_now : Course → Waiting → Chaining → Course
+told_now c waiting chain = record c { waiting = waiting; chain = chain }
+
+pub let_in_sound : (c : Course) (waiting : Waiting) (chain : Chaining) (from : ℕ) → IsAdmitting from c → IsWaiting c.store c.admission.admission c.held waiting → chain.marks ≡ c.chain.marks → length c.chain.due ≤ length chain.due → StaysBehind c.chain chain
+    → IsTold c.held c.admission.admission.admitted chain → IsUnbuilt (told_now c waiting chain)
+let_in_sound c waiting chain from is waits marks more stays told = record {
+  held = is.held;
+  waits = waits;
+  opening = is.opening;
+  shared = is.shared;
+  known = is.known;
+  marked = λ unended. is.marked unended ∙ ap size_of (sym marks);
+  few = let f = is.few in let m = ap size_of marks in omega (arith, f, m, more);
+  told = told;
+  behind = stays c.epoch c.store.executed is.behind;
+}
+
+-- ---- checkpoints
+
+abbrev pub chained_now : Course → Chaining → Course
+chained_now c chain = record c { chain = chain }
+
+pub advance_sound : (c : Course) (chain : Chaining) → IsUnbuilt c → chain ≡ advanced c.epoch c.store.executed c.chain → BuildsAll c.epoch c.store.executed chain → IsAhead c.epoch c.store.executed chain → IsSound (chained_now c chain)
+advance_sound c chain u is all ahead = record {
+  unbuilt = record {
+    held = u.held;
+    waits = u.waits;
+    opening = u.opening;
+    shared = u.shared;
+    known = u.known;
+    marked = λ unended. u.marked unended ∙ sym (ap (λ (ch : Chaining). size_of ch.marks) is);
+    few = subst (λ (ch : Chaining). size_of ch.marks ≤ length ch.due) (sym is) u.few;
+    told = ap (λ (ch : Chaining). ch.due) is ∙ u.told;
+    behind = subst (λ (xs : List Execution). IsBehind c.epoch xs chain) (append-nil c.store.executed) (ahead []);
+  };
+  ahead = ahead;
+  all = all;
+}
+
+-- ---- a run
+
+abbrev pub run_now : Course → Stored → Waiting → Course
+run_now c store waiting = record c { store = store; waiting = waiting }
+
+pub run_sound : (c : Course) (store : Stored) (waiting : Waiting) (more : List Execution) → IsSound c → store ≡ record c.store { executed = c.store.executed ++ more } → IsWaiting store c.admission.admission c.held waiting → IsUnbuilt (run_now c store waiting)
+run_sound c store waiting more sound is waits = record {
+  held = u.held;
+  waits = waits;
+  opening = (u.opening.0 ∙ sym (ap shared_of opened), subst AreApart (sym opened) u.opening.1);
+  shared = subst (λ (os : List Object). HasShared os c.admission.admission) (sym opened) u.shared;
+  known = u.known;
+  marked = u.marked;
+  few = u.few;
+  told = u.told;
+  behind = subst (λ (xs : List Execution). IsBehind c.epoch xs c.chain) (sym (ap (λ (s : Stored). s.executed) is)) (sound.ahead more);
+}
+  where
+    u : IsUnbuilt c
+    u = sound.unbuilt
+
+    opened : store.opening ≡ c.store.opening
+    opened = ap (λ (s : Stored). s.opening) is
+
+-- ---- a result
+
+pub ok_then : {A E : Type 0} (result : Result A E) (P Q : Type 0) → (P → Q) → OnOk result P → OnOk result Q
+ok_then (Ok a) P Q to h = to h
+ok_then (Err e) P Q to h = tt
+
+pub ok_as : {A E : Type 0} (result : Result A E) (P Q : A → Type 0) → ((x : A) → P x → Q x) → IfOk result P → IfOk result Q
+ok_as (Ok a) P Q to h = to a h
+ok_as (Err e) P Q to h = tt

@@ -47,13 +47,13 @@ one_taken opening held a h known here = by (is_dropped opening a.admitted h.cert
 
 all_taken : (writers : Option ℕ) (opening : List Object) (held : List Held) (n : ℕ) (a : Admission) → AreHeld held a → Leaves held a (take_free writers opening n a)
 all_taken writers opening held zero a known = record { front = ([], sym (append-nil a.admitted)); marked = refl; known = known }
-all_taken writers opening held (suc n) a known = by (find (is_free writers a) a.pending) refl
+all_taken writers opening held (suc n) a known = by (find (is_free writers a) a.pending) refl (all_taken writers opening held n)
   where
-    by : (o : Option Held) → find (is_free writers a) a.pending ≡ o → Leaves held a (taken_next (take_free writers opening n) opening a o)
-    by None e = record { front = ([], sym (append-nil a.admitted)); marked = refl; known = known }
-    by (Some h) e =
+    by : (o : Option Held) → find (is_free writers a) a.pending ≡ o → ((b : Admission) → AreHeld held b → Leaves held b (take_free writers opening n b)) → Leaves held a (taken_next (take_free writers opening n) opening a o)
+    by None e next = record { front = ([], sym (append-nil a.admitted)); marked = refl; known = known }
+    by (Some h) e next =
         let one = one_taken opening held a h known (find-each (WaitsIn held) (is_free writers a) a.pending h known.pending e) in
-        let rest = all_taken writers opening held n (taken opening a h) one.known in
+        let rest = next (taken opening a h) one.known in
         record {
           front = front_then a.admitted (taken opening a h).admitted (take_free writers opening n (taken opening a h)).admitted one.front rest.front;
           marked = rest.marked ∙ one.marked;

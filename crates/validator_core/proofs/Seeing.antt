@@ -1,6 +1,6 @@
 -- An entry that a member sees: what is answered and due, and the state behind it.
 use Rattle.std.proofs.Common.{◌≡◌, ◌+◌, ℕ, Bool, true, false, cond, List, Option, Some, None, inr, refl, ap, sym, ◌∙◌, subst}
-use Rattle.std.specs.Prelude.{◌⊎◌, option_map, Result, Ok, Err}
+use Rattle.std.specs.Prelude.{◌⊎◌, not, is_err, is_none, option_map, Result, Ok, Err}
 use Rattle.outside.specs.Lists.{Journals, KeepsJournals}
 use Rattle.checkpoint_core.specs.declared.checkpoints.Checkpoint.{Checkpoint}
 use Rattle.journal_core.specs.declared.records.Record.{Record}
@@ -21,6 +21,25 @@ use Rattle.scene_spec.specs.Seats.{Seat, due_at, rules_of_seat}
 use Rattle.scene_spec.specs.Terms.{rules_for}
 use Rattle.validator_core.proofs.Refusing.{free, none_stops, stop, stopped_by}
 use Rattle.validator_core.proofs.Settling.{Signing, keeps_same, seat_with, settles}
+
+-- the state behind the record of an entry
+pub behind_seen : (r : Rules) (m : Member) (bytes : List ℕ) → m.sequence.ended ≡ false → (what : What) → what_of r m.epoch m.sequence bytes ≡ what → (new : Member) → new ≡ behind_entry r m what → new ≡ after r m (record_as.See bytes)
+unfolding after saw
+behind_seen r m bytes unended what is new step =
+    step
+    ∙ ap (λ (w : What). behind_entry r m w) (sym is)
+    ∙ ap (λ (b : Bool). record m { sequence = cond b m.sequence (with_entry r m.opening m.sequence (what_of r m.epoch m.sequence bytes)); held = held_with m.held (what_of r m.epoch m.sequence bytes); records = m.records + 1 }) (sym unended)
+
+-- whether a record of an entry is taken back
+may_see : (o : Option SeeRefusal) (result : Result (Unit {0}) SeeRefusal) (b : Bool) → result ≡ unless_refused o tt → is_err result ≡ b → not b ≡ is_none o
+may_see None result b is bad = ap not (sym bad ∙ ap (λ (x : Result (Unit {0}) SeeRefusal). is_err x) is)
+may_see (Some refusal) result b is bad = ap not (sym bad ∙ ap (λ (x : Result (Unit {0}) SeeRefusal). is_err x) is)
+
+pub see_not_taken : (m : Member) (number : ℕ) (result : Result (Unit {0}) SeeRefusal) → number ≡ m.sequence.number → result ≡ unless_refused (first_some (see_cases m number)) tt → is_err result ≡ true → false ≡ is_none (first_some (see_cases m m.sequence.number))
+see_not_taken m number result same is bad = may_see (first_some (see_cases m number)) result true is bad ∙ ap (λ n. is_none (first_some (see_cases m n))) same
+
+pub see_taken_back : (m : Member) (number : ℕ) (result : Result (Unit {0}) SeeRefusal) → number ≡ m.sequence.number → result ≡ unless_refused (first_some (see_cases m number)) tt → is_err result ≡ false → true ≡ is_none (first_some (see_cases m m.sequence.number))
+see_taken_back m number result same is good = may_see (first_some (see_cases m number)) result false is good ∙ ap (λ n. is_none (first_some (see_cases m n))) same
 
 module _ (r : Rules) (m : Member) (number : ℕ) (bytes : List ℕ) where
   -- ---- a refused entry
@@ -73,11 +92,7 @@ module _ (r : Rules) (m : Member) (number : ℕ) (bytes : List ℕ) where
 
     module _ (unended : m.sequence.ended ≡ false) (what : What) (is : what_of r m.epoch m.sequence bytes ≡ what) (new : Member) (step : new ≡ behind_entry r m what) where
       behind : new ≡ after r m (record_as.See bytes)
-      unfolding after saw
-      behind =
-          step
-          ∙ ap (λ (w : What). behind_entry r m w) (sym is)
-          ∙ ap (λ (b : Bool). record m { sequence = cond b m.sequence (with_entry r m.opening m.sequence (what_of r m.epoch m.sequence bytes)); held = held_with m.held (what_of r m.epoch m.sequence bytes); records = m.records + 1 }) (sym unended)
+      behind = behind_seen r m bytes unended what is new step
 
       pub see_called : new ≡ called r m (sees number bytes)
       see_called = behind ∙ ap (after_due r m) (sym see_due)

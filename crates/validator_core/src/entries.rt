@@ -74,6 +74,7 @@ impl State {
     }
 
     /// What a member stated: only an End counts.
+    #[tactic(auto, unfolding(chain_messages::specs::Messages::sealed))]
     fn read_stated<S: Sealer>(
         &self,
         committee: &Committee,
@@ -93,6 +94,7 @@ impl State {
     }
 
     /// A certificate. Order of the causes: `Epoch`, `Cert`, `Repeat`.
+    #[tactic(auto, unfolding(chain_messages::specs::Messages::certificate))]
     fn read_cert<S: Sealer>(
         &self,
         committee: &Committee,

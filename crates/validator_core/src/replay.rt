@@ -149,7 +149,7 @@ impl State {
     }
 
     /// Takes the record of an entry, where the member may see one in this state.
-    #[tactic(auto, unfolding(protocol_spec::specs::Member::Replay::is_allowed), using(crate::proofs::Seeing::see_taken_back, crate::proofs::Seeing::see_not_taken))]
+    #[tactic(auto, unfolding(protocol_spec::specs::Member::Replay::is_allowed), using(crate::proofs::Seeing::see_taken_back, crate::proofs::Seeing::see_not_taken, crate::proofs::Seeing::behind_seen))]
     pub(crate) fn take_see_back<S: Sealer>(
         &mut self,
         committee: &Committee,

@@ -122,6 +122,7 @@ impl Course {
     }
 
     /// What the entry does, but for its number and for the checkpoints that it completes.
+    #[tactic(auto, unfolding(protocol_spec::specs::Member::Sequence::seen_what))]
     fn take(&mut self, committee: &Committee, arrival: Arrival) -> Result<SeenWhat, OutOfMemory>
         requires sound { IsSound self.old }
         requires may { MayArrive committee.now (sequence_in self.old) arrival }

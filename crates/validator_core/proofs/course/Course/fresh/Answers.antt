@@ -1,0 +1,25 @@
+use Rattle.std.proofs.Common.{ap, sym, subst, ◌∙◌, false}
+use Rattle.scene_spec.specs.Starts.{AreApart}
+use Rattle.version_assign.specs.Calls.{Admitting}
+use Rattle.version_assign.specs.Sharing.{shared_of}
+use Rattle.version_store.specs.Stores.{Stored}
+use Rattle.validator_core.proofs.Coursing.{empty_sound}
+use Rattle.validator_core.proofs.course.Course.fresh.Goals as goal
+
+pub returns-clause-sound : goal.returns-clause-sound
+returns-clause-sound c =
+    empty_sound
+    (record {
+      epoch = 0;
+      store = c.in_ok-opening.field-0;
+      held = c.new.result;
+      waiting = c.new-2.result;
+      admission = c.in_ok-new.field-0;
+      chain = c.new-4.result;
+      seen = 0;
+      ends = c.new-5.result;
+      ended = false;
+      alloc = c.args.alloc;
+    })
+    (ap (λ (a : Admitting). a.opening) c.in_ok-new.ensures ∙ sym (ap (λ (s : Stored). shared_of s.opening) c.in_ok-opening.ensures), subst (λ (s : Stored). AreApart s.opening) (sym c.in_ok-opening.ensures) c.requires)
+    (ap (λ (a : Admitting). a.admission) c.in_ok-new.ensures) c.new.ensures c.new-2.ensures c.new-4.ensures.value c.new-4.ensures.behind
