@@ -1,24 +1,20 @@
 -- The maps are kept when a store opens, and behind one more execution.
-use Rattle.std.proofs.Common.{◌≡◌, ℕ, ◌+◌, Bool, true, false, cond, List, [], ◌∷◌, ◌++◌, Option, Some, None, is_some, length, map, take, drop, refl, ap, sym, ◌∙◌, option_map, append-nil, arith, subst}
+use Rattle.std.proofs.Common.{◌≡◌, ℕ, ◌+◌, true, false, List, [], ◌∷◌, ◌++◌, length, map, drop, refl, ap, sym, ◌∙◌, option_map, arith, subst}
 use Rattle.std.specs.List.{list_any}
 use Rattle.std.specs.Map.{lookup}
 use Rattle.std.proofs.lemmas.List.{map-append, length-append, length-map}
-use Rattle.std.proofs.Math.Seq.{take-length, drop-length}
+use Rattle.std.proofs.Math.Seq.{take-length}
 use Rattle.tables.proofs.Lookups.{goes_last}
-use Rattle.digest_core.specs.declared.Digest.{Digest}
 use Rattle.chain_types.specs.declared.objects.Object.{Object}
-use Rattle.chain_types.specs.declared.objects.ObjectId.{ObjectId}
 use Rattle.chain_types.specs.declared.objects.ObjectKey.{ObjectKey}
-use Rattle.chain_types.specs.declared.objects.Producer.{Producer}
 use Rattle.chain_types.specs.declared.objects.Producer.TheVariants as producers
 use Rattle.chain_types.specs.Equal.{digest_eq, id_eq, key_eq}
 use Rattle.effects_core.specs.declared.effects.Effects.{Effects}
-use Rattle.protocol_spec.specs.Member.Versions.{Execution, Version, versions, newest, is_deleted, consumer_of, is_executed, object_in}
-use Rattle.version_store.specs.declared.maps.Kept.{Kept}
+use Rattle.protocol_spec.specs.Member.Versions.{Execution, newest, is_deleted, consumer_of, is_executed}
 use Rattle.version_store.specs.declared.maps.Maps.{Maps}
 use Rattle.version_store.specs.declared.maps.Ran.{Ran}
 use Rattle.version_store.specs.Stores.{Stored, are_new, executed_as, held_in, with_execution}
-use Rattle.version_store.specs.Kept.{IsKept, kept_as, kept_object, ran_as, stored, stored_as, executions, written_in}
+use Rattle.version_store.specs.Kept.{IsKept, kept_as, kept_object, stored, stored_as, written_in}
 use Rattle.version_store.specs.Changes.{Adds, Holds, IsEmpty, SameEntries}
 use Rattle.version_store.specs.Steps.{with_versions, with_all_newer}
 use Rattle.version_store.proofs.Held.{made, new_go_last, objects_kept, objects_made, versions_more, versions_opened}

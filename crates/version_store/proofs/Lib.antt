@@ -7,3 +7,4 @@ mod Kept
 mod Places
 mod News
 mod Makers
+mod Reverted

@@ -1,5 +1,5 @@
 -- The live objects, put into their places one after the other.
-use Rattle.std.specs.Prelude.{List, fold, map}
+use Rattle.std.specs.Prelude.{List, fold}
 use Rattle.chain_types.specs.declared.objects.Object.{Object}
 use Rattle.chain_types.specs.declared.objects.ObjectId.{ObjectId}
 use Rattle.protocol_spec.specs.Member.Versions.{live, with_live}

@@ -1,6 +1,5 @@
 -- What a store stands for, and the executions that it can take. Source: Sui Lutris.
 use Rattle.std.specs.Prelude.{Bool, List, [], ◌∷◌, ◌++◌, map, Some}
-use Rattle.digest_core.specs.declared.Digest.{Digest}
 use Rattle.chain_types.specs.declared.objects.Object.{Object}
 use Rattle.chain_types.specs.declared.objects.ObjectKey.{ObjectKey}
 use Rattle.chain_types.specs.declared.objects.Producer.{Producer}

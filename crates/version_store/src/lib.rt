@@ -10,6 +10,7 @@ mod found;
 mod fresh;
 mod live;
 mod maps;
+mod revert;
 mod store;
 
 pub use store::Store;

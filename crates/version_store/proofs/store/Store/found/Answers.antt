@@ -1,4 +1,4 @@
-use Rattle.std.proofs.Common.{◌≡◌, ◌∙◌, Some, None, ap, cond, sym}
+use Rattle.std.proofs.Common.{◌∙◌, Some, None, ap, cond, sym}
 use Rattle.protocol_spec.specs.Member.Rounds.{found}
 use Rattle.version_store.specs.Kept.{stored}
 use Rattle.version_store.specs.Stores.{held_in, wanted_of}

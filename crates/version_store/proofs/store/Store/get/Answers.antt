@@ -1,4 +1,4 @@
-use Rattle.std.proofs.Common.{◌≡◌, ◌∙◌, ap, refl, option_map}
+use Rattle.std.proofs.Common.{◌∙◌, ap, refl, option_map}
 use Rattle.protocol_spec.specs.Member.Versions.{object_in, version_at}
 use Rattle.version_store.specs.Stores.{held_in}
 use Rattle.version_store.specs.Kept.{stored}

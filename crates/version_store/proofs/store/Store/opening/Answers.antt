@@ -1,4 +1,4 @@
-use Rattle.std.proofs.Common.{◌∙◌, ap, length}
+use Rattle.std.proofs.Common.{ap, length}
 use Rattle.version_store.proofs.Kept.{opens}
 use Rattle.version_store.proofs.store.Store.opening.Goals as goal
 
