@@ -139,7 +139,7 @@ written {opened} {old} {mid} {new} {s} {effects} {objects} {slice} {consumed} {c
 
 -- ---- a store that opens
 
-abbrev opening_of : List Object → Stored
+abbrev pub opening_of : List Object → Stored
 opening_of objects = record { opening = objects; executed = [] }
 
 module _ (maps : Maps) (objects : List Object) (versions_are : maps.versions.entries ≡ with_versions producers.Opening [] objects) (newest_is : maps.newest.entries ≡ with_all_newer [] objects)
@@ -186,3 +186,10 @@ opens {n} {none} {mid} {new} {objects} {slice} empty same holds os count fresh =
       subst (λ k. IsKept k new) (sym count) (keeps_opened new objects vs ns es cs ds fresh),
       ap (λ k. stored k new) count ∙ stands_opened new objects vs ns es cs ds fresh,
     )
+
+-- maps that hold nothing
+pub kept_empty : (maps : Maps) → IsEmpty maps → IsKept 0 maps
+kept_empty maps empty = keeps_opened maps [] empty.versions empty.newest empty.executed empty.consumers empty.deleted refl
+
+pub stored_empty : (maps : Maps) → IsEmpty maps → stored 0 maps ≡ opening_of []
+stored_empty maps empty = stands_opened maps [] empty.versions empty.newest empty.executed empty.consumers empty.deleted refl

@@ -8,3 +8,9 @@ mod Places
 mod News
 mod Makers
 mod Reverted
+mod Merging
+mod Rows
+mod Based
+mod Ascending
+mod Turned
+mod Opened

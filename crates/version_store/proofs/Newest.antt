@@ -34,7 +34,7 @@ newest_push id held v =
     by true = refl
     by false = refl
 
-newer_some : (known : Option Object) (o : Object) → Some (newer_of known o) ≡ newer known o
+pub newer_some : (known : Option Object) (o : Object) → Some (newer_of known o) ≡ newer known o
 newer_some None o = refl
 newer_some (Some p) o = by (nat_lt p.version o.version)
   where

@@ -6,11 +6,13 @@
 //! answer is that of the definitions on this list. Look-ups are by maps: none scans what is held.
 #![tactic(auto)]
 
+mod base;
 mod found;
 mod fresh;
 mod live;
 mod maps;
 mod revert;
 mod store;
+mod turn;
 
 pub use store::Store;

@@ -67,20 +67,20 @@ pub(crate) fn add_newer(newest: &mut IndexMap<ObjectId, Object>, object: &Object
     ensures room { spare newest.old ≤ spare newest.new + 1 }
 {
     let newer = match newest.get(&object.id) {
-        Some(held) => newer(held, object),
+        Some(held) => *newer(held, object),
         None => *object,
     };
     insert_in_room(newest, object.id, newer);
 }
 
 /// The newer of two versions of one object.
-fn newer(held: &Object, object: &Object) -> Object
-    ensures { result ≡ newer_of (Some held.now) object.now }
+pub(crate) fn newer<'a>(held: &'a Object, object: &'a Object) -> &'a Object
+    ensures { result.now ≡ newer_of (Some held.now) object.now }
 {
     if held.version < object.version {
-        *object
+        object
     } else {
-        *held
+        held
     }
 }
 
