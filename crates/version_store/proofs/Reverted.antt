@@ -1,6 +1,7 @@
 -- The maps are kept where executed transactions are undone.
 use Rattle.std.proofs.Common.{◌≡◌, ℕ, ◌+◌, ◌-◌, ◌≤◌, Bool, true, false, cond, not, List, [], ◌∷◌, ◌++◌, Option, length, map, take, drop, refl, ap, sym, ◌∙◌, option_map, append_assoc, append-nil, arith}
-use Rattle.std.specs.Prelude.{filter, flat_map}
+use Rattle.std.specs.Prelude.{filter, flat_map, ◌==◌}
+use Rattle.std.proofs.lemmas.Bool.Decides.{Decides-eqb}
 use Rattle.std.specs.List.{list_any}
 use Rattle.std.specs.Map.{lookup}
 use Rattle.std.proofs.lemmas.List.{length-append, length-drop, length-map, length-take-le}
@@ -305,3 +306,25 @@ undone_are kept opened maps {s} {set} view is =
     ap (λ (test : Digest → Bool). filter (λ tx. not (test tx)) (map (λ (e : Digest × Ran). e.0) maps.executed.entries)) (same_kept_set kept set is)
     ∙ undone_among (is_among kept) maps.executed.entries (drop opened (map kept_object maps.versions.entries))
     ∙ ap (undone kept) view
+
+-- where none is undone, the store stays
+all_kept : (test : Digest → Bool) (executed : List Execution) → map (λ (x : Execution). x.digest) (filter (λ (x : Execution). not (test x.digest)) executed) ≡ []
+    → filter (λ (x : Execution). test x.digest) executed ≡ executed
+all_kept test [] none = refl
+all_kept test (x ∷ xs) none = by (test x.digest) none (all_kept test xs)
+  where
+    by : (b : Bool) → map (λ (y : Execution). y.digest) (cond (not b) (x ∷ filter (λ (y : Execution). not (test y.digest)) xs) (filter (λ (y : Execution). not (test y.digest)) xs)) ≡ []
+        → (map (λ (y : Execution). y.digest) (filter (λ (y : Execution). not (test y.digest)) xs) ≡ [] → filter (λ (y : Execution). test y.digest) xs ≡ xs)
+        → cond b (x ∷ filter (λ (y : Execution). test y.digest) xs) (filter (λ (y : Execution). test y.digest) xs) ≡ x ∷ xs
+    by true none more = ap (λ ys. x ∷ ys) (more none)
+    by false none more = absurd (cc)
+
+pub none_undone : (kept : List Digest) (s : Stored) → undone kept s ≡ [] → s ≡ reverted_to kept s
+none_undone kept s none = sym (ap (λ xs. let t : Stored = record { opening = s.opening; executed = xs } in t) (all_kept (is_among kept) s.executed none))
+
+pub no_items : (n : ℕ) (txs : List Digest) → n ≡ length txs → (n == 0) ≡ true → txs ≡ []
+no_items n [] count none = refl
+no_items n (tx ∷ txs) count none =
+    let zero_long : n ≡ 0 = (Decides-eqb n 0).0 none in
+    let longer : n ≡ length (tx ∷ txs) = count in
+    absurd (omega arith)

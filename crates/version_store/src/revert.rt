@@ -151,7 +151,8 @@ impl Maps {
 
 impl Store {
     /// Undoes every executed transaction that is not among these, and answers the undone ones, oldest
-    /// first. A refusal changes nothing. Time grows with what was executed and written in the epoch.
+    /// first. It asks nothing of them: what a kept one read of an undone one is gone all the same. A refusal
+    /// changes nothing. Time grows with what was executed and written in the epoch.
     pub fn revert_to(&mut self, kept: &Seq<Digest>) -> Result<Seq<Digest>, OutOfMemory>
         ensures ok { OnOk result (self.new ≡ reverted_to kept.now self.old) }
         ensures undone { IfOk result (λ txs. txs ≡ undone kept.now self.old) }
@@ -159,6 +160,9 @@ impl Store {
     {
         let kept = set_of(self.alloc, kept)?;
         let undone = not_kept(self.alloc, &self.maps.executed, &kept)?;
+        if undone.is_empty() {
+            return Ok(Seq::new(self.alloc));
+        }
         self.maps.keep(self.alloc, &kept)?;
         Ok(Seq::from_vec(undone))
     }
