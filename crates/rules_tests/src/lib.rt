@@ -6,6 +6,8 @@ mod certificates;
 #[cfg(test)]
 mod decisions;
 #[cfg(test)]
+mod epochs;
+#[cfg(test)]
 mod holders;
 #[cfg(test)]
 mod locks;

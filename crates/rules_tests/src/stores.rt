@@ -8,11 +8,11 @@ use std::test::Fail;
 use version_store::Store;
 use wire_bcs::{OutOfMemory, Seq};
 
-fn id(byte: u8) -> ObjectId {
+pub(crate) fn id(byte: u8) -> ObjectId {
     ObjectId(Digest([byte; 32]))
 }
 
-fn coin(byte: u8, version: u64, balance: u64) -> Object {
+pub(crate) fn coin(byte: u8, version: u64, balance: u64) -> Object {
     Object {
         id: id(byte),
         version,
@@ -24,7 +24,7 @@ fn coin(byte: u8, version: u64, balance: u64) -> Object {
     }
 }
 
-fn key(byte: u8, version: u64) -> ObjectKey {
+pub(crate) fn key(byte: u8, version: u64) -> ObjectKey {
     ObjectKey {
         id: id(byte),
         version,
@@ -33,7 +33,7 @@ fn key(byte: u8, version: u64) -> ObjectKey {
 
 /// A store that opens with these objects, where none stands there twice.
 #[tactic(auto, unfolding(protocol_spec::specs::Member::Versions::versions))]
-fn opened(alloc: Global, objects: &[Object]) -> Result<Option<Store>, OutOfMemory> {
+pub(crate) fn opened(alloc: Global, objects: &[Object]) -> Result<Option<Store>, OutOfMemory> {
     let objects = Seq::from_slice(alloc, objects)?;
     let empty = Store::opening(alloc, &Seq::new(alloc))?;
     if !empty.are_new(&objects)? {

@@ -1,6 +1,5 @@
 -- The executions that the maps stand for.
 use Rattle.std.proofs.Common.{◌≡◌, ℕ, ◌+◌, ◌-◌, ◌≤◌, Bool, true, false, cond, List, [], ◌∷◌, ◌++◌, Option, Some, None, is_some, length, take, drop, refl, ap, sym, ◌∙◌, option_map, arith}
-use Rattle.std.specs.Prelude.{find}
 use Rattle.std.specs.Map.{lookup}
 use Rattle.std.proofs.lemmas.List.{take-append-le, drop-append-le, length-drop}
 use Rattle.std.proofs.Math.Seq.{take-length}
@@ -10,7 +9,7 @@ use Rattle.chain_types.specs.Equal.{digest_eq}
 use Rattle.effects_core.specs.declared.effects.Effects.{Effects}
 use Rattle.protocol_spec.specs.Member.Versions.{Execution, execution_of}
 use Rattle.version_store.specs.declared.maps.Ran.{Ran}
-use Rattle.version_store.specs.Stores.{Stored, executed_as, with_execution}
+use Rattle.version_store.specs.Stores.{Stored, with_execution}
 use Rattle.version_store.specs.Kept.{executions, ran_as, stored_as, written_in}
 use Rattle.version_store.proofs.Equality.{digest_same, digest_self, turn}
 

@@ -1,11 +1,10 @@
 -- The versions under their keys: look-ups, and what goes last.
 use Rattle.std.proofs.Common.{◌≡◌, Bool, true, false, cond, ◌&&◌, ◌||◌, not, List, [], ◌∷◌, ◌++◌, Option, Some, None, is_some, map, refl, ap, sym, ◌∙◌, option_map, append_assoc, append-nil}
-use Rattle.std.specs.Prelude.{find, fold, flat_map}
+use Rattle.std.specs.Prelude.{flat_map}
 use Rattle.std.specs.List.{list_any}
 use Rattle.std.specs.Map.{lookup}
 use Rattle.std.proofs.lemmas.List.{map-append}
 use Rattle.std.proofs.lemmas.Grind.{flat_map-append}
-use Rattle.indexmap.specs.IndexMap.{insert_entry}
 use Rattle.tables.proofs.Lookups.{goes_last}
 use Rattle.chain_types.specs.declared.objects.Object.{Object}
 use Rattle.chain_types.specs.declared.objects.ObjectKey.{ObjectKey}
@@ -14,12 +13,12 @@ use Rattle.chain_types.specs.declared.objects.Producer.TheVariants as producers
 use Rattle.chain_types.specs.Equal.{key_eq}
 use Rattle.protocol_spec.specs.Chain.Words.{repeats}
 use Rattle.protocol_spec.specs.Chain.Keys.{object_key}
-use Rattle.protocol_spec.specs.Member.Versions.{Execution, Version, versions, is_key, version_at, object_in, opened, written, written_by}
-use Rattle.protocol_spec.specs.Member.Rounds.{holds_key, writes_new}
+use Rattle.protocol_spec.specs.Member.Versions.{Execution, Version, versions, is_key, version_at, object_in, opened, written_by}
+use Rattle.protocol_spec.specs.Member.Rounds.{holds_key}
 use Rattle.version_store.specs.declared.maps.Kept.{Kept}
 use Rattle.version_store.specs.Stores.{are_new}
 use Rattle.version_store.specs.Kept.{kept_as, kept_object}
-use Rattle.version_store.specs.Steps.{with_version, with_versions}
+use Rattle.version_store.specs.Steps.{with_versions}
 use Rattle.version_store.proofs.Equality.{key_same, key_self, turn}
 use Rattle.version_store.proofs.Lists.{any_push, or_false, and_true, not_true}
 

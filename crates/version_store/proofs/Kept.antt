@@ -1,24 +1,20 @@
 -- The maps are kept when a store opens, and behind one more execution.
-use Rattle.std.proofs.Common.{◌≡◌, ℕ, ◌+◌, Bool, true, false, cond, List, [], ◌∷◌, ◌++◌, Option, Some, None, is_some, length, map, take, drop, refl, ap, sym, ◌∙◌, option_map, append-nil, arith, subst}
+use Rattle.std.proofs.Common.{◌≡◌, ℕ, ◌+◌, true, false, List, [], ◌∷◌, ◌++◌, length, map, drop, refl, ap, sym, ◌∙◌, option_map, arith, subst}
 use Rattle.std.specs.List.{list_any}
 use Rattle.std.specs.Map.{lookup}
 use Rattle.std.proofs.lemmas.List.{map-append, length-append, length-map}
-use Rattle.std.proofs.Math.Seq.{take-length, drop-length}
+use Rattle.std.proofs.Math.Seq.{take-length}
 use Rattle.tables.proofs.Lookups.{goes_last}
-use Rattle.digest_core.specs.declared.Digest.{Digest}
 use Rattle.chain_types.specs.declared.objects.Object.{Object}
-use Rattle.chain_types.specs.declared.objects.ObjectId.{ObjectId}
 use Rattle.chain_types.specs.declared.objects.ObjectKey.{ObjectKey}
-use Rattle.chain_types.specs.declared.objects.Producer.{Producer}
 use Rattle.chain_types.specs.declared.objects.Producer.TheVariants as producers
 use Rattle.chain_types.specs.Equal.{digest_eq, id_eq, key_eq}
 use Rattle.effects_core.specs.declared.effects.Effects.{Effects}
-use Rattle.protocol_spec.specs.Member.Versions.{Execution, Version, versions, newest, is_deleted, consumer_of, is_executed, object_in}
-use Rattle.version_store.specs.declared.maps.Kept.{Kept}
+use Rattle.protocol_spec.specs.Member.Versions.{Execution, newest, is_deleted, consumer_of, is_executed}
 use Rattle.version_store.specs.declared.maps.Maps.{Maps}
 use Rattle.version_store.specs.declared.maps.Ran.{Ran}
 use Rattle.version_store.specs.Stores.{Stored, are_new, executed_as, held_in, with_execution}
-use Rattle.version_store.specs.Kept.{IsKept, kept_as, kept_object, ran_as, stored, stored_as, executions, written_in}
+use Rattle.version_store.specs.Kept.{IsKept, kept_as, kept_object, stored, stored_as, written_in}
 use Rattle.version_store.specs.Changes.{Adds, Holds, IsEmpty, SameEntries}
 use Rattle.version_store.specs.Steps.{with_versions, with_all_newer}
 use Rattle.version_store.proofs.Held.{made, new_go_last, objects_kept, objects_made, versions_more, versions_opened}
@@ -143,7 +139,7 @@ written {opened} {old} {mid} {new} {s} {effects} {objects} {slice} {consumed} {c
 
 -- ---- a store that opens
 
-abbrev opening_of : List Object → Stored
+abbrev pub opening_of : List Object → Stored
 opening_of objects = record { opening = objects; executed = [] }
 
 module _ (maps : Maps) (objects : List Object) (versions_are : maps.versions.entries ≡ with_versions producers.Opening [] objects) (newest_is : maps.newest.entries ≡ with_all_newer [] objects)
@@ -190,3 +186,10 @@ opens {n} {none} {mid} {new} {objects} {slice} empty same holds os count fresh =
       subst (λ k. IsKept k new) (sym count) (keeps_opened new objects vs ns es cs ds fresh),
       ap (λ k. stored k new) count ∙ stands_opened new objects vs ns es cs ds fresh,
     )
+
+-- maps that hold nothing
+pub kept_empty : (maps : Maps) → IsEmpty maps → IsKept 0 maps
+kept_empty maps empty = keeps_opened maps [] empty.versions empty.newest empty.executed empty.consumers empty.deleted refl
+
+pub stored_empty : (maps : Maps) → IsEmpty maps → stored 0 maps ≡ opening_of []
+stored_empty maps empty = stands_opened maps [] empty.versions empty.newest empty.executed empty.consumers empty.deleted refl

@@ -7,3 +7,10 @@ mod Kept
 mod Places
 mod News
 mod Makers
+mod Reverted
+mod Merging
+mod Rows
+mod Based
+mod Ascending
+mod Turned
+mod Opened

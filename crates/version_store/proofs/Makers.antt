@@ -7,21 +7,17 @@ use Rattle.std.proofs.lemmas.Map.Keys.{IsDistinct-head, IsDistinct-tail}
 use Rattle.chain_types.specs.declared.objects.Object.{Object}
 use Rattle.chain_types.specs.declared.objects.ObjectKey.{ObjectKey}
 use Rattle.chain_types.specs.declared.objects.Producer.{Producer}
+use Rattle.chain_types.specs.declared.objects.Producer.TheVariants as producers
 use Rattle.chain_types.specs.Equal.{key_eq}
 use Rattle.protocol_spec.specs.Chain.Tests.{producer_eq}
 use Rattle.protocol_spec.specs.Chain.Keys.{object_key}
-use Rattle.protocol_spec.specs.Member.Versions.{Version, is_key, object_in, version_at}
-use Rattle.protocol_spec.specs.Member.Rounds.{found, is_wanted}
+use Rattle.protocol_spec.specs.Member.Versions.{Version, is_key, object_in, opened, version_at}
+use Rattle.protocol_spec.specs.Member.Rounds.{is_wanted}
 use Rattle.version_store.specs.declared.maps.Kept.{Kept}
 use Rattle.version_store.specs.Kept.{kept_as}
-use Rattle.version_store.specs.Stores.{wanted_of}
+use Rattle.version_store.specs.Makers.{made_by}
 use Rattle.version_store.proofs.Equality.{key_same, key_self, turn}
 use Rattle.version_store.proofs.Held.{kept_of, lookup_kept}
-
--- what the map has under a key, where this producer made it
-abbrev pub made_by : Producer → Option Kept → Option Object
-made_by p None = None
-made_by p (Some kept) = cond (producer_eq kept.producer p) (Some kept.object) None
 
 -- no version of the key is behind one of this key
 none_behind : (key : ObjectKey) (p : Producer) (v : Version) (vs : List Version) → object_key v.object ≡ key
@@ -50,9 +46,26 @@ found_among key p (v ∷ vs) apart =
     go true is more = here (producer_eq v.producer p) (key_same (object_key v.object) key is)
     go false is more = more
 
--- what a look-up found, where this producer made it
-pub found_by : (held : List Version) (entries : List (ObjectKey × Kept)) (key : ObjectKey) (p : Producer) (o : Option Kept) → entries ≡ map kept_as held → IsDistinct key_eq (keys_of entries)
-    → o ≡ lookup (key_eq key) entries → made_by p o ≡ found held (wanted_of key p)
-found_by held entries key p o is apart looked =
-    ap (made_by p) (looked ∙ ap (lookup (key_eq key)) is ∙ lookup_kept held key)
+-- a look-up in the map, where this producer made it
+pub found_in : (held : List Version) (entries : List (ObjectKey × Kept)) (key : ObjectKey) (p : Producer) → entries ≡ map kept_as held → IsDistinct key_eq (keys_of entries)
+    → made_by p (lookup (key_eq key) entries) ≡ option_map object_in (find (is_wanted key (Some p)) held)
+found_in held entries key p is apart =
+    ap (made_by p) (ap (lookup (key_eq key)) is ∙ lookup_kept held key)
     ∙ found_among key p held (subst (λ es. IsDistinct key_eq (keys_of es)) is apart)
+
+-- of opening objects each was made so
+pub found_opened : (key : ObjectKey) (p : Producer) (objects : List Object)
+    → find (is_wanted key (Some p)) (map opened objects) ≡ cond (producer_eq producers.Opening p) (version_at (map opened objects) key) None
+found_opened key p [] = by (producer_eq producers.Opening p)
+  where
+    by : (b : Bool) → let none : Option Version = None in none ≡ cond b None None
+    by true = refl
+    by false = refl
+found_opened key p (o ∷ os) =
+    ap (cond (is_key key (opened o) && producer_eq producers.Opening p) (Some (opened o))) (found_opened key p os)
+    ∙ by (is_key key (opened o)) (producer_eq producers.Opening p)
+  where
+    by : (a b : Bool) → cond (a && b) (Some (opened o)) (cond b (version_at (map opened os) key) None) ≡ cond b (cond a (Some (opened o)) (version_at (map opened os) key)) None
+    by true true = refl
+    by true false = refl
+    by false b = refl

@@ -1,13 +1,13 @@
 -- The newest version of each id, the deleted ids, and who consumed a key.
 use Rattle.std.proofs.Common.{◌≡◌, Bool, true, false, cond, ◌||◌, List, [], ◌∷◌, ◌++◌, Option, Some, None, is_some, map, refl, ap, sym, ◌∙◌, option_map, append_assoc, append-nil, nat_lt}
-use Rattle.std.specs.Prelude.{filter, find, fold}
+use Rattle.std.specs.Prelude.{filter, fold}
 use Rattle.std.specs.List.{list_any}
 use Rattle.std.specs.Map.{lookup}
 use Rattle.std.proofs.lemmas.List.{map-append}
 use Rattle.std.proofs.lemmas.List.Elements.{filter-append}
 use Rattle.std.proofs.lemmas.List.Sums.{fold-append}
 use Rattle.indexmap.specs.IndexMap.{insert_entry}
-use Rattle.indexmap.specs.IndexSet.{insert_all, insert_key}
+use Rattle.indexmap.specs.IndexSet.{insert_all}
 use Rattle.digest_core.specs.declared.Digest.{Digest}
 use Rattle.chain_types.specs.declared.objects.Object.{Object}
 use Rattle.chain_types.specs.declared.objects.ObjectId.{ObjectId}
@@ -19,7 +19,7 @@ use Rattle.protocol_spec.specs.Member.Versions.{Execution, Version, is_id, newer
 use Rattle.version_store.specs.Steps.{newer_of, with_newer, with_all_newer, with_consumer, with_consumers}
 use Rattle.version_store.proofs.Equality.{id_same, id_self, key_same, key_self, turn}
 use Rattle.version_store.proofs.Held.{made}
-use Rattle.version_store.proofs.Lists.{or_else, lookup_insert, find_push, any_push}
+use Rattle.version_store.proofs.Lists.{or_else, lookup_insert, find_push, any_insert_all, any_push}
 
 -- ---- the newest version
 
@@ -34,7 +34,7 @@ newest_push id held v =
     by true = refl
     by false = refl
 
-newer_some : (known : Option Object) (o : Object) → Some (newer_of known o) ≡ newer known o
+pub newer_some : (known : Option Object) (o : Object) → Some (newer_of known o) ≡ newer known o
 newer_some None o = refl
 newer_some (Some p) o = by (nat_lt p.version o.version)
   where
@@ -43,7 +43,7 @@ newer_some (Some p) o = by (nat_lt p.version o.version)
     by false = refl
 
 -- one more object
-newest_step : (live : List (ObjectId × Object)) (held : List Version) (producer : Producer) (o : Object) → ((id : ObjectId) → lookup (id_eq id) live ≡ newest id held)
+pub newest_step : (live : List (ObjectId × Object)) (held : List Version) (producer : Producer) (o : Object) → ((id : ObjectId) → lookup (id_eq id) live ≡ newest id held)
     → (id : ObjectId) → lookup (id_eq id) (with_newer live o) ≡ newest id (held ++ made producer o ∷ [])
 newest_step live held producer o is id =
     lookup_insert id_eq id_same id_self live o.id (newer_of (lookup (id_eq o.id) live) o) id
@@ -73,43 +73,11 @@ newest_more (o ∷ os) live held producer is id =
 
 -- ---- deleted ids
 
-or_swap : (a b c : Bool) → ((a || b) || c) ≡ (a || (b || c))
-or_swap true b c = refl
-or_swap false b c = refl
-
-marks_one : (ids : List ObjectId) (i id : ObjectId) → list_any (id_eq id) (insert_key id_eq ids i) ≡ (list_any (id_eq id) ids || id_eq id i)
-marks_one ids i id = by (list_any (id_eq i) ids) refl
-  where
-    has : (xs : List ObjectId) → id_eq id i ≡ true → list_any (id_eq i) xs ≡ true → list_any (id_eq id) xs ≡ true
-    has xs h there = ap (λ (x : ObjectId). list_any (id_eq x) xs) (id_same id i h) ∙ there
-
-    absorb : (a b : Bool) → (b ≡ true → a ≡ true) → a ≡ (a || b)
-    absorb true b f = refl
-    absorb false false f = refl
-    absorb false true f = f refl
-
-    by : (b : Bool) → list_any (id_eq i) ids ≡ b → list_any (id_eq id) (insert_key id_eq ids i) ≡ (list_any (id_eq id) ids || id_eq id i)
-    by true there =
-        ap (λ b. list_any (id_eq id) (cond b ids (ids ++ i ∷ []))) there
-        ∙ absorb (list_any (id_eq id) ids) (id_eq id i) (λ h. has ids h there)
-    by false there = ap (λ b. list_any (id_eq id) (cond b ids (ids ++ i ∷ []))) there ∙ any_push (id_eq id) ids i
-
-marks_all : (more ids : List ObjectId) (id : ObjectId) → list_any (id_eq id) (insert_all id_eq ids more) ≡ (list_any (id_eq id) ids || has_id more id)
-marks_all [] ids id = or_none (list_any (id_eq id) ids)
-  where
-    or_none : (a : Bool) → a ≡ (a || false)
-    or_none true = refl
-    or_none false = refl
-marks_all (i ∷ is) ids id =
-    marks_all is (insert_key id_eq ids i) id
-    ∙ ap (λ b. b || has_id is id) (marks_one ids i id)
-    ∙ or_swap (list_any (id_eq id) ids) (id_eq id i) (has_id is id)
-
 -- behind one more execution
 pub deleted_more : (ids : List ObjectId) (executed : List Execution) (x : Execution) → ((id : ObjectId) → list_any (id_eq id) ids ≡ is_deleted executed id)
     → (id : ObjectId) → list_any (id_eq id) (insert_all id_eq ids x.gave.effects.deleted) ≡ is_deleted (executed ++ x ∷ []) id
 deleted_more ids executed x is id =
-    marks_all x.gave.effects.deleted ids id
+    any_insert_all id_eq id_same x.gave.effects.deleted ids id
     ∙ ap (λ b. b || has_id x.gave.effects.deleted id) (is id)
     ∙ sym (any_push (λ (y : Execution). has_id y.gave.effects.deleted id) executed x)
 

@@ -1,7 +1,8 @@
 -- What the maps of a store have room for, and how an execution changes them.
-use Rattle.std.specs.Prelude.{◌≡◌, ◌≤◌, ℕ, List, [], length}
-use Rattle.indexmap.specs.IndexMap.{insert_entry, spare}
+use Rattle.std.specs.Prelude.{◌≡◌, ◌≤◌, ℕ, List, [], length, filter}
+use Rattle.indexmap.specs.IndexMap.{insert_entry, spare, values}
 use Rattle.indexmap.specs.IndexSet.{insert_all, spare as set_spare}
+use Rattle.digest_core.specs.declared.Digest.{Digest}
 use Rattle.chain_types.specs.declared.objects.Object.{Object}
 use Rattle.chain_types.specs.declared.objects.ObjectKey.{ObjectKey}
 use Rattle.chain_types.specs.declared.objects.Producer.{Producer}
@@ -10,6 +11,7 @@ use Rattle.chain_types.specs.Equal.{digest_eq, id_eq}
 use Rattle.effects_core.specs.declared.effects.Effects.{Effects}
 use Rattle.version_store.specs.declared.maps.Maps.{Maps}
 use Rattle.version_store.specs.Steps.{with_all_newer, with_consumers, with_versions}
+use Rattle.version_store.specs.Reverts.{consumers_staying, deleted_staying, newest_staying, ran_stays, version_stays}
 
 -- maps that hold nothing
 pub record IsEmpty (maps : Maps) : Type 0 where
@@ -50,3 +52,11 @@ pub record Adds (old new : Maps) (effects : Effects) (objects : List Object) (co
   pub deleted : new.deleted.keys ≡ insert_all id_eq old.deleted.keys effects.deleted
   pub consumers : new.consumers.entries ≡ with_consumers effects.tx old.consumers.entries consumed
   pub executed : new.executed.entries ≡ insert_entry digest_eq old.executed.entries effects.tx (record { consumed = consumed; effects = effects; written = length objects })
+
+-- only what the kept transactions did stays
+pub record Keeps (old new : Maps) (kept : List Digest) : Type 0 where
+  pub versions : new.versions.entries ≡ filter (version_stays kept) old.versions.entries
+  pub executed : new.executed.entries ≡ filter (ran_stays kept) old.executed.entries
+  pub newest : new.newest.entries ≡ newest_staying kept [] (values old.versions)
+  pub consumers : new.consumers.entries ≡ consumers_staying kept [] old.executed.entries
+  pub deleted : new.deleted.keys ≡ deleted_staying kept [] old.executed.entries

@@ -1,6 +1,9 @@
 pub mod Stores
 pub mod Kept
+pub mod Bases
 pub mod Steps
+pub mod Reverts
 pub mod Changes
 pub mod Live
 pub mod Fresh
+pub mod Makers

@@ -1,5 +1,5 @@
 -- One step of each map of a store.
-use Rattle.std.specs.Prelude.{ℕ, Bool, nat_lt, List, [], ◌∷◌, Option, Some, None, is_some, fold, if◌then◌else◌}
+use Rattle.std.specs.Prelude.{nat_lt, List, Option, Some, None, is_some, fold, if◌then◌else◌}
 use Rattle.std.specs.Map.{lookup}
 use Rattle.indexmap.specs.IndexMap.{insert_entry}
 use Rattle.digest_core.specs.declared.Digest.{Digest}

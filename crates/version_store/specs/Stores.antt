@@ -1,12 +1,11 @@
 -- What a store stands for, and the executions that it can take. Source: Sui Lutris.
 use Rattle.std.specs.Prelude.{Bool, List, [], ◌∷◌, ◌++◌, map, Some}
-use Rattle.digest_core.specs.declared.Digest.{Digest}
 use Rattle.chain_types.specs.declared.objects.Object.{Object}
 use Rattle.chain_types.specs.declared.objects.ObjectKey.{ObjectKey}
 use Rattle.chain_types.specs.declared.objects.Producer.{Producer}
 use Rattle.effects_core.specs.declared.effects.Effects.{Effects}
 use Rattle.protocol_spec.specs.Chain.Keys.{object_key}
-use Rattle.protocol_spec.specs.Member.Versions.{Execution, Version, versions}
+use Rattle.protocol_spec.specs.Member.Versions.{Execution, Version, live_list, versions}
 use Rattle.protocol_spec.specs.Member.Rounds.{Wanted, writes_new}
 
 -- the objects with which the epoch opened, and the transactions executed since, in order
@@ -37,3 +36,7 @@ with_execution s x = record s { executed = s.executed ++ x ∷ [] }
 -- a version of this key, made by this producer
 abbrev pub wanted_of : ObjectKey → Producer → Wanted
 wanted_of key producer = record { key = key; producer = Some producer }
+
+-- the store of the next epoch: it opens with the live objects
+abbrev pub next_epoch : Stored → Stored
+next_epoch s = record { opening = live_list s.opening s.executed; executed = [] }

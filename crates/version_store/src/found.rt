@@ -1,12 +1,21 @@
 //! The version of a key that a certain producer made.
 
-ghost use Rattle.std.specs.Prelude.{◌≡◌, option_copied};
+ghost use Rattle.std.specs.Prelude.{◌≡◌, None, option_copied, if◌then◌else◌};
+ghost use Rattle.std.specs.Map.{lookup};
+ghost use Rattle.indexmap.specs.IndexMap.{IsUnique};
+ghost use Rattle.chain_types.specs.declared.objects.Producer.TheVariants as producers;
+ghost use Rattle.chain_types.specs.Equal.{id_eq, key_eq};
 ghost use Rattle.protocol_spec.specs.Chain.Tests.{producer_eq};
 ghost use Rattle.protocol_spec.specs.Member.Rounds.{found};
+ghost use Rattle.version_store.specs.Bases.{at_version};
+ghost use Rattle.version_store.specs.Makers.{made_by};
 ghost use Rattle.version_store.specs.Stores.{held_in, wanted_of};
 
+use crate::base::at_version;
+use crate::maps::Kept;
 use crate::store::Store;
-use chain_types::{Object, ObjectKey, Producer};
+use chain_types::{Object, ObjectId, ObjectKey, Producer};
+use indexmap::IndexMap;
 
 /// Whether one made both.
 fn is_producer(made: &Producer, wanted: &Producer) -> bool
@@ -15,23 +24,53 @@ fn is_producer(made: &Producer, wanted: &Producer) -> bool
     *made == *wanted
 }
 
+/// The object of this version, where it is an opening object and is to be one.
+fn found_opening<'a>(
+    base: &'a IndexMap<ObjectId, Object>,
+    key: &ObjectKey,
+    producer: &Producer,
+) -> Option<&'a Object>
+    ensures { option_copied result ≡ (if producer_eq producers.Opening producer.now then at_version key.now.version (lookup (id_eq key.now.id) base.now.entries) else None) }
+{
+    if is_producer(&Producer::Opening, producer) {
+        at_version(base, key)
+    } else {
+        None
+    }
+}
+
+/// The object of this version, where the map has it of this producer.
+fn found_among<'a>(
+    versions: &'a IndexMap<ObjectKey, Kept>,
+    key: &ObjectKey,
+    producer: &Producer,
+) -> Option<&'a Object>
+    ensures made { option_copied result ≡ made_by producer.now (lookup (key_eq key.now) versions.now.entries) }
+    ensures unique { IsUnique key_eq versions.now }
+{
+    // A map's count says that no key comes twice.
+    let _held = versions.len();
+    match versions.get(key) {
+        Some(kept) => {
+            if is_producer(&kept.producer, producer) {
+                Some(&kept.object)
+            } else {
+                None
+            }
+        }
+        None => None,
+    }
+}
+
 impl Store {
     /// The object of this version, where it is held and this is who made it; none exactly where it is not
     /// held, or another made it. Takes no memory.
     pub fn found(&self, key: &ObjectKey, producer: &Producer) -> Option<&Object>
         ensures { option_copied result ≡ found (held_in self.now) (wanted_of key.now producer.now) }
     {
-        // A map's count says that no key comes twice.
-        let _held = self.maps.versions.len();
-        match self.maps.versions.get(key) {
-            Some(kept) => {
-                if is_producer(&kept.producer, producer) {
-                    Some(&kept.object)
-                } else {
-                    None
-                }
-            }
-            None => None,
+        match found_opening(&self.base, key, producer) {
+            Some(object) => Some(object),
+            None => found_among(&self.maps.versions, key, producer),
         }
     }
 }

@@ -38,7 +38,7 @@ impl Store {
     fn holds(&self, key: &ObjectKey) -> bool
         ensures { result ≡ holds_key (held_in self.now) key.now }
     {
-        self.maps.versions.contains_key(key)
+        self.get(key).is_some()
     }
 
     /// Whether each of these objects is a version that is not held, and none stands there twice: what

@@ -1,10 +1,10 @@
 //! The live objects, by ascending id.
 
-ghost use Rattle.std.specs.Prelude.{◌≡◌, [], ℕ, IfOk, OnOk};
+ghost use Rattle.std.specs.Prelude.{◌≡◌, [], ℕ, IfOk, OnOk, map};
 ghost use Rattle.std.specs.BTreeMap.{values as values_in};
-ghost use Rattle.indexmap.specs.IndexMap.{values};
+ghost use Rattle.indexmap.specs.IndexMap.{keys, values};
 ghost use Rattle.protocol_spec.specs.Member.Versions.{live_list, with_live};
-ghost use Rattle.version_store.specs.Live.{all_live};
+ghost use Rattle.version_store.specs.Live.{all_live, kept_id};
 
 use crate::maps::Kept;
 use crate::store::Store;
@@ -27,19 +27,32 @@ fn add_live(
     Ok(())
 }
 
-/// The live objects among the ids of these versions, under their ids.
-fn live_among(
-    alloc: Global,
+/// Puts the live objects with these ids into their places.
+fn add_live_under(
+    live: &mut BTreeMap<ObjectId, Object>,
+    store: &Store,
+    base: &IndexMap<ObjectId, Object>,
+) -> Result<(), OutOfMemory>
+    ensures { OnOk result (live.new.entries ≡ all_live store.now live.old.entries (keys base.now)) }
+{
+    for id in base.keys() {
+        add_live(live, store.live(id).copied())?;
+    }
+    Ok(())
+}
+
+/// Puts the live objects with the ids of these versions into their places.
+fn add_live_among(
+    live: &mut BTreeMap<ObjectId, Object>,
     store: &Store,
     versions: &IndexMap<ObjectKey, Kept>,
-) -> Result<BTreeMap<ObjectId, Object>, OutOfMemory>
-    ensures { IfOk result (λ m. m.entries ≡ all_live store.now [] (values versions.now)) }
+) -> Result<(), OutOfMemory>
+    ensures { OnOk result (live.new.entries ≡ all_live store.now live.old.entries (map kept_id (values versions.now))) }
 {
-    let mut live = BTreeMap::new(alloc);
     for kept in versions.values() {
-        add_live(&mut live, store.live(&kept.object.id).copied())?;
+        add_live(live, store.live(&kept.object.id).copied())?;
     }
-    Ok(live)
+    Ok(())
 }
 
 /// The values of a map, in the order of its keys.
@@ -51,11 +64,12 @@ fn values_of(alloc: Global, map: BTreeMap<ObjectId, Object>) -> Result<Vec<Objec
 
 impl Store {
     /// The live objects by ascending id. Time grows with the number of held versions.
-    #[tactic(auto, unfolding(protocol_spec::specs::Member::Versions::live_list))]
     pub fn live_list(&self) -> Result<Seq<Object>, OutOfMemory>
         ensures { IfOk result (λ objects. objects ≡ live_list self.now.opening self.now.executed) }
     {
-        let live = live_among(self.alloc, self, &self.maps.versions)?;
+        let mut live = BTreeMap::new(self.alloc);
+        add_live_under(&mut live, self, &self.base)?;
+        add_live_among(&mut live, self, &self.maps.versions)?;
         let objects = values_of(self.alloc, live)?;
         Ok(Seq::from_vec(objects))
     }

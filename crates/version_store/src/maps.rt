@@ -61,26 +61,26 @@ fn add_versions(versions: &mut IndexMap<ObjectKey, Kept>, objects: &[Object], pr
 }
 
 /// Puts an object under its id, unless a newer one is there; there is room.
-fn add_newer(newest: &mut IndexMap<ObjectId, Object>, object: &Object)
+pub(crate) fn add_newer(newest: &mut IndexMap<ObjectId, Object>, object: &Object)
     requires { 0 < spare newest.old }
     ensures entries { newest.new.entries ≡ with_newer newest.old.entries object.now }
     ensures room { spare newest.old ≤ spare newest.new + 1 }
 {
     let newer = match newest.get(&object.id) {
-        Some(held) => newer(held, object),
+        Some(held) => *newer(held, object),
         None => *object,
     };
     insert_in_room(newest, object.id, newer);
 }
 
 /// The newer of two versions of one object.
-fn newer(held: &Object, object: &Object) -> Object
-    ensures { result ≡ newer_of (Some held.now) object.now }
+pub(crate) fn newer<'a>(held: &'a Object, object: &'a Object) -> &'a Object
+    ensures { result.now ≡ newer_of (Some held.now) object.now }
 {
     if held.version < object.version {
-        *object
+        object
     } else {
-        *held
+        held
     }
 }
 
@@ -107,7 +107,7 @@ fn add_id(deleted: &mut IndexSet<ObjectId>, id: ObjectId)
 }
 
 /// Marks each of the ids; there is room.
-fn add_ids(deleted: &mut IndexSet<ObjectId>, ids: &[ObjectId])
+pub(crate) fn add_ids(deleted: &mut IndexSet<ObjectId>, ids: &[ObjectId])
     requires { length ids.now ≤ set_spare deleted.old }
     ensures { deleted.new.keys ≡ insert_all id_eq deleted.old.keys ids.now }
 {
@@ -128,7 +128,11 @@ fn add_consumer(consumers: &mut IndexMap<ObjectKey, Digest>, key: ObjectKey, tx:
 }
 
 /// Says who consumed each of the keys, unless it is known; there is room.
-fn add_consumers(consumers: &mut IndexMap<ObjectKey, Digest>, keys: &[ObjectKey], tx: Digest)
+pub(crate) fn add_consumers(
+    consumers: &mut IndexMap<ObjectKey, Digest>,
+    keys: &[ObjectKey],
+    tx: Digest,
+)
     requires { length keys.now ≤ spare consumers.old }
     ensures { consumers.new.entries ≡ with_consumers tx consumers.old.entries keys.now }
 {

@@ -4,10 +4,12 @@ ghost use Rattle.std.specs.Prelude.{◌≡◌, [], IfOk, OnErr, OnOk, false, tru
 ghost use Rattle.protocol_spec.specs.Member.Versions.{Execution, Version, consumer_of, execution_of, is_executed, live, newest, object_in, version_at};
 ghost use Rattle.version_store.specs.Stores.{are_new, executed_as, held_in, with_execution};
 
-use crate::maps::Maps;
+use crate::base::{at_version, behind, front_of};
+use crate::maps::{Maps, newer};
 use chain_types::{Object, ObjectId, ObjectKey, Producer};
 use digest_core::Digest;
 use effects_core::Effects;
+use indexmap::IndexMap;
 use std::alloc::Global;
 use std::marker::Model;
 use wire_bcs::{OutOfMemory, Seq};
@@ -16,21 +18,27 @@ use wire_bcs::{OutOfMemory, Seq};
 /// transactions in order.
 #[derive(Drop)]
 pub struct Store {
+    /// The objects with which the epoch opened, under their ids; after a turn all of them. Of a set-up that
+    /// has an id twice, those from the second one on are among the versions.
+    pub(crate) base: IndexMap<ObjectId, Object>,
+    /// Whether contracts see the base by ascending id, as behind a turn, or in its own order.
+    pub(crate) turned: bool,
+    /// What this epoch wrote, executed, consumed and deleted.
     pub(crate) maps: Maps,
-    /// How many objects the epoch opened with.
-    opened: usize,
+    /// How many of the versions the epoch opened with too.
+    pub(crate) opened: usize,
     pub(crate) alloc: Global,
 }
 
 impl Model for Store {
     ghost use Rattle.version_store.specs.Stores.{Stored};
-    ghost use Rattle.version_store.specs.Kept.{IsKept, stored};
+    ghost use Rattle.version_store.specs.Bases.{IsHeld, stored_over};
 
     ghost Value = { Stored };
 
-    ghost view = { λ s. stored s.opened s.maps };
+    ghost view = { λ s. stored_over s.turned s.base.entries s.opened s.maps };
 
-    ghost invariant = { λ s. IsKept s.opened s.maps };
+    ghost invariant = { λ s. IsHeld s.turned s.base.entries s.opened s.maps };
 }
 
 impl Store {
@@ -39,12 +47,16 @@ impl Store {
         requires { are_new [] objects.now ≡ true }
         ensures { IfOk result (λ s. s ≡ record { opening = objects.now; executed = [] }) }
     {
+        let base = front_of(alloc, objects.as_slice())?;
+        let rest = behind(objects.as_slice(), base.len());
         let mut maps = Maps::new(alloc);
-        maps.make_room(objects.as_slice().len(), 0, 0)?;
-        maps.hold(objects.as_slice(), Producer::Opening);
+        maps.make_room(rest.len(), 0, 0)?;
+        maps.hold(rest, Producer::Opening);
         Ok(Store {
+            base,
+            turned: false,
             maps,
-            opened: objects.as_slice().len(),
+            opened: rest.len(),
             alloc,
         })
     }
@@ -76,9 +88,12 @@ impl Store {
     pub fn get(&self, key: &ObjectKey) -> Option<&Object>
         ensures { option_copied result ≡ option_map object_in (version_at (held_in self.now) key.now) }
     {
-        match self.maps.versions.get(key) {
-            Some(kept) => Some(&kept.object),
-            None => None,
+        match at_version(&self.base, key) {
+            Some(object) => Some(object),
+            None => match self.maps.versions.get(key) {
+                Some(kept) => Some(&kept.object),
+                None => None,
+            },
         }
     }
 
@@ -86,9 +101,12 @@ impl Store {
     pub fn producer(&self, key: &ObjectKey) -> Option<Producer>
         ensures { result ≡ option_map (λ (v : Version). v.producer) (version_at (held_in self.now) key.now) }
     {
-        match self.maps.versions.get(key) {
-            Some(kept) => Some(kept.producer),
-            None => None,
+        match at_version(&self.base, key) {
+            Some(_) => Some(Producer::Opening),
+            None => match self.maps.versions.get(key) {
+                Some(kept) => Some(kept.producer),
+                None => None,
+            },
         }
     }
 
@@ -107,14 +125,18 @@ impl Store {
         if self.maps.deleted.contains(id) {
             return None;
         }
-        self.maps.newest.get(id)
+        match (self.base.get(id), self.maps.newest.get(id)) {
+            (Some(held), Some(object)) => Some(newer(held, object)),
+            (Some(held), None) => Some(held),
+            (None, object) => object,
+        }
     }
 
     /// Whether a version of the id is held, deleted or not. Takes no memory.
     pub fn has(&self, id: &ObjectId) -> bool
         ensures { result ≡ is_some (newest id.now (held_in self.now)) }
     {
-        self.maps.newest.contains_key(id)
+        self.base.contains_key(id) || self.maps.newest.contains_key(id)
     }
 
     /// Whether the transaction was executed. Takes no memory.

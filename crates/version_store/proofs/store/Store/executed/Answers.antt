@@ -1,4 +1,4 @@
-use Rattle.std.proofs.Common.{◌≡◌, ◌∙◌, ap, drop, map, option_map}
+use Rattle.std.proofs.Common.{◌∙◌, ap, drop, map, option_map}
 use Rattle.protocol_spec.specs.Member.Versions.{execution_of}
 use Rattle.version_store.specs.Kept.{kept_object}
 use Rattle.version_store.specs.Stores.{Stored}

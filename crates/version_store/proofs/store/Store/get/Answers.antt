@@ -1,17 +1,15 @@
-use Rattle.std.proofs.Common.{◌≡◌, ◌∙◌, ap, refl, option_map}
-use Rattle.protocol_spec.specs.Member.Versions.{object_in, version_at}
-use Rattle.version_store.specs.Stores.{held_in}
-use Rattle.version_store.specs.Kept.{stored}
+use Rattle.std.proofs.Common.{None, Some, refl}
+use Rattle.protocol_spec.specs.Member.Versions.{object_in}
 use Rattle.version_store.specs.declared.maps.Kept.{Kept}
-use Rattle.version_store.proofs.Held.{got}
+use Rattle.version_store.proofs.Based.{known_before, known_behind}
 use Rattle.version_store.proofs.store.Store.get.Goals as goal
 
 pub returns-in-Some : goal.returns-in-Some
-returns-in-Some c =
-    got (λ (k : Kept). k.object) object_in (λ v. refl) (held_in (stored c.self.inside.opened c.self.inside.maps)) c.self.inside.maps.versions.entries c.args.key.now _ c.self.invariant.versions c.in-Some.ensures.value
-    ∙ ap (λ s. option_map object_in (version_at (held_in s) c.args.key.now)) c.self.view_is
+returns-in-Some c = known_before c.self.invariant c.self.view_is object_in c.args.key.now c.in-Some.object.now c.in-Some.ensures
 
-pub returns-in-None : goal.returns-in-None
-returns-in-None c =
-    got (λ (k : Kept). k.object) object_in (λ v. refl) (held_in (stored c.self.inside.opened c.self.inside.maps)) c.self.inside.maps.versions.entries c.args.key.now _ c.self.invariant.versions c.in-None.ensures.value
-    ∙ ap (λ s. option_map object_in (version_at (held_in s) c.args.key.now)) c.self.view_is
+pub returns-in-Some-get : goal.returns-in-Some-get
+returns-in-Some-get c =
+    known_behind c.self.invariant c.self.view_is (λ (k : Kept). k.object) object_in (λ v. refl) c.args.key.now (Some c.in-Some-get.kept.now) c.in-None.ensures c.in-Some-get.ensures.value
+
+pub returns-in-None-get : goal.returns-in-None-get
+returns-in-None-get c = known_behind c.self.invariant c.self.view_is (λ (k : Kept). k.object) object_in (λ v. refl) c.args.key.now None c.in-None.ensures c.in-None-get.ensures.value

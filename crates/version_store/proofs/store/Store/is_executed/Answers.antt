@@ -1,4 +1,4 @@
-use Rattle.std.proofs.Common.{◌∙◌, ap, drop, is_some, map}
+use Rattle.std.proofs.Common.{◌∙◌, ap, drop, map}
 use Rattle.protocol_spec.specs.Member.Versions.{is_executed}
 use Rattle.version_store.specs.Kept.{kept_object}
 use Rattle.version_store.specs.Stores.{Stored}

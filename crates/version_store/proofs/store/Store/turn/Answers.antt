@@ -1,0 +1,10 @@
+use Rattle.version_store.proofs.Turned.{turns}
+use Rattle.version_store.proofs.store.Store.turn.Goals as goal
+
+pub invariant_of-self-2 : goal.invariant_of-self-2
+invariant_of-self-2 c =
+    (turns c.add_newest.new.base.entries c.take_out.new.base.entries c.self.invariant c.self.view_is c.in_ok-reserve.ensures.entries c.add_newest.ensures c.len.ensures.unique c.take_out.ensures c.len-held.ensures.unique c.new.ensures).0
+
+pub returns-clause-ok : goal.returns-clause-ok
+returns-clause-ok c =
+    (turns c.add_newest.new.base.entries c.take_out.new.base.entries c.self.invariant c.self.view_is c.in_ok-reserve.ensures.entries c.add_newest.ensures c.len.ensures.unique c.take_out.ensures c.len-held.ensures.unique c.new.ensures).1
