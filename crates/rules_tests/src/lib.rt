@@ -1,4 +1,4 @@
-//! Tests of the rules: tables, shapes, locks, stores, votes and certificates.
+//! Tests of the rules: tables, shapes, locks, stores, votes, certificates and rounds.
 #![tactic(auto)]
 
 #[cfg(test)]
@@ -6,15 +6,21 @@ mod certificates;
 #[cfg(test)]
 mod decisions;
 #[cfg(test)]
+mod desks;
+#[cfg(test)]
 mod holders;
 #[cfg(test)]
 mod locks;
 #[cfg(test)]
 mod names;
 #[cfg(test)]
+mod rounds;
+#[cfg(test)]
 mod rows;
 #[cfg(test)]
 mod shapes;
+#[cfg(test)]
+mod shared_rounds;
 #[cfg(test)]
 mod stores;
 #[cfg(test)]
