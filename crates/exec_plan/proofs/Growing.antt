@@ -14,7 +14,7 @@ use Rattle.answer_types.specs.declared.answers.Held.{Held}
 use Rattle.protocol_spec.specs.Chain.Words.{all_some}
 use Rattle.protocol_spec.specs.Chain.Keys.{has_shared_input, is_shared_input, objects_of}
 use Rattle.protocol_spec.specs.Member.Versions.{Execution, is_executed, versions}
-use Rattle.protocol_spec.specs.Member.Admission.{Admission, Admitted, admit, assigned_in, assigned_of, digest_of_admitted, entered, is_admitted, is_dropped, is_free, joined_inputs, passed_mark, take_all, take_free, taken, taken_as, taken_next}
+use Rattle.protocol_spec.specs.Member.Admission.{Admission, Admitted, admit, assigned_in, assigned_of, digest_of_admitted, entered, is_admitted, is_dropped, is_free, joined_inputs, passed_mark, take_free, taken, taken_as, taken_next}
 use Rattle.protocol_spec.specs.Member.Rounds.{Wanted, found, present, ready, ready_on, wanted_by, wants_of}
 use Rattle.version_store.specs.Stores.{Stored}
 use Rattle.exec_plan.specs.Behind.{is_among}
