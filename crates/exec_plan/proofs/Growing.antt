@@ -1,5 +1,5 @@
 -- What more admitted transactions change: nothing for a certificate that may run already.
-use Rattle.std.proofs.Common.{◌≡◌, ℕ, zero, suc, Bool, true, false, cond, not, ◌&&◌, ◌||◌, List, [], ◌∷◌, ◌++◌, map, length, Option, Some, None, is_some, refl, ap, sym, ◌∙◌, append_assoc, append-nil}
+use Rattle.std.proofs.Common.{◌≡◌, ℕ, zero, suc, Bool, true, false, cond, not, ◌&&◌, ◌||◌, List, [], ◌∷◌, ◌++◌, map, length, Option, Some, None, is_some, refl, ap, sym, subst, ◌∙◌, append_assoc, append-nil}
 use Rattle.std.specs.Prelude.{drop, filter, find, option_map, zip}
 use Rattle.std.specs.List.{list_any}
 use Rattle.digest_core.specs.declared.Digest.{Digest}
@@ -14,12 +14,14 @@ use Rattle.answer_types.specs.declared.answers.Held.{Held}
 use Rattle.protocol_spec.specs.Chain.Words.{all_some}
 use Rattle.protocol_spec.specs.Chain.Keys.{has_shared_input, is_shared_input, objects_of}
 use Rattle.protocol_spec.specs.Member.Versions.{Execution, is_executed, versions}
-use Rattle.protocol_spec.specs.Member.Admission.{Admission, Admitted, admit, assigned_in, assigned_of, digest_of_admitted, entered, is_admitted, is_dropped, is_free, joined_inputs, passed_mark, take_all, take_free, taken, taken_as, taken_next}
+use Rattle.protocol_spec.specs.Member.Admission.{Admission, Admitted, admit, assigned_in, assigned_of, digest_of_admitted, entered, is_admitted, is_dropped, is_free, joined_inputs, passed_mark, take_free, taken, taken_as, taken_next}
 use Rattle.protocol_spec.specs.Member.Rounds.{Wanted, found, present, ready, ready_on, wanted_by, wants_of}
 use Rattle.version_store.specs.Stores.{Stored}
 use Rattle.exec_plan.specs.Behind.{is_among}
 use Rattle.exec_plan.specs.Books.{books_of, is_let, ready_in}
-use Rattle.exec_plan.specs.Waits.{Admits}
+use Rattle.version_assign.specs.Calls.{Admitting, admitted_since, with_entry, with_mark}
+use Rattle.exec_plan.specs.declared.waiting.Waiting.{Waiting}
+use Rattle.exec_plan.specs.Waits.{Admits, IsWaiting, StoodBefore}
 use Rattle.exec_plan.proofs.Following.{any_join}
 
 -- ---- who is admitted
@@ -165,12 +167,27 @@ goes_admits a b (more, e) = record {
 }
 
 -- between an admission and that behind an entry, what stands behind the earlier ones was admitted
-pub entry_admits : (writers : Option ℕ) (opening : List Object) (a : Admission) (h : Held)
-    → Admits a (entered writers opening a h) (map digest_of_admitted (drop (length a.admitted) (entered writers opening a h).admitted))
+entry_admits : (a : Admitting) (h : Held) → Admits a.admission (with_entry a h).admission (admitted_since a.admission (with_entry a h).admission)
 unfolding entered
-entry_admits writers opening a h = goes_admits a (take_all writers opening (record a { pending = a.pending ++ h ∷ [] })) (goes_free writers opening (length (a.pending ++ h ∷ [])) (record a { pending = a.pending ++ h ∷ [] }))
+entry_admits a h = goes_admits a.admission (with_entry a h).admission (goes_free a.writers a.opening (length (a.admission.pending ++ h ∷ [])) (record a.admission { pending = a.admission.pending ++ h ∷ [] }))
 
 -- the same of a mark
-pub mark_admits : (writers : Option ℕ) (opening : List Object) (a : Admission) → Admits a (passed_mark writers opening a) (map digest_of_admitted (drop (length a.admitted) (passed_mark writers opening a).admitted))
+mark_admits : (a : Admitting) → Admits a.admission (with_mark a).admission (admitted_since a.admission (with_mark a).admission)
 unfolding passed_mark
-mark_admits writers opening a = goes_admits a (take_all writers opening (record a { marked = length a.admitted })) (goes_free writers opening (length a.pending) (record a { marked = length a.admitted }))
+mark_admits a = goes_admits a.admission (with_mark a).admission (goes_free a.writers a.opening (length a.admission.pending) (record a.admission { marked = length a.admission.admitted }))
+
+-- ---- what an entry and a mark leave to `admit`
+
+module _ (s : Stored) (a b : Admitting) (txs : List Digest) (held all : List Held) (w : Waiting) (named : txs ≡ admitted_since a.admission b.admission) (same : all ≡ held) (waits : IsWaiting s a.admission held w) where
+  stood : Admits a.admission b.admission (admitted_since a.admission b.admission) → StoodBefore s b.admission txs all w
+  stood admits = record {
+    before = a.admission;
+    admits = subst (λ (ds : List Digest). Admits a.admission b.admission ds) (sym named) admits;
+    waits = subst (λ (hs : List Held). IsWaiting s a.admission hs w) (sym same) waits;
+  }
+
+  pub entry_stood : (h : Held) → b ≡ with_entry a h → StoodBefore s b.admission txs all w
+  entry_stood h is = stood (subst (λ (c : Admitting). Admits a.admission c.admission (admitted_since a.admission c.admission)) (sym is) (entry_admits a h))
+
+  pub mark_stood : b ≡ with_mark a → StoodBefore s b.admission txs all w
+  mark_stood is = stood (subst (λ (c : Admitting). Admits a.admission c.admission (admitted_since a.admission c.admission)) (sym is) (mark_admits a))

@@ -1,8 +1,6 @@
-//! Tests of rounds, and of a member, which is handed bytes that an independent script wrote.
+//! Tests of a member, which is handed bytes that an independent script wrote.
 #![tactic(auto)]
 
-#[cfg(test)]
-mod rounds;
 #[cfg(test)]
 mod scenario;
 #[cfg(test)]

@@ -1,10 +1,12 @@
-//! Tests of the rules: tables, shapes, locks, stores, votes and certificates.
+//! Tests of the rules: tables, shapes, locks, stores, votes, certificates and rounds.
 #![tactic(auto)]
 
 #[cfg(test)]
 mod certificates;
 #[cfg(test)]
 mod decisions;
+#[cfg(test)]
+mod desks;
 #[cfg(test)]
 mod epochs;
 #[cfg(test)]
@@ -14,9 +16,13 @@ mod locks;
 #[cfg(test)]
 mod names;
 #[cfg(test)]
+mod rounds;
+#[cfg(test)]
 mod rows;
 #[cfg(test)]
 mod shapes;
+#[cfg(test)]
+mod shared_rounds;
 #[cfg(test)]
 mod stores;
 #[cfg(test)]

@@ -2,7 +2,7 @@ use Rattle.std.proofs.Common.{◌≡◌, length, map}
 use Rattle.std.specs.List.{list_any}
 use Rattle.chain_types.specs.Equal.{digest_eq}
 use Rattle.exec_plan.specs.Books.{digest_of_held}
-use Rattle.member_tests.proofs.rounds.has_digest.Given as goal
+use Rattle.rules_tests.proofs.desks.has_digest.Given as goal
 
 -- none that was passed has the digest
 abbrev pub invariant-loop-rest : goal.invariant-loop-rest

@@ -2,7 +2,7 @@ use Rattle.std.proofs.Common.{◌≡◌, length, map}
 use Rattle.chain_types.specs.Equal.{digest_eq}
 use Rattle.protocol_spec.specs.Chain.Words.{repeats}
 use Rattle.exec_plan.specs.Books.{digest_of_held}
-use Rattle.member_tests.proofs.rounds.are_apart.Given as goal
+use Rattle.rules_tests.proofs.desks.are_apart.Given as goal
 
 -- none that was passed comes again
 abbrev pub invariant-loop-rest : goal.invariant-loop-rest

@@ -1,24 +1,19 @@
 //! Runs over a store of one coin, of transactions in which alice sends it to herself.
 
-ghost use Rattle.std.specs.Prelude.{◌≡◌, ◌≤◌, IfOk, map, not};
-ghost use Rattle.std.specs.List.{list_any};
-ghost use Rattle.chain_types.specs.Equal.{digest_eq};
-ghost use Rattle.protocol_spec.specs.Chain.Words.{Each, repeats};
-ghost use Rattle.exec_plan.specs.Books.{IsSound, digest_of_held};
+ghost use Rattle.std.specs.Prelude.{◌≤◌, IfOk};
+ghost use Rattle.protocol_spec.specs.Chain.Words.{Each};
+ghost use Rattle.exec_plan.specs.Books.{IsSound};
 ghost use Rattle.exec_plan.specs.Waits.{IsWaiting};
 
+use crate::desks::{Desk, certified, desk_over};
 use answer_types::Held;
-use chain_messages::Certificate;
 use chain_types::{
     Address, Argument, Command, Content, Input, Object, ObjectId, ObjectRef, Owner, Transaction,
-    object_digest, tx_digest,
+    object_digest,
 };
 use digest_core::Digest;
-use exec_plan::{Waiting, left, run};
 use std::alloc::Global;
 use std::test::Fail;
-use tx_check::check_shape;
-use version_store::Store;
 use wire_bcs::{OutOfMemory, Seq};
 
 const ALICE: Address = Address(Digest([1; 32]));
@@ -77,22 +72,6 @@ fn transaction(alloc: Global, coin: &Object, budget: u64) -> Result<Transaction,
     })
 }
 
-/// The certificate of a transaction, whose shape is to be valid, with the origin of its coin.
-fn held(alloc: Global, tx: Transaction, origin: Option<Digest>) -> Result<Held, OutOfMemory>
-    ensures { IfOk result IsSound }
-{
-    if check_shape(alloc, &tx).is_err() {
-        return Err(OutOfMemory);
-    }
-    let digest = tx_digest(alloc, &tx)?;
-    let cert = Certificate {
-        tx,
-        origins: Seq::from_slice(alloc, [origin].as_slice())?,
-        seals: Seq::new(alloc),
-    };
-    Ok(Held { digest, cert })
-}
-
 /// The certificate that spends the coin after so many transactions.
 fn spending(
     alloc: Global,
@@ -103,68 +82,27 @@ fn spending(
     requires { spent ≤ 9 }
     ensures { IfOk result IsSound }
 {
-    held(alloc, transaction(alloc, &coin(spent), budget)?, origin)
+    certified(alloc, transaction(alloc, &coin(spent), budget)?, &[origin])
 }
 
-/// A store that opens with the coin.
-fn store_of_coin(alloc: Global) -> Result<Store, OutOfMemory> {
-    let coins = Seq::from_slice(alloc, [coin(0)].as_slice())?;
-    Store::opening(alloc, &coins)
-}
-
-/// Whether a certificate has the digest.
-fn has_digest(held: &[Held], digest: &Digest) -> bool
-    ensures { result ≡ list_any (digest_eq digest.now) (map digest_of_held held.now) }
+/// Holds these, and runs twice: how many were executed, how many were executed again, and how many were left.
+fn run_twice(desk: &mut Desk, all: Seq<Held>) -> Result<(u64, u64, u64), OutOfMemory>
+    requires all { Each IsSound all }
+    requires sound { Each IsSound desk.old.held }
+    requires waits { IsWaiting desk.old.store desk.old.admission.admission desk.old.held desk.old.waiting }
 {
-    let mut rest = held;
-    while let [one, after @ ..] = rest {
-        if *digest == one.digest {
-            return true;
-        }
-        rest = after;
-    }
-    false
+    desk.hold_each(all)?;
+    let first = desk.run()?.len();
+    let second = desk.run()?.len();
+    Ok((first, second, desk.left()?.len()))
 }
 
-/// Whether no two certificates have the same digest.
-fn are_apart(held: &[Held]) -> bool
-    ensures { result ≡ not (repeats digest_eq (map digest_of_held held.now)) }
+/// The same over a store that opens with these objects.
+fn runs(alloc: Global, objects: &[Object], all: Seq<Held>) -> Result<(u64, u64, u64), OutOfMemory>
+    requires { Each IsSound all }
 {
-    let mut rest = held;
-    while let [one, after @ ..] = rest {
-        if has_digest(after, &one.digest) {
-            return false;
-        }
-        rest = after;
-    }
-    true
-}
-
-/// Holds these certificates, one after the other.
-fn holding(alloc: Global, store: &Store, all: &[Held]) -> Result<Waiting, OutOfMemory>
-    ensures { IfOk result (IsWaiting store.now all.now) }
-{
-    let mut waiting = Waiting::new(alloc);
-    let mut count = 0;
-    while count < all.len() {
-        waiting.hold(store, &all[..count], &all[count])?;
-        count += 1;
-    }
-    Ok(waiting)
-}
-
-/// Runs of what is held: how many were executed, how many were executed again, and how many were left.
-fn runs(alloc: Global, mut store: Store, all: &[Held]) -> Result<(u64, u64, u64), OutOfMemory>
-    requires { Each IsSound all.now }
-{
-    let mut waiting = holding(alloc, &store, all)?;
-    if !are_apart(all) {
-        return Err(OutOfMemory);
-    }
-    let first = run(alloc, &mut store, &mut waiting, all)?;
-    let second = run(alloc, &mut store, &mut waiting, all)?;
-    let left = left(alloc, &store, &waiting, all)?;
-    Ok((first.len(), second.len(), left.len()))
+    let mut desk = desk_over(alloc, objects, &[])?;
+    run_twice(&mut desk, all)
 }
 
 /// One certificate, which spends the coin.
@@ -180,7 +118,7 @@ fn one(alloc: Global) -> Result<Seq<Held>, OutOfMemory>
 fn what_is_ready_runs_once(rt: HostRuntime) -> Result<(), Fail> {
     let alloc = rt.alloc();
     let all = one(alloc)?;
-    let ran = runs(alloc, store_of_coin(alloc)?, all.as_slice())?;
+    let ran = runs(alloc, &[coin(0)], all)?;
     assert_eq!(rt; ran, (1, 0, 0));
     Ok(())
 }
@@ -203,7 +141,7 @@ fn chain_backwards(alloc: Global) -> Result<Seq<Held>, OutOfMemory>
 fn a_chain_runs_in_one_run(rt: HostRuntime) -> Result<(), Fail> {
     let alloc = rt.alloc();
     let all = chain_backwards(alloc)?;
-    let ran = runs(alloc, store_of_coin(alloc)?, all.as_slice())?;
+    let ran = runs(alloc, &[coin(0)], all)?;
     assert_eq!(rt; ran, (3, 0, 0));
     Ok(())
 }
@@ -223,7 +161,7 @@ fn two(alloc: Global, spent: u64, origin: Option<Digest>) -> Result<Seq<Held>, O
 fn what_clashes_is_left(rt: HostRuntime) -> Result<(), Fail> {
     let alloc = rt.alloc();
     let all = two(alloc, 0, None)?;
-    let ran = runs(alloc, store_of_coin(alloc)?, all.as_slice())?;
+    let ran = runs(alloc, &[coin(0)], all)?;
     assert_eq!(rt; ran, (1, 0, 1));
     Ok(())
 }
@@ -232,7 +170,7 @@ fn what_clashes_is_left(rt: HostRuntime) -> Result<(), Fail> {
 fn what_waits_is_not_left(rt: HostRuntime) -> Result<(), Fail> {
     let alloc = rt.alloc();
     let all = two(alloc, 5, Some(Digest([9; 32])))?;
-    let ran = runs(alloc, store_of_coin(alloc)?, all.as_slice())?;
+    let ran = runs(alloc, &[coin(0)], all)?;
     assert_eq!(rt; ran, (1, 0, 0));
     Ok(())
 }
@@ -241,8 +179,7 @@ fn what_waits_is_not_left(rt: HostRuntime) -> Result<(), Fail> {
 fn what_has_no_coin_is_left(rt: HostRuntime) -> Result<(), Fail> {
     let alloc = rt.alloc();
     let all = one(alloc)?;
-    let store = Store::opening(alloc, &Seq::new(alloc))?;
-    let ran = runs(alloc, store, all.as_slice())?;
+    let ran = runs(alloc, &[], all)?;
     assert_eq!(rt; ran, (0, 0, 1));
     Ok(())
 }
