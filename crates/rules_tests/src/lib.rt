@@ -1,10 +1,14 @@
-//! Tests of the rules: tables, shapes, locks, stores, votes and certificates.
+//! Tests of the rules: tables, shapes, locks, stores, votes, certificates and checkpoints.
 #![tactic(auto)]
 
 #[cfg(test)]
 mod certificates;
 #[cfg(test)]
+mod checkpoints;
+#[cfg(test)]
 mod decisions;
+#[cfg(test)]
+mod ends;
 #[cfg(test)]
 mod holders;
 #[cfg(test)]
