@@ -45,7 +45,7 @@ items_stay executed more (d ∷ ds) done =
     let parts = and_parts (is_due_done executed d) (list_all (is_due_done executed) ds) done in
     ap (λ (i : Item). i ∷ map (due_item (executed ++ more)) ds) (item_stays executed more d parts.0) ∙ ap (λ (is : List Item). due_item executed d ∷ is) (items_stay executed more ds parts.1)
 
-chain_executed : (epoch : ℕ) (executed more : List Execution) (before : List Checkpoint) (due : List Due) (marks : List CutMark) → IsFront (due_chain epoch executed before due marks) (due_chain epoch (executed ++ more) before due marks)
+pub chain_executed : (epoch : ℕ) (executed more : List Execution) (before : List Checkpoint) (due : List Due) (marks : List CutMark) → IsFront (due_chain epoch executed before due marks) (due_chain epoch (executed ++ more) before due marks)
 chain_executed epoch executed more before due [] = ([], sym (append-nil before))
 chain_executed epoch executed more before due (m ∷ ms) = by (list_all (is_due_done executed) txs) refl (chain_executed epoch executed more (before ++ due_checkpoint epoch executed before txs m.last ∷ []) (drop m.size due) ms)
   where
@@ -69,7 +69,7 @@ chain_executed epoch executed more before due (m ∷ ms) = by (list_all (is_due_
               ∙ is,
         )
 
-front_executed : (executed more : List Execution) (due : List Due) → front_length (is_due_done executed) due ≤ front_length (is_due_done (executed ++ more)) due
+pub front_executed : (executed more : List Execution) (due : List Due) → front_length (is_due_done executed) due ≤ front_length (is_due_done (executed ++ more)) due
 front_executed executed more [] = omega arith
 front_executed executed more (d ∷ ds) = by (is_due_done executed d) refl (front_executed executed more ds)
   where
@@ -80,7 +80,7 @@ front_executed executed more (d ∷ ds) = by (is_due_done executed d) refl (fron
         let now = cond-true (is_due_done (executed ++ more) d) (suc (front_length (is_due_done (executed ++ more)) ds)) 0 (done_stays executed more d e) in
         omega (arith, now, rest)
 
-front_then : {A : Type 0} (xs ys zs : List A) → IsFront xs ys → IsFront ys zs → IsFront xs zs
+pub front_then : {A : Type 0} (xs ys zs : List A) → IsFront xs ys → IsFront ys zs → IsFront xs zs
 front_then {A} xs ys zs (us, e) (vs, f) = (us ++ vs, f ∙ ap (λ (ws : List A). ws ++ vs) e ∙ append_assoc xs us vs)
 
 pub behind_executed : (epoch : ℕ) (executed more : List Execution) (c : Chaining) → IsBehind epoch executed c → IsBehind epoch (executed ++ more) c
@@ -91,7 +91,7 @@ behind_executed epoch executed more c behind = record {
 
 -- ---- more is admitted
 
-chain_due : (epoch : ℕ) (executed : List Execution) (before : List Checkpoint) (due more : List Due) (marks : List CutMark) → size_of marks ≤ length due → due_chain epoch executed before (due ++ more) marks ≡ due_chain epoch executed before due marks
+pub chain_due : (epoch : ℕ) (executed : List Execution) (before : List Checkpoint) (due more : List Due) (marks : List CutMark) → size_of marks ≤ length due → due_chain epoch executed before (due ++ more) marks ≡ due_chain epoch executed before due marks
 chain_due epoch executed before due more [] few = refl
 chain_due epoch executed before due more (m ∷ ms) few =
     let within : m.size ≤ length due = omega (arith, few) in
@@ -118,7 +118,7 @@ behind_due epoch executed c d few behind = record {
 
 -- ---- more is cut
 
-chain_marks : (epoch : ℕ) (executed : List Execution) (before : List Checkpoint) (due : List Due) (marks more : List CutMark) → IsFront (due_chain epoch executed before due marks) (due_chain epoch executed before due (marks ++ more))
+pub chain_marks : (epoch : ℕ) (executed : List Execution) (before : List Checkpoint) (due : List Due) (marks more : List CutMark) → IsFront (due_chain epoch executed before due marks) (due_chain epoch executed before due (marks ++ more))
 chain_marks epoch executed before due [] more = chain_front epoch executed before due more
 chain_marks epoch executed before due (m ∷ ms) more = by (list_all (is_due_done executed) (take m.size due)) (chain_marks epoch executed next (drop m.size due) ms more)
   where

@@ -4,4 +4,5 @@ mod Counting
 pub mod Fronts
 pub mod Growing
 mod Marking
+pub mod Staying
 pub mod Told

@@ -1,22 +1,22 @@
 -- A chain's checkpoints are those of the definitions.
 use Rattle.std.proofs.Common.{◌≡◌, ◌∙◌, refl, sym, ap, arith, ℕ, suc, ◌<◌, ◌≤◌, Bool, true, false, not, cond, ◌&&◌, List, [], ◌∷◌, ◌++◌, length, take, drop, length-drop, append-nil, option_map, take_all}
-use Rattle.std.specs.Prelude.{Option, Some, None, is_some, map, slice_get}
+use Rattle.std.specs.Prelude.{Option, Some, None, map, slice_get}
 use Rattle.std.specs.List.{list_all}
 use Rattle.std.proofs.lemmas.List.{drop-append-le, drop-map, length-map, take-append-le, take-map}
 use Rattle.digest_core.specs.declared.Digest.{Digest}
 use Rattle.checkpoint_core.specs.declared.checkpoints.Item.{Item}
 use Rattle.checkpoint_core.specs.declared.checkpoints.Checkpoint.{Checkpoint}
 use Rattle.answer_types.specs.declared.answers.Held.{Held}
-use Rattle.protocol_spec.specs.Chain.Words.{Each, first_of, first_some, last_of, where_true}
+use Rattle.protocol_spec.specs.Chain.Words.{first_of, first_some, last_of, where_true}
 use Rattle.protocol_spec.specs.Member.Versions.{Execution}
 use Rattle.protocol_spec.specs.Member.Admission.{Admitted}
 use Rattle.protocol_spec.specs.Member.Sequence.{Cut, cut_of}
-use Rattle.protocol_spec.specs.Member.Checkpoints.{chained, checkpoint_behind, digest_before, held_of, is_done, item_of, names_same_origins}
+use Rattle.protocol_spec.specs.Member.Checkpoints.{chained, checkpoint_behind, digest_before, is_done, item_of, names_same_origins}
 use Rattle.chain_types.specs.Equal.{digest_eq}
 use Rattle.epoch_turn.specs.declared.due.Due.{Due}
 use Rattle.epoch_turn.specs.declared.due.CutMark.{CutMark}
 use Rattle.epoch_turn.specs.Dues.{cuts_of, due_item, due_of, front_length, is_due_done, size_of}
-use Rattle.epoch_turn.specs.Chains.{AddsCuts, BuildsAll, Chaining, FindsFirst, KeepsCuts, advanced, cuts_with, due_chain, due_checkpoint, tx_of, uncut, waiting_one, with_cut, with_due}
+use Rattle.epoch_turn.specs.Chains.{AddsCuts, AreHeld, BuildsAll, Chaining, FindsFirst, KeepsCuts, advanced, cuts_with, due_chain, due_checkpoint, tx_of, uncut, waiting_one, with_cut, with_due}
 use Rattle.epoch_turn.proofs.Fronts.{found_stays}
 use Rattle.epoch_turn.proofs.Growing.{drop_more}
 
@@ -77,7 +77,7 @@ finds_first c epoch held executed admitted is =
 -- ---- more certificates are held
 
 -- those of admitted transactions stay what they were
-pub told_held : (held more : List Held) (admitted : List Admitted) → Each (λ (a : Admitted). is_some (held_of held a.digest) ≡ true) admitted → map (due_of (held ++ more)) admitted ≡ map (due_of held) admitted
+pub told_held : (held more : List Held) (admitted : List Admitted) → AreHeld held admitted → map (due_of (held ++ more)) admitted ≡ map (due_of held) admitted
 told_held held more [] each = refl
 told_held held more (a ∷ rest) each =
     let seen : Option Held → Due = λ h. record { tx = a.digest; same = names_same_origins h a } in

@@ -1,14 +1,14 @@
 -- What a chain of checkpoints is seen as, and what its calls make of it. Source: Sui Lutris.
-use Rattle.std.specs.Prelude.{◌≡◌, ℕ, ◌≤◌, ◌-◌, ◌==◌, Bool, not, false, List, [], ◌∷◌, ◌++◌, map, take, drop, length, Option, if◌then◌else◌}
+use Rattle.std.specs.Prelude.{◌≡◌, ℕ, ◌≤◌, ◌-◌, ◌==◌, Bool, not, true, false, List, [], ◌∷◌, ◌++◌, map, take, drop, length, Option, is_some, if◌then◌else◌}
 use Rattle.std.specs.List.{list_all}
 use Rattle.digest_core.specs.declared.Digest.{Digest}
 use Rattle.checkpoint_core.specs.declared.checkpoints.Checkpoint.{Checkpoint}
 use Rattle.answer_types.specs.declared.answers.Held.{Held}
-use Rattle.protocol_spec.specs.Chain.Words.{IsFront, first_of, last_of, where_true}
+use Rattle.protocol_spec.specs.Chain.Words.{Each, IsFront, first_of, last_of, where_true}
 use Rattle.protocol_spec.specs.Member.Versions.{Execution}
 use Rattle.protocol_spec.specs.Member.Admission.{Admitted}
 use Rattle.protocol_spec.specs.Member.Sequence.{Cut, last_cut}
-use Rattle.protocol_spec.specs.Member.Checkpoints.{chained, digest_before, is_done}
+use Rattle.protocol_spec.specs.Member.Checkpoints.{chained, digest_before, held_of, is_done}
 use Rattle.epoch_turn.specs.declared.due.Due.{Due}
 use Rattle.epoch_turn.specs.declared.due.CutMark.{CutMark}
 use Rattle.epoch_turn.specs.Dues.{cuts_of, due_of, is_due_done, due_item, front_length, size_of}
@@ -117,6 +117,10 @@ pub record IsBuilt (epoch : ℕ) (held : List Held) (executed : List Execution) 
 
 abbrev pub BuildsAll : ℕ → List Execution → Chaining → Type 0
 BuildsAll epoch executed c = (held : List Held) (admitted : List Admitted) → IsTold held admitted c → IsBuilt epoch held executed admitted c
+
+-- a certificate of each of them is held
+abbrev pub AreHeld : List Held → List Admitted → Type 0
+AreHeld held admitted = Each (λ (a : Admitted). is_some (held_of held a.digest) ≡ true) admitted
 
 -- the first admitted transaction that is not done
 abbrev pub waiting_one : List Held → List Execution → Admitted → Option Digest

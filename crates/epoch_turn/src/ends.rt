@@ -89,6 +89,7 @@ impl EndCount {
         requires known { member < length committee.now }
         ensures counted { self.new ≡ counted_after self.old member }
         ensures answer { result ≡ said_of_end committee.now self.old member }
+        ensures known { all_known committee.now self.new ≡ true }
     {
         let _few = committee.len();
         if quorum_core::is_among(self.as_slice(), member) {

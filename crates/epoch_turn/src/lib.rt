@@ -10,8 +10,10 @@ mod chain;
 mod due;
 mod ends;
 mod growth;
+mod laws;
 mod rows;
 
 pub use chain::Chain;
 pub use due::{CutMark, Due};
 pub use ends::{Counted, EndCount};
+pub use laws::what_is_built_stays;

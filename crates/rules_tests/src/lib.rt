@@ -1,12 +1,16 @@
-//! Tests of the rules: tables, shapes, locks, stores, votes, certificates and rounds.
+//! Tests of the rules: tables, shapes, locks, stores, votes, certificates, rounds and checkpoints.
 #![tactic(auto)]
 
 #[cfg(test)]
 mod certificates;
 #[cfg(test)]
+mod checkpoints;
+#[cfg(test)]
 mod decisions;
 #[cfg(test)]
 mod desks;
+#[cfg(test)]
+mod ends;
 #[cfg(test)]
 mod epochs;
 #[cfg(test)]
