@@ -16,3 +16,7 @@ pub mod Entering
 pub mod Opening
 pub mod Listing
 pub mod Sharing
+pub mod Shelving
+pub mod Filed
+pub mod Moved
+pub mod Registering

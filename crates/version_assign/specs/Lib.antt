@@ -3,3 +3,5 @@ pub mod Calls
 pub mod Books
 pub mod Steps
 pub mod Sharing
+pub mod Waiting
+pub mod Registers

@@ -9,8 +9,10 @@ ghost use Rattle.protocol_spec.specs.Member.Admission.{Admitted, assigned_of, ce
 ghost use Rattle.version_assign.specs.Calls.{admitted_since, dropped_since, id_of, opened, uncut, version_of, with_cut, with_entry, with_mark};
 
 use crate::book::Book;
+use crate::register::Register;
 use crate::shared::shared_objects;
 use crate::taken::Taken;
+use crate::waits::Waits;
 use answer_types::Assigned;
 use chain_messages::Certificate;
 use chain_types::{Object, ObjectId};
@@ -24,7 +26,7 @@ use wire_bcs::{OutOfMemory, Seq};
 /// objects with which the epoch opened, the limit of writers, and these lists.
 #[derive(Drop)]
 pub struct Admission {
-    book: Book,
+    register: Register,
     alloc: Global,
 }
 
@@ -33,11 +35,12 @@ impl Model for Admission {
 
     ghost Value = { Admitting };
 
-    ghost use Rattle.version_assign.specs.Books.{IsKept, shown};
+    ghost use Rattle.version_assign.specs.Books.{shown};
+    ghost use Rattle.version_assign.specs.Registers.{IsWhole};
 
-    ghost view = { λ a. shown a.book };
+    ghost view = { λ a. shown a.register.book };
 
-    ghost invariant = { λ a. IsKept a.book };
+    ghost invariant = { λ a. IsWhole a.register };
 }
 
 /// A limit is below 2^32.
@@ -81,14 +84,18 @@ impl Admission {
             opening: shared_objects(alloc, opening)?,
             writers,
         };
-        Ok(Admission { book, alloc })
+        let register = Register {
+            book,
+            waits: Waits::new(alloc),
+        };
+        Ok(Admission { register, alloc })
     }
 
     /// Whether the transaction is in the sequence. Takes no memory.
     pub fn is_known(&self, tx: &Digest) -> bool
         ensures { result ≡ is_known self.now.admission tx.now }
     {
-        self.book.known.contains(tx)
+        self.register.book.known.contains(tx)
     }
 
     /// A certificate's entry, of valid shape and with one origin for each object; its transaction, of this digest, is
@@ -106,7 +113,7 @@ impl Admission {
         ensures dropped { IfOk result (λ taken. taken.dropped ≡ dropped_since self.old.admission self.new.admission) }
         ensures err { OnErr result (self.new ≡ self.old) }
     {
-        self.book.push(self.alloc, tx, cert)
+        self.register.push(self.alloc, tx, cert)
     }
 
     /// A Commit mark, behind its cut: the writers are counted anew, and what waited for that is admitted or dropped,
@@ -117,7 +124,7 @@ impl Admission {
         ensures dropped { IfOk result (λ taken. taken.dropped ≡ dropped_since self.old.admission self.new.admission) }
         ensures err { OnErr result (self.new ≡ self.old) }
     {
-        self.book.mark(self.alloc)
+        self.register.mark(self.alloc)
     }
 
     /// The transactions admitted since the last cut or mark, which are cut with it. A refusal cuts nothing.
@@ -126,8 +133,8 @@ impl Admission {
         ensures ok { OnOk result (self.new ≡ with_cut self.old) }
         ensures err { OnErr result (self.new ≡ self.old) }
     {
-        let txs = self.book.uncut(self.alloc)?;
-        self.book.cut();
+        let txs = self.register.book.uncut(self.alloc)?;
+        self.register.cut();
         Ok(txs)
     }
 
@@ -135,7 +142,7 @@ impl Admission {
     pub fn uncut(&self) -> Result<Seq<Digest>, OutOfMemory>
         ensures { IfOk result (λ txs. txs ≡ uncut self.now) }
     {
-        self.book.uncut(self.alloc)
+        self.register.book.uncut(self.alloc)
     }
 
     /// The first origin that is not admitted, of a transaction that waits; none exactly where it does not wait, or all
@@ -143,7 +150,7 @@ impl Admission {
     pub fn pending_on(&self, tx: &Digest) -> Option<Digest>
         ensures { result ≡ pending_on self.now.admission tx.now }
     {
-        self.book.pending_on(tx)
+        self.register.book.pending_on(tx)
     }
 
     /// The first object in input order that has as many writers as the limit, of a transaction that waits and writes
@@ -151,48 +158,48 @@ impl Admission {
     pub fn deferred_on(&self, tx: &Digest) -> Option<ObjectId>
         ensures { result ≡ deferred_on self.now.writers self.now.admission tx.now }
     {
-        self.book.deferred_on(tx)
+        self.register.book.deferred_on(tx)
     }
 
     /// The versions assigned to a transaction's shared inputs; none exactly where it is not admitted. Takes no memory.
     pub fn assigned(&self, tx: &Digest) -> Option<&Seq<Assigned>>
         ensures { option_map (λ (a : _). a.now) result ≡ assigned_of self.now.admission tx.now }
     {
-        self.book.assigned(tx)
+        self.register.book.assigned(tx)
     }
 
     /// The version at which a transaction writes; none exactly where it is not admitted. Takes no memory.
     pub fn version(&self, tx: &Digest) -> Option<u64>
         ensures { result ≡ version_of self.now.admission tx.now }
     {
-        self.book.version(tx)
+        self.register.book.version(tx)
     }
 
     /// How many transactions were admitted. Takes no memory.
     pub fn admitted_count(&self) -> usize
         ensures { result ≡ length self.now.admission.admitted }
     {
-        self.book.admitted.len()
+        self.register.book.admitted.len()
     }
 
     /// The admitted transaction at a place, from 0, in order of admission. Takes no memory.
     pub fn admitted_at(&self, place: usize) -> Option<Digest>
         ensures { result ≡ option_map digest_of_admitted (slice_get self.now.admission.admitted place) }
     {
-        self.book.admitted_at(place)
+        self.register.book.admitted_at(place)
     }
 
     /// The certificate with which the transaction at a place was admitted, from 0. Takes no memory.
     pub fn cert_at(&self, place: usize) -> Option<&Certificate>
         ensures { option_map (λ (c : _). c.now) result ≡ option_map cert_of (slice_get self.now.admission.admitted place) }
     {
-        self.book.cert_at(place)
+        self.register.book.cert_at(place)
     }
 
     /// Goes back to where no entry of the epoch was seen. Takes no memory.
     pub fn clear(&mut self)
         ensures { self.new ≡ record self.old { admission = nothing_admitted } }
     {
-        self.book.clear(self.alloc);
+        self.register.clear(self.alloc);
     }
 }

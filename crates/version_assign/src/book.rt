@@ -1,13 +1,13 @@
 //! The tables of an admission.
 
-ghost use Rattle.std.specs.Prelude.{◌≡◌, fold, ◌+◌, ◌-◌, ◌<◌, ◌≤◌, ◌&&◌, ◌++◌, ◌∷◌, [], IfOk, IfSome, OnErr, OnOk, Option, Some, None, ℕ, Bool, true, false, drop, filter_map, find, is_some, length, map, not, slice_get, slice_set};
+ghost use Rattle.std.specs.Prelude.{◌≡◌, fold, ◌+◌, ◌-◌, ◌<◌, ◌≤◌, ◌&&◌, ◌++◌, ◌∷◌, [], IfOk, IfSome, OnErr, OnOk, Option, Some, None, ℕ, Bool, true, false, drop, filter_map, find, is_some, length, map, not, option_map, slice_get, slice_set};
 ghost use Rattle.std.specs.List.{list_all, list_any};
 ghost use Rattle.std.specs.Vec.{vec_capacity, vec_len};
 ghost use Rattle.chain_types.specs.Equal.{digest_eq};
 ghost use Rattle.protocol_spec.specs.Chain.Words.{first_of};
 ghost use Rattle.protocol_spec.specs.Chain.Keys.{mutable_id};
 ghost use Rattle.protocol_spec.specs.Member.Admission.{full_id, has_room, is_admitted, is_free, missing_origin};
-ghost use Rattle.version_assign.specs.Books.{IsKept, IsSkipped, admission_of, lacks_one, placed, row_at, shown, version_within};
+ghost use Rattle.version_assign.specs.Books.{AreLines, IsKept, IsSkipped, admission_of, lacks_one, opening_of, placed, row_at, shown, version_within};
 ghost use Rattle.version_assign.specs.Calls.{settled, with_taken};
 ghost use Rattle.indexmap.specs.IndexMap.{spare};
 ghost use Rattle.version_assign.specs.Lines.{are_lined, filled, greater_assigned, greater_named, greatest_of, named_version};
@@ -77,6 +77,17 @@ fn is_taken(rows: &[Option<Row>], place: usize) -> bool
         Some(Some(_)) => false,
         Some(None) => true,
         None => true,
+    }
+}
+
+/// The row of the certificate that waits at a place.
+pub(crate) fn row_at(rows: &[Option<Row>], place: usize) -> Option<&Row>
+    ensures { option_map (λ (r : _). r.now) result ≡ row_at rows.now place }
+{
+    match rows.get(place) {
+        Some(Some(row)) => Some(row),
+        Some(None) => None,
+        None => None,
     }
 }
 
@@ -187,8 +198,8 @@ impl Book {
     }
 
     /// Whether the object has fewer writers than the limit.
-    fn has_room(&self, id: &ObjectId) -> bool
-        requires { IsKept self.now }
+    pub(crate) fn has_room(&self, id: &ObjectId) -> bool
+        requires { AreLines self.now.writers (opening_of self.now) (admission_of self.now) self.now.lines.entries }
         ensures { result ≡ has_room self.now.writers (admission_of self.now) id.now }
     {
         match self.writers {
@@ -199,7 +210,7 @@ impl Book {
 
     /// The object that the input writes, where it has its writers.
     fn full_one(&self, input: &Input) -> Option<ObjectId>
-        requires { IsKept self.now }
+        requires { AreLines self.now.writers (opening_of self.now) (admission_of self.now) self.now.lines.entries }
         ensures { result ≡ full_one self.now.writers (admission_of self.now) input.now }
     {
         if let Input::Shared { id, mutable, .. } = input {
@@ -212,7 +223,7 @@ impl Book {
 
     /// The first object that these inputs write and that has its writers.
     pub(crate) fn full(&self, inputs: &[Input]) -> Option<ObjectId>
-        requires { IsKept self.now }
+        requires { AreLines self.now.writers (opening_of self.now) (admission_of self.now) self.now.lines.entries }
         ensures { result ≡ first_of (full_one self.now.writers (admission_of self.now)) inputs.now }
     {
         let mut rest = inputs;
@@ -236,7 +247,7 @@ impl Book {
     }
 
     /// Whether a certificate waits at a place and is free.
-    fn is_free_at(&self, place: usize) -> bool
+    pub(crate) fn is_free_at(&self, place: usize) -> bool
         requires { IsKept self.now }
         ensures { result ≡ is_free_one (shown self.now) (placed self.now.rows.items (Some place)) }
     {
@@ -248,7 +259,7 @@ impl Book {
     }
 
     /// The first place at which a free certificate waits.
-    fn first_free(&self) -> Option<usize>
+    pub(crate) fn first_free(&self) -> Option<usize>
         requires { IsKept self.now }
         ensures place { placed self.now.rows.items result ≡ find (is_free self.now.writers (admission_of self.now)) (admission_of self.now).pending }
         ensures free { IfSome result (λ place. is_free_one (shown self.now) (placed self.now.rows.items (Some place)) ≡ true) }
@@ -274,7 +285,7 @@ impl Book {
     }
 
     /// Skips the places at which no certificate waits.
-    fn skip(&mut self)
+    pub(crate) fn skip(&mut self)
         requires { IsSkipped self.old.low self.old.rows.items }
         ensures { Skips self.old self.new }
     {
@@ -319,7 +330,7 @@ impl Book {
     }
 
     /// Admits or drops a certificate that was taken out.
-    fn give(&mut self, row: Row)
+    pub(crate) fn give(&mut self, row: Row)
         requires admitted { 0 < spare self.old.admitted }
         requires dropped { vec_len self.old.dropped < vec_capacity self.old.dropped }
         requires lined { are_lined self.old.lines.entries row.assigned.items ≡ true }
@@ -333,7 +344,7 @@ impl Book {
     }
 
     /// Takes out the certificate that waits at a place.
-    fn take_out(&mut self, place: usize) -> Row
+    pub(crate) fn take_out(&mut self, place: usize) -> Row
         requires there { is_some (row_at self.old.rows.items place) ≡ true }
         requires waits { 0 < self.old.waiting }
         ensures { TakesOut self.old self.new place result }
@@ -343,37 +354,5 @@ impl Book {
             Some(row) => row,
             None => unreachable!(),
         }
-    }
-
-    /// Admits or drops the certificate at a place, where one waits, which is free.
-    fn take(&mut self, place: usize)
-        requires kept { IsKept self.old }
-        requires free { is_free_one (shown self.old) (placed self.old.rows.items (Some place)) ≡ true }
-        ensures kept { IsKept self.new }
-        ensures taken { shown self.new ≡ with_taken (shown self.old) (placed self.old.rows.items (Some place)) }
-    {
-        let row = self.take_out(place);
-        self.give(row);
-    }
-
-    /// Admits or drops the first free certificate, again and again until none is free.
-    fn settle(&mut self)
-        requires { IsKept self.old }
-        ensures kept { IsKept self.new }
-        ensures settled { shown self.new ≡ settled (shown self.old) }
-    {
-        while let Some(place) = self.first_free() {
-            self.take(place);
-        }
-    }
-
-    /// The same; behind it the places are skipped at which nothing waits.
-    pub(crate) fn settle_all(&mut self)
-        requires { IsKept self.old }
-        ensures kept { IsKept self.new }
-        ensures settled { shown self.new ≡ settled (shown self.old) }
-    {
-        self.settle();
-        self.skip();
     }
 }

@@ -112,7 +112,12 @@ fn list_dropped(list: Vec<Digest>, dropped: &[Digest], from: usize) -> Vec<Diges
 
 impl Book {
     /// The row of a certificate.
-    fn row_of(&self, alloc: Global, tx: &Digest, cert: &Certificate) -> Result<Row, OutOfMemory>
+    pub(crate) fn row_of(
+        &self,
+        alloc: Global,
+        tx: &Digest,
+        cert: &Certificate,
+    ) -> Result<Row, OutOfMemory>
         requires { IsKept self.now }
         ensures { IfOk result (λ row. IsRowOf (opening_of self.now) (record { digest = tx.now; cert = cert.now }) row) }
     {
@@ -125,7 +130,7 @@ impl Book {
     }
 
     /// Makes room for one more row: behind it nothing that waits can be refused memory.
-    fn make_room(&mut self, assigned: &[Assigned]) -> Result<(), OutOfMemory>
+    pub(crate) fn make_room(&mut self, assigned: &[Assigned]) -> Result<(), OutOfMemory>
         ensures kept { MakesRoom self.old self.new }
         ensures room { OnOk result (HasRowRoom self.new assigned.now) }
     {
@@ -140,7 +145,7 @@ impl Book {
     }
 
     /// One more row; there is room.
-    fn add_row(&mut self, row: Row)
+    pub(crate) fn add_row(&mut self, row: Row)
         requires room { HasRowRoom self.old row.assigned.items }
         requires new { list_any (λ d. digest_eq row.held.digest d) self.old.known.keys ≡ false }
         ensures { AddsRow self.old self.new row }
@@ -151,7 +156,7 @@ impl Book {
     }
 
     /// Puts what was admitted and dropped since into these lists; there is room.
-    fn list_taken(
+    pub(crate) fn list_taken(
         &self,
         admitted: Vec<Digest>,
         dropped: Vec<Digest>,
@@ -171,82 +176,13 @@ impl Book {
         }
     }
 
-    /// Takes all that is free, and lists it; there is room.
-    fn settle_listed(&mut self, admitted: Vec<Digest>, dropped: Vec<Digest>) -> Taken
-        requires kept { IsKept self.old }
-        requires empty { (admitted.items ≡ []) × (dropped.items ≡ []) }
-        requires room { (self.old.waiting ≤ vec_capacity admitted) × (self.old.waiting ≤ vec_capacity dropped) }
-        ensures kept { IsKept self.new }
-        ensures settled { shown self.new ≡ settled (shown self.old) }
-        ensures admitted { result.admitted ≡ admitted_since (admission_of self.old) (admission_of self.new) }
-        ensures dropped { result.dropped ≡ dropped_since (admission_of self.old) (admission_of self.new) }
-    {
-        let from = self.admitted.len();
-        let from_dropped = self.dropped.len();
-        self.settle_all();
-        self.list_taken(admitted, dropped, from, from_dropped)
-    }
-
-    /// A certificate's entry, for which there is room.
-    fn enter(&mut self, row: Row, admitted: Vec<Digest>, dropped: Vec<Digest>) -> Taken
-        requires kept { IsKept self.old }
-        requires room { HasRowRoom self.old row.assigned.items }
-        requires shaped { shape_fault row.held.cert.tx ≡ None }
-        requires origins { length row.held.cert.origins ≡ length (objects_of row.held.cert.tx) }
-        requires begins { row.assigned.items ≡ begun_behind (opening_of self.old) row.held.cert.tx.inputs row.held.cert.origins }
-        requires new { is_known (admission_of self.old) row.held.digest ≡ false }
-        requires empty { (admitted.items ≡ []) × (dropped.items ≡ []) }
-        requires lists { (self.old.waiting + 1 ≤ vec_capacity admitted) × (self.old.waiting + 1 ≤ vec_capacity dropped) }
-        ensures kept { IsKept self.new }
-        ensures entered { shown self.new ≡ with_entry (shown self.old) row.held }
-        ensures admitted { result.admitted ≡ admitted_since (admission_of self.old) (admission_of self.new) }
-        ensures dropped { result.dropped ≡ dropped_since (admission_of self.old) (admission_of self.new) }
-    {
-        self.add_row(row);
-        self.settle_listed(admitted, dropped)
-    }
-
-    /// A certificate's entry. A refusal changes nothing.
-    pub(crate) fn push(
-        &mut self,
-        alloc: Global,
-        tx: &Digest,
-        cert: &Certificate,
-    ) -> Result<Taken, OutOfMemory>
-        requires kept { IsKept self.old }
-        requires shaped { shape_fault cert.now.tx ≡ None }
-        requires origins { length cert.now.origins ≡ length (objects_of cert.now.tx) }
-        requires new { is_known (admission_of self.old) tx.now ≡ false }
-        ensures kept { IsKept self.new }
-        ensures entered { OnOk result (shown self.new ≡ with_entry (shown self.old) (record { digest = tx.now; cert = cert.now })) }
-        ensures admitted { IfOk result (λ taken. taken.admitted ≡ admitted_since (admission_of self.old) (admission_of self.new)) }
-        ensures dropped { IfOk result (λ taken. taken.dropped ≡ dropped_since (admission_of self.old) (admission_of self.new)) }
-        ensures err { OnErr result (shown self.new ≡ shown self.old) }
-    {
-        let row = self.row_of(alloc, tx, cert)?;
-        self.make_room(row.assigned.as_slice())?;
-        let admitted = Vec::with_capacity(alloc, self.waiting + 1)?;
-        let dropped = Vec::with_capacity(alloc, self.waiting + 1)?;
-        Ok(self.enter(row, admitted, dropped))
-    }
-
     /// What was admitted is in a checkpoint: it counts no more for the limit of writers.
-    fn pass(&mut self)
+    pub(crate) fn pass(&mut self)
         requires { Each (IsLet self.old.lines.entries) self.old.admitted.entries }
         ensures { Marks self.old self.new }
     {
         clear_since(&mut self.lines, &self.admitted, self.marked);
         self.marked = self.admitted.len();
-    }
-
-    /// The same.
-    pub(crate) fn cut(&mut self)
-        requires { IsKept self.old }
-        ensures kept { IsKept self.new }
-        ensures cut { shown self.new ≡ with_cut (shown self.old) }
-        ensures waiting { self.new.waiting ≡ self.old.waiting }
-    {
-        self.pass();
     }
 
     /// The transactions that were admitted since the last mark.
@@ -256,20 +192,5 @@ impl Book {
     {
         let list = Vec::with_capacity(alloc, self.admitted.len().saturating_sub(self.marked))?;
         Ok(Seq::from_vec(list_admitted(list, &self.admitted, self.marked)))
-    }
-
-    /// A mark, behind its cut. A refusal changes nothing.
-    pub(crate) fn mark(&mut self, alloc: Global) -> Result<Taken, OutOfMemory>
-        requires { IsKept self.old }
-        ensures kept { IsKept self.new }
-        ensures passed { OnOk result (shown self.new ≡ with_mark (shown self.old)) }
-        ensures admitted { IfOk result (λ taken. taken.admitted ≡ admitted_since (admission_of self.old) (admission_of self.new)) }
-        ensures dropped { IfOk result (λ taken. taken.dropped ≡ dropped_since (admission_of self.old) (admission_of self.new)) }
-        ensures err { OnErr result (shown self.new ≡ shown self.old) }
-    {
-        let admitted = Vec::with_capacity(alloc, self.waiting)?;
-        let dropped = Vec::with_capacity(alloc, self.waiting)?;
-        self.cut();
-        Ok(self.settle_listed(admitted, dropped))
     }
 }

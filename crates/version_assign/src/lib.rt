@@ -14,9 +14,12 @@ mod book;
 mod entries;
 mod laws;
 mod lines;
+mod register;
 mod renewing;
 mod shared;
+mod shelf;
 mod taken;
+mod waits;
 
 pub use admission::Admission;
 pub use laws::shared_objects_serve;

@@ -1,0 +1,8 @@
+-- How the tables of an admission are kept, and those that say who may be free.
+use Rattle.version_assign.specs.declared.register.Register.{Register}
+use Rattle.version_assign.specs.Books.{IsKept}
+use Rattle.version_assign.specs.Waiting.{IsFiledIn}
+
+pub record IsWhole (x : Register) : Type 0 where
+  pub kept : IsKept x.book
+  pub filed : IsFiledIn x.book x.waits

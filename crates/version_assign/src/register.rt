@@ -1,0 +1,169 @@
+//! The tables of an admission, with those that say who may be free. What can be refused memory comes first, and then
+//! what cannot.
+
+ghost use Rattle.std.specs.Prelude.{◌≡◌, ◌+◌, ◌≤◌, [], IfOk, OnErr, OnOk, Some, None, false, length, true};
+ghost use Rattle.std.specs.Vec.{vec_capacity};
+ghost use Rattle.protocol_spec.specs.Chain.Keys.{objects_of};
+ghost use Rattle.protocol_spec.specs.Chain.Shape.{shape_fault};
+ghost use Rattle.protocol_spec.specs.Member.Admission.{is_known};
+ghost use Rattle.version_assign.specs.Books.{IsKept, admission_of, opening_of, placed, shown};
+ghost use Rattle.version_assign.specs.Calls.{admitted_since, dropped_since, settled, uncut, with_cut, with_entry, with_mark, with_taken};
+ghost use Rattle.version_assign.specs.Lines.{begun_behind};
+ghost use Rattle.version_assign.specs.Registers.{IsWhole};
+ghost use Rattle.version_assign.specs.Steps.{HasRowRoom, is_free_one};
+
+use crate::book::{Book, Row};
+use crate::taken::Taken;
+use crate::waits::Waits;
+use chain_messages::Certificate;
+use digest_core::Digest;
+use std::alloc::Global;
+use wire_bcs::OutOfMemory;
+
+/// The tables.
+#[derive(Drop)]
+pub(crate) struct Register {
+    pub(crate) book: Book,
+    pub(crate) waits: Waits,
+}
+
+impl Register {
+    /// Admits or drops the certificate at a place, where one waits, which is free.
+    fn take(&mut self, place: usize)
+        requires kept { IsWhole self.old }
+        requires free { is_free_one (shown self.old.book) (placed self.old.book.rows.items (Some place)) ≡ true }
+        ensures kept { IsWhole self.new }
+        ensures taken { shown self.new.book ≡ with_taken (shown self.old.book) (placed self.old.book.rows.items (Some place)) }
+    {
+        let row = self.book.take_out(place);
+        self.waits.release(&self.book, place, &row.held);
+        self.book.give(row);
+    }
+
+    /// Admits or drops the first free certificate, again and again until none is free.
+    fn settle(&mut self)
+        requires { IsWhole self.old }
+        ensures kept { IsWhole self.new }
+        ensures settled { shown self.new.book ≡ settled (shown self.old.book) }
+    {
+        while let Some(place) = self.waits.next_free(&self.book) {
+            self.take(place);
+        }
+    }
+
+    /// The same; behind it the places are skipped at which nothing waits.
+    fn settle_all(&mut self)
+        requires { IsWhole self.old }
+        ensures kept { IsWhole self.new }
+        ensures settled { shown self.new.book ≡ settled (shown self.old.book) }
+    {
+        self.settle();
+        self.book.skip();
+    }
+
+    /// Takes all that is free, and lists it; there is room.
+    fn settle_listed(&mut self, admitted: Vec<Digest>, dropped: Vec<Digest>) -> Taken
+        requires kept { IsWhole self.old }
+        requires empty { (admitted.items ≡ []) × (dropped.items ≡ []) }
+        requires room { (self.old.book.waiting ≤ vec_capacity admitted) × (self.old.book.waiting ≤ vec_capacity dropped) }
+        ensures kept { IsWhole self.new }
+        ensures settled { shown self.new.book ≡ settled (shown self.old.book) }
+        ensures admitted { result.admitted ≡ admitted_since (admission_of self.old.book) (admission_of self.new.book) }
+        ensures dropped { result.dropped ≡ dropped_since (admission_of self.old.book) (admission_of self.new.book) }
+    {
+        let from = self.book.admitted.len();
+        let from_dropped = self.book.dropped.len();
+        self.settle_all();
+        self.book.list_taken(admitted, dropped, from, from_dropped)
+    }
+
+    /// One more row, for which there is room, and which may be free.
+    fn add_row(&mut self, row: Row)
+        requires kept { IsWhole self.old }
+        requires room { HasRowRoom self.old.book row.assigned.items }
+        requires shaped { shape_fault row.held.cert.tx ≡ None }
+        requires origins { length row.held.cert.origins ≡ length (objects_of row.held.cert.tx) }
+        requires begins { row.assigned.items ≡ begun_behind (opening_of self.old.book) row.held.cert.tx.inputs row.held.cert.origins }
+        requires new { is_known (admission_of self.old.book) row.held.digest ≡ false }
+        ensures kept { IsWhole self.new }
+        ensures settled { settled (shown self.new.book) ≡ with_entry (shown self.old.book) row.held }
+        ensures waiting { self.new.book.waiting ≡ self.old.book.waiting + 1 }
+        ensures lists { (admission_of self.new.book).admitted ≡ (admission_of self.old.book).admitted }
+        ensures dropped { (admission_of self.new.book).dropped ≡ (admission_of self.old.book).dropped }
+    {
+        let place = self.book.rows.len();
+        self.book.add_row(row);
+        self.waits.wake(place);
+    }
+
+    /// A certificate's entry, for which there is room.
+    fn enter(&mut self, row: Row, admitted: Vec<Digest>, dropped: Vec<Digest>) -> Taken
+        requires kept { IsWhole self.old }
+        requires room { HasRowRoom self.old.book row.assigned.items }
+        requires shaped { shape_fault row.held.cert.tx ≡ None }
+        requires origins { length row.held.cert.origins ≡ length (objects_of row.held.cert.tx) }
+        requires begins { row.assigned.items ≡ begun_behind (opening_of self.old.book) row.held.cert.tx.inputs row.held.cert.origins }
+        requires new { is_known (admission_of self.old.book) row.held.digest ≡ false }
+        requires empty { (admitted.items ≡ []) × (dropped.items ≡ []) }
+        requires lists { (self.old.book.waiting + 1 ≤ vec_capacity admitted) × (self.old.book.waiting + 1 ≤ vec_capacity dropped) }
+        ensures kept { IsWhole self.new }
+        ensures entered { shown self.new.book ≡ with_entry (shown self.old.book) row.held }
+        ensures admitted { result.admitted ≡ admitted_since (admission_of self.old.book) (admission_of self.new.book) }
+        ensures dropped { result.dropped ≡ dropped_since (admission_of self.old.book) (admission_of self.new.book) }
+    {
+        self.add_row(row);
+        self.settle_listed(admitted, dropped)
+    }
+
+    /// A certificate's entry. A refusal changes nothing.
+    pub(crate) fn push(
+        &mut self,
+        alloc: Global,
+        tx: &Digest,
+        cert: &Certificate,
+    ) -> Result<Taken, OutOfMemory>
+        requires kept { IsWhole self.old }
+        requires shaped { shape_fault cert.now.tx ≡ None }
+        requires origins { length cert.now.origins ≡ length (objects_of cert.now.tx) }
+        requires new { is_known (admission_of self.old.book) tx.now ≡ false }
+        ensures kept { IsWhole self.new }
+        ensures entered { OnOk result (shown self.new.book ≡ with_entry (shown self.old.book) (record { digest = tx.now; cert = cert.now })) }
+        ensures admitted { IfOk result (λ taken. taken.admitted ≡ admitted_since (admission_of self.old.book) (admission_of self.new.book)) }
+        ensures dropped { IfOk result (λ taken. taken.dropped ≡ dropped_since (admission_of self.old.book) (admission_of self.new.book)) }
+        ensures err { OnErr result (shown self.new.book ≡ shown self.old.book) }
+    {
+        let row = self.book.row_of(alloc, tx, cert)?;
+        self.book.make_room(row.assigned.as_slice())?;
+        let admitted = Vec::with_capacity(alloc, self.book.waiting + 1)?;
+        let dropped = Vec::with_capacity(alloc, self.book.waiting + 1)?;
+        Ok(self.enter(row, admitted, dropped))
+    }
+
+    /// What was admitted is in a checkpoint, and counts no more for the limit of writers: who waited for that may be
+    /// free.
+    pub(crate) fn cut(&mut self)
+        requires { IsWhole self.old }
+        ensures kept { IsWhole self.new }
+        ensures cut { shown self.new.book ≡ with_cut (shown self.old.book) }
+        ensures waiting { self.new.book.waiting ≡ self.old.book.waiting }
+    {
+        let from = self.book.marked;
+        self.book.pass();
+        self.waits.open_since(&self.book, from);
+    }
+
+    /// A mark, behind its cut. A refusal changes nothing.
+    pub(crate) fn mark(&mut self, alloc: Global) -> Result<Taken, OutOfMemory>
+        requires { IsWhole self.old }
+        ensures kept { IsWhole self.new }
+        ensures passed { OnOk result (shown self.new.book ≡ with_mark (shown self.old.book)) }
+        ensures admitted { IfOk result (λ taken. taken.admitted ≡ admitted_since (admission_of self.old.book) (admission_of self.new.book)) }
+        ensures dropped { IfOk result (λ taken. taken.dropped ≡ dropped_since (admission_of self.old.book) (admission_of self.new.book)) }
+        ensures err { OnErr result (shown self.new.book ≡ shown self.old.book) }
+    {
+        let admitted = Vec::with_capacity(alloc, self.book.waiting)?;
+        let dropped = Vec::with_capacity(alloc, self.book.waiting)?;
+        self.cut();
+        Ok(self.settle_listed(admitted, dropped))
+    }
+}

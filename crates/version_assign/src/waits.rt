@@ -1,0 +1,295 @@
+//! Which of the certificates that wait may be free, so that the others are not looked at.
+
+ghost use Rattle.std.specs.Prelude.{◌≡◌, ◌≤◌, ℕ, Bool, IfSome, [], ◌∷◌, Option, Some, None, true, false, drop, find, slice_get};
+ghost use Rattle.std.specs.List.{list_any};
+ghost use Rattle.std.specs.Ordering.{nat_cmp};
+ghost use Rattle.std.specs.BTreeSet.{contains};
+ghost use Rattle.chain_types.specs.declared.objects.ObjectId.{ObjectId as Id};
+ghost use Rattle.chain_types.specs.declared.transactions.Input.{Input as In};
+ghost use Rattle.protocol_spec.specs.Chain.Keys.{mutable_id};
+ghost use Rattle.protocol_spec.specs.Chain.Tests.{has_id};
+ghost use Rattle.protocol_spec.specs.Member.Admission.{is_free, mutable_ids};
+ghost use Rattle.version_assign.specs.declared.book.Book.{Book as B};
+ghost use Rattle.version_assign.specs.Books.{IsKept, admission_of, opening_of, AreLines, placed, row_at, shown};
+ghost use Rattle.version_assign.specs.Steps.{TakesOut, is_free_one};
+ghost use Rattle.version_assign.specs.Waiting.{Aside, Frees, Grows, IsFiled, IsFiledIn, Opens, OpensFound, OpensSince, Passes, Rests, TurnsOn, admits_also, admits_in, is_awake, is_under, none_open, or_one_of, room_in, wrote_one, writes_at, writes_input};
+
+use crate::book::{Book, Row, row_at};
+use crate::shelf::{add_place, pop_place, take_places};
+use answer_types::Held;
+use chain_types::{Input, ObjectId};
+use digest_core::Digest;
+use indexmap::IndexMap;
+use std::alloc::Global;
+use std::collections::BTreeSet;
+
+/// Each certificate that waits may be free, or stands behind an origin that is not admitted, or in the queue of an
+/// object that it writes and that has its writers. Where an object has room for one more writer, the first of its
+/// queue goes to those that may be free, and takes the next with it. A place may stand somewhere longer than its
+/// certificate waits.
+#[derive(Drop)]
+pub(crate) struct Waits {
+    /// Not so once memory was refused to a table: then each certificate that waits is looked at.
+    pub(crate) whole: bool,
+    /// The places of those that may be free.
+    pub(crate) awake: BTreeSet<usize>,
+    /// The places of those that stand behind a transaction.
+    pub(crate) behind: IndexMap<Digest, BTreeSet<usize>>,
+    /// The places of those in the queue of an object.
+    pub(crate) queues: IndexMap<Digest, BTreeSet<usize>>,
+    alloc: Global,
+}
+
+/// The object that the input writes, if it writes one.
+fn mutable_id(input: &Input) -> Option<ObjectId>
+    ensures { result ≡ mutable_id input.now }
+{
+    match input {
+        Input::Shared {
+            id,
+            mutable: true,
+            ..
+        } => Some(*id),
+        Input::Shared { .. } | Input::Owned(_) | Input::Immutable(_) | Input::Pure(_) => None,
+    }
+}
+
+/// Whether the input writes the object.
+fn writes_input(input: &Input, id: &ObjectId) -> bool
+    ensures { result ≡ writes_input input.now id.now }
+{
+    match mutable_id(input) {
+        Some(one) => *id == one,
+        None => false,
+    }
+}
+
+/// Whether one of these inputs writes the object.
+fn writes_one(inputs: &[Input], id: &ObjectId) -> bool
+    ensures { result ≡ list_any (λ (i : In). writes_input i id.now) inputs.now }
+{
+    for input in inputs {
+        if writes_input(input, id) {
+            return true;
+        }
+    }
+    false
+}
+
+/// Whether the certificate writes the object.
+fn writes_row(row: &Row, id: &ObjectId) -> bool
+    ensures { result ≡ has_id (mutable_ids row.now.held.cert) id.now }
+{
+    writes_one(row.held.cert.tx.inputs.as_slice(), id)
+}
+
+/// Whether a certificate waits at the place, and writes the object.
+fn writes_at(rows: &[Option<Row>], place: usize, id: &ObjectId) -> bool
+    ensures { result ≡ writes_at rows.now place id.now }
+{
+    match row_at(rows, place) {
+        Some(row) => writes_row(row, id),
+        None => false,
+    }
+}
+
+impl Waits {
+    /// Nothing waits. Takes no memory.
+    pub(crate) fn new(alloc: Global) -> Waits {
+        Waits {
+            whole: true,
+            awake: BTreeSet::new(alloc),
+            behind: IndexMap::new(alloc),
+            queues: IndexMap::new(alloc),
+            alloc,
+        }
+    }
+
+    /// The certificate at a place may be free.
+    pub(crate) fn wake(&mut self, place: usize)
+        ensures kept { Grows self.old self.new }
+        ensures queues { self.new.queues ≡ self.old.queues }
+        ensures awake { self.new.whole ≡ true → is_awake self.new place ≡ true }
+    {
+        match self.awake.insert(place) {
+            Ok(_) => {}
+            Err(_) => self.whole = false,
+        }
+    }
+
+    /// The certificate at a place stands behind a transaction.
+    fn put_behind(&mut self, tx: Digest, place: usize)
+        ensures kept { Grows self.old self.new }
+        ensures behind { self.new.whole ≡ true → is_under self.new.behind.entries tx place ≡ true }
+    {
+        match add_place(self.alloc, &mut self.behind, tx, place) {
+            Ok(()) => {}
+            Err(_) => self.whole = false,
+        }
+    }
+
+    /// The certificate at a place stands in the queue of an object.
+    fn put_in_queue(&mut self, id: ObjectId, place: usize)
+        ensures kept { Grows self.old self.new }
+        ensures queued { self.new.whole ≡ true → is_under self.new.queues.entries id.0 place ≡ true }
+    {
+        match add_place(self.alloc, &mut self.queues, id.0, place) {
+            Ok(()) => {}
+            Err(_) => self.whole = false,
+        }
+    }
+
+    /// The certificates at these places may be free.
+    fn wake_all(&mut self, places: BTreeSet<usize>)
+        ensures kept { Grows self.old self.new }
+        ensures awake { self.new.whole ≡ true → (q : ℕ) → contains nat_cmp places q ≡ true → is_awake self.new q ≡ true }
+    {
+        let mut places = places;
+        while let Some(place) = places.pop_first() {
+            self.wake(place);
+        }
+    }
+
+    /// Those that stand behind a transaction may be free.
+    fn wake_behind(&mut self, tx: &Digest)
+        ensures { Frees self.old self.new tx.now }
+    {
+        if let Some(places) = take_places(&mut self.behind, tx) {
+            self.wake_all(places);
+        }
+    }
+
+    /// The first in the queue of an object may be free. Those that wait no more are passed over.
+    fn wake_next(&mut self, rows: &[Option<Row>], id: &ObjectId)
+        ensures { TurnsOn rows.now self.old self.new id.now }
+    {
+        while let Some(place) = pop_place(&mut self.queues, &id.0) {
+            if writes_at(rows, place, id) {
+                self.wake(place);
+                return;
+            }
+        }
+    }
+
+    /// The first in the queue of the object that the input writes may be free, where the object has room.
+    fn open_one(&mut self, book: &Book, input: &Input)
+        requires { AreLines book.now.writers (opening_of book.now) (admission_of book.now) book.now.lines.entries }
+        ensures { (rest : _) → Opens book.now.rows.items (room_in book.now) self.old self.new (input.now ∷ rest) rest }
+    {
+        let Some(id) = mutable_id(input) else {
+            return;
+        };
+        if book.has_room(&id) {
+            self.wake_next(book.rows.as_slice(), &id);
+        }
+    }
+
+    /// The same of each of these inputs.
+    pub(crate) fn open_all(&mut self, book: &Book, inputs: &[Input])
+        requires { AreLines book.now.writers (opening_of book.now) (admission_of book.now) book.now.lines.entries }
+        ensures { Opens book.now.rows.items (room_in book.now) self.old self.new inputs.now [] }
+    {
+        let mut rest = inputs;
+        while let [input, after @ ..] = rest {
+            self.open_one(book, input);
+            rest = after;
+        }
+    }
+
+    /// The place is no more among those that may be free.
+    fn rest(&mut self, place: usize)
+        ensures { Rests self.old self.new place }
+    {
+        self.awake.remove(&place);
+    }
+
+    /// Files a certificate that is not free behind its first missing origin, or in the queue of the first object that
+    /// has its writers.
+    fn file(&mut self, book: &Book, place: usize, held: &Held)
+        requires { IsKept book.now }
+        ensures kept { Grows self.old self.new }
+        ensures filed { self.new.whole ≡ true → is_free book.now.writers (admission_of book.now) held.now ≡ false → Aside self.new (admits_in book.now) (room_in book.now) place held.now.cert }
+    {
+        match book.missing(held.cert.origins.as_slice()) {
+            Some(tx) => self.put_behind(tx, place),
+            None => {
+                if let Some(id) = book.full(held.cert.tx.inputs.as_slice()) {
+                    self.put_in_queue(id, place);
+                }
+            }
+        }
+    }
+
+    /// Files the certificate at a place, which is not free; the next in the queues of what it writes may be free.
+    fn put_aside(&mut self, book: &Book, place: usize)
+        requires kept { IsKept book.now }
+        requires waits { is_free_one (shown book.now) (placed book.now.rows.items (Some place)) ≡ false }
+        ensures { IsFiledIn book.now self.old → IsFiledIn book.now self.new }
+    {
+        match row_at(book.rows.as_slice(), place) {
+            Some(row) => {
+                self.file(book, place, &row.held);
+                self.rest(place);
+                self.open_all(book, row.held.cert.tx.inputs.as_slice());
+            }
+            None => self.rest(place),
+        }
+    }
+
+    /// The first place at which a free certificate waits. Each round puts one aside, so there are no more of them than
+    /// rows.
+    pub(crate) fn next_free(&mut self, book: &Book) -> Option<usize>
+        requires kept { IsKept book.now }
+        requires filed { IsFiledIn book.now self.old }
+        ensures filed { IsFiledIn book.now self.new }
+        ensures place { placed book.now.rows.items result ≡ find (is_free book.now.writers (admission_of book.now)) (admission_of book.now).pending }
+        ensures free { IfSome result (λ place. is_free_one (shown book.now) (placed book.now.rows.items (Some place)) ≡ true) }
+    {
+        for round in 0..book.rows.len() {
+            if !self.whole {
+                return book.first_free();
+            }
+            let Some(place) = self.awake.first() else {
+                return None;
+            };
+            let place = *place;
+            if book.is_free_at(place) {
+                return Some(place);
+            }
+            self.put_aside(book, place);
+        }
+        book.first_free()
+    }
+
+    /// The certificate at a place was taken out: whoever stands behind its transaction may be free, and the next in the
+    /// queues of what it writes.
+    pub(crate) fn release(&mut self, book: &Book, place: usize, held: &Held)
+        requires { AreLines book.now.writers (opening_of book.now) (admission_of book.now) book.now.lines.entries }
+        ensures { (before : B) (row : _) → held.now ≡ row.held → TakesOut before book.now place row → IsFiledIn before self.old → IsFiled book.now.rows.items self.new (admits_also (admits_in book.now) held.now.digest) (room_in book.now) none_open }
+    {
+        self.rest(place);
+        self.wake_behind(&held.digest);
+        self.open_all(book, held.cert.tx.inputs.as_slice());
+    }
+
+    /// The first in the queue of each object that the admitted transaction at a place wrote may be free, where the
+    /// object has room.
+    fn open_at(&mut self, book: &Book, place: usize)
+        requires { AreLines book.now.writers (opening_of book.now) (admission_of book.now) book.now.lines.entries }
+        ensures { OpensFound book.now.rows.items (room_in book.now) self.old self.new (slice_get book.now.admitted.entries place) }
+    {
+        if let Some((_, admit)) = book.admitted.get_index(place) {
+            self.open_all(book, admit.cert.tx.inputs.as_slice());
+        }
+    }
+
+    /// The same of each that was admitted from this place on.
+    pub(crate) fn open_since(&mut self, book: &Book, from: usize)
+        requires { AreLines book.now.writers (opening_of book.now) (admission_of book.now) book.now.lines.entries }
+        ensures { OpensSince book.now.rows.items (room_in book.now) self.old self.new (drop from book.now.admitted.entries) [] }
+    {
+        for place in from..book.admitted.len() {
+            self.open_at(book, place);
+        }
+    }
+}
