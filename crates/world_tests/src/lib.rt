@@ -1,8 +1,19 @@
-//! Tests of seats, of whole steps of a world, and of its sums.
+//! Tests of a world: names, the transactions of lines, the lines of answers, what members said, seats, whole steps, and
+//! sums.
 #![tactic(auto)]
 
 #[cfg(test)]
 mod common;
+#[cfg(test)]
+mod directories;
+#[cfg(test)]
+mod lines;
+#[cfg(test)]
+mod making;
+#[cfg(test)]
+mod named;
+#[cfg(test)]
+mod said;
 #[cfg(test)]
 mod seats;
 #[cfg(test)]

@@ -1,6 +1,6 @@
 //! A directory of a coin and a counter, and one transaction.
 
-use crate::common::{coin_line, counter_line, text};
+use crate::named::{coin_line, counter_line, text};
 use chain_types::{
     Address, Argument, Command, Content, Object, ObjectId, ObjectKey, ObjectRef, Owner, SignedTx,
     Transaction,

@@ -4,7 +4,7 @@
 ghost use Rattle.std.specs.Prelude.{◌≡◌, Some, None, if◌then◌else◌};
 ghost use Rattle.chain_types.specs.Equal.{key_eq};
 
-use crate::common::{coin_line, counter_line, text};
+use crate::named::{coin_line, counter_line, text};
 use chain_types::{ObjectId, ObjectKey};
 use digest_core::{Digest, genesis_id};
 use quorum_core::KeyedSeal;
