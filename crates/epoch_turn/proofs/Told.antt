@@ -1,5 +1,5 @@
 -- A chain's checkpoints are those of the definitions.
-use Rattle.std.proofs.Common.{◌≡◌, ◌∙◌, refl, sym, ap, arith, ℕ, zero, suc, ◌+◌, ◌<◌, ◌≤◌, Bool, true, false, not, cond, ◌&&◌, List, [], ◌∷◌, ◌++◌, length, take, drop, length-drop, append-nil, option_map, take_all}
+use Rattle.std.proofs.Common.{◌≡◌, ◌∙◌, refl, sym, ap, arith, ℕ, zero, suc, ◌+◌, ◌<◌, ◌≤◌, Bool, true, false, not, cond, ◌&&◌, List, [], ◌∷◌, ◌++◌, length, take, drop, length-drop, option_map, take_all}
 use Rattle.std.specs.Prelude.{Option, Some, None, map, slice_get}
 use Rattle.std.specs.List.{list_all}
 use Rattle.std.proofs.lemmas.List.{drop-append-le, drop-map, length-map, map-append, take-append-le, take-map}
@@ -115,20 +115,9 @@ adds_cuts last c held admitted told =
     let left = length-drop (size_of c.marks) admitted in
     cuts_more admitted c.marks (record { size = uncut c; last = last }) ∙ ap cut (take_all (uncut c) rest (omega (arith, l, m, left)))
 
-no_cut : (txs : List Admitted) → length txs ≡ 0 → cut_of txs ≡ []
-no_cut [] none = refl
-no_cut (a ∷ more) none = absurd (omega (arith, none))
-
 one_cut : (txs : List Admitted) → 0 < length txs → cut_of txs ≡ cuts_with false txs
 one_cut [] some = absurd (omega (arith, some))
 one_cut (a ∷ more) some = refl
-
-pub adds_none : (c : Chaining) → uncut c ≡ 0 → AddsCuts cut_of c c
-adds_none c none held admitted told =
-    let l = ap length told in
-    let m = length-map admitted (due_of held) in
-    let left = length-drop (size_of c.marks) admitted in
-    sym (ap (λ (cs : List Cut). cuts_of admitted c.marks ++ cs) (no_cut (drop (size_of c.marks) admitted) (omega (arith, l, m, left, none))) ∙ append-nil (cuts_of admitted c.marks))
 
 pub adds_one : (c new : Chaining) → 0 < uncut c → AddsCuts (cuts_with false) c new → AddsCuts cut_of c new
 adds_one c new some adds held admitted told =
