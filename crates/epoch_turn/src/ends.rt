@@ -3,7 +3,7 @@
 ghost use Rattle.std.specs.Prelude.{◌≡◌, ◌<◌, ◌≤◌, ◌∷◌, ◌++◌, [], false, length, nat_eq, true};
 ghost use Rattle.std.specs.List.{IsDistinct};
 ghost use Rattle.quorum_core.specs.Committee.{all_known, is_among, total_of};
-ghost use Rattle.epoch_turn.specs.Ends.{counted_after, said_of_end, said_of_weight};
+ghost use Rattle.epoch_turn.specs.Ends.{CountsIn, counted_after, said_of_end, said_of_weight};
 
 use quorum_core::Committee;
 use std::marker::Model;
@@ -87,6 +87,7 @@ impl EndCount {
         requires before { all_known committee.now self.old ≡ true }
         ensures counted { self.new ≡ counted_after self.old member }
         ensures answer { result ≡ said_of_end committee.now self.old member }
+        ensures sequence { CountsIn committee.now self.old member self.new result }
         ensures known { all_known committee.now self.new ≡ true }
     {
         let _few = committee.len();
