@@ -14,7 +14,7 @@ use Rattle.chain_types.specs.Equal.{digest_eq}
 use Rattle.epoch_turn.specs.declared.due.Due.{Due}
 use Rattle.epoch_turn.specs.declared.due.CutMark.{CutMark}
 use Rattle.epoch_turn.specs.Dues.{due_item, front_length, is_due_done, size_of}
-use Rattle.epoch_turn.specs.Chains.{Chaining, IsBehind, advanced, due_chain, due_checkpoint, turned, with_cut, with_due}
+use Rattle.epoch_turn.specs.Chains.{Chaining, IsBehind, advanced, due_chain, due_checkpoint, with_cut, with_due}
 use Rattle.epoch_turn.proofs.Fronts.{found_stays}
 use Rattle.epoch_turn.proofs.Growing.{chain_front}
 
@@ -136,10 +136,7 @@ behind_cut epoch executed c last behind = record {
   found = behind.found;
 }
 
--- ---- at the beginning of an epoch, and where all is built
-
-pub behind_turned : (epoch : ℕ) (executed : List Execution) (c : Chaining) → IsBehind epoch executed (turned c)
-behind_turned epoch executed c = record { front = ([], sym (append-nil c.built)); found = omega arith }
+-- ---- all is built
 
 pub behind_advanced : (epoch : ℕ) (executed : List Execution) (c : Chaining) → IsBehind epoch executed (advanced epoch executed c)
 behind_advanced epoch executed c = record { front = ([], sym (append-nil (due_chain epoch executed c.past c.due c.marks))); found = omega arith }

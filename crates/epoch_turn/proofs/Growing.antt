@@ -38,7 +38,7 @@ pub sizes_more : (marks more : List CutMark) → size_of (marks ++ more) ≡ siz
 sizes_more [] more = omega arith
 sizes_more (m ∷ ms) more = let rest = sizes_more ms more in omega (arith, rest)
 
-take_nothing : (n : ℕ) → take {A = CutMark} n [] ≡ []
+pub take_nothing : {A : Type 0} (n : ℕ) → take {A = A} n [] ≡ []
 take_nothing zero = refl
 take_nothing (suc n) = refl
 

@@ -1,8 +1,8 @@
 -- A chain's checkpoints are those of the definitions.
-use Rattle.std.proofs.Common.{◌≡◌, ◌∙◌, refl, sym, ap, arith, ℕ, suc, ◌<◌, ◌≤◌, Bool, true, false, not, cond, ◌&&◌, List, [], ◌∷◌, ◌++◌, length, take, drop, length-drop, append-nil, option_map, take_all}
+use Rattle.std.proofs.Common.{◌≡◌, ◌∙◌, refl, sym, ap, arith, ℕ, zero, suc, ◌+◌, ◌<◌, ◌≤◌, Bool, true, false, not, cond, ◌&&◌, List, [], ◌∷◌, ◌++◌, length, take, drop, length-drop, option_map, take_all}
 use Rattle.std.specs.Prelude.{Option, Some, None, map, slice_get}
 use Rattle.std.specs.List.{list_all}
-use Rattle.std.proofs.lemmas.List.{drop-append-le, drop-map, length-map, take-append-le, take-map}
+use Rattle.std.proofs.lemmas.List.{drop-append-le, drop-map, length-map, map-append, take-append-le, take-map}
 use Rattle.digest_core.specs.declared.Digest.{Digest}
 use Rattle.checkpoint_core.specs.declared.checkpoints.Item.{Item}
 use Rattle.checkpoint_core.specs.declared.checkpoints.Checkpoint.{Checkpoint}
@@ -11,14 +11,14 @@ use Rattle.protocol_spec.specs.Chain.Words.{first_of, first_some, last_of, where
 use Rattle.protocol_spec.specs.Member.Versions.{Execution}
 use Rattle.protocol_spec.specs.Member.Admission.{Admitted}
 use Rattle.protocol_spec.specs.Member.Sequence.{Cut, cut_of}
-use Rattle.protocol_spec.specs.Member.Checkpoints.{chained, checkpoint_behind, digest_before, is_done, item_of, names_same_origins}
+use Rattle.protocol_spec.specs.Member.Checkpoints.{chained, checkpoint_behind, cut_digests, digest_before, is_done, item_of, names_same_origins}
 use Rattle.chain_types.specs.Equal.{digest_eq}
 use Rattle.epoch_turn.specs.declared.due.Due.{Due}
 use Rattle.epoch_turn.specs.declared.due.CutMark.{CutMark}
 use Rattle.epoch_turn.specs.Dues.{cuts_of, due_item, due_of, front_length, is_due_done, size_of}
-use Rattle.epoch_turn.specs.Chains.{AddsCuts, AreHeld, BuildsAll, Chaining, FindsFirst, KeepsCuts, advanced, cuts_with, due_chain, due_checkpoint, tx_of, uncut, waiting_one, with_cut, with_due}
+use Rattle.epoch_turn.specs.Chains.{AddsCuts, AreCut, AreHeld, BuildsAll, Chaining, FindsFirst, KeepsCuts, advanced, cut_of_chain, cuts_with, due_chain, due_checkpoint, tx_of, uncut, waiting_one, with_cut, with_due}
 use Rattle.epoch_turn.proofs.Fronts.{found_stays}
-use Rattle.epoch_turn.proofs.Growing.{drop_more}
+use Rattle.epoch_turn.proofs.Growing.{drop_more, take_nothing}
 
 module _ (held : List Held) (executed : List Execution) where
   all_done : (xs : List Admitted) → list_all (is_due_done executed) (map (due_of held) xs) ≡ list_all (is_done held executed) xs
@@ -115,20 +115,9 @@ adds_cuts last c held admitted told =
     let left = length-drop (size_of c.marks) admitted in
     cuts_more admitted c.marks (record { size = uncut c; last = last }) ∙ ap cut (take_all (uncut c) rest (omega (arith, l, m, left)))
 
-no_cut : (txs : List Admitted) → length txs ≡ 0 → cut_of txs ≡ []
-no_cut [] none = refl
-no_cut (a ∷ more) none = absurd (omega (arith, none))
-
 one_cut : (txs : List Admitted) → 0 < length txs → cut_of txs ≡ cuts_with false txs
 one_cut [] some = absurd (omega (arith, some))
 one_cut (a ∷ more) some = refl
-
-pub adds_none : (c : Chaining) → uncut c ≡ 0 → AddsCuts cut_of c c
-adds_none c none held admitted told =
-    let l = ap length told in
-    let m = length-map admitted (due_of held) in
-    let left = length-drop (size_of c.marks) admitted in
-    sym (ap (λ (cs : List Cut). cuts_of admitted c.marks ++ cs) (no_cut (drop (size_of c.marks) admitted) (omega (arith, l, m, left, none))) ∙ append-nil (cuts_of admitted c.marks))
 
 pub adds_one : (c new : Chaining) → 0 < uncut c → AddsCuts (cuts_with false) c new → AddsCuts cut_of c new
 adds_one c new some adds held admitted told =
@@ -136,3 +125,33 @@ adds_one c new some adds held admitted told =
     let m = length-map admitted (due_of held) in
     let left = length-drop (size_of c.marks) admitted in
     adds held admitted told ∙ ap (λ (cs : List Cut). cuts_of admitted c.marks ++ cs) (sym (one_cut (drop (size_of c.marks) admitted) (omega (arith, l, m, left, some))))
+
+take_more : {A : Type 0} (m n : ℕ) (xs : List A) → take (m + n) xs ≡ take m xs ++ take n (drop m xs)
+take_more zero n xs = ap (λ k. take k xs) (none n)
+  where
+    none : (n : ℕ) → zero + n ≡ n
+    none n = omega arith
+take_more (suc m) n [] = take_nothing (suc m + n) ∙ sym (take_nothing n)
+take_more {A} (suc m) n (x ∷ xs) = ap (λ k. take k (x ∷ xs)) (next m n) ∙ ap (λ (ys : List A). x ∷ ys) (take_more m n xs)
+  where
+    next : (m n : ℕ) → suc m + n ≡ suc (m + n)
+    next m n = omega arith
+
+digests_cut : (held : List Held) (admitted : List Admitted) (marks : List CutMark) → map tx_of (take (size_of marks) (map (due_of held) admitted)) ≡ cut_digests (cuts_of admitted marks)
+digests_cut held admitted [] = refl
+digests_cut held admitted (m ∷ ms) =
+    let due : List Due = map (due_of held) admitted in
+    let digest : Admitted → Digest = λ a. a.digest in
+    ap (map tx_of) (take_more m.size (size_of ms) due)
+    ∙ map-append tx_of (take m.size due) (take (size_of ms) (drop m.size due))
+    ∙ ap (λ (ds : List Due). map tx_of ds ++ map tx_of (take (size_of ms) (drop m.size due))) (take-map (due_of held) m.size admitted)
+    ∙ ap (λ (ds : List Due). map tx_of (map (due_of held) (take m.size admitted)) ++ map tx_of (take (size_of ms) ds)) (drop-map (due_of held) m.size admitted)
+    ∙ ap (λ (xs : List Digest). xs ++ map tx_of (take (size_of ms) (map (due_of held) (drop m.size admitted)))) (digests (take m.size admitted))
+    ∙ ap (λ (xs : List Digest). map digest (take m.size admitted) ++ xs) (digests_cut held (drop m.size admitted) ms)
+  where
+    digests : (xs : List Admitted) → map tx_of (map (due_of held) xs) ≡ map (λ (a : Admitted). a.digest) xs
+    digests [] = refl
+    digests (x ∷ xs) = ap (λ (ds : List Digest). x.digest ∷ ds) (digests xs)
+
+pub are_cut : (c : Chaining) → AreCut c (cut_of_chain c)
+are_cut c held admitted told = ap (λ (ds : List Due). map tx_of (take (size_of c.marks) ds)) told ∙ digests_cut held admitted c.marks

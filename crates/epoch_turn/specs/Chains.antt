@@ -8,7 +8,7 @@ use Rattle.protocol_spec.specs.Chain.Words.{Each, IsFront, first_of, last_of, wh
 use Rattle.protocol_spec.specs.Member.Versions.{Execution}
 use Rattle.protocol_spec.specs.Member.Admission.{Admitted}
 use Rattle.protocol_spec.specs.Member.Sequence.{Cut, last_cut}
-use Rattle.protocol_spec.specs.Member.Checkpoints.{chained, digest_before, held_of, is_done}
+use Rattle.protocol_spec.specs.Member.Checkpoints.{chained, cut_digests, digest_before, held_of, is_done}
 use Rattle.epoch_turn.specs.declared.due.Due.{Due}
 use Rattle.epoch_turn.specs.declared.due.CutMark.{CutMark}
 use Rattle.epoch_turn.specs.Dues.{cuts_of, due_of, is_due_done, due_item, front_length, size_of}
@@ -36,6 +36,10 @@ with_due c d = record c { due = c.due ++ d ∷ [] }
 -- how many were admitted since the last cut
 abbrev pub uncut : Chaining → ℕ
 uncut c = length c.due - size_of c.marks
+
+-- what the cuts have
+abbrev pub cut_of_chain : Chaining → List Digest
+cut_of_chain c = map tx_of (take (size_of c.marks) c.due)
 
 abbrev pub with_cut : Bool → Chaining → Chaining
 with_cut last c = record c { marks = c.marks ++ record { size = uncut c; last = last } ∷ [] }
@@ -108,6 +112,10 @@ cuts_with last txs = record { txs = txs; last = last } ∷ []
 
 abbrev pub last_cuts : List Admitted → List Cut
 last_cuts txs = last_cut txs ∷ []
+
+-- the cuts have these transactions
+abbrev pub AreCut : Chaining → List Digest → Type 0
+AreCut c txs = (held : List Held) (admitted : List Admitted) → IsTold held admitted c → txs ≡ cut_digests (cuts_of admitted c.marks)
 
 -- all is built that can be, and found done that is
 pub record IsBuilt (epoch : ℕ) (held : List Held) (executed : List Execution) (admitted : List Admitted) (c : Chaining) : Type 0 where

@@ -1,7 +1,9 @@
 -- The members that said End. Source: Sui Lutris.
-use Rattle.std.specs.Prelude.{◌≡◌, ℕ, true, List, [], ◌∷◌, ◌++◌, length, nat_eq, replicate, if◌then◌else◌}
+use Rattle.std.specs.Prelude.{◌≡◌, ℕ, true, false, List, [], ◌∷◌, ◌++◌, length, nat_eq, replicate, if◌then◌else◌}
 use Rattle.std.specs.List.{IsDistinct}
 use Rattle.quorum_core.specs.Committee.{weight, all_known, is_quorum, is_among}
+use Rattle.protocol_spec.specs.Chain.Certificates.{Rules}
+use Rattle.protocol_spec.specs.Member.Sequence.{Sequence, counted_as, ends_with_member}
 use Rattle.epoch_turn.specs.declared.ends.Counted.{Counted}
 use Rattle.epoch_turn.specs.declared.ends.Counted.TheVariants as counted
 
@@ -25,3 +27,13 @@ pub record IsCount (count : ℕ) (members : List ℕ) : Type 0 where
   pub many : count ≡ length members
   pub once : IsDistinct nat_eq members
   pub known : all_known greatest members ≡ true
+
+-- what a member's sequence makes of it: a repeat changes nothing; else the member is counted, and the epoch ends
+-- where those counted are a quorum with it
+abbrev pub CountsAs : Rules → Sequence → ℕ → List ℕ → Counted → Type 0
+CountsAs r q member members counted.Repeat = (is_among q.counted member ≡ true) × (members ≡ q.counted)
+CountsAs r q member members (counted.Weight w) = (ends_with_member r q member ≡ false) × (members ≡ (counted_as false q member).counted) × (w ≡ weight r.stakes members)
+CountsAs r q member members (counted.Ended w) = (ends_with_member r q member ≡ true) × (members ≡ (counted_as true q member).counted) × (w ≡ weight r.stakes members)
+
+abbrev pub CountsIn : List ℕ → List ℕ → ℕ → List ℕ → Counted → Type 0
+CountsIn stakes old member new said = (r : Rules) (q : Sequence) → r.stakes ≡ stakes → q.counted ≡ old → CountsAs r q member new said

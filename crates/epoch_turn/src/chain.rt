@@ -3,7 +3,7 @@
 ghost use Rattle.std.specs.Prelude.{◌≡◌, IfOk, OnErr, OnOk, drop, length, option_map, slice_get, true};
 ghost use Rattle.checkpoint_core.specs.Checkpoints.{transactions_in};
 ghost use Rattle.protocol_spec.specs.Member.Sequence.{cut_of};
-ghost use Rattle.epoch_turn.specs.Chains.{AddsCuts, BuildsAll, FindsFirst, IsAhead, IsBehind, KeepsCuts, StartsBehind, StaysBehind, advanced, last_cuts, nothing_built, turned, tx_of, with_cut, with_due, with_mark};
+ghost use Rattle.epoch_turn.specs.Chains.{AddsCuts, AreCut, BuildsAll, FindsFirst, IsAhead, IsBehind, KeepsCuts, StartsBehind, StaysBehind, advanced, cut_of_chain, last_cuts, nothing_built, turned, tx_of, with_cut, with_due, with_mark};
 
 use crate::due::Due;
 use crate::rows::Rows;
@@ -96,6 +96,14 @@ impl Chain {
         ensures first { FindsFirst result self.now }
     {
         self.rows.waits()
+    }
+
+    /// The transactions in the epoch's cuts, in the order of admission: those that a member keeps as the epoch turns.
+    pub fn cut_transactions(&self) -> Result<Seq<Digest>, OutOfMemory>
+        ensures value { IfOk result (λ txs. txs ≡ cut_of_chain self.now) }
+        ensures cut { IfOk result (λ txs. AreCut self.now txs) }
+    {
+        self.rows.cut_transactions(self.alloc)
     }
 
     /// The number of checkpoints built, over all epochs. Takes no memory.

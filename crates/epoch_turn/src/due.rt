@@ -1,10 +1,13 @@
 //! What a chain looks at of admitted transactions and of their cuts.
 
-ghost use Rattle.std.specs.Prelude.{◌≡◌, ◌≤◌, drop, length};
+ghost use Rattle.std.specs.Prelude.{◌≡◌, ◌≤◌, IfOk, drop, length, map};
+ghost use Rattle.epoch_turn.specs.Chains.{tx_of};
 ghost use Rattle.epoch_turn.specs.Dues.{front_length, is_due_done};
 
 use digest_core::Digest;
+use std::alloc::Global;
 use version_store::Store;
+use wire_bcs::OutOfMemory;
 
 /// An admitted transaction.
 #[derive(Clone, Copy, Debug, PartialEq, Eq)]
@@ -35,6 +38,13 @@ pub(crate) fn marks_from(marks: &[CutMark], place: usize) -> &[CutMark]
     ensures { result.now ≡ drop place marks.now }
 {
     &marks[place..]
+}
+
+/// Their digests.
+pub(crate) fn digests_of(alloc: Global, due: &[Due]) -> Result<Vec<Digest>, OutOfMemory>
+    ensures { IfOk result (λ txs. txs.items ≡ map tx_of due.now) }
+{
+    Ok(due.iter().map(|due| due.tx).collect(alloc)?)
 }
 
 /// Whether a transaction is done.

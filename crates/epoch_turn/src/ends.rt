@@ -3,7 +3,7 @@
 ghost use Rattle.std.specs.Prelude.{◌≡◌, ◌<◌, ◌≤◌, ◌∷◌, ◌++◌, [], false, length, nat_eq, true};
 ghost use Rattle.std.specs.List.{IsDistinct};
 ghost use Rattle.quorum_core.specs.Committee.{all_known, is_among, total_of};
-ghost use Rattle.epoch_turn.specs.Ends.{counted_after, greatest, said_of_end, said_of_weight};
+ghost use Rattle.epoch_turn.specs.Ends.{CountsIn, counted_after, greatest, said_of_end, said_of_weight};
 
 use quorum_core::Committee;
 use std::marker::Model;
@@ -89,7 +89,7 @@ impl EndCount {
         requires known { member < length committee.now }
         ensures counted { self.new ≡ counted_after self.old member }
         ensures answer { result ≡ said_of_end committee.now self.old member }
-        ensures known { all_known committee.now self.new ≡ true }
+        ensures sequence { CountsIn committee.now self.old member self.new result }
     {
         let _few = committee.len();
         if quorum_core::is_among(self.as_slice(), member) {

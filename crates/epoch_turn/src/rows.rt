@@ -2,11 +2,11 @@
 
 ghost use Rattle.std.specs.Prelude.{◌≡◌, ◌≤◌, IfOk, OnErr, OnOk, drop, false, length, option_map, slice_get};
 ghost use Rattle.protocol_spec.specs.Member.Sequence.{cut_of};
-ghost use Rattle.epoch_turn.specs.Chains.{AddsCuts, BuildsAll, IsAhead, IsBehind, KeepsCuts, StartsBehind, StaysBehind, advanced, cuts_with, nothing_built, turned, tx_of, with_cut, with_due, with_mark};
+ghost use Rattle.epoch_turn.specs.Chains.{AddsCuts, BuildsAll, IsAhead, IsBehind, KeepsCuts, StartsBehind, StaysBehind, advanced, cut_of_chain, cuts_with, nothing_built, turned, tx_of, with_cut, with_due, with_mark};
 ghost use Rattle.epoch_turn.specs.Dues.{front_length, is_due_done};
 ghost use Rattle.epoch_turn.specs.Kept.{IsKept, Keeps, Takes, growth_of, shown};
 
-use crate::due::{CutMark, Due, due_from, front_done, marks_from};
+use crate::due::{CutMark, Due, digests_of, due_from, front_done, marks_from};
 use crate::growth::{Growth, Tip};
 use checkpoint_core::Checkpoint;
 use digest_core::Digest;
@@ -107,6 +107,15 @@ impl Rows {
             Some(due) => Some(due.tx),
             None => None,
         }
+    }
+
+    /// The transactions in the epoch's cuts.
+    pub(crate) fn cut_transactions(&self, alloc: Global) -> Result<Seq<Digest>, OutOfMemory>
+        requires { IsKept self.now }
+        ensures { IfOk result (λ txs. txs ≡ cut_of_chain (shown self.now)) }
+    {
+        let txs = digests_of(alloc, &self.due[..self.cut])?;
+        Ok(Seq::from_vec(txs))
     }
 
     /// Goes to the next epoch.

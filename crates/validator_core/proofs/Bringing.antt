@@ -15,8 +15,9 @@ use Rattle.protocol_spec.specs.Chain.Certificates.{Rules}
 use Rattle.protocol_spec.specs.Chain.Words.{IsFront}
 use Rattle.protocol_spec.specs.Member.Admission.{Admission, Admitted, deferred_on, digest_of_admitted, entered, passed_mark, pending_on, since_mark}
 use Rattle.protocol_spec.specs.Member.Checkpoints.{held_of, zero_digest}
-use Rattle.protocol_spec.specs.Member.Member.{held_with}
-use Rattle.protocol_spec.specs.Member.Sequence.{Cut, Sequence, What, commits, counted_what, counts, cut_of, ignores, newly_admitted, newly_dropped, numbered, seen_what, takes, waiting_on}
+use Rattle.protocol_spec.specs.Member.Votes.{Cast}
+use Rattle.scene_spec.specs.Terms.{rules_for}
+use Rattle.protocol_spec.specs.Member.Sequence.{Cut, Sequence, What, with_entry, commits, counted_what, counts, cut_of, ignores, newly_admitted, newly_dropped, numbered, seen_what, takes, waiting_on}
 use Rattle.epoch_turn.specs.declared.due.Due.{Due}
 use Rattle.epoch_turn.specs.declared.due.CutMark.{CutMark}
 use Rattle.epoch_turn.specs.Chains.{AddsCuts, Chaining, IsTold, KeepsCuts, StaysBehind, last_cuts, uncut, with_cut, with_mark}
@@ -28,12 +29,16 @@ use Rattle.version_store.proofs.Equality.{digest_self}
 use Rattle.exec_plan.specs.Waits.{StoodBefore}
 use Rattle.exec_plan.specs.declared.waiting.Waiting.{Waiting}
 use Rattle.version_assign.specs.declared.taken.Taken.{Taken}
-use Rattle.version_assign.specs.Calls.{Admitting, with_entry, with_mark as with_mark_passed}
+use Rattle.version_assign.specs.Calls.{Admitting, with_entry as with_certificate, with_mark as with_mark_passed}
 use Rattle.version_assign.specs.Sharing.{HasShared, Serve, shared_of}
 use Rattle.version_assign.proofs.Sharing.{shared_serve}
 use Rattle.validator_core.specs.declared.course.Course.{Course}
-use Rattle.validator_core.specs.Courses.{AreHeld, Coursed, IsAdmitting, IsSound, IsUnbuilt, WaitsIn, brings, coursed, ends, marks}
-use Rattle.validator_core.specs.Entries.{waiting_answer}
+use Rattle.validator_core.specs.Courses.{AreHeld, Coursed, IsAdmitting, IsSound, IsUnbuilt, WaitsIn, arrives, brings, coursed, ends, marks, numbered_in}
+use Rattle.validator_core.specs.declared.entries.Arrival.{Arrival}
+use Rattle.validator_core.specs.declared.entries.Arrival.TheVariants as arrivals
+use Rattle.validator_core.specs.Entries.{behind_entry, waiting_answer, what_as}
+use Rattle.validator_core.specs.Limits.{Accepting}
+use Rattle.validator_core.specs.Sound.{member_with}
 use Rattle.validator_core.proofs.Entering.{entered_front, entered_held, entered_marked, passed_front, passed_held, passed_marked}
 
 -- ---- fronts
@@ -115,13 +120,13 @@ module _ (c : Course) (sound : IsSound c) where
     abbrev now : Admission
     now = entered c.admission.writers c.admission.opening a h
 
-    pub bring_sound : (adm : Admitting) → WaitsIn c.held h → adm ≡ with_entry c.admission h → IsAdmitting (length c.admission.admission.admitted) (record c { admission = adm })
+    pub bring_sound : (adm : Admitting) → WaitsIn c.held h → adm ≡ with_certificate c.admission h → IsAdmitting (length c.admission.admission.admitted) (record c { admission = adm })
     bring_sound adm here is = subst (λ (x : Admitting). IsAdmitting (length c.admission.admission.admitted) (record c { admission = x })) (sym is) entered_sound
       where
         front : IsFront a.admitted now.admitted
         front = entered_front c.admission.writers c.admission.opening c.held a u.known h here
 
-        entered_sound : IsAdmitting (length a.admitted) (record c { admission = with_entry c.admission h })
+        entered_sound : IsAdmitting (length a.admitted) (record c { admission = with_certificate c.admission h })
         entered_sound = record {
           held = u.held;
           waits = record { before = a; admits = record { more = drop (length a.admitted) now.admitted; admitted = rest_of a.admitted now.admitted front; named = refl }; waits = u.waits };
@@ -135,7 +140,7 @@ module _ (c : Course) (sound : IsSound c) where
           behind = u.behind;
         }
 
-    pub bring_is : (adm : Admitting) → WaitsIn c.held h → adm ≡ with_entry c.admission h → coursed (record c { admission = adm }) ≡ record (coursed c) { sequence = record (coursed c).sequence { admission = entered c.admission.writers c.store.opening c.admission.admission h } }
+    pub bring_is : (adm : Admitting) → WaitsIn c.held h → adm ≡ with_certificate c.admission h → coursed (record c { admission = adm }) ≡ record (coursed c) { sequence = record (coursed c).sequence { admission = entered c.admission.writers c.store.opening c.admission.admission h } }
     bring_is adm here is =
         ap (λ (x : Admitting). coursed (record c { admission = x })) is
         ∙ ap
@@ -282,3 +287,12 @@ numbered_what r old new (takes h) = refl
 numbered_what r old new commits = refl
 numbered_what r old new (counts member) = refl
 numbered_what r old new (ignores cause) = refl
+
+-- the member behind an entry that was taken
+pub entry_is : (stakes : List ℕ) (cs new : Coursed) (arrival : Arrival) (records : ℕ) (closed : Bool) (votes : List Cast) (accepts : Accepting) → new ≡ numbered_in (arrives stakes cs arrival)
+    → member_with (records + 1) closed votes new ≡ behind_entry (rules_for (record { stakes = stakes; writers = cs.writers }) accepts) (member_with records closed votes cs) (what_as arrival)
+unfolding with_entry
+entry_is stakes cs new (arrivals.Takes h) records closed votes accepts is = ap (member_with (records + 1) closed votes) is
+entry_is stakes cs new arrivals.Commits records closed votes accepts is = ap (member_with (records + 1) closed votes) is
+entry_is stakes cs new (arrivals.Counts member) records closed votes accepts is = ap (member_with (records + 1) closed votes) is
+entry_is stakes cs new (arrivals.Ignores cause) records closed votes accepts is = ap (member_with (records + 1) closed votes) is

@@ -1,5 +1,5 @@
 -- An entry that a member sees: what is answered and due, and the state behind it.
-use Rattle.std.proofs.Common.{◌≡◌, ◌+◌, ℕ, Bool, true, false, cond, List, Option, Some, None, inr, refl, ap, sym, ◌∙◌, subst}
+use Rattle.std.proofs.Common.{◌≡◌, ◌+◌, ℕ, Bool, true, false, cond, List, Option, Some, None, inl, inr, refl, ap, sym, ◌∙◌, subst}
 use Rattle.std.specs.Prelude.{◌⊎◌, not, is_err, is_none, option_map, Result, Ok, Err}
 use Rattle.outside.specs.Lists.{Journals, KeepsJournals}
 use Rattle.checkpoint_core.specs.declared.checkpoints.Checkpoint.{Checkpoint}
@@ -14,7 +14,11 @@ use Rattle.protocol_spec.specs.Chain.Words.{first_some, refused_or, unless_refus
 use Rattle.protocol_spec.specs.Member.Sequence.{What, saw, seen_what, what_of, with_entry}
 use Rattle.protocol_spec.specs.Member.Member.{Fork, Member, after, fork_of, held_with}
 use Rattle.protocol_spec.specs.Member.Calls.{after_due, called, due, newly_built, see_after, see_answer, see_cases, see_fork, see_record, seen_as, sees}
-use Rattle.validator_core.specs.Calls.{Sees, see_ended, see_said}
+use Rattle.validator_core.specs.Calls.{Sees, see_ended, see_said, unkept_see}
+use Rattle.validator_core.specs.declared.keeping.Unkept.{Unkept}
+use Rattle.validator_core.specs.declared.keeping.Unkept.TheVariants as unkept
+use Rattle.vote_rules.specs.Holders.{sides}
+use Rattle.vote_rules.specs.declared.held_book.Fork.{Fork as Sides}
 use Rattle.validator_core.specs.Entries.{behind_entry}
 use Rattle.validator_core.specs.Seats.{Appended, Becomes, Behaves, Ended, Journaled, Keeps, answered, fell}
 use Rattle.scene_spec.specs.Seats.{Seat, due_at, rules_of_seat}
@@ -113,6 +117,29 @@ module _ (r : Rules) (m : Member) (number : ℕ) (bytes : List ℕ) where
 
       pub see_forked : (f : Fork) → fork_of new ≡ Some f → see_answer r m number bytes ≡ Err (no_see.Fork f.key f.first f.second)
       see_forked f some = answers ∙ ap (λ (o : Option Fork). unless_refused (option_map (λ (x : Fork). no_see.Fork x.key x.first x.second) o) (seen_as r m new bytes)) some
+
+      pub some_fork : (f : Sides) → Some f ≡ option_map sides (fork_of new) → see_answer r m number bytes ≡ Err (no_see.Fork f.key f.first f.second)
+      some_fork f some = by (fork_of new) refl some
+        where
+          by : (o : Option Fork) → fork_of new ≡ o → Some f ≡ option_map sides o → see_answer r m number bytes ≡ Err (no_see.Fork f.key f.first f.second)
+          by None e h = absurd (cc)
+          by (Some g) e h = let same : f ≡ sides g = cc in see_forked g e ∙ ap (λ (x : Sides). Err (no_see.Fork x.key x.first x.second)) (sym same)
+
+-- ---- the record and the fork, as the code finds them
+
+pub no_fork : (m : Member) → None ≡ option_map sides (fork_of m) → fork_of m ≡ None
+no_fork m none = by (fork_of m) none
+  where
+    by : (o : Option Fork) → None ≡ option_map sides o → o ≡ None
+    by None h = refl
+    by (Some f) h = absurd (cc)
+
+pub see_kept : (before now : Option Journals) (member : ℕ) (d x : Option Record) → d ≡ x → Keeps before now member x → Keeps before now member d ⊎ KeepsJournals before now
+see_kept before now member d x is kept = inl (subst (λ (y : Option Record). Keeps before now member y) (sym is) kept)
+
+pub see_maybe_kept : (before now : Option Journals) (member : ℕ) (d x : Option Record) (why : Unkept) → d ≡ x → Keeps before now member x ⊎ KeepsJournals before now → Journaled before now member d (see_ended (Err (unkept_see why)))
+see_maybe_kept before now member d x unkept.KeepFault is kept = subst (λ (y : Option Record). Keeps before now member y ⊎ KeepsJournals before now) (sym is) kept
+see_maybe_kept before now member d x unkept.OutOfMemory is kept = subst (λ (y : Option Record). Keeps before now member y ⊎ KeepsJournals before now) (sym is) kept
 
 -- ---- at the seat
 

@@ -1,6 +1,6 @@
 //! What an entry of the sequence does to a member's epoch.
 
-ghost use Rattle.std.specs.Prelude.{◌≡◌, ◌+◌, ◌<◌, ◌≤◌, ◌^◌, IfOk, OnOk, drop, false, length, map};
+ghost use Rattle.std.specs.Prelude.{◌≡◌, ◌+◌, ◌<◌, ◌≤◌, ◌^◌, IfOk, OnErr, OnOk, drop, false, length, map};
 ghost use Rattle.protocol_spec.specs.Chain.Certificates.{Rules};
 ghost use Rattle.protocol_spec.specs.Member.Admission.{deferred_on, digest_of_admitted, pending_on};
 ghost use Rattle.protocol_spec.specs.Member.Sequence.{newly_admitted, newly_dropped, commits, counts, seen_what, takes};
@@ -157,7 +157,8 @@ impl Course {
         ensures what { IfOk result (λ seen. (r : Rules) → r.stakes ≡ committee.now → r.writers ≡ self.old.admission.writers → seen.what ≡ seen_what r (sequence_in self.old) (sequence_in self.new) (what_as arrival)) }
         ensures built { IfOk result (λ seen. seen.built ≡ newly_built (coursed self.old) (coursed self.new)) }
         ensures stays { Stays self.old self.new }
-        ensures seen { self.new.seen ≤ self.old.seen + 1 }
+        ensures seen { OnOk result (self.new.seen ≡ self.old.seen + 1) }
+        ensures still { OnErr result (self.new.seen ≡ self.old.seen) }
     {
         let what = self.take(committee, arrival)?;
         let built = self.advance()?;

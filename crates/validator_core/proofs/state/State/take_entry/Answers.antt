@@ -1,0 +1,21 @@
+use Rattle.std.proofs.Common.{◌∙◌, ◌+◌, ap, drop, length}
+use Rattle.protocol_spec.specs.Member.Member.{built}
+use Rattle.scene_spec.specs.Terms.{rules_for}
+use Rattle.validator_core.specs.Courses.{coursed}
+use Rattle.validator_core.specs.Entries.{behind_entry, what_as}
+use Rattle.validator_core.specs.Limits.{Accepting, Limited, terms_at}
+use Rattle.validator_core.specs.Sound.{member_with}
+use Rattle.validator_core.proofs.Bringing.{entry_is}
+use Rattle.validator_core.proofs.state.State.take_entry.Goals as goal
+
+pub returns-in-Ok-clause-state : goal.returns-in-Ok-clause-state
+returns-in-Ok-clause-state c =
+    λ (accepts : Accepting). let s = c.self.inside in
+    entry_is c.args.committee.now (coursed s.course) (coursed c.see.new.self) c.args.arrival s.records s.closed s.votes accepts c.in-Ok.ensures.value
+    ∙ ap (λ (x : Limited). behind_entry (rules_for (terms_at x c.args.committee.now) accepts) x.member (what_as c.args.arrival)) c.self.view_is
+
+pub returns-in-Ok-clause-built : goal.returns-in-Ok-clause-built
+unfolding built
+returns-in-Ok-clause-built c =
+    let s = c.self.inside in
+    c.in-Ok.ensures.built ∙ ap (λ (x : Limited). drop (length (built x.member)) (built (member_with (s.records + 1) s.closed s.votes (coursed c.see.new.self)))) c.self.view_is
