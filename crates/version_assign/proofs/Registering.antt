@@ -17,11 +17,11 @@ use Rattle.version_assign.specs.declared.book.Admit.{Admit}
 use Rattle.version_assign.specs.declared.book.Book.{Book}
 use Rattle.version_assign.specs.declared.book.Row.{Row}
 use Rattle.version_assign.specs.declared.waits.Waits.{Waits}
-use Rattle.version_assign.specs.Books.{AreLines, IsKept, admission_of, admitted_as, opening_of, pending_in, row_at, shown}
+use Rattle.version_assign.specs.Books.{AreLines, IsKept, IsSkipped, admission_of, admitted_as, opening_of, pending_in, row_at, shown}
 use Rattle.version_assign.specs.Calls.{Admitting, with_taken}
 use Rattle.version_assign.specs.Lines.{LineMap}
 use Rattle.version_assign.specs.Steps.{AddsRow, Admits, Drops, Gives, Marks, TakesOut, judged}
-use Rattle.version_assign.specs.Waiting.{Grows, IsFiled, IsFiledIn, Reason, Turn, admits_also, admits_in, has_turn, is_awake, is_full, is_open, is_queued, is_under, may_be_free, none_open, room_in, stands_behind, writes_at, writes_row, wrote_one}
+use Rattle.version_assign.specs.Waiting.{AreAwake, Grows, IsFiled, IsFiledIn, Reason, Turn, admits_also, admits_in, has_turn, is_awake, is_full, is_open, is_queued, is_under, may_be_free, none_open, room_in, stands_behind, writes_at, writes_row, wrote_one}
 use Rattle.version_assign.proofs.Filed.{filed_grows}
 use Rattle.version_assign.proofs.Moved.{same_admits, same_room}
 use Rattle.version_assign.proofs.Moving.{count_push}
