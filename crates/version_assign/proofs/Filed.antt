@@ -1,7 +1,7 @@
 -- Where each certificate that waits is filed, as the tables move.
-use Rattle.std.proofs.Common.{◌≡◌, ℕ, zero, suc, Bool, true, false, cond, not, ◌&&◌, ◌||◌, List, [], ◌∷◌, ◌++◌, Option, Some, None, is_some, length, map, refl, ap, sym, subst, ◌∙◌, inl, inr, ◌+◌, ◌-◌, ◌<◌, ◌≤◌, arith, slice_get, slice_set, drop, take, add-one}
+use Rattle.std.proofs.Common.{◌≡◌, ℕ, zero, suc, Bool, true, false, not, ◌&&◌, ◌||◌, List, [], ◌∷◌, Option, Some, None, is_some, length, refl, ap, sym, subst, ◌∙◌, inl, inr, ◌-◌, ◌<◌, ◌≤◌, arith, drop, take, add-one}
 use Rattle.std.proofs.Math.ListN.{get_or}
-use Rattle.std.specs.Prelude.{◌⊎◌, find, filter_map, count_by, nat_lt}
+use Rattle.std.specs.Prelude.{◌⊎◌, find, filter_map}
 use Rattle.std.specs.List.{list_all, list_any}
 use Rattle.std.specs.Ordering.{nat_cmp}
 use Rattle.std.specs.BTreeSet.{BTreeSet, contains}
@@ -9,8 +9,7 @@ use Rattle.digest_core.specs.declared.Digest.{Digest}
 use Rattle.chain_types.specs.declared.objects.ObjectId.{ObjectId}
 use Rattle.chain_types.specs.declared.transactions.Input.{Input}
 use Rattle.chain_types.specs.declared.transactions.Input.TheVariants as inputs
-use Rattle.chain_types.specs.Equal.{digest_eq, id_eq}
-use Rattle.chain_messages.specs.declared.messages.Certificate.{Certificate}
+use Rattle.chain_types.specs.Equal.{id_eq}
 use Rattle.answer_types.specs.declared.answers.Held.{Held}
 use Rattle.protocol_spec.specs.Chain.Words.{Has, first_of, first_some, where_true}
 use Rattle.protocol_spec.specs.Chain.Keys.{mutable_id}
@@ -21,11 +20,10 @@ use Rattle.version_assign.specs.declared.waits.Waits.{Waits}
 use Rattle.version_assign.specs.Books.{held_in, pending_in, row_at}
 use Rattle.version_assign.specs.Calls.{Admitting}
 use Rattle.version_assign.specs.Steps.{full_one, is_free_one}
-use Rattle.version_assign.specs.Waiting.{Aside, Frees, Grows, HasNext, IsFiled, Opens, Passes, PopsPlace, Reason, Rests, Turn, TurnsOn, admits_also, aside_behind, aside_queued, has_turn, is_awake, is_full, is_id, is_open, is_queued, is_under, may_be_free, none_open, or_one_of, stands_behind, writes_at, writes_input, writes_row}
-use Rattle.version_assign.proofs.Finding.{turned}
+use Rattle.version_assign.specs.Waiting.{Grows, HasNext, IsFiled, Opens, Passes, PopsPlace, Reason, Turn, TurnsOn, has_turn, is_awake, is_full, is_id, is_open, is_queued, is_under, may_be_free, none_open, or_one_of, stands_behind, writes_at, writes_input, writes_row}
 use Rattle.version_assign.proofs.Freeing.{alone, free_is, place_found, place_passed}
 use Rattle.version_assign.proofs.Moving.{all_at}
-use Rattle.version_assign.proofs.Names.{digest_same, id_same, id_self}
+use Rattle.version_assign.proofs.Names.{id_same, id_self}
 use Rattle.version_assign.proofs.Rows.{clash}
 
 -- ---- what an input writes

@@ -1,30 +1,22 @@
 -- Where those that wait are filed, as certificates are put aside, taken and cut.
-use Rattle.std.proofs.Common.{◌≡◌, ℕ, zero, suc, Bool, true, false, cond, not, ◌&&◌, ◌||◌, List, [], ◌∷◌, ◌++◌, Option, Some, None, is_some, length, map, refl, ap, sym, subst, ◌∙◌, inl, inr, ◌+◌, ◌<◌, ◌≤◌, arith, slice_get, slice_set, drop, add-one, length-append}
-use Rattle.std.specs.Prelude.{◌⊎◌, count_by, filter_map, find, nat_lt}
-use Rattle.std.specs.List.{list_any}
-use Rattle.std.specs.Map.{lookup}
-use Rattle.std.proofs.lemmas.Bool.Decides.{nat_tests}
-use Rattle.indexmap.specs.IndexMap.{insert_entry}
+use Rattle.std.proofs.Common.{◌≡◌, ℕ, zero, suc, Bool, true, false, ◌||◌, List, [], ◌∷◌, Option, Some, None, length, map, refl, ap, sym, subst, ◌∙◌, inl, inr, ◌+◌, ◌<◌, slice_get, slice_set, drop, add-one}
+use Rattle.std.specs.Prelude.{◌⊎◌, count_by, nat_lt}
 use Rattle.digest_core.specs.declared.Digest.{Digest}
-use Rattle.chain_types.specs.declared.objects.Object.{Object}
 use Rattle.chain_types.specs.declared.objects.ObjectId.{ObjectId}
 use Rattle.chain_types.specs.declared.transactions.Input.{Input}
-use Rattle.chain_types.specs.Equal.{digest_eq, id_eq}
+use Rattle.chain_types.specs.Equal.{digest_eq}
 use Rattle.chain_messages.specs.declared.messages.Certificate.{Certificate}
-use Rattle.answer_types.specs.declared.answers.Assigned.{Assigned}
 use Rattle.answer_types.specs.declared.answers.Held.{Held}
 use Rattle.protocol_spec.specs.Chain.Words.{Has}
-use Rattle.protocol_spec.specs.Chain.Tests.{has_id}
-use Rattle.protocol_spec.specs.Member.Admission.{Admission, Admitted, has_room, is_admitted, is_free, mutable_ids, since_mark, writes}
+use Rattle.protocol_spec.specs.Member.Admission.{has_room, is_admitted, writes}
 use Rattle.version_assign.specs.declared.book.Admit.{Admit}
 use Rattle.version_assign.specs.declared.book.Book.{Book}
 use Rattle.version_assign.specs.declared.book.Row.{Row}
 use Rattle.version_assign.specs.declared.waits.Waits.{Waits}
-use Rattle.version_assign.specs.Books.{IsKept, admission_of, admitted_as, held_in, opening_of, pending_in, row_at, row_in, shown}
-use Rattle.version_assign.specs.Calls.{Admitting}
-use Rattle.version_assign.specs.Steps.{TakesOut, is_free_one}
-use Rattle.version_assign.specs.Waiting.{Aside, Frees, Grows, IsFiled, IsFiledIn, Opens, OpensFound, OpensSince, Reason, Rests, Turn, admits_also, admits_in, aside_behind, aside_queued, has_turn, is_awake, is_full, is_open, is_queued, is_under, may_be_free, none_open, or_one_of, room_in, stands_behind, writes_at, writes_row, wrote_one}
-use Rattle.version_assign.proofs.Filed.{all_written, filed_due, opens_then, written_is}
+use Rattle.version_assign.specs.Books.{admission_of, admitted_as, row_at}
+use Rattle.version_assign.specs.Steps.{TakesOut}
+use Rattle.version_assign.specs.Waiting.{Aside, Frees, IsFiled, IsFiledIn, Opens, OpensFound, OpensSince, Reason, Rests, Turn, admits_also, admits_in, aside_behind, aside_queued, has_turn, is_awake, is_full, is_open, is_queued, is_under, may_be_free, none_open, or_one_of, room_in, stands_behind, writes_at, writes_row, wrote_one}
+use Rattle.version_assign.proofs.Filed.{all_written, filed_due, written_is}
 use Rattle.version_assign.proofs.Listing.{next_at, some_at}
 use Rattle.version_assign.proofs.Names.{digest_same}
 use Rattle.version_assign.proofs.Rows.{clash}

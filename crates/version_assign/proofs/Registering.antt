@@ -1,5 +1,5 @@
 -- The tables, and where those that wait are filed, behind each call.
-use Rattle.std.proofs.Common.{◌≡◌, ℕ, zero, suc, Bool, true, false, cond, not, ◌&&◌, ◌||◌, List, [], ◌∷◌, ◌++◌, Option, Some, None, is_some, length, map, refl, ap, sym, subst, ◌∙◌, inl, inr, ◌+◌, ◌<◌, ◌≤◌, arith, slice_get, drop, length-append, zero-add}
+use Rattle.std.proofs.Common.{◌≡◌, ℕ, zero, suc, Bool, true, false, cond, ◌||◌, List, [], ◌∷◌, ◌++◌, Option, Some, None, length, map, refl, ap, sym, subst, ◌∙◌, inl, inr, ◌+◌, ◌≤◌, arith, drop, zero-add}
 use Rattle.std.proofs.lemmas.Bool.Decides.{nat_tests}
 use Rattle.std.proofs.lemmas.List.{drop-append-le, length-map}
 use Rattle.std.proofs.lemmas.List.Folds.{list_any-append}
@@ -10,18 +10,17 @@ use Rattle.digest_core.specs.declared.Digest.{Digest}
 use Rattle.chain_types.specs.declared.objects.Object.{Object}
 use Rattle.chain_types.specs.declared.objects.ObjectId.{ObjectId}
 use Rattle.chain_types.specs.Equal.{digest_eq}
-use Rattle.chain_messages.specs.declared.messages.Certificate.{Certificate}
 use Rattle.answer_types.specs.declared.answers.Held.{Held}
-use Rattle.protocol_spec.specs.Member.Admission.{Admission, Admitted, admit, has_room, is_admitted, is_dropped, is_free, since_mark, taken_as, writes}
+use Rattle.protocol_spec.specs.Member.Admission.{Admission, Admitted, admit, has_room, is_admitted, is_dropped, since_mark, taken_as, writes}
 use Rattle.version_assign.specs.declared.book.Admit.{Admit}
 use Rattle.version_assign.specs.declared.book.Book.{Book}
 use Rattle.version_assign.specs.declared.book.Row.{Row}
 use Rattle.version_assign.specs.declared.waits.Waits.{Waits}
-use Rattle.version_assign.specs.Books.{AreLines, IsKept, admission_of, admitted_as, opening_of, pending_in, row_at, shown}
+use Rattle.version_assign.specs.Books.{AreLines, IsKept, IsSkipped, admission_of, admitted_as, opening_of, pending_in, row_at, shown}
 use Rattle.version_assign.specs.Calls.{Admitting, with_taken}
 use Rattle.version_assign.specs.Lines.{LineMap}
-use Rattle.version_assign.specs.Steps.{AddsRow, Admits, Drops, Gives, Marks, TakesOut, judged}
-use Rattle.version_assign.specs.Waiting.{Grows, IsFiled, IsFiledIn, Reason, Turn, admits_also, admits_in, has_turn, is_awake, is_full, is_open, is_queued, is_under, may_be_free, none_open, room_in, stands_behind, writes_at, writes_row, wrote_one}
+use Rattle.version_assign.specs.Steps.{AddsRow, Gives, Marks, TakesOut, judged}
+use Rattle.version_assign.specs.Waiting.{Grows, IsFiled, IsFiledIn, Reason, Turn, admits_also, admits_in, has_turn, is_awake, is_full, is_open, is_queued, may_be_free, none_open, room_in, stands_behind, writes_at, wrote_one}
 use Rattle.version_assign.proofs.Filed.{filed_grows}
 use Rattle.version_assign.proofs.Moved.{same_admits, same_room}
 use Rattle.version_assign.proofs.Moving.{count_push}

@@ -1,5 +1,5 @@
 -- Places under names, as one comes or goes.
-use Rattle.std.proofs.Common.{◌≡◌, ℕ, Bool, true, false, cond, List, [], ◌∷◌, Option, Some, None, is_some, length, refl, ap, sym, subst, ◌∙◌, inl, inr, ◌+◌, ◌<◌, ◌≤◌, arith}
+use Rattle.std.proofs.Common.{◌≡◌, ℕ, Bool, true, false, cond, List, [], ◌∷◌, Option, Some, None, length, refl, ap, sym, subst, ◌∙◌, inl, inr, ◌<◌, ◌≤◌, arith}
 use Rattle.std.specs.Prelude.{◌⊎◌, IfNone, IfSome, IsSome, ◌↔◌}
 use Rattle.std.specs.List.{list_any}
 use Rattle.std.specs.Map.{lookup}
@@ -12,7 +12,7 @@ use Rattle.std.proofs.lemmas.Map.Keys.{le_from_not_gt}
 use Rattle.std.proofs.lemmas.Map.Lookups.{exact_unsigned}
 use Rattle.digest_core.specs.declared.Digest.{Digest}
 use Rattle.chain_types.specs.Equal.{digest_eq}
-use Rattle.version_assign.specs.Waiting.{IsEmptyUnder, KeepsShelf, Pops, PopsPlace, Shelf, count_in, count_under, is_in, is_under}
+use Rattle.version_assign.specs.Waiting.{KeepsShelf, Pops, Shelf, count_in, count_under, is_in, is_under}
 use Rattle.version_assign.proofs.Names.{digest_same, digest_self}
 
 -- ---- sets

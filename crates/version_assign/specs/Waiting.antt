@@ -1,5 +1,5 @@
 -- Which of the certificates that wait may be free, and what the others wait for.
-use Rattle.std.specs.Prelude.{◌≡◌, ◌⊎◌, ◌≤◌, ◌+◌, ℕ, Bool, true, false, ◌||◌, length, List, [], ◌∷◌, drop, map, Option, Some, None}
+use Rattle.std.specs.Prelude.{◌≡◌, ◌⊎◌, ◌<◌, ◌≤◌, ◌+◌, ℕ, Bool, true, false, ◌||◌, length, List, [], map, Option, Some, None}
 use Rattle.std.specs.List.{list_any}
 use Rattle.std.specs.Map.{lookup}
 use Rattle.std.specs.Ordering.{nat_cmp}
@@ -162,6 +162,10 @@ wrote_one entries id = list_any (writes id) (map admitted_as entries)
 
 pub record OpensSince (rows : List (Option Row)) (room : ObjectId → Bool) (old new : Waits) (all rest : List (Digest × Admit)) : Type 0 where
   pub at : (admits : Digest → Bool) → IsFiled rows old admits room (wrote_one all) → IsFiled rows new admits room (wrote_one rest)
+
+-- each place from one on and below another may be free
+pub record AreAwake (from to : ℕ) (w : Waits) : Type 0 where
+  pub at : w.whole ≡ true → (q : ℕ) → from ≤ q → q < to → is_awake w q ≡ true
 
 -- the queues of what one of them writes are open
 abbrev pub OpensFound : List (Option Row) → (ObjectId → Bool) → Waits → Waits → Option (Digest × Admit) → Type 0

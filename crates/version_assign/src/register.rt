@@ -91,6 +91,7 @@ impl Register {
         ensures lists { (admission_of self.new.book).admitted ≡ (admission_of self.old.book).admitted }
         ensures dropped { (admission_of self.new.book).dropped ≡ (admission_of self.old.book).dropped }
     {
+        self.waits.mend(&self.book);
         let place = self.book.rows.len();
         self.book.add_row(row);
         self.waits.wake(place);

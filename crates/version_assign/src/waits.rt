@@ -10,7 +10,7 @@ ghost use Rattle.protocol_spec.specs.Chain.Keys.{mutable_id};
 ghost use Rattle.protocol_spec.specs.Chain.Tests.{has_id};
 ghost use Rattle.protocol_spec.specs.Member.Admission.{is_free, mutable_ids};
 ghost use Rattle.version_assign.specs.declared.book.Book.{Book as B};
-ghost use Rattle.version_assign.specs.Books.{IsKept, admission_of, opening_of, AreLines, placed, row_at, shown};
+ghost use Rattle.version_assign.specs.Books.{AreLines, IsKept, IsSkipped, admission_of, opening_of, placed, row_at, shown};
 ghost use Rattle.version_assign.specs.Steps.{TakesOut, is_free_one};
 ghost use Rattle.version_assign.specs.Waiting.{Aside, Frees, Grows, IsFiled, IsFiledIn, Opens, OpensFound, OpensSince, Passes, Rests, TurnsOn, admits_also, admits_in, is_awake, is_under, none_open, or_one_of, room_in, wrote_one, writes_at, writes_input};
 
@@ -29,7 +29,7 @@ use std::collections::BTreeSet;
 /// certificate waits.
 #[derive(Drop)]
 pub(crate) struct Waits {
-    /// Not so once memory was refused to a table: then each certificate that waits is looked at.
+    /// Not so while memory is refused to a table: then each certificate that waits is looked at.
     pub(crate) whole: bool,
     /// The places of those that may be free.
     pub(crate) awake: BTreeSet<usize>,
@@ -114,6 +114,20 @@ impl Waits {
         match self.awake.insert(place) {
             Ok(_) => {}
             Err(_) => self.whole = false,
+        }
+    }
+
+    /// Where memory was refused, each certificate that waits may be free, and the tables are whole again.
+    pub(crate) fn mend(&mut self, book: &Book)
+        requires { IsSkipped book.now.low book.now.rows.items }
+        ensures { IsFiledIn book.now self.old → IsFiledIn book.now self.new }
+    {
+        if self.whole {
+            return;
+        }
+        self.whole = true;
+        for place in book.low..book.rows.len() {
+            self.wake(place);
         }
     }
 

@@ -9,8 +9,8 @@ pub returns-clause-kept : goal.returns-clause-kept
 returns-clause-kept c = record {
   kept = (row_added c.args.self.now.book c.add_row.new.self c.args.row c.requires.kept.kept c.add_row.ensures c.requires.room c.requires.shaped c.requires.origins c.requires.begins c.requires.new).0;
   filed =
-      added_filed c.args.self.now.book c.add_row.new.self c.args.row c.args.self.now.waits c.wake.new.self c.len-place.result (c.len-place.ensures ∙ c.args.self.now.book.rows.ok.0)
-      c.add_row.ensures c.wake.ensures.kept c.wake.ensures.awake c.requires.kept.filed;
+      added_filed c.args.self.now.book c.add_row.new.self c.args.row c.mend.new.self c.wake.new.self c.len-place.result (c.len-place.ensures ∙ c.args.self.now.book.rows.ok.0)
+      c.add_row.ensures c.wake.ensures.kept c.wake.ensures.awake (c.mend.ensures c.requires.kept.filed);
 }
 
 pub returns-clause-settled : goal.returns-clause-settled

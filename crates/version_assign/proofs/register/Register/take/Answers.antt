@@ -1,5 +1,5 @@
-use Rattle.std.proofs.Common.{◌≡◌, ap, refl, ◌∙◌, true}
-use Rattle.version_assign.specs.Books.{admission_of, row_at, shown}
+use Rattle.std.proofs.Common.{ap, refl, ◌∙◌}
+use Rattle.version_assign.specs.Books.{row_at, shown}
 use Rattle.version_assign.specs.Lines.{LineMap, are_lined}
 use Rattle.version_assign.proofs.Registering.{given_filed, lines_out}
 use Rattle.version_assign.proofs.Rows.{free_there}

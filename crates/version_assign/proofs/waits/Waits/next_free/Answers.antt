@@ -1,4 +1,4 @@
-use Rattle.std.proofs.Common.{◌≡◌, ◌∙◌, ap, false, is_some, sym, true}
+use Rattle.std.proofs.Common.{◌∙◌, ap, is_some, sym}
 use Rattle.std.proofs.lemmas.Map.Keys.{le_from_not_gt}
 use Rattle.version_assign.specs.Books.{shown}
 use Rattle.version_assign.proofs.Filed.{first_is, none_is}

@@ -1,4 +1,4 @@
-use Rattle.std.proofs.Common.{◌≡◌, ◌∙◌, List, Option, ap, subst, sym}
+use Rattle.std.proofs.Common.{◌∙◌, List, Option, subst, sym}
 use Rattle.version_assign.specs.declared.book.Row.{Row}
 use Rattle.version_assign.specs.Waiting.{TurnsOn, room_in}
 use Rattle.version_assign.proofs.Filed.{opened_full, opened_none, opened_room}

@@ -1,4 +1,4 @@
-use Rattle.std.proofs.Common.{◌≡◌, ◌∙◌, List, [], None, Option, Some, ap, subst, sym}
+use Rattle.std.proofs.Common.{◌≡◌, ◌∙◌, List, [], Option, Some, ap, subst, sym}
 use Rattle.std.specs.Prelude.{option_map}
 use Rattle.chain_types.specs.declared.transactions.Input.{Input}
 use Rattle.version_assign.specs.declared.book.Row.{Row}

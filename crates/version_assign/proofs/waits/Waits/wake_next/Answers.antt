@@ -1,4 +1,4 @@
-use Rattle.std.proofs.Common.{refl, sym, ◌∙◌}
+use Rattle.std.proofs.Common.{refl, sym}
 use Rattle.version_assign.proofs.Filed.{turned_on}
 use Rattle.version_assign.proofs.waits.Waits.wake_next.Goals as goal
 
