@@ -139,10 +139,6 @@ module _ {turned : Bool} {entries : List (ObjectId × Object)} {opened_in : ℕ}
       ap (λ x. merge x b) is ∙ ap (merge (lookup (id_eq id) entries)) more ∙ sym (newest_is id)
       ∙ sym (ap (λ d. cond d None (newest id (held_in s))) (sym (deleted_is id) ∙ not_deleted))
 
-  pub none_live : (id : ObjectId) → list_any (id_eq id) maps.deleted.keys ≡ true → None ≡ live s.opening s.executed id
-  unfolding live
-  none_live id deleted = sym (ap (λ d. cond d None (newest id (held_in s))) (sym (deleted_is id) ∙ deleted))
-
 -- a version is held where its object is
 pub held_where : (held : List Version) (key : ObjectKey) (o : Option Object) → o ≡ option_map object_in (version_at held key) → is_some o ≡ holds_key held key
 held_where held key o is = ap is_some is ∙ some_mapped object_in (version_at held key) ∙ sym (any_found (is_key key) held)

@@ -1,32 +1,18 @@
 -- New versions, one after the other, are new together.
-use Rattle.std.proofs.Common.{arith, ◌≡◌, ◌<◌, length, Bool, true, false, cond, ◌&&◌, ◌||◌, not, List, [], ◌∷◌, ◌++◌, Some, is_some, map, refl, ap, ◌∙◌}
+use Rattle.std.proofs.Common.{arith, ◌≡◌, ◌<◌, length, Bool, true, false, cond, ◌&&◌, ◌||◌, not, List, [], ◌∷◌, ◌++◌, map, refl, ap, ◌∙◌}
 use Rattle.std.specs.List.{list_any}
-use Rattle.std.specs.Map.{lookup}
 use Rattle.chain_types.specs.declared.objects.Object.{Object}
 use Rattle.chain_types.specs.declared.objects.ObjectKey.{ObjectKey}
 use Rattle.chain_types.specs.Equal.{key_eq}
 use Rattle.protocol_spec.specs.Chain.Words.{repeats}
 use Rattle.protocol_spec.specs.Chain.Tests.{has_key}
 use Rattle.protocol_spec.specs.Chain.Keys.{object_key}
-use Rattle.protocol_spec.specs.Member.Versions.{Version, is_key}
+use Rattle.protocol_spec.specs.Member.Versions.{Version}
 use Rattle.protocol_spec.specs.Member.Rounds.{holds_key}
 use Rattle.version_store.specs.Stores.{are_new}
 use Rattle.version_store.specs.Fresh.{all_fresh}
-use Rattle.version_store.specs.Kept.{kept_as}
 use Rattle.version_store.proofs.Equality.{key_same, key_self, turn}
-use Rattle.version_store.proofs.Held.{kept_of}
 use Rattle.version_store.proofs.Lists.{any_push}
-
--- a version is held where the map has its key
-pub holds_kept : (held : List Version) (key : ObjectKey) → is_some (lookup (key_eq key) (map kept_as held)) ≡ holds_key held key
-holds_kept [] key = refl
-holds_kept (v ∷ vs) key =
-    ap (λ b. is_some (cond b (Some (kept_of v)) (lookup (key_eq key) (map kept_as vs)))) (turn key_eq key_same key_self key (object_key v.object))
-    ∙ by (is_key key v) (holds_kept vs key)
-  where
-    by : (b : Bool) → is_some (lookup (key_eq key) (map kept_as vs)) ≡ holds_key vs key → is_some (cond b (Some (kept_of v)) (lookup (key_eq key) (map kept_as vs))) ≡ (b || holds_key vs key)
-    by true more = refl
-    by false more = more
 
 -- of the keys, some were seen
 abbrev seen_among : List ObjectKey → List ObjectKey → Bool

@@ -23,7 +23,7 @@ use Rattle.version_store.specs.Bases.{IsHeld, based, front_entries, object_under
 use Rattle.version_store.specs.Changes.{Adds, Holds, IsEmpty, Keeps, SameEntries}
 use Rattle.version_store.specs.Reverts.{reverted_to}
 use Rattle.version_store.proofs.Based.{held_is, new_behind}
-use Rattle.version_store.proofs.Kept.{opening_of, opens, same_kept, same_stored, written as written_in}
+use Rattle.version_store.proofs.Kept.{opening_of, opens, written as written_in}
 use Rattle.version_store.proofs.Lists.{or_false, and_true, not_true}
 use Rattle.version_store.proofs.Reverted.{reverted}
 use Rattle.version_store.proofs.Rows.{AreApart, IsOwn, newest_under, version_under}
@@ -126,10 +126,6 @@ opens_over objects {n} {entries} {none} {mid} {new} {slice} is apart empty same 
 module _ {turned : Bool} {entries : List (ObjectId × Object)} {opened_in : ℕ} {old : Maps} {s : Stored} (held : IsHeld turned entries opened_in old) (view : stored_over turned entries opened_in old ≡ s) where
   stays : (new : Maps) → IsKept opened_in new → IsHeld turned entries opened_in new
   stays new kept = record { kept = kept; newest = held.newest; at = held.at }
-
-  -- behind the same entries
-  pub same_over : {new : Maps} → SameEntries old new → IsHeld turned entries opened_in new × (stored_over turned entries opened_in new ≡ s)
-  same_over {new} same = (stays new (same_kept opened_in old new same held.kept), ap (over (based turned entries)) (same_stored opened_in old new same) ∙ view)
 
   -- behind one more execution
   pub written_over : {mid new : Maps} {effects : Effects} {objects slice : List Object} {consumed copy : List ObjectKey} → SameEntries old mid → Adds mid new effects slice copy → slice ≡ objects → copy ≡ consumed

@@ -1,6 +1,6 @@
 //! Whether objects would be new versions.
 
-ghost use Rattle.std.specs.Prelude.{◌≡◌, ◌++◌, ◌∷◌, [], IfOk, OnOk, OnErr, false, is_some};
+ghost use Rattle.std.specs.Prelude.{◌≡◌, ◌++◌, ◌∷◌, [], IfOk, OnOk, false};
 ghost use Rattle.std.specs.List.{list_any};
 ghost use Rattle.chain_types.specs.Equal.{key_eq};
 ghost use Rattle.protocol_spec.specs.Chain.Tests.{has_key};

@@ -1,6 +1,6 @@
 //! The live objects, by ascending id.
 
-ghost use Rattle.std.specs.Prelude.{◌≡◌, [], ℕ, IfOk, OnOk, map};
+ghost use Rattle.std.specs.Prelude.{◌≡◌, IfOk, OnOk, map};
 ghost use Rattle.std.specs.BTreeMap.{values as values_in};
 ghost use Rattle.indexmap.specs.IndexMap.{keys, values};
 ghost use Rattle.protocol_spec.specs.Member.Versions.{live_list, with_live};
