@@ -4,6 +4,8 @@
 #[cfg(test)]
 mod scenario;
 #[cfg(test)]
+mod sequences;
+#[cfg(test)]
 mod states;
 #[cfg(test)]
 mod validators;

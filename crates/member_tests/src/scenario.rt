@@ -96,3 +96,13 @@ pub(crate) fn certified(alloc: Global, tag: &[u8]) -> Result<Seq<u8>, OutOfMemor
     let middle = [1, 0, 1, 0, 0, 0, 0];
     with_tx(alloc, tag, middle.as_slice(), MEMBER_SEAL.as_slice())
 }
+
+/// The record of the transaction's run, with its effects.
+pub(crate) fn ran(alloc: Global) -> Result<Seq<u8>, OutOfMemory> {
+    let pieces = [
+        [6, 1].as_slice(),
+        TX_DIGEST.as_slice(),
+        EFFECTS_DIGEST.as_slice(),
+    ];
+    joined(alloc, pieces.as_slice())
+}

@@ -1,9 +1,7 @@
 //! The state of a member that is a committee by itself, over a coin of alice's that she sends to bob. The digests
 //! and seals are those of an independent SHA-256 over spellings that were made by hand.
 
-use crate::scenario::{
-    EFFECTS_DIGEST, SENT_DIGEST, TX_DIGEST, certified, coin, joined, signed, with_tx,
-};
+use crate::scenario::{SENT_DIGEST, TX_DIGEST, certified, coin, joined, ran, signed, with_tx};
 use chain_types::{ObjectId, ObjectKey, object_digest};
 use digest_core::Digest;
 use journal_core::{decode_record, encode_record};
@@ -18,20 +16,10 @@ fn vote_record(alloc: Global) -> Result<Seq<u8>, OutOfMemory> {
     with_tx(alloc, [0].as_slice(), [1, 0].as_slice(), [].as_slice())
 }
 
-/// The record of the run, with its effects.
-fn run_record(alloc: Global) -> Result<Seq<u8>, OutOfMemory> {
-    let pieces = [
-        [6, 1].as_slice(),
-        TX_DIGEST.as_slice(),
-        EFFECTS_DIGEST.as_slice(),
-    ];
-    joined(alloc, pieces.as_slice())
-}
-
 /// A state that has no records.
 fn fresh(alloc: Global) -> Result<State, OutOfMemory> {
     let opening = Seq::from_slice(alloc, [coin()].as_slice())?;
-    State::fresh(alloc, &opening)
+    State::fresh(alloc, &opening, None)
 }
 
 /// Whether the vote is fresh, where there is one.
@@ -128,7 +116,7 @@ fn keeps(state: &mut State, bytes: &[u8]) -> bool {
 
 /// Runs twice: whether the first run is recorded with its effects, and the second not at all.
 fn runs_twice(alloc: Global) -> Result<(bool, bool), OutOfMemory> {
-    let record = run_record(alloc)?;
+    let record = ran(alloc)?;
     let mut state = holding(alloc)?;
     let first = keeps(&mut state, record.as_slice());
     Ok((first, keeps(&mut state, [].as_slice())))
@@ -143,7 +131,7 @@ fn a_run_is_recorded_once(rt: HostRuntime) -> Result<(), Fail> {
 
 /// Takes the record of the run twice: whether each is taken, and how many records stand.
 fn runs_back(alloc: Global) -> Result<(Option<bool>, u64, Option<bool>), OutOfMemory> {
-    let record = run_record(alloc)?;
+    let record = ran(alloc)?;
     let mut state = holding(alloc)?;
     let first = takes(&mut state, record.as_slice());
     let count = state.records();

@@ -3,9 +3,7 @@
 
 ghost use Rattle.std.specs.Prelude.{◌≡◌, IfOk};
 
-use crate::scenario::{
-    EFFECTS_DIGEST, SENT_DIGEST, TX_DIGEST, certified, coin, joined, signed, with_tx,
-};
+use crate::scenario::{SENT_DIGEST, certified, coin, ran, signed, with_tx};
 use answer_types::StartRefusal;
 use chain_types::{ObjectId, ObjectKey};
 use digest_core::Digest;
@@ -16,11 +14,11 @@ use std::test::Fail;
 use validator_core::Validator;
 use wire_bcs::{OutOfMemory, Seq};
 
-/// The member, from at most two records.
+/// The member, from at most three records.
 fn started(alloc: Global, kept: &Seq<Seq<u8>>) -> Result<Validator, StartRefusal>
     ensures { IfOk result (λ member. member.member ≡ 0) }
 {
-    if kept.len() > 2 {
+    if kept.len() > 3 {
         return Err(StartRefusal::OutOfMemory);
     }
     let Ok(committee) = Committee::new([1].as_slice()) else {
@@ -34,7 +32,7 @@ fn started(alloc: Global, kept: &Seq<Seq<u8>>) -> Result<Validator, StartRefusal
 }
 
 /// The member, where it starts.
-fn member_of(alloc: Global, kept: &Seq<Seq<u8>>) -> Result<Validator, Fail>
+pub(crate) fn member_of(alloc: Global, kept: &Seq<Seq<u8>>) -> Result<Validator, Fail>
     ensures { IfOk result (λ member. member.member ≡ 0) }
 {
     match started(alloc, kept) {
@@ -72,7 +70,7 @@ fn holds(member: &mut Validator, keeper: &mut MemKeeper, bytes: &[u8]) -> Option
 
 /// How many transactions a run executes.
 #[tactic(auto, using(crate::proofs::Numbers::keeps_number))]
-fn runs(member: &mut Validator, keeper: &mut MemKeeper) -> Option<u64>
+pub(crate) fn runs(member: &mut Validator, keeper: &mut MemKeeper) -> Option<u64>
     requires number { member.old.member ≡ 0 }
     ensures number { member.new.member ≡ 0 }
 {
@@ -98,7 +96,7 @@ fn closes(member: &mut Validator, keeper: &mut MemKeeper) -> Option<bool>
 }
 
 /// How many records the member keeps.
-fn count(keeper: &MemKeeper) -> u64 {
+pub(crate) fn count(keeper: &MemKeeper) -> u64 {
     if keeper.members() == 0 {
         return 0;
     }
@@ -194,12 +192,7 @@ fn a_member_starts_from_its_records(rt: HostRuntime) -> Result<(), Fail> {
 fn hold_and_run(alloc: Global) -> Result<Seq<Seq<u8>>, OutOfMemory> {
     let mut kept = Seq::new(alloc);
     kept.push(certified(alloc, [1].as_slice())?)?;
-    let ran = [
-        [6, 1].as_slice(),
-        TX_DIGEST.as_slice(),
-        EFFECTS_DIGEST.as_slice(),
-    ];
-    kept.push(joined(alloc, ran.as_slice())?)?;
+    kept.push(ran(alloc)?)?;
     Ok(kept)
 }
 

@@ -3,12 +3,13 @@
 //! A [`Validator`] answers each request as the Sui Lutris paper says, from what it holds, and keeps a record of
 //! each answer that binds it: the record is appended to the keeper before the call answers. So its state is a
 //! function of its records, and a member that stopped starts again from them. A member whose record was not
-//! kept, or that was refused memory, is down until it is started again. A member runs what it holds in rounds,
-//! and closes its epoch; it sees no entries of the sequence yet, so it builds no checkpoint and turns to no epoch.
+//! kept, or that was refused memory, is down until it is started again. A member sees the entries of its epoch's
+//! sequence, runs what it holds in rounds, builds a checkpoint as soon as all that a cut has is done, and closes its
+//! epoch; it turns to no next epoch yet.
 //!
-//! Within, a [`State`] has the versions of the epoch, the votes given and the certificates held. A call is first
-//! decided, which changes nothing; then its record is appended; then the state takes the record. A start takes the
-//! same records through the same two steps.
+//! Within, a [`State`] has the votes given in the epoch, and a `Course`: its versions, the certificates held, the
+//! sequence as it was seen, and the checkpoints. A call is first decided, which changes nothing; then its record is
+//! appended; then the state takes the record. A start takes the same records through the same two steps.
 #![tactic(auto)]
 
 mod calls;

@@ -11,6 +11,7 @@ pub mod Texts
 pub mod Lines
 pub mod Voting
 pub mod Restarts
+pub mod Stating
 pub mod Steps
 pub mod Stays
 mod First

@@ -1,5 +1,5 @@
 -- What is said of calls, by what is known, is what the scene's lines say.
-use Rattle.std.proofs.Common.{◌≡◌, ◌∙◌, ap, sym, refl, subst, ℕ, Bool, List, [], ◌∷◌, ◌++◌, map, append-nil, Option, Some, None, Result, Ok, Err}
+use Rattle.std.proofs.Common.{◌≡◌, ◌∙◌, ap, sym, refl, subst, ℕ, Bool, List, [], ◌∷◌, ◌++◌, map, Option, Some, None, Result, Ok, Err}
 use Rattle.std.specs.Prelude.{IfOk, option_map}
 use Rattle.digest_core.specs.declared.Digest.{Digest}
 use Rattle.quorum_core.specs.declared.signer.Signer.{Signer}
@@ -169,10 +169,6 @@ run_is r before (Err no_run.Down) is = is.answer
 run_is r before (Err (no_run.Halted first second)) is = is.answer
 run_is r before (Err no_run.Full) is = is.answer
 
-none_built : (r : Rules) (before : Member) (given : Result Ran RunRefusal) → SaysRun r before given → ran_statements given ≡ []
-none_built r before (Ok ran) is = ap (λ cs. ran_statements (Ok (record ran { built = cs }))) is.built
-none_built r before (Err e) is = refl
-
 pub run_down : (k : Known) (r : Rules) (m : ℕ) (what : Reached) (lines : List Line) → what ≡ finds_down → lines ≡ line.Run m run_text.Down ∷ [] → lines ≡ run_lines_by k r m what
 run_down k r m what lines is l = l ∙ sym (ap (run_lines_by k r m) is)
 
@@ -186,12 +182,12 @@ run_said k r m what given lines is l =
     ∙ sym (ap (run_answered (setting_with k) (world_with k) m) (run_is r is.before given is.says))
     ∙ sym (ap (run_lines_by k r m) is.is)
 
-pub run_states : (r : Rules) (m : ℕ) (xs : List Said) (what : Reached) (given : Result Ran RunRefusal)
-    → HasAnswered (SaysRun r) what given → xs ≡ xs ++ map (said_by m) (stated_in r runs what)
+pub run_states : (r : Rules) (m : ℕ) (xs ys : List Said) (what : Reached) (given : Result Ran RunRefusal)
+    → HasAnswered (SaysRun r) what given → ys ≡ xs ++ map (said_by m) (ran_statements given) → ys ≡ xs ++ map (said_by m) (stated_in r runs what)
 unfolding stated
-run_states r m xs what given is =
-    sym (append-nil xs)
-    ∙ sym (ap (λ ss. xs ++ map (said_by m) ss) (ap ran_statements (run_is r is.before given is.says) ∙ none_built r is.before given is.says))
+run_states r m xs ys what given is told =
+    told
+    ∙ sym (ap (λ ss. xs ++ map (said_by m) ss) (ap ran_statements (run_is r is.before given is.says)))
     ∙ sym (ap (λ x. xs ++ map (said_by m) (stated_in r runs x)) is.is)
 
 pub run_lines_is : (trust : Trust) (sc : Scene) (m : ℕ) → run_lines_by sc.known (rules_in trust.accepts sc) m (reached_in (rules_in trust.accepts sc) sc.posts m runs) ≡ run_reached (bare_setting trust sc) (bare_world sc) m (reached_in (rules_in trust.accepts sc) sc.posts m runs)

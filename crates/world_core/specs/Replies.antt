@@ -62,10 +62,8 @@ pub record SaysHold (r : Rules) (bytes : List ℕ) (before : Member) (given : Re
   pub answer : Holds (hold_answer r before bytes) given
   pub ended : hold_ended given ≡ answered
 
--- no checkpoint is built
 pub record SaysRun (r : Rules) (before : Member) (given : Result Ran RunRefusal) : Type 0 where
   pub answer : Runs (run_answer r before) given
-  pub built : IfOk given (λ (ran : Ran). ran.built ≡ [])
   pub ended : run_ended given ≡ answered
 
 -- ---- the record

@@ -1,6 +1,6 @@
 //! Lines that hand a call to a member.
 
-ghost use Rattle.std.specs.Prelude.{◌≡◌, ◌≤◌, List, ◌∷◌, ◌++◌, [], IfOk, IsErrOf, OnOk, length, map, option_map, true};
+ghost use Rattle.std.specs.Prelude.{◌≡◌, ◌≤◌, ◌∷◌, ◌++◌, [], IfOk, IsErrOf, OnOk, length, map, option_map, true};
 ghost use Rattle.chain_messages.specs.Messages as codecs;
 ghost use Rattle.chain_types.specs.Transactions as tx_codecs;
 ghost use Rattle.outside.specs.Causes.{Rose};
@@ -9,8 +9,8 @@ ghost use Rattle.scene_spec.specs.Terms.{rules_for};
 ghost use Rattle.protocol_spec.specs.Member.Calls.{holds, runs, votes};
 ghost use Rattle.schedule_text.specs.declared.words.Event.TheVariants as events;
 ghost use Rattle.world_spec.specs.Names.{cert_named, made_named};
-ghost use Rattle.world_spec.specs.Report.{run_reached, vote_answered};
-ghost use Rattle.world_spec.specs.World.{Said, said_by, voted_statement};
+ghost use Rattle.world_spec.specs.Report.{run_answered, run_reached, vote_answered};
+ghost use Rattle.world_spec.specs.World.{checkpoint_statement, ran_statements, said_by, voted_statement};
 ghost use Rattle.world_lines.specs.Answers.{vote_as};
 ghost use Rattle.scene_spec.specs.Known.{setting_with, world_with};
 ghost use Rattle.scene_spec.specs.Posts.{posts_behind, reached_in, record_left, stated_in};
@@ -24,9 +24,10 @@ ghost use Rattle.world_core.specs.Trusts.{trust_by};
 
 use crate::world::{World, one_line};
 use crate::{Reply, SeatFault, Seats};
-use answer_types::{VoteRefusal, Voted};
-use chain_messages::encode_certificate;
+use answer_types::{Ran, RunRefusal, VoteRefusal, Voted};
+use chain_messages::{Statement, encode_certificate};
 use chain_types::encode_signed;
+use checkpoint_core::{Checkpoint, checkpoint_digest};
 use outside::Keeper;
 use quorum_core::Sealer;
 use report_text::{Line, RunText, SendText, VoteText};
@@ -136,10 +137,69 @@ fn run_line(alloc: Global, member: u32, text: RunText) -> Result<Seq<Line>, Seat
     }
 }
 
+/// A member states a checkpoint that it built. One of 2^31 transactions, more than any has, counts as want of memory.
+#[tactic(auto, using(crate::proofs::Stating::checkpoint_short))]
+fn say_checkpoint(
+    alloc: Global,
+    said: &mut SaidBook,
+    member: u32,
+    checkpoint: &Checkpoint,
+) -> Result<(), OutOfMemory>
+    ensures { OnOk result (said.new ≡ said.old ++ said_by member (checkpoint_statement checkpoint.now) ∷ []) }
+{
+    if checkpoint.items.len() >= 1 << 31 {
+        return Err(OutOfMemory);
+    }
+    let digest = checkpoint_digest(alloc, checkpoint)?;
+    said.say(
+        member,
+        Statement::Checkpoint {
+            epoch: checkpoint.epoch,
+            number: checkpoint.number,
+            digest,
+        },
+    )
+}
+
+/// A member states the checkpoints that it built, in order.
+fn say_built(
+    alloc: Global,
+    said: &mut SaidBook,
+    member: u32,
+    built: &[Checkpoint],
+) -> Result<(), OutOfMemory>
+    ensures { OnOk result (said.new ≡ said.old ++ map (said_by member) (map checkpoint_statement built.now)) }
+{
+    let mut rest = built;
+    while let [checkpoint, after @ ..] = rest {
+        say_checkpoint(alloc, said, member, checkpoint)?;
+        rest = after;
+    }
+    Ok(())
+}
+
+/// The lines of a run; its checkpoints are stated.
+fn tell_run(
+    directory: &Directory,
+    said: &mut SaidBook,
+    member: u32,
+    answer: &Result<Ran, RunRefusal>,
+) -> Result<Seq<Line>, OutOfMemory>
+    ensures lines { IfOk result (λ lines. lines ≡ run_answered (setting_with directory.now) (world_with directory.now) member answer.now) }
+    ensures said { OnOk result (said.new ≡ said.old ++ map (said_by member) (ran_statements answer.now)) }
+{
+    let lines = run_lines(directory, member, answer)?;
+    if let Ok(ran) = answer {
+        say_built(directory.allocator(), said, member, ran.built.as_slice())?;
+    }
+    Ok(lines)
+}
+
 /// Lets a member run what it holds.
 #[tactic(auto, using(crate::proofs::Texts::run_down, crate::proofs::Texts::run_stopped, crate::proofs::Texts::run_said, crate::proofs::Texts::down_states, crate::proofs::Texts::stopped_states, crate::proofs::Texts::run_states))]
 fn run<D: Keeper, S: Sealer>(
     seats: &mut Seats,
+    said: &mut SaidBook,
     directory: &Directory,
     keeper: &mut D,
     sealer: &S,
@@ -147,7 +207,7 @@ fn run<D: Keeper, S: Sealer>(
 ) -> Result<Seq<Line>, SeatFault>
     requires known { length seats.old.posts ≤ D.width keeper.old }
     ensures lines { IfOk result (λ lines. lines ≡ run_lines_by directory.now (rules_for seats.old.terms (S.accepts sealer.now)) member (reached_in (rules_for seats.old.terms (S.accepts sealer.now)) seats.old.posts member runs)) }
-    ensures said { OnOk result ((said : List Said) → said ≡ said ++ map (said_by member) (stated_in (rules_for seats.old.terms (S.accepts sealer.now)) runs (reached_in (rules_for seats.old.terms (S.accepts sealer.now)) seats.old.posts member runs))) }
+    ensures said { OnOk result (said.new ≡ said.old ++ map (said_by member) (stated_in (rules_for seats.old.terms (S.accepts sealer.now)) runs (reached_in (rules_for seats.old.terms (S.accepts sealer.now)) seats.old.posts member runs))) }
     ensures posts { OnOk result (seats.new.posts ≡ posts_behind (rules_for seats.old.terms (S.accepts sealer.now)) seats.old.posts member runs) }
     ensures terms { seats.new.terms ≡ seats.old.terms }
     ensures kept { Leaves (D.lists keeper.old) (D.lists keeper.new) member (record_left (reached_in (rules_for seats.old.terms (S.accepts sealer.now)) seats.old.posts member runs)) result }
@@ -163,7 +223,7 @@ fn run<D: Keeper, S: Sealer>(
     match reply {
         Reply::Down => run_line(alloc, member, RunText::Down),
         Reply::Stopped => run_line(alloc, member, RunText::Stopped),
-        Reply::Answered(answer) => match run_lines(directory, member, &answer) {
+        Reply::Answered(answer) => match tell_run(directory, said, member, &answer) {
             Ok(lines) => Ok(lines),
             Err(OutOfMemory) => Err(SeatFault::OutOfMemory),
         },
@@ -374,7 +434,14 @@ impl World {
         ensures later { D.failed keeper.old ≤ D.failed keeper.new }
         ensures fault { IsErrOf result fault.KeepFault → Rose (D.failed keeper.old) (D.failed keeper.new) }
     {
-        run(&mut self.seats, &self.directory, keeper, sealer, member)
+        run(
+            &mut self.seats,
+            &mut self.said,
+            &self.directory,
+            keeper,
+            sealer,
+            member,
+        )
     }
 
     /// The line `raw .. vote`: asks a member for its vote for what the bytes spell.
