@@ -150,8 +150,9 @@ fn are_left(objects: &Seq<Object>) -> bool {
     objects.as_slice() == [coin(0, 4, 10), coin(1, 4, 540), coin(3, 1, 7)].as_slice()
 }
 
-/// Whether the turned store has what was left, and nothing of before.
-fn is_turned(store: &Store) -> Result<bool, OutOfMemory> {
+/// Whether the store has, once it is turned, what was left, and nothing of before.
+fn turns(alloc: Global, store: &mut Store) -> Result<bool, OutOfMemory> {
+    turn(alloc, store)?;
     let live = store.live_list()?;
     Ok(are_left(&live) && is_forgotten(store))
 }
@@ -160,8 +161,7 @@ fn turned(alloc: Global) -> Result<Option<bool>, OutOfMemory> {
     let Some(mut store) = behind_both(alloc)? else {
         return Ok(None);
     };
-    turn(alloc, &mut store)?;
-    Ok(Some(is_turned(&store)?))
+    Ok(Some(turns(alloc, &mut store)?))
 }
 
 #[test]
@@ -170,26 +170,35 @@ fn an_epoch_opens_with_the_live_objects(rt: HostRuntime) -> Result<(), Fail> {
     Ok(())
 }
 
-/// The live versions behind a second epoch, in which both transactions were executed again.
-fn twice(alloc: Global) -> Result<Option<[u64; 4]>, OutOfMemory> {
-    let Some(mut store) = behind_both(alloc)? else {
-        return Ok(None);
-    };
-    turn(alloc, &mut store)?;
+/// Whether a store took a second transaction 9, in its next epoch.
+fn takes_again(alloc: Global, store: &mut Store) -> Result<bool, OutOfMemory> {
     let spent = [coin(3, 9, 6)];
     let deleted = [id(0)];
-    if !takes(
+    takes(
         alloc,
-        &mut store,
+        store,
         9,
         spent.as_slice(),
         [].as_slice(),
         deleted.as_slice(),
-    )? {
+    )
+}
+
+/// The live versions behind a second epoch.
+fn turns_twice(alloc: Global, store: &mut Store) -> Result<Option<[u64; 4]>, OutOfMemory> {
+    turn(alloc, store)?;
+    if !takes_again(alloc, store)? {
         return Ok(None);
     }
-    turn(alloc, &mut store)?;
-    Ok(Some(live_versions(&store)))
+    turn(alloc, store)?;
+    Ok(Some(live_versions(store)))
+}
+
+fn twice(alloc: Global) -> Result<Option<[u64; 4]>, OutOfMemory> {
+    let Some(mut store) = behind_both(alloc)? else {
+        return Ok(None);
+    };
+    turns_twice(alloc, &mut store)
 }
 
 #[test]
@@ -198,14 +207,19 @@ fn epochs_follow_each_other(rt: HostRuntime) -> Result<(), Fail> {
     Ok(())
 }
 
-/// The live version behind a turn, of a set-up with two versions of an object.
+/// The live version behind a turn, and whether an older one is forgotten.
+fn newer_opens(store: &mut Store) -> Result<(u64, bool), OutOfMemory> {
+    store.turn()?;
+    Ok((live_version(store, 1), store.get(&key(1, 1)).is_none()))
+}
+
+/// The same of a set-up with two versions of an object.
 fn doubled(alloc: Global) -> Result<Option<(u64, bool)>, OutOfMemory> {
     let before = [coin(1, 2, 5), coin(1, 1, 6)];
     let Some(mut store) = opened(alloc, before.as_slice())? else {
         return Ok(None);
     };
-    store.turn()?;
-    Ok(Some((live_version(&store, 1), store.get(&key(1, 1)).is_none())))
+    Ok(Some(newer_opens(&mut store)?))
 }
 
 #[test]

@@ -33,11 +33,11 @@ pub(crate) struct Ran {
 /// The maps.
 #[derive(Drop)]
 pub(crate) struct Maps {
-    /// The opening objects, and then what each executed transaction wrote.
+    /// The opening objects that the base lacks, and then what each executed transaction wrote.
     pub(crate) versions: IndexMap<ObjectKey, Kept>,
     pub(crate) executed: IndexMap<Digest, Ran>,
     pub(crate) consumers: IndexMap<ObjectKey, Digest>,
-    /// The newest version of each id.
+    /// The newest of these versions of each id.
     pub(crate) newest: IndexMap<ObjectId, Object>,
     pub(crate) deleted: IndexSet<ObjectId>,
 }
