@@ -36,10 +36,12 @@ fn sees(
 /// The first transaction that a certificate's entry let in.
 fn let_in(answer: &Result<Seen, SeeRefusal>) -> Option<Digest> {
     match answer {
-        Ok(Seen {
-            what: SeenWhat::Taken { admitted, .. },
-            ..
-        }) => admitted.as_slice().first().copied(),
+        Ok(
+            Seen {
+                what: SeenWhat::Taken { admitted, .. },
+                ..
+            },
+        ) => admitted.as_slice().first().copied(),
         _ => None,
     }
 }
@@ -63,7 +65,16 @@ fn effects_in(member: &Validator) -> Option<Digest> {
 /// Sees the certificate, runs, and sees a mark.
 fn sees_and_runs(
     alloc: Global,
-) -> Result<(Option<Digest>, Option<u64>, Option<u64>, Option<Digest>, u64), Fail> {
+) -> Result<
+    (
+        Option<Digest>,
+        Option<u64>,
+        Option<u64>,
+        Option<Digest>,
+        u64,
+    ),
+    Fail,
+> {
     let entry = certified(alloc, [0].as_slice())?;
     let mut keeper = MemKeeper::new(alloc, 1, [].as_slice())?;
     let mut member = member_of(alloc, &Seq::new(alloc))?;
