@@ -16,7 +16,7 @@ use Rattle.world_core.proofs.Sound.{stakes_same}
 abbrev scene : Crew → List Object → Known → List Said → List Formed → Scene
 scene crew opening known said certs = record { terms = crew.terms; opening = opening; known = known; said = said; certs = certs; posts = crew.posts }
 
-abbrev crew_of : Terms → List Object → List Bool → Crew
+abbrev pub crew_of : Terms → List Object → List Bool → Crew
 crew_of terms opening flags = record { terms = terms; posts = new_posts terms opening 0 flags }
 
 abbrev terms_in : List ℕ → List Setup → Terms

@@ -29,34 +29,34 @@ called_many r call posts m None = refl
 called_many r call posts m (Some p) = set_many posts m _
 
 one_call : (r : Rules) (sc : Scene) (m : ℕ) (call : Call) → Stays sc (called_scene r sc m call)
-one_call r sc m call = record { many = called_many r call sc.posts m (slice_get sc.posts m); staked = refl }
+one_call r sc m call = record { many = called_many r call sc.posts m (slice_get sc.posts m); terms = refl }
 
 any_call : (r : Rules) (sc : Scene) (call : Option (ℕ × Call)) → Stays sc (called_by r sc call)
-any_call r sc None = record { many = refl; staked = refl }
+any_call r sc None = record { many = refl; terms = refl }
 any_call r sc (Some call) = one_call r sc call.0 call.1
 
 pub stays : (trust : Trust) (sc : Scene) (e : Event) → Stays sc (steps_to trust sc e)
 unfolding steps_to
-stays trust sc (event.Tx name sender spoiled epoch gas budget inputs commands) = record { many = refl; staked = refl }
+stays trust sc (event.Tx name sender spoiled epoch gas budget inputs commands) = record { many = refl; terms = refl }
 stays trust sc (event.Vote m tx) = any_call (rules_in trust.accepts sc) sc (call_of sc (event.Vote m tx))
-stays trust sc (event.Fvote m tx origins) = record { many = refl; staked = refl }
-stays trust sc (event.Cert tx members) = record { many = refl; staked = refl }
+stays trust sc (event.Fvote m tx origins) = record { many = refl; terms = refl }
+stays trust sc (event.Cert tx members) = record { many = refl; terms = refl }
 stays trust sc (event.Send m tx) = any_call (rules_in trust.accepts sc) sc (call_of sc (event.Send m tx))
-stays trust sc (event.Order tx) = record { many = refl; staked = refl }
-stays trust sc (event.OrderEnd m) = record { many = refl; staked = refl }
-stays trust sc event.OrderCommit = record { many = refl; staked = refl }
-stays trust sc (event.See m entries) = record { many = refl; staked = refl }
+stays trust sc (event.Order tx) = record { many = refl; terms = refl }
+stays trust sc (event.OrderEnd m) = record { many = refl; terms = refl }
+stays trust sc event.OrderCommit = record { many = refl; terms = refl }
+stays trust sc (event.See m entries) = record { many = refl; terms = refl }
 stays trust sc (event.Run m workers) = one_call (rules_in trust.accepts sc) sc m runs
-stays trust sc (event.Close m) = record { many = refl; staked = refl }
-stays trust sc (event.End m) = record { many = refl; staked = refl }
-stays trust sc (event.Turn m) = record { many = refl; staked = refl }
-stays trust sc (event.Show m) = record { many = refl; staked = refl }
-stays trust sc (event.Stop m kept) = record { many = changed_many sc.posts m (arming kept) (slice_get sc.posts m); staked = refl }
-stays trust sc (event.Restart m) = record { many = refl; staked = refl }
+stays trust sc (event.Close m) = record { many = refl; terms = refl }
+stays trust sc (event.End m) = record { many = refl; terms = refl }
+stays trust sc (event.Turn m) = record { many = refl; terms = refl }
+stays trust sc (event.Show m) = record { many = refl; terms = refl }
+stays trust sc (event.Stop m kept) = record { many = changed_many sc.posts m (arming kept) (slice_get sc.posts m); terms = refl }
+stays trust sc (event.Restart m) = record { many = refl; terms = refl }
 stays trust sc (event.RawVote m bytes) = one_call (rules_in trust.accepts sc) sc m (votes bytes)
 stays trust sc (event.RawHold m bytes) = one_call (rules_in trust.accepts sc) sc m (holds bytes)
-stays trust sc (event.Ack m tx spoiled) = record { many = refl; staked = refl }
-stays trust sc (event.Final tx members) = record { many = refl; staked = refl }
+stays trust sc (event.Ack m tx spoiled) = record { many = refl; terms = refl }
+stays trust sc (event.Final tx members) = record { many = refl; terms = refl }
 
 pub restart_stays : (accepts : Accepting) (told : Option Journals) (m : ℕ) (old new : Scene) (p : Option Post) (result : Result (List Line) WorldFault) → RestartsAs accepts told m old new p result → OnOk result (Stays old new)
 restart_stays accepts told m old new (Some p) (Ok lines) is =

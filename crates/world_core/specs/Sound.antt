@@ -1,5 +1,5 @@
--- What holds of each world: its transactions and certificates can be spelled, and its opening has no version twice.
-use Rattle.std.specs.Prelude.{◌≡◌, true, List, []}
+-- What holds of each world: its transactions and certificates can be spelled, and its opening has no id twice.
+use Rattle.std.specs.Prelude.{List}
 use Rattle.chain_types.specs.declared.objects.Object.{Object}
 use Rattle.chain_types.specs.Transactions as transactions
 use Rattle.chain_messages.specs.Messages as messages

@@ -268,15 +268,7 @@ impl Seats {
             Err(OutFault::Failed) => return Err(RestartFault::KeepFault),
             Err(OutFault::OutOfMemory) => return Err(RestartFault::OutOfMemory),
         };
-        match Validator::start(
-            alloc,
-            member,
-            &self.terms.committee,
-            opening,
-            self.terms.writers,
-            &kept,
-            sealer,
-        ) {
+        match self.terms.start(alloc, member, opening, &kept, sealer) {
             Ok(validator) => {
                 let seat = &mut self.seats[member as usize];
                 seat.start(validator);

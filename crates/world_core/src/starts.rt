@@ -30,15 +30,7 @@ pub(crate) fn start_new<S: Sealer>(
     ensures { IfOk result (λ seat. seat ≡ seat_at terms.now member (fresh opening.now)) }
 {
     let none = Seq::new(alloc);
-    match Validator::start(
-        alloc,
-        member,
-        &terms.committee,
-        opening,
-        terms.writers,
-        &none,
-        sealer,
-    ) {
+    match terms.start(alloc, member, opening, &none, sealer) {
         Ok(validator) => Ok(validator),
         Err(StartRefusal::BadRecord { .. }) => unreachable!(),
         Err(StartRefusal::OutOfMemory) => Err(OutOfMemory),

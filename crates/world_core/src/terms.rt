@@ -1,9 +1,16 @@
 //! What the members of a committee go by.
 
-ghost use Rattle.std.specs.Prelude.{◌≡◌};
+ghost use Rattle.std.specs.Prelude.{◌≡◌, ◌<◌, ◌^◌, length};
+ghost use Rattle.scene_spec.specs.Starts.{AreApart, started};
+ghost use Rattle.scene_spec.specs.Terms.{rules_for};
+ghost use Rattle.validator_core.specs.Starts.{Starts};
 
-use quorum_core::Committee;
+use chain_types::Object;
+use quorum_core::{Committee, Sealer};
+use std::alloc::Global;
 use std::marker::Model;
+use validator_core::{StartRefusal, Validator};
+use wire_bcs::Seq;
 
 /// The stakes of the members, and the limit of writers of their sequences, if there is one. Contracts see the
 /// definition's terms.
@@ -22,6 +29,40 @@ impl Model for Terms {
 }
 
 impl Terms {
+    /// These stakes, with this limit. Takes no memory.
+    pub fn new(committee: &Committee, writers: Option<u32>) -> Terms
+        ensures { result ≡ record { stakes = committee.now; writers = writers } }
+    {
+        Terms {
+            committee: committee.copy(),
+            writers,
+        }
+    }
+
+    /// Starts a member of such a committee from its records; refusals are those of [`Validator::start`].
+    pub(crate) fn start<S: Sealer>(
+        &self,
+        alloc: Global,
+        member: u32,
+        opening: &Seq<Object>,
+        kept: &Seq<Seq<u8>>,
+        sealer: &S,
+    ) -> Result<Validator, StartRefusal>
+        requires apart { AreApart opening.now }
+        requires count { length kept.now < 2 ^ 64 }
+        ensures { Starts (started (rules_for self.now (S.accepts sealer.now)) opening.now kept.now) member self.now result }
+    {
+        Validator::start(
+            alloc,
+            member,
+            &self.committee,
+            opening,
+            self.writers,
+            kept,
+            sealer,
+        )
+    }
+
     /// The same terms once more. Takes no memory.
     pub fn copy(&self) -> Terms
         ensures { result ≡ self.now }

@@ -84,10 +84,7 @@ impl World {
     {
         let honest = honest_of(alloc, setup)?;
         let opening = opening_of(alloc, setup)?;
-        let terms = Terms {
-            committee: committee.copy(),
-            writers: writers_of(setup),
-        };
+        let terms = Terms::new(committee, writers_of(setup));
         let seats = Seats::new(alloc, &terms, honest.as_slice(), &opening, sealer)?;
         let directory = Directory::new(alloc, setup)?;
         Ok(World {

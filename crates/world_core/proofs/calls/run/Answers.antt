@@ -1,0 +1,14 @@
+use Rattle.std.proofs.Common.{subst}
+use Rattle.scene_spec.specs.Terms.{rules_for}
+use Rattle.protocol_spec.specs.Member.Calls.{runs}
+use Rattle.scene_spec.specs.Posts.{reached_in}
+use Rattle.world_core.specs.Replies.{Replies, SaysRun}
+use Rattle.world_core.proofs.Texts.{run_states}
+use Rattle.world_core.proofs.calls.run.Goals as goal
+
+pub returns-in-Ok-tell_run-clause-said : goal.returns-in-Ok-tell_run-clause-said
+returns-in-Ok-tell_run-clause-said g c =
+    run_states (rules_for c.args.seats.now.terms (g.S.Sealer.accepts c.args.sealer.now)) c.args.member c.args.said.now c.tell_run.new.said
+    (reached_in (rules_for c.args.seats.now.terms (g.S.Sealer.accepts c.args.sealer.now)) c.args.seats.now.posts c.args.member runs) c.in-Answered.answer
+    (subst (λ x. Replies (SaysRun (rules_for c.args.seats.now.terms (g.S.Sealer.accepts c.args.sealer.now))) (reached_in (rules_for c.args.seats.now.terms (g.S.Sealer.accepts c.args.sealer.now)) c.args.seats.now.posts c.args.member runs) x) c.in-Answered.is c.in-Ok.ensures.answer)
+    c.in-Ok-tell_run.ensures.said
