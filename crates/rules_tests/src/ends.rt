@@ -1,8 +1,5 @@
 //! Members that say End, one after the other.
 
-ghost use Rattle.std.specs.Prelude.{◌≡◌, true};
-ghost use Rattle.quorum_core.specs.Committee.{all_known};
-
 use epoch_turn::{Counted, EndCount};
 use quorum_core::Committee;
 use std::test::Fail;
