@@ -1,5 +1,5 @@
 -- How the course of an epoch stays sound where an entry of its sequence is taken.
-use Rattle.std.proofs.Common.{◌≡◌, ◌∙◌, arith, ℕ, zero, suc, ◌+◌, ◌-◌, ◌<◌, ◌≤◌, Bool, true, false, cond, List, [], ◌∷◌, ◌++◌, map, length, take, drop, refl, sym, ap, subst, length-append}
+use Rattle.std.proofs.Common.{◌≡◌, ◌∙◌, arith, ℕ, ◌+◌, ◌-◌, ◌≤◌, Bool, true, false, cond, List, [], ◌∷◌, ◌++◌, map, length, take, drop, refl, sym, ap, subst, length-append}
 use Rattle.std.specs.Prelude.{Option, Some, None, is_some, ◌==◌}
 use Rattle.std.proofs.lemmas.List.{length-map}
 use Rattle.std.proofs.lemmas.Bool.{eqb-true}
@@ -18,22 +18,19 @@ use Rattle.protocol_spec.specs.Member.Checkpoints.{held_of, zero_digest}
 use Rattle.protocol_spec.specs.Member.Votes.{Cast}
 use Rattle.scene_spec.specs.Terms.{rules_for}
 use Rattle.protocol_spec.specs.Member.Sequence.{Cut, Sequence, What, with_entry, commits, counted_what, counts, cut_of, ignores, newly_admitted, newly_dropped, numbered, seen_what, takes, waiting_on}
-use Rattle.epoch_turn.specs.declared.due.Due.{Due}
 use Rattle.epoch_turn.specs.declared.due.CutMark.{CutMark}
-use Rattle.epoch_turn.specs.Chains.{AddsCuts, Chaining, IsTold, KeepsCuts, StaysBehind, last_cuts, uncut, with_cut, with_mark}
+use Rattle.epoch_turn.specs.Chains.{AddsCuts, Chaining, KeepsCuts, StaysBehind, uncut, with_cut, with_mark}
 use Rattle.epoch_turn.specs.Ends.{counted_after, said_of_end}
 use Rattle.epoch_turn.specs.declared.ends.Counted.TheVariants as counted
 use Rattle.epoch_turn.specs.Dues.{cuts_of, due_of, size_of}
 use Rattle.epoch_turn.proofs.Told.{keeps_cuts}
 use Rattle.version_store.proofs.Equality.{digest_self}
-use Rattle.exec_plan.specs.Waits.{StoodBefore}
-use Rattle.exec_plan.specs.declared.waiting.Waiting.{Waiting}
 use Rattle.version_assign.specs.declared.taken.Taken.{Taken}
 use Rattle.version_assign.specs.Calls.{Admitting, with_entry as with_certificate, with_mark as with_mark_passed}
-use Rattle.version_assign.specs.Sharing.{HasShared, Serve, shared_of}
+use Rattle.version_assign.specs.Sharing.{HasShared, Serve}
 use Rattle.version_assign.proofs.Sharing.{shared_serve}
 use Rattle.validator_core.specs.declared.course.Course.{Course}
-use Rattle.validator_core.specs.Courses.{AreHeld, Coursed, IsAdmitting, IsSound, IsUnbuilt, WaitsIn, arrives, brings, coursed, ends, marks, numbered_in}
+use Rattle.validator_core.specs.Courses.{Coursed, IsAdmitting, IsSound, IsUnbuilt, WaitsIn, arrives, brings, coursed, ends, marks, numbered_in}
 use Rattle.validator_core.specs.declared.entries.Arrival.{Arrival}
 use Rattle.validator_core.specs.declared.entries.Arrival.TheVariants as arrivals
 use Rattle.validator_core.specs.Entries.{behind_entry, waiting_answer, what_as}

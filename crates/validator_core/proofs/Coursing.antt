@@ -1,23 +1,20 @@
 -- How what a member has of its epoch stays sound.
-use Rattle.std.proofs.Common.{◌≡◌, ◌∙◌, arith, ℕ, zero, suc, ◌+◌, ◌-◌, ◌<◌, ◌≤◌, Bool, true, false, cond, List, [], ◌∷◌, ◌++◌, map, length, take, drop, refl, sym, ap, subst, append-nil, length-append}
-use Rattle.std.specs.Prelude.{Option, Some, None, IfOk, OnOk, Result, Ok, Err, find, is_some}
+use Rattle.std.proofs.Common.{◌≡◌, ◌∙◌, arith, ℕ, ◌+◌, ◌-◌, ◌≤◌, Bool, true, false, cond, List, [], ◌∷◌, ◌++◌, map, length, refl, sym, ap, subst, append-nil}
+use Rattle.std.specs.Prelude.{Some, IfOk, OnOk, Result, Ok, Err, find, is_some}
 use Rattle.chain_types.specs.declared.objects.Object.{Object}
 use Rattle.chain_types.specs.Equal.{digest_eq}
-use Rattle.checkpoint_core.specs.declared.checkpoints.Checkpoint.{Checkpoint}
 use Rattle.answer_types.specs.declared.answers.Held.{Held}
-use Rattle.protocol_spec.specs.Chain.Words.{Each, IsFront}
+use Rattle.protocol_spec.specs.Chain.Words.{Each}
 use Rattle.protocol_spec.proofs.ListLemmas.{each-push}
-use Rattle.protocol_spec.specs.Member.Admission.{Admission, Admitted, digest_of_admitted, nothing_admitted}
-use Rattle.protocol_spec.specs.Member.Checkpoints.{chained, held_of}
+use Rattle.protocol_spec.specs.Member.Admission.{Admission, Admitted, nothing_admitted}
 use Rattle.protocol_spec.specs.Member.Versions.{Execution}
 use Rattle.scene_spec.specs.Starts.{AreApart}
-use Rattle.epoch_turn.specs.Chains.{BuildsAll, Chaining, IsAhead, IsBehind, IsBuilt, IsTold, StartsBehind, StaysBehind, advanced, nothing_built}
-use Rattle.epoch_turn.specs.Dues.{cuts_of, due_of, size_of}
+use Rattle.epoch_turn.specs.Chains.{BuildsAll, Chaining, IsAhead, IsBehind, IsTold, StartsBehind, StaysBehind, advanced, nothing_built}
+use Rattle.epoch_turn.specs.Dues.{due_of, size_of}
 use Rattle.epoch_turn.proofs.Told.{all_built, told_held}
 use Rattle.exec_plan.specs.Books.{IsSound as IsSoundHeld}
-use Rattle.exec_plan.specs.Waits.{Admits, IsWaiting, StoodBefore}
+use Rattle.exec_plan.specs.Waits.{IsWaiting}
 use Rattle.exec_plan.specs.declared.waiting.Waiting.{Waiting}
-use Rattle.version_assign.specs.Calls.{Admitting}
 use Rattle.version_assign.specs.Sharing.{HasShared, shared_of}
 use Rattle.version_store.specs.Stores.{Stored}
 use Rattle.validator_core.specs.declared.course.Course.{Course}

@@ -1,12 +1,11 @@
 -- What an entry leaves of an admission: what was admitted stays in front, and whatever is admitted or waits is held.
-use Rattle.std.proofs.Common.{◌≡◌, ◌∙◌, ℕ, zero, suc, Bool, true, false, cond, List, [], ◌∷◌, ◌++◌, filter, length, refl, sym, ap, subst, append_assoc, append-nil}
-use Rattle.std.specs.Prelude.{Option, Some, None, find, is_some}
+use Rattle.std.proofs.Common.{◌≡◌, ◌∙◌, ℕ, zero, suc, Bool, true, false, cond, List, [], ◌∷◌, ◌++◌, filter, length, refl, sym, ap, append_assoc, append-nil}
+use Rattle.std.specs.Prelude.{Option, Some, None, find}
 use Rattle.chain_types.specs.declared.objects.Object.{Object}
 use Rattle.answer_types.specs.declared.answers.Held.{Held}
 use Rattle.protocol_spec.specs.Chain.Words.{Each, IsFront}
 use Rattle.protocol_spec.proofs.ListLemmas.{each-push, find-each}
-use Rattle.protocol_spec.specs.Member.Admission.{Admission, Admitted, admit, entered, is_dropped, is_free, not_of, passed_mark, take_all, take_free, taken, taken_as, taken_next}
-use Rattle.protocol_spec.specs.Member.Checkpoints.{held_of}
+use Rattle.protocol_spec.specs.Member.Admission.{Admission, admit, entered, is_dropped, is_free, not_of, passed_mark, take_free, taken, taken_as, taken_next}
 use Rattle.validator_core.specs.Courses.{AreHeld, IsHeldIn, WaitsIn}
 
 front_then : {A : Type 0} (xs ys zs : List A) → IsFront xs ys → IsFront ys zs → IsFront xs zs

@@ -20,7 +20,7 @@ use Rattle.validator_core.specs.declared.keeping.Unkept.TheVariants as unkept
 use Rattle.vote_rules.specs.Holders.{sides}
 use Rattle.vote_rules.specs.declared.held_book.Fork.{Fork as Sides}
 use Rattle.validator_core.specs.Entries.{behind_entry}
-use Rattle.validator_core.specs.Seats.{Appended, Becomes, Behaves, Ended, Journaled, Keeps, answered, fell}
+use Rattle.validator_core.specs.Seats.{Becomes, Behaves, Ended, Journaled, Keeps, answered, fell}
 use Rattle.scene_spec.specs.Seats.{Seat, due_at, rules_of_seat}
 use Rattle.scene_spec.specs.Terms.{rules_for}
 use Rattle.validator_core.proofs.Refusing.{free, none_stops, stop, stopped_by}

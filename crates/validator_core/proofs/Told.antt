@@ -1,11 +1,10 @@
 -- What a chain was told, one admitted transaction after the other.
-use Rattle.std.proofs.Common.{◌≡◌, ◌∙◌, ℕ, zero, suc, ◌+◌, add-one, List, [], ◌∷◌, ◌++◌, map, take, refl, sym, ap, subst}
-use Rattle.std.specs.Prelude.{Option, Some, None, OnOk, Result, Ok, Err, option_map, slice_get}
+use Rattle.std.proofs.Common.{◌≡◌, ◌∙◌, ℕ, zero, suc, ◌+◌, add-one, List, [], ◌∷◌, ◌++◌, map, take, sym, ap}
+use Rattle.std.specs.Prelude.{Some, OnOk, Result, Ok, Err, option_map, slice_get}
 use Rattle.answer_types.specs.declared.answers.Held.{Held}
 use Rattle.protocol_spec.specs.Member.Admission.{Admitted}
-use Rattle.protocol_spec.specs.Member.Versions.{Execution}
 use Rattle.epoch_turn.specs.declared.due.Due.{Due}
-use Rattle.epoch_turn.specs.Chains.{Chaining, IsBehind, IsTold, StaysBehind, with_due}
+use Rattle.epoch_turn.specs.Chains.{Chaining, IsTold, StaysBehind, with_due}
 use Rattle.epoch_turn.specs.Dues.{due_of}
 
 told_push : (held : List Held) (admitted : List Admitted) (place : ℕ) (d : Due) → Some d ≡ option_map (due_of held) (slice_get admitted place) → map (due_of held) (take place admitted) ++ d ∷ [] ≡ map (due_of held) (take (suc place) admitted)

@@ -11,7 +11,7 @@ use Rattle.validator_core.specs.Entries.{what_as}
 use Rattle.validator_core.specs.Limits.{terms_at}
 use Rattle.validator_core.specs.Seats.{Journaled}
 use Rattle.validator_core.proofs.Running.{is_kept}
-use Rattle.validator_core.proofs.Seeing.{no_fork, see_called, see_due, see_forked, see_kept, see_maybe_kept, see_refused, see_stays, see_taken, see_unkept, some_fork}
+use Rattle.validator_core.proofs.Seeing.{no_fork, see_called, see_due, see_kept, see_maybe_kept, see_refused, see_stays, see_taken, see_unkept, some_fork}
 use Rattle.validator_core.proofs.sees.see.Goals as goal
 
 pub returns-in-Err-clause-answer : goal.returns-in-Err-clause-answer

@@ -1,4 +1,4 @@
-use Rattle.std.proofs.Common.{◌≡◌, ◌∙◌, ap, sym}
+use Rattle.std.proofs.Common.{◌∙◌, ap, sym}
 use Rattle.protocol_spec.specs.Chain.Certificates.{Rules}
 use Rattle.validator_core.specs.Courses.{Coursed, sequence_in}
 use Rattle.validator_core.proofs.Bringing.{taken_what}

@@ -1,4 +1,4 @@
-use Rattle.std.proofs.Common.{None, ◌∙◌, sym}
+use Rattle.std.proofs.Common.{◌∙◌, sym}
 use Rattle.scene_spec.specs.Terms.{rules_for}
 use Rattle.validator_core.specs.Limits.{terms_at}
 use Rattle.validator_core.proofs.Cases.{hold_meets, hold_new, valid_shape}
