@@ -16,7 +16,7 @@ use Rattle.version_assign.specs.declared.book.Admit.{Admit}
 use Rattle.version_assign.specs.declared.book.Book.{Book}
 use Rattle.version_assign.specs.declared.book.Row.{Row}
 use Rattle.version_assign.specs.declared.waits.Waits.{Waits}
-use Rattle.version_assign.specs.Books.{AreLines, IsKept, IsSkipped, admission_of, admitted_as, opening_of, pending_in, row_at, shown}
+use Rattle.version_assign.specs.Books.{AreLines, IsKept, admission_of, admitted_as, opening_of, row_at, shown}
 use Rattle.version_assign.specs.Calls.{Admitting, with_taken}
 use Rattle.version_assign.specs.Lines.{LineMap}
 use Rattle.version_assign.specs.Steps.{AddsRow, Gives, Marks, TakesOut, judged}
