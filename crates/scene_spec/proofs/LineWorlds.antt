@@ -11,15 +11,30 @@ use Rattle.chain_messages.specs.declared.messages.Statement.{Statement}
 use Rattle.chain_messages.specs.declared.messages.Statement.TheVariants as statement
 use Rattle.answer_types.specs.declared.answers.Left.{Left}
 use Rattle.answer_types.specs.declared.answers.Ran.{Ran}
+use Rattle.answer_types.specs.declared.answers.Seen.{Seen}
+use Rattle.answer_types.specs.declared.answers.SeenWhat.{SeenWhat}
+use Rattle.answer_types.specs.declared.answers.SeenWhat.TheVariants as seen_as
+use Rattle.answer_types.specs.declared.refusals.SeeRefusal.{SeeRefusal}
+use Rattle.answer_types.specs.declared.refusals.SeeRefusal.TheVariants as no_see
+use Rattle.answer_types.specs.declared.refusals.CloseRefusal.{CloseRefusal}
+use Rattle.answer_types.specs.declared.refusals.CloseRefusal.TheVariants as no_close
+use Rattle.answer_types.specs.declared.refusals.EndRefusal.{EndRefusal}
+use Rattle.answer_types.specs.declared.refusals.EndRefusal.TheVariants as no_end
+use Rattle.answer_types.specs.declared.refusals.TurnRefusal.{TurnRefusal}
+use Rattle.answer_types.specs.declared.refusals.TurnRefusal.TheVariants as no_turn
+use Rattle.answer_types.specs.declared.refusals.AckRefusal.{AckRefusal}
+use Rattle.answer_types.specs.declared.refusals.AckRefusal.TheVariants as no_ack
 use Rattle.answer_types.specs.declared.refusals.VoteRefusal.{VoteRefusal}
 use Rattle.answer_types.specs.declared.refusals.VoteRefusal.TheVariants as no_vote
 use Rattle.answer_types.specs.declared.refusals.HoldRefusal.{HoldRefusal}
 use Rattle.answer_types.specs.declared.refusals.HoldRefusal.TheVariants as no_hold
 use Rattle.answer_types.specs.declared.refusals.RunRefusal.{RunRefusal}
 use Rattle.answer_types.specs.declared.refusals.RunRefusal.TheVariants as no_run
+use Rattle.protocol_spec.specs.Member.Member.{Member}
 use Rattle.protocol_spec.specs.Member.Calls.{Voted}
 use Rattle.report_text.specs.declared.lines.Line.{Line}
 use Rattle.report_text.specs.declared.lines.Line.TheVariants as line
+use Rattle.report_text.specs.declared.lines.EntryText.{EntryText}
 use Rattle.report_text.specs.declared.lines.OwnerText.{OwnerText}
 use Rattle.report_text.specs.declared.lines.ContentText.{ContentText}
 use Rattle.report_text.specs.declared.lines.RunText.TheVariants as run_text
@@ -27,8 +42,8 @@ use Rattle.report_text.specs.declared.lines.ShowText.TheVariants as show_text
 use Rattle.world_spec.specs.Setting.{Setting}
 use Rattle.world_spec.specs.World.{World}
 use Rattle.world_spec.specs.Names.{object_name, shown_order}
-use Rattle.world_spec.specs.Report.{checkpoint_lines, effects_line, hold_answered, left_line_of, object_line, run_answered, shown, shown_content, shown_owner, vote_answered, voted_text}
-use Rattle.scene_spec.specs.Known.{names_of, setting_with, world_with}
+use Rattle.world_spec.specs.Report.{Lines, ack_answered, checkpoint_lines, close_answered, effects_line, end_answered, entry_lines, hold_answered, left_line_of, object_line, run_answered, shown, shown_content, shown_owner, turn_answered, vote_answered, voted_text, what_text}
+use Rattle.scene_spec.specs.Known.{names_of, setting_staked, setting_with, world_with}
 
 module _ (s : Setting) (w : World) where
   abbrev t : Setting
@@ -95,6 +110,70 @@ module _ (s : Setting) (w : World) where
   run_same m (Err no_run.Full) = refl
   run_same m (Err no_run.KeepFault) = refl
   run_same m (Err no_run.OutOfMemory) = refl
+
+  -- ---- entries, which need the stakes too
+
+  abbrev u : Setting
+  u = setting_staked s.rules.stakes (names_of s w)
+
+  what_same : (what : SeenWhat) → what_text s w what ≡ what_text u v what
+  what_same (seen_as.Taken admitted dropped) = refl
+  what_same (seen_as.Pending tx origin) = refl
+  what_same (seen_as.Deferred tx id) = refl
+  what_same (seen_as.Commit admitted dropped) = refl
+  what_same (seen_as.Counted m weight) = refl
+  what_same (seen_as.Ended m weight) = refl
+  what_same (seen_as.Ignored cause) = refl
+
+  abbrev lines_as : ℕ → ℕ → Seen → EntryText → Lines
+  lines_as m number seen text = (line.SeeEntry m number text ∷ checkpoint_lines v seen.built, true)
+
+  pub see_same : (m number : ℕ) (answer : Result Seen SeeRefusal) → entry_lines s w m number answer ≡ entry_lines u v m number answer
+  see_same m number (Ok seen) = ap (lines_as m number seen) (what_same seen.what)
+  see_same m number (Err no_see.Down) = refl
+  see_same m number (Err (no_see.Halted first second)) = refl
+  see_same m number (Err no_see.Full) = refl
+  see_same m number (Err no_see.Over) = refl
+  see_same m number (Err (no_see.Gap had want)) = refl
+  see_same m number (Err no_see.KeepFault) = refl
+  see_same m number (Err (no_see.Fork key first second)) = refl
+  see_same m number (Err no_see.OutOfMemory) = refl
+
+  -- ---- close, end, turn, ack
+
+  pub close_same : (answer : Result Bool CloseRefusal) → close_answered w answer ≡ close_answered v answer
+  close_same (Ok true) = refl
+  close_same (Ok false) = refl
+  close_same (Err no_close.Down) = refl
+  close_same (Err (no_close.Halted first second)) = refl
+  close_same (Err no_close.Full) = refl
+  close_same (Err no_close.KeepFault) = refl
+  close_same (Err no_close.OutOfMemory) = refl
+
+  pub end_same : (answer : Result Statement EndRefusal) → end_answered w answer ≡ end_answered v answer
+  end_same (Ok st) = refl
+  end_same (Err no_end.Down) = refl
+  end_same (Err (no_end.Halted first second)) = refl
+  end_same (Err no_end.NotClosed) = refl
+  end_same (Err (no_end.Waits tx)) = refl
+  end_same (Err no_end.OutOfMemory) = refl
+
+  pub turn_same : (m : ℕ) (before : Member) (answer : Result (List Digest) TurnRefusal) → turn_answered w m before answer ≡ turn_answered v m before answer
+  turn_same m before (Ok txs) = refl
+  turn_same m before (Err no_turn.Down) = refl
+  turn_same m before (Err (no_turn.Halted first second)) = refl
+  turn_same m before (Err no_turn.Full) = refl
+  turn_same m before (Err no_turn.NotEnded) = refl
+  turn_same m before (Err (no_turn.Waits tx)) = refl
+  turn_same m before (Err no_turn.KeepFault) = refl
+  turn_same m before (Err no_turn.OutOfMemory) = refl
+
+  pub ack_same : (answer : Result Statement AckRefusal) → ack_answered w answer ≡ ack_answered v answer
+  ack_same (Ok st) = refl
+  ack_same (Err no_ack.Down) = refl
+  ack_same (Err (no_ack.Halted first second)) = refl
+  ack_same (Err no_ack.NotExecuted) = refl
+  ack_same (Err no_ack.OutOfMemory) = refl
 
   owner_same : (o : Owner) → shown_owner w o ≡ shown_owner v o
   owner_same (owner.Address a) = refl

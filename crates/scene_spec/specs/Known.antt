@@ -1,6 +1,6 @@
 -- What is known under names in a run: the set-up's things, and the users, transactions and drawn ids so far.
 -- The definitions of names look at nothing else of a setting and its world.
-use Rattle.std.specs.Prelude.{false, List, [], ◌∷◌, ◌++◌, length, filter_map, None}
+use Rattle.std.specs.Prelude.{ℕ, false, List, [], ◌∷◌, ◌++◌, length, filter_map, None}
 use Rattle.protocol_spec.specs.Member.Checkpoints.{zero_digest}
 use Rattle.schedule_text.specs.declared.words.RefWord.{RefWord}
 use Rattle.schedule_text.specs.declared.words.InputWord.{InputWord}
@@ -30,6 +30,10 @@ setting_with k = record {
   users = [];
   seal = λ _ _. zero_digest;
 }
+
+-- the same with these stakes, against which the weight of Ends is told
+abbrev pub setting_staked : List ℕ → Known → Setting
+setting_staked stakes k = record (setting_with k) { rules = record { stakes = stakes; writers = None; accepts = λ _ _ _. false } }
 
 abbrev pub world_with : Known → World
 world_with k = record { sequences = []; epoch = 0; seats = []; said = []; txs = k.txs; certs = []; users = k.users; drawn = k.drawn }

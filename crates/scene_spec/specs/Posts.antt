@@ -1,11 +1,11 @@
 -- The members of a committee as they stand: a member that is up stands with its state. What a call does to one.
 -- Source: this profile.
-use Rattle.std.specs.Prelude.{◌⊎◌, ℕ, suc, Bool, true, false, List, [], ◌∷◌, Option, Some, None, option_map, slice_get, slice_set}
+use Rattle.std.specs.Prelude.{◌≡◌, ◌⊎◌, ⊤, ℕ, suc, Bool, true, false, List, [], ◌∷◌, ◌++◌, fold, Option, Some, None, option_map, slice_get, slice_set}
 use Rattle.chain_types.specs.declared.objects.Object.{Object}
 use Rattle.chain_messages.specs.declared.messages.Statement.{Statement}
 use Rattle.journal_core.specs.declared.records.Record.{Record}
 use Rattle.journal_core.specs.Records as journals
-use Rattle.outside.specs.Lists.{Journals, AddsRecord, KeepsJournals}
+use Rattle.outside.specs.Lists.{Journals, AddsRecord, KeepsJournals, with_record}
 use Rattle.protocol_spec.specs.Chain.Certificates.{Rules}
 use Rattle.protocol_spec.specs.Member.Member.{Member, fresh}
 use Rattle.protocol_spec.specs.Member.Calls.{Call, called, due}
@@ -73,6 +73,27 @@ abbrev pub stated_in : Rules → Call → Reached → List Statement
 stated_in r call finds_down = []
 stated_in r call (stops kept x) = []
 stated_in r call (answers before x) = stated r before call
+
+-- none, or the one
+abbrev pub list_of : {A : Type 0} → Option A → List A
+list_of None = []
+list_of (Some x) = x ∷ []
+
+-- told lists with more records of a member at the end of its list
+abbrev pub with_all : Journals → ℕ → List Record → Journals
+with_all lists m records = fold (λ (told : Journals) (x : Record). with_record told m (journals.journal_record.spell x)) lists records
+
+-- told lists grow by these records of this member
+abbrev pub AddsAll : Option Journals → Option Journals → ℕ → List Record → Type 0
+AddsAll None now m records = ⊤
+AddsAll (Some lists) now m records = now ≡ Some (with_all lists m records)
+
+-- told lists grow by the first of these records
+pub record AddsFront (before now : Option Journals) (m : ℕ) (records : List Record) : Type 0 where
+  pub front : List Record
+  pub rest : List Record
+  pub is : records ≡ front ++ rest
+  pub adds : AddsAll before now m front
 
 -- told lists behind a call: its record was added, or nothing
 abbrev pub AddsLeft : Option Journals → Option Journals → ℕ → Option Record → Type 0

@@ -1,9 +1,10 @@
--- What a world is without the members' records: what is known under names, what was stated and formed, and the
--- members as they stand. Source: this profile.
+-- What a world is without the members' records: what is known under names, what was ordered, stated and formed, and
+-- the members as they stand. Source: this profile.
 use Rattle.std.specs.Prelude.{ℕ, Bool, List, [], ◌∷◌, map, is_some}
 use Rattle.digest_core.specs.declared.Digest.{Digest}
 use Rattle.quorum_core.specs.declared.signer.Signer.{Signer}
 use Rattle.chain_types.specs.declared.objects.Object.{Object}
+use Rattle.chain_messages.specs.declared.messages.Entry.{Entry}
 use Rattle.schedule_text.specs.declared.words.Setup.{Setup}
 use Rattle.protocol_spec.specs.Chain.Certificates.{Rules}
 use Rattle.world_spec.specs.Setting.{Trust, Setting}
@@ -18,6 +19,9 @@ pub record Scene : Type 0 where
   pub terms : Terms
   pub opening : List Object
   pub known : Known
+  -- the sequences of the epochs up to the open one, which is the last
+  pub sequences : List (List Entry)
+  pub epoch : ℕ
   pub said : List Said
   pub certs : List Formed
   pub posts : List Post
@@ -28,6 +32,8 @@ new_scene s setup = record {
   terms = terms_of s.rules;
   opening = s.opening;
   known = known_by setup;
+  sequences = [] ∷ [];
+  epoch = 0;
   said = [];
   certs = [];
   posts = new_posts (terms_of s.rules) s.opening 0 s.honest;
@@ -37,8 +43,8 @@ new_scene s setup = record {
 abbrev pub rules_in : (Signer → List ℕ → Digest → Bool) → Scene → Rules
 rules_in accepts sc = rules_for sc.terms accepts
 
--- A setting and a world that have what the scene has, and no records. The definitions of names, of false votes
--- and of certificates look at nothing else.
+-- A setting and a world that have what the scene has, and no records. The definitions of names, of false votes, of
+-- certificates and of the sequence look at nothing else.
 abbrev pub bare_seat : Post → worlds.Seat
 bare_seat p = record { honest = p.honest; records = []; up = is_some p.standing; armed = p.armed }
 
@@ -54,8 +60,8 @@ bare_setting trust sc = record {
 
 abbrev pub bare_world : Scene → World
 bare_world sc = record {
-  sequences = [] ∷ [];
-  epoch = 0;
+  sequences = sc.sequences;
+  epoch = sc.epoch;
   seats = map bare_seat sc.posts;
   said = sc.said;
   txs = sc.known.txs;

@@ -1,10 +1,8 @@
--- The scene of a world, the forms of line that run without a sequence, and told records. Source: this profile.
-use Rattle.std.specs.Prelude.{◌≡◌, ◌≤◌, ℕ, suc, length, Bool, true, false, List, [], ◌∷◌, ◌++◌, map, slice_get, Option, Some, None, Ok, if◌then◌else◌}
+-- The scene of a world, the forms of line that run, and told records. Source: this profile.
+use Rattle.std.specs.Prelude.{◌≡◌, ◌<◌, ◌≤◌, ℕ, suc, length, Bool, true, false, List, [], ◌∷◌, ◌++◌, map, slice_get, Option, Some, None, Ok, if◌then◌else◌}
 use Rattle.journal_core.specs.declared.records.Record.{Record}
 use Rattle.journal_core.specs.Records as journals
 use Rattle.outside.specs.Lists.{Journals, journal_of}
-use Rattle.schedule_text.specs.declared.words.Setup.{Setup}
-use Rattle.schedule_text.specs.declared.words.Setup.TheVariants as setup
 use Rattle.schedule_text.specs.declared.words.Event.{Event}
 use Rattle.schedule_text.specs.declared.words.Event.TheVariants as event
 use Rattle.chain_types.specs.declared.transactions.SignedTx.{SignedTx}
@@ -12,7 +10,8 @@ use Rattle.chain_types.specs.Transactions as transactions
 use Rattle.chain_messages.specs.declared.messages.Certificate.{Certificate}
 use Rattle.chain_messages.specs.declared.messages.Entry.{Entry}
 use Rattle.chain_messages.specs.Messages as messages
-use Rattle.protocol_spec.specs.Chain.Words.{Along}
+use Rattle.wire_bcs.specs.Items.{length_limit}
+use Rattle.protocol_spec.specs.Chain.Words.{Along, Each}
 use Rattle.protocol_spec.specs.Chain.Certificates.{read_signed, read_certificate, read_entry}
 use Rattle.protocol_spec.specs.Member.Calls.{Call, votes, holds, sees, runs, closes, ends, turns, acks}
 use Rattle.protocol_spec.specs.Member.Due.{IsDueBehind}
@@ -26,6 +25,7 @@ use Rattle.scene_spec.specs.Seats.{Seat}
 use Rattle.scene_spec.specs.Starts.{started}
 use Rattle.scene_spec.specs.Posts.{Post, seat_at}
 use Rattle.scene_spec.specs.Scene.{Scene}
+use Rattle.scene_spec.specs.Steps.{Work, idle, asks, hands}
 
 -- ---- the scene of a world
 
@@ -44,40 +44,34 @@ scene_of s w = record {
   terms = terms_of s.rules;
   opening = s.opening;
   known = names_of s w;
+  sequences = w.sequences;
+  epoch = w.epoch;
   said = w.said;
   certs = w.certs;
   posts = posts_from s 0 w.seats;
 }
 
--- a setting with these seals, and a world in which nothing was ordered
+-- the scene of a world, in a setting with these seals
 pub record Shows (trust : Trust) (s : Setting) (w : World) (sc : Scene) : Type 0 where
   pub rules : s.rules ≡ rules_for (terms_of s.rules) trust.accepts
   pub seal : s.seal ≡ trust.seal
-  pub epoch : w.epoch ≡ 0
-  pub sequences : w.sequences ≡ [] ∷ []
   pub scene : sc ≡ scene_of s w
 
--- ---- the forms that run without a sequence
+-- ---- the forms that run
 
-abbrev pub is_plain_setup : Setup → Bool
-is_plain_setup (setup.Member stake honest) = true
-is_plain_setup (setup.Coin name who balance) = true
-is_plain_setup (setup.Counter name value) = true
-is_plain_setup (setup.Cap name who currency) = true
-is_plain_setup (setup.Writers n) = false
-
+-- all but those by which an epoch ends, and acknowledgements
 abbrev pub is_plain : Event → Bool
 is_plain (event.Tx name sender spoiled epoch gas budget inputs commands) = true
 is_plain (event.Vote m tx) = true
 is_plain (event.Fvote m tx origins) = true
 is_plain (event.Cert tx members) = true
 is_plain (event.Send m tx) = true
-is_plain (event.Order tx) = false
+is_plain (event.Order tx) = true
 is_plain (event.OrderEnd m) = false
-is_plain event.OrderCommit = false
-is_plain (event.See m entries) = false
+is_plain event.OrderCommit = true
+is_plain (event.See m entries) = true
 is_plain (event.Run m workers) = true
-is_plain (event.Close m) = false
+is_plain (event.Close m) = true
 is_plain (event.End m) = false
 is_plain (event.Turn m) = false
 is_plain (event.Show m) = true
@@ -147,10 +141,11 @@ ReadsFit ends = Unit {0}
 ReadsFit turns = Unit {0}
 ReadsFit (acks tx) = Unit {0}
 
--- the same of the call of a line
-abbrev pub LineReadsFit : Option (ℕ × Call) → Type 0
-LineReadsFit None = Unit {0}
-LineReadsFit (Some (m, call)) = ReadsFit call
+-- the same of what a line hands to a member
+abbrev pub WorkReadsFit : Work → Type 0
+WorkReadsFit idle = Unit {0}
+WorkReadsFit (asks m call) = ReadsFit call
+WorkReadsFit (hands m n) = Unit {0}
 
 -- told lists have one for each member
 abbrev pub HasRoom : Option Journals → World → Type 0
@@ -159,3 +154,12 @@ HasRoom (Some lists) w = length w.seats ≤ length lists
 
 abbrev pub IsTrueOf : {A : Type 0} → (A → Bool) → A → Type 0
 IsTrueOf p x = p x ≡ true
+
+-- ---- entries that can be kept
+
+-- each entry that was ordered has a spelling that fits into a record
+abbrev pub IsKeepable : Entry → Type 0
+IsKeepable e = length (messages.entry.spell e) < length_limit
+
+abbrev pub AreKeepable : List (List Entry) → Type 0
+AreKeepable sequences = Each (Each IsKeepable) sequences
