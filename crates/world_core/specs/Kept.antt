@@ -1,28 +1,18 @@
 -- What a line leaves in told lists, and which lines hand a call to a member.
-use Rattle.std.specs.Prelude.{ℕ, Bool, true, false, Option, Some, None, Result, Ok, Err}
-use Rattle.outside.specs.Lists.{Journals, KeepsJournals}
+use Rattle.std.specs.Prelude.{Bool, true, false, Option, Result, Ok, Err}
+use Rattle.outside.specs.Lists.{Journals}
 use Rattle.protocol_spec.specs.Chain.Certificates.{Rules}
 use Rattle.schedule_text.specs.declared.words.Event.{Event}
 use Rattle.schedule_text.specs.declared.words.Event.TheVariants as event
-use Rattle.protocol_spec.specs.Member.Calls.{Call}
-use Rattle.scene_spec.specs.Posts.{AddsLeft, MayAddLeft, reached_in, record_left}
 use Rattle.scene_spec.specs.Scene.{Scene}
+use Rattle.scene_spec.specs.Steps.{AddsLine, MayAddLine, Work, records_left}
 
--- the record that the call of a line leaves was added, or nothing
-abbrev pub LeavesLeft : Rules → Scene → Option (ℕ × Call) → Option Journals → Option Journals → Type 0
-LeavesLeft r sc None before now = KeepsJournals before now
-LeavesLeft r sc (Some (m, call)) before now = AddsLeft before now m (record_left (reached_in r sc.posts m call))
+-- Ok: the records that the line leaves were added, or nothing where it leaves none; else the first of them
+abbrev pub LeavesAs : {A E : Type 0} → Rules → Scene → Work → Option Journals → Option Journals → Result A E → Type 0
+LeavesAs r sc work before now (Ok a) = AddsLine (records_left r sc work) before now
+LeavesAs r sc work before now (Err e) = MayAddLine (records_left r sc work) before now
 
--- the same where the line did not end
-abbrev pub MayLeave : Rules → Scene → Option (ℕ × Call) → Option Journals → Option Journals → Type 0
-MayLeave r sc None before now = KeepsJournals before now
-MayLeave r sc (Some (m, call)) before now = MayAddLeft before now m (record_left (reached_in r sc.posts m call))
-
-abbrev pub LeavesAs : {A E : Type 0} → Rules → Scene → Option (ℕ × Call) → Option Journals → Option Journals → Result A E → Type 0
-LeavesAs r sc call before now (Ok a) = LeavesLeft r sc call before now
-LeavesAs r sc call before now (Err e) = MayLeave r sc call before now
-
--- lines that hand a call to a member
+-- lines that hand one call to a member
 abbrev pub is_call : Event → Bool
 is_call (event.Tx name sender spoiled epoch gas budget inputs commands) = false
 is_call (event.Vote m tx) = true
@@ -34,7 +24,7 @@ is_call (event.OrderEnd m) = false
 is_call event.OrderCommit = false
 is_call (event.See m entries) = false
 is_call (event.Run m workers) = true
-is_call (event.Close m) = false
+is_call (event.Close m) = true
 is_call (event.End m) = false
 is_call (event.Turn m) = false
 is_call (event.Show m) = false
@@ -52,9 +42,9 @@ is_quiet (event.Vote m tx) = false
 is_quiet (event.Fvote m tx origins) = true
 is_quiet (event.Cert tx members) = true
 is_quiet (event.Send m tx) = false
-is_quiet (event.Order tx) = false
+is_quiet (event.Order tx) = true
 is_quiet (event.OrderEnd m) = false
-is_quiet event.OrderCommit = false
+is_quiet event.OrderCommit = true
 is_quiet (event.See m entries) = false
 is_quiet (event.Run m workers) = false
 is_quiet (event.Close m) = false

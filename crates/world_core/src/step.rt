@@ -3,8 +3,8 @@
 ghost use Rattle.std.specs.Prelude.{◌≡◌, ◌≤◌, ℕ, IfOk, IsErrOf, OnOk, false, length, true};
 ghost use Rattle.outside.specs.Causes.{Rose};
 ghost use Rattle.scene_spec.specs.Scene.{rules_in};
-ghost use Rattle.scene_spec.specs.Steps.{call_of, lines_in, steps_to};
-ghost use Rattle.scene_spec.specs.Worlds.{is_plain, is_restart};
+ghost use Rattle.scene_spec.specs.Steps.{lines_in, steps_to, work_of};
+ghost use Rattle.scene_spec.specs.Worlds.{AreKeepable, is_plain, is_restart};
 ghost use Rattle.world_core.specs.declared.world.WorldFault.TheVariants as fault;
 ghost use Rattle.world_core.specs.Kept.{LeavesAs};
 ghost use Rattle.world_core.specs.Restarts.{MayRestart};
@@ -20,10 +20,10 @@ use wire_bcs::{OutOfMemory, Seq};
 use world_names::MakesSeals;
 
 impl World {
-    /// Runs one line, and answers the lines that the report has for it. The record that its call leaves is
-    /// appended before it answers. `KeepFault`: the keeper failed, and its count of faults rose. `BadRecord`: the
+    /// Runs one line, and answers the lines that the report has for it. Each record that it leaves is appended before
+    /// the call that leaves it answers. `KeepFault`: the keeper failed, and its count of faults rose. `BadRecord`: the
     /// member of a `restart` line does not start from its records. Behind a fault nothing is said of the world.
-    #[tactic(auto, unfolding(scene_spec::specs::Steps::call_of), using(crate::proofs::Steps::fault_left, crate::proofs::Steps::quiet_left, crate::proofs::Stays::restart_stays))]
+    #[tactic(auto, unfolding(scene_spec::specs::Steps::work_of), using(crate::proofs::Steps::fault_left, crate::proofs::Steps::quiet_left, crate::proofs::Stays::restart_stays))]
     pub fn step<D: Keeper, S: MakesSeals>(
         &mut self,
         keeper: &mut D,
@@ -34,9 +34,10 @@ impl World {
         requires plain { is_plain event.now ≡ true }
         ensures world { OnOk result (is_restart event.now ≡ false → self.new ≡ steps_to (trust_by (S.made sealer.now) (S.accepts sealer.now)) self.old event.now) }
         ensures lines { IfOk result (λ lines. is_restart event.now ≡ false → lines ≡ lines_in (trust_by (S.made sealer.now) (S.accepts sealer.now)) self.old event.now) }
-        ensures kept { LeavesAs (rules_in (S.accepts sealer.now) self.old) self.old (call_of self.old event.now) (D.lists keeper.old) (D.lists keeper.new) result }
+        ensures kept { LeavesAs (rules_in (S.accepts sealer.now) self.old) self.old (work_of self.old event.now) (D.lists keeper.old) (D.lists keeper.new) result }
         ensures restart { MayRestart (S.accepts sealer.now) (D.lists keeper.old) self.old self.new event.now result }
         ensures stay { OnOk result (Stays self.old self.new) }
+        ensures keepable { AreKeepable self.old.sequences }
         ensures width { D.width keeper.new ≡ D.width keeper.old }
         ensures later { D.failed keeper.old ≤ D.failed keeper.new }
         ensures fault { IsErrOf result fault.KeepFault → Rose (D.failed keeper.old) (D.failed keeper.new) }
@@ -44,9 +45,15 @@ impl World {
     {
         match event {
             Event::Restart(member) => self.restart(keeper, sealer, *member),
+            Event::See { member, entries } => match self.see(keeper, sealer, *member, *entries) {
+                Ok(lines) => Ok(lines),
+                Err(SeatFault::KeepFault) => Err(WorldFault::KeepFault),
+                Err(SeatFault::OutOfMemory) => Err(WorldFault::OutOfMemory),
+            },
             Event::Vote { .. }
             | Event::Send { .. }
             | Event::Run { .. }
+            | Event::Close(_)
             | Event::RawVote { .. }
             | Event::RawHold { .. } => match self.run_call(keeper, sealer, event) {
                 Ok(lines) => Ok(lines),
@@ -56,16 +63,14 @@ impl World {
             Event::Tx { .. }
             | Event::Fvote { .. }
             | Event::Cert { .. }
+            | Event::Order(_)
+            | Event::OrderCommit
             | Event::Show(_)
             | Event::Stop { .. } => match self.run_quiet(sealer, event) {
                 Ok(lines) => Ok(lines),
                 Err(OutOfMemory) => Err(WorldFault::OutOfMemory),
             },
-            Event::Order(_)
-            | Event::OrderEnd(_)
-            | Event::OrderCommit
-            | Event::See { .. }
-            | Event::Close(_)
+            Event::OrderEnd(_)
             | Event::End(_)
             | Event::Turn(_)
             | Event::Ack { .. }
