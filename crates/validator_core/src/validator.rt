@@ -4,7 +4,7 @@ ghost use Rattle.std.specs.Prelude.{◌≡◌, ◌<◌, ◌≤◌, ◌^◌, [], 
 ghost use Rattle.outside.specs.Causes.{Rose};
 ghost use Rattle.chain_types.specs.Digests.{digest_of_object};
 ghost use Rattle.protocol_spec.specs.Member.Versions.{Version, version_at, versions as versions_of};
-ghost use Rattle.protocol_spec.specs.Member.Member.{built as built_by, live_objects};
+ghost use Rattle.protocol_spec.specs.Member.Member.{Fork, built as built_by, fork_of, live_objects};
 ghost use Rattle.protocol_spec.specs.Member.Calls.{closes, holds, runs, sees, votes};
 ghost use Rattle.answer_types.specs.declared.refusals.HoldRefusal.TheVariants as no_hold;
 ghost use Rattle.answer_types.specs.declared.refusals.VoteRefusal.TheVariants as no_vote;
@@ -106,6 +106,21 @@ impl Validator {
         ensures { result ≡ self.now.state.sequence.number }
     {
         self.state.seen()
+    }
+
+    /// Whether the member saw the end of the epoch. Takes no memory.
+    pub fn has_ended(&self) -> bool
+        ensures { result ≡ self.now.state.sequence.ended }
+    {
+        self.state.has_ended()
+    }
+
+    /// The transactions of the first fork that the member met, two certificates of one version; none exactly where it
+    /// met none. Takes no memory.
+    pub fn fork(&self) -> Option<(Digest, Digest)>
+        ensures { result ≡ option_map (λ (f : Fork). (f.first, f.second)) (fork_of self.now.state) }
+    {
+        self.state.fork()
     }
 
     /// The number of checkpoints that the member has built, over all its epochs. Takes no memory.

@@ -8,16 +8,21 @@ use Rattle.outside.specs.Lists.{Journals, AddsRecord, KeepsJournals}
 use Rattle.protocol_spec.specs.Chain.Certificates.{Rules}
 use Rattle.answer_types.specs.declared.answers.Voted.{Voted as Sent}
 use Rattle.answer_types.specs.declared.answers.Ran.{Ran}
+use Rattle.answer_types.specs.declared.answers.Seen.{Seen}
+use Rattle.answer_types.specs.declared.refusals.CloseRefusal.{CloseRefusal}
+use Rattle.answer_types.specs.declared.refusals.CloseRefusal.TheVariants as no_close
 use Rattle.answer_types.specs.declared.refusals.RunRefusal.{RunRefusal}
 use Rattle.answer_types.specs.declared.refusals.RunRefusal.TheVariants as no_run
+use Rattle.answer_types.specs.declared.refusals.SeeRefusal.{SeeRefusal}
+use Rattle.answer_types.specs.declared.refusals.SeeRefusal.TheVariants as no_see
 use Rattle.answer_types.specs.declared.refusals.VoteRefusal.{VoteRefusal}
 use Rattle.answer_types.specs.declared.refusals.VoteRefusal.TheVariants as no_vote
 use Rattle.answer_types.specs.declared.refusals.HoldRefusal.{HoldRefusal}
 use Rattle.answer_types.specs.declared.refusals.HoldRefusal.TheVariants as no_hold
 use Rattle.protocol_spec.specs.Member.Member.{Member}
-use Rattle.protocol_spec.specs.Member.Calls.{hold_answer, run_answer, vote_answer}
+use Rattle.protocol_spec.specs.Member.Calls.{close_answer, hold_answer, run_answer, see_answer, vote_answer}
 use Rattle.world_spec.specs.World.{Reached, finds_down, stops, answers}
-use Rattle.validator_core.specs.Calls.{Holds, Runs, Votes, hold_ended, run_ended, vote_ended}
+use Rattle.validator_core.specs.Calls.{Closes, Holds, Runs, Sees, Votes, close_ended, hold_ended, run_ended, see_ended, vote_ended}
 use Rattle.validator_core.specs.Seats.{answered}
 use Rattle.scene_spec.specs.Posts.{AddsLeft, MayAddLeft}
 use Rattle.world_core.specs.declared.reply.SeatFault.{SeatFault}
@@ -66,6 +71,14 @@ pub record SaysRun (r : Rules) (before : Member) (given : Result Ran RunRefusal)
   pub answer : Runs (run_answer r before) given
   pub ended : run_ended given ≡ answered
 
+pub record SaysSee (r : Rules) (number : ℕ) (bytes : List ℕ) (before : Member) (given : Result Seen SeeRefusal) : Type 0 where
+  pub answer : Sees (see_answer r before number bytes) given
+  pub ended : see_ended given ≡ answered
+
+pub record SaysClose (r : Rules) (before : Member) (given : Result Bool CloseRefusal) : Type 0 where
+  pub answer : Closes (close_answer r before) given
+  pub ended : close_ended given ≡ answered
+
 -- ---- the record
 
 -- Ok: the record that the call leaves was added, where there is one; else it was added or nothing was
@@ -99,6 +112,16 @@ abbrev pub run_fault : Result Ran RunRefusal → Option SeatFault
 run_fault (Err no_run.KeepFault) = Some faults.KeepFault
 run_fault (Err no_run.OutOfMemory) = Some faults.OutOfMemory
 run_fault answer = None
+
+abbrev pub see_fault : Result Seen SeeRefusal → Option SeatFault
+see_fault (Err no_see.KeepFault) = Some faults.KeepFault
+see_fault (Err no_see.OutOfMemory) = Some faults.OutOfMemory
+see_fault answer = None
+
+abbrev pub close_fault : Result Bool CloseRefusal → Option SeatFault
+close_fault (Err no_close.KeepFault) = Some faults.KeepFault
+close_fault (Err no_close.OutOfMemory) = Some faults.OutOfMemory
+close_fault answer = None
 
 -- ---- on paper
 

@@ -1,10 +1,10 @@
 //! The world of a run: a committee and its events, line by line.
 //!
-//! [`World::new`] opens the committee of a schedule's set-up; [`World::step`] runs one line, hands its call to the
-//! member that it is for, and answers the lines that the report has for it. Contracts see the world as a scene:
-//! the terms and the opening, what is known under names, what was said and formed, and the members as they
+//! [`World::new`] opens the committee of a schedule's set-up; [`World::step`] runs one line, hands its calls to the
+//! member that they are for, and answers the lines that the report has for it. Contracts see the world as a scene:
+//! the terms and the opening, what is known under names, what was ordered, said and formed, and the members as they
 //! stand. Each step is the definition's step of that scene, with its lines, and the keeper's lists grow by the
-//! record that the line leaves. [`PlainForms`] are the forms of line that are run: those that need no sequence.
+//! records that the line leaves. [`PlainForms`] are the forms of line that are run.
 //! [`World::sums`] tells what a member has built and holds, in numbers.
 //! Each name, vote and version is found by a map, so a line costs time in proportion to its own words.
 //!
@@ -15,14 +15,17 @@
 
 mod calls;
 mod certs;
+mod epoch_requests;
 mod forms;
 mod opening;
+mod orders;
 mod quiet;
 mod reply;
 mod requests;
 mod restart;
 mod seat;
 mod seats;
+mod sees;
 mod starts;
 mod step;
 mod stops;

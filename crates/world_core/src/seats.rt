@@ -4,16 +4,17 @@ ghost use Rattle.std.specs.Prelude.{◌≡◌, ◌≤◌, ℕ, [], IfOk, IsErrOf
 ghost use Rattle.outside.specs.Causes.{Rose};
 ghost use Rattle.outside.specs.Lists.{KeepsJournals};
 ghost use Rattle.scene_spec.specs.Terms.{rules_for};
-ghost use Rattle.protocol_spec.specs.Member.Calls.{holds, runs, votes};
+ghost use Rattle.protocol_spec.specs.Member.Calls.{closes, holds, runs, sees, votes};
 ghost use Rattle.scene_spec.specs.Starts.{AreApart};
 ghost use Rattle.scene_spec.specs.Posts.{armed_at, new_posts, posts_behind, reached_in, record_left};
 ghost use Rattle.scene_spec.specs.Steps.{held_in, standing_at};
 ghost use Rattle.world_core.specs.declared.reply.SeatFault.TheVariants as faults;
 ghost use Rattle.world_core.specs.declared.reply.RestartFault.TheVariants as restart_faults;
 ghost use Rattle.world_core.specs.Crews.{PostsAfter, fallen_at, honest_at, honest_flags, shown_of};
-ghost use Rattle.world_core.specs.Replies.{Leaves, Replies, SaysHold, SaysRun, SaysVote};
+ghost use Rattle.world_core.specs.Replies.{Leaves, Replies, SaysClose, SaysHold, SaysRun, SaysSee, SaysVote};
 ghost use Rattle.world_core.specs.SeatRestarts.{HasBadRecord, Restarted};
 
+use crate::epoch_requests::{CloseRequest, SeeRequest};
 use crate::reply::{Reply, RestartFault, SeatFault};
 use crate::requests::{Asks, HoldRequest, RunRequest, VoteRequest};
 use crate::seat::Seat;
@@ -25,7 +26,10 @@ use outside::{Keeper, OutFault};
 use quorum_core::{Committee, Sealer};
 use std::alloc::Global;
 use std::marker::Model;
-use validator_core::{HoldRefusal, Ran, RunRefusal, StartRefusal, Validator, VoteRefusal, Voted};
+use validator_core::{
+    CloseRefusal, HoldRefusal, Ran, RunRefusal, SeeRefusal, Seen, StartRefusal, Validator, VoteRefusal,
+    Voted,
+};
 use wire_bcs::{OutOfMemory, Seq};
 use world_names::HeldDigests;
 
@@ -235,6 +239,56 @@ impl Seats {
         ensures fault { IsErrOf result faults.KeepFault → Rose (D.failed keeper.old) (D.failed keeper.new) }
     {
         self.call(alloc, keeper, sealer, member, &RunRequest)
+    }
+
+    /// Hands a member the entry of this number of its sequence (Sui Lutris). Replies and refusals are those of
+    /// [`Seats::vote`].
+    #[tactic(auto, using(crate::proofs::Calling::on_ok, crate::proofs::Calling::on_err))]
+    pub fn see<D: Keeper, S: Sealer>(
+        &mut self,
+        alloc: Global,
+        keeper: &mut D,
+        sealer: &S,
+        member: u32,
+        number: u64,
+        bytes: &[u8],
+    ) -> Result<Reply<Result<Seen, SeeRefusal>>, SeatFault>
+        requires known { length self.old.posts ≤ D.width keeper.old }
+        ensures answer { IfOk result (Replies (SaysSee (rules_for self.old.terms (S.accepts sealer.now)) number bytes.now) (reached_in (rules_for self.old.terms (S.accepts sealer.now)) self.old.posts member (sees number bytes.now))) }
+        ensures posts { OnOk result (self.new.posts ≡ posts_behind (rules_for self.old.terms (S.accepts sealer.now)) self.old.posts member (sees number bytes.now)) }
+        ensures fallen { OnErr result (self.new.posts ≡ fallen_at self.old.posts member) }
+        ensures terms { self.new.terms ≡ self.old.terms }
+        ensures count { length self.new.posts ≡ length self.old.posts }
+        ensures kept { Leaves (D.lists keeper.old) (D.lists keeper.new) member (record_left (reached_in (rules_for self.old.terms (S.accepts sealer.now)) self.old.posts member (sees number bytes.now))) result }
+        ensures width { D.width keeper.new ≡ D.width keeper.old }
+        ensures later { D.failed keeper.old ≤ D.failed keeper.new }
+        ensures fault { IsErrOf result faults.KeepFault → Rose (D.failed keeper.old) (D.failed keeper.new) }
+    {
+        self.call(alloc, keeper, sealer, member, &SeeRequest { number, bytes })
+    }
+
+    /// Closes the epoch of a member (epoch change of Sui Lutris). The seals play no part in it. Replies and refusals are
+    /// those of [`Seats::vote`].
+    #[tactic(auto, using(crate::proofs::Calling::on_ok, crate::proofs::Calling::on_err))]
+    pub fn close<D: Keeper, S: Sealer>(
+        &mut self,
+        alloc: Global,
+        keeper: &mut D,
+        sealer: &S,
+        member: u32,
+    ) -> Result<Reply<Result<bool, CloseRefusal>>, SeatFault>
+        requires known { length self.old.posts ≤ D.width keeper.old }
+        ensures answer { IfOk result (Replies (SaysClose (rules_for self.old.terms (S.accepts sealer.now))) (reached_in (rules_for self.old.terms (S.accepts sealer.now)) self.old.posts member closes)) }
+        ensures posts { OnOk result (self.new.posts ≡ posts_behind (rules_for self.old.terms (S.accepts sealer.now)) self.old.posts member closes) }
+        ensures fallen { OnErr result (self.new.posts ≡ fallen_at self.old.posts member) }
+        ensures terms { self.new.terms ≡ self.old.terms }
+        ensures count { length self.new.posts ≡ length self.old.posts }
+        ensures kept { Leaves (D.lists keeper.old) (D.lists keeper.new) member (record_left (reached_in (rules_for self.old.terms (S.accepts sealer.now)) self.old.posts member closes)) result }
+        ensures width { D.width keeper.new ≡ D.width keeper.old }
+        ensures later { D.failed keeper.old ≤ D.failed keeper.new }
+        ensures fault { IsErrOf result faults.KeepFault → Rose (D.failed keeper.old) (D.failed keeper.new) }
+    {
+        self.call(alloc, keeper, sealer, member, &CloseRequest)
     }
 
     /// Starts a member from the records that its keeper has, in an epoch 0 that opens with these objects, and

@@ -2,3 +2,5 @@ pub mod Places
 pub mod Books
 pub mod Spelled
 pub mod SaidWorlds
+pub mod EntryTexts
+pub mod Ordering

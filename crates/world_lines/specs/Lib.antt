@@ -3,3 +3,4 @@ pub mod Places
 pub mod Rows
 pub mod SaidVotes
 pub mod Forming
+pub mod Orders

@@ -11,10 +11,13 @@
 
 mod certs;
 mod collecting;
+mod entries;
+mod epochs;
 mod formed;
 mod forming;
 mod holds;
 mod lines_law;
+mod order;
 mod runs;
 mod said;
 mod said_law;
@@ -23,10 +26,13 @@ mod votes;
 mod words;
 
 pub use certs::{Collected, cert_text};
+pub use entries::{add_entry_lines, what_text};
+pub use epochs::close_text;
 pub use formed::CertBook;
 pub use forming::certificate;
 pub use holds::hold_text;
 pub use lines_law::lines_in_a_world;
+pub use order::OrderBook;
 pub use runs::{checkpoint_line, effects_line, left_line, run_lines};
 pub use said::SaidBook;
 pub use said_law::said_in_a_world;

@@ -116,7 +116,7 @@ fn add_left(directory: &Directory, lines: &mut Seq<Line>, left: &[Left]) -> Resu
 }
 
 /// Adds the lines of checkpoints.
-fn add_checkpoints(
+pub(crate) fn add_checkpoints(
     directory: &Directory,
     lines: &mut Seq<Line>,
     built: &[Checkpoint],

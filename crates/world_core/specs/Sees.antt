@@ -1,0 +1,38 @@
+-- What is said of entries, by what is known under names; what a line that hands in several has done so far.
+use Rattle.std.specs.Prelude.{◌≡◌, ℕ, false, List, [], ◌∷◌, ◌++◌, length, Option, Result, Ok, Err}
+use Rattle.journal_core.specs.declared.records.Record.{Record}
+use Rattle.outside.specs.Lists.{Journals}
+use Rattle.protocol_spec.specs.Chain.Certificates.{Rules}
+use Rattle.protocol_spec.specs.Member.Calls.{see_answer}
+use Rattle.report_text.specs.declared.lines.Line.{Line}
+use Rattle.report_text.specs.declared.lines.Line.TheVariants as line
+use Rattle.report_text.specs.declared.lines.SeeText.TheVariants as see_text
+use Rattle.report_text.specs.declared.lines.EntryText.TheVariants as entry_text
+use Rattle.world_spec.specs.Setting.{Trust}
+use Rattle.world_spec.specs.World.{Reached, finds_down, stops, answers}
+use Rattle.world_spec.specs.Report.{Lines, entry_lines}
+use Rattle.scene_spec.specs.Known.{Known, setting_staked, world_with}
+use Rattle.scene_spec.specs.Posts.{AddsAll, AddsFront}
+use Rattle.scene_spec.specs.Scene.{Scene, rules_in}
+use Rattle.scene_spec.specs.Steps.{entries_lines_in, sees_left, sees_to}
+
+abbrev pub see_lines_by : Known → Rules → ℕ → ℕ → List ℕ → Reached → Lines
+see_lines_by k r m number bytes finds_down = (line.See m see_text.Down ∷ [], false)
+see_lines_by k r m number bytes (stops kept x) = (line.SeeEntry m number entry_text.Stopped ∷ [], false)
+see_lines_by k r m number bytes (answers before x) = entry_lines (setting_staked r.stakes k) (world_with k) m number (see_answer r before number bytes)
+
+-- Ok: these records were added; else the first of them
+abbrev pub LeavesAll : {A E : Type 0} → Option Journals → Option Journals → ℕ → List Record → Result A E → Type 0
+LeavesAll before now m records (Ok a) = AddsAll before now m records
+LeavesAll before now m records (Err e) = AddsFront before now m records
+
+-- so many entries are left of those that a member was to be handed: what is still to come of them is what is still to come
+-- of the whole, behind the lines and records so far
+pub record HasSeen (trust : Trust) (m n : ℕ) (old now : Scene) (before told : Option Journals) (lines so_far : List Line) (still : ℕ) : Type 0 where
+  pub scene : sees_to (rules_in trust.accepts old) still now m ≡ sees_to (rules_in trust.accepts old) n old m
+  pub lines : so_far ++ entries_lines_in trust still now m ≡ lines ++ entries_lines_in trust n old m
+  pub done : List Record
+  pub records : sees_left (rules_in trust.accepts old) n old m ≡ done ++ sees_left (rules_in trust.accepts old) still now m
+  pub adds : AddsAll before told m done
+  pub rules : now.terms ≡ old.terms
+  pub many : length now.posts ≡ length old.posts

@@ -1,0 +1,137 @@
+//! Requests to a member that is up: entries of its sequence, and the close of its epoch.
+
+ghost use Rattle.std.specs.Prelude.{◌≡◌, ◌<◌, ◌≤◌, IfOk, IsErrOf, OnOk, true};
+ghost use Rattle.outside.specs.Causes.{Rose};
+ghost use Rattle.protocol_spec.specs.Member.Calls.{closes, due, sees};
+ghost use Rattle.scene_spec.specs.Seats.{bare_rules, rules_of_seat};
+ghost use Rattle.scene_spec.specs.Posts.{seat_behind};
+ghost use Rattle.world_core.specs.declared.reply.SeatFault.TheVariants as faults;
+ghost use Rattle.world_core.specs.Replies.{Leaves, SaysClose, SaysSee, close_fault, see_fault};
+
+use crate::reply::SeatFault;
+use crate::requests::Asks;
+use outside::Keeper;
+use quorum_core::Sealer;
+use validator_core::{CloseRefusal, SeeRefusal, Seen, Validator};
+
+/// The entry of this number of the member's sequence, spelled.
+#[derive(Clone, Copy)]
+pub(crate) struct SeeRequest<'a> {
+    pub(crate) number: u64,
+    pub(crate) bytes: &'a [u8],
+}
+
+impl Asks for SeeRequest<'_> {
+    type Answer = Result<Seen, SeeRefusal>;
+
+    ghost call = { λ q. sees q.number q.bytes.now };
+
+    ghost says = { λ q r _ _ before given. SaysSee r q.number q.bytes.now before given };
+
+    fn ask<D: Keeper, S: Sealer>(
+        &self,
+        validator: &mut Validator,
+        keeper: &mut D,
+        sealer: &S,
+    ) -> Result<Result<Seen, SeeRefusal>, SeatFault> {
+        ask_see(validator, keeper, sealer, self.number, self.bytes)
+    }
+}
+
+/// The fault behind an answer; none where it is one.
+fn see_fault(answer: &Result<Seen, SeeRefusal>) -> Option<SeatFault>
+    ensures { result ≡ see_fault answer.now }
+{
+    match answer {
+        Err(SeeRefusal::KeepFault) => Some(SeatFault::KeepFault),
+        Err(SeeRefusal::OutOfMemory) => Some(SeatFault::OutOfMemory),
+        Ok(_) => None,
+        Err(
+            SeeRefusal::Down
+            | SeeRefusal::Halted { .. }
+            | SeeRefusal::Full
+            | SeeRefusal::Over
+            | SeeRefusal::Gap { .. }
+            | SeeRefusal::Fork { .. },
+        ) => None,
+    }
+}
+
+/// Hands an entry to a member that is up.
+fn ask_see<D: Keeper, S: Sealer>(
+    validator: &mut Validator,
+    keeper: &mut D,
+    sealer: &S,
+    number: u64,
+    bytes: &[u8],
+) -> Result<Result<Seen, SeeRefusal>, SeatFault>
+    requires known { validator.old.member < D.width keeper.old }
+    requires up { validator.old.up ≡ true }
+    ensures answer { IfOk result (SaysSee (rules_of_seat validator.old (S.accepts sealer.now)) number bytes.now validator.old.state) }
+    ensures state { OnOk result (validator.new ≡ seat_behind (rules_of_seat validator.old (S.accepts sealer.now)) (sees number bytes.now) validator.old) }
+    ensures kept { Leaves (D.lists keeper.old) (D.lists keeper.new) validator.old.member (due (rules_of_seat validator.old (S.accepts sealer.now)) validator.old.state (sees number bytes.now)) result }
+    ensures width { D.width keeper.new ≡ D.width keeper.old }
+    ensures later { D.failed keeper.old ≤ D.failed keeper.new }
+    ensures fault { IsErrOf result faults.KeepFault → Rose (D.failed keeper.old) (D.failed keeper.new) }
+{
+    let answer = validator.see(keeper, sealer, number, bytes);
+    match see_fault(&answer) {
+        Some(fault) => Err(fault),
+        None => Ok(answer),
+    }
+}
+
+/// A request to close the member's epoch.
+#[derive(Clone, Copy)]
+pub(crate) struct CloseRequest;
+
+#[tactic(auto, using(validator_core::proofs::Running::close_answer_alike, validator_core::proofs::Running::close_due_alike, validator_core::proofs::Running::close_called_alike))]
+impl Asks for CloseRequest {
+    type Answer = Result<bool, CloseRefusal>;
+
+    ghost call = { λ _. closes };
+
+    ghost says = { λ _ r _ _ before given. SaysClose r before given };
+
+    fn ask<D: Keeper, S: Sealer>(
+        &self,
+        validator: &mut Validator,
+        keeper: &mut D,
+        _sealer: &S,
+    ) -> Result<Result<bool, CloseRefusal>, SeatFault> {
+        ask_close(validator, keeper)
+    }
+}
+
+/// The fault behind an answer; none where it is one.
+fn close_fault(answer: &Result<bool, CloseRefusal>) -> Option<SeatFault>
+    ensures { result ≡ close_fault answer.now }
+{
+    match answer {
+        Err(CloseRefusal::KeepFault) => Some(SeatFault::KeepFault),
+        Err(CloseRefusal::OutOfMemory) => Some(SeatFault::OutOfMemory),
+        Ok(_) => None,
+        Err(CloseRefusal::Down | CloseRefusal::Halted { .. } | CloseRefusal::Full) => None,
+    }
+}
+
+/// Closes the epoch of a member that is up.
+fn ask_close<D: Keeper>(
+    validator: &mut Validator,
+    keeper: &mut D,
+) -> Result<Result<bool, CloseRefusal>, SeatFault>
+    requires known { validator.old.member < D.width keeper.old }
+    requires up { validator.old.up ≡ true }
+    ensures answer { IfOk result (SaysClose (bare_rules validator.old) validator.old.state) }
+    ensures state { OnOk result (validator.new ≡ seat_behind (bare_rules validator.old) closes validator.old) }
+    ensures kept { Leaves (D.lists keeper.old) (D.lists keeper.new) validator.old.member (due (bare_rules validator.old) validator.old.state closes) result }
+    ensures width { D.width keeper.new ≡ D.width keeper.old }
+    ensures later { D.failed keeper.old ≤ D.failed keeper.new }
+    ensures fault { IsErrOf result faults.KeepFault → Rose (D.failed keeper.old) (D.failed keeper.new) }
+{
+    let answer = validator.close(keeper);
+    match close_fault(&answer) {
+        Some(fault) => Err(fault),
+        None => Ok(answer),
+    }
+}

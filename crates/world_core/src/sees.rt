@@ -1,0 +1,266 @@
+//! The line that hands a member entries of its sequence.
+
+ghost use Rattle.std.specs.Prelude.{◌≡◌, ◌≤◌, ◌∷◌, ◌++◌, [], IfOk, IsErrOf, OnOk, length, map, option_map, slice_get};
+ghost use Rattle.answer_types.specs.declared.answers.Seen.{Seen as S};
+ghost use Rattle.outside.specs.Causes.{Rose};
+ghost use Rattle.protocol_spec.specs.Member.Calls.{sees};
+ghost use Rattle.report_text.specs.declared.lines.Line.TheVariants as line;
+ghost use Rattle.schedule_text.specs.declared.words.Event.TheVariants as events;
+ghost use Rattle.scene_spec.specs.Known.{setting_staked, world_with};
+ghost use Rattle.scene_spec.specs.Posts.{posts_behind, reached_in, record_left, stated_in};
+ghost use Rattle.scene_spec.specs.Scene.{rules_in};
+ghost use Rattle.scene_spec.specs.Steps.{call_lines_in, called_if, lines_in, next_on, steps_to, work_of};
+ghost use Rattle.scene_spec.specs.Terms.{rules_for};
+ghost use Rattle.world_core.specs.declared.reply.SeatFault.TheVariants as fault;
+ghost use Rattle.world_core.specs.Kept.{LeavesAs};
+ghost use Rattle.world_core.specs.Replies.{Leaves};
+ghost use Rattle.world_core.specs.Sees.{LeavesNext, see_lines_by, standing_of};
+ghost use Rattle.world_core.specs.Trusts.{trust_by};
+ghost use Rattle.world_spec.specs.Report.{entry_lines};
+ghost use Rattle.world_spec.specs.World.{built_statements, said_by};
+
+use crate::calls::{say_built, told};
+use crate::world::World;
+use crate::{Reply, SeatFault, Seats};
+use answer_types::{SeeRefusal, Seen};
+use outside::Keeper;
+use quorum_core::{Committee, Sealer};
+use report_text::{EntryText, Line, SeeText};
+use wire_bcs::{OutOfMemory, Seq};
+use world_lines::{SaidBook, add_entry_lines};
+use world_names::{Directory, MakesSeals};
+
+/// Adds the lines for a member's answer to an entry, and tells whether the line goes on behind it; the checkpoints that
+/// the entry completed are stated.
+fn tell_entry(
+    directory: &Directory,
+    committee: &Committee,
+    said: &mut SaidBook,
+    lines: &mut Seq<Line>,
+    member: u32,
+    number: u64,
+    answer: &Result<Seen, SeeRefusal>,
+) -> Result<bool, OutOfMemory>
+    ensures lines { OnOk result (lines.new ≡ lines.old ++ (entry_lines (setting_staked committee.now directory.now) (world_with directory.now) member number answer.now).0) }
+    ensures goes { IfOk result (λ goes. goes ≡ (entry_lines (setting_staked committee.now directory.now) (world_with directory.now) member number answer.now).1) }
+    ensures said { OnOk result (said.new ≡ said.old ++ map (said_by member) (built_statements answer.now)) }
+{
+    let goes = add_entry_lines(directory, committee, lines, member, number, answer)?;
+    if let Ok(seen) = answer {
+        say_built(directory.allocator(), said, member, seen.built.as_slice())?;
+    }
+    Ok(goes)
+}
+
+/// Adds a line behind which nothing goes on.
+fn add_last(lines: &mut Seq<Line>, line: Line) -> Result<bool, SeatFault>
+    ensures lines { OnOk result (lines.new ≡ lines.old ++ line ∷ []) }
+    ensures goes { IfOk result (λ goes. goes ≡ false) }
+    ensures fault { IsErrOf result fault.KeepFault → ⊥ }
+{
+    match lines.push(line) {
+        Ok(()) => Ok(false),
+        Err(OutOfMemory) => Err(SeatFault::OutOfMemory),
+    }
+}
+
+/// Hands a member the entry of this number, adds its lines, and tells whether the line goes on behind it.
+fn see<D: Keeper, S: Sealer>(
+    seats: &mut Seats,
+    said: &mut SaidBook,
+    directory: &Directory,
+    keeper: &mut D,
+    sealer: &S,
+    lines: &mut Seq<Line>,
+    member: u32,
+    number: u64,
+    bytes: &[u8],
+) -> Result<bool, SeatFault>
+    requires known { length seats.old.posts ≤ D.width keeper.old }
+    ensures lines { OnOk result (lines.new ≡ lines.old ++ (see_lines_by directory.now (rules_for seats.old.terms (S.accepts sealer.now)) member number bytes.now (reached_in (rules_for seats.old.terms (S.accepts sealer.now)) seats.old.posts member (sees number bytes.now))).0) }
+    ensures goes { IfOk result (λ goes. goes ≡ (see_lines_by directory.now (rules_for seats.old.terms (S.accepts sealer.now)) member number bytes.now (reached_in (rules_for seats.old.terms (S.accepts sealer.now)) seats.old.posts member (sees number bytes.now))).1) }
+    ensures said { OnOk result (said.new ≡ said.old ++ map (said_by member) (stated_in (rules_for seats.old.terms (S.accepts sealer.now)) (sees number bytes.now) (reached_in (rules_for seats.old.terms (S.accepts sealer.now)) seats.old.posts member (sees number bytes.now)))) }
+    ensures posts { OnOk result (seats.new.posts ≡ posts_behind (rules_for seats.old.terms (S.accepts sealer.now)) seats.old.posts member (sees number bytes.now)) }
+    ensures terms { seats.new.terms ≡ seats.old.terms }
+    ensures kept { Leaves (D.lists keeper.old) (D.lists keeper.new) member (record_left (reached_in (rules_for seats.old.terms (S.accepts sealer.now)) seats.old.posts member (sees number bytes.now))) result }
+    ensures width { D.width keeper.new ≡ D.width keeper.old }
+    ensures later { D.failed keeper.old ≤ D.failed keeper.new }
+    ensures fault { IsErrOf result fault.KeepFault → Rose (D.failed keeper.old) (D.failed keeper.new) }
+{
+    let alloc = directory.allocator();
+    let reply = match seats.see(alloc, keeper, sealer, member, number, bytes) {
+        Ok(reply) => reply,
+        Err(fault) => return Err(fault),
+    };
+    match reply {
+        Reply::Down => add_last(
+            lines,
+            Line::See {
+                member: member as u64,
+                text: SeeText::Down,
+            },
+        ),
+        Reply::Stopped => add_last(
+            lines,
+            Line::SeeEntry {
+                member: member as u64,
+                entry: number,
+                text: EntryText::Stopped,
+            },
+        ),
+        Reply::Answered(answer) => {
+            let committee = seats.committee();
+            match tell_entry(directory, committee, said, lines, member, number, &answer) {
+                Ok(goes) => Ok(goes),
+                Err(OutOfMemory) => Err(SeatFault::OutOfMemory),
+            }
+        }
+    }
+}
+
+impl World {
+    /// Hands a member its next entry, where it is up and there is one: adds its lines, and tells whether the line goes
+    /// on behind it.
+    #[tactic(auto, using(crate::proofs::Seeing::next_down, crate::proofs::Seeing::next_ended, crate::proofs::Seeing::next_none, crate::proofs::Seeing::next_some))]
+    fn see_next<D: Keeper, S: MakesSeals>(
+        &mut self,
+        keeper: &mut D,
+        sealer: &S,
+        lines: &mut Seq<Line>,
+        member: u32,
+    ) -> Result<bool, SeatFault>
+        requires room { length self.old.posts ≤ D.width keeper.old }
+        ensures world { OnOk result (self.new ≡ called_if (rules_in (S.accepts sealer.now) self.old) self.old member (next_on self.old member)) }
+        ensures lines { OnOk result (lines.new ≡ lines.old ++ (call_lines_in (trust_by (S.made sealer.now) (S.accepts sealer.now)) self.old member (next_on self.old member)).0) }
+        ensures goes { IfOk result (λ goes. goes ≡ (call_lines_in (trust_by (S.made sealer.now) (S.accepts sealer.now)) self.old member (next_on self.old member)).1) }
+        ensures kept { LeavesAll (D.lists keeper.old) (D.lists keeper.new) member (left_if (rules_in (S.accepts sealer.now) self.old) self.old member (next_on self.old member)) result }
+        ensures width { D.width keeper.new ≡ D.width keeper.old }
+        ensures later { D.failed keeper.old ≤ D.failed keeper.new }
+        ensures fault { IsErrOf result fault.KeepFault → Rose (D.failed keeper.old) (D.failed keeper.new) }
+    {
+        let Some(validator) = self.seats.standing(member) else {
+            return Ok(false);
+        };
+        if validator.has_ended() {
+            return Ok(false);
+        }
+        let number = validator.seen();
+        let Some(bytes) = self.order.bytes(validator.epoch(), number) else {
+            return Ok(false);
+        };
+        see(
+            &mut self.seats,
+            &mut self.said,
+            &self.directory,
+            keeper,
+            sealer,
+            lines,
+            member,
+            number,
+            bytes.as_slice(),
+        )
+    }
+
+    /// Hands a member so many entries, one after the other, up to the first behind which nothing goes on: adds their
+    /// lines.
+    #[tactic(auto, using(crate::proofs::Seeing::seen_none, crate::proofs::Seeing::seen_one, crate::proofs::Seeing::seen_all, crate::proofs::Seeing::seen_last, crate::proofs::Seeing::seen_cut))]
+    fn see_all<D: Keeper, S: MakesSeals>(
+        &mut self,
+        keeper: &mut D,
+        sealer: &S,
+        lines: &mut Seq<Line>,
+        member: u32,
+        count: u64,
+    ) -> Result<(), SeatFault>
+        requires room { length self.old.posts ≤ D.width keeper.old }
+        ensures world { OnOk result (self.new ≡ sees_to (rules_in (S.accepts sealer.now) self.old) count self.old member) }
+        ensures lines { OnOk result (lines.new ≡ lines.old ++ entries_lines_in (trust_by (S.made sealer.now) (S.accepts sealer.now)) count self.old member) }
+        ensures kept { LeavesAll (D.lists keeper.old) (D.lists keeper.new) member (sees_left (rules_in (S.accepts sealer.now) self.old) count self.old member) result }
+        ensures width { D.width keeper.new ≡ D.width keeper.old }
+        ensures later { D.failed keeper.old ≤ D.failed keeper.new }
+        ensures fault { IsErrOf result fault.KeepFault → Rose (D.failed keeper.old) (D.failed keeper.new) }
+    {
+        let mut left = count;
+        while left > 0 {
+            let goes = match self.see_next(keeper, sealer, lines, member) {
+                Ok(goes) => goes,
+                Err(fault) => return Err(fault),
+            };
+            if !goes {
+                return Ok(());
+            }
+            left -= 1;
+        }
+        Ok(())
+    }
+
+    /// The line of a member that is halted, and is handed nothing.
+    fn see_halted(
+        &self,
+        member: u32,
+        first: &Digest,
+        second: &Digest,
+    ) -> Result<Seq<Line>, OutOfMemory>
+        ensures { IfOk result (λ lines. lines ≡ line.See member (see_text.Halted (tx_name (world_with self.now.known) first.now) (tx_name (world_with self.now.known) second.now)) ∷ []) }
+    {
+        let text = SeeText::Halted {
+            first: tx_text(&self.directory, first)?,
+            second: tx_text(&self.directory, second)?,
+        };
+        one_line(
+            self.alloc,
+            Line::See {
+                member: member as u64,
+                text,
+            },
+        )
+    }
+
+    /// How many entries a member has before it.
+    fn entries_left(&self, validator: &Validator) -> u64
+        ensures { result ≡ entries_left (bare_world self.now) (Some validator.now.state) }
+    {
+        self.order
+            .count(validator.epoch())
+            .saturating_sub(validator.seen())
+    }
+
+    /// The line `see`: hands a member the next entries of its sequence, so many at most.
+    #[tactic(auto, unfolding(scene_spec::specs::Steps::steps_to, scene_spec::specs::Steps::lines_in, scene_spec::specs::Steps::work_of), using(crate::proofs::Seeing::see_down_world, crate::proofs::Seeing::see_halted_world, crate::proofs::Seeing::see_some_world))]
+    pub(crate) fn see<D: Keeper, S: MakesSeals>(
+        &mut self,
+        keeper: &mut D,
+        sealer: &S,
+        member: u32,
+        entries: u32,
+    ) -> Result<Seq<Line>, SeatFault>
+        requires room { length self.old.posts ≤ D.width keeper.old }
+        ensures world { OnOk result (self.new ≡ steps_to (trust_by (S.made sealer.now) (S.accepts sealer.now)) self.old (events.See member entries)) }
+        ensures lines { IfOk result (λ lines. lines ≡ lines_in (trust_by (S.made sealer.now) (S.accepts sealer.now)) self.old (events.See member entries)) }
+        ensures kept { LeavesAs (rules_in (S.accepts sealer.now) self.old) self.old (work_of self.old (events.See member entries)) (D.lists keeper.old) (D.lists keeper.new) result }
+        ensures width { D.width keeper.new ≡ D.width keeper.old }
+        ensures later { D.failed keeper.old ≤ D.failed keeper.new }
+        ensures fault { IsErrOf result fault.KeepFault → Rose (D.failed keeper.old) (D.failed keeper.new) }
+    {
+        let alloc = self.alloc;
+        let Some(validator) = self.seats.standing(member) else {
+            return see_line(alloc, member, SeeText::Down);
+        };
+        if let Some((first, second)) = validator.fork() {
+            return match self.see_halted(member, &first, &second) {
+                Ok(lines) => Ok(lines),
+                Err(OutOfMemory) => Err(SeatFault::OutOfMemory),
+            };
+        }
+        let count = self.entries_left(validator).min(entries as u64);
+        let mut lines = Seq::new(alloc);
+        match self.see_all(keeper, sealer, &mut lines, member, count) {
+            Ok(()) => {}
+            Err(fault) => return Err(fault),
+        }
+        if lines.is_empty() {
+            return see_line(alloc, member, SeeText::Nothing);
+        }
+        Ok(lines)
+    }
+}

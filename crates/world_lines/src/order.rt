@@ -1,0 +1,147 @@
+//! The book of sequences.
+
+ghost use Rattle.std.specs.Prelude.{◌≡◌, IfOk, OnErr, OnOk, length, option_copied, option_map, slice_get};
+ghost use Rattle.chain_messages.specs.Messages as codecs;
+ghost use Rattle.scene_spec.specs.Worlds.{AreKeepable};
+ghost use Rattle.world_spec.specs.World.{entries_at};
+ghost use Rattle.world_lines.specs.Orders.{AreSpelled, IsSpelled, entries_of, no_orders, open_in, row_entry, spelled_entry, with_entry};
+
+use chain_messages::{Entry, encode_entry};
+use std::alloc::Global;
+use std::marker::Model;
+use std::snapshot::Snapshot;
+use wire_bcs::{OutOfMemory, Seq};
+
+/// The bytes of an entry that no record can keep, and more.
+const TOO_LONG: u64 = 1 << 31;
+
+/// An entry of a sequence, spelled once for all members. What it is stands in contracts alone.
+#[derive(Drop)]
+pub(crate) struct OrderedRow {
+    entry: Snapshot<Entry>,
+    bytes: Seq<u8>,
+}
+
+/// An entry, spelled. One of 2^31 bytes, more than any record can keep, is told as want of memory.
+fn spelled(alloc: Global, entry: &Entry) -> Result<OrderedRow, OutOfMemory>
+    requires { codecs.entry.short entry.now }
+    ensures spelled { IfOk result IsSpelled }
+    ensures entry { IfOk result (λ row. row_entry row ≡ entry.now) }
+{
+    let bytes = encode_entry(alloc, entry)?;
+    if bytes.len() >= TOO_LONG {
+        return Err(OutOfMemory);
+    }
+    Ok(OrderedRow {
+        entry: Snapshot::of(entry),
+        bytes,
+    })
+}
+
+/// The bytes of the entry of this number.
+fn bytes_at(rows: &[OrderedRow], number: u64) -> Option<&Seq<u8>>
+    ensures { option_copied result ≡ option_map (λ r. r.bytes) (slice_get rows.now number) }
+{
+    match rows.get(number as usize) {
+        Some(row) => Some(&row.bytes),
+        None => None,
+    }
+}
+
+/// The rows of an epoch before the open one.
+fn past_rows(past: &[Seq<OrderedRow>], epoch: u64) -> Option<&Seq<OrderedRow>>
+    ensures { option_copied result ≡ slice_get past.now epoch }
+{
+    past.get(epoch as usize)
+}
+
+/// The sequences of a run: those of the epochs before, and the open one. Contracts see their entries.
+#[derive(Drop)]
+pub struct OrderBook {
+    past: Seq<Seq<OrderedRow>>,
+    open: Seq<OrderedRow>,
+    alloc: Global,
+}
+
+impl Model for OrderBook {
+    ghost use Rattle.protocol_spec.specs.Chain.Words.{Each};
+    ghost use Rattle.world_lines.specs.Orders.{AreSpelled, Orders, orders_of};
+
+    ghost Value = { Orders };
+
+    ghost view = { λ b. orders_of b.past b.open };
+
+    ghost invariant = { λ b. Each AreSpelled b.past × AreSpelled b.open };
+}
+
+impl OrderBook {
+    /// Nothing ordered, in epoch 0. Takes no memory.
+    pub fn new(alloc: Global) -> OrderBook
+        ensures { result ≡ no_orders }
+    {
+        OrderBook {
+            past: Seq::new(alloc),
+            open: Seq::new(alloc),
+            alloc,
+        }
+    }
+
+    /// The open epoch. Takes no memory.
+    pub fn epoch(&self) -> u64
+        ensures { result ≡ self.now.epoch }
+    {
+        self.past.len()
+    }
+
+    /// How many entries the open epoch has. Takes no memory.
+    #[tactic(auto, using(crate::proofs::Ordering::open_many))]
+    pub fn len(&self) -> u64
+        ensures { result ≡ length (open_in self.now) }
+    {
+        self.open.len()
+    }
+
+    /// Orders an entry at the end of the open epoch's sequence. A refusal changes nothing.
+    #[tactic(auto, using(crate::proofs::Ordering::pushed, crate::proofs::Ordering::spelled_push, crate::proofs::Ordering::keepable_all))]
+    pub fn push(&mut self, entry: &Entry) -> Result<(), OutOfMemory>
+        requires { codecs.entry.short entry.now }
+        ensures ok { OnOk result (self.new ≡ with_entry self.old entry.now) }
+        ensures err { OnErr result (self.new ≡ self.old) }
+        ensures keepable { AreKeepable self.new.sequences }
+    {
+        let row = spelled(self.alloc, entry)?;
+        self.open.push(row)?;
+        Ok(())
+    }
+
+    /// The entries of an epoch; none of one that has not come.
+    #[tactic(auto, using(crate::proofs::Ordering::rows_open, crate::proofs::Ordering::spelled_get))]
+    fn rows(&self, epoch: u64) -> &[OrderedRow]
+        ensures entries { entries_of result.now ≡ entries_at self.now.sequences epoch }
+        ensures spelled { AreSpelled result.now }
+    {
+        if epoch == self.past.len() {
+            return self.open.as_slice();
+        }
+        match past_rows(self.past.as_slice(), epoch) {
+            Some(rows) => rows.as_slice(),
+            None => &[],
+        }
+    }
+
+    /// How many entries an epoch's sequence has; none where the epoch has not come. Takes no memory.
+    #[tactic(auto, using(crate::proofs::Ordering::many_in))]
+    pub fn count(&self, epoch: u64) -> u64
+        ensures { result ≡ length (entries_at self.now.sequences epoch) }
+    {
+        self.rows(epoch).len() as u64
+    }
+
+    /// The bytes of an epoch's entry of this number; none exactly where there is no such entry. Takes no memory.
+    #[tactic(auto, using(crate::proofs::Ordering::bytes_in))]
+    pub fn bytes(&self, epoch: u64, number: u64) -> Option<&Seq<u8>>
+        ensures { option_copied result ≡ option_map spelled_entry (slice_get (entries_at self.now.sequences epoch) number) }
+    {
+        bytes_at(self.rows(epoch), number)
+    }
+}
