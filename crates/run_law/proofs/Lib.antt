@@ -4,7 +4,9 @@ mod Workers
 mod Older
 mod Apart
 pub mod ScenePosts
+pub mod SceneSees
 pub mod SceneSteps
+pub mod SceneGrowth
 pub mod SceneLines
 pub mod SceneRecords
 pub mod SceneCounted

@@ -1,33 +1,41 @@
 -- Told records follow the world.
 use Rattle.std.proofs.Common.{refl, sym, subst, ap, ◌∙◌, append-nil, append_assoc, arith, inl, inr}
-use Rattle.std.specs.Prelude.{◌≡◌, ◌≤◌, ℕ, zero, suc, min, Bool, true, false, cond, length, List, [], ◌∷◌, ◌++◌, map, slice_get, slice_set, Option, Some, None, option_map}
+use Rattle.std.specs.Prelude.{◌≡◌, ◌⊎◌, ◌≤◌, ◌==◌, ℕ, zero, suc, Bool, true, false, cond, length, List, [], ◌∷◌, ◌++◌, map, slice_get, slice_set, Option, Some, None, option_map}
 use Rattle.chain_messages.specs.declared.messages.Certificate.{Certificate}
+use Rattle.chain_messages.specs.declared.messages.Statement.{Statement}
+use Rattle.chain_messages.specs.declared.messages.Statement.TheVariants as statement
 use Rattle.journal_core.specs.declared.records.Record.{Record}
 use Rattle.journal_core.specs.Records as journals
 use Rattle.outside.specs.Lists.{Journals, journal_of, with_record}
 use Rattle.schedule_text.specs.declared.words.Event.{Event}
 use Rattle.schedule_text.specs.declared.words.Event.TheVariants as event
 use Rattle.protocol_spec.specs.Chain.Certificates.{Rules}
-use Rattle.protocol_spec.specs.Member.Calls.{Call, votes, holds, runs, closes, ends, turns, acks}
+use Rattle.protocol_spec.specs.Member.Calls.{Call, acks}
 use Rattle.world_spec.specs.Setting.{Name, Trust, Setting}
 use Rattle.world_spec.specs.World as worlds
-use Rattle.world_spec.specs.World.{Made, World, Reached, finds_down, stops, answers, behind, called_if, called_in, called_seat, is_honest, member_at, new_seat, new_world, next_call, reached, reached_at, reached_seat, sees_on, stopped_seat}
+use Rattle.world_spec.specs.World.{Made, World, Reached, finds_down, stops, answers, appended, behind, called_if, called_in, called_seat, is_honest, new_seat, new_world, next_call, reached, reached_at, reached_seat, sees_on, stopped_seat}
 use Rattle.world_spec.specs.Names.{cert_named, made_named}
 use Rattle.world_spec.specs.Making.{made_by_line}
-use Rattle.world_spec.specs.Step.{Collected, lacks, short, differ, whole, acked, appended_entry, armed_seat, end_in, entries_left, formed, formed_as, fvoted, happens, has_ended, honest_end, last_said, on_seat, ordered, ordered_end, risen_if, sealed_end, sent, started_seat, voted_on, votes_collected}
+use Rattle.world_spec.specs.Step.{Collected, lacks, short, differ, whole, acked, appended_entry, armed_seat, end_in, false_ack, formed, formed_as, fvoted, happens, has_ended, honest_end, last_said, on_seat, ordered, ordered_end, risen_if, says, sealed_end, sent, started_seat, voted_on, votes_collected}
 use Rattle.world_spec.specs.Run.{records_of}
-use Rattle.scene_spec.specs.Terms.{rules_for, terms_of}
-use Rattle.scene_spec.specs.Posts.{AddsLeft, MayAddLeft, reached_in, record_left}
+use Rattle.scene_spec.specs.Posts.{list_of, reached_in, record_left, with_all}
 use Rattle.scene_spec.specs.Scene.{Scene, rules_in}
-use Rattle.scene_spec.specs.Steps.{call_of, call_on, held_call, signed_call}
+use Rattle.scene_spec.specs.Steps as scenes
+use Rattle.scene_spec.specs.Steps.{AddsLine, MayAddLine, Work, idle, asks, hands, ack_work, asked, held_call, left_if, next_on, records_left, sees_left, signed_call, work_of}
 use Rattle.scene_spec.specs.Worlds.{HasRoom, IsFront, Shows, Tells, TellsFront, is_plain, journal_in, posts_from, scene_of, spelled}
 use Rattle.run_law.proofs.ScenePosts.{reached-same}
+use Rattle.run_law.proofs.SceneSees.{IsUp, IsDown, count-same, down-next, down-step, next-same, stands, up-next, up-next-on}
+use Rattle.run_law.proofs.SceneSteps.{bare-honest}
 
 -- ---- lists
 
 pub spelled-push : (records : List Record) (x : Record) → spelled (records ++ x ∷ []) ≡ spelled records ++ journals.journal_record.spell x ∷ []
 spelled-push [] x = refl
 spelled-push (y ∷ records) x = ap (λ (rest : List (List ℕ)). journals.journal_record.spell y ∷ rest) (spelled-push records x)
+
+-- the same records in the two worlds
+abbrev KeepsRecords : World → World → Type 0
+KeepsRecords w next = (k : ℕ) → records_of (slice_get next.seats k) ≡ records_of (slice_get w.seats k)
 
 -- a seat with the same records
 same-records : (seats : List worlds.Seat) (m : ℕ) (seat other : worlds.Seat) → slice_get seats m ≡ Some seat → other.records ≡ seat.records
@@ -49,162 +57,231 @@ tells-set (x ∷ xs) (l ∷ ls) zero seat other kept room at tells is (suc k) = 
 tells-set (x ∷ xs) (l ∷ ls) (suc m) seat other kept room at tells is zero = tells zero
 tells-set (x ∷ xs) (l ∷ ls) (suc m) seat other kept room at tells is (suc k) = tells-set xs ls m seat other kept (omega (arith, room)) at (λ j. tells (suc j)) is k
 
+length-set : {A : Type 0} (xs : List A) (m : ℕ) (x : A) → length (slice_set xs m x) ≡ length xs
+length-set [] m x = refl
+length-set (y ∷ ys) zero x = refl
+length-set (y ∷ ys) (suc m) x = ap (λ (n : ℕ). suc n) (length-set ys m x)
+
+-- told lists with more records stay as many
+all-many : (lists : Journals) (m : ℕ) (records : List Record) → length (with_all lists m records) ≡ length lists
+all-many lists m [] = refl
+all-many lists m (x ∷ records) = all-many (with_record lists m (journals.journal_record.spell x)) m records ∙ length-set lists m (journal_of lists m ++ journals.journal_record.spell x ∷ [])
+
+all-then : (lists : Journals) (m : ℕ) (xs ys : List Record) → with_all lists m (xs ++ ys) ≡ with_all (with_all lists m xs) m ys
+all-then lists m [] ys = refl
+all-then lists m (x ∷ xs) ys = all-then (with_record lists m (journals.journal_record.spell x)) m xs ys
+
 -- ---- one call
 
-module _ (s : Setting) (w : World) (m : ℕ) (call : Call) (lists : Journals) (now : Option Journals) (room : length w.seats ≤ length lists) (tells : Tells (Some lists) w) where
-  tells-same : (next : World) → now ≡ Some lists → ((k : ℕ) → records_of (slice_get next.seats k) ≡ records_of (slice_get w.seats k)) → Tells now next
-  tells-same next is same = subst (λ (told : Option Journals). Tells told next) (sym is) (λ k. tells k ∙ ap (λ (records : List Record). spelled records) (sym (same k)))
+module _ (s : Setting) (w : World) (m : ℕ) (call : Call) (lists : Journals) (room : length w.seats ≤ length lists) (tells : Tells (Some lists) w) where
+  tells-same : (next : World) → KeepsRecords w next → Tells (Some lists) next
+  tells-same next same k = tells k ∙ ap (λ (records : List Record). spelled records) (sym (same k))
 
   tells-more : (seat other : worlds.Seat) (x : Record) (next : World) → slice_get w.seats m ≡ Some seat → next.seats ≡ slice_set w.seats m other → other.records ≡ seat.records ++ x ∷ []
-      → now ≡ Some (with_record lists m (journals.journal_record.spell x)) → Tells now next
-  tells-more seat other x next at seats more is =
+      → Tells (Some (with_record lists m (journals.journal_record.spell x))) next
+  tells-more seat other x next at seats more =
       let old : journal_of lists m ≡ spelled seat.records = tells m ∙ ap (λ (o : Option worlds.Seat). spelled (records_of o)) at in
       let new : journal_of lists m ++ journals.journal_record.spell x ∷ [] ≡ spelled other.records =
       ap (λ (kept : List (List ℕ)). kept ++ journals.journal_record.spell x ∷ []) old
       ∙ sym (spelled-push seat.records x)
       ∙ ap (λ (records : List Record). spelled records) (sym more) in
-      subst (λ (told : Option Journals). Tells told next) (sym is)
-      (λ k. tells-set w.seats lists m seat other (journal_of lists m ++ journals.journal_record.spell x ∷ []) room at tells new k ∙ ap (λ (all : List worlds.Seat). spelled (records_of (slice_get all k))) (sym seats))
+      λ k. tells-set w.seats lists m seat other (journal_of lists m ++ journals.journal_record.spell x ∷ []) room at tells new k ∙ ap (λ (all : List worlds.Seat). spelled (records_of (slice_get all k))) (sym seats)
 
-  tells-behind : (seat : worlds.Seat) (r : Reached) → slice_get w.seats m ≡ Some seat → AddsLeft (Some lists) now m (record_left r) → Tells now (behind s w m call seat r)
-  tells-behind seat finds_down at adds = tells-same w adds (λ k. refl)
-  tells-behind seat (stops true x) at adds = tells-more seat (stopped_seat seat true x) x (behind s w m call seat (stops true x)) at refl refl adds
-  tells-behind seat (stops false x) at adds = tells-same (behind s w m call seat (stops false x)) adds (same-records w.seats m seat (stopped_seat seat false x) at refl)
-  tells-behind seat (answers before None) at adds = tells-same (behind s w m call seat (answers before None)) adds (same-records w.seats m seat (record seat { records = seat.records }) at refl)
-  tells-behind seat (answers before (Some x)) at adds = tells-more seat (record seat { records = seat.records ++ x ∷ [] }) x (behind s w m call seat (answers before (Some x))) at refl refl adds
+  -- the lists with what a call left
+  abbrev LeftBy : Reached → World → Type 0
+  LeftBy r next = Tells (Some (with_all lists m (list_of (record_left r)))) next
 
-  tells-seat : (seat : Option worlds.Seat) → slice_get w.seats m ≡ seat → AddsLeft (Some lists) now m (record_left (reached_at s call seat)) → Tells now (called_seat s w m call seat)
-  tells-seat None at adds = tells-same w adds (λ k. refl)
-  tells-seat (Some seat) at adds = tells-behind seat (reached_seat s call seat) at adds
+  tells-behind : (seat : worlds.Seat) (r : Reached) → slice_get w.seats m ≡ Some seat → LeftBy r (behind s w m call seat r)
+  tells-behind seat finds_down at = tells
+  tells-behind seat (stops true x) at = tells-more seat (stopped_seat seat true x) x (behind s w m call seat (stops true x)) at refl refl
+  tells-behind seat (stops false x) at = tells-same (behind s w m call seat (stops false x)) (same-records w.seats m seat (stopped_seat seat false x) at refl)
+  tells-behind seat (answers before None) at = tells-same (behind s w m call seat (answers before None)) (same-records w.seats m seat (record seat { records = seat.records }) at refl)
+  tells-behind seat (answers before (Some x)) at = tells-more seat (record seat { records = seat.records ++ x ∷ [] }) x (behind s w m call seat (answers before (Some x))) at refl refl
 
-  tells-called : AddsLeft (Some lists) now m (record_left (reached s w m call)) → Tells now (called_in s w m call)
+  tells-seat : (seat : Option worlds.Seat) → slice_get w.seats m ≡ seat → LeftBy (reached_at s call seat) (called_seat s w m call seat)
+  tells-seat None at = tells
+  tells-seat (Some seat) at = tells-behind seat (reached_seat s call seat) at
+
+  tells-reached : LeftBy (reached s w m call) (called_in s w m call)
   unfolding called_in reached
-  tells-called adds = tells-seat (slice_get w.seats m) refl adds
+  tells-reached = tells-seat (slice_get w.seats m) refl
 
-same-call : (x y : ℕ × Call) → Some x ≡ Some y → x ≡ y
-same-call x y e = cc
+  -- what a call leaves in the scene is what it leaves in the world
+  tells-called : LeftBy (reached_in s.rules (posts_from s 0 w.seats) m call) (called_in s w m call)
+  tells-called = subst (λ (r : Reached). LeftBy r (called_in s w m call)) (sym (reached-same s w m call)) tells-reached
 
--- the line of a call is the call
-made-call : (t : Option Made) (m n : ℕ) (call : Call) (s : Setting) (w : World) → call_on n (option_map signed_call t) ≡ Some (m, call) → voted_on s w n t ≡ called_in s w m call
-made-call None m n call s w e = absurd (cc)
-made-call (Some t) m n call s w e = ap (λ (c : ℕ × Call). called_in s w c.0 c.1) (same-call (n, signed_call t) (m, call) e)
+-- ---- the entries that a member takes
 
-cert-call : (c : Option Certificate) (m n : ℕ) (call : Call) (s : Setting) (w : World) → call_on n (option_map held_call c) ≡ Some (m, call) → sent s w n c ≡ called_in s w m call
-cert-call None m n call s w e = absurd (cc)
-cert-call (Some c) m n call s w e = ap (λ (x : ℕ × Call). called_in s w x.0 x.1) (same-call (n, held_call c) (m, call) e)
+module _ (s : Setting) where
+  left-many : (w : World) (m : ℕ) (call : Call) (seat : worlds.Seat) (r : Reached) → length (behind s w m call seat r).seats ≡ length w.seats
+  left-many w m call seat finds_down = refl
+  left-many w m call seat (stops kept x) = length-set w.seats m (stopped_seat seat kept x)
+  left-many w m call seat (answers before x) = length-set w.seats m (record seat { records = appended seat.records x })
 
-line-call : (s : Setting) (w : World) (e : Event) (m : ℕ) (call : Call) → is_plain e ≡ true → call_of (scene_of s w) e ≡ Some (m, call) → happens s w e ≡ called_in s w m call
-unfolding call_of happens
-line-call s w (event.Tx name sender spoiled epoch gas budget inputs commands) m call plain e = absurd (cc)
-line-call s w (event.Vote n tx) m call plain e = made-call (made_named w tx) m n call s w e
-line-call s w (event.Fvote n tx origins) m call plain e = absurd (cc)
-line-call s w (event.Cert tx members) m call plain e = absurd (cc)
-line-call s w (event.Send n tx) m call plain e = cert-call (cert_named w tx) m n call s w e
-line-call s w (event.Order tx) m call plain e = absurd (cc)
-line-call s w (event.OrderEnd n) m call plain e = absurd (cc)
-line-call s w event.OrderCommit m call plain e = absurd (cc)
-line-call s w (event.See n entries) m call plain e = absurd (cc)
-line-call s w (event.Run n workers) m call plain e = ap (λ (x : ℕ × Call). called_in s w x.0 x.1) (same-call (n, runs) (m, call) e)
-line-call s w (event.Close n) m call plain e = absurd (cc)
-line-call s w (event.End n) m call plain e = absurd (cc)
-line-call s w (event.Turn n) m call plain e = absurd (cc)
-line-call s w (event.Show n) m call plain e = absurd (cc)
-line-call s w (event.Stop n kept) m call plain e = absurd (cc)
-line-call s w (event.Restart n) m call plain e = absurd (cc)
-line-call s w (event.RawVote n bytes) m call plain e = ap (λ (x : ℕ × Call). called_in s w x.0 x.1) (same-call (n, votes bytes) (m, call) e)
-line-call s w (event.RawHold n bytes) m call plain e = ap (λ (x : ℕ × Call). called_in s w x.0 x.1) (same-call (n, holds bytes) (m, call) e)
-line-call s w (event.Ack n tx spoiled) m call plain e = absurd (cc)
-line-call s w (event.Final tx members) m call plain e = absurd (cc)
+  seat-many : (w : World) (m : ℕ) (call : Call) (seat : Option worlds.Seat) → length (called_seat s w m call seat).seats ≡ length w.seats
+  seat-many w m call None = refl
+  seat-many w m call (Some seat) = left-many w m call seat (reached_seat s call seat)
 
--- what a line's call leaves in the scene is what it leaves in the world
-left-same : (trust : Trust) (s : Setting) (w : World) (m : ℕ) (call : Call) → s.rules ≡ rules_for (terms_of s.rules) trust.accepts
-    → record_left (reached_in (rules_in trust.accepts (scene_of s w)) (posts_from s 0 w.seats) m call) ≡ record_left (reached s w m call)
-left-same trust s w m call rules =
-    ap (λ (r : Rules). record_left (reached_in r (posts_from s 0 w.seats) m call)) (sym rules)
-    ∙ ap (λ (r : Reached). record_left r) (reached-same s w m call)
+  if-many : (w : World) (m : ℕ) (call : Option Call) → length (called_if s w m call).seats ≡ length w.seats
+  unfolding called_in
+  if-many w m None = refl
+  if-many w m (Some call) = seat-many w m call (slice_get w.seats m)
 
-module _ (trust : Trust) (s : Setting) (w : World) (sc : Scene) (e : Event) (m : ℕ) (call : Call) (before now : Option Journals) (shows : Shows trust s w sc) (plain : is_plain e ≡ true) (is : call_of sc e ≡ Some (m, call)) where
-  abbrev LeftBy : Option Record → Type 0
-  LeftBy x = AddsLeft before now m x
+  module _ (lists : Journals) (w : World) (m : ℕ) (room : length w.seats ≤ length lists) (tells : Tells (Some lists) w) where
+    tells-if : (call : Option Call) → Tells (Some (with_all lists m (left_if s.rules (scene_of s w) m call))) (called_if s w m call)
+    tells-if None = tells
+    tells-if (Some call) = tells-called s w m call lists room tells
 
-  in-world : LeftBy (record_left (reached_in (rules_in trust.accepts sc) sc.posts m call)) → LeftBy (record_left (reached s w m call))
-  in-world adds =
-      subst LeftBy (left-same trust s w m call shows.rules)
-      (subst (λ (x : Scene). LeftBy (record_left (reached_in (rules_in trust.accepts x) x.posts m call))) shows.scene adds)
+    tells-by : IsUp w m ⊎ IsDown s w m → Tells (Some (with_all lists m (left_if s.rules (scene_of s w) m (next_on (scene_of s w) m)))) (called_if s w m (next_call s w m))
+    tells-by (inl up) =
+        subst (λ (call : Option Call). Tells (Some (with_all lists m (left_if s.rules (scene_of s w) m call))) (called_if s w m (next_call s w m))) (up-next s w m up ∙ sym (up-next-on s w m up)) (tells-if (next_call s w m))
+    tells-by (inr down) =
+        subst (λ (call : Option Call). Tells (Some (with_all lists m (left_if s.rules (scene_of s w) m call))) (called_if s w m (next_call s w m))) (sym (down-next s w m down))
+        (subst (λ (v : World). Tells (Some lists) v) (sym (down-step s w m (next_call s w m) down)) tells)
 
-  same-line : happens s w e ≡ called_in s w m call
-  same-line = line-call s w e m call plain (subst (λ (x : Scene). call_of x e ≡ Some (m, call)) shows.scene is)
+    -- the lists with what the next entry left
+    tells-next : Tells (Some (with_all lists m (left_if s.rules (scene_of s w) m (next_on (scene_of s w) m)))) (called_if s w m (next_call s w m))
+    tells-next = tells-by (stands s w m)
 
-  pub line-told : HasRoom before w → Tells before w → LeftBy (record_left (reached_in (rules_in trust.accepts sc) sc.posts m call)) → Tells now (happens s w e)
-  line-told room tells adds = go before room tells (in-world adds)
-    where
-      go : (told : Option Journals) → HasRoom told w → Tells told w → AddsLeft told now m (record_left (reached s w m call)) → Tells now (happens s w e)
-      go None room tells adds = absurd tells
-      go (Some lists) room tells adds = subst (λ (next : World). Tells now next) (sym same-line) (tells-called s w m call lists now room tells adds)
+  tells-sees : (n : ℕ) (lists : Journals) (w : World) (m : ℕ) → length w.seats ≤ length lists → Tells (Some lists) w → Tells (Some (with_all lists m (sees_left s.rules n (scene_of s w) m))) (sees_on s n w m)
+  tells-sees zero lists w m room tells = tells
+  tells-sees (suc n) lists w m room tells =
+      let v = called_if s w m (next_call s w m) in
+      let left = left_if s.rules (scene_of s w) m (next_on (scene_of s w) m) in
+      let seats = if-many w m (next_call s w m) in
+      let many = all-many lists m left in
+      let rest = tells-sees n (with_all lists m left) v m (omega (arith, room, seats, many)) (tells-next lists w m room tells) in
+      subst (λ (told : Journals). Tells (Some told) (sees_on s n v m))
+      (ap (λ (x : Scene). with_all (with_all lists m left) m (sees_left s.rules n x m)) (next-same s w m)
+      ∙ sym (all-then lists m left (sees_left s.rules n (scenes.called_if s.rules (scene_of s w) m (next_on (scene_of s w) m)) m)))
+      rest
 
--- ---- lines without a call
+  -- ---- what a line does to the records
 
--- the same records in the two worlds
-abbrev KeepsRecords : World → World → Type 0
-KeepsRecords w next = (k : ℕ) → records_of (slice_get next.seats k) ≡ records_of (slice_get w.seats k)
+  abbrev Does : World → Work → World → Type 0
+  Does w idle next = KeepsRecords w next
+  Does w (asks m call) next = next ≡ called_in s w m call
+  Does w (hands m n) next = next ≡ sees_on s n w m
 
-if-keeps : (b : Bool) (w v u : World) → KeepsRecords w v → KeepsRecords w u → KeepsRecords w (cond b v u)
-if-keeps true w v u one other = one
-if-keeps false w v u one other = other
+  if-keeps : (b : Bool) (w v u : World) → KeepsRecords w v → KeepsRecords w u → KeepsRecords w (cond b v u)
+  if-keeps true w v u one other = one
+  if-keeps false w v u one other = other
 
-fvote-keeps : (w : World) (m : ℕ) (words : List (Option Name)) (t : Option Made) → KeepsRecords w (fvoted w m words t)
-fvote-keeps w m words None = λ k. refl
-fvote-keeps w m words (Some t) = if-keeps (is_honest w m) w w _ (λ k. refl) (λ k. refl)
+  fvote-keeps : (w : World) (m : ℕ) (words : List (Option Name)) (t : Option Made) → KeepsRecords w (fvoted w m words t)
+  fvote-keeps w m words None = λ k. refl
+  fvote-keeps w m words (Some t) = if-keeps (is_honest w m) w w _ (λ k. refl) (λ k. refl)
 
-formed-keeps : (s : Setting) (w : World) (t : Made) (ms : List ℕ) (c : Collected) → KeepsRecords w (formed_as s w t ms c)
-formed-keeps s w t ms (lacks m) k = refl
-formed-keeps s w t ms (short weight total) k = refl
-formed-keeps s w t ms (differ a b) k = refl
-formed-keeps s w t ms whole k = refl
+  formed-keeps : (w : World) (t : Made) (ms : List ℕ) (c : Collected) → KeepsRecords w (formed_as s w t ms c)
+  formed-keeps w t ms (lacks m) k = refl
+  formed-keeps w t ms (short weight total) k = refl
+  formed-keeps w t ms (differ a b) k = refl
+  formed-keeps w t ms whole k = refl
 
-cert-keeps : (s : Setting) (w : World) (ms : List ℕ) (t : Option Made) → KeepsRecords w (formed s w ms t)
-cert-keeps s w ms None = λ k. refl
-cert-keeps s w ms (Some t) = formed-keeps s w t ms (votes_collected s w t.digest ms)
+  cert-keeps : (w : World) (ms : List ℕ) (t : Option Made) → KeepsRecords w (formed s w ms t)
+  cert-keeps w ms None = λ k. refl
+  cert-keeps w ms (Some t) = formed-keeps w t ms (votes_collected s w t.digest ms)
 
-on-keeps : (w : World) (m : ℕ) (change : worlds.Seat → worlds.Seat) → ((seat : worlds.Seat) → (change seat).records ≡ seat.records) → (seat : Option worlds.Seat) → slice_get w.seats m ≡ seat → KeepsRecords w (on_seat w m change seat)
-on-keeps w m change same None at k = refl
-on-keeps w m change same (Some seat) at k = same-records w.seats m seat (change seat) at (same seat) k
+  order-keeps : (w : World) (c : Option Certificate) → KeepsRecords w (ordered w c)
+  order-keeps w None = λ k. refl
+  order-keeps w (Some c) = if-keeps (c.tx.epoch == w.epoch) w _ w (λ k. refl) (λ k. refl)
 
-no-vote : (s : Setting) (w : World) (n : ℕ) (t : Option Made) → call_on n (option_map signed_call t) ≡ None → KeepsRecords w (voted_on s w n t)
-no-vote s w n None e k = refl
-no-vote s w n (Some t) e k = absurd (cc)
+  risen-keeps : (b : Bool) (w v : World) → KeepsRecords w v → KeepsRecords w (risen_if b v)
+  risen-keeps true w v keeps = keeps
+  risen-keeps false w v keeps = keeps
 
-no-send : (s : Setting) (w : World) (n : ℕ) (c : Option Certificate) → call_on n (option_map held_call c) ≡ None → KeepsRecords w (sent s w n c)
-no-send s w n None e k = refl
-no-send s w n (Some c) e k = absurd (cc)
+  end-keeps : (w v : World) (m epoch : ℕ) → KeepsRecords w v → KeepsRecords w (ordered_end s v m epoch)
+  end-keeps w v m epoch keeps = risen-keeps (has_ended s (appended_entry v (sealed_end s m epoch))) w (appended_entry v (sealed_end s m epoch)) keeps
 
-line-keeps : (s : Setting) (w : World) (e : Event) → is_plain e ≡ true → call_of (scene_of s w) e ≡ None → KeepsRecords w (happens s w e)
-unfolding call_of happens made_by_line
-line-keeps s w (event.Tx name sender spoiled epoch gas budget inputs commands) plain e = λ k. refl
-line-keeps s w (event.Vote n tx) plain e = no-vote s w n (made_named w tx) e
-line-keeps s w (event.Fvote n tx origins) plain e = fvote-keeps w n origins (made_named w tx)
-line-keeps s w (event.Cert tx members) plain e = cert-keeps s w members (made_named w tx)
-line-keeps s w (event.Send n tx) plain e = no-send s w n (cert_named w tx) e
-line-keeps s w (event.Order tx) plain e = absurd (cc)
-line-keeps s w (event.OrderEnd n) plain e = absurd (cc)
-line-keeps s w event.OrderCommit plain e = absurd (cc)
-line-keeps s w (event.See n entries) plain e = absurd (cc)
-line-keeps s w (event.Run n workers) plain e = absurd (cc)
-line-keeps s w (event.Close n) plain e = absurd (cc)
-line-keeps s w (event.End n) plain e = absurd (cc)
-line-keeps s w (event.Turn n) plain e = absurd (cc)
-line-keeps s w (event.Show n) plain e = λ k. refl
-line-keeps s w (event.Stop n kept) plain e = on-keeps w n (armed_seat kept) (λ seat. refl) (slice_get w.seats n) refl
-line-keeps s w (event.Restart n) plain e = on-keeps w n started_seat (λ seat. refl) (slice_get w.seats n) refl
-line-keeps s w (event.RawVote n bytes) plain e = absurd (cc)
-line-keeps s w (event.RawHold n bytes) plain e = absurd (cc)
-line-keeps s w (event.Ack n tx spoiled) plain e = absurd (cc)
-line-keeps s w (event.Final tx members) plain e = absurd (cc)
+  honest-keeps : (w : World) (m : ℕ) (epoch : Option ℕ) → KeepsRecords w (honest_end s w m epoch)
+  honest-keeps w m None = λ k. refl
+  honest-keeps w m (Some epoch) = if-keeps (epoch == w.epoch) w _ w (end-keeps w w m epoch (λ k. refl)) (λ k. refl)
 
-pub kept-told : (trust : Trust) (s : Setting) (w : World) (sc : Scene) (e : Event) (told : Option Journals) → Shows trust s w sc → is_plain e ≡ true → call_of sc e ≡ None → Tells told w → Tells told (happens s w e)
-kept-told trust s w sc e None shows plain none tells = absurd tells
-kept-told trust s w sc e (Some lists) shows plain none tells = λ k.
-    tells k ∙ ap (λ (records : List Record). spelled records) (sym (line-keeps s w e plain (subst (λ (x : Scene). call_of x e ≡ None) shows.scene none) k))
+  on-keeps : (w : World) (m : ℕ) (change : worlds.Seat → worlds.Seat) → ((seat : worlds.Seat) → (change seat).records ≡ seat.records) → (seat : Option worlds.Seat) → slice_get w.seats m ≡ seat → KeepsRecords w (on_seat w m change seat)
+  on-keeps w m change same None at k = refl
+  on-keeps w m change same (Some seat) at k = same-records w.seats m seat (change seat) at (same seat) k
+
+  vote-does : (w : World) (m : ℕ) (t : Option Made) → Does w (asked m (option_map signed_call t)) (voted_on s w m t)
+  vote-does w m None = λ k. refl
+  vote-does w m (Some t) = refl
+
+  send-does : (w : World) (m : ℕ) (c : Option Certificate) → Does w (asked m (option_map held_call c)) (sent s w m c)
+  send-does w m None = λ k. refl
+  send-does w m (Some c) = refl
+
+  ack-if : (w : World) (m : ℕ) (call : Call) (st : Statement) (b : Bool) → Does w (cond b (asks m call) idle) (cond b (called_in s w m call) (says w m st))
+  ack-if w m call st true = refl
+  ack-if w m call st false = λ k. refl
+
+  ack-does : (w : World) (m : ℕ) (spoiled : Bool) (t : Option Made) → Does w (ack_work (scene_of s w) m t) (acked s w m spoiled t)
+  ack-does w m spoiled None = λ k. refl
+  ack-does w m spoiled (Some t) =
+      subst (λ (b : Bool). Does w (cond b (asks m (acks t.digest)) idle) (acked s w m spoiled (Some t))) (bare-honest s 0 w.seats m)
+      (ack-if w m (acks t.digest) (false_ack s w t spoiled) (is_honest w m))
+
+  line-does : (w : World) (e : Event) → Does w (work_of (scene_of s w) e) (happens s w e)
+  unfolding work_of happens made_by_line
+  line-does w (event.Tx name sender spoiled epoch gas budget inputs commands) = λ k. refl
+  line-does w (event.Vote m tx) = vote-does w m (made_named w tx)
+  line-does w (event.Fvote m tx origins) = fvote-keeps w m origins (made_named w tx)
+  line-does w (event.Cert tx members) = cert-keeps w members (made_named w tx)
+  line-does w (event.Send m tx) = send-does w m (cert_named w tx)
+  line-does w (event.Order tx) = order-keeps w (cert_named w tx)
+  line-does w (event.OrderEnd m) = if-keeps (is_honest w m) w _ _ (honest-keeps w m (last_said end_in m w.said)) (end-keeps w (says w m (statement.End w.epoch)) m w.epoch (λ k. refl))
+  line-does w event.OrderCommit = λ k. refl
+  line-does w (event.See m entries) = count-same s w m entries
+  line-does w (event.Run m workers) = refl
+  line-does w (event.Close m) = refl
+  line-does w (event.End m) = refl
+  line-does w (event.Turn m) = refl
+  line-does w (event.Show m) = λ k. refl
+  line-does w (event.Stop m kept) = on-keeps w m (armed_seat kept) (λ seat. refl) (slice_get w.seats m) refl
+  line-does w (event.Restart m) = on-keeps w m started_seat (λ seat. refl) (slice_get w.seats m) refl
+  line-does w (event.RawVote m bytes) = refl
+  line-does w (event.RawHold m bytes) = refl
+  line-does w (event.Ack m tx spoiled) = ack-does w m spoiled (made_named w tx)
+  line-does w (event.Final tx members) = λ k. refl
+
+-- ---- told lists behind a line
+
+-- the lists with what a line leaves
+abbrev with_left : Journals → Option (ℕ × List Record) → Journals
+with_left lists None = lists
+with_left lists (Some (m, records)) = with_all lists m records
+
+does-tells : (s : Setting) (w : World) (lists : Journals) (work : Work) (next : World) → length w.seats ≤ length lists → Tells (Some lists) w → Does s w work next
+    → Tells (Some (with_left lists (records_left s.rules (scene_of s w) work))) next
+does-tells s w lists idle next room tells does = λ k. tells k ∙ ap (λ (records : List Record). spelled records) (sym (does k))
+does-tells s w lists (asks m call) next room tells does =
+    subst (λ (v : World). Tells (Some (with_all lists m (list_of (record_left (reached_in s.rules (posts_from s 0 w.seats) m call))))) v) (sym does) (tells-called s w m call lists room tells)
+does-tells s w lists (hands m n) next room tells does =
+    subst (λ (v : World). Tells (Some (with_all lists m (sees_left s.rules n (scene_of s w) m))) v) (sym does) (tells-sees s n lists w m room tells)
+
+module _ (trust : Trust) (s : Setting) (w : World) (sc : Scene) (e : Event) (shows : Shows trust s w sc) where
+  abbrev left : Option (ℕ × List Record)
+  left = records_left (rules_in trust.accepts sc) sc (work_of sc e)
+
+  left-same : records_left s.rules (scene_of s w) (work_of (scene_of s w) e) ≡ left
+  left-same =
+      ap (λ (r : Rules). records_left r (scene_of s w) (work_of (scene_of s w) e)) shows.rules
+      ∙ ap (λ (x : Scene). records_left (rules_in trust.accepts x) x (work_of x e)) (sym shows.scene)
+
+  -- the lists with what the line leaves in the scene are the journals behind it
+  line-tells : (lists : Journals) → length w.seats ≤ length lists → Tells (Some lists) w → Tells (Some (with_left lists left)) (happens s w e)
+  line-tells lists room tells =
+      subst (λ (x : Option (ℕ × List Record)). Tells (Some (with_left lists x)) (happens s w e)) left-same
+      (does-tells s w lists (work_of (scene_of s w) e) (happens s w e) room tells (line-does s w e))
+
+  added : (lists : Journals) (now : Option Journals) (x : Option (ℕ × List Record)) → AddsLine x (Some lists) now → now ≡ Some (with_left lists x)
+  added lists now None adds = adds
+  added lists now (Some (m, records)) adds = adds
+
+  told-behind : (before now : Option Journals) → HasRoom before w → Tells before w → AddsLine left before now → Tells now (happens s w e)
+  told-behind None now room tells adds = absurd tells
+  told-behind (Some lists) now room tells adds = subst (λ (told : Option Journals). Tells told (happens s w e)) (sym (added lists now left adds)) (line-tells lists room tells)
+
+pub line-told : (trust : Trust) (s : Setting) (w : World) (sc : Scene) (e : Event) (before now : Option Journals) → Shows trust s w sc → is_plain e ≡ true → HasRoom before w → Tells before w
+    → AddsLine (records_left (rules_in trust.accepts sc) sc (work_of sc e)) before now → Tells now (happens s w e)
+line-told trust s w sc e before now shows plain room tells adds = told-behind trust s w sc e shows before now room tells adds
 
 -- ---- fronts
 
@@ -269,70 +346,55 @@ module _ (s : Setting) where
   sees-grow zero w m = grows-refl w
   sees-grow (suc n) w m = grows-then w (called_if s w m (next_call s w m)) (sees_on s n (called_if s w m (next_call s w m)) m) (call-if-grows w m (next_call s w m)) (sees-grow n (called_if s w m (next_call s w m)) m)
 
-  if-grows : (b : Bool) (w v u : World) → Grows w v → Grows w u → Grows w (cond b v u)
-  if-grows true w v u one other = one
-  if-grows false w v u one other = other
-
-  voted-grows : (w : World) (m : ℕ) (t : Option Made) → Grows w (voted_on s w m t)
-  voted-grows w m None = grows-refl w
-  voted-grows w m (Some t) = call-grows w m (signed_call t)
-
-  sent-grows : (w : World) (m : ℕ) (c : Option Certificate) → Grows w (sent s w m c)
-  sent-grows w m None = grows-refl w
-  sent-grows w m (Some c) = call-grows w m (held_call c)
-
-  ordered-grows : (w : World) (c : Option Certificate) → Grows w (ordered w c)
-  ordered-grows w None = grows-refl w
-  ordered-grows w (Some c) = if-grows _ w _ w (grows-refl w) (grows-refl w)
-
-  risen-grows : (b : Bool) (w v : World) → Grows w v → Grows w (risen_if b v)
-  risen-grows true w v grows = grows
-  risen-grows false w v grows = grows
-
-  end-grows : (w v : World) (m epoch : ℕ) → Grows w v → Grows w (ordered_end s v m epoch)
-  end-grows w v m epoch grows = risen-grows (has_ended s (appended_entry v (sealed_end s m epoch))) w (appended_entry v (sealed_end s m epoch)) grows
-
-  honest-grows : (w : World) (m : ℕ) (epoch : Option ℕ) → Grows w (honest_end s w m epoch)
-  honest-grows w m None = grows-refl w
-  honest-grows w m (Some epoch) = if-grows _ w _ w (end-grows w w m epoch (grows-refl w)) (grows-refl w)
-
-  acked-grows : (w : World) (m : ℕ) (spoiled : Bool) (t : Option Made) → Grows w (acked s w m spoiled t)
-  acked-grows w m spoiled None = grows-refl w
-  acked-grows w m spoiled (Some t) = if-grows (is_honest w m) w _ _ (call-grows w m (acks t.digest)) (grows-refl w)
+  does-grows : (w : World) (work : Work) (next : World) → Does s w work next → Grows w next
+  does-grows w idle next does = grows-same w next does
+  does-grows w (asks m call) next does = subst (λ (v : World). Grows w v) (sym does) (call-grows w m call)
+  does-grows w (hands m n) next does = subst (λ (v : World). Grows w v) (sym does) (sees-grow n w m)
 
   line-grows : (w : World) (e : Event) → Grows w (happens s w e)
-  unfolding happens made_by_line
-  line-grows w (event.Tx name sender spoiled epoch gas budget inputs commands) = grows-refl w
-  line-grows w (event.Vote m tx) = voted-grows w m (made_named w tx)
-  line-grows w (event.Fvote m tx origins) = grows-same w (fvoted w m origins (made_named w tx)) (fvote-keeps w m origins (made_named w tx))
-  line-grows w (event.Cert tx members) = grows-same w (formed s w members (made_named w tx)) (cert-keeps s w members (made_named w tx))
-  line-grows w (event.Send m tx) = sent-grows w m (cert_named w tx)
-  line-grows w (event.Order tx) = ordered-grows w (cert_named w tx)
-  line-grows w (event.OrderEnd m) = if-grows (is_honest w m) w _ _ (honest-grows w m (last_said end_in m w.said)) (end-grows w _ m w.epoch (grows-refl w))
-  line-grows w event.OrderCommit = grows-refl w
-  line-grows w (event.See m entries) = sees-grow (min entries (entries_left w (member_at s w m))) w m
-  line-grows w (event.Run m workers) = call-grows w m runs
-  line-grows w (event.Close m) = call-grows w m closes
-  line-grows w (event.End m) = call-grows w m ends
-  line-grows w (event.Turn m) = call-grows w m turns
-  line-grows w (event.Show m) = grows-refl w
-  line-grows w (event.Stop m kept) = grows-same w (on_seat w m (armed_seat kept) (slice_get w.seats m)) (on-keeps w m (armed_seat kept) (λ seat. refl) (slice_get w.seats m) refl)
-  line-grows w (event.Restart m) = grows-same w (on_seat w m started_seat (slice_get w.seats m)) (on-keeps w m started_seat (λ seat. refl) (slice_get w.seats m) refl)
-  line-grows w (event.RawVote m bytes) = call-grows w m (votes bytes)
-  line-grows w (event.RawHold m bytes) = call-grows w m (holds bytes)
-  line-grows w (event.Ack m tx spoiled) = acked-grows w m spoiled (made_named w tx)
-  line-grows w (event.Final tx members) = grows-refl w
+  line-grows w e = does-grows w (work_of (scene_of s w) e) (happens s w e) (line-does s w e)
 
 pub front-ahead : (s : Setting) (w : World) (e : Event) (told : Option Journals) → TellsFront told w → TellsFront told (happens s w e)
 front-ahead s w e None front = front
 front-ahead s w e (Some lists) front = λ m. front-then (journal_of lists m) (journal_in w m) (journal_in (happens s w e) m) (front m) (line-grows s w e m)
 
-pub line-cut : (trust : Trust) (s : Setting) (w : World) (sc : Scene) (e : Event) (m : ℕ) (call : Call) (before now : Option Journals) → Shows trust s w sc → is_plain e ≡ true → call_of sc e ≡ Some (m, call)
-    → HasRoom before w → Tells before w → MayAddLeft before now m (record_left (reached_in (rules_in trust.accepts sc) sc.posts m call)) → TellsFront now (happens s w e)
-line-cut trust s w sc e m call before now shows plain is room tells (inl adds) = told-front now (happens s w e) (line-told trust s w sc e m call before now shows plain is room tells adds)
-line-cut trust s w sc e m call None now shows plain is room tells (inr keeps) = absurd tells
-line-cut trust s w sc e m call (Some lists) now shows plain is room tells (inr keeps) =
-    subst (λ (told : Option Journals). TellsFront told (happens s w e)) (sym keeps) (front-ahead s w e (Some lists) (told-front (Some lists) w tells))
+-- ---- a line that was cut
+
+-- one list has grown
+front-set : (lists : Journals) (m : ℕ) (kept : List (List ℕ)) → IsFront (journal_of lists m) kept → (k : ℕ) → IsFront (journal_of lists k) (journal_of (slice_set lists m kept) k)
+front-set [] m kept front k = front-refl []
+front-set (l ∷ ls) zero kept front zero = front
+front-set (l ∷ ls) zero kept front (suc k) = front-refl (journal_of ls k)
+front-set (l ∷ ls) (suc m) kept front zero = front-refl l
+front-set (l ∷ ls) (suc m) kept front (suc k) = front-set ls m kept front k
+
+front-all : (lists : Journals) (m : ℕ) (records : List Record) (k : ℕ) → IsFront (journal_of lists k) (journal_of (with_all lists m records) k)
+front-all lists m [] k = front-refl (journal_of lists k)
+front-all lists m (x ∷ records) k =
+    let more = with_record lists m (journals.journal_record.spell x) in
+    front-then (journal_of lists k) (journal_of more k) (journal_of (with_all more m records) k)
+    (front-set lists m (journal_of lists m ++ journals.journal_record.spell x ∷ []) (journals.journal_record.spell x ∷ [], refl) k)
+    (front-all more m records k)
+
+module _ (lists : Journals) (now : Option Journals) (w : World) where
+  -- told lists with a front of the records
+  front-told : (m : ℕ) (front rest : List Record) → now ≡ Some (with_all lists m front) → Tells (Some (with_all lists m (front ++ rest))) w → TellsFront now w
+  front-told m front rest is tells =
+      subst (λ (told : Option Journals). TellsFront told w) (sym is) (λ k.
+      front-then (journal_of (with_all lists m front) k) (journal_of (with_all lists m (front ++ rest)) k) (journal_in w k)
+      (subst (λ (more : Journals). IsFront (journal_of (with_all lists m front) k) (journal_of more k)) (sym (all-then lists m front rest)) (front-all (with_all lists m front) m rest k))
+      (front-is (journal_of (with_all lists m (front ++ rest)) k) (journal_in w k) (tells k)))
+
+  front-added : (left : Option (ℕ × List Record)) → MayAddLine left (Some lists) now → Tells (Some (with_left lists left)) w → TellsFront now w
+  front-added None adds tells = told-front now w (subst (λ (told : Option Journals). Tells told w) (sym adds) tells)
+  front-added (Some (m, records)) adds tells =
+      front-told m adds.front adds.rest adds.adds (subst (λ (all : List Record). Tells (Some (with_all lists m all)) w) adds.is tells)
+
+pub line-cut : (trust : Trust) (s : Setting) (w : World) (sc : Scene) (e : Event) (before now : Option Journals) → Shows trust s w sc → is_plain e ≡ true → HasRoom before w → Tells before w
+    → MayAddLine (records_left (rules_in trust.accepts sc) sc (work_of sc e)) before now → TellsFront now (happens s w e)
+line-cut trust s w sc e None now shows plain room tells adds = absurd tells
+line-cut trust s w sc e (Some lists) now shows plain room tells adds =
+    front-added lists now (happens s w e) (records_left (rules_in trust.accepts sc) sc (work_of sc e)) adds (line-tells trust s w sc e shows lists room tells)
 
 -- ---- the first world
 

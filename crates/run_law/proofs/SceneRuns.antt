@@ -1,7 +1,7 @@
 -- In the run of a schedule that a text says, all that is read from the bytes of calls fits.
 use Rattle.std.proofs.Common.{refl, subst, arith}
 use Rattle.std.proofs.lemmas.List.{length-append}
-use Rattle.std.specs.Prelude.{◌≡◌, ◌≤◌, ℕ, ◌+◌, zero, suc, true, List, [], ◌∷◌, ◌++◌, map, length, Option, Some, None, option_map, bytes_eq, Ok}
+use Rattle.std.specs.Prelude.{◌≡◌, ◌≤◌, ℕ, ◌+◌, zero, suc, min, List, [], ◌∷◌, ◌++◌, map, length, Option, Some, None, option_map, bytes_eq, Ok}
 use Rattle.std.specs.List.{AllByRecursion}
 use Rattle.wire_bcs.specs.Place.{IsBytes}
 use Rattle.chain_messages.specs.Messages as messages
@@ -15,11 +15,11 @@ use Rattle.schedule_text.specs.Schedule.{schedule_of}
 use Rattle.protocol_spec.specs.Chain.Words.{Each, last_where}
 use Rattle.world_spec.specs.Setting.{Name, Setting, setting_of, things_from}
 use Rattle.world_spec.specs.Keyed.{keyed_seal}
-use Rattle.world_spec.specs.World.{Formed, Made, World, new_world}
+use Rattle.world_spec.specs.World.{Formed, Made, World, member_at, new_world}
 use Rattle.world_spec.specs.Names.{cert_in, made_named}
-use Rattle.world_spec.specs.Step.{happens}
+use Rattle.world_spec.specs.Step.{entries_left, happens}
 use Rattle.world_spec.specs.Run.{run, world_after}
-use Rattle.world_spec.specs.Assumptions.{all_of, calls_of, send_call, vote_call}
+use Rattle.world_spec.specs.Assumptions.{ack_call, all_of, calls_of, see_calls, send_call, vote_call}
 use Rattle.text_law.specs.Sayable.{IsByte, IsStatement}
 use Rattle.text_law.proofs.SaidWhole.{text_said}
 use Rattle.safety_law.proofs.InWorld.{each-front}
@@ -33,8 +33,9 @@ use Rattle.text_law.proofs.Texts.{most_words, IsShortEvent}
 use Rattle.text_law.proofs.TextLines.{text-short}
 use Rattle.text_law.proofs.Fits.{AreThings, IsFitMade, genesis-digest}
 use Rattle.text_law.proofs.Runs.{AreSeals, IsFit, IsFitEvent, world-fit}
-use Rattle.scene_spec.specs.Worlds.{IsTrueOf, ReadsFit, Restarts, is_plain}
-use Rattle.run_law.proofs.SceneStarts.{hold-bytes, hold-spelled, run-starts, vote-bytes, vote-spelled}
+use Rattle.scene_spec.specs.Worlds.{AreKeepable, IsTrueOf, ReadsFit, Restarts, is_plain}
+use Rattle.run_law.proofs.SceneSees.{see-each}
+use Rattle.run_law.proofs.SceneStarts.{entry-spelled, hold-bytes, hold-spelled, run-starts, vote-bytes, vote-spelled}
 
 by-index : (bytes : List ℕ) → AllByRecursion IsByte bytes → IsBytes bytes
 by-index [] each i = omega arith
@@ -53,27 +54,34 @@ module _ (s : Setting) (n : ℕ) (w : World) (fit : IsFit s n w) where
   send-read name (Some f) at =
       (hold-spelled f.cert (each-has (λ (x : Formed). messages.certificate.fits x.cert) w.certs f fit.certs (last-has (λ (x : Formed). bytes_eq x.name name) w.certs f at)), tt)
 
-  line-read : (e : Event) → is_plain e ≡ true → IsFitEvent e → Each ReadsFit (calls_of s w e)
-  line-read (event.Tx name sender spoiled epoch gas budget inputs commands) plain is = tt
-  line-read (event.Vote m tx) plain is = vote-read tx (made_named w tx) refl
-  line-read (event.Fvote m tx origins) plain is = tt
-  line-read (event.Cert tx members) plain is = tt
-  line-read (event.Send m tx) plain is = send-read tx (last_where (λ (x : Formed). bytes_eq x.name tx) w.certs) refl
-  line-read (event.Order tx) plain is = absurd (cc)
-  line-read (event.OrderEnd m) plain is = absurd (cc)
-  line-read event.OrderCommit plain is = absurd (cc)
-  line-read (event.See m entries) plain is = absurd (cc)
-  line-read (event.Run m workers) plain is = (tt, tt)
-  line-read (event.Close m) plain is = absurd (cc)
-  line-read (event.End m) plain is = absurd (cc)
-  line-read (event.Turn m) plain is = absurd (cc)
-  line-read (event.Show m) plain is = tt
-  line-read (event.Stop m kept) plain is = tt
-  line-read (event.Restart m) plain is = tt
-  line-read (event.RawVote m bytes) plain is = (vote-bytes bytes (by-index bytes is.0.1.1), tt)
-  line-read (event.RawHold m bytes) plain is = (hold-bytes bytes (by-index bytes is.0.1.1), tt)
-  line-read (event.Ack m tx spoiled) plain is = absurd (cc)
-  line-read (event.Final tx members) plain is = absurd (cc)
+  see-read : (m count : ℕ) → Each ReadsFit (see_calls s count w m)
+  see-read m count = see-each s messages.entry.fits ReadsFit entry-spelled count w m fit.entries
+
+  ack-read : (t : Option Made) → Each ReadsFit (ack_call t)
+  ack-read None = tt
+  ack-read (Some t) = (tt, tt)
+
+  line-read : (e : Event) → IsFitEvent e → Each ReadsFit (calls_of s w e)
+  line-read (event.Tx name sender spoiled epoch gas budget inputs commands) is = tt
+  line-read (event.Vote m tx) is = vote-read tx (made_named w tx) refl
+  line-read (event.Fvote m tx origins) is = tt
+  line-read (event.Cert tx members) is = tt
+  line-read (event.Send m tx) is = send-read tx (last_where (λ (x : Formed). bytes_eq x.name tx) w.certs) refl
+  line-read (event.Order tx) is = tt
+  line-read (event.OrderEnd m) is = tt
+  line-read event.OrderCommit is = tt
+  line-read (event.See m entries) is = see-read m (min entries (entries_left w (member_at s w m)))
+  line-read (event.Run m workers) is = (tt, tt)
+  line-read (event.Close m) is = (tt, tt)
+  line-read (event.End m) is = (tt, tt)
+  line-read (event.Turn m) is = (tt, tt)
+  line-read (event.Show m) is = tt
+  line-read (event.Stop m kept) is = tt
+  line-read (event.Restart m) is = tt
+  line-read (event.RawVote m bytes) is = (vote-bytes bytes (by-index bytes is.0.1.1), tt)
+  line-read (event.RawHold m bytes) is = (hold-bytes bytes (by-index bytes is.0.1.1), tt)
+  line-read (event.Ack m tx spoiled) is = ack-read (made_named w tx)
+  line-read (event.Final tx members) is = tt
 
 -- ---- the calls of a run
 
@@ -98,19 +106,19 @@ module _ (s : Setting) (seals : AreSeals s.seal) (things : AreThings s.things) w
   unfolding world_after
   fit-behind before few each = world-fit s seals things before few each
 
-  calls-read : (before events : List Event) → length before + length events ≤ most_words → AllByRecursion IsFitEvent before → AllByRecursion IsFitEvent events → Each (IsTrueOf is_plain) events
+  calls-read : (before events : List Event) → length before + length events ≤ most_words → AllByRecursion IsFitEvent before → AllByRecursion IsFitEvent events
       → Each ReadsFit (all_of calls_of s events (run s before (new_world s)))
-  calls-read before [] few done each plain = tt
-  calls-read before (e ∷ events) few done each plain =
+  calls-read before [] few done each = tt
+  calls-read before (e ∷ events) few done each =
       let w = run s before (new_world s) in
       let fit = fit-behind before (omega (arith, few)) done in
       let long = length-append before (e ∷ []) in
-      let rest = calls-read (before ++ e ∷ []) events (omega (arith, few, long)) (all-push IsFitEvent before e done each.0) each.1 plain.1 in
-      each-join ReadsFit (calls_of s w e) (all_of calls_of s events (happens s w e)) (line-read s (0 + length before) w fit e plain.0 each.0)
+      let rest = calls-read (before ++ e ∷ []) events (omega (arith, few, long)) (all-push IsFitEvent before e done each.0) each.1 in
+      each-join ReadsFit (calls_of s w e) (all_of calls_of s events (happens s w e)) (line-read s (0 + length before) w fit e each.0)
       (subst (λ (v : World). Each ReadsFit (all_of calls_of s events v)) (run-push s before e (new_world s)) rest)
 
-  read-starts : (events : List Event) → length events ≤ most_words → AllByRecursion IsFitEvent events → Each (IsTrueOf is_plain) events → Restarts s (world_after s events)
-  read-starts events few each plain = run-starts s events plain (calls-read [] events (omega (arith, few)) tt each plain)
+  read-starts : (events : List Event) → length events ≤ most_words → AllByRecursion IsFitEvent events → Each (IsTrueOf is_plain) events → AreKeepable (world_after s events).sequences → Restarts s (world_after s events)
+  read-starts events few each plain keepable = run-starts s events plain (calls-read [] events (omega (arith, few)) tt each) keepable
 
 -- ---- what a text says
 
@@ -135,8 +143,8 @@ fit-events [] said short = tt
 fit-events (e ∷ events) said short = ((said.0, short.0), fit-events events said.1 short.1)
 
 pub text-starts : (text : List ℕ) (t : Schedule) → schedule_of text ≡ Ok t → (secret : List ℕ) → (front rest : List Event) → t.events ≡ front ++ rest → Each (IsTrueOf is_plain) t.events
-    → Restarts (keyed_setting secret t) (world_after (keyed_setting secret t) front)
-text-starts text t read secret front rest is plain =
+    → AreKeepable (world_after (keyed_setting secret t) front).sequences → Restarts (keyed_setting secret t) (world_after (keyed_setting secret t) front)
+text-starts text t read secret front rest is plain keepable =
     let short = text-short text t read in
     let fits : AllByRecursion IsFitEvent t.events =
     fit-events t.events (all-back IsStatement (map (λ x. statement.Setup x) t.setup) (map (λ e. statement.Event e) t.events) (text_said text t read).words) short.0 in
@@ -145,3 +153,4 @@ text-starts text t read secret front rest is plain =
     read-starts (keyed_setting secret t) (setting-seals secret t) (setting-things secret t) front (omega (arith, few, long))
     (all-front IsFitEvent front rest (subst (λ (l : List Event). AllByRecursion IsFitEvent l) is fits))
     (each-front (IsTrueOf is_plain) front rest (subst (λ (l : List Event). Each (IsTrueOf is_plain) l) is plain))
+    keepable

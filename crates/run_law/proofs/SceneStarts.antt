@@ -3,7 +3,7 @@ use Rattle.std.proofs.Common.{refl, sym, subst, ap, ◌∙◌, append-nil, appen
 use Rattle.std.proofs.lemmas.Bool.{leb-false}
 use Rattle.std.proofs.lemmas.List.{length-map}
 use Rattle.std.proofs.lemmas.List.Elements.{All-from_recursion}
-use Rattle.std.specs.Prelude.{◌≡◌, ℕ, ◌+◌, ◌<◌, suc, Bool, true, false, cond, nat_le, List, [], ◌∷◌, ◌++◌, map, length, slice_get, Option, Some, None, option_map, Result, Ok, Err}
+use Rattle.std.specs.Prelude.{◌≡◌, ℕ, ◌+◌, ◌<◌, suc, min, Bool, true, false, cond, nat_le, List, [], ◌∷◌, ◌++◌, map, length, slice_get, Option, Some, None, option_map, Result, Ok, Err}
 use Rattle.std.specs.List.{AllByRecursion}
 use Rattle.wire_bcs.specs.declared.fault.WireFault.{WireFault}
 use Rattle.wire_bcs.specs.Codec.{Codec}
@@ -19,6 +19,7 @@ use Rattle.chain_types.specs.Transactions as transactions
 use Rattle.chain_messages.specs.declared.messages.Certificate.{Certificate}
 use Rattle.chain_messages.specs.declared.messages.Statement.{Statement}
 use Rattle.chain_messages.specs.declared.messages.Statement.TheVariants as statement
+use Rattle.chain_messages.specs.declared.messages.Entry.{Entry}
 use Rattle.chain_messages.specs.Messages as messages
 use Rattle.effects_core.specs.declared.effects.Effects.{Effects}
 use Rattle.effects_core.specs.Effects.{digest_of_effects}
@@ -29,29 +30,30 @@ use Rattle.journal_core.specs.Records as journals
 use Rattle.answer_types.specs.declared.answers.Ran.{Ran}
 use Rattle.answer_types.specs.declared.refusals.VoteRefusal.{VoteRefusal}
 use Rattle.answer_types.specs.declared.refusals.HoldRefusal.{HoldRefusal}
+use Rattle.answer_types.specs.declared.refusals.SeeRefusal.{SeeRefusal}
 use Rattle.answer_types.specs.declared.refusals.RunRefusal.{RunRefusal}
 use Rattle.answer_types.specs.declared.refusals.RunRefusal.TheVariants as no_run
 use Rattle.answer_types.specs.declared.refusals.CloseRefusal.{CloseRefusal}
 use Rattle.answer_types.specs.declared.refusals.StartRefusal.{StartRefusal}
 use Rattle.answer_types.specs.declared.refusals.StartRefusal.TheVariants as no_start
 use Rattle.protocol_spec.specs.Chain.Words.{Along, Each, and_then, first_some, unless_refused, where_true}
-use Rattle.protocol_spec.specs.Chain.Certificates.{Rules, read_as, read_certificate, read_signed}
+use Rattle.protocol_spec.specs.Chain.Certificates.{Rules, read_as, read_certificate, read_entry, read_signed}
 use Rattle.protocol_spec.proofs.ListLemmas.{along-push}
 use Rattle.protocol_spec.specs.Member.Versions.{Execution}
 use Rattle.protocol_spec.specs.Member.Rounds.{rounds}
 use Rattle.protocol_spec.specs.Member.Member.{Member, after, books, fresh, state, with_rounds}
-use Rattle.protocol_spec.specs.Member.Calls.{Call, votes, holds, sees, runs, closes, ends, turns, acks, Voted, close_answer, close_record, due, halted, hold_answer, hold_record, is_hold_kept, kept_vote, ran_as, ran_item, ran_items, ran_record, record_limit, run_answer, run_record, vote_answer, vote_record}
+use Rattle.protocol_spec.specs.Member.Calls.{Call, votes, holds, sees, runs, closes, ends, turns, acks, Voted, close_answer, close_record, due, halted, hold_answer, hold_record, is_hold_kept, kept_vote, ran_as, ran_item, ran_items, ran_record, record_limit, run_answer, run_record, see_cases, see_record, vote_answer, vote_record}
 use Rattle.protocol_spec.specs.Member.Replay.{is_allowed}
 use Rattle.scene_spec.specs.Taken.{is_taken}
 use Rattle.schedule_text.specs.declared.words.Event.{Event}
 use Rattle.schedule_text.specs.declared.words.Event.TheVariants as event
 use Rattle.world_spec.specs.Setting.{Trust, Setting}
 use Rattle.world_spec.specs.World as worlds
-use Rattle.world_spec.specs.World.{Made, World, new_world, stated, voted_statement}
+use Rattle.world_spec.specs.World.{Made, World, is_honest, member_at, new_world, stated, voted_statement}
 use Rattle.world_spec.specs.Names.{cert_named, made_named}
-use Rattle.world_spec.specs.Step.{happens}
-use Rattle.world_spec.specs.Run.{world_after}
-use Rattle.world_spec.specs.Assumptions.{all_of, calls_of, send_call, vote_call}
+use Rattle.world_spec.specs.Step.{entries_left, happens}
+use Rattle.world_spec.specs.Run.{run, world_after}
+use Rattle.world_spec.specs.Assumptions.{ack_call, all_of, calls_of, see_calls, send_call, vote_call}
 use Rattle.scene_spec.specs.Starts.{read_record, started, started_from, taken_at}
 use Rattle.protocol_spec.specs.Member.Due.{IsDueBehind}
 use Rattle.safety_law.proofs.Apart.{state-push}
@@ -60,11 +62,13 @@ use Rattle.safety_law.proofs.Allowed.{due-allowed}
 use Rattle.safety_law.proofs.Forks.{each-join}
 use Rattle.text_law.proofs.Members.{AreOrigins, IsDigest, IsFitMember, IsFitStatement, fit-none, fit-step, stated-fit, tagged-digest}
 use Rattle.text_law.proofs.Fits.{origins-fit}
-use Rattle.scene_spec.specs.Scene.{Scene}
-use Rattle.scene_spec.specs.Steps.{call_of, call_on, held_call, signed_call}
-use Rattle.scene_spec.specs.Worlds.{IsTrueOf, LineReadsFit, ReadsFit, Restarts, Shows, is_plain, scene_of, spelled}
+use Rattle.scene_spec.specs.Scene.{Scene, bare_world}
+use Rattle.scene_spec.specs.Steps.{idle, asks, ack_work, asked, held_call, signed_call, work_of}
+use Rattle.scene_spec.specs.Worlds.{AreKeepable, IsKeepable, IsTrueOf, ReadsFit, Restarts, Shows, WorkReadsFit, is_plain, scene_of, spelled}
 use Rattle.run_law.proofs.SceneCounted.{few-rounds, holds-few}
 use Rattle.run_law.proofs.SceneRecords.{spelled-push}
+use Rattle.run_law.proofs.SceneSees.{see-each}
+use Rattle.run_law.proofs.SceneGrowth.{run-keepable}
 
 -- ---- what is read fits
 
@@ -103,12 +107,16 @@ pub hold-spelled : (c : Certificate) → messages.certificate.fits c → ReadsFi
 unfolding read_certificate
 hold-spelled c fits d e = spelled-fits messages.certificate c d fits e
 
+pub entry-spelled : (number : ℕ) (e : Entry) → messages.entry.fits e → ReadsFit (sees number (messages.entry.spell e))
+unfolding read_entry
+entry-spelled number e fits x is = spelled-fits messages.entry e x fits is
+
 -- ---- records that are taken back
 
 abbrev IsTakenBack : Record → Type 0
 IsTakenBack (record_as.Vote tx origins) = Unit {0}
 IsTakenBack (record_as.Hold c) = Unit {0}
-IsTakenBack (record_as.See bytes) = ⊥
+IsTakenBack (record_as.See bytes) = Unit {0}
 IsTakenBack record_as.Close = Unit {0}
 IsTakenBack (record_as.Ran txs) = Unit {0}
 IsTakenBack record_as.Turn = ⊥
@@ -118,7 +126,7 @@ taken-back : (r : Rules) (m : Member) (x : Record) → IsTakenBack x → is_allo
 unfolding is_taken
 taken-back r m (record_as.Vote tx origins) back allowed = allowed
 taken-back r m (record_as.Hold c) back allowed = allowed
-taken-back r m (record_as.See bytes) back allowed = absurd back
+taken-back r m (record_as.See bytes) back allowed = allowed
 taken-back r m record_as.Close back allowed = allowed
 taken-back r m (record_as.Ran txs) back allowed = allowed
 taken-back r m record_as.Turn back allowed = absurd back
@@ -166,6 +174,10 @@ hold-record : (c : Certificate) → messages.certificate.fits c → journals.jou
 unfolding journals.journal_record
 hold-record c fits = fits
 
+see-record : (bytes : List ℕ) → length bytes < length_limit → journals.journal_record.fits (record_as.See bytes)
+unfolding journals.journal_record
+see-record bytes few = few
+
 close-record : journals.journal_record.fits record_as.Close
 unfolding journals.journal_record
 close-record = tt
@@ -183,15 +195,16 @@ run-record : (items : List RanItem) → length items < length_limit → AllByRec
 unfolding journals.journal_record
 run-record items few each = (few, All-from_recursion journals.ran_item.fits items each)
 
-abbrev IsAsked : Call → Type 0
-IsAsked (votes bytes) = Unit {0}
-IsAsked (holds bytes) = Unit {0}
-IsAsked (sees number bytes) = ⊥
-IsAsked runs = Unit {0}
-IsAsked closes = Unit {0}
-IsAsked ends = Unit {0}
-IsAsked turns = ⊥
-IsAsked (acks tx) = Unit {0}
+-- a call whose record can be read back: what is read from its bytes fits, and an entry's bytes can be kept
+abbrev Given : Call → Type 0
+Given (votes bytes) = ReadsFit (votes bytes)
+Given (holds bytes) = ReadsFit (holds bytes)
+Given (sees number bytes) = length bytes < length_limit
+Given runs = Unit {0}
+Given closes = Unit {0}
+Given ends = Unit {0}
+Given turns = ⊥
+Given (acks tx) = Unit {0}
 
 module _ (r : Rules) (opening : List Object) (records : List Record) (fit : IsFitMember (state r opening records)) (x : Record) where
   abbrev m : Member
@@ -263,6 +276,10 @@ module _ (r : Rules) (opening : List Object) (records : List Record) (fit : IsFi
           let each : AllByRecursion journals.ran_item.fits (i ∷ is) = subst (λ (l : List RanItem). AllByRecursion journals.ran_item.fits l) are (items-fit (rounds (books m) m.executed) (ran-digests (i ∷ is) due_)) in
           good-of (record_as.Ran2 (i ∷ is)) e (run-record (i ∷ is) few each, tt)
 
+  see-good : (number : ℕ) (bytes : List ℕ) (refusal : Option SeeRefusal) → length bytes < length_limit → see_record m number bytes refusal ≡ Some x → IsGood x
+  see-good number bytes (Some refusal) few e = absurd (cc)
+  see-good number bytes None few e = good-of (record_as.See bytes) e (see-record bytes few, tt)
+
   close-good : (answer : Result Bool CloseRefusal) → close_record answer ≡ Some x → IsGood x
   close-good (Err refusal) e = absurd (cc)
   close-good (Ok true) e = good-of record_as.Close e (close-record, tt)
@@ -276,23 +293,20 @@ module _ (r : Rules) (opening : List Object) (records : List Record) (fit : IsFi
   unfolding due
   run-due d = run-good (run_answer r m) refl d d
 
-  due-good : (call : Call) → ReadsFit call → IsAsked call → due r m call ≡ Some x → IsGood x
+  due-good : (call : Call) → Given call → due r m call ≡ Some x → IsGood x
   unfolding due
-  due-good (votes bytes) fits asked d = vote-good (read_signed bytes) (vote_answer r m bytes) fits (stated-vote bytes) d
-  due-good (holds bytes) fits asked d = hold-good (read_certificate bytes) (hold_answer r m bytes) fits d
-  due-good (sees number bytes) fits asked d = absurd asked
-  due-good runs fits asked d = run-due d
-  due-good closes fits asked d = close-good (close_answer r m) d
-  due-good ends fits asked d = absurd (cc)
-  due-good turns fits asked d = absurd asked
-  due-good (acks tx) fits asked d = absurd (cc)
+  due-good (votes bytes) given d = vote-good (read_signed bytes) (vote_answer r m bytes) given (stated-vote bytes) d
+  due-good (holds bytes) given d = hold-good (read_certificate bytes) (hold_answer r m bytes) given d
+  due-good (sees number bytes) given d = see-good number bytes (first_some (see_cases m number)) given d
+  due-good runs given d = run-due d
+  due-good closes given d = close-good (close_answer r m) d
+  due-good ends given d = absurd (cc)
+  due-good turns given d = absurd given
+  due-good (acks tx) given d = absurd (cc)
 
 -- ---- one record more
 
 module _ (s : Setting) where
-  abbrev Given : Call → Type 0
-  Given call = ReadsFit call × IsAsked call
-
   abbrev Starts : List Record → Type 0
   Starts records = (started s.rules s.opening (spelled records) ≡ Ok (state s.rules s.opening records)) × Along (IsDueBehind s.rules s.opening) [] records
 
@@ -307,7 +321,7 @@ module _ (s : Setting) where
   start-step : (records : List Record) (call : Call) (x : Record) → Given call → due s.rules (state s.rules s.opening records) call ≡ Some x → Starts records → Starts (records ++ x ∷ [])
   start-step records call x given d starts =
       let fit = fit-along s.rules s.opening [] records starts.1 (fit-none s.rules s.opening) in
-      let good = due-good s.rules s.opening records fit x call given.0 given.1 d in
+      let good = due-good s.rules s.opening records fit x call given d in
       let taken = taken-back s.rules (state s.rules s.opening records) x good.1 (due-allowed s.rules (state s.rules s.opening records) x call d) in
       (start-more records x good.0 taken starts.0, along-push (IsDueBehind s.rules s.opening) [] records x starts.1 (call, d))
 
@@ -335,87 +349,108 @@ module _ (s : Setting) where
 
   -- ---- the calls of a line
 
-  vote-asked : (m : ℕ) (t : Option Made) → LineReadsFit (call_on m (option_map signed_call t)) → Each Given (vote_call t)
-  vote-asked m None fits = tt
-  vote-asked m (Some t) fits = ((fits, tt), tt)
+  vote-given : (m : ℕ) (t : Option Made) → WorkReadsFit (asked m (option_map signed_call t)) → Each Given (vote_call t)
+  vote-given m None fits = tt
+  vote-given m (Some t) fits = (fits, tt)
 
-  send-asked : (m : ℕ) (c : Option Certificate) → LineReadsFit (call_on m (option_map held_call c)) → Each Given (send_call c)
-  send-asked m None fits = tt
-  send-asked m (Some c) fits = ((fits, tt), tt)
+  send-given : (m : ℕ) (c : Option Certificate) → WorkReadsFit (asked m (option_map held_call c)) → Each Given (send_call c)
+  send-given m None fits = tt
+  send-given m (Some c) fits = (fits, tt)
 
-  line-asked : (w : World) (e : Event) → is_plain e ≡ true → LineReadsFit (call_of (scene_of s w) e) → Each Given (calls_of s w e)
-  unfolding call_of
-  line-asked w (event.Tx name sender spoiled epoch gas budget inputs commands) plain fits = tt
-  line-asked w (event.Vote m tx) plain fits = vote-asked m (made_named w tx) fits
-  line-asked w (event.Fvote m tx origins) plain fits = tt
-  line-asked w (event.Cert tx members) plain fits = tt
-  line-asked w (event.Send m tx) plain fits = send-asked m (cert_named w tx) fits
-  line-asked w (event.Order tx) plain fits = absurd (cc)
-  line-asked w (event.OrderEnd m) plain fits = absurd (cc)
-  line-asked w event.OrderCommit plain fits = absurd (cc)
-  line-asked w (event.See m entries) plain fits = absurd (cc)
-  line-asked w (event.Run m workers) plain fits = ((tt, tt), tt)
-  line-asked w (event.Close m) plain fits = absurd (cc)
-  line-asked w (event.End m) plain fits = absurd (cc)
-  line-asked w (event.Turn m) plain fits = absurd (cc)
-  line-asked w (event.Show m) plain fits = tt
-  line-asked w (event.Stop m kept) plain fits = tt
-  line-asked w (event.Restart m) plain fits = tt
-  line-asked w (event.RawVote m bytes) plain fits = ((fits, tt), tt)
-  line-asked w (event.RawHold m bytes) plain fits = ((fits, tt), tt)
-  line-asked w (event.Ack m tx spoiled) plain fits = absurd (cc)
-  line-asked w (event.Final tx members) plain fits = absurd (cc)
+  see-given : (w : World) (m n : ℕ) → AreKeepable w.sequences → Each Given (see_calls s n w m)
+  see-given w m n keepable = see-each s IsKeepable Given (λ number e few. few) n w m keepable
+
+  ack-given : (t : Option Made) → Each Given (ack_call t)
+  ack-given None = tt
+  ack-given (Some t) = (tt, tt)
+
+  line-given : (w : World) (e : Event) → is_plain e ≡ true → WorkReadsFit (work_of (scene_of s w) e) → AreKeepable w.sequences → Each Given (calls_of s w e)
+  unfolding work_of
+  line-given w (event.Tx name sender spoiled epoch gas budget inputs commands) plain fits keepable = tt
+  line-given w (event.Vote m tx) plain fits keepable = vote-given m (made_named w tx) fits
+  line-given w (event.Fvote m tx origins) plain fits keepable = tt
+  line-given w (event.Cert tx members) plain fits keepable = tt
+  line-given w (event.Send m tx) plain fits keepable = send-given m (cert_named w tx) fits
+  line-given w (event.Order tx) plain fits keepable = tt
+  line-given w (event.OrderEnd m) plain fits keepable = tt
+  line-given w event.OrderCommit plain fits keepable = tt
+  line-given w (event.See m entries) plain fits keepable = see-given w m (min entries (entries_left w (member_at s w m))) keepable
+  line-given w (event.Run m workers) plain fits keepable = (tt, tt)
+  line-given w (event.Close m) plain fits keepable = (tt, tt)
+  line-given w (event.End m) plain fits keepable = (tt, tt)
+  line-given w (event.Turn m) plain fits keepable = absurd (cc)
+  line-given w (event.Show m) plain fits keepable = tt
+  line-given w (event.Stop m kept) plain fits keepable = tt
+  line-given w (event.Restart m) plain fits keepable = tt
+  line-given w (event.RawVote m bytes) plain fits keepable = (fits, tt)
+  line-given w (event.RawHold m bytes) plain fits keepable = (fits, tt)
+  line-given w (event.Ack m tx spoiled) plain fits keepable = ack-given (made_named w tx)
+  line-given w (event.Final tx members) plain fits keepable = tt
 
   pub first-starts : Restarts s (new_world s)
   unfolding new_world
   first-starts = all-start (new_world s) (new-seats s Given Starts start-step s.honest no-start)
 
-pub line-starts : (trust : Trust) (s : Setting) (w : World) (sc : Scene) (e : Event) → Shows trust s w sc → is_plain e ≡ true → LineReadsFit (call_of sc e) → Restarts s w → Restarts s (happens s w e)
-line-starts trust s w sc e shows plain fits restarts =
+pub line-starts : (trust : Trust) (s : Setting) (w : World) (sc : Scene) (e : Event) → Shows trust s w sc → is_plain e ≡ true → WorkReadsFit (work_of sc e) → AreKeepable w.sequences → Restarts s w → Restarts s (happens s w e)
+line-starts trust s w sc e shows plain fits keepable restarts =
     all-start s (happens s w e)
-    (kept-line s (Given s) (Starts s) (start-step s) w e (line-asked s w e plain (subst (λ (x : Scene). LineReadsFit (call_of x e)) shows.scene fits)) (each-starts s w restarts))
+    (kept-line s Given (Starts s) (start-step s) w e (line-given s w e plain (subst (λ (x : Scene). WorkReadsFit (work_of x e)) shows.scene fits) keepable) (each-starts s w restarts))
 
 -- ---- a run
 
--- the calls of plain lines
-plain-calls : (s : Setting) (w : World) (e : Event) → is_plain e ≡ true → Each ReadsFit (calls_of s w e) → Each (Given s) (calls_of s w e)
-plain-calls s w (event.Tx name sender spoiled epoch gas budget inputs commands) plain fits = tt
-plain-calls s w (event.Vote m tx) plain fits = go (made_named w tx) fits
-  where
-    go : (t : Option Made) → Each ReadsFit (vote_call t) → Each (Given s) (vote_call t)
-    go None fits = tt
-    go (Some t) fits = ((fits.0, tt), tt)
-plain-calls s w (event.Fvote m tx origins) plain fits = tt
-plain-calls s w (event.Cert tx members) plain fits = tt
-plain-calls s w (event.Send m tx) plain fits = go (cert_named w tx) fits
-  where
-    go : (c : Option Certificate) → Each ReadsFit (send_call c) → Each (Given s) (send_call c)
-    go None fits = tt
-    go (Some c) fits = ((fits.0, tt), tt)
-plain-calls s w (event.Order tx) plain fits = absurd (cc)
-plain-calls s w (event.OrderEnd m) plain fits = absurd (cc)
-plain-calls s w event.OrderCommit plain fits = absurd (cc)
-plain-calls s w (event.See m entries) plain fits = absurd (cc)
-plain-calls s w (event.Run m workers) plain fits = ((tt, tt), tt)
-plain-calls s w (event.Close m) plain fits = absurd (cc)
-plain-calls s w (event.End m) plain fits = absurd (cc)
-plain-calls s w (event.Turn m) plain fits = absurd (cc)
-plain-calls s w (event.Show m) plain fits = tt
-plain-calls s w (event.Stop m kept) plain fits = tt
-plain-calls s w (event.Restart m) plain fits = tt
-plain-calls s w (event.RawVote m bytes) plain fits = ((fits.0, tt), tt)
-plain-calls s w (event.RawHold m bytes) plain fits = ((fits.0, tt), tt)
-plain-calls s w (event.Ack m tx spoiled) plain fits = absurd (cc)
-plain-calls s w (event.Final tx members) plain fits = absurd (cc)
+-- what a line hands to a member is read from its calls
+module _ (s : Setting) where
+  vote-work : (m : ℕ) (t : Option Made) → Each ReadsFit (vote_call t) → WorkReadsFit (asked m (option_map signed_call t))
+  vote-work m None fits = tt
+  vote-work m (Some t) fits = fits.0
 
-run-calls : (s : Setting) (events : List Event) (w : World) → Each (IsTrueOf is_plain) events → Each ReadsFit (all_of calls_of s events w) → Each (Given s) (all_of calls_of s events w)
-run-calls s [] w plain fits = tt
-run-calls s (e ∷ events) w plain fits =
-    each-join (Given s) (calls_of s w e) (all_of calls_of s events (happens s w e))
-    (plain-calls s w e plain.0 (each-front ReadsFit (calls_of s w e) _ fits))
-    (run-calls s events (happens s w e) plain.1 (each-back ReadsFit (calls_of s w e) _ fits))
+  send-work : (m : ℕ) (c : Option Certificate) → Each ReadsFit (send_call c) → WorkReadsFit (asked m (option_map held_call c))
+  send-work m None fits = tt
+  send-work m (Some c) fits = fits.0
 
-pub run-starts : (s : Setting) (events : List Event) → Each (IsTrueOf is_plain) events → Each ReadsFit (all_of calls_of s events (new_world s)) → Restarts s (world_after s events)
-run-starts s events plain fits =
-    let all = in_world_given s (Given s) (Starts s) (start-step s) (no-start s) events (run-calls s events (new_world s) plain fits) in
+  ack-if : (m : ℕ) (tx : Digest) (b : Bool) → WorkReadsFit (cond b (asks m (acks tx)) idle)
+  ack-if m tx true = tt
+  ack-if m tx false = tt
+
+  ack-work : (w : World) (m : ℕ) (t : Option Made) → WorkReadsFit (ack_work (scene_of s w) m t)
+  ack-work w m None = tt
+  ack-work w m (Some t) = ack-if m t.digest (is_honest (bare_world (scene_of s w)) m)
+
+  work-reads : (w : World) (e : Event) → Each ReadsFit (calls_of s w e) → WorkReadsFit (work_of (scene_of s w) e)
+  unfolding work_of
+  work-reads w (event.Tx name sender spoiled epoch gas budget inputs commands) fits = tt
+  work-reads w (event.Vote m tx) fits = vote-work m (made_named w tx) fits
+  work-reads w (event.Fvote m tx origins) fits = tt
+  work-reads w (event.Cert tx members) fits = tt
+  work-reads w (event.Send m tx) fits = send-work m (cert_named w tx) fits
+  work-reads w (event.Order tx) fits = tt
+  work-reads w (event.OrderEnd m) fits = tt
+  work-reads w event.OrderCommit fits = tt
+  work-reads w (event.See m entries) fits = tt
+  work-reads w (event.Run m workers) fits = tt
+  work-reads w (event.Close m) fits = tt
+  work-reads w (event.End m) fits = tt
+  work-reads w (event.Turn m) fits = tt
+  work-reads w (event.Show m) fits = tt
+  work-reads w (event.Stop m kept) fits = tt
+  work-reads w (event.Restart m) fits = tt
+  work-reads w (event.RawVote m bytes) fits = fits.0
+  work-reads w (event.RawHold m bytes) fits = fits.0
+  work-reads w (event.Ack m tx spoiled) fits = ack-work w m (made_named w tx)
+  work-reads w (event.Final tx members) fits = tt
+
+  run-given : (events : List Event) (w : World) → Each (IsTrueOf is_plain) events → Each ReadsFit (all_of calls_of s events w) → AreKeepable (run s events w).sequences → Each Given (all_of calls_of s events w)
+  run-given [] w plain fits keepable = tt
+  run-given (e ∷ events) w plain fits keepable =
+      each-join Given (calls_of s w e) (all_of calls_of s events (happens s w e))
+      (line-given s w e plain.0 (work-reads w e (each-front ReadsFit (calls_of s w e) _ fits)) (run-keepable s (e ∷ events) w keepable))
+      (run-given events (happens s w e) plain.1 (each-back ReadsFit (calls_of s w e) _ fits) keepable)
+
+  all-given : (events : List Event) → Each (IsTrueOf is_plain) events → Each ReadsFit (all_of calls_of s events (new_world s)) → AreKeepable (world_after s events).sequences → Each Given (all_of calls_of s events (new_world s))
+  unfolding world_after
+  all-given events plain fits keepable = run-given events (new_world s) plain fits keepable
+
+pub run-starts : (s : Setting) (events : List Event) → Each (IsTrueOf is_plain) events → Each ReadsFit (all_of calls_of s events (new_world s)) → AreKeepable (world_after s events).sequences → Restarts s (world_after s events)
+run-starts s events plain fits keepable =
+    let all = in_world_given s Given (Starts s) (start-step s) (no-start s) events (all-given s events plain fits keepable) in
     record { starts = λ m seat at. (all m seat at).0; due = λ m seat at. (all m seat at).1 }

@@ -1,6 +1,6 @@
 -- A step of the scene is the definition's step.
 use Rattle.std.proofs.Common.{refl, sym, subst, ap, ◌∙◌}
-use Rattle.std.specs.Prelude.{◌≡◌, ◌<◌, ℕ, ◌+◌, zero, suc, Bool, true, false, cond, ◌&&◌, List, [], ◌∷◌, ◌++◌, map, slice_get, length, Option, Some, None, option_map, Result, Ok}
+use Rattle.std.specs.Prelude.{◌≡◌, ◌<◌, ◌==◌, ℕ, ◌+◌, zero, suc, min, Bool, true, false, cond, ◌&&◌, List, [], ◌∷◌, ◌++◌, map, slice_get, length, Option, Some, None, option_map, option_and_then, Result, Ok}
 use Rattle.std.specs.List.{enumerate_from}
 use Rattle.digest_core.specs.declared.Digest.{Digest}
 use Rattle.quorum_core.specs.declared.signer.Signer.{Signer}
@@ -11,19 +11,21 @@ use Rattle.chain_messages.specs.declared.messages.MemberSeal.{MemberSeal}
 use Rattle.chain_messages.specs.declared.messages.Statement.{Statement}
 use Rattle.chain_messages.specs.declared.messages.Statement.TheVariants as statement
 use Rattle.chain_messages.specs.declared.messages.Certificate.{Certificate}
+use Rattle.chain_messages.specs.declared.messages.Entry.{Entry}
+use Rattle.chain_messages.specs.declared.messages.Entry.TheVariants as entry
 use Rattle.schedule_text.specs.declared.words.Setup.{Setup}
 use Rattle.schedule_text.specs.declared.words.Event.{Event}
 use Rattle.schedule_text.specs.declared.words.Event.TheVariants as event
-use Rattle.protocol_spec.specs.Chain.Words.{Each, first_some, first_of}
+use Rattle.protocol_spec.specs.Chain.Words.{first_some, first_of}
 use Rattle.protocol_spec.specs.Chain.Certificates.{Rules}
 use Rattle.protocol_spec.specs.Member.Member.{Member, state}
-use Rattle.protocol_spec.specs.Member.Calls.{Call, runs, votes, holds}
+use Rattle.protocol_spec.specs.Member.Calls.{Call, runs, votes, holds, closes, ends, turns, acks}
 use Rattle.world_spec.specs.Setting.{Name, Trust, Setting, setting_of}
 use Rattle.world_spec.specs.World as worlds
-use Rattle.world_spec.specs.World.{Made, World, called_in, honest_seat, is_honest, member_in, new_seat, new_world, says_first}
+use Rattle.world_spec.specs.World.{Made, Said, World, called_in, honest_seat, is_honest, member_at, member_in, new_seat, new_world, said_by, says_first, sees_on}
 use Rattle.world_spec.specs.Names.{made_named, cert_named}
-use Rattle.world_spec.specs.Making.{TxLine, held_digest, made_by_line}
-use Rattle.world_spec.specs.Step.{Collected, lacks, short, differ, whole, armed_seat, first_origins, formed, formed_as, fvote_origins, fvoted, happens, honest_vote, no_origins, origin_word, origins_or, says, sent, started_seat, vote_statement, voted_on, votes_collected}
+use Rattle.world_spec.specs.Making.{TxLine, digest_or_zero, held_digest, made_by_line, spoiled_if}
+use Rattle.world_spec.specs.Step.{Collected, lacks, short, differ, whole, acked, appended_entry, armed_seat, end_in, end_ordered, entries_left, executed_digest, false_ack, has_ended, honest_end, last_said, ordered, ordered_end, risen_if, sealed_end, first_origins, formed, formed_as, fvote_origins, fvoted, happens, honest_vote, no_origins, origin_word, origins_or, says, sent, started_seat, vote_statement, voted_on, votes_collected}
 use Rattle.world_spec.specs.Run.{records_of}
 use Rattle.scene_spec.specs.Known.{names_of, with_line}
 use Rattle.scene_spec.specs.MadeLines.{line_made}
@@ -31,11 +33,13 @@ use Rattle.scene_spec.proofs.MadeWorlds.{line_same}
 use Rattle.scene_spec.specs.Terms.{rules_for, terms_of}
 use Rattle.answer_types.specs.declared.refusals.StartRefusal.{StartRefusal}
 use Rattle.scene_spec.specs.Starts.{started}
+use Rattle.scene_spec.specs.Seats.{Seat}
 use Rattle.scene_spec.specs.Posts.{Post, arming, new_posts, seat_at, started_at, starting}
 use Rattle.scene_spec.specs.Scene.{Scene, bare_seat, bare_setting, bare_world, new_scene, rules_in}
-use Rattle.scene_spec.specs.Steps.{call_of, call_on, called_by, held_by, held_call, signed_call, held_in, steps_to, with_tx}
-use Rattle.scene_spec.specs.Worlds.{IsTrueOf, Restarts, Shows, is_plain, is_plain_setup, is_restart, journal_in, post_of, posts_from, scene_of, spelled}
-use Rattle.run_law.proofs.ScenePosts.{place-first, called-same, called-open, changed-same, changed-open}
+use Rattle.scene_spec.specs.Steps.{Work, asks, hands, acked_in, asked, called_scene, false_ack_in, held_by, held_call, held_in, says_in, sees_to, signed_call, state_at, steps_to, with_order, with_tx, work_of, worked}
+use Rattle.scene_spec.specs.Worlds.{Restarts, Shows, is_plain, is_restart, journal_in, post_of, posts_from, scene_of, spelled}
+use Rattle.run_law.proofs.ScenePosts.{place-first, called-same, called-open, changed-same}
+use Rattle.run_law.proofs.SceneSees.{count-same, sees-same}
 
 -- ---- the first scene
 
@@ -44,15 +48,13 @@ unfolding state
 fresh-posts s k [] = refl
 fresh-posts s k (h ∷ honest) = ap (λ (ps : List Post). post_of s k (new_seat h) ∷ ps) (fresh-posts s (suc k) honest)
 
-pub first-shown : (trust : Trust) (lines : List Setup) → Each (IsTrueOf is_plain_setup) lines → Shows trust (setting_of trust lines) (new_world (setting_of trust lines)) (new_scene (setting_of trust lines) lines)
+pub first-shown : (trust : Trust) (lines : List Setup) → Shows trust (setting_of trust lines) (new_world (setting_of trust lines)) (new_scene (setting_of trust lines) lines)
 unfolding setting_of new_world
-first-shown trust lines plain =
+first-shown trust lines =
     let s = setting_of trust lines in
     record {
       rules = refl;
       seal = refl;
-      epoch = refl;
-      sequences = refl;
       scene = ap (λ (posts : List Post). record (new_scene s lines) { posts = posts }) (fresh-posts s 0 s.honest);
     }
 
@@ -91,7 +93,7 @@ module _ (s : Setting) where
 
   -- ---- false votes
 
-  bare-honest : (k : ℕ) (seats : List worlds.Seat) (m : ℕ) → honest_seat (slice_get seats m) ≡ honest_seat (slice_get (map bare_seat (posts_from s k seats)) m)
+  pub bare-honest : (k : ℕ) (seats : List worlds.Seat) (m : ℕ) → honest_seat (slice_get seats m) ≡ honest_seat (slice_get (map bare_seat (posts_from s k seats)) m)
   bare-honest k [] m = refl
   bare-honest k (seat ∷ seats) zero = refl
   bare-honest k (seat ∷ seats) (suc m) = bare-honest (suc k) seats m
@@ -127,12 +129,12 @@ module _ (s : Setting) where
       ∙ ap (λ (b : Bool). record (scene_of s w) { said = (cond b bare (says bare m (voted_for t (fvote_origins w t words)))).said }) (bare-honest 0 w.seats m)
       ∙ ap (λ (origins : List (Option Digest)). record (scene_of s w) { said = (cond (is_honest bare m) bare (says bare m (voted_for t origins))).said }) (origins-same w t words)
 
-  if-open : (w : World) (m : ℕ) (st : Statement) (b : Bool) → ((cond b w (says w m st)).epoch ≡ w.epoch) × ((cond b w (says w m st)).sequences ≡ w.sequences)
-  if-open w m st true = (refl, refl)
-  if-open w m st false = (refl, refl)
+  if-open : (w : World) (m : ℕ) (st : Statement) (b : Bool) → (cond b w (says w m st)).sequences ≡ w.sequences
+  if-open w m st true = refl
+  if-open w m st false = refl
 
-  fvote-open : (w : World) (m : ℕ) (words : List (Option Name)) (t : Option Made) → ((fvoted w m words t).epoch ≡ w.epoch) × ((fvoted w m words t).sequences ≡ w.sequences)
-  fvote-open w m words None = (refl, refl)
+  pub fvote-open : (w : World) (m : ℕ) (words : List (Option Name)) (t : Option Made) → (fvoted w m words t).sequences ≡ w.sequences
+  fvote-open w m words None = refl
   fvote-open w m words (Some t) = if-open w m (voted_for t (fvote_origins w t words)) (is_honest w m)
 
   -- ---- certificates
@@ -163,99 +165,167 @@ module _ (s : Setting) where
         formed-same w t ms (votes_collected s w t.digest ms)
         ∙ ap (λ (c : Collected). record (scene_of s w) { certs = (formed_as (bare_setting trust (scene_of s w)) (bare_world (scene_of s w)) t ms c).certs }) (collected-same w t.digest ms)
 
-  formed-open : (w : World) (t : Made) (ms : List ℕ) (c : Collected) → ((formed_as s w t ms c).epoch ≡ w.epoch) × ((formed_as s w t ms c).sequences ≡ w.sequences)
-  formed-open w t ms (lacks m) = (refl, refl)
-  formed-open w t ms (short weight total) = (refl, refl)
-  formed-open w t ms (differ a b) = (refl, refl)
-  formed-open w t ms whole = (refl, refl)
+  formed-open : (w : World) (t : Made) (ms : List ℕ) (c : Collected) → (formed_as s w t ms c).sequences ≡ w.sequences
+  formed-open w t ms (lacks m) = refl
+  formed-open w t ms (short weight total) = refl
+  formed-open w t ms (differ a b) = refl
+  formed-open w t ms whole = refl
 
-  cert-open : (w : World) (ms : List ℕ) (t : Option Made) → ((formed s w ms t).epoch ≡ w.epoch) × ((formed s w ms t).sequences ≡ w.sequences)
-  cert-open w ms None = (refl, refl)
+  pub cert-open : (w : World) (ms : List ℕ) (t : Option Made) → (formed s w ms t).sequences ≡ w.sequences
+  cert-open w ms None = refl
   cert-open w ms (Some t) = formed-open w t ms (votes_collected s w t.digest ms)
 
   -- ---- calls of names
 
-  voted-same : (w : World) (m : ℕ) (t : Option Made) → scene_of s (voted_on s w m t) ≡ called_by s.rules (scene_of s w) (call_on m (option_map signed_call t))
+  voted-same : (w : World) (m : ℕ) (t : Option Made) → scene_of s (voted_on s w m t) ≡ worked s.rules (scene_of s w) (asked m (option_map signed_call t))
   voted-same w m None = refl
   voted-same w m (Some t) = called-same s w m (signed_call t)
 
-  sent-same : (w : World) (m : ℕ) (c : Option Certificate) → scene_of s (sent s w m c) ≡ called_by s.rules (scene_of s w) (call_on m (option_map held_call c))
+  sent-same : (w : World) (m : ℕ) (c : Option Certificate) → scene_of s (sent s w m c) ≡ worked s.rules (scene_of s w) (asked m (option_map held_call c))
   sent-same w m None = refl
   sent-same w m (Some c) = called-same s w m (held_call c)
 
-  voted-open : (w : World) (m : ℕ) (t : Option Made) → ((voted_on s w m t).epoch ≡ w.epoch) × ((voted_on s w m t).sequences ≡ w.sequences)
-  voted-open w m None = (refl, refl)
+  pub voted-open : (w : World) (m : ℕ) (t : Option Made) → (voted_on s w m t).sequences ≡ w.sequences
+  voted-open w m None = refl
   voted-open w m (Some t) = called-open s w m (signed_call t)
 
-  sent-open : (w : World) (m : ℕ) (c : Option Certificate) → ((sent s w m c).epoch ≡ w.epoch) × ((sent s w m c).sequences ≡ w.sequences)
-  sent-open w m None = (refl, refl)
+  pub sent-open : (w : World) (m : ℕ) (c : Option Certificate) → (sent s w m c).sequences ≡ w.sequences
+  sent-open w m None = refl
   sent-open w m (Some c) = called-open s w m (held_call c)
+
+  see-same : (w : World) (m entries : ℕ)
+      → scene_of s (sees_on s (min entries (entries_left w (member_at s w m))) w m) ≡ sees_to s.rules (min entries (entries_left (bare_world (scene_of s w)) (state_at (scene_of s w) m))) (scene_of s w) m
+  see-same w m entries = ap (λ (v : World). scene_of s v) (count-same s w m entries) ∙ sees-same s (min entries (entries_left (bare_world (scene_of s w)) (state_at (scene_of s w) m))) w m
+
+  -- ---- the order
+
+  entry-if : (w : World) (e : Entry) (b : Bool) → scene_of s (cond b (appended_entry w e) w) ≡ with_order (scene_of s w) (cond b (appended_entry (bare_world (scene_of s w)) e) (bare_world (scene_of s w)))
+  entry-if w e true = refl
+  entry-if w e false = refl
+
+  order-same : (w : World) (c : Option Certificate) → scene_of s (ordered w c) ≡ with_order (scene_of s w) (ordered (bare_world (scene_of s w)) c)
+  order-same w None = refl
+  order-same w (Some c) = entry-if w (entry.Cert c) (c.tx.epoch == w.epoch)
+
+  -- the same with other rules and another seal
+  abbrev bare_with : Trust → World → Rules → (Signer → List ℕ → Digest) → Setting
+  bare_with trust w rules seal = record (bare_setting trust (scene_of s w)) { rules = rules; seal = seal }
+
+  module _ (trust : Trust) (w : World) where
+    abbrev bare_s : Setting
+    bare_s = bare_with trust w s.rules s.seal
+
+    -- a world, and one that has the same order and statements
+    abbrev IsSame : World → World → Type 0
+    IsSame v u = scene_of s v ≡ with_order (scene_of s w) u
+
+    rise-if : (sequences : List (List Entry)) (said : List Said) (b : Bool)
+        → IsSame (risen_if b (record w { sequences = sequences; said = said })) (risen_if b (record (bare_world (scene_of s w)) { sequences = sequences; said = said }))
+    rise-if sequences said true = refl
+    rise-if sequences said false = refl
+
+    honest-if : (m epoch : ℕ) (b : Bool) → IsSame (cond b (ordered_end s w m epoch) w) (cond b (ordered_end bare_s (bare_world (scene_of s w)) m epoch) (bare_world (scene_of s w)))
+    honest-if m epoch true = rise-if (appended_entry w (sealed_end s m epoch)).sequences w.said (has_ended s (appended_entry w (sealed_end s m epoch)))
+    honest-if m epoch false = refl
+
+    honest-same : (m : ℕ) (epoch : Option ℕ) → IsSame (honest_end s w m epoch) (honest_end bare_s (bare_world (scene_of s w)) m epoch)
+    honest-same m None = refl
+    honest-same m (Some epoch) = honest-if m epoch (epoch == w.epoch)
+
+    faulty-same : (m : ℕ) → IsSame (ordered_end s (says w m (statement.End w.epoch)) m w.epoch) (ordered_end bare_s (says (bare_world (scene_of s w)) m (statement.End w.epoch)) m w.epoch)
+    faulty-same m =
+        let v = says w m (statement.End w.epoch) in
+        rise-if (appended_entry v (sealed_end s m w.epoch)).sequences v.said (has_ended s (appended_entry v (sealed_end s m w.epoch)))
+
+    end-if : (m : ℕ) (b : Bool)
+        → IsSame (cond b (honest_end s w m (last_said end_in m w.said)) (ordered_end s (says w m (statement.End w.epoch)) m w.epoch))
+        (cond b (honest_end bare_s (bare_world (scene_of s w)) m (last_said end_in m w.said)) (ordered_end bare_s (says (bare_world (scene_of s w)) m (statement.End w.epoch)) m w.epoch))
+    end-if m true = honest-same m (last_said end_in m w.said)
+    end-if m false = faulty-same m
+
+    end-same : (m : ℕ) → s.rules ≡ rules_for (terms_of s.rules) trust.accepts → s.seal ≡ trust.seal → IsSame (end_ordered s w m) (end_ordered (bare_setting trust (scene_of s w)) (bare_world (scene_of s w)) m)
+    end-same m rules seal =
+        let bare = bare_world (scene_of s w) in
+        end-if m (is_honest w m)
+        ∙ ap (λ (b : Bool). with_order (scene_of s w) (cond b (honest_end bare_s bare m (last_said end_in m w.said)) (ordered_end bare_s (says bare m (statement.End w.epoch)) m w.epoch))) (bare-honest 0 w.seats m)
+        ∙ ap (λ (r : Rules). with_order (scene_of s w) (end_ordered (bare_with trust w r s.seal) bare m)) rules
+        ∙ ap (λ (f : Signer → List ℕ → Digest). with_order (scene_of s w) (end_ordered (bare_with trust w (rules_for (terms_of s.rules) trust.accepts) f) bare m)) seal
+
+  -- ---- acknowledgements
+
+  says-one : {A : Type 0} (says : Member → Option A) (k : ℕ) (seat : worlds.Seat) (honest up : Bool)
+      → cond (honest && up) (says (member_in s seat)) None
+      ≡ cond honest (option_and_then (λ (x : Seat). says x.state) (cond up (Some (seat_at (terms_of s.rules) k (member_in s seat))) None)) None
+  says-one says k seat true true = refl
+  says-one says k seat true false = refl
+  says-one says k seat false true = refl
+  says-one says k seat false false = refl
+
+  says-same : {A : Type 0} (says : Member → Option A) (k : ℕ) (seats : List worlds.Seat) → says_first s says seats ≡ says_in says (posts_from s k seats)
+  says-same says k [] = refl
+  says-same {A} says k (seat ∷ seats) =
+      ap (λ (d : Option A). first_some (d ∷ says_first s says seats ∷ [])) (says-one says k seat seat.honest seat.up)
+      ∙ ap (λ (d : Option A). first_some (cond seat.honest (option_and_then (λ (x : Seat). says x.state) (post_of s k seat).standing) None ∷ d ∷ [])) (says-same says (suc k) seats)
+
+  acks-if : (w : World) (m : ℕ) (t : Made) (spoiled b : Bool)
+      → scene_of s (cond b (called_in s w m (acks t.digest)) (says w m (false_ack s w t spoiled)))
+      ≡ cond b (called_scene s.rules (scene_of s w) m (acks t.digest)) (record (scene_of s w) { said = w.said ++ said_by m (false_ack_in (scene_of s w) t spoiled) ∷ [] })
+  acks-if w m t spoiled true = called-same s w m (acks t.digest)
+  acks-if w m t spoiled false =
+      ap (λ (d : Option Digest). record (scene_of s w) { said = w.said ++ said_by m (statement.Ack t.signed.tx.epoch t.digest (spoiled_if spoiled (digest_or_zero d))) ∷ [] })
+      (says-same (executed_digest t.digest) 0 w.seats)
+
+  ack-same : (w : World) (m : ℕ) (spoiled : Bool) (t : Option Made) → scene_of s (acked s w m spoiled t) ≡ acked_in s.rules (scene_of s w) m spoiled t
+  ack-same w m spoiled None = refl
+  ack-same w m spoiled (Some t) =
+      acks-if w m t spoiled (is_honest w m)
+      ∙ ap (λ (b : Bool). cond b (called_scene s.rules (scene_of s w) m (acks t.digest)) (record (scene_of s w) { said = w.said ++ said_by m (false_ack_in (scene_of s w) t spoiled) ∷ [] })) (bare-honest 0 w.seats m)
 
   -- ---- each line
 
-  open-step : (w : World) (e : Event) → is_plain e ≡ true → ((happens s w e).epoch ≡ w.epoch) × ((happens s w e).sequences ≡ w.sequences)
-  unfolding happens made_by_line
-  open-step w (event.Tx name sender spoiled epoch gas budget inputs commands) plain = (refl, refl)
-  open-step w (event.Vote m tx) plain = voted-open w m (made_named w tx)
-  open-step w (event.Fvote m tx origins) plain = fvote-open w m origins (made_named w tx)
-  open-step w (event.Cert tx members) plain = cert-open w members (made_named w tx)
-  open-step w (event.Send m tx) plain = sent-open w m (cert_named w tx)
-  open-step w (event.Order tx) plain = absurd (cc)
-  open-step w (event.OrderEnd m) plain = absurd (cc)
-  open-step w event.OrderCommit plain = absurd (cc)
-  open-step w (event.See m entries) plain = absurd (cc)
-  open-step w (event.Run m workers) plain = called-open s w m runs
-  open-step w (event.Close m) plain = absurd (cc)
-  open-step w (event.End m) plain = absurd (cc)
-  open-step w (event.Turn m) plain = absurd (cc)
-  open-step w (event.Show m) plain = (refl, refl)
-  open-step w (event.Stop m kept) plain = changed-open s w m (armed_seat kept) (arming kept)
-  open-step w (event.Restart m) plain = changed-open s w m started_seat (λ (p : Post). p)
-  open-step w (event.RawVote m bytes) plain = called-open s w m (votes bytes)
-  open-step w (event.RawHold m bytes) plain = called-open s w m (holds bytes)
-  open-step w (event.Ack m tx spoiled) plain = absurd (cc)
-  open-step w (event.Final tx members) plain = absurd (cc)
-
   module _ (trust : Trust) (rules : s.rules ≡ rules_for (terms_of s.rules) trust.accepts) (seal : s.seal ≡ trust.seal) (w : World) where
-    abbrev CalledBy : Option (ℕ × Call) → World → Type 0
-    CalledBy call next = scene_of s next ≡ called_by s.rules (scene_of s w) call
+    abbrev WorkedAs : Work → World → Type 0
+    WorkedAs work next = scene_of s next ≡ worked s.rules (scene_of s w) work
 
-    by-rules : (call : Option (ℕ × Call)) (next : World) → CalledBy call next → scene_of s next ≡ called_by (rules_in trust.accepts (scene_of s w)) (scene_of s w) call
-    by-rules call next e = e ∙ ap (λ (r : Rules). called_by r (scene_of s w) call) rules
+    by-rules : (work : Work) (next : World) → WorkedAs work next → scene_of s next ≡ worked (rules_in trust.accepts (scene_of s w)) (scene_of s w) work
+    by-rules work next e = e ∙ ap (λ (r : Rules). worked r (scene_of s w) work) rules
 
-    scene-step : (e : Event) → is_plain e ≡ true → is_restart e ≡ false → scene_of s (happens s w e) ≡ steps_to trust (scene_of s w) e
-    unfolding happens steps_to call_of
-    scene-step (event.Tx name sender spoiled epoch gas budget inputs commands) plain other =
+    by-call : (m : ℕ) (call : Call) → scene_of s (called_in s w m call) ≡ called_scene (rules_in trust.accepts (scene_of s w)) (scene_of s w) m call
+    by-call m call = by-rules (asks m call) (called_in s w m call) (called-same s w m call)
+
+    scene-step : (e : Event) → is_restart e ≡ false → scene_of s (happens s w e) ≡ steps_to trust (scene_of s w) e
+    unfolding happens steps_to work_of
+    scene-step (event.Tx name sender spoiled epoch gas budget inputs commands) other =
         tx-same trust w (record { name = name; sender = sender; spoiled = spoiled; epoch = epoch; gas = gas; budget = budget; inputs = inputs; commands = commands }) seal
-    scene-step (event.Vote m tx) plain other = by-rules (call_on m (option_map signed_call (made_named w tx))) (voted_on s w m (made_named w tx)) (voted-same w m (made_named w tx))
-    scene-step (event.Fvote m tx origins) plain other = fvote-same w m origins (made_named w tx)
-    scene-step (event.Cert tx members) plain other = cert-same trust seal w members (made_named w tx)
-    scene-step (event.Send m tx) plain other = by-rules (call_on m (option_map held_call (cert_named w tx))) (sent s w m (cert_named w tx)) (sent-same w m (cert_named w tx))
-    scene-step (event.Order tx) plain other = absurd (cc)
-    scene-step (event.OrderEnd m) plain other = absurd (cc)
-    scene-step event.OrderCommit plain other = absurd (cc)
-    scene-step (event.See m entries) plain other = absurd (cc)
-    scene-step (event.Run m workers) plain other = by-rules (Some (m, runs)) (called_in s w m runs) (called-same s w m runs)
-    scene-step (event.Close m) plain other = absurd (cc)
-    scene-step (event.End m) plain other = absurd (cc)
-    scene-step (event.Turn m) plain other = absurd (cc)
-    scene-step (event.Show m) plain other = refl
-    scene-step (event.Stop m kept) plain other = changed-same s w m (armed_seat kept) (arming kept) (λ seat at. refl)
-    scene-step (event.Restart m) plain other = absurd (cc)
-    scene-step (event.RawVote m bytes) plain other = by-rules (Some (m, votes bytes)) (called_in s w m (votes bytes)) (called-same s w m (votes bytes))
-    scene-step (event.RawHold m bytes) plain other = by-rules (Some (m, holds bytes)) (called_in s w m (holds bytes)) (called-same s w m (holds bytes))
-    scene-step (event.Ack m tx spoiled) plain other = absurd (cc)
-    scene-step (event.Final tx members) plain other = absurd (cc)
+    scene-step (event.Vote m tx) other = by-rules (asked m (option_map signed_call (made_named w tx))) (voted_on s w m (made_named w tx)) (voted-same w m (made_named w tx))
+    scene-step (event.Fvote m tx origins) other = fvote-same w m origins (made_named w tx)
+    scene-step (event.Cert tx members) other = cert-same trust seal w members (made_named w tx)
+    scene-step (event.Send m tx) other = by-rules (asked m (option_map held_call (cert_named w tx))) (sent s w m (cert_named w tx)) (sent-same w m (cert_named w tx))
+    scene-step (event.Order tx) other = order-same w (cert_named w tx)
+    scene-step (event.OrderEnd m) other = end-same trust w m rules seal
+    scene-step event.OrderCommit other = refl
+    scene-step (event.See m entries) other =
+        by-rules (hands m (min entries (entries_left (bare_world (scene_of s w)) (state_at (scene_of s w) m)))) (sees_on s (min entries (entries_left w (member_at s w m))) w m) (see-same w m entries)
+    scene-step (event.Run m workers) other = by-call m runs
+    scene-step (event.Close m) other = by-call m closes
+    scene-step (event.End m) other = by-call m ends
+    scene-step (event.Turn m) other = by-call m turns
+    scene-step (event.Show m) other = refl
+    scene-step (event.Stop m kept) other = changed-same s w m (armed_seat kept) (arming kept) (λ seat at. refl)
+    scene-step (event.Restart m) other = absurd (cc)
+    scene-step (event.RawVote m bytes) other = by-call m (votes bytes)
+    scene-step (event.RawHold m bytes) other = by-call m (holds bytes)
+    scene-step (event.Ack m tx spoiled) other =
+        ack-same w m spoiled (made_named w tx) ∙ ap (λ (r : Rules). acked_in r (scene_of s w) m spoiled (made_named w tx)) rules
+    scene-step (event.Final tx members) other = refl
 
-shown-in : (trust : Trust) (s : Setting) (w : World) (sc : Scene) (e : Event) (next : Scene) → Shows trust s w sc → is_plain e ≡ true → next ≡ scene_of s (happens s w e) → Shows trust s (happens s w e) next
-shown-in trust s w sc e next shows plain is =
-    let open_ = open-step s w e plain in
-    record { rules = shows.rules; seal = shows.seal; epoch = open_.0 ∙ shows.epoch; sequences = open_.1 ∙ shows.sequences; scene = is }
+shown-in : (trust : Trust) (s : Setting) (w : World) (sc : Scene) (e : Event) (next : Scene) → Shows trust s w sc → next ≡ scene_of s (happens s w e) → Shows trust s (happens s w e) next
+shown-in trust s w sc e next shows is = record { rules = shows.rules; seal = shows.seal; scene = is }
 
 pub step-shown : (trust : Trust) (s : Setting) (w : World) (sc : Scene) (e : Event) → Shows trust s w sc → is_plain e ≡ true → is_restart e ≡ false → Shows trust s (happens s w e) (steps_to trust sc e)
 step-shown trust s w sc e shows plain other =
-    shown-in trust s w sc e (steps_to trust sc e) shows plain
-    (ap (λ (x : Scene). steps_to trust x e) shows.scene ∙ sym (scene-step s trust shows.rules shows.seal w e plain other))
+    shown-in trust s w sc e (steps_to trust sc e) shows
+    (ap (λ (x : Scene). steps_to trust x e) shows.scene ∙ sym (scene-step s trust shows.rules shows.seal w e other))
 
 -- ---- restarts
 
@@ -278,5 +348,5 @@ restart-same s w m state restarts starts =
 pub restart-shown : (trust : Trust) (s : Setting) (w : World) (sc : Scene) (m : ℕ) (state : Member) → Shows trust s w sc → Restarts s w → m < length w.seats → started s.rules s.opening (journal_in w m) ≡ Ok state
     → Shows trust s (happens s w (event.Restart m)) (record sc { posts = started_at sc.terms sc.posts m state })
 restart-shown trust s w sc m state shows restarts lt starts =
-    shown-in trust s w sc (event.Restart m) (record sc { posts = started_at sc.terms sc.posts m state }) shows refl
+    shown-in trust s w sc (event.Restart m) (record sc { posts = started_at sc.terms sc.posts m state }) shows
     (ap (λ (x : Scene). record x { posts = started_at x.terms x.posts m state }) shows.scene ∙ sym (restart-same s w m state restarts starts))

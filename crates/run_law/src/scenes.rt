@@ -1,14 +1,15 @@
 //! A step of the scene is the definition's step.
 
-ghost use Rattle.std.specs.Prelude.{◌≡◌, ◌<◌, ℕ, List, ◌∷◌, ◌++◌, [], None, Option, Some, Ok, false, length, true};
+ghost use Rattle.std.specs.Prelude.{◌≡◌, ◌<◌, ℕ, List, ◌∷◌, ◌++◌, [], Option, Some, Ok, false, length, true};
 ghost use Rattle.wire_bcs.specs.Place.{IsBytes};
 ghost use Rattle.chain_types.specs.declared.transactions.SignedTx.{SignedTx};
 ghost use Rattle.chain_types.specs.Transactions as transactions;
 ghost use Rattle.chain_messages.specs.declared.messages.Certificate.{Certificate};
+ghost use Rattle.chain_messages.specs.declared.messages.Entry.{Entry};
 ghost use Rattle.chain_messages.specs.Messages as messages;
 ghost use Rattle.outside.specs.Lists.{Journals, journal_of};
 ghost use Rattle.protocol_spec.specs.Member.Member.{Member};
-ghost use Rattle.protocol_spec.specs.Member.Calls.{Call, holds, votes};
+ghost use Rattle.protocol_spec.specs.Member.Calls.{holds, sees, votes};
 ghost use Rattle.schedule_text.specs.declared.words.Setup.{Setup};
 ghost use Rattle.schedule_text.specs.declared.words.Schedule.{Schedule};
 ghost use Rattle.schedule_text.specs.Schedule.{schedule_of};
@@ -25,15 +26,15 @@ ghost use Rattle.world_spec.specs.Run.{world_after};
 ghost use Rattle.world_spec.specs.Assumptions.{all_of, calls_of};
 ghost use Rattle.text_law.specs.HonestTexts.{keyed_setting};
 ghost use Rattle.scene_spec.specs.Starts.{started};
-ghost use Rattle.scene_spec.specs.Posts.{AddsLeft, MayAddLeft, reached_in, record_left, started_at};
+ghost use Rattle.scene_spec.specs.Posts.{started_at};
 ghost use Rattle.scene_spec.specs.Scene.{Scene, new_scene, rules_in};
-ghost use Rattle.scene_spec.specs.Steps.{call_of, lines_in, steps_to};
-ghost use Rattle.scene_spec.specs.Worlds.{HasRoom, IsTrueOf, LineReadsFit, ReadsFit, Restarts, Shows, Tells, TellsFront, is_plain, is_plain_setup, is_restart, journal_in};
+ghost use Rattle.scene_spec.specs.Steps.{AddsLine, MayAddLine, lines_in, records_left, steps_to, work_of};
+ghost use Rattle.scene_spec.specs.Worlds.{AreKeepable, HasRoom, IsTrueOf, ReadsFit, Restarts, Shows, Tells, TellsFront, WorkReadsFit, is_plain, is_restart, journal_in};
 
 /// The scene of the set-up shows the definition's first world, and each step of a scene shows the world behind
 /// the line, with the definition's lines.
 pub fn steps_of_a_world()
-    ensures first { (trust : Trust) (lines : List Setup) → Each (IsTrueOf is_plain_setup) lines → Shows trust (setting_of trust lines) (new_world (setting_of trust lines)) (new_scene (setting_of trust lines) lines) }
+    ensures first { (trust : Trust) (lines : List Setup) → Shows trust (setting_of trust lines) (new_world (setting_of trust lines)) (new_scene (setting_of trust lines) lines) }
     ensures steps { (trust : Trust) (s : Setting) (w : World) (sc : Scene) (e : Event) → Shows trust s w sc → is_plain e ≡ true → is_restart e ≡ false → Shows trust s (happens s w e) (steps_to trust sc e) }
     ensures lines { (trust : Trust) (s : Setting) (w : World) (sc : Scene) (e : Event) → Shows trust s w sc → is_plain e ≡ true → is_restart e ≡ false → lines_of s w e ≡ lines_in trust sc e }
     ensures restart { (trust : Trust) (s : Setting) (w : World) (sc : Scene) (m : ℕ) (state : Member) → Shows trust s w sc → Restarts s w → m < length w.seats → started s.rules s.opening (journal_in w m) ≡ Ok state → Shows trust s (happens s w (event.Restart m)) (record sc { posts = started_at sc.terms sc.posts m state }) }
@@ -41,15 +42,15 @@ pub fn steps_of_a_world()
     ensures posts { (trust : Trust) (s : Setting) (w : World) (sc : Scene) → Shows trust s w sc → length sc.posts ≡ length w.seats }
 {}
 
-/// Told records follow the world: what a line's call leaves is what the definition appends. Each member starts from
-/// its records, where what is read from the bytes of calls fits its type.
+/// Told records follow the world: what a line leaves in the scene is what the definition appends, and where the line
+/// was cut, a front of that. Each member starts from its records, where what is read from the bytes of calls fits its
+/// type and the entries before it have spellings that can be kept.
 pub fn records_of_a_world()
     ensures first { (s : Setting) → Restarts s (new_world s) }
-    ensures starts { (trust : Trust) (s : Setting) (w : World) (sc : Scene) (e : Event) → Shows trust s w sc → is_plain e ≡ true → LineReadsFit (call_of sc e) → Restarts s w → Restarts s (happens s w e) }
+    ensures starts { (trust : Trust) (s : Setting) (w : World) (sc : Scene) (e : Event) → Shows trust s w sc → is_plain e ≡ true → WorkReadsFit (work_of sc e) → AreKeepable w.sequences → Restarts s w → Restarts s (happens s w e) }
     ensures opens { (s : Setting) (lists : Journals) → ((m : ℕ) → journal_of lists m ≡ []) → Tells (Some lists) (new_world s) }
-    ensures called { (trust : Trust) (s : Setting) (w : World) (sc : Scene) (e : Event) (m : ℕ) (call : Call) (before now : Option Journals) → Shows trust s w sc → is_plain e ≡ true → call_of sc e ≡ Some (m, call) → HasRoom before w → Tells before w → AddsLeft before now m (record_left (reached_in (rules_in trust.accepts sc) sc.posts m call)) → Tells now (happens s w e) }
-    ensures cut { (trust : Trust) (s : Setting) (w : World) (sc : Scene) (e : Event) (m : ℕ) (call : Call) (before now : Option Journals) → Shows trust s w sc → is_plain e ≡ true → call_of sc e ≡ Some (m, call) → HasRoom before w → Tells before w → MayAddLeft before now m (record_left (reached_in (rules_in trust.accepts sc) sc.posts m call)) → TellsFront now (happens s w e) }
-    ensures kept { (trust : Trust) (s : Setting) (w : World) (sc : Scene) (e : Event) (told : Option Journals) → Shows trust s w sc → is_plain e ≡ true → call_of sc e ≡ None → Tells told w → Tells told (happens s w e) }
+    ensures told { (trust : Trust) (s : Setting) (w : World) (sc : Scene) (e : Event) (before now : Option Journals) → Shows trust s w sc → is_plain e ≡ true → HasRoom before w → Tells before w → AddsLine (records_left (rules_in trust.accepts sc) sc (work_of sc e)) before now → Tells now (happens s w e) }
+    ensures cut { (trust : Trust) (s : Setting) (w : World) (sc : Scene) (e : Event) (before now : Option Journals) → Shows trust s w sc → is_plain e ≡ true → HasRoom before w → Tells before w → MayAddLine (records_left (rules_in trust.accepts sc) sc (work_of sc e)) before now → TellsFront now (happens s w e) }
     ensures fronts { (told : Option Journals) (w : World) → Tells told w → TellsFront told w }
     ensures ahead { (s : Setting) (w : World) (e : Event) (told : Option Journals) → TellsFront told w → TellsFront told (happens s w e) }
 {}
@@ -60,11 +61,12 @@ pub fn bytes_of_calls()
     ensures holds { (bytes : List ℕ) → IsBytes bytes → ReadsFit (holds bytes) }
     ensures signed { (x : SignedTx) → transactions.signed.fits x → ReadsFit (votes (transactions.signed.spell x)) }
     ensures certificates { (c : Certificate) → messages.certificate.fits c → ReadsFit (holds (messages.certificate.spell c)) }
+    ensures entries { (number : ℕ) (e : Entry) → messages.entry.fits e → ReadsFit (sees number (messages.entry.spell e)) }
 {}
 
-/// In every run of plain lines each member starts from its records: where what is read from the bytes of its calls
-/// fits, and so in each run that a text says, behind each front of its lines.
+/// In every run of plain lines whose entries can be kept each member starts from its records: where what is read from
+/// the bytes of its calls fits, and so in each run that a text says, behind each front of its lines.
 pub fn restarts_of_a_run()
-    ensures run { (s : Setting) (events : List Event) → Each (IsTrueOf is_plain) events → Each ReadsFit (all_of calls_of s events (new_world s)) → Restarts s (world_after s events) }
-    ensures read { (text : List ℕ) (t : Schedule) → schedule_of text ≡ Ok t → (secret : List ℕ) → (front rest : List Event) → t.events ≡ front ++ rest → Each (IsTrueOf is_plain) t.events → Restarts (keyed_setting secret t) (world_after (keyed_setting secret t) front) }
+    ensures run { (s : Setting) (events : List Event) → Each (IsTrueOf is_plain) events → Each ReadsFit (all_of calls_of s events (new_world s)) → AreKeepable (world_after s events).sequences → Restarts s (world_after s events) }
+    ensures read { (text : List ℕ) (t : Schedule) → schedule_of text ≡ Ok t → (secret : List ℕ) → (front rest : List Event) → t.events ≡ front ++ rest → Each (IsTrueOf is_plain) t.events → AreKeepable (world_after (keyed_setting secret t) front).sequences → Restarts (keyed_setting secret t) (world_after (keyed_setting secret t) front) }
 {}

@@ -1,6 +1,6 @@
-use Rattle.run_law.proofs.SceneRecords.{front-ahead, kept-told, line-cut, line-told, opens-told, told-front}
+use Rattle.run_law.proofs.SceneRecords.{front-ahead, line-cut, line-told, opens-told, told-front}
 use Rattle.run_law.proofs.SceneStarts.{first-starts, line-starts}
 use Rattle.run_law.proofs.scenes.records_of_a_world.Goals as goal
 
 pub returns : goal.returns
-returns c = record { first = first-starts; starts = line-starts; opens = opens-told; called = line-told; cut = line-cut; kept = kept-told; fronts = told-front; ahead = front-ahead }
+returns c = record { first = first-starts; starts = line-starts; opens = opens-told; told = line-told; cut = line-cut; fronts = told-front; ahead = front-ahead }
