@@ -11,4 +11,5 @@ pub mod Spelled
 pub mod Casting
 pub mod Running
 pub mod Settling
+pub mod Said
 pub mod Starting

@@ -1,10 +1,11 @@
 -- What each call of a member answers, against the definition; want of memory and a fault of the keeper say
 -- nothing here.
-use Rattle.std.specs.Prelude.{◌≡◌, ℕ, Bool, true, List, Result, Ok, Err, if◌then◌else◌}
+use Rattle.std.specs.Prelude.{◌≡◌, ℕ, Bool, true, List, Result, Ok, Err, is_ok, if◌then◌else◌}
 use Rattle.digest_core.specs.declared.Digest.{Digest}
 use Rattle.quorum_core.specs.declared.signer.Signer.{Signer}
 use Rattle.quorum_core.specs.declared.signer.Signer.TheVariants as signers
 use Rattle.chain_messages.specs.declared.messages.Sealed.{Sealed}
+use Rattle.chain_messages.specs.declared.messages.Statement.{Statement}
 use Rattle.chain_messages.specs.Messages as messages
 use Rattle.protocol_spec.specs.Chain.Certificates.{Rules}
 use Rattle.answer_types.specs.declared.answers.Voted.{Voted as Sent}
@@ -17,10 +18,12 @@ use Rattle.answer_types.specs.declared.refusals.RunRefusal.{RunRefusal}
 use Rattle.answer_types.specs.declared.refusals.RunRefusal.TheVariants as no_run
 use Rattle.answer_types.specs.declared.refusals.CloseRefusal.{CloseRefusal}
 use Rattle.answer_types.specs.declared.refusals.CloseRefusal.TheVariants as no_close
+use Rattle.answer_types.specs.declared.refusals.AckRefusal.{AckRefusal}
+use Rattle.answer_types.specs.declared.refusals.AckRefusal.TheVariants as no_ack
 use Rattle.answer_types.specs.declared.answers.Seen.{Seen}
 use Rattle.answer_types.specs.declared.refusals.SeeRefusal.{SeeRefusal}
 use Rattle.answer_types.specs.declared.refusals.SeeRefusal.TheVariants as no_see
-use Rattle.protocol_spec.specs.Member.Calls.{Voted, close_answer, hold_answer, run_answer, see_answer, vote_answer}
+use Rattle.protocol_spec.specs.Member.Calls.{Voted, ack_answer, close_answer, hold_answer, run_answer, see_answer, vote_answer}
 use Rattle.validator_core.specs.declared.keeping.Unkept.{Unkept}
 use Rattle.validator_core.specs.declared.keeping.Unkept.TheVariants as unkept
 use Rattle.validator_core.specs.Seats.{Ended, answered, fell}
@@ -135,3 +138,20 @@ close_ended (Ok new) = answered
 close_ended (Err no_close.OutOfMemory) = fell
 close_ended (Err no_close.KeepFault) = fell
 close_ended (Err refusal) = answered
+
+-- ---- ack
+
+abbrev pub ack_said : Rules → Seat → Digest → Result Statement AckRefusal
+ack_said r seat tx = if seat.up then ack_answer r seat.state tx else Err no_ack.Down
+
+-- the statement alone; memory may be wanted where there is one, and else not
+abbrev pub AcksAs : Result Statement AckRefusal → Result Statement AckRefusal → Type 0
+AcksAs said (Ok statement) = said ≡ Ok statement
+AcksAs said (Err no_ack.OutOfMemory) = is_ok said ≡ true
+AcksAs said (Err refusal) = said ≡ Err refusal
+
+-- the statement under the member's seal
+abbrev pub Acks : (Signer → List ℕ → Digest → Bool) → ℕ → Result Statement AckRefusal → Result Sealed AckRefusal → Type 0
+Acks accepts member said (Ok s) = (said ≡ Ok s.statement) × IsSealedBy accepts member s
+Acks accepts member said (Err no_ack.OutOfMemory) = is_ok said ≡ true
+Acks accepts member said (Err refusal) = said ≡ Err refusal

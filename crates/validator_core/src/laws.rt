@@ -1,9 +1,11 @@
-//! That runs and closes look at no seal and no stake.
+//! That runs, closes and acknowledgements look at no seal and no stake, and that an acknowledgement changes nothing.
 
-ghost use Rattle.std.specs.Prelude.{◌≡◌};
+ghost use Rattle.std.specs.Prelude.{◌≡◌, None};
+ghost use Rattle.digest_core.specs.declared.Digest.{Digest};
 ghost use Rattle.protocol_spec.specs.Chain.Certificates.{Rules};
-ghost use Rattle.protocol_spec.specs.Member.Calls.{called, close_answer, closes, due, run_answer, runs};
+ghost use Rattle.protocol_spec.specs.Member.Calls.{ack_answer, acks, called, close_answer, closes, due, run_answer, runs};
 ghost use Rattle.protocol_spec.specs.Member.Member.{Member};
+ghost use Rattle.scene_spec.specs.Seats.{Seat, behind, due_at};
 
 /// The rules play no part in a run: its answer, its record and the state behind it are those of any other rules.
 #[tactic(auto, using(crate::proofs::Running::run_answer_alike, crate::proofs::Running::run_due_alike, crate::proofs::Running::run_called_alike))]
@@ -19,4 +21,17 @@ pub fn closes_need_no_rules()
     ensures answer { (r r' : Rules) (m : Member) → close_answer r m ≡ close_answer r' m }
     ensures record_due { (r r' : Rules) (m : Member) → due r m closes ≡ due r' m closes }
     ensures state { (r r' : Rules) (m : Member) → called r m closes ≡ called r' m closes }
+{}
+
+/// The rules play no part in an acknowledgement.
+#[tactic(auto, using(crate::proofs::Said::ack_answer_alike))]
+pub fn acks_need_no_rules()
+    ensures { (r r' : Rules) (m : Member) (tx : Digest) → ack_answer r m tx ≡ ack_answer r' m tx }
+{}
+
+/// An acknowledgement leaves the member as it was, and has no record.
+#[tactic(auto, using(crate::proofs::Said::ack_stays, crate::proofs::Said::no_ack_due))]
+pub fn acks_change_nothing()
+    ensures state { (r : Rules) (seat : Seat) (tx : Digest) → behind r seat (acks tx) ≡ seat }
+    ensures record_due { (r : Rules) (seat : Seat) (tx : Digest) → due_at r seat (acks tx) ≡ None }
 {}

@@ -24,16 +24,17 @@ mod runs;
 mod sees;
 mod start;
 mod state;
+mod stating;
 mod taking;
 mod telling;
 mod validator;
 mod votes;
 
 pub use answer_types::{
-    CloseRefusal, HoldRefusal, Ran, RunRefusal, StartRefusal, VoteRefusal, Voted,
+    AckRefusal, CloseRefusal, HoldRefusal, Ran, RunRefusal, StartRefusal, VoteRefusal, Voted,
 };
 pub use holds::Holding;
-pub use laws::{closes_need_no_rules, runs_need_no_rules};
+pub use laws::{acks_change_nothing, acks_need_no_rules, closes_need_no_rules, runs_need_no_rules};
 pub use runs::ran_record;
 pub use state::State;
 pub use validator::Validator;

@@ -1,9 +1,9 @@
 //! The member.
 
-ghost use Rattle.std.specs.Prelude.{◌≡◌, ◌<◌, ◌≤◌, ◌^◌, [], IfOk, IsErrOf, length, option_map, slice_get, true};
+ghost use Rattle.std.specs.Prelude.{◌≡◌, ◌<◌, ◌≤◌, ◌^◌, [], IfOk, IsErrOf, OnErr, length, option_map, slice_get, true};
 ghost use Rattle.outside.specs.Causes.{Rose};
 ghost use Rattle.chain_types.specs.Digests.{digest_of_object};
-ghost use Rattle.protocol_spec.specs.Member.Versions.{Version, version_at, versions as versions_of};
+ghost use Rattle.protocol_spec.specs.Member.Versions.{Version, is_executed, version_at, versions as versions_of};
 ghost use Rattle.protocol_spec.specs.Member.Member.{Fork, built as built_by, fork_of, live_objects};
 ghost use Rattle.protocol_spec.specs.Member.Calls.{closes, holds, runs, sees, votes};
 ghost use Rattle.answer_types.specs.declared.refusals.HoldRefusal.TheVariants as no_hold;
@@ -11,22 +11,24 @@ ghost use Rattle.answer_types.specs.declared.refusals.VoteRefusal.TheVariants as
 ghost use Rattle.answer_types.specs.declared.refusals.CloseRefusal.TheVariants as no_close;
 ghost use Rattle.answer_types.specs.declared.refusals.RunRefusal.TheVariants as no_run;
 ghost use Rattle.answer_types.specs.declared.refusals.SeeRefusal.TheVariants as no_see;
-ghost use Rattle.validator_core.specs.Calls.{Closes, Holds, Runs, Sees, Votes, close_ended, close_said, hold_ended, hold_said, run_ended, run_said, see_ended, see_said, vote_ended, vote_said};
+ghost use Rattle.validator_core.specs.Calls.{Acks, Closes, Holds, Runs, Sees, Votes, ack_said, close_ended, close_said, hold_ended, hold_said, run_ended, run_said, see_ended, see_said, vote_ended, vote_said};
 ghost use Rattle.scene_spec.specs.Terms.{rules_for};
 ghost use Rattle.checkpoint_core.specs.Checkpoints.{transactions_in};
 ghost use Rattle.scene_spec.specs.Starts.{AreApart, started};
 ghost use Rattle.validator_core.specs.Starts.{Starts};
 ghost use Rattle.validator_core.specs.Seats.{Behaves, Fell, Journaled};
 ghost use Rattle.scene_spec.specs.Seats.{bare_rules, due_at, rules_of_seat};
+ghost use Rattle.world_spec.specs.Step.{executed_digest};
 
 use crate::start::take_all;
-use crate::{State, calls, epoch_calls, sees};
+use crate::{State, calls, epoch_calls, sees, stating};
 use answer_types::{
-    CloseRefusal, HoldRefusal, Ran, RunRefusal, SeeRefusal, Seen, StartRefusal, VoteRefusal, Voted,
+    AckRefusal, CloseRefusal, HoldRefusal, Ran, RunRefusal, SeeRefusal, Seen, StartRefusal, VoteRefusal, Voted,
 };
 use chain_types::{Object, ObjectKey, object_digest};
 use checkpoint_core::Checkpoint;
 use digest_core::Digest;
+use chain_messages::Sealed;
 use outside::Keeper;
 use quorum_core::{Committee, Sealer};
 use std::alloc::Global;
@@ -302,5 +304,28 @@ impl Validator {
         let answer = epoch_calls::close(&mut self.state, keeper, self.member);
         self.up = !epoch_calls::close_fell(&answer);
         answer
+    }
+
+    /// The digest of the effects of a transaction that the member executed in its present epoch; none exactly where it
+    /// executed none. One look-up by the transaction, and time that grows with what it wrote and deleted.
+    pub fn executed_digest(&self, tx: &Digest) -> Result<Option<Digest>, OutOfMemory>
+        ensures value { IfOk result (λ digest. digest ≡ executed_digest tx.now self.now.state) }
+        ensures want { OnErr result (is_executed self.now.state.executed tx.now ≡ true) }
+    {
+        self.state.executed_digest(tx)
+    }
+
+    /// Asks the member to acknowledge a transaction that it executed in its epoch, with the digest of its effects
+    /// (finality of Sui Lutris). Order of the refusals: `Down`, `Halted`, `NotExecuted`; memory is wanted for an
+    /// acknowledgement alone. Nothing is kept and nothing changes. One look-up by the transaction, and time that grows
+    /// with what it wrote and deleted.
+    #[tactic(auto, using(crate::proofs::Said::ack_at))]
+    pub fn ack<S: Sealer>(&self, sealer: &S, tx: &Digest) -> Result<Sealed, AckRefusal>
+        ensures answer { Acks (S.accepts sealer.now) self.now.member (ack_said (rules_of_seat self.now (S.accepts sealer.now)) self.now tx.now) result }
+    {
+        if !self.up {
+            return Err(AckRefusal::Down);
+        }
+        stating::ack(&self.state, sealer, self.member, tx)
     }
 }

@@ -1,0 +1,100 @@
+//! What a member states beside its votes: that it executed a transaction.
+
+ghost use Rattle.std.specs.Prelude.{◌≡◌, IfOk, OnErr, true};
+ghost use Rattle.chain_messages.specs.Messages.{statement as statement_codec};
+ghost use Rattle.effects_core.specs.Effects.{digest_of_effects};
+ghost use Rattle.protocol_spec.specs.Member.Calls.{ack_answer};
+ghost use Rattle.protocol_spec.specs.Member.Versions.{is_executed};
+ghost use Rattle.validator_core.specs.Answers.{bare};
+ghost use Rattle.validator_core.specs.Calls.{Acks, AcksAs, IsSealedBy};
+ghost use Rattle.world_spec.specs.Step.{executed_digest};
+
+use crate::State;
+use answer_types::AckRefusal;
+use chain_messages::{Sealed, Statement, encode_statement};
+use digest_core::Digest;
+use effects_core::{Effects, effects_digest};
+use quorum_core::{Sealer, Signer};
+use std::alloc::Global;
+use wire_bcs::OutOfMemory;
+
+/// The digest of effects. A list of 2^31 objects, more than a transaction can write, counts as want of memory.
+fn digest_of(alloc: Global, effects: &Effects) -> Result<Digest, OutOfMemory>
+    ensures { IfOk result (λ digest. digest ≡ digest_of_effects effects.now) }
+{
+    if !effects.is_short() {
+        return Err(OutOfMemory);
+    }
+    effects_digest(alloc, effects)
+}
+
+/// The statement of this member under its seal.
+pub(crate) fn seal_statement<S: Sealer>(
+    alloc: Global,
+    sealer: &S,
+    member: u32,
+    statement: Statement,
+) -> Result<Sealed, OutOfMemory>
+    requires { statement_codec.short statement }
+    ensures said { IfOk result (λ s. s.statement ≡ statement) }
+    ensures sealed { IfOk result (λ s. IsSealedBy (S.accepts sealer.now) member s) }
+{
+    let bytes = encode_statement(alloc, &statement)?;
+    let seal = sealer.seal(&Signer::Member(member), bytes.as_slice());
+    Ok(Sealed {
+        member,
+        statement,
+        seal,
+    })
+}
+
+impl State {
+    /// The digest of the effects of a transaction that the member executed in the epoch; none exactly where it executed
+    /// none. One look-up by the transaction; time grows with what the transaction wrote and deleted.
+    #[tactic(auto, using(crate::proofs::Said::digest_known, crate::proofs::Said::digest_unknown))]
+    pub(crate) fn executed_digest(&self, tx: &Digest) -> Result<Option<Digest>, OutOfMemory>
+        ensures value { IfOk result (λ d. d ≡ executed_digest tx.now self.now.member) }
+        ensures want { OnErr result (is_executed self.now.member.executed tx.now ≡ true) }
+    {
+        match self.course.store.executed(tx) {
+            Some(effects) => Ok(Some(digest_of(self.alloc, effects)?)),
+            None => Ok(None),
+        }
+    }
+
+    /// The acknowledgement of a transaction. Order of the refusals: `Halted`, `NotExecuted`.
+    #[tactic(auto, unfolding(protocol_spec::specs::Member::Calls::ack_answer), using(crate::proofs::Said::ack_short, crate::proofs::Said::acknowledges, crate::proofs::Said::lacks, crate::proofs::Said::wants))]
+    fn acknowledgement(&self, tx: &Digest) -> Result<Statement, AckRefusal>
+        ensures answer { AcksAs (ack_answer bare self.now.member tx.now) result }
+        ensures short { IfOk result statement_codec.short }
+    {
+        if let Some((first, second)) = self.fork() {
+            return Err(AckRefusal::Halted { first, second });
+        }
+        match self.executed_digest(tx) {
+            Ok(Some(effects)) => Ok(Statement::Ack {
+                epoch: self.epoch(),
+                tx: *tx,
+                effects,
+            }),
+            Ok(None) => Err(AckRefusal::NotExecuted),
+            Err(OutOfMemory) => Err(AckRefusal::OutOfMemory),
+        }
+    }
+}
+
+/// Asks a member that is up to acknowledge what it executed.
+pub(crate) fn ack<S: Sealer>(
+    state: &State,
+    sealer: &S,
+    member: u32,
+    tx: &Digest,
+) -> Result<Sealed, AckRefusal>
+    ensures { Acks (S.accepts sealer.now) member (ack_answer bare state.now.member tx.now) result }
+{
+    let statement = state.acknowledgement(tx)?;
+    match seal_statement(state.allocator(), sealer, member, statement) {
+        Ok(sealed) => Ok(sealed),
+        Err(OutOfMemory) => Err(AckRefusal::OutOfMemory),
+    }
+}
