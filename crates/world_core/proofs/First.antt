@@ -10,11 +10,12 @@ use Rattle.scene_spec.specs.Known.{Known, known_by}
 use Rattle.scene_spec.specs.Terms.{Terms}
 use Rattle.scene_spec.specs.Posts.{new_posts}
 use Rattle.scene_spec.specs.Scene.{Scene, new_scene}
+use Rattle.world_lines.specs.Orders.{Orders, no_orders}
 use Rattle.world_core.specs.Crews.{Crew}
 use Rattle.world_core.proofs.Sound.{stakes_same}
 
-abbrev scene : Crew → List Object → Known → List Said → List Formed → Scene
-scene crew opening known said certs = record { terms = crew.terms; opening = opening; known = known; said = said; certs = certs; posts = crew.posts }
+abbrev scene : Crew → List Object → Known → Orders → List Said → List Formed → Scene
+scene crew opening known orders said certs = record { terms = crew.terms; opening = opening; known = known; sequences = orders.sequences; epoch = orders.epoch; said = said; certs = certs; posts = crew.posts }
 
 abbrev pub crew_of : Terms → List Object → List Bool → Crew
 crew_of terms opening flags = record { terms = terms; posts = new_posts terms opening 0 flags }
@@ -25,15 +26,16 @@ terms_in stakes lines = record { stakes = stakes; writers = writers_of lines }
 abbrev opening_in : List Setup → List Object
 opening_in lines = fold with_new [] (objects_from 0 lines)
 
-pub scene_first : (trust : Trust) (lines : List Setup) (c : List ℕ) (flags : List Bool) (opening : List Object) (known : Known) (said : List Said) (certs : List Formed) (crew : Crew)
-    → committee_of (stakes_of lines) ≡ Ok c → flags ≡ honest_of lines → opening ≡ opening_in lines → known ≡ known_by lines → said ≡ [] → certs ≡ []
-    → crew ≡ crew_of (terms_in c lines) opening flags → scene crew opening known said certs ≡ new_scene (setting_of trust lines) lines
+pub scene_first : (trust : Trust) (lines : List Setup) (c : List ℕ) (flags : List Bool) (opening : List Object) (known : Known) (orders : Orders) (said : List Said) (certs : List Formed) (crew : Crew)
+    → committee_of (stakes_of lines) ≡ Ok c → flags ≡ honest_of lines → opening ≡ opening_in lines → known ≡ known_by lines → orders ≡ no_orders → said ≡ [] → certs ≡ []
+    → crew ≡ crew_of (terms_in c lines) opening flags → scene crew opening known orders said certs ≡ new_scene (setting_of trust lines) lines
 unfolding setting_of
-scene_first trust lines c flags opening known said certs crew is f o k s e w =
+scene_first trust lines c flags opening known orders said certs crew is f o k q s e w =
     let whole : crew ≡ crew_of (terms_in (stakes_of lines) lines) (opening_in lines) (honest_of lines) =
     w ∙ ap (λ x. crew_of (terms_in x lines) opening flags) (stakes_same (stakes_of lines) c is) ∙ ap (λ x. crew_of (terms_in (stakes_of lines) lines) x flags) o ∙ ap (λ x. crew_of (terms_in (stakes_of lines) lines) (opening_in lines) x) f in
-    ap (λ x. scene x opening known said certs) whole
-    ∙ ap (λ x. scene (crew_of (terms_in (stakes_of lines) lines) (opening_in lines) (honest_of lines)) x known said certs) o
-    ∙ ap (λ x. scene (crew_of (terms_in (stakes_of lines) lines) (opening_in lines) (honest_of lines)) (opening_in lines) x said certs) k
-    ∙ ap (λ x. scene (crew_of (terms_in (stakes_of lines) lines) (opening_in lines) (honest_of lines)) (opening_in lines) (known_by lines) x certs) s
-    ∙ ap (λ x. scene (crew_of (terms_in (stakes_of lines) lines) (opening_in lines) (honest_of lines)) (opening_in lines) (known_by lines) [] x) e
+    ap (λ x. scene x opening known orders said certs) whole
+    ∙ ap (λ x. scene (crew_of (terms_in (stakes_of lines) lines) (opening_in lines) (honest_of lines)) x known orders said certs) o
+    ∙ ap (λ x. scene (crew_of (terms_in (stakes_of lines) lines) (opening_in lines) (honest_of lines)) (opening_in lines) x orders said certs) k
+    ∙ ap (λ x. scene (crew_of (terms_in (stakes_of lines) lines) (opening_in lines) (honest_of lines)) (opening_in lines) (known_by lines) x said certs) q
+    ∙ ap (λ x. scene (crew_of (terms_in (stakes_of lines) lines) (opening_in lines) (honest_of lines)) (opening_in lines) (known_by lines) no_orders x certs) s
+    ∙ ap (λ x. scene (crew_of (terms_in (stakes_of lines) lines) (opening_in lines) (honest_of lines)) (opening_in lines) (known_by lines) no_orders [] x) e

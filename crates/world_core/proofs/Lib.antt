@@ -14,4 +14,7 @@ pub mod Restarts
 pub mod Stating
 pub mod Steps
 pub mod Stays
+pub mod Seeing
+pub mod Nexts
+pub mod Ordered
 mod First

@@ -1,5 +1,5 @@
 -- A member that is handed entries, one after the other: behind the first that it does not take, nothing changes.
-use Rattle.std.proofs.Common.{◌≡◌, ◌∙◌, ap, sym, refl, subst, ℕ, zero, suc, Bool, true, false, cond, List, [], ◌∷◌, ◌++◌, map, length, Option, Some, None, option_map, Result, Ok, Err, append_assoc, append-nil}
+use Rattle.std.proofs.Common.{◌≡◌, ◌∙◌, ap, sym, refl, subst, ℕ, zero, suc, Bool, true, false, cond, List, [], ◌∷◌, ◌++◌, map, length, Option, Some, None, option_map, Result, Ok, Err, append_assoc, append-nil, inl, inr}
 use Rattle.std.specs.Prelude.{slice_get, slice_set, option_and_then, min, is_some, nat_le, fold}
 use Rattle.chain_messages.specs.declared.messages.Entry.{Entry}
 use Rattle.chain_messages.specs.Messages as messages
@@ -8,7 +8,8 @@ use Rattle.journal_core.specs.declared.records.Record.TheVariants as record_as
 use Rattle.answer_types.specs.declared.answers.Seen.{Seen}
 use Rattle.answer_types.specs.declared.refusals.SeeRefusal.{SeeRefusal}
 use Rattle.answer_types.specs.declared.refusals.SeeRefusal.TheVariants as no_see
-use Rattle.outside.specs.Lists.{Journals}
+use Rattle.journal_core.specs.Records as journals
+use Rattle.outside.specs.Lists.{Journals, with_record}
 use Rattle.report_text.specs.declared.lines.Line.{Line}
 use Rattle.protocol_spec.specs.Chain.Words.{first_some, refused_or, unless_refused}
 use Rattle.protocol_spec.specs.Chain.Certificates.{Rules}
@@ -18,9 +19,11 @@ use Rattle.world_spec.specs.Setting.{Trust}
 use Rattle.world_spec.specs.World.{Said, Reached, answers, built_statements, finds_down, next_call_of, next_entry, numbered_call, reached_up, said_by, stated, stops}
 use Rattle.world_spec.specs.Report.{Lines, and_lines, entry_lines, entry_reached}
 use Rattle.scene_spec.specs.Seats.{Seat}
-use Rattle.scene_spec.specs.Posts.{AddsAll, Post, list_of, post_behind, posts_behind, posts_with, reached_in, reached_post, reached_standing, record_left, seat_behind, stated_in, with_all}
+use Rattle.scene_spec.specs.Terms.{Terms, rules_for}
+use Rattle.scene_spec.specs.Posts.{AddsAll, AddsFront, AddsLeft, MayAddLeft, Post, list_of, post_behind, posts_behind, posts_with, reached_in, reached_post, reached_standing, record_left, seat_behind, stated_in, with_all}
 use Rattle.scene_spec.specs.Scene.{Scene, bare_setting, bare_world, rules_in}
 use Rattle.scene_spec.specs.Steps.{call_lines_in, called_if, called_scene, entries_lines_in, left_if, next_on, seat_state, sees_left, sees_to, standing_at}
+use Rattle.world_core.specs.Sees.{HasSeen}
 
 set_same : {A : Type 0} (xs : List A) (m : ℕ) (x : A) → slice_get xs m ≡ Some x → slice_set xs m x ≡ xs
 set_same [] m x e = refl
@@ -242,3 +245,133 @@ module _ (trust : Trust) (sc : Scene) (m : ℕ) where
       by_post : (post : Option Post) → slice_get sc.posts m ≡ post → RestsBehind (next_on sc m) n
       by_post None at = none_next (ap (λ (o : Option Post). option_and_then (next_call_of (bare_world sc)) (option_map seat_state (standing_at o))) at) n
       by_post (Some p) at = by_standing p at p.standing refl
+
+-- ---- told lists grow in steps
+
+fold_join : {A B : Type 0} (f : B → A → B) (b : B) (xs ys : List A) → fold f b (xs ++ ys) ≡ fold f (fold f b xs) ys
+fold_join f b [] ys = refl
+fold_join f b (x ∷ xs) ys = fold_join f (f b x) xs ys
+
+adds_none : (told : Option Journals) (m : ℕ) → AddsAll told told m []
+adds_none None m = tt
+adds_none (Some lists) m = refl
+
+adds_then : (a b c : Option Journals) (m : ℕ) (xs ys : List Record) → AddsAll a b m xs → AddsAll b c m ys → AddsAll a c m (xs ++ ys)
+adds_then None b c m xs ys one two = tt
+adds_then (Some lists) b c m xs ys one two =
+    let more : c ≡ Some (with_all (with_all lists m xs) m ys) = subst (λ (told : Option Journals). AddsAll told c m ys) one two in
+    more ∙ ap (λ (l : Journals). Some l) (sym (fold_join (λ (told : Journals) (x : Record). with_record told m (journals.journal_record.spell x)) lists xs ys))
+
+-- a call leaves its record, or none
+adds_left : (before now : Option Journals) (m : ℕ) (x : Option Record) → AddsLeft before now m x → AddsAll before now m (list_of x)
+adds_left None now m None is = tt
+adds_left None now m (Some x) is = tt
+adds_left (Some lists) now m None is = is
+adds_left (Some lists) now m (Some x) is = is
+
+may_left : (before now : Option Journals) (m : ℕ) (x : Option Record) → MayAddLeft before now m x → AddsFront before now m (list_of x)
+may_left before now m x (inl adds) = record { front = list_of x; rest = []; is = sym (append-nil (list_of x)); adds = adds_left before now m x adds }
+may_left None now m x (inr keeps) = record { front = []; rest = list_of x; is = refl; adds = tt }
+may_left (Some lists) now m x (inr keeps) = record { front = []; rest = list_of x; is = refl; adds = keeps }
+
+-- ---- entry after entry
+
+module _ (trust : Trust) (m n : ℕ) (old : Scene) (before : Option Journals) (lines : List Line) where
+  -- so it begins
+  pub seen_none : HasSeen trust m n old old before before lines lines n
+  seen_none = record { scene = refl; says = refl; done = []; records = refl; adds = adds_none before m; rules = refl; many = refl }
+
+  module _ (now next : Scene) (told later : Option Journals) (so_far more : List Line) (still : ℕ) (has : HasSeen trust m n old now before told lines so_far (suc still)) where
+    abbrev rules_now : Rules
+    rules_now = rules_in trust.accepts now
+
+    abbrev rules_old : Rules
+    rules_old = rules_in trust.accepts old
+
+    same_rules : rules_now ≡ rules_old
+    same_rules = ap (λ (t : Terms). rules_for t trust.accepts) has.rules
+
+    called_now : next ≡ called_if rules_now now m (next_on now m) → next ≡ called_if rules_old now m (next_on now m)
+    called_now is = is ∙ ap (λ (r : Rules). called_if r now m (next_on now m)) same_rules
+
+    left_now : AddsAll told later m (left_if rules_now now m (next_on now m)) → AddsAll told later m (left_if rules_old now m (next_on now m))
+    left_now adds = subst (λ (r : Rules). AddsAll told later m (left_if r now m (next_on now m))) same_rules adds
+
+    scene_now : next ≡ called_if rules_now now m (next_on now m) → sees_to rules_old still next m ≡ sees_to rules_old n old m
+    scene_now is = ap (λ (x : Scene). sees_to rules_old still x m) (called_now is) ∙ has.scene
+
+    -- one entry more
+    pub seen_one : next ≡ called_if rules_now now m (next_on now m) → next.terms ≡ now.terms → length next.posts ≡ length now.posts → more ≡ so_far ++ (call_lines_in trust now m (next_on now m)).0
+        → true ≡ (call_lines_in trust now m (next_on now m)).1 → AddsAll told later m (left_if rules_now now m (next_on now m)) → HasSeen trust m n old next before later lines more still
+    seen_one is terms many said goes adds =
+        record {
+          scene = scene_now is;
+          says =
+            ap (λ (ls : List Line). ls ++ entries_lines_in trust still next m) said
+            ∙ append_assoc so_far (call_lines_in trust now m (next_on now m)).0 (entries_lines_in trust still next m)
+            ∙ ap (λ (ls : List Line). so_far ++ ls) (joined (call_lines_in trust now m (next_on now m)) goes)
+            ∙ has.says;
+          done = has.done ++ left_if rules_old now m (next_on now m);
+          records =
+            has.records
+            ∙ sym (append_assoc has.done (left_if rules_old now m (next_on now m)) (sees_left rules_old still (called_if rules_old now m (next_on now m)) m))
+            ∙ ap (λ (x : Scene). (has.done ++ left_if rules_old now m (next_on now m)) ++ sees_left rules_old still x m) (sym (called_now is));
+          adds = adds_then before told later m has.done (left_if rules_old now m (next_on now m)) has.adds (left_now adds);
+          rules = terms ∙ has.rules;
+          many = many ∙ has.many;
+        }
+      where
+        joined : (ls : Lines) → true ≡ ls.1 → ls.0 ++ entries_lines_in trust still next m ≡ and_lines ls (entries_lines_in trust still (called_if rules_now now m (next_on now m)) m)
+        joined (ls, true) e = ap (λ (x : Scene). ls ++ entries_lines_in trust still x m) is
+        joined (ls, false) e = absurd (cc)
+
+    module _ (is : next ≡ called_if rules_now now m (next_on now m)) (goes : false ≡ (call_lines_in trust now m (next_on now m)).1) where
+      rests : Rests rules_old m next still
+      rests =
+          subst (λ (r : Rules). Rests r m next still) same_rules
+          (subst (λ (x : Scene). Rests rules_now m x still) (sym is) (ends_there trust now m (sym goes) still))
+
+      -- the last one, behind which nothing goes on
+      pub last_scene : next ≡ sees_to rules_old n old m
+      last_scene = sym rests.scene ∙ scene_now is
+
+      pub last_lines : more ≡ so_far ++ (call_lines_in trust now m (next_on now m)).0 → more ≡ lines ++ entries_lines_in trust n old m
+      last_lines said = said ∙ ap (λ (ls : List Line). so_far ++ ls) (cut_off (call_lines_in trust now m (next_on now m)) goes) ∙ has.says
+        where
+          cut_off : (ls : Lines) → false ≡ ls.1 → ls.0 ≡ and_lines ls (entries_lines_in trust still (called_if rules_now now m (next_on now m)) m)
+          cut_off (ls, false) e = refl
+          cut_off (ls, true) e = absurd (cc)
+
+      pub last_kept : AddsAll told later m (left_if rules_now now m (next_on now m)) → AddsAll before later m (sees_left rules_old n old m)
+      last_kept adds =
+          subst (λ (xs : List Record). AddsAll before later m xs)
+          (sym (append-nil (has.done ++ left_if rules_old now m (next_on now m)))
+          ∙ ap (λ (xs : List Record). (has.done ++ left_if rules_old now m (next_on now m)) ++ xs) (sym rests.records ∙ ap (λ (x : Scene). sees_left rules_old still x m) (called_now is))
+          ∙ append_assoc has.done (left_if rules_old now m (next_on now m)) (sees_left rules_old still (called_if rules_old now m (next_on now m)) m)
+          ∙ sym has.records)
+          (adds_then before told later m has.done (left_if rules_old now m (next_on now m)) has.adds (left_now adds))
+
+    -- where it did not end
+    pub seen_cut : AddsFront told later m (left_if rules_now now m (next_on now m)) → AddsFront before later m (sees_left rules_old n old m)
+    seen_cut adds =
+        record {
+          front = has.done ++ adds.front;
+          rest = adds.rest ++ sees_left rules_old still (called_if rules_old now m (next_on now m)) m;
+          is =
+            has.records
+            ∙ ap (λ (xs : List Record). has.done ++ (xs ++ sees_left rules_old still (called_if rules_old now m (next_on now m)) m)) (sym (ap (λ (r : Rules). left_if r now m (next_on now m)) same_rules) ∙ adds.is)
+            ∙ ap (λ (xs : List Record). has.done ++ xs) (append_assoc adds.front adds.rest (sees_left rules_old still (called_if rules_old now m (next_on now m)) m))
+            ∙ sym (append_assoc has.done adds.front (adds.rest ++ sees_left rules_old still (called_if rules_old now m (next_on now m)) m));
+          adds = adds_then before told later m has.done adds.front has.adds adds.adds;
+        }
+
+  -- all were handed in
+  module _ (now : Scene) (told : Option Journals) (so_far : List Line) (has : HasSeen trust m n old now before told lines so_far 0) where
+    pub all_scene : now ≡ sees_to (rules_in trust.accepts old) n old m
+    all_scene = has.scene
+
+    pub all_lines : so_far ≡ lines ++ entries_lines_in trust n old m
+    all_lines = sym (append-nil so_far) ∙ has.says
+
+    pub all_kept : AddsAll before told m (sees_left (rules_in trust.accepts old) n old m)
+    all_kept = subst (λ (xs : List Record). AddsAll before told m xs) (sym (append-nil has.done) ∙ sym has.records) has.adds

@@ -6,6 +6,7 @@ use Rattle.chain_types.specs.declared.objects.Object.{Object}
 use Rattle.chain_types.specs.Transactions as transactions
 use Rattle.chain_messages.specs.Messages as messages
 use Rattle.chain_messages.specs.declared.messages.Certificate.{Certificate}
+use Rattle.chain_messages.specs.declared.messages.Entry.{Entry}
 use Rattle.protocol_spec.specs.Chain.Words.{Each}
 use Rattle.quorum_core.specs.Committee.{committee_of, without_zero, zero_from}
 use Rattle.quorum_core.specs.declared.committee.CommitteeRefusal.TheVariants as refusal
@@ -17,6 +18,8 @@ use Rattle.world_spec.specs.Making.{TxLine}
 use Rattle.scene_spec.specs.Known.{Known, known_by, with_line}
 use Rattle.scene_spec.specs.MadeLines.{line_made}
 use Rattle.scene_spec.specs.Scene.{Scene}
+use Rattle.scene_spec.specs.Worlds.{AreKeepable}
+use Rattle.world_lines.specs.Orders.{Orders, no_orders}
 use Rattle.scene_spec.specs.Steps.{held_in, with_tx}
 use Rattle.world_core.specs.Sound.{IsSound, IsSpelled, IsSpelledCert}
 use Rattle.world_core.proofs.Opened.{opening_apart}
@@ -26,31 +29,38 @@ each_push P [] x all one = (one, tt)
 each_push P (y ∷ ys) x all one = (all.0, each_push P ys x all.1 one)
 
 -- the first world
-pub sound_first : (lines : List Setup) (opening : List Object) (known : Known) (certs : List Formed) → opening ≡ fold with_new [] (objects_from 0 lines) → known ≡ known_by lines → certs ≡ [] → IsSound opening known certs
-sound_first lines opening known certs o k c =
+pub sound_first : (lines : List Setup) (opening : List Object) (known : Known) (orders : Orders) (certs : List Formed) → opening ≡ fold with_new [] (objects_from 0 lines) → known ≡ known_by lines → orders ≡ no_orders → certs ≡ [] → IsSound opening known certs orders.sequences
+sound_first lines opening known orders certs o k s c =
     record {
       made = subst (λ (x : Known). Each IsSpelled x.txs) (sym k) tt;
       formed = subst (λ (x : List Formed). Each IsSpelledCert x) (sym c) tt;
       apart = opening_apart lines opening o;
+      keepable = subst (λ (x : Orders). AreKeepable x.sequences) (sym s) (tt, tt);
     }
 
 -- one more transaction
-pub sound_made : (opening : List Object) (known new : Known) (certs : List Formed) (l : TxLine) (t : Made) → IsSound opening known certs → transactions.signed.short t.signed → new ≡ with_line known l t → IsSound opening new certs
-sound_made opening known new certs l t is short now =
+pub sound_made : (opening : List Object) (known new : Known) (certs : List Formed) (sequences : List (List Entry)) (l : TxLine) (t : Made) → IsSound opening known certs sequences → transactions.signed.short t.signed → new ≡ with_line known l t → IsSound opening new certs sequences
+sound_made opening known new certs sequences l t is short now =
     record {
       made = subst (λ (x : Known). Each IsSpelled x.txs) (sym now) (each_push IsSpelled known.txs t is.made short);
       formed = is.formed;
       apart = is.apart;
+      keepable = is.keepable;
     }
 
 -- one more certificate
-pub sound_formed : (opening : List Object) (known : Known) (certs new : List Formed) (name : Name) (c : Certificate) → IsSound opening known certs → messages.certificate.short c → new ≡ certs ++ record { name = name; cert = c } ∷ [] → IsSound opening known new
-sound_formed opening known certs new name c is short now =
+pub sound_formed : (opening : List Object) (known : Known) (certs new : List Formed) (sequences : List (List Entry)) (name : Name) (c : Certificate) → IsSound opening known certs sequences → messages.certificate.short c → new ≡ certs ++ record { name = name; cert = c } ∷ [] → IsSound opening known new sequences
+sound_formed opening known certs new sequences name c is short now =
     record {
       made = is.made;
       formed = subst (λ (x : List Formed). Each IsSpelledCert x) (sym now) (each_push IsSpelledCert certs (record { name = name; cert = c }) is.formed short);
       apart = is.apart;
+      keepable = is.keepable;
     }
+
+-- one more entry
+pub sound_ordered : (opening : List Object) (known : Known) (certs : List Formed) (old new : List (List Entry)) → IsSound opening known certs old → AreKeepable new → IsSound opening known certs new
+sound_ordered opening known certs old new is keepable = record { made = is.made; formed = is.formed; apart = is.apart; keepable = keepable }
 
 -- ---- committees
 

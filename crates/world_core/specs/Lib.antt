@@ -11,3 +11,4 @@ pub mod Restarts
 pub mod Votes
 pub mod Stays
 pub mod Sums
+pub mod Sees

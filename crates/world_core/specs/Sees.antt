@@ -1,25 +1,35 @@
 -- What is said of entries, by what is known under names; what a line that hands in several has done so far.
-use Rattle.std.specs.Prelude.{◌≡◌, ℕ, false, List, [], ◌∷◌, ◌++◌, length, Option, Result, Ok, Err}
+use Rattle.std.specs.Prelude.{◌≡◌, ℕ, false, List, [], ◌∷◌, ◌++◌, length, slice_get, Option, None, option_and_then, option_map, Result, Ok, Err, if◌then◌else◌}
+use Rattle.chain_messages.specs.declared.messages.Entry.{Entry}
 use Rattle.journal_core.specs.declared.records.Record.{Record}
 use Rattle.outside.specs.Lists.{Journals}
 use Rattle.protocol_spec.specs.Chain.Certificates.{Rules}
-use Rattle.protocol_spec.specs.Member.Calls.{see_answer}
+use Rattle.protocol_spec.specs.Member.Member.{Member}
+use Rattle.protocol_spec.specs.Member.Calls.{Call, see_answer}
 use Rattle.report_text.specs.declared.lines.Line.{Line}
 use Rattle.report_text.specs.declared.lines.Line.TheVariants as line
 use Rattle.report_text.specs.declared.lines.SeeText.TheVariants as see_text
 use Rattle.report_text.specs.declared.lines.EntryText.TheVariants as entry_text
 use Rattle.world_spec.specs.Setting.{Trust}
-use Rattle.world_spec.specs.World.{Reached, finds_down, stops, answers}
+use Rattle.world_spec.specs.World.{Reached, finds_down, stops, answers, entries_at, numbered_call}
 use Rattle.world_spec.specs.Report.{Lines, entry_lines}
 use Rattle.scene_spec.specs.Known.{Known, setting_staked, world_with}
-use Rattle.scene_spec.specs.Posts.{AddsAll, AddsFront}
+use Rattle.scene_spec.specs.Posts.{AddsAll, AddsFront, Post}
 use Rattle.scene_spec.specs.Scene.{Scene, rules_in}
-use Rattle.scene_spec.specs.Steps.{entries_lines_in, sees_left, sees_to}
+use Rattle.scene_spec.specs.Steps.{entries_lines_in, seat_state, sees_left, sees_to, standing_at}
 
 abbrev pub see_lines_by : Known → Rules → ℕ → ℕ → List ℕ → Reached → Lines
 see_lines_by k r m number bytes finds_down = (line.See m see_text.Down ∷ [], false)
 see_lines_by k r m number bytes (stops kept x) = (line.SeeEntry m number entry_text.Stopped ∷ [], false)
 see_lines_by k r m number bytes (answers before x) = entry_lines (setting_staked r.stakes k) (world_with k) m number (see_answer r before number bytes)
+
+-- the next entry of these sequences for a member in this state
+abbrev pub next_for : List (List Entry) → Member → Option Call
+next_for sequences m = option_map (numbered_call m.sequence.number) (if m.sequence.ended then None else slice_get (entries_at sequences m.epoch) m.sequence.number)
+
+-- the next entry of a member that is up, as the call that hands it in
+abbrev pub next_by : List Post → List (List Entry) → ℕ → Option Call
+next_by posts sequences m = option_and_then (next_for sequences) (option_map seat_state (standing_at (slice_get posts m)))
 
 -- Ok: these records were added; else the first of them
 abbrev pub LeavesAll : {A E : Type 0} → Option Journals → Option Journals → ℕ → List Record → Result A E → Type 0
@@ -30,7 +40,7 @@ LeavesAll before now m records (Err e) = AddsFront before now m records
 -- of the whole, behind the lines and records so far
 pub record HasSeen (trust : Trust) (m n : ℕ) (old now : Scene) (before told : Option Journals) (lines so_far : List Line) (still : ℕ) : Type 0 where
   pub scene : sees_to (rules_in trust.accepts old) still now m ≡ sees_to (rules_in trust.accepts old) n old m
-  pub lines : so_far ++ entries_lines_in trust still now m ≡ lines ++ entries_lines_in trust n old m
+  pub says : so_far ++ entries_lines_in trust still now m ≡ lines ++ entries_lines_in trust n old m
   pub done : List Record
   pub records : sees_left (rules_in trust.accepts old) n old m ≡ done ++ sees_left (rules_in trust.accepts old) still now m
   pub adds : AddsAll before told m done

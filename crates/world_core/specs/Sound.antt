@@ -1,12 +1,15 @@
--- What holds of each world: its transactions and certificates can be spelled, and its opening has no id twice.
+-- What holds of each world: its transactions and certificates can be spelled, its entries can be kept, and its opening
+-- has no id twice.
 use Rattle.std.specs.Prelude.{List}
 use Rattle.chain_types.specs.declared.objects.Object.{Object}
 use Rattle.chain_types.specs.Transactions as transactions
+use Rattle.chain_messages.specs.declared.messages.Entry.{Entry}
 use Rattle.chain_messages.specs.Messages as messages
 use Rattle.protocol_spec.specs.Chain.Words.{Each}
 use Rattle.scene_spec.specs.Starts.{AreApart}
 use Rattle.world_spec.specs.World.{Formed, Made}
 use Rattle.scene_spec.specs.Known.{Known}
+use Rattle.scene_spec.specs.Worlds.{AreKeepable}
 
 abbrev pub IsSpelled : Made → Type 0
 IsSpelled t = transactions.signed.short t.signed
@@ -14,7 +17,8 @@ IsSpelled t = transactions.signed.short t.signed
 abbrev pub IsSpelledCert : Formed → Type 0
 IsSpelledCert f = messages.certificate.short f.cert
 
-pub record IsSound (opening : List Object) (known : Known) (certs : List Formed) : Type 0 where
+pub record IsSound (opening : List Object) (known : Known) (certs : List Formed) (sequences : List (List Entry)) : Type 0 where
   pub made : Each IsSpelled known.txs
   pub formed : Each IsSpelledCert certs
   pub apart : AreApart opening
+  pub keepable : AreKeepable sequences

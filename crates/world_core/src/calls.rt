@@ -162,7 +162,7 @@ fn say_checkpoint(
 }
 
 /// A member states the checkpoints that it built, in order.
-fn say_built(
+pub(crate) fn say_built(
     alloc: Global,
     said: &mut SaidBook,
     member: u32,
@@ -231,7 +231,7 @@ fn run<D: Keeper, S: Sealer>(
 }
 
 /// A list of one line.
-fn told(alloc: Global, line: Line) -> Result<Seq<Line>, SeatFault>
+pub(crate) fn told(alloc: Global, line: Line) -> Result<Seq<Line>, SeatFault>
     ensures lines { IfOk result (λ lines. lines ≡ line ∷ []) }
     ensures fault { IsErrOf result fault.KeepFault → ⊥ }
 {

@@ -25,7 +25,7 @@ fn order_line(alloc: Global, tx: &[u8], text: OrderText) -> Result<Seq<Line>, Ou
 
 impl World {
     /// The line `order T`: orders the certificate that was formed last for this name, where it is of the open epoch.
-    #[tactic(auto, using(crate::proofs::Ordering::orders_none, crate::proofs::Ordering::orders_late, crate::proofs::Ordering::orders_one, crate::proofs::Ordering::short_cert))]
+    #[tactic(auto, using(crate::proofs::Ordered::orders_none, crate::proofs::Ordered::orders_late, crate::proofs::Ordered::orders_one, crate::proofs::Ordered::short_cert))]
     pub(crate) fn order_cert(&mut self, tx: &[u8]) -> Result<Seq<Line>, OutOfMemory>
         ensures world { OnOk result (self.new ≡ with_order self.old (ordered (bare_world self.old) (cert_named (bare_world self.old) tx.now))) }
         ensures lines { IfOk result (λ lines. lines ≡ line.Order tx.now (order_said (bare_world self.old) (cert_named (bare_world self.old) tx.now)) ∷ []) }
@@ -48,7 +48,7 @@ impl World {
     }
 
     /// The line `order commit`: orders a mark.
-    #[tactic(auto, using(crate::proofs::Ordering::orders_mark, crate::proofs::Ordering::short_mark))]
+    #[tactic(auto, using(crate::proofs::Ordered::orders_mark, crate::proofs::Ordered::short_mark))]
     pub(crate) fn order_commit(&mut self) -> Result<Seq<Line>, OutOfMemory>
         ensures world { OnOk result (self.new ≡ with_order self.old (appended_entry (bare_world self.old) entry.Commit)) }
         ensures lines { IfOk result (λ lines. lines ≡ line.OrderCommit (length (open_entries (bare_world self.old))) ∷ []) }

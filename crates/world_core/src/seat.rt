@@ -69,6 +69,13 @@ impl Seat {
         self.validator = None;
     }
 
+    /// The member, where it is up. Takes no memory.
+    pub(crate) fn standing(&self) -> Option<&Validator>
+        ensures { option_copied result ≡ self.now.standing }
+    {
+        self.validator.as_ref()
+    }
+
     /// The member, where it is honest and up. Takes no memory.
     pub(crate) fn honest(&self) -> Option<&Validator>
         ensures { option_copied result ≡ honest_at (Some self.now) }

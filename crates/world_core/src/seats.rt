@@ -335,6 +335,16 @@ impl Seats {
         }
     }
 
+    /// A member that is up; none where it is down or not there. Takes no memory.
+    pub fn standing(&self, member: u32) -> Option<&Validator>
+        ensures { option_copied result ≡ standing_at (slice_get self.now.posts member) }
+    {
+        match self.seats.get(member as usize) {
+            Some(seat) => seat.standing(),
+            None => None,
+        }
+    }
+
     /// A member that is honest and up; none where it is faulty, down or not there. Takes no memory.
     pub fn honest(&self, member: u32) -> Option<&Validator>
         ensures { option_copied result ≡ honest_at (slice_get self.now.posts member) }

@@ -1,33 +1,39 @@
 //! The line that hands a member entries of its sequence.
 
-ghost use Rattle.std.specs.Prelude.{◌≡◌, ◌≤◌, ◌∷◌, ◌++◌, [], IfOk, IsErrOf, OnOk, length, map, option_map, slice_get};
-ghost use Rattle.answer_types.specs.declared.answers.Seen.{Seen as S};
+ghost use Rattle.std.specs.Prelude.{◌≡◌, ◌≤◌, ◌∷◌, ◌++◌, [], IfOk, IsErrOf, OnOk, Some, false, length, map, option_map};
 ghost use Rattle.outside.specs.Causes.{Rose};
 ghost use Rattle.protocol_spec.specs.Member.Calls.{sees};
 ghost use Rattle.report_text.specs.declared.lines.Line.TheVariants as line;
+ghost use Rattle.report_text.specs.declared.lines.SeeText.TheVariants as see_text;
 ghost use Rattle.schedule_text.specs.declared.words.Event.TheVariants as events;
 ghost use Rattle.scene_spec.specs.Known.{setting_staked, world_with};
 ghost use Rattle.scene_spec.specs.Posts.{posts_behind, reached_in, record_left, stated_in};
-ghost use Rattle.scene_spec.specs.Scene.{rules_in};
-ghost use Rattle.scene_spec.specs.Steps.{call_lines_in, called_if, lines_in, next_on, steps_to, work_of};
+ghost use Rattle.scene_spec.specs.Scene.{bare_world, rules_in};
+ghost use Rattle.scene_spec.specs.Steps.{call_lines_in, called_if, entries_lines_in, left_if, lines_in, next_on, sees_left, sees_to, steps_to, work_of};
 ghost use Rattle.scene_spec.specs.Terms.{rules_for};
 ghost use Rattle.world_core.specs.declared.reply.SeatFault.TheVariants as fault;
 ghost use Rattle.world_core.specs.Kept.{LeavesAs};
 ghost use Rattle.world_core.specs.Replies.{Leaves};
-ghost use Rattle.world_core.specs.Sees.{LeavesNext, see_lines_by, standing_of};
+ghost use Rattle.world_core.specs.Sees.{LeavesAll, next_by, see_lines_by};
+ghost use Rattle.world_core.specs.Stays.{Stays};
 ghost use Rattle.world_core.specs.Trusts.{trust_by};
+ghost use Rattle.world_spec.specs.Names.{tx_name};
 ghost use Rattle.world_spec.specs.Report.{entry_lines};
+ghost use Rattle.world_spec.specs.Step.{entries_left};
 ghost use Rattle.world_spec.specs.World.{built_statements, said_by};
 
 use crate::calls::{say_built, told};
-use crate::world::World;
+use crate::world::{World, one_line};
 use crate::{Reply, SeatFault, Seats};
 use answer_types::{SeeRefusal, Seen};
+use digest_core::Digest;
 use outside::Keeper;
 use quorum_core::{Committee, Sealer};
 use report_text::{EntryText, Line, SeeText};
+use std::alloc::Global;
+use validator_core::Validator;
 use wire_bcs::{OutOfMemory, Seq};
-use world_lines::{SaidBook, add_entry_lines};
+use world_lines::{OrderBook, SaidBook, add_entry_lines, tx_text};
 use world_names::{Directory, MakesSeals};
 
 /// Adds the lines for a member's answer to an entry, and tells whether the line goes on behind it; the checkpoints that
@@ -50,6 +56,15 @@ fn tell_entry(
         say_built(directory.allocator(), said, member, seen.built.as_slice())?;
     }
     Ok(goes)
+}
+
+/// The line of a member that takes no entry.
+fn see_line(alloc: Global, member: u32, text: SeeText) -> Result<Seq<Line>, SeatFault>
+    ensures lines { IfOk result (λ lines. lines ≡ line.See member text ∷ []) }
+    ensures fault { IsErrOf result fault.KeepFault → ⊥ }
+{
+    let member = member as u64;
+    told(alloc, Line::See { member, text })
 }
 
 /// Adds a line behind which nothing goes on.
@@ -118,10 +133,27 @@ fn see<D: Keeper, S: Sealer>(
     }
 }
 
+/// The next entry of a member that is up, by its number and spelled; none exactly where there is none.
+#[tactic(auto, using(crate::proofs::Nexts::by_none, crate::proofs::Nexts::by_ended, crate::proofs::Nexts::by_left, crate::proofs::Nexts::by_some))]
+fn next_entry<'a>(seats: &Seats, order: &'a OrderBook, member: u32) -> Option<(u64, &'a Seq<u8>)>
+    ensures { option_map (λ (p : _). sees p.0 p.1.now) result ≡ next_by seats.now.posts order.now.sequences member }
+{
+    let Some(validator) = seats.standing(member) else {
+        return None;
+    };
+    if validator.has_ended() {
+        return None;
+    }
+    let number = validator.seen();
+    match order.bytes(validator.epoch(), number) {
+        Some(bytes) => Some((number, bytes)),
+        None => None,
+    }
+}
+
 impl World {
     /// Hands a member its next entry, where it is up and there is one: adds its lines, and tells whether the line goes
     /// on behind it.
-    #[tactic(auto, using(crate::proofs::Seeing::next_down, crate::proofs::Seeing::next_ended, crate::proofs::Seeing::next_none, crate::proofs::Seeing::next_some))]
     fn see_next<D: Keeper, S: MakesSeals>(
         &mut self,
         keeper: &mut D,
@@ -134,18 +166,12 @@ impl World {
         ensures lines { OnOk result (lines.new ≡ lines.old ++ (call_lines_in (trust_by (S.made sealer.now) (S.accepts sealer.now)) self.old member (next_on self.old member)).0) }
         ensures goes { IfOk result (λ goes. goes ≡ (call_lines_in (trust_by (S.made sealer.now) (S.accepts sealer.now)) self.old member (next_on self.old member)).1) }
         ensures kept { LeavesAll (D.lists keeper.old) (D.lists keeper.new) member (left_if (rules_in (S.accepts sealer.now) self.old) self.old member (next_on self.old member)) result }
+        ensures stay { OnOk result (Stays self.old self.new) }
         ensures width { D.width keeper.new ≡ D.width keeper.old }
         ensures later { D.failed keeper.old ≤ D.failed keeper.new }
         ensures fault { IsErrOf result fault.KeepFault → Rose (D.failed keeper.old) (D.failed keeper.new) }
     {
-        let Some(validator) = self.seats.standing(member) else {
-            return Ok(false);
-        };
-        if validator.has_ended() {
-            return Ok(false);
-        }
-        let number = validator.seen();
-        let Some(bytes) = self.order.bytes(validator.epoch(), number) else {
+        let Some((number, bytes)) = next_entry(&self.seats, &self.order, member) else {
             return Ok(false);
         };
         see(

@@ -18,7 +18,7 @@ use schedule_text::Setup;
 use std::alloc::Global;
 use std::marker::Model;
 use wire_bcs::{OutOfMemory, Seq};
-use world_lines::{CertBook, SaidBook};
+use world_lines::{CertBook, OrderBook, SaidBook};
 use world_names::{Directory, MakesSeals};
 
 /// Why a set-up opens no world.
@@ -44,6 +44,7 @@ pub enum WorldFault {
 pub struct World {
     pub(crate) opening: Seq<Object>,
     pub(crate) directory: Directory,
+    pub(crate) order: OrderBook,
     pub(crate) said: SaidBook,
     pub(crate) certs: CertBook,
     pub(crate) seats: Seats,
@@ -56,9 +57,9 @@ impl Model for World {
 
     ghost Value = { Scene };
 
-    ghost view = { λ w. record { terms = w.seats.terms; opening = w.opening; known = w.directory; said = w.said; certs = w.certs; posts = w.seats.posts } };
+    ghost view = { λ w. record { terms = w.seats.terms; opening = w.opening; known = w.directory; sequences = w.order.sequences; epoch = w.order.epoch; said = w.said; certs = w.certs; posts = w.seats.posts } };
 
-    ghost invariant = { λ w. IsSound w.opening w.directory w.certs };
+    ghost invariant = { λ w. IsSound w.opening w.directory w.certs w.order.sequences };
 }
 
 /// A list of one line.
@@ -90,6 +91,7 @@ impl World {
         Ok(World {
             opening,
             directory,
+            order: OrderBook::new(alloc),
             said: SaidBook::new(alloc),
             certs: CertBook::new(alloc),
             seats,
