@@ -18,7 +18,7 @@ use Rattle.world_spec.specs.Step.{happens}
 use Rattle.world_spec.specs.Report.{lines_of}
 use Rattle.world_spec.specs.Run.{journal, records_of, report, report_from, report_of, run, world_after}
 use Rattle.scene_spec.specs.Scene.{Scene}
-use Rattle.scene_spec.specs.Worlds.{IsTrueOf, Restarts, Shows, is_plain, journal_in}
+use Rattle.scene_spec.specs.Worlds.{AreKeepable, IsTrueOf, Restarts, Shows, is_plain, journal_in}
 use Rattle.world_core.specs.Restarts.{StaysDown}
 use Rattle.committee_core.specs.Journals.{AreAtLeast, AreEmpty, IsTold, KeepsFronts, KeepsRun, ReadsBack, ReadsNone, StartsAlong}
 use Rattle.committee_core.specs.Laws.{SceneLaws}
@@ -26,7 +26,7 @@ use Rattle.committee_core.specs.Report.{lines_text, setting_in}
 use Rattle.committee_core.specs.Steps.{IsBadRecord, IsCutAt, untaken, unwritten, unsaid, IsUntaken, IsUnwritten, Passes}
 use Rattle.committee_core.specs.Streams.{AppendsFront}
 use Rattle.committee_core.specs.Ways.{MeetsBadRecord, RunsCut, RunsFront, RunsWhole}
-use Rattle.committee_core.proofs.Following.{FrontFrom, IsFollowed, ReadsTold, TellsFrom, bad-untold, followed, front-ahead, front-told, kept-taken, kept-untaken}
+use Rattle.committee_core.proofs.Following.{FrontFrom, IsFollowed, ReadsTold, TellsFrom, bad-untold, followed, front-ahead, front-told, keepable-shown, kept-taken, kept-untaken}
 use Rattle.committee_core.proofs.Restarting.{restart-of}
 
 -- ---- lists
@@ -70,7 +70,11 @@ text-append s front back w = ap lines_text (report-append s front back w) ∙ fl
 text-line : (s : Setting) (e : Event) (back : List Event) (w : World) → lines_text (report_from s (e ∷ back) w) ≡ lines_text (lines_of s w e) ++ lines_text (report_from s back (happens s w e))
 text-line s e back w = flat_map-append text_of (lines_of s w e) (report_from s back (happens s w e))
 
-starts-at : (s : Setting) (es front back : List Event) → StartsAlong s es → es ≡ front ++ back → Restarts s (run s front (new_world s))
+-- every member starts from its journal, where the entries behind the front can be kept
+abbrev StartsBehind : Setting → List Event → Type 0
+StartsBehind s front = AreKeepable (run s front (new_world s)).sequences → Restarts s (run s front (new_world s))
+
+starts-at : (s : Setting) (es front back : List Event) → StartsAlong s es → es ≡ front ++ back → StartsBehind s front
 unfolding world_after
 starts-at s es front back along is = along front back is
 
@@ -101,10 +105,10 @@ behind-none trust s start held sc shows empty = record { shows = shows; tells = 
 
 -- one event more
 pub behind-more : (trust : Trust) (l : SceneLaws trust) (s : Setting) (start : Option Journals) (held0 : Option (List ℕ)) (front : List Event) (e : Event) (sc now : Scene) (told told' : Option Journals) (held held' : Option (List ℕ))
-    → Restarts s (run s front (new_world s)) → Behind trust s start held0 front sc told held → ReadsTold start e → is_plain e ≡ true → AreAtLeast start (length sc.posts) → Passes trust e sc now told told' held held' → Behind trust s start held0 (front ++ e ∷ []) now told' held'
+    → StartsBehind s front → Behind trust s start held0 front sc told held → ReadsTold start e → is_plain e ≡ true → AreAtLeast start (length sc.posts) → Passes trust e sc now told told' held held' → Behind trust s start held0 (front ++ e ∷ []) now told' held'
 behind-more trust l s start held0 front e sc now told told' held held' starts b reads plain wide p =
     let w : World = run s front (new_world s) in
-    let f : IsFollowed trust s w e now p.given = followed trust l s w sc now e start told told' p.given b.shows starts b.tells reads plain p.taken in
+    let f : IsFollowed trust s w e now p.given = followed trust l s w sc now e start told told' p.given b.shows (starts (keepable-shown trust s w sc b.shows p.taken.keepable)) b.tells reads plain p.taken in
     let to : happens s w e ≡ run s (front ++ e ∷ []) (new_world s) = sym (run-append s front (e ∷ []) (new_world s)) in
     let text : lines_text (report_from s front (new_world s)) ++ lines_text (lines_of s w e) ≡ lines_text (report_from s (front ++ e ∷ []) (new_world s)) =
     ap (λ (t : List ℕ). lines_text (report_from s front (new_world s)) ++ t) (sym (append-nil (lines_text (lines_of s w e))) ∙ sym (text-line s e [] w)) ∙ sym (text-append s front (e ∷ []) (new_world s)) in
@@ -214,7 +218,8 @@ cut-unwritten trust l s start held0 front e back sc told told' held held' is pla
     let w : World = run st front (new_world st) in
     runs-front trust s start told' held0 held' (front ++ e ∷ back) is
     (λ reads. let b = so (reads-front start front (e ∷ back) reads) in
-    let f : IsFollowed trust st w e cut.now cut.given = followed trust l st w sc cut.now e start told told' cut.given b.shows (starts-at st s.events front (e ∷ back) along is) b.tells (reads-next start front e back reads) plain cut.taken in
+    let starts : Restarts st w = starts-at st s.events front (e ∷ back) along is (keepable-shown trust st w sc b.shows cut.taken.keepable) in
+    let f : IsFollowed trust st w e cut.now cut.given = followed trust l st w sc cut.now e start told told' cut.given b.shows starts b.tells (reads-next start front e back reads) plain cut.taken in
     front-written st front e back held0 held held' b.written (subst (λ (g : List Line). AppendsFront held held' (lines_text g)) f.lines cut.written))
     (λ t. let b = so (inl t) in
     ahead-of trust l st start told' front e back
@@ -237,6 +242,7 @@ meets : (trust : Trust) (s : Schedule) (Writes : Option (List ℕ) → Option (L
 unfolding report
 meets trust s Writes joins start held0 front e back sc told held held' is so along bad =
     let st : Setting = setting_in trust s in
+    let w : World = run st front (new_world st) in
     let m = restart-of e bad.reads.restarts in
     let down : StaysDown trust.accepts told m.0 sc bad.member bad.place = bad.reads.stays m.0 m.1 in
     let which : e ≡ event.Restart bad.member = m.1 ∙ ap (λ (k : ℕ). event.Restart k) (sym down.who) in
@@ -246,7 +252,9 @@ meets trust s Writes joins start held0 front e back sc told held held' is so alo
       member = bad.member;
       place = bad.place;
       restarts = is ∙ ap (λ (d : Event). front ++ d ∷ back) which;
-      untold = untold-where start (λ t. let b = so (inl t) in bad-untold trust st (run st front (new_world st)) sc m.0 bad.member bad.place start told b.shows (starts-at st s.events front (e ∷ back) along is) b.tells down);
+      untold = untold-where start (λ t. let b = so (inl t) in
+          let starts : Restarts st w = starts-at st s.events front (e ∷ back) along is (keepable-shown trust st w sc b.shows bad.reads.keepable) in
+          bad-untold trust st w sc m.0 bad.member bad.place start told b.shows starts b.tells down);
       written = λ reads. joins held0 held held' _ _ (so reads).written bad.written;
     }
 

@@ -9,7 +9,7 @@ use Rattle.protocol_spec.specs.Chain.Words.{Each}
 use Rattle.world_spec.specs.Setting.{Trust}
 use Rattle.world_spec.specs.Keyed.{program_secret}
 use Rattle.world_spec.specs.Run.{world_after}
-use Rattle.scene_spec.specs.Worlds.{IsTrueOf, Restarts, is_plain}
+use Rattle.scene_spec.specs.Worlds.{AreKeepable, IsTrueOf, Restarts, is_plain}
 use Rattle.text_law.specs.HonestTexts.{keyed_setting}
 use Rattle.safety_law.proofs.Owner.{owner}
 use Rattle.safety_law.proofs.Voted.{certified-is}
@@ -22,12 +22,12 @@ use Rattle.committee_core.proofs.Plain.{plain_read, read_is_schedule}
 use Rattle.committee_core.proofs.Whole.{short}
 
 -- the members of the run of a text that is read start from their records
-pub read_starts : ((text : List ℕ) (t : Schedule) → schedule_of text ≡ Ok t → (secret : List ℕ) → (front rest : List Event) → t.events ≡ front ++ rest → Each (IsTrueOf is_plain) t.events → Restarts (keyed_setting secret t) (world_after (keyed_setting secret t) front))
+pub read_starts : ((text : List ℕ) (t : Schedule) → schedule_of text ≡ Ok t → (secret : List ℕ) → (front rest : List Event) → t.events ≡ front ++ rest → Each (IsTrueOf is_plain) t.events → AreKeepable (world_after (keyed_setting secret t) front).sequences → Restarts (keyed_setting secret t) (world_after (keyed_setting secret t) front))
     → (trust : Trust) → trust ≡ program_trust → StartsWhereRead trust
 unfolding program_trust
 read_starts law trust same = λ text s is front back cut.
-    subst (λ (t : Trust). Restarts (setting_in t s) (world_after (setting_in t s) front)) (sym same)
-    (law text s (read_is_schedule text s is) program_secret front back cut (plain_read text s is).events)
+    subst (λ (t : Trust). AreKeepable (world_after (setting_in t s) front).sequences → Restarts (setting_in t s) (world_after (setting_in t s) front)) (sym same)
+    (law text s (read_is_schedule text s is) program_secret front back cut (plain_read text s is))
 
 -- what the lines certify is consumed once
 once : (s : Schedule) (events : List Event) → ConsumesOnce s events

@@ -4,7 +4,6 @@ use Rattle.outside.specs.Lists.{Journals, journal_of, with_record}
 use Rattle.protocol_spec.specs.Chain.Certificates.{Rules}
 use Rattle.journal_core.specs.declared.records.Record.{Record}
 use Rattle.journal_core.specs.Records as journals
-use Rattle.protocol_spec.specs.Member.Calls.{Call}
 use Rattle.scene_spec.specs.Terms.{rules_for}
 use Rattle.report_text.specs.declared.lines.Line.{Line}
 use Rattle.report_text.specs.declared.lines.Line.TheVariants as line
@@ -18,11 +17,10 @@ use Rattle.world_spec.specs.World.{World, new_world, member_in}
 use Rattle.world_spec.specs.Step.{happens}
 use Rattle.world_spec.specs.Report.{lines_of}
 use Rattle.world_spec.specs.Run.{records_of, run}
-use Rattle.scene_spec.specs.Posts.{AddsLeft, MayAddLeft, Post}
+use Rattle.scene_spec.specs.Posts.{Post, with_all}
 use Rattle.scene_spec.specs.Scene.{Scene, rules_in}
-use Rattle.scene_spec.specs.Steps.{call_of}
-use Rattle.scene_spec.specs.Worlds.{Restarts, Shows, Tells, TellsFront, is_plain, is_restart, journal_in, posts_from}
-use Rattle.world_core.specs.Kept.{LeavesLeft, MayLeave}
+use Rattle.scene_spec.specs.Steps.{AddsLine, MayAddLine, records_left, work_of}
+use Rattle.scene_spec.specs.Worlds.{AreKeepable, Restarts, Shows, Tells, TellsFront, is_plain, is_restart, journal_in, posts_from}
 use Rattle.world_core.specs.Restarts.{RestartsAs, StaysDown}
 use Rattle.committee_core.specs.Laws.{SceneLaws}
 use Rattle.committee_core.specs.Journals.{AreAtLeast, IsTold, ReadsNone}
@@ -46,17 +44,22 @@ length-set [] i y = refl
 length-set (x ∷ xs) zero y = refl
 length-set (x ∷ xs) (suc i) y = ap suc (length-set xs i y)
 
--- lists that were told are told behind a call
+all-length : (records : List Record) (lists : Journals) (m : ℕ) → length (with_all lists m records) ≡ length lists
+all-length [] lists m = refl
+all-length (x ∷ records) lists m =
+    all-length records (with_record lists m (journals.journal_record.spell x)) m ∙ length-set lists m (journal_of lists m ++ journals.journal_record.spell x ∷ [])
+
+-- lists that were told are told behind a line
 abbrev IsToldAs : Journals → Option Journals → Type 0
 IsToldAs lists now = (lists' : Journals) × (now ≡ Some lists') × (length lists' ≡ length lists)
 
-added-told : (lists : Journals) (now : Option Journals) (m : ℕ) (x : Option Record) → AddsLeft (Some lists) now m x → IsToldAs lists now
-added-told lists now m None is = (lists, is, refl)
-added-told lists now m (Some x) is = (with_record lists m (journals.journal_record.spell x), is, length-set lists m (journal_of lists m ++ journals.journal_record.spell x ∷ []))
+added-told : (lists : Journals) (now : Option Journals) (left : Option (ℕ × List Record)) → AddsLine left (Some lists) now → IsToldAs lists now
+added-told lists now None is = (lists, is, refl)
+added-told lists now (Some (m, records)) is = (with_all lists m records, is, all-length records lists m)
 
-may-told : (lists : Journals) (now : Option Journals) (m : ℕ) (x : Option Record) → MayAddLeft (Some lists) now m x → IsToldAs lists now
-may-told lists now m x (inl is) = added-told lists now m x is
-may-told lists now m x (inr is) = (lists, is, refl)
+may-told : (lists : Journals) (now : Option Journals) (left : Option (ℕ × List Record)) → MayAddLine left (Some lists) now → IsToldAs lists now
+may-told lists now None is = (lists, is, refl)
+may-told lists now (Some (m, records)) cut = (with_all lists m cut.front, cut.adds, all-length cut.front lists m)
 
 posts-length : (s : Setting) (m : ℕ) (seats : List worlds.Seat) → length (posts_from s m seats) ≡ length seats
 posts-length s m [] = refl
@@ -66,6 +69,10 @@ pub seats-length : (trust : Trust) (s : Setting) (w : World) (sc : Scene) → Sh
 seats-length trust s w sc shows = ap (λ (x : Scene). length x.posts) shows.scene ∙ posts-length s 0 w.seats
 
 -- ---- a restart
+
+-- the sequences of a scene are those of the world
+pub keepable-shown : (trust : Trust) (s : Setting) (w : World) (sc : Scene) → Shows trust s w sc → AreKeepable sc.sequences → AreKeepable w.sequences
+keepable-shown trust s w sc shows all = subst AreKeepable (ap (λ (x : Scene). x.sequences) shows.scene) all
 
 -- the rules and the opening objects of a scene are those of the setting
 pub rules-shown : (trust : Trust) (s : Setting) (w : World) (sc : Scene) → Shows trust s w sc → rules_in trust.accepts sc ≡ s.rules
@@ -88,23 +95,20 @@ seats-none s k (suc m) (seat ∷ seats) h = seats-none s (suc k) m seats h
 
 -- ---- a taken event
 
--- the record of its call is added to told lists
-leaves-told : (trust : Trust) (l : SceneLaws trust) (s : Setting) (w : World) (sc : Scene) (e : Event) (lists : Journals) (now : Option Journals) (c : Option (ℕ × Call))
-    → Shows trust s w sc → is_plain e ≡ true → length w.seats ≤ length lists → Tells (Some lists) w → call_of sc e ≡ c → LeavesLeft (rules_in trust.accepts sc) sc c (Some lists) now
+-- the records that it leaves are added to told lists
+leaves-told : (trust : Trust) (l : SceneLaws trust) (s : Setting) (w : World) (sc : Scene) (e : Event) (lists : Journals) (now : Option Journals)
+    → Shows trust s w sc → is_plain e ≡ true → length w.seats ≤ length lists → Tells (Some lists) w → AddsLine (records_left (rules_in trust.accepts sc) sc (work_of sc e)) (Some lists) now
     → (lists' : Journals) × (now ≡ Some lists') × (length lists' ≡ length lists) × Tells (Some lists') (happens s w e)
-leaves-told trust l s w sc e lists now None shows plain room tells is left = (lists, left, refl, l.kept s w sc e (Some lists) shows plain is tells)
-leaves-told trust l s w sc e lists now (Some (m, call)) shows plain room tells is left =
-    let told = added-told lists now m _ left in
-    (told.0, told.1, told.2, subst (λ (j : Option Journals). Tells j (happens s w e)) told.1 (l.called s w sc e m call (Some lists) now shows plain is room tells left))
+leaves-told trust l s w sc e lists now shows plain room tells left =
+    let told = added-told lists now (records_left (rules_in trust.accepts sc) sc (work_of sc e)) left in
+    (told.0, told.1, told.2, subst (λ (j : Option Journals). Tells j (happens s w e)) told.1 (l.told s w sc e (Some lists) now shows plain room tells left))
 
-may-leave-told : (trust : Trust) (l : SceneLaws trust) (s : Setting) (w : World) (sc : Scene) (e : Event) (lists : Journals) (now : Option Journals) (c : Option (ℕ × Call))
-    → Shows trust s w sc → is_plain e ≡ true → length w.seats ≤ length lists → Tells (Some lists) w → call_of sc e ≡ c → MayLeave (rules_in trust.accepts sc) sc c (Some lists) now
+may-leave-told : (trust : Trust) (l : SceneLaws trust) (s : Setting) (w : World) (sc : Scene) (e : Event) (lists : Journals) (now : Option Journals)
+    → Shows trust s w sc → is_plain e ≡ true → length w.seats ≤ length lists → Tells (Some lists) w → MayAddLine (records_left (rules_in trust.accepts sc) sc (work_of sc e)) (Some lists) now
     → (lists' : Journals) × (now ≡ Some lists') × TellsFront (Some lists') (happens s w e)
-may-leave-told trust l s w sc e lists now None shows plain room tells is left =
-    (lists, left, l.fronts (Some lists) (happens s w e) (l.kept s w sc e (Some lists) shows plain is tells))
-may-leave-told trust l s w sc e lists now (Some (m, call)) shows plain room tells is left =
-    let told = may-told lists now m _ left in
-    (told.0, told.1, subst (λ (j : Option Journals). TellsFront j (happens s w e)) told.1 (l.cut s w sc e m call (Some lists) now shows plain is room tells left))
+may-leave-told trust l s w sc e lists now shows plain room tells left =
+    let told = may-told lists now (records_left (rules_in trust.accepts sc) sc (work_of sc e)) left in
+    (told.0, told.1, subst (λ (j : Option Journals). TellsFront j (happens s w e)) told.1 (l.cut s w sc e (Some lists) now shows plain room tells left))
 
 -- the scene shows the world behind the event, the lines are the definition's, and told lists are its journals
 pub record IsFollowed (trust : Trust) (s : Setting) (w : World) (e : Event) (now : Scene) (given : List Line) : Type 0 where
@@ -174,20 +178,20 @@ kept-taken trust l s w sc now e (Some start) told told' given shows (lists, same
     let count : length sc.posts ≡ length w.seats = seats-length trust s w sc shows in
     let enough : length sc.posts ≤ length start = wide in
     let room : length w.seats ≤ length lists = omega (arith, count, enough, size) in
-    let left = leaves-told trust l s w sc e lists told' (call_of sc e) shows plain room tells refl
-    (subst (λ (j : Option Journals). LeavesLeft (rules_in trust.accepts sc) sc (call_of sc e) j told') same taken.kept) in
+    let left = leaves-told trust l s w sc e lists told' shows plain room tells
+    (subst (λ (j : Option Journals). AddsLine (records_left (rules_in trust.accepts sc) sc (work_of sc e)) j told') same taken.kept) in
     (left.0, left.1, left.2 ∙ size, left.3)
 
 -- and behind one that was not taken
 pub kept-untaken : (trust : Trust) (l : SceneLaws trust) (s : Setting) (w : World) (sc : Scene) (e : Event) (start told told' : Option Journals)
-    → Shows trust s w sc → TellsFrom start told w → is_plain e ≡ true → AreAtLeast start (length sc.posts) → MayLeave (rules_in trust.accepts sc) sc (call_of sc e) told told' → FrontFrom start told' (happens s w e)
+    → Shows trust s w sc → TellsFrom start told w → is_plain e ≡ true → AreAtLeast start (length sc.posts) → MayAddLine (records_left (rules_in trust.accepts sc) sc (work_of sc e)) told told' → FrontFrom start told' (happens s w e)
 kept-untaken trust l s w sc e None told told' shows tells plain wide left = tt
 kept-untaken trust l s w sc e (Some start) told told' shows (lists, same, size, tells) plain wide left =
     let count : length sc.posts ≡ length w.seats = seats-length trust s w sc shows in
     let enough : length sc.posts ≤ length start = wide in
     let room : length w.seats ≤ length lists = omega (arith, count, enough, size) in
-    may-leave-told trust l s w sc e lists told' (call_of sc e) shows plain room tells refl
-    (subst (λ (j : Option Journals). MayLeave (rules_in trust.accepts sc) sc (call_of sc e) j told') same left)
+    may-leave-told trust l s w sc e lists told' shows plain room tells
+    (subst (λ (j : Option Journals). MayAddLine (records_left (rules_in trust.accepts sc) sc (work_of sc e)) j told') same left)
 
 pub front-told : (trust : Trust) (l : SceneLaws trust) (start told : Option Journals) (w : World) → TellsFrom start told w → FrontFrom start told w
 front-told trust l None told w tells = tt

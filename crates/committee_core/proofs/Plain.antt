@@ -1,4 +1,4 @@
--- A schedule that is read within the forms that run has those forms alone.
+-- A schedule that is read within the forms that run has events of those forms alone.
 use Rattle.std.proofs.Common.{◌≡◌, ◌+◌, ℕ, Bool, true, false, not, ◌||◌, List, [], ◌∷◌, ◌++◌, length, Option, Some, None, Result, Ok, Err, nat_lt, nat_le, if◌then◌else◌, refl, subst}
 use Rattle.std.specs.List.{list_all, list_any}
 use Rattle.protocol_spec.proofs.ListLemmas.{each-push}
@@ -13,7 +13,7 @@ use Rattle.schedule_text.specs.Forms.{first_other, is_not_allowed, is_other, sch
 use Rattle.schedule_text.specs.Known.{Check, add_line, after_check, event_check, setup_check}
 use Rattle.schedule_text.specs.Lines.{words_of, statement_of}
 use Rattle.schedule_text.specs.Schedule.{Refused, add_statement, is_member_line, is_skipped, lines_of, longest_text, or_refuse, read_line, read_lines, schedule_of}
-use Rattle.scene_spec.specs.Worlds.{IsTrueOf, is_plain, is_plain_setup}
+use Rattle.scene_spec.specs.Worlds.{IsTrueOf, is_plain}
 use Rattle.world_core.specs.Forms.{is_plain_form}
 use Rattle.committee_core.specs.Report.{IsPlain, readable}
 
@@ -33,9 +33,9 @@ after_said (Err c) v u h = absurd (cc)
 add-plain : (t u : Schedule) (x : Statement) → add_line t x ≡ Ok u → is_plain_form x ≡ true → IsPlain t → IsPlain u
 unfolding add_line is_plain_form
 add-plain t u (statement.Setup x) h ok p =
-    subst IsPlain (after_said (setup_check t x) (record t { setup = t.setup ++ x ∷ [] }) u h) (record { setup = each-push (IsTrueOf is_plain_setup) t.setup x p.setup ok; events = p.events })
+    subst IsPlain (after_said (setup_check t x) (record t { setup = t.setup ++ x ∷ [] }) u h) p
 add-plain t u (statement.Event e) h ok p =
-    subst IsPlain (after_said (event_check t e) (record t { events = t.events ++ e ∷ [] }) u h) (record { setup = p.setup; events = each-push (IsTrueOf is_plain) t.events e p.events ok })
+    subst IsPlain (after_said (event_check t e) (record t { events = t.events ++ e ∷ [] }) u h) (each-push (IsTrueOf is_plain) t.events e p ok)
 
 is-allowed : (b : Bool) → not b ≡ false → b ≡ true
 is-allowed true h = refl
@@ -101,4 +101,4 @@ plain_read text s h =
     let said = within-none _ _ s (short-whole (nat_lt longest_text (length text)) _ _ _ s h).1 in
     lines-plain (lines_of text) 1 1 no_lines s
     (some-member (nat_lt longest_text (length text)) (list_any is_member_line (lines_of text)) _ _ _ s said.0)
-    said.1 (record { setup = tt; events = tt })
+    said.1 tt

@@ -7,8 +7,7 @@ use Rattle.report_text.specs.declared.lines.Line.{Line}
 use Rattle.schedule_text.specs.declared.words.Event.{Event}
 use Rattle.world_spec.specs.Setting.{Trust}
 use Rattle.scene_spec.specs.Scene.{Scene, rules_in}
-use Rattle.scene_spec.specs.Steps.{call_of}
-use Rattle.world_core.specs.Kept.{MayLeave}
+use Rattle.scene_spec.specs.Steps.{MayAddLine, records_left, work_of}
 use Rattle.committee_core.specs.Report.{lines_text}
 use Rattle.committee_core.specs.Steps.{IsBadRecord, IsCutAt, untaken, unwritten, unsaid, IsTaken, Passes, ReadsBad}
 use Rattle.committee_core.specs.Streams.{AppendsFront}
@@ -25,7 +24,7 @@ cut_taken (Ok u) trust e sc now told told' held held' given taken done = tt
 cut_taken (Err f) trust e sc now told told' held held' given taken done = unwritten (record { now = now; given = given; taken = taken; written = done })
 
 pub cut_untaken : (trust : Trust) (e : Event) (sc : Scene) (told told' : Option Journals) (held : Option (List ℕ))
-    → MayLeave (rules_in trust.accepts sc) sc (call_of sc e) told told' → IsCutAt trust e sc told told' held held
+    → MayAddLine (records_left (rules_in trust.accepts sc) sc (work_of sc e)) told told' → IsCutAt trust e sc told told' held held
 cut_untaken trust e sc told told' held left = untaken (record { kept = left; written = Keeps-refl held })
 
 pub cut_bad : {E : Type 0} (r : Result (Unit {0}) E) (trust : Trust) (e : Event) (sc : Scene) (told told' : Option Journals) (held held' : Option (List ℕ)) (member place : ℕ)

@@ -6,7 +6,7 @@ use Rattle.schedule_text.specs.declared.words.Schedule.{Schedule}
 use Rattle.protocol_spec.specs.Chain.Words.{Each}
 use Rattle.world_spec.specs.Setting.{Setting, Trust}
 use Rattle.world_spec.specs.Run.{journal, world_after}
-use Rattle.scene_spec.specs.Worlds.{IsFront, Restarts, is_restart}
+use Rattle.scene_spec.specs.Worlds.{AreKeepable, IsFront, Restarts, is_restart}
 use Rattle.committee_core.specs.Report.{readable, setting_in}
 
 -- lists are told
@@ -42,9 +42,9 @@ abbrev pub AreAtLeast : Option Journals → ℕ → Type 0
 AreAtLeast None n = Unit {0}
 AreAtLeast (Some lists) n = n ≤ length lists
 
--- every member starts from its journal, behind each front of these events
+-- every member starts from its journal, behind each front of these events whose entries can be kept
 abbrev pub StartsAlong : Setting → List Event → Type 0
-StartsAlong s events = (front back : List Event) → events ≡ front ++ back → Restarts s (world_after s front)
+StartsAlong s events = (front back : List Event) → events ≡ front ++ back → AreKeepable (world_after s front).sequences → Restarts s (world_after s front)
 
 -- so it is in the run of each text that is read
 abbrev pub StartsWhereRead : Trust → Type 0

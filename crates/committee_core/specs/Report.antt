@@ -10,7 +10,7 @@ use Rattle.schedule_text.specs.Schedule.{Refused}
 use Rattle.protocol_spec.specs.Chain.Words.{Each}
 use Rattle.world_spec.specs.Setting.{Setting, Trust, setting_of}
 use Rattle.world_spec.specs.Run.{report_of}
-use Rattle.scene_spec.specs.Worlds.{IsTrueOf, is_plain, is_plain_setup}
+use Rattle.scene_spec.specs.Worlds.{IsTrueOf, is_plain}
 use Rattle.world_core.specs.Forms.{is_plain_form}
 
 -- the schedule that bytes are, where all its lines have a form that is run
@@ -33,7 +33,6 @@ report_text trust s = lines_text (report_of trust s)
 abbrev pub refusal_text : Refused → List ℕ
 refusal_text r = text_of (line.Refused r.line r.cause)
 
--- all lines have a form that runs without a sequence
-pub record IsPlain (s : Schedule) : Type 0 where
-  pub setup : Each (IsTrueOf is_plain_setup) s.setup
-  pub events : Each (IsTrueOf is_plain) s.events
+-- all events have a form that runs; each set-up line has one
+abbrev pub IsPlain : Schedule → Type 0
+IsPlain s = Each (IsTrueOf is_plain) s.events

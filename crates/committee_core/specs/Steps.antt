@@ -7,19 +7,19 @@ use Rattle.schedule_text.specs.declared.words.Event.{Event}
 use Rattle.schedule_text.specs.declared.words.Event.TheVariants as event
 use Rattle.world_spec.specs.Setting.{Trust}
 use Rattle.scene_spec.specs.Scene.{Scene, rules_in}
-use Rattle.scene_spec.specs.Steps.{call_of, lines_in, steps_to}
-use Rattle.scene_spec.specs.Worlds.{is_restart}
-use Rattle.world_core.specs.Kept.{LeavesLeft, MayLeave}
+use Rattle.scene_spec.specs.Steps.{AddsLine, MayAddLine, lines_in, records_left, steps_to, work_of}
+use Rattle.scene_spec.specs.Worlds.{AreKeepable, is_restart}
 use Rattle.world_core.specs.Restarts.{RestartsAs, StaysDown}
 use Rattle.committee_core.specs.Report.{lines_text}
 use Rattle.committee_core.specs.Streams.{AppendsFront}
 use Rattle.committee_core.specs.Ways.{bad_record_text}
 
--- the event was taken and gives these lines
+-- the event was taken and gives these lines; each entry that was ordered before it can be kept
 pub record IsTaken (trust : Trust) (e : Event) (sc now : Scene) (told told' : Option Journals) (given : List Line) : Type 0 where
   pub scene : is_restart e ≡ false → now ≡ steps_to trust sc e
   pub lines : is_restart e ≡ false → given ≡ lines_in trust sc e
-  pub kept : LeavesLeft (rules_in trust.accepts sc) sc (call_of sc e) told told'
+  pub kept : AddsLine (records_left (rules_in trust.accepts sc) sc (work_of sc e)) told told'
+  pub keepable : AreKeepable sc.sequences
   pub restart : (m : ℕ) → e ≡ event.Restart m → RestartsAs trust.accepts told m sc now (slice_get sc.posts m) (Ok given)
 
 -- and its lines were written
@@ -37,12 +37,13 @@ pub record IsUnwritten (trust : Trust) (e : Event) (sc : Scene) (told told' : Op
 
 -- the event was not taken
 pub record IsUntaken (trust : Trust) (e : Event) (sc : Scene) (told told' : Option Journals) (held held' : Option (List ℕ)) : Type 0 where
-  pub kept : MayLeave (rules_in trust.accepts sc) sc (call_of sc e) told told'
+  pub kept : MayAddLine (records_left (rules_in trust.accepts sc) sc (work_of sc e)) told told'
   pub written : Keeps held held'
 
 -- the event restarts a member, and a record that is read back is bad
 pub record ReadsBad (trust : Trust) (e : Event) (sc : Scene) (told : Option Journals) (member place : ℕ) : Type 0 where
   pub restarts : is_restart e ≡ true
+  pub keepable : AreKeepable sc.sequences
   pub stays : (m : ℕ) → e ≡ event.Restart m → StaysDown trust.accepts told m sc member place
 
 -- and what is written of the line that says so

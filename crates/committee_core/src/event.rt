@@ -6,9 +6,8 @@ ghost use Rattle.outside.specs.Causes.{Rose};
 ghost use Rattle.outside.specs.declared.faults.OutFault.TheVariants as out_fault;
 ghost use Rattle.report_text.specs.Text.{text_of};
 ghost use Rattle.scene_spec.specs.Scene.{rules_in};
-ghost use Rattle.scene_spec.specs.Steps.{call_of};
+ghost use Rattle.scene_spec.specs.Steps.{MayAddLine, records_left, work_of};
 ghost use Rattle.scene_spec.specs.Worlds.{is_plain};
-ghost use Rattle.world_core.specs.Kept.{MayLeave};
 ghost use Rattle.world_core.specs.Trusts.{trust_by};
 ghost use Rattle.world_core.specs.declared.world.WorldFault.TheVariants as fault;
 ghost use Rattle.committee_core.specs.Report.{lines_text};
@@ -82,7 +81,7 @@ fn write_bad_record<K: Sink>(
 }
 
 /// Takes one event, and gives its lines. `room`: the keeper has a list for each member.
-#[tactic(auto, using(crate::proofs::Taken::taken_as, crate::proofs::Taken::left_as, crate::proofs::Taken::bad_as))]
+#[tactic(auto, using(crate::proofs::Taken::taken_as, crate::proofs::Taken::left_as, crate::proofs::Taken::bad_as, crate::proofs::Taken::stay_as))]
 fn take_event<S: MakesSeals, D: Keeper>(
     world: &mut World,
     event: &Event,
@@ -92,7 +91,7 @@ fn take_event<S: MakesSeals, D: Keeper>(
     requires room { length world.old.posts ≤ D.width keeper.old }
     requires plain { is_plain event.now ≡ true }
     ensures taken { IfOk result (IsTaken (trust_by (S.made sealer.now) (S.accepts sealer.now)) event.now world.old world.new (D.lists keeper.old) (D.lists keeper.new)) }
-    ensures left { OnErr result (MayLeave (rules_in (S.accepts sealer.now) world.old) world.old (call_of world.old event.now) (D.lists keeper.old) (D.lists keeper.new)) }
+    ensures left { OnErr result (MayAddLine (records_left (rules_in (S.accepts sealer.now) world.old) world.old (work_of world.old event.now)) (D.lists keeper.old) (D.lists keeper.new)) }
     ensures bad { (member place : ℕ) → IsErrOf result (fault.BadRecord member place) → ReadsBad (trust_by (S.made sealer.now) (S.accepts sealer.now)) event.now world.old (D.lists keeper.old) member place }
     ensures stay { OnOk result (length world.new.posts ≡ length world.old.posts) }
     ensures width { D.width keeper.new ≡ D.width keeper.old }
