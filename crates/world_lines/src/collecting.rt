@@ -186,14 +186,11 @@ impl SaidBook {
     ) -> Collected
         ensures { collected_as result ≡ collected digest_eq committee.now (λ m. last_said (ack_in epoch tx.now) m self.now) members.now }
     {
-        collected(
-            &Acks {
-                book: self,
-                epoch,
-                tx,
-            },
-            committee,
-            members,
-        )
+        let acks = Acks {
+            book: self,
+            epoch,
+            tx,
+        };
+        collected(&acks, committee, members)
     }
 }
