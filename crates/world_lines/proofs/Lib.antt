@@ -4,3 +4,5 @@ pub mod Spelled
 pub mod SaidWorlds
 pub mod EntryTexts
 pub mod Ordering
+pub mod Ending
+pub mod EndTexts

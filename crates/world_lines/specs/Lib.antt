@@ -4,3 +4,4 @@ pub mod Rows
 pub mod SaidVotes
 pub mod Forming
 pub mod Orders
+pub mod Ends

@@ -11,6 +11,7 @@
 
 mod certs;
 mod collecting;
+mod ends_law;
 mod entries;
 mod epochs;
 mod formed;
@@ -26,6 +27,7 @@ mod votes;
 mod words;
 
 pub use certs::{Collected, cert_text};
+pub use ends_law::an_epoch_ends_by_its_ends;
 pub use entries::{add_entry_lines, what_text};
 pub use epochs::close_text;
 pub use formed::CertBook;
