@@ -262,3 +262,7 @@ module _ (r : Rules) (opening : List Object) (epoch : ℕ) where
   pub ended_is : (entries : List (List ℕ)) → (seen r opening epoch entries).ended ≡ are_an_end r.stakes r.accepts epoch (ends_read epoch entries)
   unfolding seen
   ended_is entries = steps nothing_seen [] entries (inl (record { going = refl; counted = λ m known. refl; light = nobody r.stakes }))
+
+  -- Ends that pass the same tests end an epoch alike
+  pub same_end : (one others : List MemberSeal) → ((test : MemberSeal → Bool) → list_any test one ≡ list_any test others) → are_an_end r.stakes r.accepts epoch one ≡ are_an_end r.stakes r.accepts epoch others
+  same_end one others same = sym (end_as (ended_by r.accepts epoch one) one (λ m known. among_is one m)) ∙ end_as (ended_by r.accepts epoch one) others (λ m known. among_is one m ∙ same (is_of m))

@@ -6,3 +6,4 @@ pub mod EntryTexts
 pub mod Ordering
 pub mod Ending
 pub mod EndTexts
+pub mod KeptEnds

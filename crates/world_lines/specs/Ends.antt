@@ -1,11 +1,12 @@
 -- The Ends of an epoch among the entries of its sequence, and whether they end it. Source: Sui Lutris.
-use Rattle.std.specs.Prelude.{ℕ, ◌==◌, Bool, List, map, Option, None, Result, Ok, Err}
-use Rattle.std.specs.List.{filter, filter_map}
+use Rattle.std.specs.Prelude.{ℕ, ◌==◌, ◌&&◌, Bool, List, [], ◌∷◌, ◌++◌, map, Option, Some, None, Result, Ok, Err, if◌then◌else◌}
+use Rattle.std.specs.List.{filter, filter_map, list_any}
 use Rattle.digest_core.specs.declared.Digest.{Digest}
 use Rattle.wire_bcs.specs.declared.fault.WireFault.{WireFault}
 use Rattle.quorum_core.specs.Committee.{is_quorum, weight}
 use Rattle.quorum_core.specs.declared.signer.Signer.{Signer}
 use Rattle.quorum_core.specs.declared.signer.Signer.TheVariants as signers
+use Rattle.chain_types.specs.Equal.{digest_eq}
 use Rattle.chain_messages.specs.Messages as messages
 use Rattle.chain_messages.specs.declared.messages.Entry.{Entry}
 use Rattle.chain_messages.specs.declared.messages.Entry.TheVariants as entry
@@ -56,3 +57,14 @@ ended_by accepts epoch ends = map (λ (x : MemberSeal). x.member) (filter (is_ac
 -- they end the epoch where these members are a quorum, each counted once
 unfoldable pub are_an_end : List ℕ → (Signer → List ℕ → Digest → Bool) → ℕ → List MemberSeal → Bool
 are_an_end stakes accepts epoch ends = is_quorum stakes (weight stakes (ended_by accepts epoch ends))
+
+-- ---- kept Ends
+
+-- a member's same seal
+abbrev pub is_same : MemberSeal → MemberSeal → Bool
+is_same x y = (x.member == y.member) && digest_eq x.seal y.seal
+
+-- one End more, where it is not there already
+abbrev pub with_end : List MemberSeal → Option MemberSeal → List MemberSeal
+with_end ends None = ends
+with_end ends (Some x) = if list_any (is_same x) ends then ends else ends ++ x ∷ []

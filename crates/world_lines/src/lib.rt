@@ -11,6 +11,7 @@
 
 mod certs;
 mod collecting;
+mod ends;
 mod ends_law;
 mod entries;
 mod epochs;
