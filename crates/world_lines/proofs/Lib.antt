@@ -5,3 +5,6 @@ pub mod SaidWorlds
 pub mod EntryTexts
 pub mod TurnTexts
 pub mod Ordering
+pub mod Ending
+pub mod EndTexts
+pub mod KeptEnds

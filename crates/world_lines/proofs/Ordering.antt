@@ -1,9 +1,8 @@
 -- Rows of entries, by what they are.
-use Rattle.std.proofs.Common.{◌≡◌, ◌∙◌, ap, sym, refl, subst, ℕ, zero, suc, Bool, true, false, List, [], ◌∷◌, ◌++◌, length, map, Option, Some, None, option_map}
+use Rattle.std.proofs.Common.{◌≡◌, ◌∙◌, ap, sym, refl, subst, ℕ, zero, suc, List, [], ◌∷◌, ◌++◌, length, map, Option, Some, option_map}
 use Rattle.std.proofs.lemmas.List.{length-map}
 use Rattle.std.specs.Prelude.{◌<◌, slice_get, slice_set}
 use Rattle.chain_messages.specs.declared.messages.Entry.{Entry}
-use Rattle.chain_messages.specs.Messages as messages
 use Rattle.wire_bcs.specs.Items.{length_limit}
 use Rattle.protocol_spec.specs.Chain.Words.{Each}
 use Rattle.world_spec.specs.World.{entries_at, list_or_none}
@@ -17,7 +16,7 @@ last_get [] (suc n) x e = absurd (cc)
 last_get (y ∷ xs) zero x e = absurd (cc)
 last_get (y ∷ xs) (suc n) x e = last_get xs n x (cc)
 
-last_set : {A : Type 0} (xs : List A) (n : ℕ) (x y : A) → length xs ≡ n → slice_set (xs ++ x ∷ []) n y ≡ xs ++ y ∷ []
+pub last_set : {A : Type 0} (xs : List A) (n : ℕ) (x y : A) → length xs ≡ n → slice_set (xs ++ x ∷ []) n y ≡ xs ++ y ∷ []
 last_set [] zero x y e = refl
 last_set [] (suc n) x y e = absurd (cc)
 last_set (z ∷ xs) zero x y e = absurd (cc)

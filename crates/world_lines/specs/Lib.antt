@@ -6,3 +6,4 @@ pub mod SaidVotes
 pub mod Collecting
 pub mod Forming
 pub mod Orders
+pub mod Ends

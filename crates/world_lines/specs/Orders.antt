@@ -1,11 +1,16 @@
 -- The sequences of a run, and their entries as rows. Source: one sequence for each epoch is the premise of the Sui Lutris
 -- paper.
-use Rattle.std.specs.Prelude.{◌≡◌, ◌<◌, ℕ, List, [], ◌∷◌, ◌++◌, length, map, slice_set, Option, option_map}
+use Rattle.std.specs.Prelude.{◌≡◌, ◌<◌, ◌+◌, ℕ, Bool, List, [], ◌∷◌, ◌++◌, length, map, slice_set}
+use Rattle.std.specs.List.{list_any}
 use Rattle.wire_bcs.specs.Items.{length_limit}
 use Rattle.chain_messages.specs.declared.messages.Entry.{Entry}
+use Rattle.chain_messages.specs.declared.messages.MemberSeal.{MemberSeal}
 use Rattle.chain_messages.specs.Messages as messages
+use Rattle.protocol_spec.specs.Chain.Certificates.{Rules}
+use Rattle.protocol_spec.specs.Member.Sequence.{seen}
 use Rattle.protocol_spec.specs.Chain.Words.{Each}
 use Rattle.world_spec.specs.World.{entries_at}
+use Rattle.world_lines.specs.Ends.{ends_read}
 use Rattle.world_lines.specs.declared.order.OrderedRow.{OrderedRow}
 
 -- the sequences of the epochs up to the open one, which is the last
@@ -24,6 +29,18 @@ open_in o = entries_at o.sequences o.epoch
 abbrev pub with_entry : Orders → Entry → Orders
 with_entry o e = record o { sequences = slice_set o.sequences o.epoch (open_in o ++ e ∷ []) }
 
+-- another epoch opens, with no entry
+abbrev pub risen_orders : Orders → Orders
+risen_orders o = record { sequences = o.sequences ++ [] ∷ []; epoch = o.epoch + 1 }
+
+-- the spelling of an entry
+abbrev pub spelled_entry : Entry → List ℕ
+spelled_entry e = messages.entry.spell e
+
+-- the open epoch has ended where a member that sees its entries sees its end
+abbrev pub has_ended_by : Rules → Orders → Bool
+has_ended_by r o = (seen r [] o.epoch (map spelled_entry (open_in o))).ended
+
 -- ---- rows
 
 abbrev pub row_entry : OrderedRow → Entry
@@ -40,9 +57,12 @@ pub record IsSpelled (r : OrderedRow) : Type 0 where
 abbrev pub AreSpelled : List OrderedRow → Type 0
 AreSpelled rows = Each IsSpelled rows
 
--- the spelling of an entry
-abbrev pub spelled_entry : Entry → List ℕ
-spelled_entry e = messages.entry.spell e
+abbrev pub row_bytes : OrderedRow → List ℕ
+row_bytes r = r.bytes
+
+-- these are the Ends of an epoch among the rows: each test holds of one of them where it holds of one of those
+pub record AreEnds (epoch : ℕ) (rows : List OrderedRow) (ends : List MemberSeal) : Type 0 where
+  pub same : (test : MemberSeal → Bool) → list_any test ends ≡ list_any test (ends_read epoch (map row_bytes rows))
 
 abbrev pub orders_of : List (List OrderedRow) → List OrderedRow → Orders
 orders_of past open_rows = record { sequences = map entries_of past ++ entries_of open_rows ∷ []; epoch = length past }

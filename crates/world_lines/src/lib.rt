@@ -12,6 +12,8 @@
 
 mod certs;
 mod collecting;
+mod ends;
+mod ends_law;
 mod entries;
 mod epochs;
 mod formed;
@@ -28,6 +30,7 @@ mod votes;
 mod words;
 
 pub use certs::{Collected, cert_text, final_text};
+pub use ends_law::an_epoch_ends_by_its_ends;
 pub use entries::{add_entry_lines, what_text};
 pub use epochs::{ack_text, close_text, end_text, turn_lines};
 pub use formed::CertBook;

@@ -1,12 +1,15 @@
 //! The book of sequences.
 
-ghost use Rattle.std.specs.Prelude.{◌≡◌, IfOk, OnErr, OnOk, length, option_copied, option_map, slice_get};
+ghost use Rattle.std.specs.Prelude.{◌≡◌, ℕ, IfOk, OnErr, OnOk, Option, length, option_copied, option_map, slice_get};
 ghost use Rattle.chain_messages.specs.Messages as codecs;
+ghost use Rattle.protocol_spec.specs.Chain.Certificates.{rules_of};
 ghost use Rattle.scene_spec.specs.Worlds.{AreKeepable};
 ghost use Rattle.world_spec.specs.World.{entries_at};
-ghost use Rattle.world_lines.specs.Orders.{AreSpelled, IsSpelled, entries_of, no_orders, open_in, row_entry, spelled_entry, with_entry};
+ghost use Rattle.world_lines.specs.Orders.{AreSpelled, IsSpelled, entries_of, has_ended_by, no_orders, open_in, risen_orders, row_entry, spelled_entry, with_entry};
 
-use chain_messages::{Entry, encode_entry};
+use crate::ends::{are_an_end, end_of, keep_end};
+use chain_messages::{Entry, MemberSeal, encode_entry};
+use quorum_core::{Committee, Sealer};
 use std::alloc::Global;
 use std::marker::Model;
 use std::snapshot::Snapshot;
@@ -60,28 +63,33 @@ fn past_rows(past: &[Seq<OrderedRow>], epoch: u64) -> Option<&Seq<OrderedRow>>
 pub struct OrderBook {
     past: Seq<Seq<OrderedRow>>,
     open: Seq<OrderedRow>,
+    /// The Ends of the open epoch among its entries, each once. They alone say whether it has ended.
+    ends: Vec<MemberSeal>,
     alloc: Global,
 }
 
 impl Model for OrderBook {
+    ghost use Rattle.std.specs.Prelude.{length};
     ghost use Rattle.protocol_spec.specs.Chain.Words.{Each};
-    ghost use Rattle.world_lines.specs.Orders.{AreSpelled, Orders, orders_of};
+    ghost use Rattle.world_lines.specs.Orders.{AreEnds, AreSpelled, Orders, orders_of};
 
     ghost Value = { Orders };
 
     ghost view = { λ b. orders_of b.past b.open };
 
-    ghost invariant = { λ b. Each AreSpelled b.past × AreSpelled b.open };
+    ghost invariant = { λ b. Each AreSpelled b.past × AreSpelled b.open × AreEnds (length b.past) b.open b.ends.items };
 }
 
 impl OrderBook {
     /// Nothing ordered, in epoch 0. Takes no memory.
+    #[tactic(auto, using(crate::proofs::KeptEnds::no_ends))]
     pub fn new(alloc: Global) -> OrderBook
         ensures { result ≡ no_orders }
     {
         OrderBook {
             past: Seq::new(alloc),
             open: Seq::new(alloc),
+            ends: Vec::new(alloc),
             alloc,
         }
     }
@@ -110,7 +118,42 @@ impl OrderBook {
         ensures keepable { AreKeepable self.new.sequences }
     {
         let row = spelled(self.alloc, entry)?;
+        let end = end_of(self.alloc, self.past.len(), entry, row.bytes.as_slice())?;
+        self.ends.reserve(1)?;
         self.open.push(row)?;
+        keep_end(&mut self.ends, end);
+        Ok(())
+    }
+
+    /// Whether the open epoch's entries end it, to members of this committee that accept these seals. Checks the seal
+    /// of each distinct End of the epoch once, and looks at no other entry.
+    pub fn has_ended<S: Sealer>(
+        &self,
+        committee: &Committee,
+        sealer: &S,
+    ) -> Result<bool, OutOfMemory>
+        ensures { IfOk result (λ ended. (writers : Option ℕ) → ended ≡ has_ended_by (rules_of committee.now writers (S.accepts sealer.now)) self.now) }
+    {
+        are_an_end(
+            self.alloc,
+            committee,
+            sealer,
+            self.past.len(),
+            self.ends.as_slice(),
+        )
+    }
+
+    /// Opens another epoch, with no entry. A refusal changes nothing.
+    pub fn rise(&mut self) -> Result<(), OutOfMemory>
+        ensures ok { OnOk result (self.new ≡ risen_orders self.old) }
+        ensures err { OnErr result (self.new ≡ self.old) }
+        ensures keepable { AreKeepable self.new.sequences }
+    {
+        let place = self.past.len();
+        self.past.push(Seq::new(self.alloc))?;
+        let rows = std::mem::replace(&mut self.open, Seq::new(self.alloc));
+        let _none = self.past.set(place, rows);
+        self.ends = Vec::new(self.alloc);
         Ok(())
     }
 
