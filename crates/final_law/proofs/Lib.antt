@@ -1,0 +1,4 @@
+pub mod Waiting
+pub mod Ending
+pub mod Counting
+pub mod Saying

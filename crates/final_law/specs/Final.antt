@@ -1,0 +1,83 @@
+-- What follows for a transaction whose effects a quorum acknowledged.
+use Rattle.std.specs.Prelude.{◌≡◌, ℕ, true, List, ◌++◌, find, flat_map, slice_get, Option, Some, None}
+use Rattle.chain_types.specs.declared.objects.Object.{Object}
+use Rattle.protocol_spec.specs.Chain.Committee.{weight, is_quorum}
+use Rattle.protocol_spec.specs.Chain.Certificates.{Rules}
+use Rattle.protocol_spec.specs.Member.Admission.{is_free, is_known}
+use Rattle.protocol_spec.specs.Member.Sequence.{Sequence, seen}
+use Rattle.digest_core.specs.declared.Digest.{Digest}
+use Rattle.chain_messages.specs.declared.messages.Statement.{Statement}
+use Rattle.chain_messages.specs.declared.messages.Statement.TheVariants as statement
+use Rattle.journal_core.specs.declared.records.Record.{Record}
+use Rattle.answer_types.specs.declared.answers.Held.{Held}
+use Rattle.effects_core.specs.Effects.{digest_of_effects}
+use Rattle.protocol_spec.specs.Member.Versions.{Execution}
+use Rattle.protocol_spec.specs.Member.Member.{Member, state}
+use Rattle.protocol_spec.specs.Member.Calls.{Call}
+use Rattle.schedule_text.specs.declared.words.Event.{Event}
+use Rattle.protocol_spec.specs.Chain.Words.{Has}
+use Rattle.world_spec.specs.Setting.{Setting}
+use Rattle.world_spec.specs.World.{Seat, new_world, stated, said_by, member_in, is_honest}
+use Rattle.world_spec.specs.Run.{world_after}
+use Rattle.world_spec.specs.Assumptions.{NoForgery}
+use Rattle.agreement_law.specs.Checkpointed.{admitted_in}
+
+-- in what a member has seen of a sequence no pending certificate is free
+abbrev pub NothingFreeWaits : Type 0
+NothingFreeWaits = (r : Rules) (opening : List Object) (epoch : ℕ) (entries : List (List ℕ)) → find (is_free r.writers (seen r opening epoch entries).admission) (seen r opening epoch entries).admission.pending ≡ None
+
+-- at the end of an epoch its cuts hold all that was admitted, and the members whose End was counted are a quorum
+pub record IsWhole (r : Rules) (q : Sequence) : Type 0 where
+  pub cuts : flat_map admitted_in q.cuts ≡ q.admission.admitted
+  pub quorum : is_quorum r.stakes (weight r.stakes q.counted) ≡ true
+
+abbrev pub EndsAreWhole : Type 0
+EndsAreWhole = (r : Rules) (opening : List Object) (epoch : ℕ) (entries : List (List ℕ)) → (seen r opening epoch entries).ended ≡ true → IsWhole r (seen r opening epoch entries)
+
+-- each honest member whose End a member has counted stated it
+abbrev pub CountedIsStated : Type 0
+CountedIsStated = (s : Setting) (events : List Event) → NoForgery s events (new_world s) → (m : ℕ) (seat : Seat) → slice_get (world_after s events).seats m ≡ Some seat
+    → (member : ℕ) → Has (member_in s seat).sequence.counted member → is_honest (world_after s events) member ≡ true
+    → Has (world_after s events).said (said_by member (statement.End (member_in s seat).epoch))
+
+-- ---- what a member was when it made its statements
+
+-- behind a front of these records P held of the member
+pub record WasOnce (s : Setting) (records : List Record) (P : Member → Type 0) : Type 0 where
+  pub front : List Record
+  pub back : List Record
+  pub whole : records ≡ front ++ back
+  pub held : P (state s.rules s.opening front)
+
+-- some call made the statement in this state
+abbrev pub MakesStatement : Setting → Statement → Member → Type 0
+MakesStatement s st m = (call : Call) × Has (stated s.rules m call) st
+
+-- each statement of an honest member was made in a state in which the member was
+abbrev pub EveryStatementWasMade : Type 0
+EveryStatementWasMade = (s : Setting) (events : List Event) (m : ℕ) (seat : Seat) → slice_get (world_after s events).seats m ≡ Some seat → seat.honest ≡ true
+    → (st : Statement) → Has (world_after s events).said (said_by m st) → WasOnce s seat.records (MakesStatement s st)
+
+-- in this epoch the member had executed the transaction, with these effects
+pub record HasExecuted (epoch : ℕ) (tx effects : Digest) (m : Member) : Type 0 where
+  pub epoch_is : m.epoch ≡ epoch
+  pub of : Execution
+  pub there : Has m.executed of
+  pub named : of.digest ≡ tx
+  pub gave : digest_of_effects of.gave.effects ≡ effects
+
+-- so it had when it acknowledged them
+abbrev pub EveryAckWasExecuted : Type 0
+EveryAckWasExecuted = (s : Setting) (events : List Event) (m : ℕ) (seat : Seat) → slice_get (world_after s events).seats m ≡ Some seat → seat.honest ≡ true
+    → (epoch : ℕ) (tx effects : Digest) → Has (world_after s events).said (said_by m (statement.Ack epoch tx effects)) → WasOnce s seat.records (HasExecuted epoch tx effects)
+
+-- in this epoch the member had closed, and all that it held was in the sequence as far as it had seen it
+pub record IsSettled (epoch : ℕ) (m : Member) : Type 0 where
+  pub epoch_is : m.epoch ≡ epoch
+  pub closed : m.closed ≡ true
+  pub known : (h : Held) → Has m.held h → is_known m.sequence.admission h.digest ≡ true
+
+-- so it was when it stated that the epoch is to end
+abbrev pub EveryEndWasSettled : Type 0
+EveryEndWasSettled = (s : Setting) (events : List Event) (m : ℕ) (seat : Seat) → slice_get (world_after s events).seats m ≡ Some seat → seat.honest ≡ true
+    → (epoch : ℕ) → Has (world_after s events).said (said_by m (statement.End epoch)) → WasOnce s seat.records (IsSettled epoch)

@@ -1,0 +1,34 @@
+//! Final transactions.
+#![tactic(auto)]
+
+ghost use Rattle.final_law.specs.Final.{CountedIsStated, EndsAreWhole, EveryAckWasExecuted, EveryEndWasSettled, EveryStatementWasMade, NothingFreeWaits};
+
+/// Behind every entry.
+pub fn nothing_free_waits()
+    ensures { NothingFreeWaits }
+{}
+
+/// At the end.
+pub fn ends_are_whole()
+    ensures { EndsAreWhole }
+{}
+
+/// Each.
+pub fn counted_is_stated()
+    ensures { CountedIsStated }
+{}
+
+/// Each.
+pub fn every_statement_was_made()
+    ensures { EveryStatementWasMade }
+{}
+
+/// Each.
+pub fn every_ack_was_executed()
+    ensures { EveryAckWasExecuted }
+{}
+
+/// Each.
+pub fn every_end_was_settled()
+    ensures { EveryEndWasSettled }
+{}
