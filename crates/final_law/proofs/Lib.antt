@@ -2,3 +2,4 @@ pub mod Waiting
 pub mod Ending
 pub mod Counting
 pub mod Saying
+pub mod Turning

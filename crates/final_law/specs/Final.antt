@@ -81,3 +81,6 @@ pub record IsSettled (epoch : ℕ) (m : Member) : Type 0 where
 abbrev pub EveryEndWasSettled : Type 0
 EveryEndWasSettled = (s : Setting) (events : List Event) (m : ℕ) (seat : Seat) → slice_get (world_after s events).seats m ≡ Some seat → seat.honest ≡ true
     → (epoch : ℕ) → Has (world_after s events).said (said_by m (statement.End epoch)) → WasOnce s seat.records (IsSettled epoch)
+
+abbrev pub Probe : Type 0
+Probe = Unit {0}

@@ -1,7 +1,7 @@
 //! Final transactions.
 #![tactic(auto)]
 
-ghost use Rattle.final_law.specs.Final.{CountedIsStated, EndsAreWhole, EveryAckWasExecuted, EveryEndWasSettled, EveryStatementWasMade, NothingFreeWaits};
+ghost use Rattle.final_law.specs.Final.{CountedIsStated, EndsAreWhole, EveryAckWasExecuted, EveryEndWasSettled, EveryStatementWasMade, Probe, NothingFreeWaits};
 
 /// Behind every entry.
 pub fn nothing_free_waits()
@@ -31,4 +31,9 @@ pub fn every_ack_was_executed()
 /// Each.
 pub fn every_end_was_settled()
     ensures { EveryEndWasSettled }
+{}
+
+/// Each.
+pub fn probe()
+    ensures { Probe }
 {}
