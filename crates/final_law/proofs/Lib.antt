@@ -3,3 +3,5 @@ pub mod Ending
 pub mod Counting
 pub mod Saying
 pub mod Turning
+pub mod Knowing
+pub mod Settling

@@ -1,4 +1,4 @@
-use Rattle.final_law.proofs.Turning.{has-left, last-moment}
+use Rattle.final_law.proofs.Settling.{still-settled}
 use Rattle.final_law.proofs.probe.Goals as goal
 
 pub returns : goal.returns
