@@ -5,3 +5,4 @@ pub mod Saying
 pub mod Turning
 pub mod Knowing
 pub mod Settling
+pub mod Dropping
