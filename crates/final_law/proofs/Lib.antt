@@ -6,3 +6,4 @@ pub mod Turning
 pub mod Knowing
 pub mod Settling
 pub mod Dropping
+pub mod Admitting

@@ -3,7 +3,7 @@ use Rattle.std.specs.Prelude.{◌≡◌, ℕ, true, List, ◌++◌, find, flat_m
 use Rattle.chain_types.specs.declared.objects.Object.{Object}
 use Rattle.protocol_spec.specs.Chain.Committee.{weight, is_quorum}
 use Rattle.protocol_spec.specs.Chain.Certificates.{Rules}
-use Rattle.protocol_spec.specs.Member.Admission.{is_free, is_known}
+use Rattle.protocol_spec.specs.Member.Admission.{is_admitted, is_free, is_known}
 use Rattle.protocol_spec.specs.Member.Sequence.{Sequence, seen}
 use Rattle.digest_core.specs.declared.Digest.{Digest}
 use Rattle.chain_messages.specs.declared.messages.Statement.{Statement}
@@ -19,7 +19,7 @@ use Rattle.protocol_spec.specs.Chain.Words.{Has}
 use Rattle.world_spec.specs.Setting.{Setting}
 use Rattle.world_spec.specs.World.{Seat, new_world, stated, said_by, member_in, is_honest}
 use Rattle.world_spec.specs.Run.{world_after}
-use Rattle.world_spec.specs.Assumptions.{NoForgery}
+use Rattle.world_spec.specs.Assumptions.{IsHonestRun, NoForgery}
 use Rattle.agreement_law.specs.Checkpointed.{admitted_in}
 
 -- in what a member has seen of a sequence no pending certificate is free
@@ -81,6 +81,12 @@ pub record IsSettled (epoch : ℕ) (m : Member) : Type 0 where
 abbrev pub EveryEndWasSettled : Type 0
 EveryEndWasSettled = (s : Setting) (events : List Event) (m : ℕ) (seat : Seat) → slice_get (world_after s events).seats m ≡ Some seat → seat.honest ≡ true
     → (epoch : ℕ) → Has (world_after s events).said (said_by m (statement.End epoch)) → WasOnce s seat.records (IsSettled epoch)
+
+-- all that such a member has executed it has admitted
+abbrev pub ExecutedIsAdmitted : Type 0
+ExecutedIsAdmitted = (s : Setting) (events : List Event) → IsHonestRun s events → (m : ℕ) (seat : Seat) → slice_get (world_after s events).seats m ≡ Some seat
+    → IsSettled (member_in s seat).epoch (member_in s seat)
+    → (x : Execution) → Has (member_in s seat).executed x → is_admitted (member_in s seat).sequence.admission.admitted x.digest ≡ true
 
 abbrev pub Probe : Type 0
 Probe = Unit {0}

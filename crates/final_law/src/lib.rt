@@ -1,7 +1,7 @@
 //! Final transactions.
 #![tactic(auto)]
 
-ghost use Rattle.final_law.specs.Final.{CountedIsStated, EndsAreWhole, EveryAckWasExecuted, EveryEndWasSettled, EveryStatementWasMade, Probe, NothingFreeWaits};
+ghost use Rattle.final_law.specs.Final.{CountedIsStated, EndsAreWhole, EveryAckWasExecuted, EveryEndWasSettled, EveryStatementWasMade, ExecutedIsAdmitted, Probe, NothingFreeWaits};
 
 /// Behind every entry.
 pub fn nothing_free_waits()
@@ -36,4 +36,9 @@ pub fn every_end_was_settled()
 /// Each.
 pub fn probe()
     ensures { Probe }
+{}
+
+/// Each.
+pub fn executed_is_admitted()
+    ensures { ExecutedIsAdmitted }
 {}
