@@ -7,3 +7,4 @@ pub mod Knowing
 pub mod Settling
 pub mod Dropping
 pub mod Admitting
+pub mod Standing

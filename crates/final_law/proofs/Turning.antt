@@ -84,7 +84,7 @@ same-or-less (suc a) (suc b) low = go (same-or-less a b (omega (arith, low)))
 
 -- ---- the epoch, and the checkpoints of the epochs before, along a journal
 
-chained-more : (epoch : ℕ) (held : List Held) (executed : List Execution) (cuts : List Cut) (before : List Checkpoint) → IsFront before (chained epoch held executed before cuts)
+pub chained-more : (epoch : ℕ) (held : List Held) (executed : List Execution) (cuts : List Cut) (before : List Checkpoint) → IsFront before (chained epoch held executed before cuts)
 chained-more epoch held executed [] before = front-all before
 chained-more epoch held executed (c ∷ cs) before = go (list_all (is_done held executed) c.txs) (chained-more epoch held executed cs (before ++ checkpoint_behind epoch executed before c ∷ []))
   where
@@ -376,8 +376,8 @@ module _ (s : Setting) where
     unfolding state
     first-epoch = refl
 
-    pub has-left : epoch < (member_in s seat).epoch → HasLeft events seat.records epoch
-    has-left less = go (turn-between s.rules s.opening seat.records [] epoch none less)
+    pub left-epoch : epoch < (member_in s seat).epoch → HasLeft events seat.records epoch
+    left-epoch less = go (turn-between s.rules s.opening seat.records [] epoch none less)
       where
         none : (of []).epoch ≤ epoch
         none = let e = first-epoch in omega (arith, e)
@@ -406,4 +406,4 @@ module _ (s : Setting) where
       where
         go : (epoch ≡ (member_in s seat).epoch) ⊎ (epoch < (member_in s seat).epoch) → IsLast events seat.records epoch
         go (inl same) = record { front = events; back = []; whole = append-nil events; member = m; seat = seat; there = there; epoch_is = sym same; covers = λ early front is. front }
-        go (inr less) = (has-left less).last
+        go (inr less) = (left-epoch less).last

@@ -1,5 +1,5 @@
 -- What follows for a transaction whose effects a quorum acknowledged.
-use Rattle.std.specs.Prelude.{◌≡◌, ℕ, true, List, ◌++◌, find, flat_map, slice_get, Option, Some, None}
+use Rattle.std.specs.Prelude.{◌≡◌, ◌<◌, ℕ, true, List, ◌++◌, find, flat_map, slice_get, Option, Some, None}
 use Rattle.chain_types.specs.declared.objects.Object.{Object}
 use Rattle.protocol_spec.specs.Chain.Committee.{weight, is_quorum}
 use Rattle.protocol_spec.specs.Chain.Certificates.{Rules}
@@ -8,18 +8,20 @@ use Rattle.protocol_spec.specs.Member.Sequence.{Sequence, seen}
 use Rattle.digest_core.specs.declared.Digest.{Digest}
 use Rattle.chain_messages.specs.declared.messages.Statement.{Statement}
 use Rattle.chain_messages.specs.declared.messages.Statement.TheVariants as statement
+use Rattle.checkpoint_core.specs.declared.checkpoints.Checkpoint.{Checkpoint}
 use Rattle.journal_core.specs.declared.records.Record.{Record}
 use Rattle.answer_types.specs.declared.answers.Held.{Held}
 use Rattle.effects_core.specs.Effects.{digest_of_effects}
 use Rattle.protocol_spec.specs.Member.Versions.{Execution}
-use Rattle.protocol_spec.specs.Member.Member.{Member, state}
+use Rattle.protocol_spec.specs.Member.Member.{Member, built, state}
 use Rattle.protocol_spec.specs.Member.Calls.{Call}
 use Rattle.schedule_text.specs.declared.words.Event.{Event}
 use Rattle.protocol_spec.specs.Chain.Words.{Has}
 use Rattle.world_spec.specs.Setting.{Setting}
 use Rattle.world_spec.specs.World.{Seat, new_world, stated, said_by, member_in, is_honest}
 use Rattle.world_spec.specs.Run.{world_after}
-use Rattle.world_spec.specs.Assumptions.{IsHonestRun, NoForgery}
+use Rattle.world_spec.specs.Assumptions.{IsFinal, IsHonestRun, NoForgery}
+use Rattle.sequence_law.specs.Orderly.{AreApart}
 use Rattle.agreement_law.specs.Checkpointed.{admitted_in}
 
 -- in what a member has seen of a sequence no pending certificate is free
@@ -87,6 +89,22 @@ abbrev pub ExecutedIsAdmitted : Type 0
 ExecutedIsAdmitted = (s : Setting) (events : List Event) → IsHonestRun s events → (m : ℕ) (seat : Seat) → slice_get (world_after s events).seats m ≡ Some seat
     → IsSettled (member_in s seat).epoch (member_in s seat)
     → (x : Execution) → Has (member_in s seat).executed x → is_admitted (member_in s seat).sequence.admission.admitted x.digest ≡ true
+
+-- ---- finality
+
+-- one of these checkpoints, of this epoch, has the transaction, with these effects
+pub record StandsIn (checkpoints : List Checkpoint) (epoch : ℕ) (tx effects : Digest) : Type 0 where
+  pub checkpoint : Checkpoint
+  pub among : Has checkpoints checkpoint
+  pub epoch_is : checkpoint.epoch ≡ epoch
+  pub item : Has checkpoint.items (record { tx = tx; effects = effects })
+
+-- What a quorum acknowledged, faulty members among it, stands with these effects in what each member has built that left
+-- the epoch, whether it left before they acknowledged or behind it.
+abbrev pub FinalStands : Type 0
+FinalStands = (s : Setting) (front back : List Event) → IsHonestRun s (front ++ back) → AreApart s.opening
+    → (epoch : ℕ) (tx effects : Digest) (members : List ℕ) → IsFinal s (world_after s (front ++ back)) epoch tx effects members
+    → (m : ℕ) (seat : Seat) → slice_get (world_after s front).seats m ≡ Some seat → epoch < (member_in s seat).epoch → StandsIn (built (member_in s seat)) epoch tx effects
 
 abbrev pub Probe : Type 0
 Probe = Unit {0}

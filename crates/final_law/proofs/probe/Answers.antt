@@ -1,4 +1,4 @@
-use Rattle.final_law.proofs.Dropping.{was-dropped, never-dropped}
+use Rattle.final_law.proofs.Standing.{ended-has-all}
 use Rattle.final_law.proofs.probe.Goals as goal
 
 pub returns : goal.returns
