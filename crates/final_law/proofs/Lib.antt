@@ -8,3 +8,4 @@ pub mod Settling
 pub mod Dropping
 pub mod Admitting
 pub mod Standing
+pub mod Printing

@@ -26,7 +26,8 @@ use Rattle.protocol_spec.specs.Member.Admission.{Admitted, is_admitted}
 use Rattle.protocol_spec.specs.Member.Sequence.{Cut, Sequence, seen}
 use Rattle.protocol_spec.specs.Member.Checkpoints.{chained, checkpoint_behind, effects_digest_of, held_of, is_done, item_of, names_same_origins}
 use Rattle.protocol_spec.specs.Member.Member.{Member, built, state}
-use Rattle.world_spec.specs.Setting.{Setting}
+use Rattle.schedule_text.specs.declared.words.Setup.{Setup}
+use Rattle.world_spec.specs.Setting.{Setting, Trust, setting_of}
 use Rattle.world_spec.specs.World.{Seat, World, new_seat, new_world, entries_at, honest_seat, is_honest, member_in, said_by}
 use Rattle.world_spec.specs.Run.{world_after}
 use Rattle.world_spec.specs.Assumptions.{IsFinal, IsHonestRun, is_faulty_in}
@@ -49,6 +50,7 @@ use Rattle.agreement_law.proofs.Lists.{any-has, map-has}
 use Rattle.agreement_law.proofs.Lives.{has-flat}
 use Rattle.agreement_law.proofs.Opened.{grows-after}
 use Rattle.agreement_law.proofs.Prefixes.{earlier-front, either-front, follows, more-taken}
+use Rattle.agreement_law.proofs.SetUp.{set-up-apart}
 use Rattle.agreement_law.proofs.Turned.{CanTurn, flat-has, has-all}
 use Rattle.final_law.specs.Final.{HasExecuted, IsSettled, IsWhole, StandsIn, WasOnce}
 use Rattle.final_law.proofs.Admitting.{executed-admitted}
@@ -324,3 +326,9 @@ pub final-stands : (s : Setting) (front back : List Event) → IsHonestRun s (fr
 final-stands s front back run_is distinct epoch tx effects members final m seat at less =
     stands s front back run_is distinct epoch tx effects members final.quorum
     (λ k h. each-has (λ (n : ℕ). Has (world_after s (front ++ back)).said (said_by n (statement.Ack epoch tx effects))) members k final.said h) m seat at less
+
+pub stands-in-schedules : (trust : Trust) (lines : List Setup) (front back : List Event) → IsHonestRun (setting_of trust lines) (front ++ back)
+    → (epoch : ℕ) (tx effects : Digest) (members : List ℕ) → IsFinal (setting_of trust lines) (world_after (setting_of trust lines) (front ++ back)) epoch tx effects members
+    → (m : ℕ) (seat : Seat) → slice_get (world_after (setting_of trust lines) front).seats m ≡ Some seat → epoch < (member_in (setting_of trust lines) seat).epoch
+    → StandsIn (built (member_in (setting_of trust lines) seat)) epoch tx effects
+stands-in-schedules trust lines front back run_is = final-stands (setting_of trust lines) front back run_is (set-up-apart trust lines)

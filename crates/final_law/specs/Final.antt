@@ -1,7 +1,7 @@
 -- What follows for a transaction whose effects a quorum acknowledged.
 use Rattle.std.specs.Prelude.{◌≡◌, ◌<◌, ℕ, true, List, ◌++◌, find, flat_map, slice_get, Option, Some, None}
 use Rattle.chain_types.specs.declared.objects.Object.{Object}
-use Rattle.protocol_spec.specs.Chain.Committee.{weight, is_quorum}
+use Rattle.protocol_spec.specs.Chain.Committee.{weight, is_quorum, is_roll}
 use Rattle.protocol_spec.specs.Chain.Certificates.{Rules}
 use Rattle.protocol_spec.specs.Member.Admission.{is_admitted, is_free, is_known}
 use Rattle.protocol_spec.specs.Member.Sequence.{Sequence, seen}
@@ -17,8 +17,14 @@ use Rattle.protocol_spec.specs.Member.Member.{Member, built, state}
 use Rattle.protocol_spec.specs.Member.Calls.{Call}
 use Rattle.schedule_text.specs.declared.words.Event.{Event}
 use Rattle.protocol_spec.specs.Chain.Words.{Has}
-use Rattle.world_spec.specs.Setting.{Setting}
-use Rattle.world_spec.specs.World.{Seat, new_world, stated, said_by, member_in, is_honest}
+use Rattle.schedule_text.specs.declared.words.Event.TheVariants as event
+use Rattle.schedule_text.specs.declared.words.Setup.{Setup}
+use Rattle.report_text.specs.declared.lines.Line.TheVariants as line
+use Rattle.report_text.specs.declared.lines.FinalText.TheVariants as final_text
+use Rattle.world_spec.specs.Setting.{Name, Setting, Trust, setting_of}
+use Rattle.world_spec.specs.Names.{made_named}
+use Rattle.world_spec.specs.Report.{lines_of}
+use Rattle.world_spec.specs.World.{Made, Seat, World, new_world, stated, said_by, member_in, is_honest}
 use Rattle.world_spec.specs.Run.{world_after}
 use Rattle.world_spec.specs.Assumptions.{IsFinal, IsHonestRun, NoForgery}
 use Rattle.sequence_law.specs.Orderly.{AreApart}
@@ -105,6 +111,29 @@ abbrev pub FinalStands : Type 0
 FinalStands = (s : Setting) (front back : List Event) → IsHonestRun s (front ++ back) → AreApart s.opening
     → (epoch : ℕ) (tx effects : Digest) (members : List ℕ) → IsFinal s (world_after s (front ++ back)) epoch tx effects members
     → (m : ℕ) (seat : Seat) → slice_get (world_after s front).seats m ≡ Some seat → epoch < (member_in s seat).epoch → StandsIn (built (member_in s seat)) epoch tx effects
+
+-- so it is in every run of every schedule, whose set-up opens with objects of different ids
+abbrev pub FinalStandsInSchedules : Type 0
+FinalStandsInSchedules = (trust : Trust) (lines : List Setup) (front back : List Event) → IsHonestRun (setting_of trust lines) (front ++ back)
+    → (epoch : ℕ) (tx effects : Digest) (members : List ℕ) → IsFinal (setting_of trust lines) (world_after (setting_of trust lines) (front ++ back)) epoch tx effects members
+    → (m : ℕ) (seat : Seat) → slice_get (world_after (setting_of trust lines) front).seats m ≡ Some seat → epoch < (member_in (setting_of trust lines) seat).epoch
+    → StandsIn (built (member_in (setting_of trust lines) seat)) epoch tx effects
+
+-- ---- the printed line
+
+-- a `final` line of a schedule says in this world that its transaction is final by these members
+abbrev pub SaysFinal : Setting → World → Name → List ℕ → List ℕ → Type 0
+SaysFinal s w name asked members = Has (lines_of s w (event.Final name asked)) (line.Final name (final_text.FinalBy members))
+
+-- it names a transaction of which these members acknowledged, in its epoch, the same effects
+pub record IsPrintedOf (s : Setting) (w : World) (name : Name) (members : List ℕ) : Type 0 where
+  pub made : Made
+  pub named : made_named w name ≡ Some made
+  pub effects : Digest
+  pub final : is_roll s.rules.stakes members ≡ true → IsFinal s w made.signed.tx.epoch made.digest effects members
+
+abbrev pub PrintedIsFinal : Type 0
+PrintedIsFinal = (s : Setting) (w : World) (name : Name) (asked members : List ℕ) → SaysFinal s w name asked members → IsPrintedOf s w name members
 
 abbrev pub Probe : Type 0
 Probe = Unit {0}

@@ -1,7 +1,7 @@
 //! Final transactions.
 #![tactic(auto)]
 
-ghost use Rattle.final_law.specs.Final.{CountedIsStated, EndsAreWhole, EveryAckWasExecuted, EveryEndWasSettled, EveryStatementWasMade, ExecutedIsAdmitted, FinalStands, Probe, NothingFreeWaits};
+ghost use Rattle.final_law.specs.Final.{CountedIsStated, EndsAreWhole, EveryAckWasExecuted, EveryEndWasSettled, EveryStatementWasMade, ExecutedIsAdmitted, FinalStands, FinalStandsInSchedules, PrintedIsFinal, Probe, NothingFreeWaits};
 
 /// Behind every entry.
 pub fn nothing_free_waits()
@@ -46,4 +46,14 @@ pub fn executed_is_admitted()
 /// Each.
 pub fn final_stands()
     ensures { FinalStands }
+{}
+
+/// Each.
+pub fn final_stands_in_schedules()
+    ensures { FinalStandsInSchedules }
+{}
+
+/// Each.
+pub fn printed_is_final()
+    ensures { PrintedIsFinal }
 {}
