@@ -9,3 +9,4 @@ pub mod Dropping
 pub mod Admitting
 pub mod Standing
 pub mod Printing
+pub mod Printed

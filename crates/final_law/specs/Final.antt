@@ -135,5 +135,21 @@ pub record IsPrintedOf (s : Setting) (w : World) (name : Name) (members : List �
 abbrev pub PrintedIsFinal : Type 0
 PrintedIsFinal = (s : Setting) (w : World) (name : Name) (asked members : List ℕ) → SaysFinal s w name asked members → IsPrintedOf s w name members
 
+-- so where a line of an honest run says it, the transaction stands, with one effects digest, in what each member has built that
+-- left its epoch, at whatever moment of the run
+pub record StandsEverywhere (s : Setting) (events : List Event) (epoch : ℕ) (tx effects : Digest) : Type 0 where
+  pub stands : (front back : List Event) → front ++ back ≡ events → (m : ℕ) (seat : Seat) → slice_get (world_after s front).seats m ≡ Some seat
+      → epoch < (member_in s seat).epoch → StandsIn (built (member_in s seat)) epoch tx effects
+
+pub record IsPrintedForGood (s : Setting) (events : List Event) (w : World) (name : Name) : Type 0 where
+  pub made : Made
+  pub named : made_named w name ≡ Some made
+  pub effects : Digest
+  pub stands : StandsEverywhere s events made.signed.tx.epoch made.digest effects
+
+abbrev pub PrintedStands : Type 0
+PrintedStands = (s : Setting) (front back : List Event) → IsHonestRun s (front ++ back) → AreApart s.opening
+    → (name : Name) (asked members : List ℕ) → SaysFinal s (world_after s front) name asked members → IsPrintedForGood s (front ++ back) (world_after s front) name
+
 abbrev pub Probe : Type 0
 Probe = Unit {0}

@@ -1,7 +1,7 @@
 //! Final transactions.
 #![tactic(auto)]
 
-ghost use Rattle.final_law.specs.Final.{CountedIsStated, EndsAreWhole, EveryAckWasExecuted, EveryEndWasSettled, EveryStatementWasMade, ExecutedIsAdmitted, FinalStands, FinalStandsInSchedules, PrintedIsFinal, Probe, NothingFreeWaits};
+ghost use Rattle.final_law.specs.Final.{CountedIsStated, EndsAreWhole, EveryAckWasExecuted, EveryEndWasSettled, EveryStatementWasMade, ExecutedIsAdmitted, FinalStands, FinalStandsInSchedules, PrintedIsFinal, PrintedStands, Probe, NothingFreeWaits};
 
 /// Behind every entry.
 pub fn nothing_free_waits()
@@ -56,4 +56,9 @@ pub fn final_stands_in_schedules()
 /// Each.
 pub fn printed_is_final()
     ensures { PrintedIsFinal }
+{}
+
+/// Each.
+pub fn printed_stands()
+    ensures { PrintedStands }
 {}
