@@ -11,19 +11,18 @@ use Rattle.world_spec.specs.Run.{world_after}
 use Rattle.world_spec.specs.Assumptions.{IsHonestRun}
 use Rattle.safety_law.proofs.Grown.{statements-grow}
 use Rattle.sequence_law.specs.Orderly.{AreApart}
-use Rattle.final_law.specs.Final.{IsPrintedForGood, SaysFinal, StandsIn}
+use Rattle.final_law.specs.Final.{IsPrintedForGood, SaysFinal, StandsForGood}
 use Rattle.final_law.proofs.Printing.{IsSaidOf, says-final}
 use Rattle.final_law.proofs.Standing.{stands}
 
 pub printed-stands : (s : Setting) (front back : List Event) → IsHonestRun s (front ++ back) → AreApart s.opening
     → (name : Name) (asked members : List ℕ) → SaysFinal s (world_after s front) name asked members → IsPrintedForGood s (front ++ back) (world_after s front) name
-printed-stands s front back run_is distinct name asked members h = record { made = it.made; named = it.named; effects = it.effects; stands = record { stands = at } }
+printed-stands s front back run_is distinct name asked members h = record { made = it.made; named = it.named; effects = it.effects; stands = at }
   where
     it : IsSaidOf s (world_after s front) name members
     it = says-final s (world_after s front) name asked members h
 
-    at : (early late : List Event) → early ++ late ≡ front ++ back → (m : ℕ) (seat : Seat) → slice_get (world_after s early).seats m ≡ Some seat
-        → it.made.signed.tx.epoch < (member_in s seat).epoch → StandsIn (built (member_in s seat)) it.made.signed.tx.epoch it.made.digest it.effects
-    at early late whole = stands s early late (subst (IsHonestRun s) (sym whole) run_is) distinct it.made.signed.tx.epoch it.made.digest it.effects members it.quorum
-        (λ k there. subst (λ (es : List Event). Has (world_after s es).said (said_by k (statement.Ack it.made.signed.tx.epoch it.made.digest it.effects))) (sym whole)
+    at : StandsForGood s (front ++ back) it.made.signed.tx.epoch it.made.digest it.effects
+    at early late split = stands s early late (subst (IsHonestRun s) split run_is) distinct it.made.signed.tx.epoch it.made.digest it.effects members it.quorum
+        (λ k there. subst (λ (es : List Event). Has (world_after s es).said (said_by k (statement.Ack it.made.signed.tx.epoch it.made.digest it.effects))) split
         (statements-grow s front back (said_by k (statement.Ack it.made.signed.tx.epoch it.made.digest it.effects)) (it.said k there)))

@@ -38,6 +38,7 @@ use Rattle.safety_law.proofs.Journals.{every-record}
 use Rattle.safety_law.proofs.Kept.{find-has}
 use Rattle.safety_law.proofs.Meeting.{two_meet}
 use Rattle.safety_law.proofs.Once.{each-has, equal, has-last, has-left}
+use Rattle.safety_law.proofs.Totals.{has-mapped}
 use Rattle.safety_law.proofs.Voted.{seat-of}
 use Rattle.sequence_law.specs.Orderly.{AreApart}
 use Rattle.agreement_law.specs.Agreed.{IsTaken}
@@ -52,13 +53,13 @@ use Rattle.agreement_law.proofs.Opened.{grows-after}
 use Rattle.agreement_law.proofs.Prefixes.{earlier-front, either-front, follows, more-taken}
 use Rattle.agreement_law.proofs.SetUp.{set-up-apart}
 use Rattle.agreement_law.proofs.Turned.{CanTurn, flat-has, has-all}
-use Rattle.final_law.specs.Final.{HasExecuted, IsSettled, IsWhole, StandsIn, WasOnce}
+use Rattle.final_law.specs.Final.{HasExecuted, IsSettled, IsWhole, StandsForGood, StandsIn, WasOnce}
 use Rattle.final_law.proofs.Admitting.{executed-admitted}
 use Rattle.final_law.proofs.Counting.{counted-stated}
 use Rattle.final_law.proofs.Ending.{ends-whole}
 use Rattle.final_law.proofs.Saying.{every-ack, every-end}
 use Rattle.final_law.proofs.Settling.{still-executed, still-settled}
-use Rattle.final_law.proofs.Turning.{HasLeft, IsLast, chained-more, epoch-grows, last-moment, left-epoch}
+use Rattle.final_law.proofs.Turning.{HasLeft, IsLast, IsOfCuts, PastIsBefore, built-from, chained-more, epoch-grows, last-moment, left-epoch, past-before}
 
 -- ---- lists
 
@@ -113,9 +114,9 @@ module _ (p : Member) (can : CanTurn p) (whole : flat_map admitted_in p.sequence
   cut-done : (d : Cut) → Has p.sequence.cuts d → list_all (is_done p.held p.executed) d.txs ≡ true
   cut-done d h = has-all (is_done p.held p.executed) d.txs (λ a k. can.done a (subst (λ (zs : List Admitted). Has zs a) whole (flat-has admitted_in p.sequence.cuts d a h k)))
 
-  admitted-stands : (a : Admitted) (effects : Digest) → Has p.sequence.admission.admitted a → effects_digest_of (execution_of p.executed a.digest) ≡ effects → StandsIn (built p) p.epoch a.digest effects
+  admitted-stands : (before : PastIsBefore p) (a : Admitted) (effects : Digest) → Has p.sequence.admission.admitted a → effects_digest_of (execution_of p.executed a.digest) ≡ effects → StandsIn (built p) p.epoch a.digest effects
   unfolding built
-  admitted-stands a effects h e =
+  admitted-stands before a effects h e =
       let c = has-flat admitted_in p.sequence.cuts a (subst (λ (zs : List Admitted). Has zs a) (sym whole) h) in
       let it = chained-has p.epoch p.held p.executed c.0 p.sequence.cuts p.past cut-done c.1 in
       record {
@@ -123,7 +124,15 @@ module _ (p : Member) (can : CanTurn p) (whole : flat_map admitted_in p.sequence
         among = it.among;
         epoch_is = it.epoch_is;
         item = subst (λ (d : Digest). Has it.checkpoint.items (record { tx = a.digest; effects = d })) e (subst (λ (is : List Item). Has is (item_of p.executed a)) (sym it.items) (map-has (item_of p.executed) c.0.txs a c.2));
+        only = λ d k same i there named. each-same d (built-from p d k) same i there named ∙ e;
       }
+    where
+      -- an item of a checkpoint of the epoch has the effects that the member has of its transaction
+      each-same : (d : Checkpoint) → Has p.past d ⊎ IsOfCuts p.epoch p.executed d → d.epoch ≡ p.epoch → (i : Item) → Has d.items i → i.tx ≡ a.digest → i.effects ≡ effects_digest_of (execution_of p.executed a.digest)
+      each-same d (inl k) same i there named = absurd (let less = before d k in omega (arith, less, same))
+      each-same d (inr of) same i there named =
+          let b = has-mapped (item_of p.executed) of.of.txs i (subst (λ (is : List Item). Has is i) of.items there) in
+          ap (λ (x : Item). x.effects) (sym b.2) ∙ ap (λ (tx : Digest). effects_digest_of (execution_of p.executed tx)) (ap (λ (x : Item). x.tx) b.2 ∙ named)
 
 -- ---- of an ended epoch a member has admitted what any other has
 
@@ -302,7 +311,7 @@ module _ (s : Setting) (front back : List Event) (run_is : IsHonestRun s (front 
       let a = any-has (λ (x : Admitted). digest_eq x.digest has.had.of.digest) acker.sequence.admission.admitted has.admitted in
       let here = front-has acker.sequence.admission.admitted turner.sequence.admission.admitted a.0 front_is a.1 in
       let named : a.0.digest ≡ tx = equal a.0.digest has.had.of.digest a.2 ∙ has.had.named in
-      let it = admitted-stands turner left.can whole.cuts a.0 effects here (gave-same a.0 here (equal a.0.digest has.had.of.digest a.2)) in
+      let it = admitted-stands turner left.can whole.cuts (past-before s.rules s.opening turn.seat.records) a.0 effects here (gave-same a.0 here (equal a.0.digest has.had.of.digest a.2)) in
       subst (λ (d : Digest). StandsIn (built turner) epoch d effects) named (subst (λ (e : ℕ). StandsIn (built turner) e a.0.digest effects) turn.epoch_is it)
     where
       gave-same : (a : Admitted) → Has turner.sequence.admission.admitted a → a.digest ≡ has.had.of.digest → effects_digest_of (execution_of turner.executed a.digest) ≡ effects
@@ -318,17 +327,16 @@ module _ (s : Setting) (front back : List Event) (run_is : IsHonestRun s (front 
   pub stands : StandsIn (built (member_in s seat)) epoch tx effects
   stands =
       let it = stands-there in
-      record { checkpoint = it.checkpoint; among = front-has (built turner) (built (member_in s seat)) it.checkpoint left.keeps it.among; epoch_is = it.epoch_is; item = it.item }
+      record { checkpoint = it.checkpoint; among = front-has (built turner) (built (member_in s seat)) it.checkpoint left.keeps it.among; epoch_is = it.epoch_is; item = it.item; only = λ c h e i k named. it.only c (left.adds_none c h e) e i k named }
 
-pub final-stands : (s : Setting) (front back : List Event) → IsHonestRun s (front ++ back) → AreApart s.opening
-    → (epoch : ℕ) (tx effects : Digest) (members : List ℕ) → IsFinal s (world_after s (front ++ back)) epoch tx effects members
-    → (m : ℕ) (seat : Seat) → slice_get (world_after s front).seats m ≡ Some seat → epoch < (member_in s seat).epoch → StandsIn (built (member_in s seat)) epoch tx effects
-final-stands s front back run_is distinct epoch tx effects members final m seat at less =
-    stands s front back run_is distinct epoch tx effects members final.quorum
-    (λ k h. each-has (λ (n : ℕ). Has (world_after s (front ++ back)).said (said_by n (statement.Ack epoch tx effects))) members k final.said h) m seat at less
+pub final-stands : (s : Setting) (events : List Event) → IsHonestRun s events → AreApart s.opening
+    → (epoch : ℕ) (tx effects : Digest) (members : List ℕ) → IsFinal s (world_after s events) epoch tx effects members → StandsForGood s events epoch tx effects
+final-stands s events run_is distinct epoch tx effects members final front back split m seat at less =
+    stands s front back (subst (IsHonestRun s) split run_is) distinct epoch tx effects members final.quorum
+    (λ k h. subst (λ (es : List Event). Has (world_after s es).said (said_by k (statement.Ack epoch tx effects))) split
+    (each-has (λ (n : ℕ). Has (world_after s events).said (said_by n (statement.Ack epoch tx effects))) members k final.said h)) m seat at less
 
-pub stands-in-schedules : (trust : Trust) (lines : List Setup) (front back : List Event) → IsHonestRun (setting_of trust lines) (front ++ back)
-    → (epoch : ℕ) (tx effects : Digest) (members : List ℕ) → IsFinal (setting_of trust lines) (world_after (setting_of trust lines) (front ++ back)) epoch tx effects members
-    → (m : ℕ) (seat : Seat) → slice_get (world_after (setting_of trust lines) front).seats m ≡ Some seat → epoch < (member_in (setting_of trust lines) seat).epoch
-    → StandsIn (built (member_in (setting_of trust lines) seat)) epoch tx effects
-stands-in-schedules trust lines front back run_is = final-stands (setting_of trust lines) front back run_is (set-up-apart trust lines)
+pub stands-in-schedules : (trust : Trust) (lines : List Setup) (events : List Event) → IsHonestRun (setting_of trust lines) events
+    → (epoch : ℕ) (tx effects : Digest) (members : List ℕ) → IsFinal (setting_of trust lines) (world_after (setting_of trust lines) events) epoch tx effects members
+    → StandsForGood (setting_of trust lines) events epoch tx effects
+stands-in-schedules trust lines events run_is = final-stands (setting_of trust lines) events run_is (set-up-apart trust lines)

@@ -1,7 +1,7 @@
 -- The last moment of a member in an epoch: where it turns out of it, or the present one. All states in which it was in
 -- that epoch come before.
 use Rattle.std.proofs.Common.{inl, inr, refl, sym, subst, ap, ◌∙◌, arith, append_assoc, append-nil}
-use Rattle.std.specs.Prelude.{◌≡◌, ◌⊎◌, ◌<◌, ◌≤◌, ◌+◌, ℕ, zero, suc, min, Bool, true, false, cond, List, [], ◌∷◌, ◌++◌, slice_get, Option, Some, None, option_map, option_and_then}
+use Rattle.std.specs.Prelude.{◌≡◌, ◌⊎◌, ◌<◌, ◌≤◌, ◌+◌, ℕ, zero, suc, min, Bool, true, false, cond, List, [], ◌∷◌, ◌++◌, fold, map, slice_get, Option, Some, None, option_map, option_and_then}
 use Rattle.std.specs.List.{list_all}
 use Rattle.chain_types.specs.Transactions as transactions
 use Rattle.chain_types.specs.declared.objects.Object.{Object}
@@ -17,8 +17,8 @@ use Rattle.protocol_spec.specs.Chain.Words.{Has, Each, IsFront}
 use Rattle.protocol_spec.specs.Chain.Certificates.{Rules}
 use Rattle.protocol_spec.specs.Member.Versions.{Execution}
 use Rattle.protocol_spec.specs.Member.Sequence.{Cut}
-use Rattle.protocol_spec.specs.Member.Checkpoints.{chained, checkpoint_behind, is_done}
-use Rattle.protocol_spec.specs.Member.Member.{Member, after, built, state}
+use Rattle.protocol_spec.specs.Member.Checkpoints.{chained, checkpoint_behind, is_done, item_of}
+use Rattle.protocol_spec.specs.Member.Member.{Member, after, built, fresh, state}
 use Rattle.protocol_spec.specs.Member.Calls.{Call, turns, due}
 use Rattle.world_spec.specs.Setting.{Setting}
 use Rattle.world_spec.specs.World.{Seat, Made, World, new_world, member_in, called_if, state_of, next_call_of, next_call, next_entry, numbered_call, member_at}
@@ -30,6 +30,7 @@ use Rattle.safety_law.proofs.InWorld.{each-get, kept-line, new-seats}
 use Rattle.safety_law.proofs.Apart.{state-push}
 use Rattle.safety_law.proofs.Forks.{each-join}
 use Rattle.safety_law.proofs.Grown.{world-append}
+use Rattle.safety_law.proofs.Once.{has-push}
 use Rattle.agreement_law.proofs.Appends.{a_turn, appended_as, appended_by, due-appends}
 use Rattle.agreement_law.proofs.Growth.{front-all, front-then}
 use Rattle.agreement_law.proofs.Prefixes.{either-front}
@@ -95,6 +96,40 @@ chained-more epoch held executed (c ∷ cs) before = go (list_all (is_done held 
     go true front = front-then before next (chained epoch held executed next cs) (checkpoint_behind epoch executed before c ∷ [], refl) front
     go false front = front-all before
 
+-- where a checkpoint comes from: it stood before, or is of a cut of the epoch
+pub record IsOfCuts (epoch : ℕ) (executed : List Execution) (c : Checkpoint) : Type 0 where
+  pub epoch_is : c.epoch ≡ epoch
+  pub of : Cut
+  pub items : c.items ≡ map (item_of executed) of.txs
+
+behind-of : (epoch : ℕ) (executed : List Execution) (before : List Checkpoint) (d : Cut) → IsOfCuts epoch executed (checkpoint_behind epoch executed before d)
+unfolding checkpoint_behind
+behind-of epoch executed before d = record { epoch_is = refl; of = d; items = refl }
+
+chained-from : (epoch : ℕ) (held : List Held) (executed : List Execution) (cuts : List Cut) (before : List Checkpoint) (c : Checkpoint) → Has (chained epoch held executed before cuts) c → Has before c ⊎ IsOfCuts epoch executed c
+chained-from epoch held executed [] before c h = inl h
+chained-from epoch held executed (d ∷ cs) before c h = go (list_all (is_done held executed) d.txs) h (chained-from epoch held executed cs (before ++ checkpoint_behind epoch executed before d ∷ []) c)
+  where
+    next : List Checkpoint
+    next = before ++ checkpoint_behind epoch executed before d ∷ []
+
+    pushed : Has before c ⊎ (checkpoint_behind epoch executed before d ≡ c) → Has before c ⊎ IsOfCuts epoch executed c
+    pushed (inl k) = inl k
+    pushed (inr e) = inr (subst (IsOfCuts epoch executed) e (behind-of epoch executed before d))
+
+    either : Has (before ++ checkpoint_behind epoch executed before d ∷ []) c ⊎ IsOfCuts epoch executed c → Has before c ⊎ IsOfCuts epoch executed c
+    either (inl k) = pushed (has-push before (checkpoint_behind epoch executed before d) c k)
+    either (inr it) = inr it
+
+    go : (b : Bool) → Has (cond b (chained epoch held executed (before ++ checkpoint_behind epoch executed before d ∷ []) cs) before) c
+        → (Has (chained epoch held executed (before ++ checkpoint_behind epoch executed before d ∷ []) cs) c → Has (before ++ checkpoint_behind epoch executed before d ∷ []) c ⊎ IsOfCuts epoch executed c) → Has before c ⊎ IsOfCuts epoch executed c
+    go true k rest = either (rest k)
+    go false k rest = inl k
+
+pub built-from : (m : Member) (c : Checkpoint) → Has (built m) c → Has m.past c ⊎ IsOfCuts m.epoch m.executed c
+unfolding built
+built-from m c h = chained-from m.epoch m.held m.executed m.sequence.cuts m.past c h
+
 pub past-built : (m : Member) → IsFront m.past (built m)
 unfolding built
 past-built m = chained-more m.epoch m.held m.executed m.sequence.cuts m.past
@@ -127,6 +162,71 @@ after-past r m record_as.Close = front-all m.past
 after-past r m (record_as.Ran txs) = front-all m.past
 after-past r m record_as.Turn = past-built m
 after-past r m (record_as.Ran2 items) = front-all m.past
+
+-- the checkpoints of the epochs before are of epochs before
+abbrev pub PastIsBefore : Member → Type 0
+PastIsBefore m = (c : Checkpoint) → Has m.past c → c.epoch < m.epoch
+
+-- behind a turn, those of the epoch that the member left are what it had built there
+abbrev IsBeyond : Member → Member → Type 0
+IsBeyond p m = (p.epoch < m.epoch) × ((c : Checkpoint) → Has m.past c → c.epoch ≡ p.epoch → Has (built p) c)
+
+module _ (r : Rules) where
+  turn-before : (m : Member) → PastIsBefore m → PastIsBefore (after r m record_as.Turn)
+  unfolding after
+  turn-before m before c h = go (built-from m c h)
+    where
+      go : Has m.past c ⊎ IsOfCuts m.epoch m.executed c → c.epoch < m.epoch + 1
+      go (inl k) = let less = before c k in omega (arith, less)
+      go (inr it) = let same = it.epoch_is in omega (arith, same)
+
+  after-before : (m : Member) (x : Record) → PastIsBefore m → PastIsBefore (after r m x)
+  unfolding after
+  after-before m (record_as.Vote tx origins) before = before
+  after-before m (record_as.Hold c) before = before
+  after-before m (record_as.See bytes) before = before
+  after-before m record_as.Close before = before
+  after-before m (record_as.Ran txs) before = before
+  after-before m record_as.Turn before = turn-before m before
+  after-before m (record_as.Ran2 items) before = before
+
+  fold-before : (records : List Record) (m : Member) → PastIsBefore m → PastIsBefore (fold (after r) m records)
+  fold-before [] m before = before
+  fold-before (x ∷ records) m before = fold-before records (after r m x) (after-before m x before)
+
+  pub past-before : (opening : List Object) (records : List Record) → PastIsBefore (state r opening records)
+  unfolding state
+  past-before opening records = fold-before records (fresh opening) (λ c h. absurd h)
+
+  built-beyond : (p m : Member) → IsBeyond p m → (c : Checkpoint) → Has (built m) c → c.epoch ≡ p.epoch → Has (built p) c
+  built-beyond p m beyond c h e = go (built-from m c h)
+    where
+      go : Has m.past c ⊎ IsOfCuts m.epoch m.executed c → Has (built p) c
+      go (inl k) = beyond.1 c k e
+      go (inr it) = absurd (let same = it.epoch_is in let less = beyond.0 in omega (arith, same, less, e))
+
+  turn-beyond : (p m : Member) → IsBeyond p m → IsBeyond p (after r m record_as.Turn)
+  unfolding after
+  turn-beyond p m beyond = (let less = beyond.0 in omega (arith, less), built-beyond p m beyond)
+
+  after-beyond : (p m : Member) (x : Record) → IsBeyond p m → IsBeyond p (after r m x)
+  unfolding after
+  after-beyond p m (record_as.Vote tx origins) beyond = beyond
+  after-beyond p m (record_as.Hold c) beyond = beyond
+  after-beyond p m (record_as.See bytes) beyond = beyond
+  after-beyond p m record_as.Close beyond = beyond
+  after-beyond p m (record_as.Ran txs) beyond = beyond
+  after-beyond p m record_as.Turn beyond = turn-beyond p m beyond
+  after-beyond p m (record_as.Ran2 items) beyond = beyond
+
+  first-beyond : (p : Member) → IsBeyond p (after r p record_as.Turn)
+  unfolding after
+  first-beyond p = (omega arith, λ c h e. h)
+
+  more-beyond : (opening : List Object) (p : Member) (more before : List Record) → IsBeyond p (state r opening before) → IsBeyond p (state r opening (before ++ more))
+  more-beyond opening p [] before beyond = subst (λ (rs : List Record). IsBeyond p (state r opening rs)) (sym (append-nil before)) beyond
+  more-beyond opening p (x ∷ more) before beyond = subst (λ (rs : List Record). IsBeyond p (state r opening rs)) (append_assoc before (x ∷ []) more)
+      (more-beyond opening p more (before ++ x ∷ []) (subst (IsBeyond p) (sym (state-push r opening before x)) (after-beyond p (state r opening before) x beyond)))
 
 module _ (r : Rules) (opening : List Object) where
   abbrev at : List Record → Member
@@ -339,6 +439,7 @@ module _ (s : Setting) where
     pub last : IsLast events records epoch
     pub can : CanTurn (member_in s last.seat)
     pub keeps : IsFront (built (member_in s last.seat)) (built (of records))
+    pub adds_none : (c : Checkpoint) → Has (built (of records)) c → c.epoch ≡ epoch → Has (built (member_in s last.seat)) c
 
   module _ (events : List Event) (m : ℕ) (seat : Seat) (there : slice_get (world_after s events).seats m ≡ Some seat) (epoch : ℕ) where
     covered : (front back : List Record) → seat.records ≡ front ++ (record_as.Turn ∷ back) → (of front).epoch ≡ epoch → (early : List Record) → IsFront early seat.records → (of early).epoch ≡ epoch → IsFront early front
@@ -372,6 +473,12 @@ module _ (s : Setting) where
         (subst (λ (rs : List Record). IsFront (of (front ++ record_as.Turn ∷ [])).past (of rs).past) (append_assoc front (record_as.Turn ∷ []) back ∙ sym split) (past-grows s.rules s.opening back (front ++ record_as.Turn ∷ []))))
         (past-built (of seat.records))
 
+    -- and no other of that epoch is built later
+    none-added : (front back : List Record) → seat.records ≡ front ++ (record_as.Turn ∷ back) → (of front).epoch ≡ epoch → (c : Checkpoint) → Has (built (of seat.records)) c → c.epoch ≡ epoch → Has (built (of front)) c
+    none-added front back split same c h e =
+        built-beyond s.rules (of front) (of seat.records) (subst (λ (rs : List Record). IsBeyond (of front) (of rs)) (append_assoc front (record_as.Turn ∷ []) back ∙ sym split)
+        (more-beyond s.rules s.opening (of front) back (front ++ record_as.Turn ∷ []) (subst (IsBeyond (of front)) (sym (state-push s.rules s.opening front record_as.Turn)) (first-beyond s.rules (of front))))) c h (e ∙ sym same)
+
     first-epoch : (of []).epoch ≡ 0
     unfolding state
     first-epoch = refl
@@ -399,6 +506,7 @@ module _ (s : Setting) where
               };
               can = it.can;
               keeps = subst (λ (rs : List Record). IsFront (built (of rs)) (built (of seat.records))) (sym it.same) (kept-built t.front t.back t.split);
+              adds_none = λ c h e. subst (λ (rs : List Record). Has (built (of rs)) c) (sym it.same) (none-added t.front t.back t.split t.epoch_is c h e);
             }
 
     pub last-moment : epoch ≤ (member_in s seat).epoch → IsLast events seat.records epoch

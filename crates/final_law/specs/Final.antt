@@ -8,6 +8,7 @@ use Rattle.protocol_spec.specs.Member.Sequence.{Sequence, seen}
 use Rattle.digest_core.specs.declared.Digest.{Digest}
 use Rattle.chain_messages.specs.declared.messages.Statement.{Statement}
 use Rattle.chain_messages.specs.declared.messages.Statement.TheVariants as statement
+use Rattle.checkpoint_core.specs.declared.checkpoints.Item.{Item}
 use Rattle.checkpoint_core.specs.declared.checkpoints.Checkpoint.{Checkpoint}
 use Rattle.journal_core.specs.declared.records.Record.{Record}
 use Rattle.answer_types.specs.declared.answers.Held.{Held}
@@ -98,26 +99,36 @@ ExecutedIsAdmitted = (s : Setting) (events : List Event) → IsHonestRun s event
 
 -- ---- finality
 
--- one of these checkpoints, of this epoch, has the transaction, with these effects
+-- one of these checkpoints, of this epoch, has the transaction, with these effects, and none of the epoch has it with others
 pub record StandsIn (checkpoints : List Checkpoint) (epoch : ℕ) (tx effects : Digest) : Type 0 where
   pub checkpoint : Checkpoint
   pub among : Has checkpoints checkpoint
   pub epoch_is : checkpoint.epoch ≡ epoch
   pub item : Has checkpoint.items (record { tx = tx; effects = effects })
+  pub only : (c : Checkpoint) → Has checkpoints c → c.epoch ≡ epoch → (i : Item) → Has c.items i → i.tx ≡ tx → i.effects ≡ effects
 
--- What a quorum acknowledged, faulty members among it, stands with these effects in what each member has built that left
--- the epoch, whether it left before they acknowledged or behind it.
+-- so it does in what each member has built that is past the epoch, at whatever moment of the run
+abbrev pub StandsForGood : Setting → List Event → ℕ → Digest → Digest → Type 0
+StandsForGood s events epoch tx effects = (front back : List Event) → events ≡ front ++ back → (m : ℕ) (seat : Seat) → slice_get (world_after s front).seats m ≡ Some seat
+    → epoch < (member_in s seat).epoch → StandsIn (built (member_in s seat)) epoch tx effects
+
+-- what a quorum acknowledged, faulty members among it, stands for good, whether they acknowledged it before a member left the
+-- epoch or behind it
 abbrev pub FinalStands : Type 0
-FinalStands = (s : Setting) (front back : List Event) → IsHonestRun s (front ++ back) → AreApart s.opening
-    → (epoch : ℕ) (tx effects : Digest) (members : List ℕ) → IsFinal s (world_after s (front ++ back)) epoch tx effects members
-    → (m : ℕ) (seat : Seat) → slice_get (world_after s front).seats m ≡ Some seat → epoch < (member_in s seat).epoch → StandsIn (built (member_in s seat)) epoch tx effects
+FinalStands = (s : Setting) (events : List Event) → IsHonestRun s events → AreApart s.opening
+    → (epoch : ℕ) (tx effects : Digest) (members : List ℕ) → IsFinal s (world_after s events) epoch tx effects members → StandsForGood s events epoch tx effects
 
 -- so it is in every run of every schedule, whose set-up opens with objects of different ids
 abbrev pub FinalStandsInSchedules : Type 0
-FinalStandsInSchedules = (trust : Trust) (lines : List Setup) (front back : List Event) → IsHonestRun (setting_of trust lines) (front ++ back)
-    → (epoch : ℕ) (tx effects : Digest) (members : List ℕ) → IsFinal (setting_of trust lines) (world_after (setting_of trust lines) (front ++ back)) epoch tx effects members
-    → (m : ℕ) (seat : Seat) → slice_get (world_after (setting_of trust lines) front).seats m ≡ Some seat → epoch < (member_in (setting_of trust lines) seat).epoch
-    → StandsIn (built (member_in (setting_of trust lines) seat)) epoch tx effects
+FinalStandsInSchedules = (trust : Trust) (lines : List Setup) (events : List Event) → IsHonestRun (setting_of trust lines) events
+    → (epoch : ℕ) (tx effects : Digest) (members : List ℕ) → IsFinal (setting_of trust lines) (world_after (setting_of trust lines) events) epoch tx effects members
+    → StandsForGood (setting_of trust lines) events epoch tx effects
+
+-- no two quorums acknowledged different effects of a transaction, nor in different epochs
+abbrev pub FinalOnce : Type 0
+FinalOnce = (s : Setting) (events : List Event) → IsHonestRun s events → (tx : Digest)
+    → (epoch other : ℕ) (effects others : Digest) (members peers : List ℕ) → IsFinal s (world_after s events) epoch tx effects members → IsFinal s (world_after s events) other tx others peers
+    → (epoch ≡ other) × (effects ≡ others)
 
 -- ---- the printed line
 
@@ -135,17 +146,12 @@ pub record IsPrintedOf (s : Setting) (w : World) (name : Name) (members : List �
 abbrev pub PrintedIsFinal : Type 0
 PrintedIsFinal = (s : Setting) (w : World) (name : Name) (asked members : List ℕ) → SaysFinal s w name asked members → IsPrintedOf s w name members
 
--- so where a line of an honest run says it, the transaction stands, with one effects digest, in what each member has built that
--- left its epoch, at whatever moment of the run
-pub record StandsEverywhere (s : Setting) (events : List Event) (epoch : ℕ) (tx effects : Digest) : Type 0 where
-  pub stands : (front back : List Event) → front ++ back ≡ events → (m : ℕ) (seat : Seat) → slice_get (world_after s front).seats m ≡ Some seat
-      → epoch < (member_in s seat).epoch → StandsIn (built (member_in s seat)) epoch tx effects
-
+-- so where a line of an honest run says it, the transaction stands for good, with one effects digest
 pub record IsPrintedForGood (s : Setting) (events : List Event) (w : World) (name : Name) : Type 0 where
   pub made : Made
   pub named : made_named w name ≡ Some made
   pub effects : Digest
-  pub stands : StandsEverywhere s events made.signed.tx.epoch made.digest effects
+  pub stands : StandsForGood s events made.signed.tx.epoch made.digest effects
 
 abbrev pub PrintedStands : Type 0
 PrintedStands = (s : Setting) (front back : List Event) → IsHonestRun s (front ++ back) → AreApart s.opening
