@@ -10,3 +10,4 @@ pub mod Admitting
 pub mod Standing
 pub mod Printing
 pub mod Printed
+pub mod Once

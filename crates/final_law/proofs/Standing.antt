@@ -63,7 +63,7 @@ use Rattle.final_law.proofs.Turning.{HasLeft, IsLast, IsOfCuts, PastIsBefore, bu
 
 -- ---- lists
 
-among-has : (xs : List ℕ) (m : ℕ) → is_among xs m ≡ true → Has xs m
+pub among-has : (xs : List ℕ) (m : ℕ) → is_among xs m ≡ true → Has xs m
 among-has xs m e = let x = any-has (λ (n : ℕ). n == m) xs e in subst (Has xs) (eqb-true x.0 m x.2) x.1
 
 front-has : {A : Type 0} (xs ys : List A) (x : A) → IsFront xs ys → Has xs x → Has ys x
@@ -77,7 +77,7 @@ honest-in (true ∷ honest) zero e = refl
 honest-in (false ∷ honest) zero e = absurd (cc)
 honest-in (h ∷ honest) (suc m) e = honest-in honest m e
 
-honest-after : (s : Setting) (events : List Event) (m : ℕ) → is_faulty_in s.honest m ≡ false → is_honest (world_after s events) m ≡ true
+pub honest-after : (s : Setting) (events : List Event) (m : ℕ) → is_faulty_in s.honest m ≡ false → is_honest (world_after s events) m ≡ true
 unfolding world_after new_world
 honest-after s events m e = (grown-run s events (new_world s)).honest m ∙ honest-in s.honest m e
 

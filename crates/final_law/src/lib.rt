@@ -1,7 +1,7 @@
 //! Final transactions.
 #![tactic(auto)]
 
-ghost use Rattle.final_law.specs.Final.{CountedIsStated, EndsAreWhole, EveryAckWasExecuted, EveryEndWasSettled, EveryStatementWasMade, ExecutedIsAdmitted, FinalStands, FinalStandsInSchedules, PrintedIsFinal, PrintedStands, Probe, NothingFreeWaits};
+ghost use Rattle.final_law.specs.Final.{CountedIsStated, EndsAreWhole, EveryAckWasExecuted, EveryEndWasSettled, EveryStatementWasMade, ExecutedIsAdmitted, FinalOnce, FinalStands, FinalStandsInSchedules, PrintedIsFinal, PrintedStands, Probe, NothingFreeWaits};
 
 /// Behind every entry.
 pub fn nothing_free_waits()
@@ -61,4 +61,9 @@ pub fn printed_is_final()
 /// Each.
 pub fn printed_stands()
     ensures { PrintedStands }
+{}
+
+/// Each.
+pub fn final_once()
+    ensures { FinalOnce }
 {}
