@@ -11,3 +11,4 @@ pub mod Standing
 pub mod Printing
 pub mod Printed
 pub mod Once
+pub mod Telling

@@ -1,4 +1,4 @@
-use Rattle.final_law.proofs.Standing.{ended-has-all}
+use Rattle.final_law.proofs.Telling.{asks-or-other}
 use Rattle.final_law.proofs.probe.Goals as goal
 
 pub returns : goal.returns
