@@ -43,7 +43,7 @@ use Rattle.agreement_law.proofs.Supply.{every-held, stocked}
 use Rattle.agreement_law.proofs.Turned.{has-all}
 use Rattle.agreement_law.proofs.Wants.{from-writer, nobody}
 use Rattle.protocol_spec.specs.Member.Votes.{shared_key}
-use Rattle.final_law.specs.Final.{IsSettled}
+use Rattle.final_law.specs.Stated.{IsSettled}
 use Rattle.final_law.proofs.Dropping.{WasDropped, never-dropped, unshared, was-dropped}
 use Rattle.final_law.proofs.Knowing.{IsIn, in-known}
 use Rattle.final_law.proofs.Waiting.{IsIdle, nothing-free}

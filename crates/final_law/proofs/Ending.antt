@@ -12,7 +12,7 @@ use Rattle.protocol_spec.specs.Member.Sequence.{Cut, Sequence, What, takes, comm
 use Rattle.agreement_law.specs.Checkpointed.{admitted_in}
 use Rattle.agreement_law.proofs.Cuts.{cut-seen, flat-append}
 use Rattle.agreement_law.proofs.Prefixes.{earlier-saw}
-use Rattle.final_law.specs.Final.{IsWhole}
+use Rattle.final_law.specs.Ended.{IsWhole}
 
 -- ---- the cuts
 

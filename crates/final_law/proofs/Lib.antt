@@ -8,7 +8,8 @@ pub mod Settling
 pub mod Dropping
 pub mod Admitting
 pub mod Standing
-pub mod Printing
-pub mod Printed
 pub mod Once
+pub mod Printing
 pub mod Telling
+pub mod Rolls
+pub mod Reporting

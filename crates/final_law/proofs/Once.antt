@@ -30,7 +30,7 @@ use Rattle.agreement_law.proofs.Executing.{executions-explained}
 use Rattle.agreement_law.proofs.Lists.{along-split}
 use Rattle.agreement_law.proofs.SameSteps.{given-alike}
 use Rattle.agreement_law.proofs.Supply.{every-held}
-use Rattle.final_law.specs.Final.{HasExecuted, WasOnce}
+use Rattle.final_law.specs.Stated.{HasExecuted, WasOnce}
 use Rattle.final_law.proofs.Saying.{every-ack}
 use Rattle.final_law.proofs.Settling.{still-executed}
 use Rattle.final_law.proofs.Standing.{among-has, honest-after}

@@ -12,7 +12,7 @@ use Rattle.report_text.specs.declared.lines.Line.TheVariants as line
 use Rattle.report_text.specs.declared.lines.FinalText.{FinalText}
 use Rattle.report_text.specs.declared.lines.FinalText.TheVariants as final_text
 use Rattle.protocol_spec.specs.Chain.Words.{Has, Each, first_of, first_some, where_true}
-use Rattle.protocol_spec.specs.Chain.Committee.{is_quorum, total_of, weight}
+use Rattle.protocol_spec.specs.Chain.Committee.{is_quorum, is_roll, total_of, weight}
 use Rattle.protocol_spec.proofs.ListLemmas.{and-first, and-second}
 use Rattle.protocol_spec.specs.Member.Checkpoints.{zero_digest}
 use Rattle.world_spec.specs.Setting.{Name, Setting}
@@ -26,7 +26,7 @@ use Rattle.safety_law.proofs.Once.{equal}
 use Rattle.safety_law.proofs.Steps.{last-said}
 use Rattle.safety_law.proofs.Totals.{each-all}
 use Rattle.agreement_law.proofs.Lists.{first-says, some-same}
-use Rattle.final_law.specs.Final.{IsPrintedOf, SaysFinal}
+use Rattle.final_law.specs.Printed.{IsFinalHere, final_by}
 
 -- ---- what collecting the whole says
 
@@ -152,14 +152,14 @@ module _ (s : Setting) (w : World) where
   text-same name a b e = cc
 
   -- the transaction of the line, and its acknowledgements
-  pub record IsSaidOf (name : Name) (members : List ℕ) : Type 0 where
-    pub made : Made
-    pub named : made_named w name ≡ Some made
-    pub effects : Digest
-    pub quorum : is_quorum s.rules.stakes (weight s.rules.stakes members) ≡ true
-    pub said : (m : ℕ) → Has members m → Has w.said (said_by m (statement.Ack made.signed.tx.epoch made.digest effects))
+  record IsSaidOf (name : Name) (members : List ℕ) : Type 0 where
+    made : Made
+    named : made_named w name ≡ Some made
+    effects : Digest
+    quorum : is_quorum s.rules.stakes (weight s.rules.stakes members) ≡ true
+    said : (m : ℕ) → Has members m → Has w.said (said_by m (statement.Ack made.signed.tx.epoch made.digest effects))
 
-  pub says-final : (name : Name) (asked members : List ℕ) → SaysFinal s w name asked members → IsSaidOf name members
+  says-final : (name : Name) (asked members : List ℕ) → Has (lines_of s w (event.Final name asked)) (final_by name members) → IsSaidOf name members
   unfolding lines_of
   says-final name asked members h = go (made_named w name) refl h
     where
@@ -181,12 +181,31 @@ module _ (s : Setting) (w : World) where
       go (Some t) q (inl e) = said-of t q (acks_collected s w t asked) refl (text-same name (final_collected asked (acks_collected s w t asked)) (final_text.FinalBy members) e)
       go (Some t) q (inr h) = absurd h
 
-pub printed-is-final : (s : Setting) (w : World) (name : Name) (asked members : List ℕ) → SaysFinal s w name asked members → IsPrintedOf s w name members
-printed-is-final s w name asked members h =
+-- the members of the line are those that it asks for
+pub printed-asked : (s : Setting) (w : World) (name other : Name) (asked members : List ℕ) → Has (lines_of s w (event.Final other asked)) (final_by name members) → (other ≡ name) × (asked ≡ members)
+unfolding lines_of
+printed-asked s w name other asked members h = go (made_named w other) h
+  where
+    names : (a b : FinalText) → line.Final other a ≡ line.Final name b → other ≡ name
+    names a b e = cc
+
+    texts : (a b : FinalText) → line.Final other a ≡ line.Final name b → a ≡ b
+    texts a b e = cc
+
+    go : (o : Option Made) → Has (final_lines s w other asked o) (final_by name members) → (other ≡ name) × (asked ≡ members)
+    go None (inl e) = absurd (let f = texts (final_text.NoAck 0) (final_text.FinalBy members) e in cc)
+    go None (inr h) = absurd h
+    go (Some t) (inl e) =
+        let text = texts (final_collected asked (acks_collected s w t asked)) (final_text.FinalBy members) e in
+        (names (final_collected asked (acks_collected s w t asked)) (final_text.FinalBy members) e, (printed-whole s w asked members (acks_collected s w t asked) text).1)
+    go (Some t) (inr h) = absurd h
+
+pub printed-is-final : (s : Setting) (w : World) (name : Name) (asked members : List ℕ) → is_roll s.rules.stakes members ≡ true → Has (lines_of s w (event.Final name asked)) (final_by name members) → IsFinalHere s w name members
+printed-is-final s w name asked members known h =
     let it = says-final s w name asked members h in
     record {
       made = it.made;
       named = it.named;
       effects = it.effects;
-      final = λ known. record { known = known; quorum = it.quorum; said = each-all (λ m. Has w.said (said_by m (statement.Ack it.made.signed.tx.epoch it.made.digest it.effects))) members it.said };
+      final = record { known = known; quorum = it.quorum; said = each-all (λ m. Has w.said (said_by m (statement.Ack it.made.signed.tx.epoch it.made.digest it.effects))) members it.said };
     }

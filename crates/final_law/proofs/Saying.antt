@@ -40,7 +40,7 @@ use Rattle.safety_law.proofs.Apart.{none-each, none-of, accepted}
 use Rattle.safety_law.proofs.Backed.{backed}
 use Rattle.safety_law.proofs.Once.{equal}
 use Rattle.safety_law.proofs.Kept.{find-has}
-use Rattle.final_law.specs.Final.{WasOnce, MakesStatement, HasExecuted, IsSettled}
+use Rattle.final_law.specs.Stated.{HasExecuted, IsSettled, MakesStatement, WasOnce}
 
 -- ---- every statement
 

@@ -53,7 +53,9 @@ use Rattle.agreement_law.proofs.Opened.{grows-after}
 use Rattle.agreement_law.proofs.Prefixes.{earlier-front, either-front, follows, more-taken}
 use Rattle.agreement_law.proofs.SetUp.{set-up-apart}
 use Rattle.agreement_law.proofs.Turned.{CanTurn, flat-has, has-all}
-use Rattle.final_law.specs.Final.{HasExecuted, IsSettled, IsWhole, StandsForGood, StandsIn, WasOnce}
+use Rattle.final_law.specs.Ended.{IsWhole}
+use Rattle.final_law.specs.Final.{StandsForGood, StandsIn}
+use Rattle.final_law.specs.Stated.{HasExecuted, IsSettled, WasOnce}
 use Rattle.final_law.proofs.Admitting.{executed-admitted}
 use Rattle.final_law.proofs.Counting.{counted-stated}
 use Rattle.final_law.proofs.Ending.{ends-whole}
