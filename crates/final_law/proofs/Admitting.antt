@@ -1,12 +1,11 @@
 -- What a member has executed it has admitted, where it closed and all that it holds is in the sequence: along its
 -- executions each one's origins are admitted, so it does not wait; and without shared inputs it is not dropped.
-use Rattle.std.proofs.Common.{inl, inr, refl, sym, subst, ap, ◌∙◌, arith}
+use Rattle.std.proofs.Common.{inl, inr, refl, sym, subst, ap, arith}
 use Rattle.std.proofs.lemmas.Bool.{eqb-true}
-use Rattle.std.specs.Prelude.{◌≡◌, ◌⊎◌, ℕ, Bool, true, false, cond, not, ◌&&◌, ◌||◌, ◌==◌, List, [], ◌∷◌, ◌++◌, filter, filter_map, find, length, map, slice_get, zip, Option, Some, None}
-use Rattle.std.specs.List.{list_all, list_any}
+use Rattle.std.specs.Prelude.{◌≡◌, ◌⊎◌, ℕ, Bool, true, false, not, ◌||◌, ◌==◌, List, [], ◌∷◌, ◌++◌, filter_map, find, length, map, slice_get, zip, Option, Some, None}
+use Rattle.std.specs.List.{list_any}
 use Rattle.digest_core.specs.declared.Digest.{Digest}
 use Rattle.chain_types.specs.declared.objects.Object.{Object}
-use Rattle.chain_types.specs.declared.objects.ObjectKey.{ObjectKey}
 use Rattle.chain_types.specs.declared.transactions.Input.{Input}
 use Rattle.chain_types.specs.declared.transactions.Input.TheVariants as inputs
 use Rattle.chain_types.specs.declared.transactions.Transaction.{Transaction}
@@ -15,23 +14,22 @@ use Rattle.chain_types.specs.Equal.{digest_eq}
 use Rattle.chain_types.specs.Digests.{key_of}
 use Rattle.chain_messages.specs.declared.messages.Certificate.{Certificate}
 use Rattle.chain_messages.specs.Messages as messages
-use Rattle.answer_types.specs.declared.answers.Assigned.{Assigned}
 use Rattle.answer_types.specs.declared.answers.Held.{Held}
 use Rattle.schedule_text.specs.declared.words.Event.{Event}
 use Rattle.protocol_spec.specs.Chain.Words.{Has, Along, all_some}
 use Rattle.protocol_spec.specs.Chain.Keys.{has_shared_input, is_shared_input, mutable_id, objects_of}
 use Rattle.protocol_spec.specs.Chain.Certificates.{Rules, cert_cases, cert_refusal}
 use Rattle.protocol_spec.specs.Member.Versions.{Execution, versions}
-use Rattle.protocol_spec.specs.Member.Admission.{Admission, assigned_of, has_room, is_admitted, is_dropped, is_free, is_origin_admitted, joined_inputs, mutable_ids}
+use Rattle.protocol_spec.specs.Member.Admission.{Admission, assigned_of, is_admitted, is_free, is_origin_admitted, joined_inputs}
 use Rattle.protocol_spec.specs.Member.Sequence.{Sequence}
-use Rattle.protocol_spec.specs.Member.Rounds.{Wanted, found, may_run, present, wanted_by, wants_of}
+use Rattle.protocol_spec.specs.Member.Rounds.{found, present, wanted_by, wants_of}
 use Rattle.protocol_spec.specs.Member.Member.{Member, books}
 use Rattle.world_spec.specs.Setting.{Setting}
 use Rattle.world_spec.specs.World.{Seat, member_in}
 use Rattle.world_spec.specs.Run.{world_after}
 use Rattle.world_spec.specs.Assumptions.{IsHonestRun, all_delivered}
 use Rattle.safety_law.proofs.Apart.{accepted, none-each, none-found}
-use Rattle.safety_law.proofs.Once.{digest-same, each-has, equal, has-push}
+use Rattle.safety_law.proofs.Once.{digest-same, each-has, has-push}
 use Rattle.sequence_law.proofs.Reading.{has-zip}
 use Rattle.agreement_law.specs.Agreed.{IsHeldAsGiven}
 use Rattle.agreement_law.specs.Explained.{IsExplained}
@@ -44,7 +42,7 @@ use Rattle.agreement_law.proofs.Turned.{has-all}
 use Rattle.agreement_law.proofs.Wants.{from-writer, nobody}
 use Rattle.protocol_spec.specs.Member.Votes.{shared_key}
 use Rattle.final_law.specs.Stated.{IsSettled}
-use Rattle.final_law.proofs.Dropping.{WasDropped, never-dropped, unshared, was-dropped}
+use Rattle.final_law.proofs.Dropping.{never-dropped, unshared, was-dropped}
 use Rattle.final_law.proofs.Knowing.{IsIn, in-known}
 use Rattle.final_law.proofs.Waiting.{IsIdle, nothing-free}
 
@@ -142,7 +140,7 @@ module _ (s : Setting) (events : List Event) (honest : IsHonestRun s events) (n 
         let given = each-has (IsHeldAsGiven s.rules (all_delivered s events) m.epoch) admission.pending k (stocked s events n seat at).supplied.pending waits in
         let alike = given-alike s events honest m.epoch m.epoch k.digest h.digest k.cert h.cert given (held-given h there) same in
         let free = free-without s.rules.writers admission k (subst (λ (t : Transaction). has_shared_input t ≡ false) (sym alike.0) none)
-            (λ d o. origin-taken d (subst (λ (ds : List (Option Digest)). Has ds d) alike.1 o)) in
+        (λ d o. origin-taken d (subst (λ (ds : List (Option Digest)). Has ds d) alike.1 o)) in
         let idle_is = not-found (is_free s.rules.writers admission) admission.pending k idle waits in
         cc
 

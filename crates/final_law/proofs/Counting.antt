@@ -26,7 +26,7 @@ use Rattle.world_spec.specs.Setting.{Setting}
 use Rattle.world_spec.specs.World.{Seat, World, new_world, said_by, member_in, is_honest}
 use Rattle.world_spec.specs.Step.{happens}
 use Rattle.world_spec.specs.Run.{run, world_after}
-use Rattle.world_spec.specs.Assumptions.{calls_of, read_list, entry_ends, ends_read, delivered_ends, all_of, IsStated, IsUnforgedEnd, NoForgery}
+use Rattle.world_spec.specs.Assumptions.{calls_of, read_list, entry_ends, ends_read, delivered_ends, all_of, IsUnforgedEnd, NoForgery}
 use Rattle.safety_law.proofs.InWorld.{in_world_given}
 use Rattle.safety_law.proofs.Apart.{state-push}
 use Rattle.safety_law.proofs.Backed.{has-either}

@@ -1,7 +1,7 @@
 -- What is dropped was delivered and is dropped for a cause; a valid certificate without shared inputs has none.
-use Rattle.std.proofs.Common.{inl, inr, refl, sym, subst, ap, arith}
+use Rattle.std.proofs.Common.{inl, inr, refl, sym, subst, arith}
 use Rattle.std.proofs.lemmas.Bool.{eq-eqb, ltb-false, lt-leb}
-use Rattle.std.specs.Prelude.{◌≡◌, ◌⊎◌, ◌<◌, ◌≤◌, ◌-◌, ℕ, zero, suc, max, Bool, true, false, cond, not, nat_lt, nat_le, ◌||◌, ◌==◌, List, [], ◌∷◌, ◌++◌, filter, find, flat_map, fold, length, map, slice_get, zip, Option, Some, None}
+use Rattle.std.specs.Prelude.{◌≡◌, ◌⊎◌, ◌≤◌, ◌-◌, ℕ, zero, suc, max, Bool, true, false, cond, nat_lt, nat_le, ◌==◌, List, [], ◌∷◌, ◌++◌, filter, find, flat_map, fold, length, map, slice_get, Option, Some, None}
 use Rattle.std.specs.List.{list_any}
 use Rattle.digest_core.specs.declared.Digest.{Digest}
 use Rattle.chain_types.specs.declared.objects.Object.{Object}
@@ -33,7 +33,7 @@ use Rattle.safety_law.proofs.Once.{has-push}
 use Rattle.sequence_law.proofs.Reading.{has-zip}
 use Rattle.agreement_law.specs.Agreed.{IsHeldAsGiven}
 use Rattle.agreement_law.proofs.Prefixes.{IsSee, due-see}
-use Rattle.agreement_law.proofs.Supply.{Delivers, IsStocked, IsSupplied, Stocked, after-stocked, delivers-run, none-stocked}
+use Rattle.agreement_law.proofs.Supply.{Delivers, IsSupplied, Stocked, after-stocked, delivers-run, none-stocked}
 
 -- ---- what an entry takes was given
 
@@ -214,8 +214,8 @@ module _ (r : Rules) (opening : List Object) (earlier : List Admitted) (c : Cert
   unfolding lamport_version
   low =
       let greatest = greatest-low (map (taken_version opening earlier c) (objects_of c.tx)) 0 (version_limit - 2) (omega arith) (λ v h.
-          let i = mapped-has (taken_version opening earlier c) (objects_of c.tx) v h in
-          subst (λ (w : ℕ). w ≤ version_limit - 2) i.2 (taken-low i.0 (unshared c.tx none i.0 i.1) (valid-versions r c valid i.0 i.1))) in
+      let i = mapped-has (taken_version opening earlier c) (objects_of c.tx) v h in
+      subst (λ (w : ℕ). w ≤ version_limit - 2) i.2 (taken-low i.0 (unshared c.tx none i.0 i.1) (valid-versions r c valid i.0 i.1))) in
       lt-leb version_limit (version_at_admission opening earlier c) (omega (arith, greatest))
 
   lacks-none : (i : Input) (d : Option Digest) → is_shared_input i ≡ false → lacks_shared opening (i, d) ≡ false

@@ -1,13 +1,13 @@
 -- At the end of an epoch its cuts hold all that was admitted, and the members whose End was counted are a quorum.
-use Rattle.std.proofs.Common.{refl, sym, subst, ap, arith, ◌∙◌, append-nil}
+use Rattle.std.proofs.Common.{refl, sym, ap, arith, ◌∙◌, append-nil}
 use Rattle.std.proofs.lemmas.List.{length-append, length-drop}
-use Rattle.std.specs.Prelude.{◌≡◌, ◌≤◌, ◌+◌, ℕ, zero, suc, Bool, true, false, cond, List, [], ◌∷◌, ◌++◌, flat_map, find, fold, length, Option, Some, None}
+use Rattle.std.specs.Prelude.{◌≡◌, ◌≤◌, ℕ, zero, suc, Bool, true, false, cond, List, [], ◌∷◌, ◌++◌, flat_map, find, fold, length, Option, Some, None}
 use Rattle.chain_types.specs.declared.objects.Object.{Object}
 use Rattle.answer_types.specs.declared.answers.Held.{Held}
 use Rattle.protocol_spec.specs.Chain.Words.{IsFront}
 use Rattle.protocol_spec.specs.Chain.Committee.{weight, is_quorum}
 use Rattle.protocol_spec.specs.Chain.Certificates.{Rules}
-use Rattle.protocol_spec.specs.Member.Admission.{Admitted, Admission, admit, entered, is_dropped, is_free, passed_mark, since_mark, take_free, taken, taken_as, taken_next}
+use Rattle.protocol_spec.specs.Member.Admission.{Admitted, Admission, entered, is_dropped, is_free, passed_mark, since_mark, take_free, taken, taken_as, taken_next}
 use Rattle.protocol_spec.specs.Member.Sequence.{Cut, Sequence, What, takes, commits, counts, ignores, nothing_seen, what_of, cut_of, last_cut, counted_as, ends_with_member, with_what, with_entry, saw, seen}
 use Rattle.agreement_law.specs.Checkpointed.{admitted_in}
 use Rattle.agreement_law.proofs.Cuts.{cut-seen, flat-append}

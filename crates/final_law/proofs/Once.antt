@@ -1,6 +1,6 @@
 -- No two quorums acknowledged different effects of a transaction, nor in different epochs: an honest member is in both.
-use Rattle.std.proofs.Common.{refl, sym, subst, ap, ◌∙◌, arith}
-use Rattle.std.specs.Prelude.{◌≡◌, ◌<◌, ◌≤◌, ℕ, true, false, List, [], ◌++◌, length, slice_get, Some}
+use Rattle.std.proofs.Common.{sym, subst, ap, ◌∙◌, arith}
+use Rattle.std.specs.Prelude.{◌≡◌, ◌<◌, ◌≤◌, ℕ, true, false, List, [], length, slice_get, Some}
 use Rattle.digest_core.specs.declared.Digest.{Digest}
 use Rattle.chain_types.specs.declared.transactions.Transaction.{Transaction}
 use Rattle.chain_messages.specs.declared.messages.Statement.TheVariants as statement
@@ -43,7 +43,7 @@ module _ (s : Setting) (events : List Event) (run_is : IsHonestRun s events) (m 
       let early = was.held.epoch_is in
       let grows = subst (λ (rs : List Record). (state s.rules s.opening was.front).epoch ≤ (state s.rules s.opening rs).epoch) (sym was.whole) (epoch-grows s.rules s.opening was.back was.front) in
       omega (arith, early, grows)
-  )
+      )
 
   had-at : (epoch : ℕ) (effects : Digest) → WasOnce s seat.records (HasExecuted epoch tx effects) → (l : IsLast s events seat.records epoch) → HasExecuted epoch tx effects (member_in s l.seat)
   had-at epoch effects was l = still-executed s.rules s.opening l.seat.records (every-record s l.front l.member l.seat l.there) was.front
@@ -57,8 +57,7 @@ module _ (s : Setting) (events : List Event) (run_is : IsHonestRun s events) (m 
   unfolding all_delivered
   given-of epoch effects l had =
       let it = (along-split (IsExplained (books (member_in s l.seat))) [] (member_in s l.seat).executed had.of (executions-explained s l.front l.member l.seat l.there) had.there).3 in
-      let g = each-has (IsHeldAsGiven s.rules (all_delivered s l.front) (member_in s l.seat).epoch) (member_in s l.seat).held it.of (every-held s l.front l.member l.seat l.there) it.is_held in
-      (
+      let g = each-has (IsHeldAsGiven s.rules (all_delivered s l.front) (member_in s l.seat).epoch) (member_in s l.seat).held it.of (every-held s l.front l.member l.seat l.there) it.is_held in (
         it.of,
         record {
           digest_is = g.digest_is;

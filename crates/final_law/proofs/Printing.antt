@@ -1,17 +1,16 @@
 -- Where a `final` line says that a transaction is final, the members of the line acknowledged one effects digest of it.
 use Rattle.std.proofs.Common.{inl, inr, refl, sym, subst, ap, ◌∙◌}
 use Rattle.std.proofs.lemmas.Bool.{eqb-true}
-use Rattle.std.specs.Prelude.{◌≡◌, ◌⊎◌, ℕ, Bool, true, false, not, ◌&&◌, ◌==◌, List, [], ◌∷◌, Option, Some, None}
+use Rattle.std.specs.Prelude.{◌≡◌, ℕ, Bool, true, false, not, ◌&&◌, ◌==◌, List, [], ◌∷◌, Option, Some, None}
 use Rattle.digest_core.specs.declared.Digest.{Digest}
 use Rattle.chain_types.specs.Equal.{digest_eq}
 use Rattle.chain_messages.specs.declared.messages.Statement.{Statement}
 use Rattle.chain_messages.specs.declared.messages.Statement.TheVariants as statement
 use Rattle.schedule_text.specs.declared.words.Event.TheVariants as event
-use Rattle.report_text.specs.declared.lines.Line.{Line}
 use Rattle.report_text.specs.declared.lines.Line.TheVariants as line
 use Rattle.report_text.specs.declared.lines.FinalText.{FinalText}
 use Rattle.report_text.specs.declared.lines.FinalText.TheVariants as final_text
-use Rattle.protocol_spec.specs.Chain.Words.{Has, Each, first_of, first_some, where_true}
+use Rattle.protocol_spec.specs.Chain.Words.{Has, first_of, first_some, where_true}
 use Rattle.protocol_spec.specs.Chain.Committee.{is_quorum, is_roll, total_of, weight}
 use Rattle.protocol_spec.proofs.ListLemmas.{and-first, and-second}
 use Rattle.protocol_spec.specs.Member.Checkpoints.{zero_digest}
@@ -20,7 +19,6 @@ use Rattle.world_spec.specs.Names.{made_named}
 use Rattle.world_spec.specs.World.{Made, World, said_by}
 use Rattle.world_spec.specs.Step.{Collected, lacks, short, differ, whole, ack_in, collected, differ_from, differs_among, lacks_where, last_said, too_short, whole_or}
 use Rattle.world_spec.specs.Report.{acks_collected, final_collected, final_lines, lines_of}
-use Rattle.world_spec.specs.Assumptions.{IsFinal}
 use Rattle.safety_law.proofs.Apart.{accepted, none-of}
 use Rattle.safety_law.proofs.Once.{equal}
 use Rattle.safety_law.proofs.Steps.{last-said}

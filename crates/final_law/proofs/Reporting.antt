@@ -1,13 +1,11 @@
 -- Each line of the report that says that a transaction is final comes of a `final` line of the schedule, and holds for good.
-use Rattle.std.proofs.Common.{inl, inr, refl, sym, subst, ap, ◌∙◌}
+use Rattle.std.proofs.Common.{inl, inr, sym, subst, ap, ◌∙◌}
 use Rattle.std.specs.Prelude.{◌≡◌, ◌⊎◌, ℕ, true, List, [], ◌∷◌, ◌++◌, Ok}
-use Rattle.digest_core.specs.declared.Digest.{Digest}
 use Rattle.chain_messages.specs.declared.messages.Statement.TheVariants as statement
 use Rattle.schedule_text.specs.declared.words.Event.{Event}
 use Rattle.schedule_text.specs.declared.words.Event.TheVariants as event
 use Rattle.schedule_text.specs.declared.words.Schedule.{Schedule}
 use Rattle.schedule_text.specs.Schedule.{schedule_of}
-use Rattle.report_text.specs.declared.lines.Line.{Line}
 use Rattle.protocol_spec.specs.Chain.Words.{Each, Has}
 use Rattle.protocol_spec.specs.Chain.Committee.{is_roll}
 use Rattle.world_spec.specs.Setting.{Name, Setting, Trust, setting_of}
@@ -15,7 +13,7 @@ use Rattle.world_spec.specs.World.{World, new_world, said_by}
 use Rattle.world_spec.specs.Step.{happens}
 use Rattle.world_spec.specs.Report.{lines_of}
 use Rattle.world_spec.specs.Run.{report, report_from, report_of, run, world_after}
-use Rattle.world_spec.specs.Assumptions.{IsFinal, IsHonestRun}
+use Rattle.world_spec.specs.Assumptions.{IsHonestRun}
 use Rattle.safety_law.proofs.Backed.{has-either}
 use Rattle.safety_law.proofs.Grown.{statements-grow}
 use Rattle.safety_law.proofs.Once.{each-has}

@@ -1,5 +1,5 @@
 -- The members that a `final` line of a read schedule names ascend and are known.
-use Rattle.std.proofs.Common.{refl, sym, subst, ap, ◌∙◌}
+use Rattle.std.proofs.Common.{refl, subst, ap, ◌∙◌}
 use Rattle.std.specs.Prelude.{◌≡◌, ℕ, Bool, true, false, nat_lt, ◌&&◌, List, [], ◌∷◌, ◌++◌, length, map, Result, Ok, Err}
 use Rattle.std.specs.List.{filter_map}
 use Rattle.schedule_text.specs.declared.cause.Cause.{Cause}
@@ -12,12 +12,11 @@ use Rattle.schedule_text.specs.declared.words.Event.TheVariants as event
 use Rattle.schedule_text.specs.declared.statement.Statement.{Statement}
 use Rattle.schedule_text.specs.declared.statement.Statement.TheVariants as statement
 use Rattle.schedule_text.specs.Agrees.{no_lines}
-use Rattle.schedule_text.specs.Known.{Check, add_line, after_check, also, ascends, check, collect_check, each_check, event_check, member_check, role_of, roles, tx_check}
+use Rattle.schedule_text.specs.Known.{Check, add_line, after_check, also, ascends, check, each_check, event_check, member_check, role_of, roles, tx_check}
 use Rattle.schedule_text.specs.Schedule.{schedule_of}
 use Rattle.protocol_spec.specs.Chain.Committee.{all_known, is_roll}
 use Rattle.protocol_spec.specs.Chain.Committee as committee
 use Rattle.world_spec.specs.Setting.{Name, Trust, setting_of, stakes_of}
-use Rattle.text_law.specs.Canonical.{statements}
 use Rattle.text_law.specs.Sayable.{added, then_read}
 use Rattle.text_law.proofs.SaidWhole.{text_said}
 

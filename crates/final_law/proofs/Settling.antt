@@ -1,11 +1,10 @@
 -- Along an epoch what was executed stays executed, and a member that closed and whose certificates are all in the
 -- sequence stays so: what it holds later comes by the sequence.
 use Rattle.std.proofs.Common.{inl, inr, refl, sym, subst, ap, ◌∙◌, arith, append_assoc, append-nil}
-use Rattle.std.specs.Prelude.{◌≡◌, ◌⊎◌, ◌≤◌, ◌+◌, ℕ, Bool, true, false, cond, not, nat_le, ◌==◌, List, [], ◌∷◌, ◌++◌, Option, Some, None, option_map, is_some, Result, Ok, Err}
+use Rattle.std.specs.Prelude.{◌≡◌, ◌⊎◌, ◌≤◌, ℕ, Bool, true, false, cond, not, nat_le, ◌==◌, List, [], ◌∷◌, ◌++◌, Option, Some, None, option_map, is_some, Result, Ok, Err}
 use Rattle.wire_bcs.specs.declared.fault.WireFault.{WireFault}
 use Rattle.digest_core.specs.declared.Digest.{Digest}
 use Rattle.chain_types.specs.declared.objects.Object.{Object}
-use Rattle.chain_types.specs.declared.refusals.CertRefusal.{CertRefusal}
 use Rattle.chain_types.specs.Digests.{transaction_digest}
 use Rattle.chain_messages.specs.declared.messages.Certificate.{Certificate}
 use Rattle.journal_core.specs.declared.records.Record.{Record}
@@ -16,7 +15,6 @@ use Rattle.answer_types.specs.declared.refusals.HoldRefusal.TheVariants as no_ho
 use Rattle.protocol_spec.specs.Chain.Words.{Has, Along, IsFront, first_some, where_true, unless_refused, refused_or}
 use Rattle.protocol_spec.specs.Chain.Certificates.{Rules, read_certificate, cert_refusal}
 use Rattle.protocol_spec.specs.Member.Versions.{Execution}
-use Rattle.protocol_spec.specs.Member.Admission.{is_known}
 use Rattle.protocol_spec.specs.Member.Sequence.{What, takes, commits, counts, ignores, what_of, held_as, saw}
 use Rattle.protocol_spec.specs.Member.Rounds.{rounds}
 use Rattle.protocol_spec.specs.Member.Checkpoints.{held_of}

@@ -1,12 +1,11 @@
 -- What a quorum acknowledged stands in a checkpoint of its epoch at each member that left it: an honest member is among
 -- those who acknowledged it and among those whose End was counted.
-use Rattle.std.proofs.Common.{inl, inr, refl, sym, subst, ap, ◌∙◌, arith, append_assoc, append-nil}
+use Rattle.std.proofs.Common.{inl, inr, refl, sym, subst, ap, ◌∙◌, arith, append_assoc}
 use Rattle.std.proofs.lemmas.Bool.{cond-true, eqb-true}
-use Rattle.std.specs.Prelude.{◌≡◌, ◌⊎◌, ◌<◌, ◌≤◌, ℕ, zero, suc, Bool, true, false, cond, ◌||◌, ◌==◌, List, [], ◌∷◌, ◌++◌, flat_map, length, map, slice_get, Option, Some, None, is_some}
+use Rattle.std.specs.Prelude.{◌≡◌, ◌⊎◌, ◌<◌, ◌≤◌, ℕ, zero, suc, Bool, true, false, ◌==◌, List, [], ◌∷◌, ◌++◌, flat_map, length, map, slice_get, Option, Some, None, is_some}
 use Rattle.std.specs.List.{list_all}
 use Rattle.digest_core.specs.declared.Digest.{Digest}
 use Rattle.chain_types.specs.Equal.{digest_eq}
-use Rattle.chain_messages.specs.declared.messages.Statement.{Statement}
 use Rattle.chain_messages.specs.declared.messages.Statement.TheVariants as statement
 use Rattle.chain_messages.specs.declared.messages.Entry.{Entry}
 use Rattle.chain_messages.specs.Messages as messages
@@ -17,7 +16,7 @@ use Rattle.answer_types.specs.declared.pieces.Executed.{Executed}
 use Rattle.answer_types.specs.declared.answers.Held.{Held}
 use Rattle.journal_core.specs.declared.records.Record.{Record}
 use Rattle.schedule_text.specs.declared.words.Event.{Event}
-use Rattle.protocol_spec.specs.Chain.Words.{Has, Each, IsFront}
+use Rattle.protocol_spec.specs.Chain.Words.{Has, IsFront}
 use Rattle.protocol_spec.specs.Chain.Committee.{is_among, is_quorum, weight}
 use Rattle.protocol_spec.specs.Chain.Certificates.{Rules}
 use Rattle.protocol_spec.proofs.ListLemmas.{and-first, find-test}
@@ -28,10 +27,9 @@ use Rattle.protocol_spec.specs.Member.Checkpoints.{chained, checkpoint_behind, e
 use Rattle.protocol_spec.specs.Member.Member.{Member, built, state}
 use Rattle.schedule_text.specs.declared.words.Setup.{Setup}
 use Rattle.world_spec.specs.Setting.{Setting, Trust, setting_of}
-use Rattle.world_spec.specs.World.{Seat, World, new_seat, new_world, entries_at, honest_seat, is_honest, member_in, said_by}
+use Rattle.world_spec.specs.World.{Seat, new_seat, new_world, entries_at, honest_seat, is_honest, member_in, said_by}
 use Rattle.world_spec.specs.Run.{world_after}
 use Rattle.world_spec.specs.Assumptions.{IsFinal, IsHonestRun, is_faulty_in}
-use Rattle.safety_law.proofs.Backed.{has-either}
 use Rattle.safety_law.proofs.Fronts.{honest-front}
 use Rattle.safety_law.proofs.Grown.{grown-run, statements-grow}
 use Rattle.safety_law.proofs.Journals.{every-record}
@@ -42,7 +40,6 @@ use Rattle.safety_law.proofs.Totals.{has-mapped}
 use Rattle.safety_law.proofs.Voted.{seat-of}
 use Rattle.sequence_law.specs.Orderly.{AreApart}
 use Rattle.agreement_law.specs.Agreed.{IsTaken}
-use Rattle.agreement_law.specs.AgreedEpochs.{Agree}
 use Rattle.agreement_law.specs.Checkpointed.{admitted_in}
 use Rattle.agreement_law.proofs.AgreedEpochs.{members-agree}
 use Rattle.agreement_law.proofs.Ended.{seen-ended}

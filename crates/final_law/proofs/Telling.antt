@@ -1,14 +1,11 @@
 -- Only a `final` line of a schedule gives a line of the report that says so.
-use Rattle.std.proofs.Common.{inl, inr, refl, subst}
-use Rattle.std.specs.Prelude.{◌≡◌, ◌⊎◌, ℕ, zero, suc, min, Bool, true, false, List, [], ◌∷◌, ◌++◌, length, map, slice_get, Option, Some, None, Result, Ok, Err}
+use Rattle.std.proofs.Common.{inl, inr, refl}
+use Rattle.std.specs.Prelude.{◌≡◌, ◌⊎◌, ℕ, zero, suc, min, Bool, true, false, List, [], ◌∷◌, ◌++◌, map, slice_get, Option, Some, None, Result, Ok, Err}
 use Rattle.digest_core.specs.declared.Digest.{Digest}
-use Rattle.chain_types.specs.declared.objects.Object.{Object}
 use Rattle.chain_types.specs.declared.objects.ObjectKey.{ObjectKey}
 use Rattle.checkpoint_core.specs.declared.checkpoints.Checkpoint.{Checkpoint}
-use Rattle.effects_core.specs.declared.effects.Effects.{Effects}
 use Rattle.effects_core.specs.declared.effects.Status.{Status}
 use Rattle.effects_core.specs.declared.effects.Status.TheVariants as status
-use Rattle.answer_types.specs.declared.answers.Left.{Left}
 use Rattle.answer_types.specs.declared.answers.Ran.{Ran}
 use Rattle.answer_types.specs.declared.answers.Seen.{Seen}
 use Rattle.answer_types.specs.declared.refusals.RunRefusal.{RunRefusal}
@@ -25,8 +22,8 @@ use Rattle.protocol_spec.specs.Chain.Words.{Each}
 use Rattle.protocol_spec.specs.Member.Member.{Fork, Member, fork_of, live_objects}
 use Rattle.protocol_spec.specs.Member.Calls.{Call, votes, holds, sees, runs, closes, ends, turns, acks, run_answer, see_answer, turn_answer}
 use Rattle.world_spec.specs.Setting.{Name, Setting}
-use Rattle.world_spec.specs.Names.{cert_named, made_named, shown_order, tx_name}
-use Rattle.world_spec.specs.World.{Made, Reached, Seat, World, finds_down, stops, answers, called_if, member_at, next_call, reached}
+use Rattle.world_spec.specs.Names.{made_named, shown_order, tx_name}
+use Rattle.world_spec.specs.World.{Made, Reached, World, finds_down, stops, answers, called_if, member_at, next_call, reached}
 use Rattle.world_spec.specs.Step.{entries_left}
 use Rattle.world_spec.specs.Report.{Lines, ack_lines, and_lines, call_lines, cert_lines, checkpoint_line, checkpoint_lines, effects_line, entries_lines, entry_lines, entry_reached, fvote_lines, is_seat_up, left_line, left_line_of, lines_of, none_taken, object_line, run_answered, run_reached, see_halted, see_up, show_up, status_line, turn_answered, turn_reached, vote_lines}
 use Rattle.safety_law.proofs.Forks.{each-join}
@@ -129,7 +126,7 @@ module _ (s : Setting) where
   other-run w m (Ok ran) = (
     refl,
     each-join IsOther (map (effects_line w) ran.executed) (map (left_line s w) ran.left ++ checkpoint_lines w ran.built) (each-mapped (effects_line w) ran.executed (λ e. other-status (tx_name w e.tx) e.version e.gas e.status))
-    (each-join IsOther (map (left_line s w) ran.left) (checkpoint_lines w ran.built) (each-mapped (left_line s w) ran.left (λ l. other-left w l.tx l.key)) (other-checkpoints s w ran.built)),
+        (each-join IsOther (map (left_line s w) ran.left) (checkpoint_lines w ran.built) (each-mapped (left_line s w) ran.left (λ l. other-left w l.tx l.key)) (other-checkpoints s w ran.built)),
   )
   other-run w m (Err no_run.Down) = (refl, tt)
   other-run w m (Err (no_run.Halted first second)) = (refl, tt)

@@ -1,8 +1,7 @@
 -- Behind every entry no pending certificate is free: what is free is taken, one after the other, and each that is taken leaves the pending ones.
-use Rattle.std.proofs.Common.{inl, inr, refl, sym, subst, ap, arith}
-use Rattle.std.specs.Prelude.{◌≡◌, ◌≤◌, ◌<◌, ℕ, zero, suc, Bool, true, false, cond, not, List, [], ◌∷◌, ◌++◌, filter, find, fold, length, Option, Some, None}
+use Rattle.std.proofs.Common.{inl, inr, refl, ap, arith}
+use Rattle.std.specs.Prelude.{◌≡◌, ◌≤◌, ◌<◌, ℕ, zero, suc, Bool, true, false, cond, List, [], ◌∷◌, ◌++◌, filter, find, fold, length, Option, Some, None}
 use Rattle.chain_types.specs.declared.objects.Object.{Object}
-use Rattle.chain_types.specs.Equal.{digest_eq}
 use Rattle.answer_types.specs.declared.answers.Held.{Held}
 use Rattle.protocol_spec.specs.Chain.Words.{Has}
 use Rattle.protocol_spec.specs.Chain.Certificates.{Rules}

@@ -1,6 +1,6 @@
 -- What holds of the sequence of an epoch as a member has seen it, and at the epoch's end. Source: Sui Lutris (a quorum
 -- ends an epoch); this profile (admission, and the cuts of checkpoints).
-use Rattle.std.specs.Prelude.{◌≡◌, ℕ, true, List, find, flat_map, slice_get, Option, Some, None}
+use Rattle.std.specs.Prelude.{◌≡◌, ℕ, true, List, find, flat_map, slice_get, Some, None}
 use Rattle.chain_types.specs.declared.objects.Object.{Object}
 use Rattle.chain_messages.specs.declared.messages.Statement.TheVariants as statement
 use Rattle.schedule_text.specs.declared.words.Event.{Event}
