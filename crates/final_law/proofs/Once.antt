@@ -1,6 +1,6 @@
 -- No two quorums acknowledged different effects of a transaction, nor in different epochs: an honest member is in both.
 use Rattle.std.proofs.Common.{sym, subst, ap, ◌∙◌, arith}
-use Rattle.std.specs.Prelude.{◌≡◌, ◌<◌, ◌≤◌, ℕ, true, false, List, [], length, slice_get, Some}
+use Rattle.std.specs.Prelude.{◌≡◌, ◌<◌, ◌≤◌, ℕ, true, false, List, [], ◌++◌, length, slice_get, Some}
 use Rattle.digest_core.specs.declared.Digest.{Digest}
 use Rattle.chain_types.specs.declared.transactions.Transaction.{Transaction}
 use Rattle.chain_messages.specs.declared.messages.Statement.TheVariants as statement
@@ -23,6 +23,7 @@ use Rattle.safety_law.proofs.Journals.{every-record}
 use Rattle.safety_law.proofs.Meeting.{two_meet}
 use Rattle.safety_law.proofs.Once.{each-has}
 use Rattle.safety_law.proofs.Voted.{seat-of}
+use Rattle.sequence_law.specs.Orderly.{AreApart}
 use Rattle.agreement_law.specs.Agreed.{IsHeldAsGiven}
 use Rattle.agreement_law.specs.Explained.{IsExplained}
 use Rattle.agreement_law.proofs.Executed.{one-gave}
@@ -33,7 +34,7 @@ use Rattle.agreement_law.proofs.Supply.{every-held}
 use Rattle.final_law.specs.Stated.{HasExecuted, WasOnce}
 use Rattle.final_law.proofs.Saying.{every-ack}
 use Rattle.final_law.proofs.Settling.{still-executed}
-use Rattle.final_law.proofs.Standing.{among-has, honest-after}
+use Rattle.final_law.proofs.Standing.{among-has, are-alike, honest-after}
 use Rattle.final_law.proofs.Turning.{IsLast, epoch-grows, last-moment}
 
 module _ (s : Setting) (events : List Event) (run_is : IsHonestRun s events) (m : ℕ) (seat : Seat) (at : slice_get (world_after s events).seats m ≡ Some seat) (tx : Digest) where
@@ -82,6 +83,23 @@ module _ (s : Setting) (events : List Event) (run_is : IsHonestRun s events) (m 
       let b = had-at epoch others two l in
       let honest = honest-front s l.front l.back (subst (IsHonestRun s) (sym l.whole) run_is) in
       sym a.gave ∙ ap (λ (g : Executed). digest_of_effects g.effects) (one-gave s l.front honest l.member l.seat l.there a.of b.of a.there b.there (a.named ∙ sym b.named)) ∙ b.gave
+
+-- an honest member acknowledged it, and whoever executed it agrees with that member
+pub final-agreed : (s : Setting) (events : List Event) → IsHonestRun s events → AreApart s.opening
+    → (epoch : ℕ) (tx effects : Digest) (members : List ℕ) → IsFinal s (world_after s events) epoch tx effects members
+    → (front back : List Event) → events ≡ front ++ back → (m : ℕ) (seat : Seat) → slice_get (world_after s front).seats m ≡ Some seat
+    → (others : Digest) → HasExecuted epoch tx others (member_in s seat) → others ≡ effects
+final-agreed s events run_is distinct epoch tx effects members final front back split m seat at others had =
+    go (two_meet s.rules.stakes (is_among members) (is_among members) (is_faulty_in s.honest) final.quorum final.quorum run_is.few_faulty)
+  where
+    go : (k : ℕ) × (k < length s.rules.stakes) × (is_among members k ≡ true) × (is_among members k ≡ true) × (is_faulty_in s.honest k ≡ false) → others ≡ effects
+    go (k, low, first, second, sound) =
+        let there = seat-of s events run_is k (honest-after s events k sound) in
+        let acked = every-ack s events k there.0 there.1 there.2 epoch tx effects (each-has (λ (n : ℕ). Has (world_after s events).said (said_by n (statement.Ack epoch tx effects))) members k final.said (among-has members k first)) in
+        let l = last-of s events run_is k there.0 there.1 tx epoch effects acked in
+        let also = had-at s events run_is k there.0 there.1 tx epoch effects acked l in
+        let alike = are-alike s events run_is distinct front l.front back l.back (sym split) l.whole m l.member seat l.seat at l.there (had.epoch_is ∙ sym also.epoch_is) in
+        sym had.gave ∙ ap (λ (g : Executed). digest_of_effects g.effects) (alike.executions had.of also.of had.there also.there (had.named ∙ sym also.named)) ∙ also.gave
 
 pub final-once : (s : Setting) (events : List Event) → IsHonestRun s events → (tx : Digest)
     → (epoch other : ℕ) (effects others : Digest) (members peers : List ℕ) → IsFinal s (world_after s events) epoch tx effects members → IsFinal s (world_after s events) other tx others peers

@@ -205,21 +205,21 @@ module _ (s : Setting) (events : List Event) (run_is : IsHonestRun s events) (ep
 module _ (s : Setting) (events : List Event) (run_is : IsHonestRun s events) (distinct : AreApart s.opening)
     (f g back rest : List Event) (first : f ++ back ≡ events) (second : g ++ rest ≡ events)
     (m n : ℕ) (a b : Seat) (at : slice_get (world_after s f).seats m ≡ Some a) (by : slice_get (world_after s g).seats n ≡ Some b) (epoch : (member_in s a).epoch ≡ (member_in s b).epoch) where
-  abbrev p : Member
+  abbrev pub p : Member
   p = member_in s a
 
-  abbrev q : Member
+  abbrev pub q : Member
   q = member_in s b
 
   -- in whichever order they come
-  record AreAlike : Type 0 where
-    openings : p.opening ≡ q.opening
-    executions : (x y : Execution) → Has p.executed x → Has q.executed y → x.digest ≡ y.digest → x.gave ≡ y.gave
+  pub record AreAlike : Type 0 where
+    pub openings : p.opening ≡ q.opening
+    pub executions : (x y : Execution) → Has p.executed x → Has q.executed y → x.digest ≡ y.digest → x.gave ≡ y.gave
 
   honest-to : (h more : List Event) → h ++ more ≡ events → IsHonestRun s h
   honest-to h more e = honest-front s h more (subst (IsHonestRun s) (sym e) run_is)
 
-  are-alike : AreAlike
+  pub are-alike : AreAlike
   are-alike = go (either-front f g back rest (first ∙ sym second))
     where
       go : IsFront f g ⊎ IsFront g f → AreAlike

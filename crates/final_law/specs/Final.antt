@@ -13,6 +13,7 @@ use Rattle.world_spec.specs.World.{Seat, member_in}
 use Rattle.world_spec.specs.Run.{world_after}
 use Rattle.world_spec.specs.Assumptions.{IsFinal, IsHonestRun}
 use Rattle.sequence_law.specs.Orderly.{AreApart}
+use Rattle.final_law.specs.Stated.{HasExecuted}
 
 -- one of these checkpoints, of this epoch, has the transaction, with these effects, and none of the epoch has it with others
 pub record StandsIn (checkpoints : List Checkpoint) (epoch : ℕ) (tx effects : Digest) : Type 0 where
@@ -38,6 +39,13 @@ abbrev pub FinalStandsInSchedules : Type 0
 FinalStandsInSchedules = (trust : Trust) (lines : List Setup) (events : List Event) → IsHonestRun (setting_of trust lines) events
     → (epoch : ℕ) (tx effects : Digest) (members : List ℕ) → IsFinal (setting_of trust lines) (world_after (setting_of trust lines) events) epoch tx effects members
     → StandsForGood (setting_of trust lines) events epoch tx effects
+
+-- whoever has executed the transaction in that epoch has it with these effects, at whatever moment of the run
+abbrev pub FinalIsAgreed : Type 0
+FinalIsAgreed = (s : Setting) (events : List Event) → IsHonestRun s events → AreApart s.opening
+    → (epoch : ℕ) (tx effects : Digest) (members : List ℕ) → IsFinal s (world_after s events) epoch tx effects members
+    → (front back : List Event) → events ≡ front ++ back → (m : ℕ) (seat : Seat) → slice_get (world_after s front).seats m ≡ Some seat
+    → (others : Digest) → HasExecuted epoch tx others (member_in s seat) → others ≡ effects
 
 -- no two quorums acknowledged different effects of a transaction, nor in different epochs
 abbrev pub FinalOnce : Type 0
