@@ -30,6 +30,7 @@ use Rattle.world_spec.specs.Assumptions.{all_delivered, entry_certificates, read
 use Rattle.safety_law.proofs.InWorld.{in_world_given}
 use Rattle.safety_law.proofs.Apart.{none-each, none-map, state-push}
 use Rattle.safety_law.proofs.Once.{has-push}
+use Rattle.safety_law.proofs.Totals.{has-mapped}
 use Rattle.sequence_law.proofs.Reading.{has-zip}
 use Rattle.agreement_law.specs.Agreed.{IsHeldAsGiven}
 use Rattle.agreement_law.proofs.Prefixes.{IsSee, due-see}
@@ -195,11 +196,6 @@ greatest-low : (vs : List ℕ) (a n : ℕ) → a ≤ n → ((v : ℕ) → Has vs
 greatest-low [] a n low each = low
 greatest-low (v ∷ vs) a n low each = let one = each v (inl refl) in greatest-low vs (max a v) n (omega (arith, low, one)) (λ w h. each w (inr h))
 
-mapped-has : {A B : Type 0} (f : A → B) (xs : List A) (y : B) → Has (map f xs) y → (x : A) × Has xs x × (f x ≡ y)
-mapped-has f [] y h = absurd h
-mapped-has f (x ∷ xs) y (inl e) = (x, inl refl, e)
-mapped-has f (x ∷ xs) y (inr h) = let z = mapped-has f xs y h in (z.0, inr z.1, z.2)
-
 module _ (r : Rules) (opening : List Object) (earlier : List Admitted) (c : Certificate) (valid : cert_refusal r c ≡ None) (none : has_shared_input c.tx ≡ false) where
   named-low : (v : ℕ) → is_bad_version v ≡ false → v ≤ version_limit - 2
   named-low v e = ltb-false (version_limit - 2) v (or-second (v == 0) (nat_lt (version_limit - 2) v) e)
@@ -214,7 +210,7 @@ module _ (r : Rules) (opening : List Object) (earlier : List Admitted) (c : Cert
   unfolding lamport_version
   low =
       let greatest = greatest-low (map (taken_version opening earlier c) (objects_of c.tx)) 0 (version_limit - 2) (omega arith) (λ v h.
-      let i = mapped-has (taken_version opening earlier c) (objects_of c.tx) v h in
+      let i = has-mapped (taken_version opening earlier c) (objects_of c.tx) v h in
       subst (λ (w : ℕ). w ≤ version_limit - 2) i.2 (taken-low i.0 (unshared c.tx none i.0 i.1) (valid-versions r c valid i.0 i.1))) in
       lt-leb version_limit (version_at_admission opening earlier c) (omega (arith, greatest))
 

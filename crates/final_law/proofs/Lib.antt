@@ -2,6 +2,7 @@ pub mod Waiting
 pub mod Ending
 pub mod Counting
 pub mod Saying
+pub mod Along
 pub mod Turning
 pub mod Knowing
 pub mod Settling

@@ -35,7 +35,8 @@ use Rattle.final_law.specs.Stated.{HasExecuted, WasOnce}
 use Rattle.final_law.proofs.Saying.{every-ack}
 use Rattle.final_law.proofs.Settling.{still-executed}
 use Rattle.final_law.proofs.Standing.{among-has, are-alike, honest-after}
-use Rattle.final_law.proofs.Turning.{IsLast, epoch-grows, last-moment}
+use Rattle.final_law.proofs.Along.{epoch-grows}
+use Rattle.final_law.proofs.Turning.{IsLast, last-moment}
 
 module _ (s : Setting) (events : List Event) (run_is : IsHonestRun s events) (m : ℕ) (seat : Seat) (at : slice_get (world_after s events).seats m ≡ Some seat) (tx : Digest) where
   -- at the last moment of the epoch the member had executed it

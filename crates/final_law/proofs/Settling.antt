@@ -26,7 +26,7 @@ use Rattle.safety_law.proofs.Once.{has-left, has-push}
 use Rattle.agreement_law.proofs.Appends.{due-appends}
 use Rattle.agreement_law.proofs.Prefixes.{IsSee, due-see}
 use Rattle.final_law.specs.Stated.{HasExecuted, IsSettled}
-use Rattle.final_law.proofs.Turning.{epoch-grows}
+use Rattle.final_law.proofs.Along.{epoch-grows}
 use Rattle.final_law.proofs.Knowing.{IsIn, in-known, known-in, in-saw, in-taken}
 
 -- ---- a closed member takes no certificate but from the sequence

@@ -58,7 +58,8 @@ use Rattle.final_law.proofs.Counting.{counted-stated}
 use Rattle.final_law.proofs.Ending.{ends-whole}
 use Rattle.final_law.proofs.Saying.{every-ack, every-end}
 use Rattle.final_law.proofs.Settling.{still-executed, still-settled}
-use Rattle.final_law.proofs.Turning.{HasLeft, IsLast, IsOfCuts, PastIsBefore, built-from, chained-more, epoch-grows, last-moment, left-epoch, past-before}
+use Rattle.final_law.proofs.Along.{IsOfCuts, PastIsBefore, built-from, chained-more, epoch-grows, past-before}
+use Rattle.final_law.proofs.Turning.{HasLeft, IsLast, last-moment, left-epoch}
 
 -- ---- lists
 

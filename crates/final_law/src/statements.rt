@@ -16,8 +16,8 @@ pub fn every_end_was_settled()
     ensures { EveryEndWasSettled }
 {}
 
-/// Under the run assumptions, all that such a member has executed it has admitted: so no execution of it is in no
-/// checkpoint.
+/// Under the run assumptions, all that such a member has executed it has admitted: so nothing that it executed is lost
+/// when the epoch ends.
 pub fn executed_is_admitted()
     ensures { ExecutedIsAdmitted }
 {}
