@@ -1,0 +1,4 @@
+pub mod Ended
+pub mod Stated
+pub mod Final
+pub mod Printed
