@@ -20,3 +20,7 @@ pub mod SeeTexts
 pub mod Nexts
 pub mod Ordered
 mod First
+pub mod Silent
+pub mod Saying
+pub mod Acking
+pub mod SeeLines

@@ -13,9 +13,12 @@
 //! record is kept or lost, as was said, and the member is down until it restarts from the records of its keeper.
 #![tactic(auto)]
 
+mod acks;
+mod asking;
 mod calls;
 mod certs;
 mod closes;
+mod ends;
 mod epoch_requests;
 mod forms;
 mod opening;

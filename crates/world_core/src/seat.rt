@@ -1,8 +1,10 @@
 //! One member, its stop included.
 
-ghost use Rattle.std.specs.Prelude.{◌≡◌, ◌<◌, ◌≤◌, IfOk, IsErrOf, None, Some, if◌then◌else◌, option_copied};
+ghost use Rattle.std.specs.Prelude.{◌≡◌, ◌<◌, ◌≤◌, IfOk, IsErrOf, None, Some, if◌then◌else◌, option_and_then, option_copied};
 ghost use Rattle.outside.specs.Causes.{Rose};
+ghost use Rattle.scene_spec.specs.Seats.{Seat as TheSeat};
 ghost use Rattle.scene_spec.specs.Terms.{rules_for};
+ghost use Rattle.world_spec.specs.Step.{executed_digest};
 ghost use Rattle.scene_spec.specs.Posts.{arming, reached_post, record_left};
 ghost use Rattle.scene_spec.specs.Steps.{held_by};
 ghost use Rattle.world_core.specs.declared.reply.SeatFault.TheVariants as faults;
@@ -20,6 +22,7 @@ use quorum_core::Sealer;
 use std::alloc::Global;
 use std::marker::Model;
 use validator_core::Validator;
+use wire_bcs::OutOfMemory;
 
 /// A member: whether it is honest, the member where it is up, and an armed stop, which keeps the next record or
 /// loses it. Contracts see the definition's post.
@@ -97,6 +100,20 @@ impl Seat {
         match &self.validator {
             Some(validator) => validator.held_digest(key),
             None => None,
+        }
+    }
+
+    /// The digest of the effects that the member has of a transaction, where it is honest, up and executed it in its
+    /// present epoch.
+    pub(crate) fn executed_digest(&self, tx: &Digest) -> Result<Option<Digest>, OutOfMemory>
+        ensures { IfOk result (λ digest. digest ≡ (if self.now.honest then option_and_then (λ (seat : TheSeat). executed_digest tx.now seat.state) self.now.standing else None)) }
+    {
+        if !self.honest {
+            return Ok(None);
+        }
+        match &self.validator {
+            Some(validator) => validator.executed_digest(tx),
+            None => Ok(None),
         }
     }
 

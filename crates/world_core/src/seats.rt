@@ -4,23 +4,27 @@ ghost use Rattle.std.specs.Prelude.{◌≡◌, ◌≤◌, ℕ, [], IfOk, IsErrOf
 ghost use Rattle.outside.specs.Causes.{Rose};
 ghost use Rattle.outside.specs.Lists.{KeepsJournals};
 ghost use Rattle.scene_spec.specs.Terms.{rules_for};
-ghost use Rattle.protocol_spec.specs.Member.Calls.{closes, holds, runs, sees, votes};
+ghost use Rattle.protocol_spec.specs.Member.Calls.{ack_answer, closes, end_answer, holds, runs, sees, votes};
 ghost use Rattle.scene_spec.specs.Starts.{AreApart};
 ghost use Rattle.scene_spec.specs.Posts.{armed_at, new_posts, posts_behind, reached_in, record_left};
-ghost use Rattle.scene_spec.specs.Steps.{held_in, standing_at};
+ghost use Rattle.scene_spec.specs.Steps.{held_in, says_in, seat_state, standing_at};
 ghost use Rattle.world_core.specs.declared.reply.SeatFault.TheVariants as faults;
 ghost use Rattle.world_core.specs.declared.reply.RestartFault.TheVariants as restart_faults;
-ghost use Rattle.world_core.specs.Crews.{PostsAfter, fallen_at, honest_at, honest_flags, shown_of};
+ghost use Rattle.world_core.specs.Crews.{IsPlaced, PostsAfter, fallen_at, honest_at, honest_flags, shown_of};
 ghost use Rattle.world_core.specs.Replies.{Leaves, Replies, SaysClose, SaysHold, SaysRun, SaysSee, SaysVote};
+ghost use Rattle.world_lines.specs.Answers.{stated_as};
+ghost use Rattle.world_spec.specs.Step.{executed_digest};
 ghost use Rattle.world_core.specs.SeatRestarts.{HasBadRecord, Restarted};
 
+use crate::asking::{ask_ack, ask_end};
 use crate::epoch_requests::{CloseRequest, SeeRequest};
 use crate::reply::{Reply, RestartFault, SeatFault};
 use crate::requests::{Asks, HoldRequest, RunRequest, VoteRequest};
 use crate::seat::Seat;
 use crate::starts::{records_of, start_new};
 use crate::terms::Terms;
-use answer_types::{SeeRefusal, Seen};
+use answer_types::{AckRefusal, EndRefusal, SeeRefusal, Seen};
+use chain_messages::Sealed;
 use chain_types::{Object, ObjectKey};
 use digest_core::Digest;
 use outside::{Keeper, OutFault};
@@ -291,6 +295,49 @@ impl Seats {
         self.call(alloc, keeper, sealer, member, &CloseRequest)
     }
 
+    /// What a member says of its End (epoch change of Sui Lutris); none where it is down or not there. It keeps no
+    /// record.
+    #[tactic(auto, using(crate::proofs::Saying::end_asked, crate::proofs::Saying::asked_none))]
+    pub fn end<S: Sealer>(
+        &self,
+        sealer: &S,
+        member: u32,
+    ) -> Result<Option<Result<Sealed, EndRefusal>>, OutOfMemory>
+        ensures { IfOk result (λ answer. option_map stated_as answer ≡ option_map (end_answer (rules_for self.now.terms (S.accepts sealer.now))) (option_map seat_state (standing_at (slice_get self.now.posts member)))) }
+    {
+        let Some(validator) = self.standing(member) else {
+            return Ok(None);
+        };
+        let answer = ask_end(validator, sealer)?;
+        Ok(Some(answer))
+    }
+
+    /// What a member says of a transaction that it may have executed (Sui Lutris); none where it is down or not there.
+    /// It keeps no record.
+    #[tactic(auto, using(crate::proofs::Saying::ack_asked, crate::proofs::Saying::asked_none))]
+    pub fn ack<S: Sealer>(
+        &self,
+        sealer: &S,
+        member: u32,
+        tx: &Digest,
+    ) -> Result<Option<Result<Sealed, AckRefusal>>, OutOfMemory>
+        ensures { IfOk result (λ answer. option_map stated_as answer ≡ option_map (λ state. ack_answer (rules_for self.now.terms (S.accepts sealer.now)) state tx.now) (option_map seat_state (standing_at (slice_get self.now.posts member)))) }
+    {
+        let Some(validator) = self.standing(member) else {
+            return Ok(None);
+        };
+        let answer = ask_ack(validator, sealer, tx)?;
+        Ok(Some(answer))
+    }
+
+    /// The digest of the effects that the lowest-numbered honest member has of a transaction that is up and executed it
+    /// in its present epoch; none where none did.
+    pub fn executed_digest(&self, tx: &Digest) -> Result<Option<Digest>, OutOfMemory>
+        ensures { IfOk result (λ digest. digest ≡ says_in (executed_digest tx.now) self.now.posts) }
+    {
+        executed_in(self.seats.as_slice(), tx)
+    }
+
     /// Starts a member from the records that its keeper has, in an epoch 0 that opens with these objects, and
     /// answers how many they are. No stop is armed behind it. A member that is not there: 0, and nothing changes.
     /// Behind a refusal nothing changes.
@@ -336,8 +383,10 @@ impl Seats {
     }
 
     /// A member that is up; none where it is down or not there. Takes no memory.
+    #[tactic(auto, using(crate::proofs::Placing::placed_at))]
     pub fn standing(&self, member: u32) -> Option<&Validator>
-        ensures { option_copied result ≡ standing_at (slice_get self.now.posts member) }
+        ensures value { option_copied result ≡ standing_at (slice_get self.now.posts member) }
+        ensures placed { IsPlaced self.now.terms member (option_copied result) }
     {
         match self.seats.get(member as usize) {
             Some(seat) => seat.standing(),
@@ -393,4 +442,19 @@ fn digest_in(seats: &[Seat], key: &ObjectKey) -> Option<Digest>
         rest = after;
     }
     None
+}
+
+/// The digest of the effects that the first honest member has of a transaction that is up and executed it.
+#[tactic(auto, using(crate::proofs::Saying::says_next, crate::proofs::Saying::says_here))]
+fn executed_in(seats: &[Seat], tx: &Digest) -> Result<Option<Digest>, OutOfMemory>
+    ensures { IfOk result (λ digest. digest ≡ says_in (executed_digest tx.now) seats.now) }
+{
+    let mut rest = seats;
+    while let [seat, after @ ..] = rest {
+        if let Some(digest) = seat.executed_digest(tx)? {
+            return Ok(Some(digest));
+        }
+        rest = after;
+    }
+    Ok(None)
 }

@@ -1,0 +1,77 @@
+-- The lines of acknowledgements and of what they make final, in each of their ways.
+use Rattle.std.proofs.Common.{◌≡◌, ◌∙◌, ap, sym, refl, ℕ, Bool, true, false, cond, List, [], ◌∷◌, ◌++◌, Option, Some, None}
+use Rattle.std.specs.Prelude.{slice_get}
+use Rattle.chain_messages.specs.declared.messages.Statement.{Statement}
+use Rattle.chain_types.specs.Equal.{digest_eq}
+use Rattle.protocol_spec.specs.Chain.Certificates.{Rules}
+use Rattle.protocol_spec.specs.Member.Calls.{acks}
+use Rattle.report_text.specs.declared.lines.Line.{Line}
+use Rattle.report_text.specs.declared.lines.Line.TheVariants as line
+use Rattle.report_text.specs.declared.lines.AckText.{AckText}
+use Rattle.report_text.specs.declared.lines.AckText.TheVariants as ack_text
+use Rattle.report_text.specs.declared.lines.FinalText.{FinalText}
+use Rattle.report_text.specs.declared.lines.FinalText.TheVariants as final_text
+use Rattle.world_spec.specs.Setting.{Name, Trust}
+use Rattle.world_spec.specs.World.{Made, Said, is_honest, said_by}
+use Rattle.world_spec.specs.Step.{Collected, ack_in, collected, last_said}
+use Rattle.world_spec.specs.Report.{ack_reached, acks_collected, final_collected, final_lines}
+use Rattle.scene_spec.specs.Scene.{Scene, bare_setting, bare_world, rules_in}
+use Rattle.scene_spec.specs.Steps.{ack_lines_in, acked_in, called_scene, comes_to}
+use Rattle.world_core.specs.Crews.{honest_flags}
+use Rattle.world_core.specs.Epochs.{false_ack_by}
+use Rattle.world_core.specs.Votes.{flag_at}
+use Rattle.world_core.proofs.Silent.{saying}
+use Rattle.world_core.proofs.Voting.{honest_same}
+
+module _ (trust : Trust) (sc : Scene) (m : ℕ) (tx : Name) (spoiled : Bool) (t : Option Made) where
+  abbrev r : Rules
+  r = rules_in trust.accepts sc
+
+  pub unnamed_acks : None ≡ t → sc ≡ acked_in r sc m spoiled t
+  unnamed_acks none = ap (λ (x : Option Made). acked_in r sc m spoiled x) none
+
+  pub unnamed_lines : (lines : List Line) → None ≡ t → lines ≡ line.Ack m tx ack_text.Down ∷ [] → lines ≡ ack_lines_in trust sc m tx t
+  unnamed_lines lines none is = is ∙ ap (λ (x : Option Made). ack_lines_in trust sc m tx x) none
+
+  module _ (made : Made) (is : Some made ≡ t) (honest : Bool) (flag : flag_at (slice_get (honest_flags sc.posts) m) ≡ honest) where
+    honest_is : is_honest (bare_world sc) m ≡ honest
+    honest_is = sym (honest_same sc.posts m) ∙ flag
+
+    acked_as : cond honest (called_scene r sc m (acks made.digest)) (record sc { said = sc.said ++ said_by m (false_ack_by sc.posts made spoiled) ∷ [] }) ≡ acked_in r sc m spoiled t
+    acked_as =
+        sym (ap (λ (b : Bool). cond b (called_scene r sc m (acks made.digest)) (record sc { said = sc.said ++ said_by m (false_ack_by sc.posts made spoiled) ∷ [] })) honest_is)
+        ∙ ap (λ (x : Option Made). acked_in r sc m spoiled x) is
+
+    lines_as : line.Ack m tx (cond honest (ack_reached (bare_setting trust sc) (bare_world sc) made.digest (comes_to trust sc m (acks made.digest))) ack_text.Said) ∷ [] ≡ ack_lines_in trust sc m tx t
+    lines_as =
+        sym (ap (λ (b : Bool). line.Ack m tx (cond b (ack_reached (bare_setting trust sc) (bare_world sc) made.digest (comes_to trust sc m (acks made.digest))) ack_text.Said) ∷ []) honest_is)
+        ∙ ap (λ (x : Option Made). ack_lines_in trust sc m tx x) is
+
+  module _ (made : Made) (is : Some made ≡ t) where
+    pub honest_acks : (said : List Said) → flag_at (slice_get (honest_flags sc.posts) m) ≡ true → saying sc said ≡ called_scene r sc m (acks made.digest) → saying sc said ≡ acked_in r sc m spoiled t
+    honest_acks said flag now = now ∙ acked_as made is true flag
+
+    pub honest_lines : (text : AckText) (lines : List Line) → flag_at (slice_get (honest_flags sc.posts) m) ≡ true → text ≡ ack_reached (bare_setting trust sc) (bare_world sc) made.digest (comes_to trust sc m (acks made.digest))
+        → lines ≡ line.Ack m tx text ∷ [] → lines ≡ ack_lines_in trust sc m tx t
+    honest_lines text lines flag said now = now ∙ ap (λ (x : AckText). line.Ack m tx x ∷ []) said ∙ lines_as made is true flag
+
+    pub faulty_acks : (st : Statement) (said : List Said) → flag_at (slice_get (honest_flags sc.posts) m) ≡ false → st ≡ false_ack_by sc.posts made spoiled → said ≡ sc.said ++ said_by m st ∷ [] → saying sc said ≡ acked_in r sc m spoiled t
+    faulty_acks st said flag lie now = ap (saying sc) (now ∙ ap (λ (x : Statement). sc.said ++ said_by m x ∷ []) lie) ∙ acked_as made is false flag
+
+    pub faulty_lines : (lines : List Line) → flag_at (slice_get (honest_flags sc.posts) m) ≡ false → lines ≡ line.Ack m tx ack_text.Said ∷ [] → lines ≡ ack_lines_in trust sc m tx t
+    faulty_lines lines flag now = now ∙ lines_as made is false flag
+
+-- ---- final
+
+module _ (trust : Trust) (sc : Scene) (tx : Name) (ms : List ℕ) (t : Option Made) where
+  pub unnamed_final : (lines : List Line) → None ≡ t → lines ≡ line.Final tx (final_text.NoAck 0) ∷ [] → lines ≡ final_lines (bare_setting trust sc) (bare_world sc) tx ms t
+  unnamed_final lines none is = is ∙ ap (λ (x : Option Made). final_lines (bare_setting trust sc) (bare_world sc) tx ms x) none
+
+  pub named_final : (made : Made) (found : Collected) (text : FinalText) (lines : List Line) → Some made ≡ t
+      → found ≡ collected digest_eq sc.terms.stakes (λ (m : ℕ). last_said (ack_in made.signed.tx.epoch made.digest) m sc.said) ms → text ≡ final_collected ms found
+      → lines ≡ line.Final tx text ∷ [] → lines ≡ final_lines (bare_setting trust sc) (bare_world sc) tx ms t
+  unfolding acks_collected
+  named_final made found text lines is gave said now =
+      now
+      ∙ ap (λ (x : FinalText). line.Final tx x ∷ []) (said ∙ ap (λ (c : Collected). final_collected ms c) gave)
+      ∙ ap (λ (x : Option Made). final_lines (bare_setting trust sc) (bare_world sc) tx ms x) is

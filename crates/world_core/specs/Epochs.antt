@@ -1,0 +1,49 @@
+-- What is said of the calls by which an epoch ends and of acknowledgements, by what is known under names.
+use Rattle.std.specs.Prelude.{ℕ, Bool, List, [], ◌∷◌, Option, Some, None}
+use Rattle.digest_core.specs.declared.Digest.{Digest}
+use Rattle.protocol_spec.specs.Chain.Certificates.{Rules}
+use Rattle.protocol_spec.specs.Member.Member.{Member}
+use Rattle.protocol_spec.specs.Member.Calls.{ack_answer, end_answer, turn_answer}
+use Rattle.report_text.specs.declared.lines.Line.{Line}
+use Rattle.report_text.specs.declared.lines.Line.TheVariants as line
+use Rattle.report_text.specs.declared.lines.AckText.{AckText}
+use Rattle.report_text.specs.declared.lines.AckText.TheVariants as ack_text
+use Rattle.report_text.specs.declared.lines.EndText.{EndText}
+use Rattle.report_text.specs.declared.lines.EndText.TheVariants as end_text
+use Rattle.report_text.specs.declared.lines.TurnText.TheVariants as turn_text
+use Rattle.chain_messages.specs.declared.messages.Statement.{Statement}
+use Rattle.chain_messages.specs.declared.messages.Statement.TheVariants as statement
+use Rattle.world_spec.specs.World.{Made, Reached, answered_statement, answers, finds_down, stops}
+use Rattle.world_spec.specs.Making.{digest_or_zero, spoiled_if}
+use Rattle.world_spec.specs.Step.{executed_digest}
+use Rattle.world_spec.specs.Report.{ack_answered, end_answered, turn_answered}
+use Rattle.scene_spec.specs.Known.{Known, world_with}
+use Rattle.scene_spec.specs.Posts.{Post}
+use Rattle.scene_spec.specs.Steps.{says_in}
+
+-- what a member that is up says of its End, and of an acknowledgement
+abbrev pub end_text_by : Known → Rules → Option Member → EndText
+end_text_by k r None = end_text.Down
+end_text_by k r (Some m) = end_answered (world_with k) (end_answer r m)
+
+abbrev pub ack_text_by : Known → Rules → Digest → Option Member → AckText
+ack_text_by k r tx None = ack_text.Down
+ack_text_by k r tx (Some m) = ack_answered (world_with k) (ack_answer r m tx)
+
+-- what it states then
+abbrev pub end_statements : Rules → Option Member → List Statement
+end_statements r None = []
+end_statements r (Some state) = answered_statement (end_answer r state)
+
+abbrev pub ack_statements : Rules → Digest → Option Member → List Statement
+ack_statements r tx None = []
+ack_statements r tx (Some state) = answered_statement (ack_answer r state tx)
+
+abbrev pub turn_lines_by : Known → Rules → ℕ → Reached → List Line
+turn_lines_by k r m finds_down = line.Turn m turn_text.Down ∷ []
+turn_lines_by k r m (stops kept x) = line.Turn m turn_text.Stopped ∷ []
+turn_lines_by k r m (answers before x) = turn_answered (world_with k) m before (turn_answer r before)
+
+-- what a faulty member acknowledges, by the members as they stand
+abbrev pub false_ack_by : List Post → Made → Bool → Statement
+false_ack_by posts t spoiled = statement.Ack t.signed.tx.epoch t.digest (spoiled_if spoiled (digest_or_zero (says_in (executed_digest t.digest) posts)))

@@ -1,0 +1,53 @@
+//! Requests that a member answers without a record.
+
+ghost use Rattle.std.specs.Prelude.{◌≡◌, IfOk, true};
+ghost use Rattle.protocol_spec.specs.Member.Calls.{ack_answer, end_answer};
+ghost use Rattle.scene_spec.specs.Seats.{rules_of_seat};
+ghost use Rattle.world_lines.specs.Answers.{stated_as};
+
+use answer_types::{AckRefusal, EndRefusal};
+use chain_messages::Sealed;
+use digest_core::Digest;
+use quorum_core::Sealer;
+use validator_core::Validator;
+use wire_bcs::OutOfMemory;
+
+/// What a member that is up says of its End.
+pub(crate) fn ask_end<S: Sealer>(
+    validator: &Validator,
+    sealer: &S,
+) -> Result<Result<Sealed, EndRefusal>, OutOfMemory>
+    requires up { validator.now.up ≡ true }
+    ensures { IfOk result (λ answer. stated_as answer ≡ end_answer (rules_of_seat validator.now (S.accepts sealer.now)) validator.now.state) }
+{
+    match validator.end(sealer) {
+        Err(EndRefusal::OutOfMemory) => Err(OutOfMemory),
+        Ok(sealed) => Ok(Ok(sealed)),
+        Err(EndRefusal::Down) => Ok(Err(EndRefusal::Down)),
+        Err(EndRefusal::Halted { first, second }) => {
+            Ok(Err(EndRefusal::Halted { first, second }))
+        }
+        Err(EndRefusal::NotClosed) => Ok(Err(EndRefusal::NotClosed)),
+        Err(EndRefusal::Waits { tx }) => Ok(Err(EndRefusal::Waits { tx })),
+    }
+}
+
+/// What a member that is up says of a transaction that it may have executed.
+pub(crate) fn ask_ack<S: Sealer>(
+    validator: &Validator,
+    sealer: &S,
+    tx: &Digest,
+) -> Result<Result<Sealed, AckRefusal>, OutOfMemory>
+    requires up { validator.now.up ≡ true }
+    ensures { IfOk result (λ answer. stated_as answer ≡ ack_answer (rules_of_seat validator.now (S.accepts sealer.now)) validator.now.state tx.now) }
+{
+    match validator.ack(sealer, tx) {
+        Err(AckRefusal::OutOfMemory) => Err(OutOfMemory),
+        Ok(sealed) => Ok(Ok(sealed)),
+        Err(AckRefusal::Down) => Ok(Err(AckRefusal::Down)),
+        Err(AckRefusal::Halted { first, second }) => {
+            Ok(Err(AckRefusal::Halted { first, second }))
+        }
+        Err(AckRefusal::NotExecuted) => Ok(Err(AckRefusal::NotExecuted)),
+    }
+}
