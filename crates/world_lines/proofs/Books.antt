@@ -1,6 +1,6 @@
 -- What the books find, and what they are behind one more row.
 use Rattle.std.proofs.Common.{◌≡◌, ◌∙◌, ap, sym, refl, ℕ, ◌&&◌, ◌==◌, Bool, true, false, cond, List, [], ◌∷◌, ◌++◌, length, Option, Some, None, option_map, slice_get, subst, Vec, Global}
-use Rattle.std.specs.Prelude.{bytes_eq, option_and_then}
+use Rattle.std.specs.Prelude.{bytes_eq, nat_eq, option_and_then}
 use Rattle.std.specs.Map.{lookup}
 use Rattle.indexmap.specs.IndexMap.{insert_entry}
 use Rattle.std.proofs.lemmas.Slice.Eq.{bytes_eq-Decides}
@@ -15,12 +15,15 @@ use Rattle.chain_messages.specs.declared.messages.Statement.TheVariants as state
 use Rattle.protocol_spec.specs.Chain.Words.{first_some, last_where, where_true}
 use Rattle.world_spec.specs.World.{Said, Formed}
 use Rattle.world_spec.specs.Names.{cert_in}
-use Rattle.world_spec.specs.Step.{last_said, says_of, vote_in}
+use Rattle.world_spec.specs.Step.{ack_in, end_in, last_said, says_of, vote_in}
 use Rattle.world_lines.specs.declared.said.SaidRow.{SaidRow}
-use Rattle.world_lines.specs.declared.said.VoteKey.{VoteKey}
+use Rattle.world_lines.specs.declared.stated.AckKey.{AckKey}
+use Rattle.world_lines.specs.declared.stated.LastPlaces.{LastPlaces}
+use Rattle.world_lines.specs.declared.stated.VoteKey.{VoteKey}
 use Rattle.world_lines.specs.declared.formed.FormedRow.{FormedRow}
-use Rattle.world_lines.specs.Places.{LastPlaced}
-use Rattle.world_lines.specs.Rows.{formed_as, formed_list, is_named, is_vote_of, row_cert, row_origins, said_as, said_list, vote_key, vote_key_eq, voted_tx, with_vote}
+use Rattle.world_lines.specs.Places.{LastPlaced, last_place}
+use Rattle.world_lines.specs.Keys.{AreLast, Notes, ack_key, ack_key_eq, is_key, is_keyed, key_of_ack, key_of_end, key_of_vote, vote_key, vote_key_eq, with_place}
+use Rattle.world_lines.specs.Rows.{formed_as, formed_list, is_named, row_cert, row_effects, row_end, row_origins, said_as, said_list}
 use Rattle.world_lines.proofs.Places.{found, placed_more, placed_same}
 
 turned : (a b : List ℕ) → bytes_eq a b ≡ bytes_eq b a
@@ -30,111 +33,202 @@ silent : {A : Type 0} → (b : Bool) → cond b (let o : Option A = None in o) N
 silent true = refl
 silent false = refl
 
--- ---- a member's last vote is that of its last row
+-- ---- what a member stated last is what its last row says
 
--- a row says nothing of this, or it is a vote with these origins
-data Says (k : VoteKey) (r : SaidRow) : Type 0 where
-  nothing : says_of (vote_in k.tx) k.member (said_as r) ≡ None → is_vote_of k r ≡ false → Says k r
-  origins : (o : List (Option Digest)) → says_of (vote_in k.tx) k.member (said_as r) ≡ Some o → is_vote_of k r ≡ true → row_origins r ≡ Some o → Says k r
+-- a row says nothing of this, or it is of the key and says this
+data Says {A : Type 0} (reads : Statement → Option A) (m : ℕ) (is : SaidRow → Bool) (value : SaidRow → Option A) (r : SaidRow) : Type 0 where
+  nothing : says_of reads m (said_as r) ≡ None → is r ≡ false → Says reads m is value r
+  this : (x : A) → says_of reads m (said_as r) ≡ Some x → is r ≡ true → value r ≡ Some x → Says reads m is value r
 
-says : (k : VoteKey) (m : ℕ) (st : Statement) → Says k (record { member = m; statement = st })
-says k m (statement.Vote epoch tx named) = by (m == k.member) refl (digest_eq tx k.tx) refl
+-- a list of rows says nothing of this, or its last row of the key says this
+data Lasts {A : Type 0} (reads : Statement → Option A) (m : ℕ) (is : SaidRow → Bool) (value : SaidRow → Option A) (rows : List SaidRow) : Type 0 where
+  none_said : last_said reads m (said_list rows) ≡ None → last_where is rows ≡ None → Lasts reads m is value rows
+  one_said : (r : SaidRow) (x : A) → last_said reads m (said_list rows) ≡ Some x → last_where is rows ≡ Some r → value r ≡ Some x → Lasts reads m is value rows
+
+module _ {A : Type 0} (reads : Statement → Option A) (m : ℕ) (is : SaidRow → Bool) (value : SaidRow → Option A) (says : (r : SaidRow) → Says reads m is value r) where
+  lasts : (rows : List SaidRow) → Lasts reads m is value rows
+  lasts [] = none_said refl refl
+  lasts (r ∷ rows) = go (lasts rows) (says r)
+    where
+      onto_said : Option A → Option A
+      onto_said o = first_some (o ∷ says_of reads m (said_as r) ∷ [])
+
+      onto_row : Option SaidRow → Option SaidRow
+      onto_row o = first_some (o ∷ where_true (is r) r ∷ [])
+
+      go : Lasts reads m is value rows → Says reads m is value r → Lasts reads m is value (r ∷ rows)
+      go (one_said y x s w e) here = one_said y x (ap onto_said s) (ap onto_row w) e
+      go (none_said s w) (nothing p q) =
+          none_said (ap onto_said s ∙ ap (λ o. first_some (o ∷ [])) p) (ap onto_row w ∙ ap (λ b. first_some (where_true b r ∷ [])) q)
+      go (none_said s w) (this x p q e) =
+          one_said r x (ap onto_said s ∙ ap (λ o. first_some (o ∷ [])) p) (ap onto_row w ∙ ap (λ b. first_some (where_true b r ∷ [])) q) e
+
+  last_row : (rows : List SaidRow) → option_and_then value (last_where is rows) ≡ last_said reads m (said_list rows)
+  last_row rows = go (lasts rows)
+    where
+      go : Lasts reads m is value rows → option_and_then value (last_where is rows) ≡ last_said reads m (said_list rows)
+      go (none_said s w) = ap (option_and_then value) w ∙ sym s
+      go (one_said r x s w e) = ap (option_and_then value) w ∙ e ∙ sym s
+
+  -- what stands at the place that is kept
+  row_found : (rows : List SaidRow) {said : List Said} {lent : List SaidRow} {place : Option ℕ} → said_list rows ≡ said → lent ≡ rows → place ≡ last_place is rows
+      → option_and_then value (option_and_then (slice_get lent) place) ≡ last_said reads m said
+  row_found rows {place = place} view same at =
+      ap (λ xs. option_and_then value (option_and_then (slice_get xs) place)) same
+      ∙ ap (λ o. option_and_then value (option_and_then (slice_get rows) o)) at
+      ∙ ap (option_and_then value) (found is rows)
+      ∙ last_row rows
+      ∙ ap (last_said reads m) view
+
+-- ---- votes, Ends and acknowledgements
+
+abbrev of_vote : VoteKey → SaidRow → Bool
+of_vote = is_keyed vote_key_eq key_of_vote
+
+abbrev of_end : ℕ → SaidRow → Bool
+of_end = is_keyed nat_eq key_of_end
+
+abbrev of_ack : AckKey → SaidRow → Bool
+of_ack = is_keyed ack_key_eq key_of_ack
+
+vote_says : (m : ℕ) (tx : Digest) (n : ℕ) (st : Statement) → Says (vote_in tx) m (of_vote (vote_key m tx)) row_origins (record { member = n; statement = st })
+vote_says m tx n (statement.Vote epoch t named) = by (n == m) refl (digest_eq t tx) refl
   where
-    by : (a : Bool) → (m == k.member) ≡ a → (b : Bool) → digest_eq tx k.tx ≡ b → Says k (record { member = m; statement = statement.Vote epoch tx named })
+    by : (a : Bool) → (n == m) ≡ a → (b : Bool) → digest_eq t tx ≡ b → Says (vote_in tx) m (of_vote (vote_key m tx)) row_origins (record { member = n; statement = statement.Vote epoch t named })
     by true p true q =
-        origins named
-        (ap (λ a. cond a (where_true (digest_eq tx k.tx) named) None) p ∙ ap (λ b. where_true b named) q)
-        (ap (λ a. a && digest_eq tx k.tx) p ∙ q) refl
+        this named
+        (ap (λ a. cond a (where_true (digest_eq t tx) named) None) p ∙ ap (λ b. where_true b named) q)
+        (ap (λ a. a && digest_eq t tx) p ∙ q) refl
     by true p false q =
         nothing
-        (ap (λ a. cond a (where_true (digest_eq tx k.tx) named) None) p ∙ ap (λ b. where_true b named) q)
-        (ap (λ a. a && digest_eq tx k.tx) p ∙ q)
-    by false p b q = nothing (ap (λ a. cond a (where_true (digest_eq tx k.tx) named) None) p) (ap (λ a. a && digest_eq tx k.tx) p)
-says k m (statement.End epoch) = nothing (silent (m == k.member)) refl
-says k m (statement.Checkpoint epoch number digest) = nothing (silent (m == k.member)) refl
-says k m (statement.Ack epoch tx effects) = nothing (silent (m == k.member)) refl
+        (ap (λ a. cond a (where_true (digest_eq t tx) named) None) p ∙ ap (λ b. where_true b named) q)
+        (ap (λ a. a && digest_eq t tx) p ∙ q)
+    by false p b q = nothing (ap (λ a. cond a (where_true (digest_eq t tx) named) None) p) (ap (λ a. a && digest_eq t tx) p)
+vote_says m tx n (statement.End epoch) = nothing (silent (n == m)) refl
+vote_says m tx n (statement.Checkpoint epoch number digest) = nothing (silent (n == m)) refl
+vote_says m tx n (statement.Ack epoch t effects) = nothing (silent (n == m)) refl
 
--- a list of rows says nothing of this, or its last vote has these origins
-data Lasts (k : VoteKey) (rows : List SaidRow) : Type 0 where
-  none_said : last_said (vote_in k.tx) k.member (said_list rows) ≡ None → last_where (is_vote_of k) rows ≡ None → Lasts k rows
-  one_said : (r : SaidRow) (o : List (Option Digest)) → last_said (vote_in k.tx) k.member (said_list rows) ≡ Some o → last_where (is_vote_of k) rows ≡ Some r → row_origins r ≡ Some o → Lasts k rows
-
-lasts : (k : VoteKey) (rows : List SaidRow) → Lasts k rows
-lasts k [] = none_said refl refl
-lasts k (r ∷ rows) = go (lasts k rows) (says k r.member r.statement)
+end_says : (m n : ℕ) (st : Statement) → Says end_in m (of_end m) row_end (record { member = n; statement = st })
+end_says m n (statement.Vote epoch t named) = nothing (silent (n == m)) refl
+end_says m n (statement.End epoch) = by (n == m) refl
   where
-    onto_said : Option (List (Option Digest)) → Option (List (Option Digest))
-    onto_said o = first_some (o ∷ says_of (vote_in k.tx) k.member (said_as r) ∷ [])
+    by : (a : Bool) → (n == m) ≡ a → Says end_in m (of_end m) row_end (record { member = n; statement = statement.End epoch })
+    by true p = this epoch (ap (λ a. cond a (let o : Option ℕ = Some epoch in o) None) p) p refl
+    by false p = nothing (ap (λ a. cond a (let o : Option ℕ = Some epoch in o) None) p) p
+end_says m n (statement.Checkpoint epoch number digest) = nothing (silent (n == m)) refl
+end_says m n (statement.Ack epoch t effects) = nothing (silent (n == m)) refl
 
-    onto_row : Option SaidRow → Option SaidRow
-    onto_row o = first_some (o ∷ where_true (is_vote_of k r) r ∷ [])
-
-    go : Lasts k rows → Says k r → Lasts k (r ∷ rows)
-    go (one_said x o s w is) here = one_said x o (ap onto_said s) (ap onto_row w) is
-    go (none_said s w) (nothing p q) =
-        none_said (ap onto_said s ∙ ap (λ o. first_some (o ∷ [])) p) (ap onto_row w ∙ ap (λ b. first_some (where_true b r ∷ [])) q)
-    go (none_said s w) (origins o p q is) =
-        one_said r o (ap onto_said s ∙ ap (λ o. first_some (o ∷ [])) p) (ap onto_row w ∙ ap (λ b. first_some (where_true b r ∷ [])) q) is
-
-pub last_row : (m : ℕ) (tx : Digest) (rows : List SaidRow) → option_and_then row_origins (last_where (is_vote_of (vote_key m tx)) rows) ≡ last_said (vote_in tx) m (said_list rows)
-last_row m tx rows = go (lasts (vote_key m tx) rows)
+ack_says : (m epoch : ℕ) (tx : Digest) (n : ℕ) (st : Statement) → Says (ack_in epoch tx) m (of_ack (ack_key m epoch tx)) row_effects (record { member = n; statement = st })
+ack_says m epoch tx n (statement.Vote e t named) = nothing (silent (n == m)) refl
+ack_says m epoch tx n (statement.End e) = nothing (silent (n == m)) refl
+ack_says m epoch tx n (statement.Checkpoint e number digest) = nothing (silent (n == m)) refl
+ack_says m epoch tx n (statement.Ack e t effects) = by (n == m) (e == epoch) (digest_eq t tx) refl refl refl
   where
-    go : Lasts (vote_key m tx) rows → option_and_then row_origins (last_where (is_vote_of (vote_key m tx)) rows) ≡ last_said (vote_in tx) m (said_list rows)
-    go (none_said s w) = ap (option_and_then row_origins) w ∙ sym s
-    go (one_said r o s w is) = ap (option_and_then row_origins) w ∙ is ∙ sym s
+    says : (a b c : Bool) → (n == m) ≡ a → (e == epoch) ≡ b → digest_eq t tx ≡ c
+        → says_of (ack_in epoch tx) m (record { member = n; statement = statement.Ack e t effects }) ≡ cond a (where_true (b && c) effects) None
+    says a b c p q r =
+        ap (λ x. cond x (where_true ((e == epoch) && digest_eq t tx) effects) None) p
+        ∙ ap (λ x. cond a (where_true (x && digest_eq t tx) effects) None) q
+        ∙ ap (λ x. cond a (where_true (b && x) effects) None) r
 
--- the vote at the place that is kept under its member and transaction
-pub vote_found : (m : ℕ) (tx : Digest) (rows : List SaidRow) (places : List (VoteKey × ℕ)) {said : List Said} {lent : List SaidRow} {place : Option ℕ}
-    → LastPlaced vote_key_eq is_vote_of rows places → said_list rows ≡ said → lent ≡ rows → place ≡ lookup (vote_key_eq (vote_key m tx)) places
+    keyed : (a b c : Bool) → (n == m) ≡ a → (e == epoch) ≡ b → digest_eq t tx ≡ c
+        → of_ack (ack_key m epoch tx) (record { member = n; statement = statement.Ack e t effects }) ≡ (a && b && c)
+    keyed a b c p q r =
+        ap (λ x. x && (e == epoch) && digest_eq t tx) p
+        ∙ ap (λ x. a && x && digest_eq t tx) q
+        ∙ ap (λ x. a && b && x) r
+
+    by : (a b c : Bool) → (n == m) ≡ a → (e == epoch) ≡ b → digest_eq t tx ≡ c
+        → Says (ack_in epoch tx) m (of_ack (ack_key m epoch tx)) row_effects (record { member = n; statement = statement.Ack e t effects })
+    by true true true p q r = this effects (says true true true p q r) (keyed true true true p q r) refl
+    by true true false p q r = nothing (says true true false p q r) (keyed true true false p q r)
+    by true false c p q r = nothing (says true false c p q r) (keyed true false c p q r)
+    by false b c p q r = nothing (says false b c p q r) (keyed false b c p q r)
+
+pub vote_found : (m : ℕ) (tx : Digest) (rows : List SaidRow) (places : LastPlaces) {said : List Said} {lent : List SaidRow} {place : Option ℕ}
+    → AreLast rows places → said_list rows ≡ said → lent ≡ rows → place ≡ lookup (vote_key_eq (vote_key m tx)) places.votes.entries
     → option_and_then row_origins (option_and_then (slice_get lent) place) ≡ last_said (vote_in tx) m said
-vote_found m tx rows places {place = place} placed view same at =
-    ap (λ xs. option_and_then row_origins (option_and_then (slice_get xs) place)) same
-    ∙ ap (λ o. option_and_then row_origins (option_and_then (slice_get rows) o)) (at ∙ placed (vote_key m tx))
-    ∙ ap (option_and_then row_origins) (found (is_vote_of (vote_key m tx)) rows)
-    ∙ last_row m tx rows
-    ∙ ap (last_said (vote_in tx) m) view
+vote_found m tx rows places placed view same at =
+    row_found (vote_in tx) m (of_vote (vote_key m tx)) row_origins (λ r. vote_says m tx r.member r.statement) rows view same (at ∙ placed.votes (vote_key m tx))
 
--- ---- the keys of votes
+pub end_found : (m : ℕ) (rows : List SaidRow) (places : LastPlaces) {said : List Said} {lent : List SaidRow} {place : Option ℕ}
+    → AreLast rows places → said_list rows ≡ said → lent ≡ rows → place ≡ lookup (nat_eq m) places.ends.entries
+    → option_and_then row_end (option_and_then (slice_get lent) place) ≡ last_said end_in m said
+end_found m rows places placed view same at =
+    row_found end_in m (of_end m) row_end (λ r. end_says m r.member r.statement) rows view same (at ∙ placed.ends m)
+
+pub ack_found : (m epoch : ℕ) (tx : Digest) (rows : List SaidRow) (places : LastPlaces) {said : List Said} {lent : List SaidRow} {place : Option ℕ}
+    → AreLast rows places → said_list rows ≡ said → lent ≡ rows → place ≡ lookup (ack_key_eq (ack_key m epoch tx)) places.acks.entries
+    → option_and_then row_effects (option_and_then (slice_get lent) place) ≡ last_said (ack_in epoch tx) m said
+ack_found m epoch tx rows places placed view same at =
+    row_found (ack_in epoch tx) m (of_ack (ack_key m epoch tx)) row_effects (λ r. ack_says m epoch tx r.member r.statement) rows view same (at ∙ placed.acks (ack_key m epoch tx))
+
+-- ---- one more statement
+
+-- a test of keys that says when two are one
+module _ {K : Type 0} (equal : K → K → Bool) (one : (a b : K) → equal a b ≡ true → a ≡ b) (itself : (a : K) → equal a a ≡ true) where
+  respects : (k a b : K) → equal a b ≡ true → equal k a ≡ equal k b
+  respects k a b h = ap (equal k) (one a b h)
+
+  meets : (k a b : K) → equal k a ≡ true → equal k b ≡ true → equal a b ≡ true
+  meets k a b p q = subst (λ x. equal x b ≡ true) (one k a p) q
+
+  both_ways : (a b : K) → equal a b ≡ equal b a
+  both_ways a b =
+      same_from_decides (equal a b) (equal b a) (one a b, λ e. subst (λ x. equal a x ≡ true) e (itself a)) ((λ h. sym (one b a h)), (λ e. subst (λ x. equal b x ≡ true) (sym e) (itself b)))
+
+  placed_with : (key_of : ℕ → Statement → Option K) (rows : List SaidRow) (places : List (K × ℕ)) (m : ℕ) (st : Statement) {ys : List SaidRow} {fs : List (K × ℕ)} {n : ℕ}
+      → LastPlaced equal (is_keyed equal key_of) rows places → fs ≡ with_place equal places (key_of m st) n → n ≡ length rows → ys ≡ rows ++ record { member = m; statement = st } ∷ []
+      → LastPlaced equal (is_keyed equal key_of) ys fs
+  placed_with key_of rows places m st {ys} {fs} {n} placed puts last adds = by (key_of m st) refl puts
+    where
+      by : (o : Option K) → key_of m st ≡ o → fs ≡ with_place equal places o n → LastPlaced equal (is_keyed equal key_of) ys fs
+      by None is puts =
+          placed_same equal equal respects meets (is_keyed equal key_of) rows places (record { member = m; statement = st }) placed puts adds (λ k. ap (is_key equal k) is)
+      by (Some x) is puts =
+          placed_more equal equal respects meets (is_keyed equal key_of) rows places (record { member = m; statement = st }) placed puts last adds
+          (λ k. both_ways k x ∙ sym (ap (is_key equal k) is))
 
 both_true : (a b : Bool) → (a && b) ≡ true → (a ≡ true) × (b ≡ true)
 both_true true true h = (refl, refl)
 both_true true false h = absurd (cc)
 both_true false b h = absurd (cc)
 
-same_key : (a b : VoteKey) → vote_key_eq a b ≡ true → a ≡ b
-same_key a b h =
+one_digest : (a b : Digest) → digest_eq a b ≡ true → a ≡ b
+one_digest a b h = ap (λ (x : List ℕ). record { 0 = x }) ((bytes_eq-Decides a.0 b.0).0 h)
+
+digest_itself : (a : Digest) → digest_eq a a ≡ true
+digest_itself a = (bytes_eq-Decides a.0 a.0).1 refl
+
+one_vote_key : (a b : VoteKey) → vote_key_eq a b ≡ true → a ≡ b
+one_vote_key a b h =
     let parts = both_true (a.member == b.member) (digest_eq a.tx b.tx) h in
-    ap (λ (m : ℕ). vote_key m a.tx) (eqb-true a.member b.member parts.0)
-    ∙ ap (λ (x : List ℕ). vote_key b.member (record { 0 = x })) ((bytes_eq-Decides a.tx.0 b.tx.0).0 parts.1)
+    ap (λ (m : ℕ). vote_key m a.tx) (eqb-true a.member b.member parts.0) ∙ ap (vote_key b.member) (one_digest a.tx b.tx parts.1)
 
-key_is_itself : (a : VoteKey) → vote_key_eq a a ≡ true
-key_is_itself a = ap (λ b. b && digest_eq a.tx a.tx) (eq-eqb a.member a.member refl) ∙ (bytes_eq-Decides a.tx.0 a.tx.0).1 refl
+vote_key_itself : (a : VoteKey) → vote_key_eq a a ≡ true
+vote_key_itself a = ap (λ b. b && digest_eq a.tx a.tx) (eq-eqb a.member a.member refl) ∙ digest_itself a.tx
 
-keys_respect : (k a b : VoteKey) → vote_key_eq a b ≡ true → vote_key_eq k a ≡ vote_key_eq k b
-keys_respect k a b h = ap (vote_key_eq k) (same_key a b h)
+one_ack_key : (a b : AckKey) → ack_key_eq a b ≡ true → a ≡ b
+one_ack_key a b h =
+    let parts = both_true ((a.member == b.member) && (a.epoch == b.epoch)) (digest_eq a.tx b.tx) h in
+    let numbers = both_true (a.member == b.member) (a.epoch == b.epoch) parts.0 in
+    ap (λ (m : ℕ). ack_key m a.epoch a.tx) (eqb-true a.member b.member numbers.0)
+    ∙ ap (λ (e : ℕ). ack_key b.member e a.tx) (eqb-true a.epoch b.epoch numbers.1)
+    ∙ ap (ack_key b.member b.epoch) (one_digest a.tx b.tx parts.1)
 
-keys_meet : (k a b : VoteKey) → vote_key_eq k a ≡ true → vote_key_eq k b ≡ true → vote_key_eq a b ≡ true
-keys_meet k a b p q = subst (λ x. vote_key_eq x b ≡ true) (same_key k a p) q
+ack_key_itself : (a : AckKey) → ack_key_eq a a ≡ true
+ack_key_itself a =
+    ap (λ b. b && (a.epoch == a.epoch) && digest_eq a.tx a.tx) (eq-eqb a.member a.member refl)
+    ∙ ap (λ b. b && digest_eq a.tx a.tx) (eq-eqb a.epoch a.epoch refl)
+    ∙ digest_itself a.tx
 
-keys_turned : (a b : VoteKey) → vote_key_eq a b ≡ vote_key_eq b a
-keys_turned a b = same_from_decides (vote_key_eq a b) (vote_key_eq b a) (same_key a b, λ e. subst (λ x. vote_key_eq a x ≡ true) e (key_is_itself a)) ((λ h. sym (same_key b a h)), (λ e. subst (λ x. vote_key_eq b x ≡ true) (sym e) (key_is_itself b)))
-
--- ---- one more statement
-
-pub said_more : (rows : List SaidRow) (places : List (VoteKey × ℕ)) (m : ℕ) (st : Statement) {ys : List SaidRow} {fs : List (VoteKey × ℕ)} {tx : Option Digest} {n : ℕ}
-    → LastPlaced vote_key_eq is_vote_of rows places → fs ≡ with_vote places m tx n → tx ≡ voted_tx st → n ≡ length rows → ys ≡ rows ++ record { member = m; statement = st } ∷ []
-    → LastPlaced vote_key_eq is_vote_of ys fs
-said_more rows places m st {ys} {fs} {n = n} placed puts of last adds = by st adds (puts ∙ ap (λ t. with_vote places m t n) of)
-  where
-    by : (st : Statement) → ys ≡ rows ++ record { member = m; statement = st } ∷ [] → fs ≡ with_vote places m (voted_tx st) n → LastPlaced vote_key_eq is_vote_of ys fs
-    by (statement.Vote epoch tx named) adds puts =
-        placed_more vote_key_eq vote_key_eq keys_respect keys_meet is_vote_of rows places (record { member = m; statement = statement.Vote epoch tx named }) placed puts last adds (λ k. keys_turned k (vote_key m tx))
-    by (statement.End epoch) adds puts =
-        placed_same vote_key_eq vote_key_eq keys_respect keys_meet is_vote_of rows places (record { member = m; statement = statement.End epoch }) placed puts adds (λ _. refl)
-    by (statement.Checkpoint epoch number digest) adds puts =
-        placed_same vote_key_eq vote_key_eq keys_respect keys_meet is_vote_of rows places (record { member = m; statement = statement.Checkpoint epoch number digest }) placed puts adds (λ _. refl)
-    by (statement.Ack epoch tx effects) adds puts =
-        placed_same vote_key_eq vote_key_eq keys_respect keys_meet is_vote_of rows places (record { member = m; statement = statement.Ack epoch tx effects }) placed puts adds (λ _. refl)
+pub said_more : (rows : List SaidRow) (places : LastPlaces) (m : ℕ) (st : Statement) {ys : List SaidRow} {now : LastPlaces} {n : ℕ}
+    → AreLast rows places → Notes places m st n now → n ≡ length rows → ys ≡ rows ++ record { member = m; statement = st } ∷ [] → AreLast ys now
+said_more rows places m st placed notes last adds = record {
+  votes = placed_with vote_key_eq one_vote_key vote_key_itself key_of_vote rows places.votes.entries m st placed.votes notes.votes last adds;
+  ends = placed_with nat_eq eqb-true (λ a. eq-eqb a a refl) key_of_end rows places.ends.entries m st placed.ends notes.ends last adds;
+  acks = placed_with ack_key_eq one_ack_key ack_key_itself key_of_ack rows places.acks.entries m st placed.acks notes.acks last adds;
+}
 
 -- what the rows stand for, with one more
 pub said_behind : (rows : List SaidRow) (said : List Said) (m : ℕ) (st : Statement) {ys : List SaidRow} → said_list rows ≡ said → ys ≡ rows ++ record { member = m; statement = st } ∷ []

@@ -3,6 +3,7 @@ pub mod Books
 pub mod Spelled
 pub mod SaidWorlds
 pub mod EntryTexts
+pub mod TurnTexts
 pub mod Ordering
 pub mod Ending
 pub mod EndTexts

@@ -1,8 +1,16 @@
 -- The answers of a member, as the definitions have them.
-use Rattle.std.specs.Prelude.{Result, Ok, Err}
+use Rattle.std.specs.Prelude.{ℕ, [], Result, Ok, Err}
+use Rattle.digest_core.specs.declared.Digest.{Digest}
+use Rattle.chain_messages.specs.declared.messages.Sealed.{Sealed as SealedStatement}
+use Rattle.chain_messages.specs.declared.messages.Statement.{Statement}
 use Rattle.answer_types.specs.declared.answers.Voted.{Voted as Sealed}
 use Rattle.answer_types.specs.declared.refusals.VoteRefusal.{VoteRefusal}
+use Rattle.report_text.specs.declared.lines.Line.{Line}
+use Rattle.report_text.specs.declared.lines.Line.TheVariants as line
 use Rattle.protocol_spec.specs.Member.Calls.{Voted}
+use Rattle.protocol_spec.specs.Member.Member.{Member, fresh}
+use Rattle.world_spec.specs.World.{World}
+use Rattle.world_spec.specs.Names.{tx_name}
 use Rattle.world_spec.specs.Step.{Collected, lacks, short, differ, whole}
 use Rattle.world_lines.specs.declared.certs.Collected.{Collected as Given}
 use Rattle.world_lines.specs.declared.certs.Collected.TheVariants as given
@@ -14,6 +22,19 @@ voted_as v = record { statement = v.sealed.statement; fresh = v.fresh }
 abbrev pub vote_as : Result Sealed VoteRefusal → Result Voted VoteRefusal
 vote_as (Ok v) = Ok (voted_as v)
 vote_as (Err refusal) = Err refusal
+
+-- an End or an acknowledgement, by the statement that is sealed
+abbrev pub stated_as : {E : Type 0} → Result SealedStatement E → Result Statement E
+stated_as (Ok sealed) = Ok sealed.statement
+stated_as (Err refusal) = Err refusal
+
+-- a member in this epoch; the lines of a turn look at nothing else of the member that turned
+abbrev pub member_in : ℕ → Member
+member_in epoch = record (fresh []) { epoch = epoch }
+
+-- the line of a reverted transaction
+abbrev pub reverted_line : World → Digest → Line
+reverted_line w tx = line.Reverted (tx_name w tx)
 
 -- what collecting gave
 abbrev pub collected_as : Given → Collected

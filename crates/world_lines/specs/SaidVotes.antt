@@ -1,12 +1,11 @@
 -- The votes that count: a member's last, and that of the first honest member. Source: this profile; votes are those
 -- of Sui Lutris.
-use Rattle.std.specs.Prelude.{ℕ, Bool, false, not, List, map, Option, Some, None, if◌then◌else◌}
+use Rattle.std.specs.Prelude.{ℕ, Bool, List, map, Option, None, if◌then◌else◌}
 use Rattle.std.specs.List.{enumerate_from}
 use Rattle.digest_core.specs.declared.Digest.{Digest}
-use Rattle.protocol_spec.specs.Chain.Tests.{origins_eq}
 use Rattle.protocol_spec.specs.Chain.Words.{first_of}
 use Rattle.world_spec.specs.World.{Said, Seat}
-use Rattle.world_spec.specs.Step.{Collected, differ_from, lacks_where, last_said, vote_in}
+use Rattle.world_spec.specs.Step.{last_said, vote_in}
 
 -- the origins of a member's last vote for the transaction
 abbrev pub vote_by : List Said → Digest → ℕ → Option (List (Option Digest))
@@ -26,19 +25,3 @@ honest_flag seat = seat.honest
 -- which members of a world are honest, by number
 abbrev pub flags_of : List Seat → List Bool
 flags_of seats = map honest_flag seats
-
--- ---- collecting votes
-
--- the member, where it has no vote
-abbrev pub lacks_vote : List Said → Digest → ℕ → Option Collected
-lacks_vote said tx m = lacks_where m (vote_by said tx m)
-
--- whether two votes, where there are both, name different origins
-abbrev pub differs : Option (List (Option Digest)) → Option (List (Option Digest)) → Bool
-differs None b = false
-differs (Some x) None = false
-differs (Some x) (Some y) = not (origins_eq x y)
-
--- the two members, where their votes differ
-abbrev pub differs_in : List Said → Digest → ℕ → ℕ → Option Collected
-differs_in said tx a b = differ_from origins_eq a (vote_by said tx a) b (vote_by said tx b)

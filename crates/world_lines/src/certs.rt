@@ -1,10 +1,10 @@
-//! What collecting votes gives.
+//! What collecting votes or acknowledgements gives.
 
 ghost use Rattle.std.specs.Prelude.{◌≡◌, IfOk, map};
-ghost use Rattle.world_spec.specs.Report.{cert_collected};
+ghost use Rattle.world_spec.specs.Report.{cert_collected, final_collected};
 ghost use Rattle.world_lines.specs.Answers.{collected_as};
 
-use report_text::CertText;
+use report_text::{CertText, FinalText};
 use std::alloc::Global;
 use wire_bcs::{OutOfMemory, Seq};
 
@@ -60,6 +60,33 @@ pub fn cert_text(
         Collected::Whole => {
             let members = numbers(alloc, members)?;
             Ok(CertText::Formed { members })
+        }
+    }
+}
+
+/// The ending for what collecting the acknowledgements of these members gave.
+pub fn final_text(
+    alloc: Global,
+    members: &[u32],
+    collected: &Collected,
+) -> Result<FinalText, OutOfMemory>
+    ensures { IfOk result (λ text. text ≡ final_collected members.now (collected_as collected.now)) }
+{
+    match collected {
+        Collected::Lacks(member) => Ok(FinalText::NoAck {
+            member: *member as u64,
+        }),
+        Collected::Short { weight, total } => Ok(FinalText::Short {
+            weight: *weight,
+            total: *total,
+        }),
+        Collected::Differ { a, b } => Ok(FinalText::Differ {
+            a: *a as u64,
+            b: *b as u64,
+        }),
+        Collected::Whole => {
+            let members = numbers(alloc, members)?;
+            Ok(FinalText::FinalBy { members })
         }
     }
 }

@@ -3,8 +3,9 @@
 //! Each call turns an answer into the endings or lines that a report has for it, where a
 //! [`world_names::Directory`] names transactions, versions and objects. An answer is only read.
 //!
-//! A [`SaidBook`] keeps all statements, oldest first, and finds a member's last vote for a transaction by a map;
-//! [`SaidBook::collect`] says what the last votes of members give. A [`CertBook`] keeps the certificates under the
+//! A [`SaidBook`] keeps all statements, oldest first, and finds by maps a member's last vote for a transaction, its last
+//! End, and its last acknowledgement of a transaction in an epoch; [`SaidBook::collect`] and [`SaidBook::collect_acks`]
+//! say what the last votes and acknowledgements of members give. A [`CertBook`] keeps the certificates under the
 //! names for which they were formed, and finds the last of a name by a map. [`certificate`] seals a vote for each
 //! member that stated it. Each answer is the definition's, one equation a call.
 #![tactic(auto)]
@@ -24,13 +25,14 @@ mod runs;
 mod said;
 mod said_law;
 mod shows;
+mod stated;
 mod votes;
 mod words;
 
-pub use certs::{Collected, cert_text};
+pub use certs::{Collected, cert_text, final_text};
 pub use ends_law::an_epoch_ends_by_its_ends;
 pub use entries::{add_entry_lines, what_text};
-pub use epochs::close_text;
+pub use epochs::{ack_text, close_text, end_text, turn_lines};
 pub use formed::CertBook;
 pub use forming::certificate;
 pub use holds::hold_text;

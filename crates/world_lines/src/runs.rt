@@ -131,7 +131,7 @@ pub(crate) fn add_checkpoints(
 }
 
 /// A list of one line.
-fn one_line(directory: &Directory, line: Line) -> Result<Seq<Line>, OutOfMemory>
+pub(crate) fn one_line(directory: &Directory, line: Line) -> Result<Seq<Line>, OutOfMemory>
     ensures { IfOk result (λ lines. lines ≡ line ∷ []) }
 {
     let mut lines = Seq::new(directory.allocator());

@@ -1,14 +1,15 @@
 //! The book of statements.
 
-ghost use Rattle.std.specs.Prelude.{◌≡◌, ◌<◌, ◌++◌, ◌∷◌, [], OnErr, OnOk, option_copied, option_and_then, slice_get};
+ghost use Rattle.std.specs.Prelude.{◌≡◌, ◌<◌, ◌++◌, ◌∷◌, [], OnErr, OnOk, option_and_then, option_copied, option_map, slice_get};
 ghost use Rattle.std.specs.Vec.{vec_capacity, vec_len};
 ghost use Rattle.world_spec.specs.World.{said_by};
-ghost use Rattle.world_lines.specs.Rows.{origins_in, row_origins, voted_tx, with_vote};
+ghost use Rattle.world_spec.specs.Step.{ack_in, end_in, last_said};
+ghost use Rattle.world_lines.specs.Rows.{effects_in, origins_in, row_effects, row_end, row_origins, row_statement};
 ghost use Rattle.world_lines.specs.SaidVotes.{first_vote, vote_by, vote_if};
 
+use crate::stated::LastPlaces;
 use chain_messages::Statement;
 use digest_core::Digest;
-use indexmap::IndexMap;
 use std::alloc::Global;
 use std::marker::Model;
 use wire_bcs::{OutOfMemory, Seq};
@@ -18,13 +19,6 @@ use wire_bcs::{OutOfMemory, Seq};
 pub(crate) struct SaidRow {
     member: u32,
     statement: Statement,
-}
-
-/// A member, and a transaction that it voted for.
-#[derive(Clone, Copy, Debug, PartialEq, Eq, Hash)]
-pub(crate) struct VoteKey {
-    member: u64,
-    tx: Digest,
 }
 
 /// Puts an item behind the others; there is room.
@@ -38,16 +32,6 @@ pub(crate) fn push_in_room<T: Drop>(all: &mut Vec<T>, item: T)
     }
 }
 
-/// The transaction that a statement votes for. Takes no memory.
-fn voted_tx(statement: &Statement) -> Option<Digest>
-    ensures { result ≡ voted_tx statement.now }
-{
-    match statement {
-        Statement::Vote { tx, .. } => Some(*tx),
-        Statement::End { .. } | Statement::Checkpoint { .. } | Statement::Ack { .. } => None,
-    }
-}
-
 /// The origins that a vote names. Takes no memory.
 fn origins_in(statement: &Statement) -> Option<&Seq<Option<Digest>>>
     ensures { option_copied result ≡ origins_in statement.now }
@@ -58,59 +42,78 @@ fn origins_in(statement: &Statement) -> Option<&Seq<Option<Digest>>>
     }
 }
 
-/// Notes the place of a vote, which takes that of an older one; another statement has none. A refusal changes
-/// nothing.
-fn note_vote(
-    places: &mut IndexMap<VoteKey, usize>,
-    member: u32,
-    tx: Option<Digest>,
-    place: usize,
-) -> Result<(), OutOfMemory>
-    ensures ok { OnOk result (places.new.entries ≡ with_vote places.old.entries member tx place) }
-    ensures err { OnErr result (places.new.entries ≡ places.old.entries) }
+/// The epoch of which a statement is the End. Takes no memory.
+fn end_in(statement: &Statement) -> Option<u64>
+    ensures { result ≡ end_in statement.now }
 {
-    if let Some(tx) = tx {
-        let key = VoteKey {
-            member: member as u64,
-            tx,
-        };
-        places.insert(key, place)?;
+    match statement {
+        Statement::End { epoch } => Some(*epoch),
+        Statement::Vote { .. } | Statement::Checkpoint { .. } | Statement::Ack { .. } => None,
     }
-    Ok(())
 }
 
-/// The origins of the row at a place. Takes no memory.
-fn origins_at(rows: &[SaidRow], place: Option<usize>) -> Option<&Seq<Option<Digest>>>
-    ensures { option_copied result ≡ option_and_then row_origins (option_and_then (slice_get rows.now) place) }
+/// The digest of the effects that a statement acknowledges. Takes no memory.
+fn effects_in(statement: &Statement) -> Option<&Digest>
+    ensures { option_copied result ≡ effects_in statement.now }
+{
+    match statement {
+        Statement::Ack { effects, .. } => Some(effects),
+        Statement::Vote { .. } | Statement::End { .. } | Statement::Checkpoint { .. } => None,
+    }
+}
+
+/// The statement of the row at a place. Takes no memory.
+fn statement_at(rows: &[SaidRow], place: Option<usize>) -> Option<&Statement>
+    ensures { option_copied result ≡ option_map row_statement (option_and_then (slice_get rows.now) place) }
 {
     match place {
         Some(place) => match rows.get(place) {
-            Some(row) => origins_in(&row.statement),
+            Some(row) => Some(&row.statement),
             None => None,
         },
         None => None,
     }
 }
 
+/// The origins of the vote at a place. Takes no memory.
+fn origins_at(rows: &[SaidRow], place: Option<usize>) -> Option<&Seq<Option<Digest>>>
+    ensures { option_copied result ≡ option_and_then row_origins (option_and_then (slice_get rows.now) place) }
+{
+    origins_in(statement_at(rows, place)?)
+}
+
+/// The epoch of the End at a place. Takes no memory.
+fn end_at(rows: &[SaidRow], place: Option<usize>) -> Option<u64>
+    ensures { result ≡ option_and_then row_end (option_and_then (slice_get rows.now) place) }
+{
+    end_in(statement_at(rows, place)?)
+}
+
+/// The effects of the acknowledgement at a place. Takes no memory.
+fn effects_at(rows: &[SaidRow], place: Option<usize>) -> Option<&Digest>
+    ensures { option_copied result ≡ option_and_then row_effects (option_and_then (slice_get rows.now) place) }
+{
+    effects_in(statement_at(rows, place)?)
+}
+
 /// The statements of a run. Contracts see them with their members, oldest first.
 #[derive(Drop)]
 pub struct SaidBook {
     rows: Vec<SaidRow>,
-    /// The place of the last vote of each member for each transaction.
-    places: IndexMap<VoteKey, usize>,
+    places: LastPlaces,
 }
 
 impl Model for SaidBook {
     ghost use Rattle.std.specs.Prelude.{List};
     ghost use Rattle.world_spec.specs.World.{Said};
-    ghost use Rattle.world_lines.specs.Places.{LastPlaced};
-    ghost use Rattle.world_lines.specs.Rows.{is_vote_of, said_list, vote_key_eq};
+    ghost use Rattle.world_lines.specs.Keys.{AreLast};
+    ghost use Rattle.world_lines.specs.Rows.{said_list};
 
     ghost Value = { List Said };
 
     ghost view = { λ b. said_list b.rows.items };
 
-    ghost invariant = { λ b. LastPlaced vote_key_eq is_vote_of b.rows.items b.places.entries };
+    ghost invariant = { λ b. AreLast b.rows.items b.places };
 }
 
 impl SaidBook {
@@ -120,7 +123,7 @@ impl SaidBook {
     {
         SaidBook {
             rows: Vec::new(alloc),
-            places: IndexMap::new(alloc),
+            places: LastPlaces::new(alloc),
         }
     }
 
@@ -131,7 +134,7 @@ impl SaidBook {
     {
         self.rows.reserve(1)?;
         let place = self.rows.as_slice().len();
-        note_vote(&mut self.places, member, voted_tx(&statement), place)?;
+        self.places.note(member, &statement, place)?;
         push_in_room(&mut self.rows, SaidRow { member, statement });
         Ok(())
     }
@@ -140,8 +143,7 @@ impl SaidBook {
     fn vote_of(&self, member: u64, tx: &Digest) -> Option<&Seq<Option<Digest>>>
         ensures { option_copied result ≡ vote_by self.now tx.now member }
     {
-        let key = VoteKey { member, tx: *tx };
-        let place = self.places.get(&key).copied();
+        let place = self.places.vote(member, tx);
         origins_at(self.rows.as_slice(), place)
     }
 
@@ -151,6 +153,23 @@ impl SaidBook {
         ensures { option_copied result ≡ vote_by self.now tx.now member }
     {
         self.vote_of(member as u64, tx)
+    }
+
+    /// The epoch of the member's last End; none exactly where it stated none. Takes no memory.
+    pub fn last_end(&self, member: u32) -> Option<u64>
+        ensures { result ≡ last_said end_in member self.now }
+    {
+        let place = self.places.end(member);
+        end_at(self.rows.as_slice(), place)
+    }
+
+    /// The digest of the effects in the member's last acknowledgement of the transaction in the epoch; none exactly where
+    /// it stated no such acknowledgement. Takes no memory.
+    pub fn last_ack(&self, member: u32, epoch: u64, tx: &Digest) -> Option<&Digest>
+        ensures { option_copied result ≡ last_said (ack_in epoch tx.now) member self.now }
+    {
+        let place = self.places.ack(member, epoch, tx);
+        effects_at(self.rows.as_slice(), place)
     }
 
     /// The origins of the member's last vote for the transaction, where it is honest. Takes no memory.

@@ -1,8 +1,9 @@
 use Rattle.std.proofs.Common.{refl}
+use Rattle.world_spec.specs.Report.{acks_collected}
 use Rattle.world_spec.specs.Step.{votes_collected}
 use Rattle.world_lines.proofs.SaidWorlds.{first_from}
 use Rattle.world_lines.proofs.said_law.said_in_a_world.Goals as goal
 
 pub returns : goal.returns
-unfolding votes_collected
-returns c = record { first = λ w tx. first_from w tx 0 w.seats; votes = λ _ _ _ _. refl; named = λ _ _. refl; cert = λ _ _ _ _. refl }
+unfolding votes_collected acks_collected
+returns c = record { first = λ w tx. first_from w tx 0 w.seats; votes = λ _ _ _ _. refl; acks = λ _ _ _ _. refl; named = λ _ _. refl; cert = λ _ _ _ _. refl }
