@@ -20,3 +20,4 @@ pub mod SeeTexts
 pub mod Nexts
 pub mod Ordered
 mod First
+pub mod OrderedEnds

@@ -75,7 +75,7 @@ origins_same : (sc : Scene) (t : Made) (words : List (Option Name)) → origins_
 origins_same sc t [] = ap (origins_or (no_origins t.signed.tx)) (sym (first_from (bare_world sc) t.digest 0 (map bare_seat sc.posts) ∙ ap (first_vote sc.said t.digest) (flags_same sc.posts)))
 origins_same sc t (word ∷ words) = refl
 
-honest_same : (posts : List Post) (m : ℕ) → flag_at (slice_get (honest_flags posts) m) ≡ honest_seat (slice_get (map bare_seat posts) m)
+pub honest_same : (posts : List Post) (m : ℕ) → flag_at (slice_get (honest_flags posts) m) ≡ honest_seat (slice_get (map bare_seat posts) m)
 honest_same [] m = refl
 honest_same (p ∷ ps) zero = refl
 honest_same (p ∷ ps) (suc m) = honest_same ps m

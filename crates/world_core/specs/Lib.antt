@@ -12,3 +12,4 @@ pub mod Votes
 pub mod Stays
 pub mod Sums
 pub mod Sees
+pub mod Ends

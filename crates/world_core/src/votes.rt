@@ -115,7 +115,7 @@ fn false_origins(
 }
 
 /// Whether the member of this number is honest. Takes no memory.
-fn is_honest(honest: &[bool], member: u32) -> bool
+pub(crate) fn is_honest(honest: &[bool], member: u32) -> bool
     ensures { result ≡ flag_at (slice_get honest.now member) }
 {
     match honest.get(member as usize) {
