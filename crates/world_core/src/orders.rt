@@ -83,6 +83,14 @@ fn order_and_rise<S: Sealer>(
 }
 
 impl World {
+    /// Each entry that was ordered can be kept, as the book of sequences has it. Nothing runs.
+    #[tactic(auto, using(crate::proofs::Ordered::can_keep))]
+    pub(crate) fn can_keep(&self)
+        ensures { AreKeepable self.now.sequences }
+    {
+        let _order = &self.order;
+    }
+
     /// The line `order T`: orders the certificate that was formed last for this name, where it is of the open epoch.
     #[tactic(auto, using(crate::proofs::Ordered::orders_none, crate::proofs::Ordered::orders_late, crate::proofs::Ordered::orders_one, crate::proofs::Ordered::short_cert))]
     pub(crate) fn order_cert(&mut self, tx: &[u8]) -> Result<Seq<Line>, OutOfMemory>
