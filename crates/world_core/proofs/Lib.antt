@@ -24,4 +24,4 @@ mod First
 pub mod Silent
 pub mod Saying
 pub mod Acking
-pub mod SeeLines
+pub mod OrderedEnds

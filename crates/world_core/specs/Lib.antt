@@ -13,3 +13,4 @@ pub mod Stays
 pub mod Sums
 pub mod Sees
 pub mod Epochs
+pub mod Ends

@@ -1,20 +1,31 @@
 //! Lines that order entries.
 
-ghost use Rattle.std.specs.Prelude.{◌≡◌, ◌∷◌, [], IfOk, OnOk, length};
+ghost use Rattle.std.specs.Prelude.{◌≡◌, ℕ, ◌∷◌, [], IfOk, OnOk, Option, length};
+ghost use Rattle.chain_messages.specs.Messages as codecs;
 ghost use Rattle.chain_messages.specs.declared.messages.Entry.TheVariants as entry;
+ghost use Rattle.chain_messages.specs.declared.messages.Statement.TheVariants as statement;
 ghost use Rattle.report_text.specs.declared.lines.Line.TheVariants as line;
-ghost use Rattle.scene_spec.specs.Scene.{bare_world};
+ghost use Rattle.protocol_spec.specs.Chain.Certificates.{rules_of};
+ghost use Rattle.report_text.specs.declared.lines.OrderEndText.TheVariants as order_end_text;
+ghost use Rattle.scene_spec.specs.Scene.{bare_setting, bare_world};
 ghost use Rattle.scene_spec.specs.Steps.{with_order};
 ghost use Rattle.scene_spec.specs.Worlds.{AreKeepable};
+ghost use Rattle.world_core.specs.Ends.{risen_by, sealed_end_by};
+ghost use Rattle.world_core.specs.Trusts.{trust_by};
+ghost use Rattle.world_lines.specs.Orders.{with_entry};
 ghost use Rattle.world_spec.specs.Names.{cert_named};
-ghost use Rattle.world_spec.specs.Report.{order_said};
-ghost use Rattle.world_spec.specs.Step.{appended_entry, open_entries, ordered};
+ghost use Rattle.world_spec.specs.Report.{order_end_said, order_said};
+ghost use Rattle.world_spec.specs.Step.{appended_entry, end_ordered, open_entries, ordered, ordered_end, says};
 
+use crate::votes::is_honest;
 use crate::world::{World, one_line};
-use chain_messages::{Certificate, Entry};
-use report_text::{Line, OrderText};
+use chain_messages::{Certificate, Entry, Sealed, Statement, encode_statement};
+use quorum_core::{Committee, Sealer, Signer};
+use report_text::{Line, OrderEndText, OrderText};
 use std::alloc::Global;
 use wire_bcs::{Duplicate, OutOfMemory, Seq};
+use world_lines::OrderBook;
+use world_names::MakesSeals;
 
 /// The line for what ordering gave.
 fn order_line(alloc: Global, tx: &[u8], text: OrderText) -> Result<Seq<Line>, OutOfMemory>
@@ -22,6 +33,53 @@ fn order_line(alloc: Global, tx: &[u8], text: OrderText) -> Result<Seq<Line>, Ou
 {
     let tx = Seq::from_slice(alloc, tx)?;
     one_line(alloc, Line::Order { tx, text })
+}
+
+/// The line for what ordering an End gave.
+fn order_end_line(alloc: Global, member: u32, text: OrderEndText) -> Result<Seq<Line>, OutOfMemory>
+    ensures { IfOk result (λ lines. lines ≡ line.OrderEnd member text ∷ []) }
+{
+    let member = member as u64;
+    one_line(alloc, Line::OrderEnd { member, text })
+}
+
+/// A member's End of an epoch, under its seal.
+#[tactic(auto, unfolding(chain_messages::specs::Messages::statement), using(crate::proofs::OrderedEnds::short_end))]
+fn sealed_end<S: MakesSeals>(
+    alloc: Global,
+    sealer: &S,
+    member: u32,
+    epoch: u64,
+) -> Result<Entry, OutOfMemory>
+    ensures end { IfOk result (λ end. end ≡ sealed_end_by (S.made sealer.now) member epoch) }
+    ensures short { IfOk result (λ end. codecs.entry.short end) }
+{
+    let statement = Statement::End { epoch };
+    let bytes = encode_statement(alloc, &statement)?;
+    Ok(Entry::End(Sealed {
+        member,
+        statement,
+        seal: sealer.make_seal(&Signer::Member(member), bytes.as_slice()),
+    }))
+}
+
+/// Orders an entry at the end of the open epoch's sequence, and opens another epoch where the open one has ended then.
+fn order_and_rise<S: Sealer>(
+    order: &mut OrderBook,
+    committee: &Committee,
+    sealer: &S,
+    entry: &Entry,
+) -> Result<(), OutOfMemory>
+    requires { codecs.entry.short entry.now }
+    ensures order { OnOk result ((writers : Option ℕ) → order.new ≡ risen_by (rules_of committee.now writers (S.accepts sealer.now)) (with_entry order.old entry.now)) }
+    ensures keepable { AreKeepable order.new.sequences }
+{
+    order.push(entry)?;
+    if !order.has_ended(committee, sealer)? {
+        return Ok(());
+    }
+    order.rise()?;
+    Ok(())
 }
 
 impl World {
@@ -65,5 +123,58 @@ impl World {
         let entry = self.order.len();
         self.order.push(&Entry::Commit)?;
         one_line(self.alloc, Line::OrderCommit { entry })
+    }
+    /// Orders a member's End of the open epoch. Another epoch opens where the members of its Ends are a quorum then.
+    fn append_end<S: MakesSeals>(
+        &mut self,
+        sealer: &S,
+        member: u32,
+    ) -> Result<Seq<Line>, OutOfMemory>
+        ensures world { OnOk result (self.new ≡ with_order self.old (ordered_end (bare_setting (trust_by (S.made sealer.now) (S.accepts sealer.now)) self.old) (bare_world self.old) member self.old.epoch)) }
+        ensures lines { IfOk result (λ lines. lines ≡ line.OrderEnd member (order_end_text.Entry (length (open_entries (bare_world self.old)))) ∷ []) }
+    {
+        let text = OrderEndText::Entry {
+            entry: self.order.len(),
+        };
+        let lines = order_end_line(self.alloc, member, text)?;
+        let end = sealed_end(self.alloc, sealer, member, self.order.epoch())?;
+        order_and_rise(&mut self.order, self.seats.committee(), sealer, &end)?;
+        Ok(lines)
+    }
+
+    /// A faulty member states an End of the open epoch, which is ordered.
+    fn false_end<S: MakesSeals>(
+        &mut self,
+        sealer: &S,
+        member: u32,
+    ) -> Result<Seq<Line>, OutOfMemory>
+        ensures world { OnOk result (self.new ≡ with_order self.old (ordered_end (bare_setting (trust_by (S.made sealer.now) (S.accepts sealer.now)) self.old) (says (bare_world self.old) member (statement.End self.old.epoch)) member self.old.epoch)) }
+        ensures lines { IfOk result (λ lines. lines ≡ line.OrderEnd member (order_end_text.Entry (length (open_entries (bare_world self.old)))) ∷ []) }
+    {
+        let epoch = self.order.epoch();
+        self.said.say(member, Statement::End { epoch })?;
+        self.append_end(sealer, member)
+    }
+
+    /// The line `order end`: orders the last End of an honest member, where it is of the open epoch; a faulty member
+    /// states one of the open epoch first. Another epoch opens where the open one has ended then.
+    pub(crate) fn order_end<S: MakesSeals>(
+        &mut self,
+        sealer: &S,
+        member: u32,
+    ) -> Result<Seq<Line>, OutOfMemory>
+        ensures world { OnOk result (self.new ≡ with_order self.old (end_ordered (bare_setting (trust_by (S.made sealer.now) (S.accepts sealer.now)) self.old) (bare_world self.old) member)) }
+        ensures lines { IfOk result (λ lines. lines ≡ line.OrderEnd member (order_end_said (bare_world self.old) member) ∷ []) }
+    {
+        if !is_honest(self.seats.flags(), member) {
+            return self.false_end(sealer, member);
+        }
+        let Some(epoch) = self.said.last_end(member) else {
+            return order_end_line(self.alloc, member, OrderEndText::NoStatement);
+        };
+        if epoch != self.order.epoch() {
+            return order_end_line(self.alloc, member, OrderEndText::NotTaken);
+        }
+        self.append_end(sealer, member)
     }
 }

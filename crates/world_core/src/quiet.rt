@@ -109,12 +109,12 @@ impl World {
                 self.form_cert(sealer, tx.as_slice(), members.as_slice())
             }
             Event::Order(tx) => self.order_cert(tx.as_slice()),
+            Event::OrderEnd(member) => self.order_end(sealer, *member),
             Event::OrderCommit => self.order_commit(),
             Event::Show(member) => self.show(*member),
             Event::Stop { member, kept } => self.stop(*member, *kept),
             Event::Vote { .. }
             | Event::Send { .. }
-            | Event::OrderEnd(_)
             | Event::See { .. }
             | Event::Run { .. }
             | Event::Close(_)
