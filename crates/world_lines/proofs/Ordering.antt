@@ -1,14 +1,13 @@
 -- Rows of entries, by what they are.
-use Rattle.std.proofs.Common.{◌≡◌, ◌∙◌, ap, sym, refl, subst, ℕ, zero, suc, Bool, true, false, List, [], ◌∷◌, ◌++◌, length, map, Option, Some, None, option_map}
-use Rattle.std.proofs.lemmas.List.{length-map}
+use Rattle.std.proofs.Common.{◌≡◌, ◌∙◌, ap, sym, refl, subst, ℕ, zero, suc, List, [], ◌∷◌, ◌++◌, length, map, Option, Some, option_map}
+use Rattle.std.proofs.lemmas.List.{length-append, length-map, map-append}
 use Rattle.std.specs.Prelude.{◌<◌, slice_get, slice_set}
 use Rattle.chain_messages.specs.declared.messages.Entry.{Entry}
-use Rattle.chain_messages.specs.Messages as messages
 use Rattle.wire_bcs.specs.Items.{length_limit}
 use Rattle.protocol_spec.specs.Chain.Words.{Each}
 use Rattle.world_spec.specs.World.{entries_at, list_or_none}
 use Rattle.scene_spec.specs.Worlds.{AreKeepable, IsKeepable}
-use Rattle.world_lines.specs.Orders.{AreSpelled, IsSpelled, Orders, entries_of, open_in, orders_of, row_entry, spelled_entry, with_entry}
+use Rattle.world_lines.specs.Orders.{AreSpelled, IsSpelled, Orders, entries_of, next_orders, open_in, orders_of, row_entry, spelled_entry, with_entry}
 use Rattle.world_lines.specs.declared.order.OrderedRow.{OrderedRow}
 
 last_get : {A : Type 0} (xs : List A) (n : ℕ) (x : A) → length xs ≡ n → slice_get (xs ++ x ∷ []) n ≡ Some x
@@ -100,3 +99,32 @@ bytes_in rows entries number are is = bytes_as rows number are ∙ ap (λ (es : 
 
 pub many_in : (rows : List OrderedRow) (entries : List Entry) → entries_of rows ≡ entries → length rows ≡ length entries
 many_in rows entries is = sym (length-map rows row_entry) ∙ ap (λ (es : List Entry). length es) is
+
+-- ---- the next epoch
+
+-- a list put in the last place, which was added for it
+pub last_put : (past : List (List OrderedRow)) (rows none : List OrderedRow) {grown : List (List OrderedRow)} {n : ℕ} → n ≡ length past → grown ≡ past ++ none ∷ []
+    → slice_set grown n rows ≡ past ++ rows ∷ []
+last_put past rows none {n = n} at grows = ap (λ (xs : List (List OrderedRow)). slice_set xs n rows) grows ∙ last_set past n none rows (sym at)
+
+risen : (past : List (List OrderedRow)) (rows : List OrderedRow) → orders_of (past ++ rows ∷ []) [] ≡ next_orders (orders_of past rows)
+risen past rows =
+    ap (λ (xs : List (List Entry)). record { sequences = xs ++ [] ∷ []; epoch = length (past ++ rows ∷ []) }) (map-append entries_of past (rows ∷ []))
+    ∙ ap (λ (n : ℕ). record { sequences = (map entries_of past ++ entries_of rows ∷ []) ++ [] ∷ []; epoch = n }) (length-append past (rows ∷ []))
+
+pub risen_is : (past : List (List OrderedRow)) (rows : List OrderedRow) (o : Orders) {grown : List (List OrderedRow)} {none : List OrderedRow} → orders_of past rows ≡ o → grown ≡ past ++ rows ∷ [] → none ≡ []
+    → orders_of grown none ≡ next_orders o
+risen_is past rows o {none = none} view grows empty =
+    ap (λ (xs : List (List OrderedRow)). orders_of xs none) grows ∙ ap (λ (xs : List OrderedRow). orders_of (past ++ rows ∷ []) xs) empty ∙ risen past rows ∙ ap (λ (x : Orders). next_orders x) view
+
+spelled_end : (past : List (List OrderedRow)) (rows : List OrderedRow) → Each AreSpelled past → AreSpelled rows → Each AreSpelled (past ++ rows ∷ [])
+spelled_end [] rows before are = (are, tt)
+spelled_end (p ∷ past) rows before are = (before.0, spelled_end past rows before.1 are)
+
+pub spelled_risen : (past : List (List OrderedRow)) (rows : List OrderedRow) {grown : List (List OrderedRow)} {none : List OrderedRow} → Each AreSpelled past × AreSpelled rows → grown ≡ past ++ rows ∷ [] → none ≡ []
+    → Each AreSpelled grown × AreSpelled none
+spelled_risen past rows are grows empty = (subst (λ (xs : List (List OrderedRow)). Each AreSpelled xs) (sym grows) (spelled_end past rows are.0 are.1), subst AreSpelled (sym empty) tt)
+
+pub spelled_kept : (past : List (List OrderedRow)) (rows : List OrderedRow) {grown : List (List OrderedRow)} {same : List OrderedRow} → Each AreSpelled past × AreSpelled rows → grown ≡ past → same ≡ rows
+    → Each AreSpelled grown × AreSpelled same
+spelled_kept past rows are grows same = (subst (λ (xs : List (List OrderedRow)). Each AreSpelled xs) (sym grows) are.0, subst AreSpelled (sym same) are.1)

@@ -1,6 +1,6 @@
 -- The sequences of a run, and their entries as rows. Source: one sequence for each epoch is the premise of the Sui Lutris
 -- paper.
-use Rattle.std.specs.Prelude.{◌≡◌, ◌<◌, ℕ, List, [], ◌∷◌, ◌++◌, length, map, slice_set, Option, option_map}
+use Rattle.std.specs.Prelude.{◌≡◌, ◌<◌, ℕ, ◌+◌, List, [], ◌∷◌, ◌++◌, length, map, slice_set}
 use Rattle.wire_bcs.specs.Items.{length_limit}
 use Rattle.chain_messages.specs.declared.messages.Entry.{Entry}
 use Rattle.chain_messages.specs.Messages as messages
@@ -23,6 +23,10 @@ open_in o = entries_at o.sequences o.epoch
 -- one entry more at their end
 abbrev pub with_entry : Orders → Entry → Orders
 with_entry o e = record o { sequences = slice_set o.sequences o.epoch (open_in o ++ e ∷ []) }
+
+-- the next epoch is open, with nothing ordered
+abbrev pub next_orders : Orders → Orders
+next_orders o = record { sequences = o.sequences ++ [] ∷ []; epoch = o.epoch + 1 }
 
 -- ---- rows
 

@@ -1,14 +1,15 @@
 //! The book of sequences.
 
-ghost use Rattle.std.specs.Prelude.{◌≡◌, IfOk, OnErr, OnOk, length, option_copied, option_map, slice_get};
+ghost use Rattle.std.specs.Prelude.{◌≡◌, ◌++◌, ◌∷◌, [], IfOk, OnErr, OnOk, length, option_copied, option_map, slice_get};
 ghost use Rattle.chain_messages.specs.Messages as codecs;
 ghost use Rattle.scene_spec.specs.Worlds.{AreKeepable};
 ghost use Rattle.world_spec.specs.World.{entries_at};
-ghost use Rattle.world_lines.specs.Orders.{AreSpelled, IsSpelled, entries_of, no_orders, open_in, row_entry, spelled_entry, with_entry};
+ghost use Rattle.world_lines.specs.Orders.{AreSpelled, IsSpelled, entries_of, next_orders, no_orders, open_in, row_entry, spelled_entry, with_entry};
 
 use chain_messages::{Entry, encode_entry};
 use std::alloc::Global;
 use std::marker::Model;
+use std::mem::replace;
 use std::snapshot::Snapshot;
 use wire_bcs::{OutOfMemory, Seq};
 
@@ -53,6 +54,23 @@ fn past_rows(past: &[Seq<OrderedRow>], epoch: u64) -> Option<&Seq<OrderedRow>>
     ensures { option_copied result ≡ slice_get past.now epoch }
 {
     past.get(epoch as usize)
+}
+
+/// Puts the rows of an epoch that has ended behind those of the epochs before it, and leaves none in their place. A
+/// refusal changes nothing.
+#[tactic(auto, using(crate::proofs::Ordering::last_put))]
+fn end_rows(past: &mut Seq<Seq<OrderedRow>>, rows: &mut Seq<OrderedRow>) -> Result<(), OutOfMemory>
+    ensures past { OnOk result (past.new ≡ past.old ++ rows.old ∷ []) }
+    ensures rows { OnOk result (rows.new ≡ []) }
+    ensures past_kept { OnErr result (past.new ≡ past.old) }
+    ensures rows_kept { OnErr result (rows.new ≡ rows.old) }
+{
+    let last = past.len();
+    let alloc = rows.allocator();
+    past.push(Seq::new(alloc))?;
+    let ended = replace(rows, Seq::new(alloc));
+    let _empty = past.set(last, ended);
+    Ok(())
 }
 
 /// The sequences of a run: those of the epochs before, and the open one. Contracts see their entries.
@@ -111,6 +129,16 @@ impl OrderBook {
     {
         let row = spelled(self.alloc, entry)?;
         self.open.push(row)?;
+        Ok(())
+    }
+
+    /// The open epoch ends, and the next one is open, with nothing ordered. A refusal changes nothing.
+    pub fn rise(&mut self) -> Result<(), OutOfMemory>
+        ensures ok { OnOk result (self.new ≡ next_orders self.old) }
+        ensures err { OnErr result (self.new ≡ self.old) }
+        ensures keepable { AreKeepable self.new.sequences }
+    {
+        end_rows(&mut self.past, &mut self.open)?;
         Ok(())
     }
 

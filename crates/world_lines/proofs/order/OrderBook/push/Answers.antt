@@ -1,6 +1,5 @@
-use Rattle.std.proofs.Common.{◌∙◌, ap, sym, subst, List}
+use Rattle.std.proofs.Common.{sym, subst}
 use Rattle.world_lines.specs.Orders.{AreSpelled}
-use Rattle.world_lines.specs.declared.order.OrderedRow.{OrderedRow}
 use Rattle.world_lines.proofs.Ordering.{keepable_all, orders_keepable, pushed_is, spelled_push}
 use Rattle.world_lines.proofs.order.OrderBook.push.Goals as goal
 
