@@ -1,5 +1,5 @@
 -- The lines of a member's answer to an entry.
-use Rattle.std.proofs.Common.{◌≡◌, ◌∙◌, ap, sym, refl, ℕ, Bool, false, List, [], ◌∷◌, ◌++◌, map, Option, Some, None, Err, append_assoc, append-nil}
+use Rattle.std.proofs.Common.{◌≡◌, ◌∙◌, ap, sym, refl, ℕ, false, List, [], ◌∷◌, ◌++◌, map, Option, Some, None, Err, append_assoc, append-nil}
 use Rattle.answer_types.specs.declared.refusals.SeeRefusal.{SeeRefusal}
 use Rattle.answer_types.specs.declared.refusals.SeeRefusal.TheVariants as no_see
 use Rattle.report_text.specs.declared.lines.Line.{Line}

@@ -1,16 +1,23 @@
 //! Lines over a directory with one coin, as they are printed.
 
-use answer_types::{HoldRefusal, Left, Ran, RunRefusal, VoteRefusal};
+use answer_types::{
+    AckRefusal, CloseRefusal, EndRefusal, HoldRefusal, Left, Ran, RunRefusal, SeeRefusal, Seen,
+    SeenWhat, TurnRefusal, VoteRefusal,
+};
 use chain_types::{CertRefusal, Content, Object, ObjectId, ObjectKey, Owner};
 use checkpoint_core::{Checkpoint, Item};
 use digest_core::{Digest, genesis_id};
 use effects_core::{Effects, Status};
-use report_text::{CertText, Line, print_line};
+use quorum_core::Committee;
+use report_text::{CertText, FinalText, Line, print_line};
 use schedule_text::Setup;
 use std::alloc::Global;
 use std::test::Fail;
 use wire_bcs::{OutOfMemory, Seq};
-use world_lines::{Collected, cert_text, hold_text, run_lines, shown_lines, vote_text};
+use world_lines::{
+    Collected, ack_text, add_entry_lines, cert_text, close_text, end_text, final_text, hold_text,
+    run_lines, shown_lines, turn_lines, vote_text,
+};
 use world_names::Directory;
 
 /// The line of the coin c of ann.
@@ -117,6 +124,15 @@ enum Said {
     Ran,
     NoRun(RunRefusal),
     Shown(Object),
+    /// The entry 4, of which this member is the one that ended the epoch, with a checkpoint.
+    Seen,
+    NotSeen(SeeRefusal),
+    Close(Result<bool, CloseRefusal>),
+    NoEnd(EndRefusal),
+    NoAck(AckRefusal),
+    /// A turn out of epoch 3, by which a transaction was reverted.
+    Turned,
+    NoTurn(TurnRefusal),
 }
 
 /// The lines of a refusal of a vote.
@@ -145,6 +161,72 @@ fn no_run_lines(directory: &Directory, refusal: RunRefusal) -> Result<Seq<Line>,
     run_lines(directory, 2, &Err(refusal))
 }
 
+/// What a member made of the entry that ended the epoch.
+fn seen(alloc: Global) -> Result<Seen, OutOfMemory> {
+    let built = built(alloc)?;
+    Ok(Seen {
+        what: SeenWhat::Ended {
+            member: 1,
+            weight: 3,
+        },
+        built,
+    })
+}
+
+/// The lines of an answer to the entry 4, in a committee of four with one stake each.
+fn entry_lines(
+    directory: &Directory,
+    answer: &Result<Seen, SeeRefusal>,
+) -> Result<Seq<Line>, OutOfMemory> {
+    let mut lines = Seq::new(directory.allocator());
+    if let Ok(committee) = Committee::new([1, 1, 1, 1].as_slice()) {
+        add_entry_lines(directory, &committee, &mut lines, 0, 4, answer)?;
+    }
+    Ok(lines)
+}
+
+/// The lines of the entry that ended the epoch.
+fn seen_lines(directory: &Directory) -> Result<Seq<Line>, OutOfMemory> {
+    let answer = Ok(seen(directory.allocator())?);
+    entry_lines(directory, &answer)
+}
+
+/// The lines of an answer to `close`.
+fn close_lines(
+    directory: &Directory,
+    answer: &Result<bool, CloseRefusal>,
+) -> Result<Seq<Line>, OutOfMemory> {
+    let text = close_text(directory, answer)?;
+    one(directory.allocator(), Line::Close { member: 0, text })
+}
+
+/// The lines of a refusal of an End.
+fn end_lines(directory: &Directory, refusal: EndRefusal) -> Result<Seq<Line>, OutOfMemory> {
+    let text = end_text(directory, &Err(refusal))?;
+    one(directory.allocator(), Line::End { member: 0, text })
+}
+
+/// The lines of a refusal to acknowledge.
+fn ack_lines(directory: &Directory, refusal: AckRefusal) -> Result<Seq<Line>, OutOfMemory> {
+    let tx = Seq::from_slice(directory.allocator(), b"t".as_slice())?;
+    let text = ack_text(directory, &Err(refusal))?;
+    one(
+        directory.allocator(),
+        Line::Ack {
+            member: 0,
+            tx,
+            text,
+        },
+    )
+}
+
+/// The lines of a turn out of epoch 3 that reverted one transaction.
+fn turned_lines(directory: &Directory) -> Result<Seq<Line>, OutOfMemory> {
+    let reverted = [Digest([9; 32])];
+    let answer = Ok(Seq::from_slice(directory.allocator(), reverted.as_slice())?);
+    turn_lines(directory, 2, 3, &answer)
+}
+
 /// The lines of what is said.
 fn lines_in(directory: &Directory, said: Said) -> Result<Seq<Line>, OutOfMemory> {
     match said {
@@ -153,6 +235,13 @@ fn lines_in(directory: &Directory, said: Said) -> Result<Seq<Line>, OutOfMemory>
         Said::Ran => ran_lines(directory),
         Said::NoRun(refusal) => no_run_lines(directory, refusal),
         Said::Shown(object) => shown_lines(directory, 0, 1, [object].as_slice()),
+        Said::Seen => seen_lines(directory),
+        Said::NotSeen(refusal) => entry_lines(directory, &Err(refusal)),
+        Said::Close(answer) => close_lines(directory, &answer),
+        Said::NoEnd(refusal) => end_lines(directory, refusal),
+        Said::NoAck(refusal) => ack_lines(directory, refusal),
+        Said::Turned => turned_lines(directory),
+        Said::NoTurn(refusal) => turn_lines(directory, 2, 3, &Err(refusal)),
     }
 }
 
@@ -256,5 +345,86 @@ fn says_what_collecting_gave(rt: HostRuntime) -> Result<(), Fail> {
     assert_eq!(rt; formed.as_slice(), "cert t: formed by 0 2\n".as_bytes());
     let differ = collected(rt.alloc(), Collected::Differ { a: 0, b: 2 })?;
     assert_eq!(rt; differ.as_slice(), "cert t: differ 0 2\n".as_bytes());
+    Ok(())
+}
+
+#[test]
+fn says_what_a_member_made_of_an_entry(rt: HostRuntime) -> Result<(), Fail> {
+    let text = text_of(rt.alloc(), Said::Seen)?;
+    let wanted = "see 0 entry 4: end of 1 weight 3 of 4, epoch ended\n  checkpoint 3: ? last\n";
+    assert_eq!(rt; text.as_slice(), wanted.as_bytes());
+    Ok(())
+}
+
+#[test]
+fn says_nothing_of_an_entry_behind_the_end(rt: HostRuntime) -> Result<(), Fail> {
+    let text = text_of(rt.alloc(), Said::NotSeen(SeeRefusal::Over))?;
+    assert_eq!(rt; text.as_slice(), "".as_bytes());
+    Ok(())
+}
+
+#[test]
+fn says_that_it_was_closed_before(rt: HostRuntime) -> Result<(), Fail> {
+    let text = text_of(rt.alloc(), Said::Close(Ok(false)))?;
+    assert_eq!(rt; text.as_slice(), "close 0: again\n".as_bytes());
+    Ok(())
+}
+
+#[test]
+fn says_for_what_an_end_waits(rt: HostRuntime) -> Result<(), Fail> {
+    let waits = EndRefusal::Waits {
+        tx: Digest([9; 32]),
+    };
+    let text = text_of(rt.alloc(), Said::NoEnd(waits))?;
+    assert_eq!(rt; text.as_slice(), "end 0: waits ?\n".as_bytes());
+    Ok(())
+}
+
+#[test]
+fn says_that_it_was_not_executed(rt: HostRuntime) -> Result<(), Fail> {
+    let text = text_of(rt.alloc(), Said::NoAck(AckRefusal::NotExecuted))?;
+    assert_eq!(rt; text.as_slice(), "ack 0 t: not executed\n".as_bytes());
+    Ok(())
+}
+
+#[test]
+fn says_what_a_turn_reverted(rt: HostRuntime) -> Result<(), Fail> {
+    let text = text_of(rt.alloc(), Said::Turned)?;
+    let wanted = "turn 2: epoch 4 reverted 1\n  reverted ?\n";
+    assert_eq!(rt; text.as_slice(), wanted.as_bytes());
+    Ok(())
+}
+
+#[test]
+fn says_why_it_does_not_turn(rt: HostRuntime) -> Result<(), Fail> {
+    let text = text_of(rt.alloc(), Said::NoTurn(TurnRefusal::NotEnded))?;
+    assert_eq!(rt; text.as_slice(), "turn 2: not ended\n".as_bytes());
+    Ok(())
+}
+
+/// The lines of what is final with this ending.
+fn final_lines(alloc: Global, text: FinalText) -> Result<Seq<Line>, OutOfMemory> {
+    let tx = Seq::from_slice(alloc, b"t".as_slice())?;
+    one(alloc, Line::Final { tx, text })
+}
+
+/// The lines of what collecting the acknowledgements of the members 0 and 2 gave.
+fn acks_lines(alloc: Global, collected: Collected) -> Result<Seq<Line>, OutOfMemory> {
+    let text = final_text(alloc, [0, 2].as_slice(), &collected)?;
+    final_lines(alloc, text)
+}
+
+/// The text for what collecting the acknowledgements of the members 0 and 2 gave.
+fn acks_collected(alloc: Global, collected: Collected) -> Result<Seq<u8>, OutOfMemory> {
+    let lines = acks_lines(alloc, collected)?;
+    printed(alloc, &lines)
+}
+
+#[test]
+fn says_what_is_final(rt: HostRuntime) -> Result<(), Fail> {
+    let whole = acks_collected(rt.alloc(), Collected::Whole)?;
+    assert_eq!(rt; whole.as_slice(), "final t: final by 0 2\n".as_bytes());
+    let lacks = acks_collected(rt.alloc(), Collected::Lacks(2))?;
+    assert_eq!(rt; lacks.as_slice(), "final t: no ack of 2\n".as_bytes());
     Ok(())
 }

@@ -1,4 +1,4 @@
-//! Votes of members for one transaction, and the certificate of two of them.
+//! What members said of one transaction, votes and acknowledgements, and the certificate of two of them.
 
 use chain_messages::{Certificate, MemberSeal, Statement};
 use chain_types::{Address, ObjectId, ObjectRef, SignedTx, Transaction};
@@ -47,6 +47,16 @@ fn vote(
     book.say(member, vote)
 }
 
+/// A member acknowledges these effects of `TX` in an epoch.
+fn ack(book: &mut SaidBook, member: u32, epoch: u64, effects: Digest) -> Result<(), OutOfMemory> {
+    let ack = Statement::Ack {
+        epoch,
+        tx: TX,
+        effects,
+    };
+    book.say(member, ack)
+}
+
 /// The first origin of a vote.
 fn origin(vote: Option<&Seq<Option<Digest>>>) -> Option<Option<Digest>> {
     match vote {
@@ -68,6 +78,25 @@ fn three_votes(alloc: Global) -> Result<SaidBook, OutOfMemory> {
 fn collected(book: &SaidBook, stakes: &[u32], members: &[u32]) -> Option<Collected> {
     match Committee::new(stakes) {
         Ok(committee) => Some(book.collect(&committee, &TX, members)),
+        Err(_) => None,
+    }
+}
+
+/// Acknowledgements of `TX` in epoch 5 of the members 0, 1 and 2, of which the last differs, and one of member 3 in
+/// epoch 4.
+fn four_acks(alloc: Global) -> Result<SaidBook, OutOfMemory> {
+    let mut book = SaidBook::new(alloc);
+    ack(&mut book, 0, 5, ONE)?;
+    ack(&mut book, 1, 5, ONE)?;
+    ack(&mut book, 2, 5, OTHER)?;
+    ack(&mut book, 3, 4, ONE)?;
+    Ok(book)
+}
+
+/// What the acknowledgements of `TX` in epoch 5 by these members give in a committee with these stakes.
+fn acks_collected(book: &SaidBook, stakes: &[u32], members: &[u32]) -> Option<Collected> {
+    match Committee::new(stakes) {
+        Ok(committee) => Some(book.collect_acks(&committee, 5, &TX, members)),
         Err(_) => None,
     }
 }
@@ -179,6 +208,53 @@ fn a_member_named_twice_weighs_once(rt: HostRuntime) -> Result<(), Fail> {
             total: 3
         })
     );
+    Ok(())
+}
+
+#[test]
+fn a_members_last_end_counts(rt: HostRuntime) -> Result<(), Fail> {
+    let mut book = SaidBook::new(rt.alloc());
+    book.say(1, Statement::End { epoch: 5 })?;
+    book.say(0, Statement::End { epoch: 4 })?;
+    book.say(1, Statement::End { epoch: 6 })?;
+    ack(&mut book, 1, 7, ONE)?;
+    assert_eq!(rt; book.last_end(1), Some(6));
+    assert_eq!(rt; book.last_end(0), Some(4));
+    assert_eq!(rt; book.last_end(2), None);
+    Ok(())
+}
+
+#[test]
+fn a_members_last_acknowledgement_counts(rt: HostRuntime) -> Result<(), Fail> {
+    let mut book = SaidBook::new(rt.alloc());
+    ack(&mut book, 1, 5, ONE)?;
+    ack(&mut book, 1, 5, OTHER)?;
+    ack(&mut book, 1, 6, ONE)?;
+    assert_eq!(rt; book.last_ack(1, 5, &TX).copied(), Some(OTHER));
+    assert_eq!(rt; book.last_ack(1, 6, &TX).copied(), Some(ONE));
+    assert_eq!(rt; book.last_ack(1, 5, &OTHER).copied(), None);
+    assert_eq!(rt; book.last_ack(0, 5, &TX).copied(), None);
+    Ok(())
+}
+
+#[test]
+fn acknowledgements_are_collected_in_the_order_of_the_causes(rt: HostRuntime) -> Result<(), Fail> {
+    let book = four_acks(rt.alloc())?;
+    let equal = [1, 1, 1, 1];
+    let lacks = acks_collected(&book, equal.as_slice(), [2, 3, 0].as_slice());
+    assert_eq!(rt; lacks, Some(Collected::Lacks(3)));
+    let short = acks_collected(&book, equal.as_slice(), [0, 2].as_slice());
+    assert_eq!(rt;
+        short,
+        Some(Collected::Short {
+            weight: 2,
+            total: 4
+        })
+    );
+    let differ = acks_collected(&book, equal.as_slice(), [0, 1, 2].as_slice());
+    assert_eq!(rt; differ, Some(Collected::Differ { a: 0, b: 2 }));
+    let whole = acks_collected(&book, [2, 2, 1].as_slice(), [1, 0].as_slice());
+    assert_eq!(rt; whole, Some(Collected::Whole));
     Ok(())
 }
 
