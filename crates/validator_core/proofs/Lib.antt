@@ -7,6 +7,7 @@ pub mod Opening
 pub mod Refusing
 pub mod Seeing
 pub mod Named
+pub mod Fronts
 pub mod Spelled
 pub mod Casting
 pub mod Running

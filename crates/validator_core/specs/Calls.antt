@@ -20,10 +20,12 @@ use Rattle.answer_types.specs.declared.refusals.CloseRefusal.{CloseRefusal}
 use Rattle.answer_types.specs.declared.refusals.CloseRefusal.TheVariants as no_close
 use Rattle.answer_types.specs.declared.refusals.AckRefusal.{AckRefusal}
 use Rattle.answer_types.specs.declared.refusals.AckRefusal.TheVariants as no_ack
+use Rattle.answer_types.specs.declared.refusals.EndRefusal.{EndRefusal}
+use Rattle.answer_types.specs.declared.refusals.EndRefusal.TheVariants as no_end
 use Rattle.answer_types.specs.declared.answers.Seen.{Seen}
 use Rattle.answer_types.specs.declared.refusals.SeeRefusal.{SeeRefusal}
 use Rattle.answer_types.specs.declared.refusals.SeeRefusal.TheVariants as no_see
-use Rattle.protocol_spec.specs.Member.Calls.{Voted, ack_answer, close_answer, hold_answer, run_answer, see_answer, vote_answer}
+use Rattle.protocol_spec.specs.Member.Calls.{Voted, ack_answer, close_answer, end_answer, hold_answer, run_answer, see_answer, vote_answer}
 use Rattle.validator_core.specs.declared.keeping.Unkept.{Unkept}
 use Rattle.validator_core.specs.declared.keeping.Unkept.TheVariants as unkept
 use Rattle.validator_core.specs.Seats.{Ended, answered, fell}
@@ -155,3 +157,14 @@ abbrev pub Acks : (Signer → List ℕ → Digest → Bool) → ℕ → Result S
 Acks accepts member said (Ok s) = (said ≡ Ok s.statement) × IsSealedBy accepts member s
 Acks accepts member said (Err no_ack.OutOfMemory) = is_ok said ≡ true
 Acks accepts member said (Err refusal) = said ≡ Err refusal
+
+-- ---- end
+
+abbrev pub end_said : Rules → Seat → Result Statement EndRefusal
+end_said r seat = if seat.up then end_answer r seat.state else Err no_end.Down
+
+-- the statement under the member's seal; memory may be wanted where there is one, and else not
+abbrev pub Ends : (Signer → List ℕ → Digest → Bool) → ℕ → Result Statement EndRefusal → Result Sealed EndRefusal → Type 0
+Ends accepts member said (Ok s) = (said ≡ Ok s.statement) × IsSealedBy accepts member s
+Ends accepts member said (Err no_end.OutOfMemory) = is_ok said ≡ true
+Ends accepts member said (Err refusal) = said ≡ Err refusal

@@ -19,6 +19,7 @@ mod epoch_calls;
 mod holds;
 mod keeping;
 mod laws;
+mod ordered;
 mod replay;
 mod runs;
 mod sees;
@@ -31,10 +32,14 @@ mod validator;
 mod votes;
 
 pub use answer_types::{
-    AckRefusal, CloseRefusal, HoldRefusal, Ran, RunRefusal, StartRefusal, VoteRefusal, Voted,
+    AckRefusal, CloseRefusal, EndRefusal, HoldRefusal, Ran, RunRefusal, StartRefusal, VoteRefusal,
+    Voted,
 };
 pub use holds::Holding;
-pub use laws::{acks_change_nothing, acks_need_no_rules, closes_need_no_rules, runs_need_no_rules};
+pub use laws::{
+    acks_change_nothing, acks_need_no_rules, closes_need_no_rules, ends_change_nothing,
+    ends_need_no_rules, runs_need_no_rules,
+};
 pub use runs::ran_record;
 pub use state::State;
 pub use validator::Validator;

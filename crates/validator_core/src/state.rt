@@ -18,6 +18,7 @@ ghost use Rattle.scene_spec.specs.Starts.{AreApart};
 ghost use Rattle.scene_spec.specs.Terms.{rules_for};
 ghost use Rattle.validator_core.specs.Entries.{MayArrive, behind_entry, what_as};
 ghost use Rattle.validator_core.specs.Limits.{Accepting, terms_at};
+ghost use Rattle.validator_core.specs.Sound.{unordered};
 ghost use Rattle.validator_core.specs.Steps.{closing, counted, holding, items_of, voted};
 ghost use Rattle.vote_rules.specs.Decide.{Decides};
 ghost use Rattle.vote_rules.specs.Holders.{sides};
@@ -25,6 +26,7 @@ ghost use Rattle.answer_types.specs.declared.answers.Held.{Held as H};
 
 use crate::course::Course;
 use crate::entries::Arrival;
+use crate::ordered::{first_unordered, ordered_on};
 use answer_types::{Held, Left, Seen};
 use chain_types::{DecideRefusal, Object, ObjectKey, Transaction};
 use checkpoint_core::Checkpoint;
@@ -46,6 +48,8 @@ pub struct State {
     records: u64,
     closed: bool,
     votes: VoteBook,
+    /// How many of the first held certificates are in the sequence; one step further behind each entry.
+    ordered: usize,
     pub(crate) course: Course,
     pub(crate) alloc: Global,
 }
@@ -59,7 +63,7 @@ impl Model for State {
 
     ghost view = { λ s. record { writers = s.course.admission.writers; member = member_with s.records s.closed s.votes (coursed s.course) } };
 
-    ghost invariant = { λ s. Stands s.records s.votes s.course };
+    ghost invariant = { λ s. Stands s.records s.votes s.ordered s.course };
 }
 
 impl State {
@@ -77,6 +81,7 @@ impl State {
             records: 0,
             closed: false,
             votes: VoteBook::new(alloc),
+            ordered: 0,
             course: Course::fresh(alloc, opening, writers)?,
             alloc,
         })
@@ -127,6 +132,14 @@ impl State {
         ensures { result ≡ is_known self.now.member.sequence.admission tx.now }
     {
         self.course.admission.is_known(tx)
+    }
+
+    /// The first held transaction that is not in the sequence as the member has seen it; none exactly where all are. Looks
+    /// at none that was found there behind an entry, so the certificates of an epoch are walked once. Takes no memory.
+    pub(crate) fn first_unordered(&self) -> Option<Digest>
+        ensures { result ≡ first_of (unordered self.now.member.sequence.admission) self.now.member.held }
+    {
+        first_unordered(&self.course, self.ordered)
     }
 
     /// The number of checkpoints that the member has built, over all its epochs. Takes no memory.
@@ -272,6 +285,7 @@ impl State {
             }
             Err(OutOfMemory) => {
                 self.course.forget();
+                self.ordered = 0;
                 Err(OutOfMemory)
             }
         }
@@ -295,10 +309,12 @@ impl State {
         match self.course.see(committee, arrival) {
             Ok(seen) => {
                 self.records += 1;
+                self.ordered = ordered_on(&self.course, self.ordered);
                 Ok(seen)
             }
             Err(OutOfMemory) => {
                 self.course.forget();
+                self.ordered = 0;
                 Err(OutOfMemory)
             }
         }
@@ -319,6 +335,7 @@ impl State {
             Ok(done) => Ok(done),
             Err(OutOfMemory) => {
                 self.course.forget();
+                self.ordered = 0;
                 Err(OutOfMemory)
             }
         }

@@ -11,7 +11,7 @@ ghost use Rattle.answer_types.specs.declared.refusals.VoteRefusal.TheVariants as
 ghost use Rattle.answer_types.specs.declared.refusals.CloseRefusal.TheVariants as no_close;
 ghost use Rattle.answer_types.specs.declared.refusals.RunRefusal.TheVariants as no_run;
 ghost use Rattle.answer_types.specs.declared.refusals.SeeRefusal.TheVariants as no_see;
-ghost use Rattle.validator_core.specs.Calls.{Acks, Closes, Holds, Runs, Sees, Votes, ack_said, close_ended, close_said, hold_ended, hold_said, run_ended, run_said, see_ended, see_said, vote_ended, vote_said};
+ghost use Rattle.validator_core.specs.Calls.{Acks, Closes, Ends, Holds, Runs, Sees, Votes, ack_said, close_ended, close_said, end_said, hold_ended, hold_said, run_ended, run_said, see_ended, see_said, vote_ended, vote_said};
 ghost use Rattle.scene_spec.specs.Terms.{rules_for};
 ghost use Rattle.checkpoint_core.specs.Checkpoints.{transactions_in};
 ghost use Rattle.scene_spec.specs.Starts.{AreApart, started};
@@ -23,12 +23,13 @@ ghost use Rattle.world_spec.specs.Step.{executed_digest};
 use crate::start::take_all;
 use crate::{State, calls, epoch_calls, sees, stating};
 use answer_types::{
-    AckRefusal, CloseRefusal, HoldRefusal, Ran, RunRefusal, SeeRefusal, Seen, StartRefusal, VoteRefusal, Voted,
+    AckRefusal, CloseRefusal, EndRefusal, HoldRefusal, Ran, RunRefusal, SeeRefusal, Seen,
+    StartRefusal, VoteRefusal, Voted,
 };
+use chain_messages::Sealed;
 use chain_types::{Object, ObjectKey, object_digest};
 use checkpoint_core::Checkpoint;
 use digest_core::Digest;
-use chain_messages::Sealed;
 use outside::Keeper;
 use quorum_core::{Committee, Sealer};
 use std::alloc::Global;
@@ -289,6 +290,21 @@ impl Validator {
         let answer = epoch_calls::close(&mut self.state, keeper, self.member);
         self.up = !epoch_calls::close_fell(&answer);
         answer
+    }
+
+    /// Asks the member to say End: it is closed, and every transaction of which it holds a certificate is in the part of
+    /// the sequence that it has seen (epoch change of Sui Lutris). Order of the refusals: `Down`, `Halted`, `NotClosed`,
+    /// `Waits` with the first held transaction that is not there; memory is wanted for an End alone. Nothing is kept and
+    /// nothing changes, so it can be said again. The held certificates are walked once an epoch, behind the entries that
+    /// let them in, and not here.
+    #[tactic(auto, using(crate::proofs::Said::end_at))]
+    pub fn end<S: Sealer>(&self, sealer: &S) -> Result<Sealed, EndRefusal>
+        ensures answer { Ends (S.accepts sealer.now) self.now.member (end_said (rules_of_seat self.now (S.accepts sealer.now)) self.now) result }
+    {
+        if !self.up {
+            return Err(EndRefusal::Down);
+        }
+        stating::end(&self.state, sealer, self.member)
     }
 
     /// The digest of the effects of a transaction that the member executed in its present epoch; none exactly where it
