@@ -147,7 +147,12 @@ fn ends_behind_entry(alloc: Global) -> Result<Option<Digest>, Fail> {
 fn end_waits_for_what_is_held(rt: HostRuntime) -> Result<(), Fail> {
     let held = ends_behind_hold(rt.alloc())?;
     let seen = ends_behind_entry(rt.alloc())?;
-    assert_eq!(rt; held, Some(EndRefusal::Waits { tx: Digest(TX_DIGEST) }));
+    assert_eq!(rt;
+        held,
+        Some(EndRefusal::Waits {
+            tx: Digest(TX_DIGEST)
+        })
+    );
     assert_eq!(rt; seen, Some(Digest(END_SEAL)));
     Ok(())
 }

@@ -54,6 +54,9 @@ pub opens_apart : (objects kept opening : List Object) → kept ≡ filter is_sh
 opens_apart objects kept opening shared is apart =
     subst (λ (os : List Object). Opens kept os) (sym is) (subst (λ (os : List Object). KeepsShared os objects) (sym shared) (shared_keeps objects apart), single_apart objects apart)
 
+pub opens_nothing : (kept opening : List Object) → kept ≡ [] → opening ≡ [] → Opens kept opening
+opens_nothing kept opening none nothing = subst (λ (os : List Object). Opens kept os) (sym nothing) (subst (λ (os : List Object). Opens os []) (sym none) ((λ id. refl), (λ id. refl)))
+
 -- ---- one more certificate
 
 found_more : (held : List Held) (h : Held) (test : Held → Bool) → is_some (find test held) ≡ true → is_some (find test (held ++ h ∷ [])) ≡ true

@@ -10,7 +10,9 @@ pub mod Named
 pub mod Fronts
 pub mod Spelled
 pub mod Casting
+pub mod Renewing
 pub mod Running
 pub mod Settling
 pub mod Said
 pub mod Starting
+pub mod Turned

@@ -8,7 +8,8 @@ ghost use Rattle.protocol_spec.specs.Chain.Shape.{shape_fault};
 ghost use Rattle.protocol_spec.specs.Chain.Words.{first_of};
 ghost use Rattle.protocol_spec.specs.Member.Admission.{is_known};
 ghost use Rattle.protocol_spec.specs.Member.Checkpoints.{held_of};
-ghost use Rattle.protocol_spec.specs.Member.Calls.{effects_of, newly_built, ran_items, record_limit};
+ghost use Rattle.protocol_spec.specs.Member.Calls.{effects_of, newly_built, ran_items, record_limit, reverted};
+ghost use Rattle.epoch_turn.specs.Chains.{waiting_one};
 ghost use Rattle.protocol_spec.specs.Member.Member.{Fork as TheFork, ballot, books, built as built_by, consumes, fork_of, fresh, live_objects, vote_for, with_rounds};
 ghost use Rattle.protocol_spec.specs.Member.Sequence.{seen_what};
 ghost use Rattle.protocol_spec.specs.Member.Versions.{Version, object_in, version_at, versions};
@@ -19,7 +20,7 @@ ghost use Rattle.scene_spec.specs.Terms.{rules_for};
 ghost use Rattle.validator_core.specs.Entries.{MayArrive, behind_entry, what_as};
 ghost use Rattle.validator_core.specs.Limits.{Accepting, terms_at};
 ghost use Rattle.validator_core.specs.Sound.{unordered};
-ghost use Rattle.validator_core.specs.Steps.{closing, counted, holding, items_of, voted};
+ghost use Rattle.validator_core.specs.Steps.{closing, counted, holding, items_of, turning, voted};
 ghost use Rattle.vote_rules.specs.Decide.{Decides};
 ghost use Rattle.vote_rules.specs.Holders.{sides};
 ghost use Rattle.answer_types.specs.declared.answers.Held.{Held as H};
@@ -366,5 +367,39 @@ impl State {
     {
         self.closed = true;
         self.records += 1;
+    }
+
+    /// The first admitted transaction that is not executed as it was admitted; none exactly where all are. One look. Takes
+    /// no memory.
+    pub(crate) fn first_undone(&self) -> Option<Digest>
+        ensures { result ≡ first_of (waiting_one self.now.member.held self.now.member.executed) self.now.member.sequence.admission.admitted }
+    {
+        self.course.chain.waits()
+    }
+
+    /// Takes the record of a turn: goes to the next epoch (epoch change of Sui Lutris), and answers the transactions that
+    /// are undone, since they stand in no cut of this one, oldest first. Time grows with what the epoch executed, wrote
+    /// and deleted. Where memory is refused the state is not to be used.
+    #[tactic(auto, unfolding(protocol_spec::specs::Member::Member::built))]
+    pub(crate) fn take_turn(&mut self) -> Result<Seq<Digest>, OutOfMemory>
+        requires room { nat_le record_limit self.old.member.records ≡ false }
+        ensures state { OnOk result (self.new.member ≡ turning self.old.member) }
+        ensures reverted { IfOk result (λ txs. txs ≡ reverted self.old.member) }
+        ensures limit { self.new.writers ≡ self.old.writers }
+    {
+        match self.course.turn() {
+            Ok(reverted) => {
+                self.records += 1;
+                self.closed = false;
+                self.votes = VoteBook::new(self.alloc);
+                self.ordered = 0;
+                Ok(reverted)
+            }
+            Err(OutOfMemory) => {
+                self.course.abandon();
+                self.ordered = 0;
+                Err(OutOfMemory)
+            }
+        }
     }
 }
