@@ -39,120 +39,105 @@ fn ends(member: &Validator) -> (Option<Digest>, Option<EndRefusal>) {
     }
 }
 
-/// What the member acknowledges of two transactions behind the records of a run of the first.
-fn acknowledges_behind_run(
-    alloc: Global,
-) -> Result<(Option<Digest>, Option<AckRefusal>, Option<AckRefusal>), Fail> {
+/// The seal of the acknowledgement of the transaction, and why another one is not acknowledged.
+fn acknowledges_both(member: &Validator) -> (Option<Digest>, Option<AckRefusal>) {
+    let (seal, _none) = acknowledges(member, TX_DIGEST);
+    let (_none, refusal) = acknowledges(member, EFFECTS_DIGEST);
+    (seal, refusal)
+}
+
+/// The same behind the records of a run of the transaction.
+fn acknowledges_behind_run(alloc: Global) -> Result<(Option<Digest>, Option<AckRefusal>), Fail> {
     let kept = hold_and_run(alloc)?;
     let member = member_of(alloc, &kept)?;
-    let (seal, refusal) = acknowledges(&member, TX_DIGEST);
-    let (_seal, other) = acknowledges(&member, EFFECTS_DIGEST);
-    Ok((seal, refusal, other))
+    Ok(acknowledges_both(&member))
 }
 
 #[test]
 fn what_was_executed_is_acknowledged(rt: HostRuntime) -> Result<(), Fail> {
-    let (seal, refusal, other) = acknowledges_behind_run(rt.alloc())?;
+    let (seal, other) = acknowledges_behind_run(rt.alloc())?;
     assert_eq!(rt; seal, Some(Digest(ACK_SEAL)));
-    assert_eq!(rt; (refusal, other), (None, Some(AckRefusal::NotExecuted)));
+    assert_eq!(rt; other, Some(AckRefusal::NotExecuted));
     Ok(())
 }
 
-/// The records of the certificate alone.
-fn hold_alone(alloc: Global) -> Result<Seq<Seq<u8>>, OutOfMemory> {
-    let mut kept = Seq::new(alloc);
-    kept.push(certified(alloc, [1].as_slice())?)?;
-    Ok(kept)
+/// The digest of the transaction's effects, where memory sufficed.
+fn digest_at(member: &Validator) -> Option<Option<Digest>> {
+    member.executed_digest(&Digest(TX_DIGEST)).ok()
 }
 
-/// What the member acknowledges, and its digest of the effects, where the certificate is held alone.
-fn acknowledges_behind_hold(
-    alloc: Global,
-) -> Result<(Option<AckRefusal>, Option<Option<Digest>>), Fail> {
-    let kept = hold_alone(alloc)?;
-    let member = member_of(alloc, &kept)?;
-    let (_seal, refusal) = acknowledges(&member, TX_DIGEST);
-    Ok((refusal, member.executed_digest(&Digest(TX_DIGEST)).ok()))
-}
-
-#[test]
-fn what_is_held_alone_is_not_acknowledged(rt: HostRuntime) -> Result<(), Fail> {
-    let (refusal, digest) = acknowledges_behind_hold(rt.alloc())?;
-    assert_eq!(rt; refusal, Some(AckRefusal::NotExecuted));
-    assert_eq!(rt; digest, Some(None));
-    Ok(())
-}
-
-/// The digest of the effects behind the records of the run.
+/// The same behind the records of its run.
 fn digest_behind_run(alloc: Global) -> Result<Option<Option<Digest>>, Fail> {
     let kept = hold_and_run(alloc)?;
     let member = member_of(alloc, &kept)?;
-    Ok(member.executed_digest(&Digest(TX_DIGEST)).ok())
+    Ok(digest_at(&member))
+}
+
+/// And where its certificate is held alone.
+fn digest_behind_hold(alloc: Global) -> Result<Option<Option<Digest>>, Fail> {
+    let kept = one_record(alloc, [1].as_slice())?;
+    let member = member_of(alloc, &kept)?;
+    Ok(digest_at(&member))
 }
 
 #[test]
 fn the_digest_of_effects_is_told(rt: HostRuntime) -> Result<(), Fail> {
-    let digest = digest_behind_run(rt.alloc())?;
-    assert_eq!(rt; digest, Some(Some(Digest(EFFECTS_DIGEST))));
+    let ran = digest_behind_run(rt.alloc())?;
+    let held = digest_behind_hold(rt.alloc())?;
+    assert_eq!(rt; ran, Some(Some(Digest(EFFECTS_DIGEST))));
+    assert_eq!(rt; held, Some(None));
     Ok(())
 }
 
-/// The records of a close, behind this one or none.
-fn closed(alloc: Global, before: Option<Seq<u8>>) -> Result<Seq<Seq<u8>>, OutOfMemory> {
+/// The record of the certificate behind this tag.
+fn one_record(alloc: Global, tag: &[u8]) -> Result<Seq<Seq<u8>>, OutOfMemory> {
     let mut kept = Seq::new(alloc);
-    if let Some(record) = before {
-        kept.push(record)?;
-    }
+    kept.push(certified(alloc, tag)?)?;
+    Ok(kept)
+}
+
+/// The same, and a close.
+fn with_close(alloc: Global, tag: &[u8]) -> Result<Seq<Seq<u8>>, OutOfMemory> {
+    let mut kept = one_record(alloc, tag)?;
     kept.push(Seq::from_slice(alloc, [3].as_slice())?)?;
     Ok(kept)
 }
 
-/// What a member says before and behind its close.
-fn ends_around_close(
-    alloc: Global,
-) -> Result<(Option<EndRefusal>, Option<Digest>, Option<EndRefusal>), Fail> {
-    let fresh = member_of(alloc, &Seq::new(alloc))?;
-    let (_seal, open) = ends(&fresh);
-    let kept = closed(alloc, None)?;
+/// What a member says that has no records.
+fn ends_open(alloc: Global) -> Result<(Option<Digest>, Option<EndRefusal>), Fail> {
+    let member = member_of(alloc, &Seq::new(alloc))?;
+    Ok(ends(&member))
+}
+
+/// What one says behind these records and a close.
+fn ends_closed(alloc: Global, tag: &[u8]) -> Result<(Option<Digest>, Option<EndRefusal>), Fail> {
+    let kept = with_close(alloc, tag)?;
     let member = member_of(alloc, &kept)?;
-    let (seal, refusal) = ends(&member);
-    Ok((open, seal, refusal))
+    Ok(ends(&member))
 }
 
 #[test]
-fn a_closed_member_says_end(rt: HostRuntime) -> Result<(), Fail> {
-    let (open, seal, refusal) = ends_around_close(rt.alloc())?;
-    assert_eq!(rt; open, Some(EndRefusal::NotClosed));
-    assert_eq!(rt; (seal, refusal), (Some(Digest(END_SEAL)), None));
+fn an_open_member_says_no_end(rt: HostRuntime) -> Result<(), Fail> {
+    let (_seal, refusal) = ends_open(rt.alloc())?;
+    assert_eq!(rt; refusal, Some(EndRefusal::NotClosed));
     Ok(())
 }
 
-/// What a closed member says where the certificate came to it alone.
-fn ends_behind_hold(alloc: Global) -> Result<Option<EndRefusal>, Fail> {
-    let kept = closed(alloc, Some(certified(alloc, [1].as_slice())?))?;
-    let member = member_of(alloc, &kept)?;
-    let (_seal, refusal) = ends(&member);
-    Ok(refusal)
-}
-
-/// And where it came by the sequence.
-fn ends_behind_entry(alloc: Global) -> Result<Option<Digest>, Fail> {
-    let kept = closed(alloc, Some(certified(alloc, [2, 202, 1, 0].as_slice())?))?;
-    let member = member_of(alloc, &kept)?;
-    let (seal, _refusal) = ends(&member);
-    Ok(seal)
-}
-
 #[test]
-fn end_waits_for_what_is_held(rt: HostRuntime) -> Result<(), Fail> {
-    let held = ends_behind_hold(rt.alloc())?;
-    let seen = ends_behind_entry(rt.alloc())?;
+fn end_waits_for_what_came_alone(rt: HostRuntime) -> Result<(), Fail> {
+    let (_seal, refusal) = ends_closed(rt.alloc(), [1].as_slice())?;
     assert_eq!(rt;
-        held,
+        refusal,
         Some(EndRefusal::Waits {
             tx: Digest(TX_DIGEST)
         })
     );
-    assert_eq!(rt; seen, Some(Digest(END_SEAL)));
+    Ok(())
+}
+
+#[test]
+fn end_is_said_of_what_came_by_the_sequence(rt: HostRuntime) -> Result<(), Fail> {
+    let (seal, _refusal) = ends_closed(rt.alloc(), [2, 202, 1, 0].as_slice())?;
+    assert_eq!(rt; seal, Some(Digest(END_SEAL)));
     Ok(())
 }
