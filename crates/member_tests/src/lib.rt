@@ -6,6 +6,8 @@ mod scenario;
 #[cfg(test)]
 mod sequences;
 #[cfg(test)]
+mod stated;
+#[cfg(test)]
 mod states;
 #[cfg(test)]
 mod validators;

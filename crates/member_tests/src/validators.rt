@@ -189,7 +189,7 @@ fn a_member_starts_from_its_records(rt: HostRuntime) -> Result<(), Fail> {
 }
 
 /// The records of a certificate, and of its run, with its effects.
-fn hold_and_run(alloc: Global) -> Result<Seq<Seq<u8>>, OutOfMemory> {
+pub(crate) fn hold_and_run(alloc: Global) -> Result<Seq<Seq<u8>>, OutOfMemory> {
     let mut kept = Seq::new(alloc);
     kept.push(certified(alloc, [1].as_slice())?)?;
     kept.push(ran(alloc)?)?;

@@ -27,8 +27,8 @@ use Rattle.epoch_turn.proofs.Told.{keeps_cuts}
 use Rattle.version_store.proofs.Equality.{digest_self}
 use Rattle.version_assign.specs.declared.taken.Taken.{Taken}
 use Rattle.version_assign.specs.Calls.{Admitting, with_entry as with_certificate, with_mark as with_mark_passed}
-use Rattle.version_assign.specs.Sharing.{HasShared, Serve}
-use Rattle.version_assign.proofs.Sharing.{shared_serve}
+use Rattle.version_assign.specs.Sharing.{HasShared, ServesAs}
+use Rattle.version_assign.proofs.Sharing.{kept_serve}
 use Rattle.validator_core.specs.declared.course.Course.{Course}
 use Rattle.validator_core.specs.Courses.{Coursed, IsAdmitting, IsSound, IsUnbuilt, WaitsIn, arrives, brings, coursed, ends, marks, numbered_in}
 use Rattle.validator_core.specs.declared.entries.Arrival.{Arrival}
@@ -99,8 +99,8 @@ module _ (c : Course) (sound : IsSound c) where
   abbrev a : Admission
   a = c.admission.admission
 
-  serve : Serve c.store.opening
-  serve = shared_serve c.store.opening u.opening.1
+  serve : ServesAs c.admission.opening c.store.opening
+  serve = kept_serve c.admission.opening c.store.opening u.opening.0
 
   told_length : length c.chain.due ≡ length a.admitted
   told_length = ap length u.told ∙ length-map a.admitted (due_of c.held)
@@ -112,7 +112,7 @@ module _ (c : Course) (sound : IsSound c) where
 
   module _ (h : Held) where
     entered_is : entered c.admission.writers c.admission.opening a h ≡ entered c.admission.writers c.store.opening a h
-    entered_is = ap (λ (os : List Object). entered c.admission.writers os a h) u.opening.0 ∙ (serve.entered c.admission.writers a h u.shared).0
+    entered_is = (serve.entered c.admission.writers a h u.shared).0
 
     abbrev now : Admission
     now = entered c.admission.writers c.admission.opening a h
@@ -155,7 +155,7 @@ module _ (c : Course) (sound : IsSound c) where
     passed = passed_mark c.admission.writers c.admission.opening a
 
     passed_is : passed ≡ passed_mark c.admission.writers c.store.opening a
-    passed_is = ap (λ (os : List Object). passed_mark c.admission.writers os a) u.opening.0 ∙ (serve.passed c.admission.writers a u.shared).0
+    passed_is = (serve.passed c.admission.writers a u.shared).0
 
     passes : IsFront a.admitted passed.admitted
     passes = passed_front c.admission.writers c.admission.opening c.held a u.known

@@ -1,6 +1,6 @@
 -- How what a member has of its epoch stays sound.
 use Rattle.std.proofs.Common.{◌≡◌, ◌∙◌, arith, ℕ, ◌+◌, ◌-◌, ◌≤◌, Bool, true, false, cond, List, [], ◌∷◌, ◌++◌, map, length, refl, sym, ap, subst, append-nil}
-use Rattle.std.specs.Prelude.{Some, IfOk, OnOk, Result, Ok, Err, find, is_some}
+use Rattle.std.specs.Prelude.{Some, filter, IfOk, OnOk, Result, Ok, Err, find, is_some}
 use Rattle.chain_types.specs.declared.objects.Object.{Object}
 use Rattle.chain_types.specs.Equal.{digest_eq}
 use Rattle.answer_types.specs.declared.answers.Held.{Held}
@@ -8,17 +8,20 @@ use Rattle.protocol_spec.specs.Chain.Words.{Each}
 use Rattle.protocol_spec.proofs.ListLemmas.{each-push}
 use Rattle.protocol_spec.specs.Member.Admission.{Admission, Admitted, nothing_admitted}
 use Rattle.protocol_spec.specs.Member.Versions.{Execution}
-use Rattle.scene_spec.specs.Starts.{AreApart}
-use Rattle.epoch_turn.specs.Chains.{BuildsAll, Chaining, IsAhead, IsBehind, IsTold, StartsBehind, StaysBehind, advanced, nothing_built}
+use Rattle.epoch_turn.specs.Chains.{BuildsAll, Chaining, IsAhead, IsBehind, IsTold, StartsBehind, StaysBehind, advanced, nothing_built, turned}
 use Rattle.epoch_turn.specs.Dues.{due_of, size_of}
 use Rattle.epoch_turn.proofs.Told.{all_built, told_held}
 use Rattle.exec_plan.specs.Books.{IsSound as IsSoundHeld}
 use Rattle.exec_plan.specs.Waits.{IsWaiting}
 use Rattle.exec_plan.specs.declared.waiting.Waiting.{Waiting}
-use Rattle.version_assign.specs.Sharing.{HasShared, shared_of}
+use Rattle.version_assign.specs.Sharing.{HasShared, KeepsShared}
+use Rattle.version_assign.specs.Calls.{is_shared_one}
+use Rattle.version_assign.proofs.Sharing.{shared_keeps}
+use Rattle.version_store.proofs.Openings.{single_apart}
+use Rattle.scene_spec.specs.Starts.{AreApart}
 use Rattle.version_store.specs.Stores.{Stored}
 use Rattle.validator_core.specs.declared.course.Course.{Course}
-use Rattle.validator_core.specs.Courses.{AreHeld, HasOpening, IsAdmitting, IsHeldIn, IsSound, IsUnbuilt, WaitsIn, built_in, coursed}
+use Rattle.validator_core.specs.Courses.{AreHeld, HasOpening, IsAdmitting, IsHeldIn, IsSound, IsUnbuilt, Opens, WaitsIn, built_in, coursed}
 
 -- all that is built is what the definitions build
 pub built_is : (c : Course) → IsSound c → c.chain.built ≡ built_in (coursed c)
@@ -26,8 +29,8 @@ built_is c sound = (sound.all c.held c.admission.admission.admitted sound.unbuil
 
 -- ---- where nothing is held
 
-pub empty_sound : (c : Course) → HasOpening c → c.admission.admission ≡ nothing_admitted → c.held ≡ [] → ((s : Stored) (a : Admission) → IsWaiting s a [] c.waiting) → c.chain ≡ nothing_built → StartsBehind c.chain → IsSound c
-empty_sound c opening fresh none waits built starts = record {
+pub fresh_sound : (c : Course) (before : Chaining) → HasOpening c → c.admission.admission ≡ nothing_admitted → c.held ≡ [] → ((s : Stored) (a : Admission) → IsWaiting s a [] c.waiting) → c.chain ≡ turned before → StartsBehind c.chain → IsSound c
+fresh_sound c before opening fresh none waits built starts = record {
   unbuilt = record {
     held = subst (Each IsSoundHeld) (sym none) tt;
     waits = subst (λ (hs : List Held). IsWaiting c.store c.admission.admission hs c.waiting) (sym none) (waits c.store c.admission.admission);
@@ -40,8 +43,19 @@ empty_sound c opening fresh none waits built starts = record {
     behind = starts c.epoch c.store.executed;
   };
   ahead = λ more. starts c.epoch (c.store.executed ++ more);
-  all = subst (BuildsAll c.epoch c.store.executed) (sym built) (all_built c.epoch c.store.executed nothing_built);
+  all = subst (BuildsAll c.epoch c.store.executed) (sym built) (all_built c.epoch c.store.executed (turned before));
 }
+
+pub empty_sound : (c : Course) → HasOpening c → c.admission.admission ≡ nothing_admitted → c.held ≡ [] → ((s : Stored) (a : Admission) → IsWaiting s a [] c.waiting) → c.chain ≡ nothing_built → StartsBehind c.chain → IsSound c
+empty_sound c opening fresh none waits built starts = fresh_sound c nothing_built opening fresh none waits built starts
+
+-- the opening of an epoch 0, whose objects have distinct ids
+pub opens_apart : (objects kept opening : List Object) → kept ≡ filter is_shared_one objects → opening ≡ objects → AreApart objects → Opens kept opening
+opens_apart objects kept opening shared is apart =
+    subst (λ (os : List Object). Opens kept os) (sym is) (subst (λ (os : List Object). KeepsShared os objects) (sym shared) (shared_keeps objects apart), single_apart objects apart)
+
+pub opens_nothing : (kept opening : List Object) → kept ≡ [] → opening ≡ [] → Opens kept opening
+opens_nothing kept opening none nothing = subst (λ (os : List Object). Opens kept os) (sym nothing) (subst (λ (os : List Object). Opens os []) (sym none) ((λ id. refl), (λ id. refl)))
 
 -- ---- one more certificate
 
@@ -145,7 +159,7 @@ pub run_sound : (c : Course) (store : Stored) (waiting : Waiting) (more : List E
 run_sound c store waiting more sound is waits = record {
   held = u.held;
   waits = waits;
-  opening = (u.opening.0 ∙ sym (ap shared_of opened), subst AreApart (sym opened) u.opening.1);
+  opening = subst (Opens c.admission.opening) (sym opened) u.opening;
   shared = subst (λ (os : List Object). HasShared os c.admission.admission) (sym opened) u.shared;
   known = u.known;
   marked = u.marked;

@@ -7,9 +7,12 @@ pub mod Opening
 pub mod Refusing
 pub mod Seeing
 pub mod Named
+pub mod Fronts
 pub mod Spelled
 pub mod Casting
+pub mod Renewing
 pub mod Running
 pub mod Settling
 pub mod Said
 pub mod Starting
+pub mod Turned

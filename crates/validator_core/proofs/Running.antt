@@ -74,7 +74,7 @@ close_called_alike r r' m = after_close r r' m (close_answer r m)
 pub is_kept : (before now : Option Journals) (member : ℕ) (d x : Option Record) → d ≡ x → Keeps before now member x → Keeps before now member d
 is_kept before now member d x is kept = subst (λ (y : Option Record). Keeps before now member y) (sym is) kept
 
-maybe_kept : (before now : Option Journals) (member : ℕ) (d x : Option Record) → d ≡ x → Keeps before now member x ⊎ KeepsJournals before now → Keeps before now member d ⊎ KeepsJournals before now
+pub maybe_kept : (before now : Option Journals) (member : ℕ) (d x : Option Record) → d ≡ x → Keeps before now member x ⊎ KeepsJournals before now → Keeps before now member d ⊎ KeepsJournals before now
 maybe_kept before now member d x is kept = subst (λ (y : Option Record). Keeps before now member y ⊎ KeepsJournals before now) (sym is) kept
 
 -- ---- a run

@@ -1,5 +1,5 @@
 -- What a member states beside its votes.
-use Rattle.std.proofs.Common.{◌≡◌, ℕ, Bool, true, false, cond, List, Option, Some, None, refl, ap, sym, ◌∙◌, subst}
+use Rattle.std.proofs.Common.{◌≡◌, ℕ, Bool, true, false, cond, not, List, [], ◌∷◌, Option, Some, None, refl, ap, sym, ◌∙◌, subst}
 use Rattle.std.specs.Prelude.{Result, Ok, Err, is_ok, is_some, option_map}
 use Rattle.wire_bcs.specs.Digests.{digest}
 use Rattle.digest_core.specs.declared.Digest.{Digest}
@@ -11,15 +11,25 @@ use Rattle.effects_core.specs.declared.effects.Effects.{Effects}
 use Rattle.effects_core.specs.Effects.{digest_of_effects}
 use Rattle.answer_types.specs.declared.refusals.AckRefusal.{AckRefusal}
 use Rattle.answer_types.specs.declared.refusals.AckRefusal.TheVariants as no_ack
+use Rattle.answer_types.specs.declared.refusals.EndRefusal.{EndRefusal}
+use Rattle.answer_types.specs.declared.refusals.EndRefusal.TheVariants as no_end
+use Rattle.answer_types.specs.declared.answers.Held.{Held}
 use Rattle.protocol_spec.specs.Chain.Certificates.{Rules}
+use Rattle.protocol_spec.specs.Chain.Words.{first_of, first_some, unless_refused, where_true}
 use Rattle.protocol_spec.specs.Member.Versions.{Execution, execution_of, is_executed}
 use Rattle.protocol_spec.specs.Member.Member.{Fork, Member, fork_of}
-use Rattle.protocol_spec.specs.Member.Calls.{ack_answer, acknowledged, acks, due}
+use Rattle.protocol_spec.specs.Member.Calls.{ack_answer, acknowledged, acks, due, end_answer, end_cases, ends, unseen}
 use Rattle.scene_spec.specs.Seats.{Seat, behind, due_at, rules_of_seat}
 use Rattle.validator_core.specs.Answers.{bare}
-use Rattle.validator_core.specs.Calls.{Acks, ack_said}
+use Rattle.validator_core.specs.Calls.{Acks, Ends, ack_said, end_said}
+use Rattle.validator_core.specs.Sound.{is_ordered, unordered}
+use Rattle.validator_core.proofs.Refusing.{free, none_stops, stop, stopped_by}
 use Rattle.validator_core.proofs.Settling.{Signing}
 use Rattle.world_spec.specs.Step.{effects_digest_at, executed_digest}
+
+either_way : {A : Type 0} (b : Bool) (x : A) → cond b x x ≡ x
+either_way true x = refl
+either_way false x = refl
 
 -- ---- the digest of what was executed
 
@@ -72,15 +82,72 @@ pub ack_short : (epoch : ℕ) (tx effects : Digest) → statement_codec.short (s
 unfolding statement_codec digest
 ack_short epoch tx effects = (tt, (tt, tt))
 
+-- ---- an End
+
+pub end_short : (epoch : ℕ) → statement_codec.short (statement.End epoch)
+unfolding statement_codec
+end_short epoch = tt
+
+unseen_is : (m : Member) (hs : List Held) → option_map (λ (tx : Digest). no_end.Waits tx) (first_of (unordered m.sequence.admission) hs) ≡ first_of (unseen m) hs
+unseen_is m [] = refl
+unseen_is m (h ∷ hs) = by (is_ordered m.sequence.admission h) (unseen_is m hs)
+  where
+    one : (o : Option Digest) (p : Option EndRefusal) → option_map (λ (tx : Digest). no_end.Waits tx) o ≡ p → option_map (λ (tx : Digest). no_end.Waits tx) (first_some (o ∷ [])) ≡ first_some (p ∷ [])
+    one None None e = refl
+    one None (Some p) e = absurd (cc)
+    one (Some tx) None e = absurd (cc)
+    one (Some tx) (Some p) e = e
+
+    by : (b : Bool) → option_map (λ (tx : Digest). no_end.Waits tx) (first_of (unordered m.sequence.admission) hs) ≡ first_of (unseen m) hs
+        → option_map (λ (tx : Digest). no_end.Waits tx) (first_some (where_true (not b) h.digest ∷ first_of (unordered m.sequence.admission) hs ∷ []))
+        ≡ first_some (where_true (not b) (no_end.Waits h.digest) ∷ first_of (unseen m) hs ∷ [])
+    by true rest = one (first_of (unordered m.sequence.admission) hs) (first_of (unseen m) hs) rest
+    by false rest = refl
+
+pub one_waits : (m : Member) (tx : Digest) → Some tx ≡ first_of (unordered m.sequence.admission) m.held → first_of (unseen m) m.held ≡ Some (no_end.Waits tx)
+one_waits m tx is = sym (unseen_is m m.held) ∙ ap (λ (o : Option Digest). option_map (λ (x : Digest). no_end.Waits x) o) (sym is)
+
+pub none_waits : (m : Member) → None ≡ first_of (unordered m.sequence.admission) m.held → first_of (unseen m) m.held ≡ None
+none_waits m is = sym (unseen_is m m.held) ∙ ap (λ (o : Option Digest). option_map (λ (x : Digest). no_end.Waits x) o) (sym is)
+
+pub end_goes : (m : Member) → free ≡ unless_refused (first_some (end_cases m)) tt → end_answer bare m ≡ Ok (statement.End m.epoch)
+unfolding end_answer
+end_goes m goes = ap (λ (o : Option EndRefusal). unless_refused o (statement.End m.epoch)) (none_stops (first_some (end_cases m)) goes)
+
+pub end_wants : (m : Member) → free ≡ unless_refused (first_some (end_cases m)) tt → is_ok (end_answer bare m) ≡ true
+end_wants m goes = ap (λ (a : Result Statement EndRefusal). is_ok a) (end_goes m goes)
+
+end_stops : (m : Member) (refusal : EndRefusal) → stop refusal ≡ unless_refused (first_some (end_cases m)) tt → end_answer bare m ≡ Err refusal
+unfolding end_answer
+end_stops m refusal stopped = ap (λ (o : Option EndRefusal). unless_refused o (statement.End m.epoch)) (stopped_by (first_some (end_cases m)) refusal stopped)
+
+end_as : (accepts : Signing) (member : ℕ) (said : Result Statement EndRefusal) (refusal : EndRefusal) → (stop refusal ≡ stop no_end.OutOfMemory → ⊥) → said ≡ Err refusal → Ends accepts member said (Err refusal)
+end_as accepts member said no_end.Down able h = h
+end_as accepts member said (no_end.Halted first second) able h = h
+end_as accepts member said no_end.NotClosed able h = h
+end_as accepts member said (no_end.Waits tx) able h = h
+end_as accepts member said no_end.OutOfMemory able h = absurd (able refl)
+
+pub end_refused : (accepts : Signing) (member : ℕ) (m : Member) (refusal : EndRefusal) → (stop refusal ≡ stop no_end.OutOfMemory → ⊥) → stop refusal ≡ unless_refused (first_some (end_cases m)) tt → Ends accepts member (end_answer bare m) (Err refusal)
+end_refused accepts member m refusal able stopped = end_as accepts member (end_answer bare m) refusal able (end_stops m refusal stopped)
+
 -- ---- the rules play no part, and nothing changes
+
+pub end_answer_alike : (r r' : Rules) (m : Member) → end_answer r m ≡ end_answer r' m
+unfolding end_answer
+end_answer_alike r r' m = refl
+
+pub no_end_due : (r : Rules) (seat : Seat) → due_at r seat ends ≡ None
+unfolding due
+no_end_due r seat = either_way seat.up None
+
+pub end_stays : (r : Rules) (seat : Seat) → behind r seat ends ≡ seat
+unfolding due
+end_stays r seat = either_way seat.up seat
 
 pub ack_answer_alike : (r r' : Rules) (m : Member) (tx : Digest) → ack_answer r m tx ≡ ack_answer r' m tx
 unfolding ack_answer
 ack_answer_alike r r' m tx = refl
-
-either_way : {A : Type 0} (b : Bool) (x : A) → cond b x x ≡ x
-either_way true x = refl
-either_way false x = refl
 
 pub no_ack_due : (r : Rules) (seat : Seat) (tx : Digest) → due_at r seat (acks tx) ≡ None
 unfolding due
@@ -97,3 +164,9 @@ pub ack_at : (accepts : Signing) (seat : Seat) (tx : Digest) (answer : Result Se
 ack_at accepts seat tx answer up h =
     subst (λ said. Acks accepts seat.member said answer)
     (ack_answer_alike bare (rules_of_seat seat accepts) seat.state tx ∙ ap (λ (b : Bool). cond b (ack_answer (rules_of_seat seat accepts) seat.state tx) (Err no_ack.Down)) (sym up)) h
+
+pub end_at : (accepts : Signing) (seat : Seat) (answer : Result Sealed EndRefusal) → seat.up ≡ true → Ends accepts seat.member (end_answer bare seat.state) answer
+    → Ends accepts seat.member (end_said (rules_of_seat seat accepts) seat) answer
+end_at accepts seat answer up h =
+    subst (λ said. Ends accepts seat.member said answer)
+    (end_answer_alike bare (rules_of_seat seat accepts) seat.state ∙ ap (λ (b : Bool). cond b (end_answer (rules_of_seat seat accepts) seat.state) (Err no_end.Down)) (sym up)) h

@@ -20,10 +20,14 @@ use Rattle.answer_types.specs.declared.refusals.CloseRefusal.{CloseRefusal}
 use Rattle.answer_types.specs.declared.refusals.CloseRefusal.TheVariants as no_close
 use Rattle.answer_types.specs.declared.refusals.AckRefusal.{AckRefusal}
 use Rattle.answer_types.specs.declared.refusals.AckRefusal.TheVariants as no_ack
+use Rattle.answer_types.specs.declared.refusals.EndRefusal.{EndRefusal}
+use Rattle.answer_types.specs.declared.refusals.EndRefusal.TheVariants as no_end
+use Rattle.answer_types.specs.declared.refusals.TurnRefusal.{TurnRefusal}
+use Rattle.answer_types.specs.declared.refusals.TurnRefusal.TheVariants as no_turn
 use Rattle.answer_types.specs.declared.answers.Seen.{Seen}
 use Rattle.answer_types.specs.declared.refusals.SeeRefusal.{SeeRefusal}
 use Rattle.answer_types.specs.declared.refusals.SeeRefusal.TheVariants as no_see
-use Rattle.protocol_spec.specs.Member.Calls.{Voted, ack_answer, close_answer, hold_answer, run_answer, see_answer, vote_answer}
+use Rattle.protocol_spec.specs.Member.Calls.{Voted, ack_answer, close_answer, end_answer, hold_answer, run_answer, see_answer, turn_answer, vote_answer}
 use Rattle.validator_core.specs.declared.keeping.Unkept.{Unkept}
 use Rattle.validator_core.specs.declared.keeping.Unkept.TheVariants as unkept
 use Rattle.validator_core.specs.Seats.{Ended, answered, fell}
@@ -155,3 +159,35 @@ abbrev pub Acks : (Signer → List ℕ → Digest → Bool) → ℕ → Result S
 Acks accepts member said (Ok s) = (said ≡ Ok s.statement) × IsSealedBy accepts member s
 Acks accepts member said (Err no_ack.OutOfMemory) = is_ok said ≡ true
 Acks accepts member said (Err refusal) = said ≡ Err refusal
+
+-- ---- end
+
+abbrev pub end_said : Rules → Seat → Result Statement EndRefusal
+end_said r seat = if seat.up then end_answer r seat.state else Err no_end.Down
+
+-- the statement under the member's seal; memory may be wanted where there is one, and else not
+abbrev pub Ends : (Signer → List ℕ → Digest → Bool) → ℕ → Result Statement EndRefusal → Result Sealed EndRefusal → Type 0
+Ends accepts member said (Ok s) = (said ≡ Ok s.statement) × IsSealedBy accepts member s
+Ends accepts member said (Err no_end.OutOfMemory) = is_ok said ≡ true
+Ends accepts member said (Err refusal) = said ≡ Err refusal
+
+-- ---- turn
+
+abbrev pub turn_said : Rules → Seat → Result (List Digest) TurnRefusal
+turn_said r seat = if seat.up then turn_answer r seat.state else Err no_turn.Down
+
+abbrev pub Turns : Result (List Digest) TurnRefusal → Result (List Digest) TurnRefusal → Type 0
+Turns said (Ok txs) = said ≡ Ok txs
+Turns said (Err no_turn.OutOfMemory) = Unit {0}
+Turns said (Err no_turn.KeepFault) = Unit {0}
+Turns said (Err refusal) = said ≡ Err refusal
+
+abbrev pub unkept_turn : Unkept → TurnRefusal
+unkept_turn unkept.KeepFault = no_turn.KeepFault
+unkept_turn unkept.OutOfMemory = no_turn.OutOfMemory
+
+abbrev pub turn_ended : Result (List Digest) TurnRefusal → Ended
+turn_ended (Ok txs) = answered
+turn_ended (Err no_turn.OutOfMemory) = fell
+turn_ended (Err no_turn.KeepFault) = fell
+turn_ended (Err refusal) = answered

@@ -1,22 +1,23 @@
 -- What a member has of its epoch beside its votes, and how the code keeps it. Source: Sui Lutris.
-use Rattle.std.specs.Prelude.{◌≡◌, ◌≤◌, ℕ, true, false, List, [], ◌∷◌, ◌++◌, map, take, drop, length, Option, is_some}
+use Rattle.std.specs.Prelude.{◌≡◌, ◌≤◌, ◌+◌, ℕ, true, false, not, List, [], ◌∷◌, ◌++◌, map, filter, take, drop, length, Option, is_some}
+use Rattle.digest_core.specs.declared.Digest.{Digest}
 use Rattle.chain_types.specs.declared.objects.Object.{Object}
 use Rattle.checkpoint_core.specs.declared.checkpoints.Checkpoint.{Checkpoint}
 use Rattle.answer_types.specs.declared.answers.Held.{Held}
 use Rattle.protocol_spec.specs.Chain.Words.{Each}
 use Rattle.protocol_spec.specs.Chain.Committee.{is_quorum, weight}
 use Rattle.protocol_spec.specs.Member.Admission.{Admitted, Admission, digest_of_admitted, entered, passed_mark, since_mark}
-use Rattle.protocol_spec.specs.Member.Checkpoints.{chained, held_of}
+use Rattle.protocol_spec.specs.Member.Checkpoints.{chained, held_of, is_cut}
 use Rattle.protocol_spec.specs.Member.Sequence.{Sequence, counted_as, cut_of, nothing_seen, numbered, takes}
 use Rattle.protocol_spec.specs.Member.Member.{held_with}
 use Rattle.protocol_spec.specs.Member.Rounds.{rounds}
-use Rattle.protocol_spec.specs.Member.Versions.{Execution}
-use Rattle.scene_spec.specs.Starts.{AreApart}
+use Rattle.protocol_spec.specs.Member.Versions.{Execution, live_list}
 use Rattle.epoch_turn.specs.Chains.{BuildsAll, IsAhead, IsBehind, IsTold}
 use Rattle.epoch_turn.specs.Dues.{cuts_of, size_of}
 use Rattle.exec_plan.specs.Books.{IsSound as IsSoundHeld}
 use Rattle.exec_plan.specs.Waits.{IsWaiting, StoodBefore}
-use Rattle.version_assign.specs.Sharing.{HasShared, shared_of}
+use Rattle.version_assign.specs.Sharing.{HasShared, KeepsShared}
+use Rattle.version_store.specs.Changed.{IsSingle}
 use Rattle.validator_core.specs.declared.course.Course.{Course}
 use Rattle.validator_core.specs.declared.entries.Arrival.{Arrival}
 use Rattle.validator_core.specs.declared.entries.Arrival.TheVariants as arrival
@@ -77,9 +78,12 @@ pub record AreHeld (held : List Held) (a : Admission) : Type 0 where
   pub admitted : Each (IsHeldIn held) a.admitted
   pub pending : Each (WaitsIn held) a.pending
 
--- the admission has the shared objects with which the epoch opened
+-- the admission has the shared objects with which the epoch opened, one of each id
+abbrev pub Opens : List Object → List Object → Type 0
+Opens kept opening = KeepsShared kept opening × IsSingle opening
+
 abbrev pub HasOpening : Course → Type 0
-HasOpening c = (c.admission.opening ≡ shared_of c.store.opening) × AreApart c.store.opening
+HasOpening c = Opens c.admission.opening c.store.opening
 
 -- of a course whose chain may have to build more
 pub record IsUnbuilt (c : Course) : Type 0 where
@@ -139,6 +143,17 @@ ends stakes c member = record c { sequence = counted_as (is_quorum stakes (weigh
 
 abbrev pub ran : Coursed → Coursed
 ran c = record c { executed = c.executed ++ rounds (record { opening = c.opening; held = c.held; admission = c.sequence.admission }) c.executed }
+
+-- the next epoch opens with what the executed transactions left that stand in a cut
+abbrev pub kept_in : Coursed → List Execution
+kept_in c = filter (λ (x : Execution). is_cut c.sequence.cuts x.digest) c.executed
+
+abbrev pub turned_in : Coursed → Coursed
+turned_in c = record { writers = c.writers; epoch = c.epoch + 1; opening = live_list c.opening (kept_in c); executed = []; held = []; sequence = nothing_seen; past = built_in c }
+
+-- the executed transactions that stand in none, oldest first
+abbrev pub reverted_in : Coursed → List Digest
+reverted_in c = map (λ (x : Execution). x.digest) (filter (λ (x : Execution). not (is_cut c.sequence.cuts x.digest)) c.executed)
 
 -- what an entry does, before it is numbered
 abbrev pub arrives : List ℕ → Coursed → Arrival → Coursed

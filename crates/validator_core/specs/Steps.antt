@@ -8,7 +8,7 @@ use Rattle.effects_core.specs.Effects.{digest_of_effects}
 use Rattle.journal_core.specs.declared.records.RanItem.{RanItem}
 use Rattle.journal_core.specs.declared.records.Record.{Record}
 use Rattle.protocol_spec.specs.Member.Sequence.{held_as}
-use Rattle.protocol_spec.specs.Member.Member.{Member, cast_of}
+use Rattle.protocol_spec.specs.Member.Member.{Member, cast_of, turned}
 
 -- a fresh vote
 abbrev pub voted : Member → Transaction → List (Option Digest) → Member
@@ -21,6 +21,10 @@ holding m c = record m { held = m.held ++ held_as c ∷ []; records = m.records 
 -- the member closed its epoch
 abbrev pub closing : Member → Member
 closing m = record m { closed = true; records = m.records + 1 }
+
+-- the member goes to the next epoch
+abbrev pub turning : Member → Member
+turning m = record (turned m) { records = m.records + 1 }
 
 -- ---- runs
 

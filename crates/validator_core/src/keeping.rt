@@ -5,9 +5,9 @@ ghost use Rattle.journal_core.specs.Records as journals;
 ghost use Rattle.outside.specs.Causes.{Rose};
 ghost use Rattle.validator_core.specs.declared.keeping.Unkept.TheVariants as unkept;
 ghost use Rattle.validator_core.specs.Seats.{Appended};
-ghost use Rattle.validator_core.specs.Calls.{unkept_close, unkept_hold, unkept_run, unkept_see, unkept_vote};
+ghost use Rattle.validator_core.specs.Calls.{unkept_close, unkept_hold, unkept_run, unkept_see, unkept_turn, unkept_vote};
 
-use answer_types::{CloseRefusal, HoldRefusal, RunRefusal, SeeRefusal, VoteRefusal};
+use answer_types::{CloseRefusal, HoldRefusal, RunRefusal, SeeRefusal, TurnRefusal, VoteRefusal};
 use journal_core::{Record, encode_record};
 use outside::{Keeper, OutFault};
 use std::alloc::Global;
@@ -70,6 +70,17 @@ impl From<Unkept> for CloseRefusal {
         match why {
             Unkept::KeepFault => CloseRefusal::KeepFault,
             Unkept::OutOfMemory => CloseRefusal::OutOfMemory,
+        }
+    }
+}
+
+impl From<Unkept> for TurnRefusal {
+    ghost from_gives = { λ why given. given ≡ unkept_turn why };
+
+    fn from(why: Unkept) -> TurnRefusal {
+        match why {
+            Unkept::KeepFault => TurnRefusal::KeepFault,
+            Unkept::OutOfMemory => TurnRefusal::OutOfMemory,
         }
     }
 }

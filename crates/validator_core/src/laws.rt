@@ -1,9 +1,9 @@
-//! That runs, closes and acknowledgements look at no seal and no stake, and that an acknowledgement changes nothing.
+//! That runs, closes, turns, Ends and acknowledgements look at no seal and no stake, and that the last two change nothing.
 
 ghost use Rattle.std.specs.Prelude.{◌≡◌, None};
 ghost use Rattle.digest_core.specs.declared.Digest.{Digest};
 ghost use Rattle.protocol_spec.specs.Chain.Certificates.{Rules};
-ghost use Rattle.protocol_spec.specs.Member.Calls.{ack_answer, acks, called, close_answer, closes, due, run_answer, runs};
+ghost use Rattle.protocol_spec.specs.Member.Calls.{ack_answer, acks, called, close_answer, closes, due, end_answer, ends, run_answer, runs, turn_answer, turns};
 ghost use Rattle.protocol_spec.specs.Member.Member.{Member};
 ghost use Rattle.scene_spec.specs.Seats.{Seat, behind, due_at};
 
@@ -34,4 +34,25 @@ pub fn acks_need_no_rules()
 pub fn acks_change_nothing()
     ensures state { (r : Rules) (seat : Seat) (tx : Digest) → behind r seat (acks tx) ≡ seat }
     ensures record_due { (r : Rules) (seat : Seat) (tx : Digest) → due_at r seat (acks tx) ≡ None }
+{}
+
+/// The rules play no part in an End.
+#[tactic(auto, using(crate::proofs::Said::end_answer_alike))]
+pub fn ends_need_no_rules()
+    ensures { (r r' : Rules) (m : Member) → end_answer r m ≡ end_answer r' m }
+{}
+
+/// An End leaves the member as it was, and has no record.
+#[tactic(auto, using(crate::proofs::Said::end_stays, crate::proofs::Said::no_end_due))]
+pub fn ends_change_nothing()
+    ensures state { (r : Rules) (seat : Seat) → behind r seat ends ≡ seat }
+    ensures record_due { (r : Rules) (seat : Seat) → due_at r seat ends ≡ None }
+{}
+
+/// The rules play no part in a turn.
+#[tactic(auto, using(crate::proofs::Turned::turn_answer_alike, crate::proofs::Turned::turn_due_alike, crate::proofs::Turned::turn_called_alike))]
+pub fn turns_need_no_rules()
+    ensures answer { (r r' : Rules) (m : Member) → turn_answer r m ≡ turn_answer r' m }
+    ensures record_due { (r r' : Rules) (m : Member) → due r m turns ≡ due r' m turns }
+    ensures state { (r r' : Rules) (m : Member) → called r m turns ≡ called r' m turns }
 {}

@@ -5,7 +5,7 @@
 //! function of its records, and a member that stopped starts again from them. A member whose record was not
 //! kept, or that was refused memory, is down until it is started again. A member sees the entries of its epoch's
 //! sequence, runs what it holds in rounds, builds a checkpoint as soon as all that a cut has is done, and closes its
-//! epoch; it turns to no next epoch yet.
+//! epoch, and turns to the next one.
 //!
 //! Within, a [`State`] has the votes given in the epoch, and a `Course`: its versions, the certificates held, the
 //! sequence as it was seen, and the checkpoints. A call is first decided, which changes nothing; then its record is
@@ -19,6 +19,8 @@ mod epoch_calls;
 mod holds;
 mod keeping;
 mod laws;
+mod ordered;
+mod renewal;
 mod replay;
 mod runs;
 mod sees;
@@ -27,14 +29,19 @@ mod state;
 mod stating;
 mod taking;
 mod telling;
+mod turning;
 mod validator;
 mod votes;
 
 pub use answer_types::{
-    AckRefusal, CloseRefusal, HoldRefusal, Ran, RunRefusal, StartRefusal, VoteRefusal, Voted,
+    AckRefusal, CloseRefusal, EndRefusal, HoldRefusal, Ran, RunRefusal, StartRefusal, VoteRefusal,
+    Voted,
 };
 pub use holds::Holding;
-pub use laws::{acks_change_nothing, acks_need_no_rules, closes_need_no_rules, runs_need_no_rules};
+pub use laws::{
+    acks_change_nothing, acks_need_no_rules, closes_need_no_rules, ends_change_nothing,
+    ends_need_no_rules, runs_need_no_rules, turns_need_no_rules,
+};
 pub use runs::ran_record;
 pub use state::State;
 pub use validator::Validator;

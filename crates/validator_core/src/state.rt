@@ -8,7 +8,8 @@ ghost use Rattle.protocol_spec.specs.Chain.Shape.{shape_fault};
 ghost use Rattle.protocol_spec.specs.Chain.Words.{first_of};
 ghost use Rattle.protocol_spec.specs.Member.Admission.{is_known};
 ghost use Rattle.protocol_spec.specs.Member.Checkpoints.{held_of};
-ghost use Rattle.protocol_spec.specs.Member.Calls.{effects_of, newly_built, ran_items, record_limit};
+ghost use Rattle.protocol_spec.specs.Member.Calls.{effects_of, newly_built, ran_items, record_limit, reverted};
+ghost use Rattle.epoch_turn.specs.Chains.{waiting_one};
 ghost use Rattle.protocol_spec.specs.Member.Member.{Fork as TheFork, ballot, books, built as built_by, consumes, fork_of, fresh, live_objects, vote_for, with_rounds};
 ghost use Rattle.protocol_spec.specs.Member.Sequence.{seen_what};
 ghost use Rattle.protocol_spec.specs.Member.Versions.{Version, object_in, version_at, versions};
@@ -18,13 +19,15 @@ ghost use Rattle.scene_spec.specs.Starts.{AreApart};
 ghost use Rattle.scene_spec.specs.Terms.{rules_for};
 ghost use Rattle.validator_core.specs.Entries.{MayArrive, behind_entry, what_as};
 ghost use Rattle.validator_core.specs.Limits.{Accepting, terms_at};
-ghost use Rattle.validator_core.specs.Steps.{closing, counted, holding, items_of, voted};
+ghost use Rattle.validator_core.specs.Sound.{unordered};
+ghost use Rattle.validator_core.specs.Steps.{closing, counted, holding, items_of, turning, voted};
 ghost use Rattle.vote_rules.specs.Decide.{Decides};
 ghost use Rattle.vote_rules.specs.Holders.{sides};
 ghost use Rattle.answer_types.specs.declared.answers.Held.{Held as H};
 
 use crate::course::Course;
 use crate::entries::Arrival;
+use crate::ordered::{first_unordered, ordered_on};
 use answer_types::{Held, Left, Seen};
 use chain_types::{DecideRefusal, Object, ObjectKey, Transaction};
 use checkpoint_core::Checkpoint;
@@ -46,6 +49,8 @@ pub struct State {
     records: u64,
     closed: bool,
     votes: VoteBook,
+    /// How many of the first held certificates are in the sequence; one step further behind each entry.
+    ordered: usize,
     pub(crate) course: Course,
     pub(crate) alloc: Global,
 }
@@ -59,7 +64,7 @@ impl Model for State {
 
     ghost view = { λ s. record { writers = s.course.admission.writers; member = member_with s.records s.closed s.votes (coursed s.course) } };
 
-    ghost invariant = { λ s. Stands s.records s.votes s.course };
+    ghost invariant = { λ s. Stands s.records s.votes s.ordered s.course };
 }
 
 impl State {
@@ -77,6 +82,7 @@ impl State {
             records: 0,
             closed: false,
             votes: VoteBook::new(alloc),
+            ordered: 0,
             course: Course::fresh(alloc, opening, writers)?,
             alloc,
         })
@@ -127,6 +133,14 @@ impl State {
         ensures { result ≡ is_known self.now.member.sequence.admission tx.now }
     {
         self.course.admission.is_known(tx)
+    }
+
+    /// The first held transaction that is not in the sequence as the member has seen it; none exactly where all are. Looks
+    /// at none that was found there behind an entry, so the certificates of an epoch are walked once. Takes no memory.
+    pub(crate) fn first_unordered(&self) -> Option<Digest>
+        ensures { result ≡ first_of (unordered self.now.member.sequence.admission) self.now.member.held }
+    {
+        first_unordered(&self.course, self.ordered)
     }
 
     /// The number of checkpoints that the member has built, over all its epochs. Takes no memory.
@@ -272,6 +286,7 @@ impl State {
             }
             Err(OutOfMemory) => {
                 self.course.forget();
+                self.ordered = 0;
                 Err(OutOfMemory)
             }
         }
@@ -295,10 +310,12 @@ impl State {
         match self.course.see(committee, arrival) {
             Ok(seen) => {
                 self.records += 1;
+                self.ordered = ordered_on(&self.course, self.ordered);
                 Ok(seen)
             }
             Err(OutOfMemory) => {
                 self.course.forget();
+                self.ordered = 0;
                 Err(OutOfMemory)
             }
         }
@@ -319,6 +336,7 @@ impl State {
             Ok(done) => Ok(done),
             Err(OutOfMemory) => {
                 self.course.forget();
+                self.ordered = 0;
                 Err(OutOfMemory)
             }
         }
@@ -349,5 +367,39 @@ impl State {
     {
         self.closed = true;
         self.records += 1;
+    }
+
+    /// The first admitted transaction that is not executed as it was admitted; none exactly where all are. One look. Takes
+    /// no memory.
+    pub(crate) fn first_undone(&self) -> Option<Digest>
+        ensures { result ≡ first_of (waiting_one self.now.member.held self.now.member.executed) self.now.member.sequence.admission.admitted }
+    {
+        self.course.chain.waits()
+    }
+
+    /// Takes the record of a turn: goes to the next epoch (epoch change of Sui Lutris), and answers the transactions that
+    /// are undone, since they stand in no cut of this one, oldest first. Time grows with what the epoch executed, wrote
+    /// and deleted. Where memory is refused the state is not to be used.
+    #[tactic(auto, unfolding(protocol_spec::specs::Member::Member::built))]
+    pub(crate) fn take_turn(&mut self) -> Result<Seq<Digest>, OutOfMemory>
+        requires room { nat_le record_limit self.old.member.records ≡ false }
+        ensures state { OnOk result (self.new.member ≡ turning self.old.member) }
+        ensures reverted { IfOk result (λ txs. txs ≡ reverted self.old.member) }
+        ensures limit { self.new.writers ≡ self.old.writers }
+    {
+        match self.course.turn() {
+            Ok(reverted) => {
+                self.records += 1;
+                self.closed = false;
+                self.votes = VoteBook::new(self.alloc);
+                self.ordered = 0;
+                Ok(reverted)
+            }
+            Err(OutOfMemory) => {
+                self.course.abandon();
+                self.ordered = 0;
+                Err(OutOfMemory)
+            }
+        }
     }
 }

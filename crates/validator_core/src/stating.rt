@@ -1,16 +1,18 @@
-//! What a member states beside its votes: that it executed a transaction.
+//! What a member states beside its votes: that it executed a transaction, and that it ended its epoch.
 
-ghost use Rattle.std.specs.Prelude.{◌≡◌, IfOk, OnErr, true};
+ghost use Rattle.std.specs.Prelude.{◌≡◌, IfOk, IsErrOf, OnErr, true};
+ghost use Rattle.answer_types.specs.declared.refusals.EndRefusal.TheVariants as no_end;
 ghost use Rattle.chain_messages.specs.Messages.{statement as statement_codec};
 ghost use Rattle.effects_core.specs.Effects.{digest_of_effects};
-ghost use Rattle.protocol_spec.specs.Member.Calls.{ack_answer};
+ghost use Rattle.protocol_spec.specs.Chain.Words.{first_some, unless_refused};
+ghost use Rattle.protocol_spec.specs.Member.Calls.{ack_answer, end_answer, end_cases};
 ghost use Rattle.protocol_spec.specs.Member.Versions.{is_executed};
 ghost use Rattle.validator_core.specs.Answers.{bare};
-ghost use Rattle.validator_core.specs.Calls.{Acks, AcksAs, IsSealedBy};
+ghost use Rattle.validator_core.specs.Calls.{Acks, AcksAs, Ends, IsSealedBy};
 ghost use Rattle.world_spec.specs.Step.{executed_digest};
 
 use crate::State;
-use answer_types::AckRefusal;
+use answer_types::{AckRefusal, EndRefusal};
 use chain_messages::{Sealed, Statement, encode_statement};
 use digest_core::Digest;
 use effects_core::{Effects, effects_digest};
@@ -80,6 +82,44 @@ impl State {
             Ok(None) => Err(AckRefusal::NotExecuted),
             Err(OutOfMemory) => Err(AckRefusal::OutOfMemory),
         }
+    }
+}
+
+impl State {
+    /// Whether the member ended its epoch. Order of the refusals: `Halted`, `NotClosed`, `Waits`. Takes no memory.
+    #[tactic(auto, using(crate::proofs::Said::none_waits, crate::proofs::Said::one_waits))]
+    fn check_end(&self) -> Result<(), EndRefusal>
+        ensures value { result ≡ unless_refused (first_some (end_cases self.now.member)) tt }
+        ensures never { IsErrOf result no_end.OutOfMemory → ⊥ }
+    {
+        if let Some((first, second)) = self.fork() {
+            return Err(EndRefusal::Halted { first, second });
+        }
+        if !self.is_closed() {
+            return Err(EndRefusal::NotClosed);
+        }
+        match self.first_unordered() {
+            Some(tx) => Err(EndRefusal::Waits { tx }),
+            None => Ok(()),
+        }
+    }
+}
+
+/// Asks a member that is up to say End.
+#[tactic(auto, using(crate::proofs::Said::end_short, crate::proofs::Said::end_goes, crate::proofs::Said::end_wants))]
+pub(crate) fn end<S: Sealer>(state: &State, sealer: &S, member: u32) -> Result<Sealed, EndRefusal>
+    ensures { Ends (S.accepts sealer.now) member (end_answer bare state.now.member) result }
+{
+    match state.check_end() {
+        Ok(()) => {}
+        Err(refusal) => return Err(refusal),
+    }
+    let statement = Statement::End {
+        epoch: state.epoch(),
+    };
+    match seal_statement(state.allocator(), sealer, member, statement) {
+        Ok(sealed) => Ok(sealed),
+        Err(OutOfMemory) => Err(EndRefusal::OutOfMemory),
     }
 }
 

@@ -5,13 +5,14 @@ ghost use Rattle.outside.specs.Causes.{Rose};
 ghost use Rattle.chain_types.specs.Digests.{digest_of_object};
 ghost use Rattle.protocol_spec.specs.Member.Versions.{Version, is_executed, version_at, versions as versions_of};
 ghost use Rattle.protocol_spec.specs.Member.Member.{Fork, built as built_by, fork_of, live_objects};
-ghost use Rattle.protocol_spec.specs.Member.Calls.{closes, holds, runs, sees, votes};
+ghost use Rattle.protocol_spec.specs.Member.Calls.{closes, holds, runs, sees, turns, votes};
 ghost use Rattle.answer_types.specs.declared.refusals.HoldRefusal.TheVariants as no_hold;
 ghost use Rattle.answer_types.specs.declared.refusals.VoteRefusal.TheVariants as no_vote;
 ghost use Rattle.answer_types.specs.declared.refusals.CloseRefusal.TheVariants as no_close;
 ghost use Rattle.answer_types.specs.declared.refusals.RunRefusal.TheVariants as no_run;
 ghost use Rattle.answer_types.specs.declared.refusals.SeeRefusal.TheVariants as no_see;
-ghost use Rattle.validator_core.specs.Calls.{Acks, Closes, Holds, Runs, Sees, Votes, ack_said, close_ended, close_said, hold_ended, hold_said, run_ended, run_said, see_ended, see_said, vote_ended, vote_said};
+ghost use Rattle.answer_types.specs.declared.refusals.TurnRefusal.TheVariants as no_turn;
+ghost use Rattle.validator_core.specs.Calls.{Acks, Closes, Ends, Holds, Runs, Sees, Turns, Votes, ack_said, close_ended, close_said, end_said, hold_ended, hold_said, run_ended, run_said, see_ended, see_said, turn_ended, turn_said, vote_ended, vote_said};
 ghost use Rattle.scene_spec.specs.Terms.{rules_for};
 ghost use Rattle.checkpoint_core.specs.Checkpoints.{transactions_in};
 ghost use Rattle.scene_spec.specs.Starts.{AreApart, started};
@@ -21,14 +22,15 @@ ghost use Rattle.scene_spec.specs.Seats.{bare_rules, due_at, rules_of_seat};
 ghost use Rattle.world_spec.specs.Step.{executed_digest};
 
 use crate::start::take_all;
-use crate::{State, calls, epoch_calls, sees, stating};
+use crate::{State, calls, epoch_calls, sees, stating, turning};
 use answer_types::{
-    AckRefusal, CloseRefusal, HoldRefusal, Ran, RunRefusal, SeeRefusal, Seen, StartRefusal, VoteRefusal, Voted,
+    AckRefusal, CloseRefusal, EndRefusal, HoldRefusal, Ran, RunRefusal, SeeRefusal, Seen,
+    StartRefusal, TurnRefusal, VoteRefusal, Voted,
 };
+use chain_messages::Sealed;
 use chain_types::{Object, ObjectKey, object_digest};
 use checkpoint_core::Checkpoint;
 use digest_core::Digest;
-use chain_messages::Sealed;
 use outside::Keeper;
 use quorum_core::{Committee, Sealer};
 use std::alloc::Global;
@@ -306,6 +308,21 @@ impl Validator {
         answer
     }
 
+    /// Asks the member to say End: it is closed, and every transaction of which it holds a certificate is in the part of
+    /// the sequence that it has seen (epoch change of Sui Lutris). Order of the refusals: `Down`, `Halted`, `NotClosed`,
+    /// `Waits` with the first held transaction that is not there; memory is wanted for an End alone. Nothing is kept and
+    /// nothing changes, so it can be said again. The held certificates are walked once an epoch, behind the entries that
+    /// let them in, and not here.
+    #[tactic(auto, using(crate::proofs::Said::end_at))]
+    pub fn end<S: Sealer>(&self, sealer: &S) -> Result<Sealed, EndRefusal>
+        ensures answer { Ends (S.accepts sealer.now) self.now.member (end_said (rules_of_seat self.now (S.accepts sealer.now)) self.now) result }
+    {
+        if !self.up {
+            return Err(EndRefusal::Down);
+        }
+        stating::end(&self.state, sealer, self.member)
+    }
+
     /// The digest of the effects of a transaction that the member executed in its present epoch; none exactly where it
     /// executed none. One look-up by the transaction, and time that grows with what it wrote and deleted.
     pub fn executed_digest(&self, tx: &Digest) -> Result<Option<Digest>, OutOfMemory>
@@ -327,5 +344,29 @@ impl Validator {
             return Err(AckRefusal::Down);
         }
         stating::ack(&self.state, sealer, self.member, tx)
+    }
+
+    /// Turns the member to the next epoch (epoch change of Sui Lutris): what it executed and no cut has is undone, it opens
+    /// with what is live then, and it has no vote, lock, certificate or entry; checkpoints go on. Answers the undone
+    /// transactions, oldest first. Order of the refusals: `Down`, `Halted`, `Full`, `NotEnded` where the end of the epoch
+    /// was not seen, `Waits` with the first admitted transaction that was not executed as it was admitted, `KeepFault`.
+    /// The record is appended before the call answers. Behind `KeepFault` and want of memory the member is down. Time
+    /// grows with what the epoch executed, wrote and deleted, and not with what is held.
+    #[tactic(auto, using(crate::proofs::Turned::turn_settles, crate::proofs::Turned::turn_at, crate::proofs::Turned::turn_due_at, crate::proofs::Settling::down_keeps))]
+    pub fn turn<D: Keeper>(&mut self, keeper: &mut D) -> Result<Seq<Digest>, TurnRefusal>
+        requires known { self.old.member < D.width keeper.old }
+        ensures answer { Turns (turn_said (bare_rules self.old) self.old) result }
+        ensures state { Behaves (bare_rules self.old) turns self.old self.new (turn_ended result) }
+        ensures kept { Journaled (D.lists keeper.old) (D.lists keeper.new) self.old.member (due_at (bare_rules self.old) self.old turns) (turn_ended result) }
+        ensures width { D.width keeper.new ≡ D.width keeper.old }
+        ensures later { D.failed keeper.old ≤ D.failed keeper.new }
+        ensures fault { IsErrOf result no_turn.KeepFault → Rose (D.failed keeper.old) (D.failed keeper.new) }
+    {
+        if !self.up {
+            return Err(TurnRefusal::Down);
+        }
+        let answer = turning::turn(&mut self.state, keeper, self.member);
+        self.up = !turning::turn_fell(&answer);
+        answer
     }
 }

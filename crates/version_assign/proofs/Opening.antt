@@ -123,7 +123,7 @@ opening_kept entries objects is once = subst IsOpening (sym (is ∙ entries_are 
 abbrev pub no_entries : List (ObjectId × Object) → Option ℕ → Parts
 no_entries opening writers = record { opening = opening; writers = writers; lines = []; rows = []; admitted = []; dropped = []; known = []; marked = 0; waiting = 0 }
 
-none_at : {A : Type 0} → (n : ℕ) (r : Row) → row_at [] n ≡ Some r → A
+pub none_at : {A : Type 0} → (n : ℕ) (r : Row) → row_at [] n ≡ Some r → A
 none_at zero r at = absurd (cc)
 none_at (suc n) r at = absurd (cc)
 

@@ -20,7 +20,7 @@ use Rattle.protocol_spec.proofs.ListLemmas.{each-push}
 use Rattle.protocol_spec.specs.Member.Admission.{Admission, Admitted, Standing, admit, assigned_to, assignment, assignments, beginning, beginning_by, cert_of, current, entered, is_dropped, is_free, is_shared_object, joined_inputs, lacks_shared, not_of, opening_object, passed_mark, since_mark, standing_after, standing_or, take_free, taken, taken_as, taken_next, taken_version, version_at_admission, version_in, writes}
 use Rattle.protocol_spec.specs.Member.Sequence.{Sequence, What, commits, counted_as, counts, cut_of, ends_with_member, ignores, nothing_seen, numbered, saw, seen, takes, what_of, with_entry, with_what}
 use Rattle.version_assign.specs.Calls.{id_of, is_shared_one}
-use Rattle.version_assign.specs.Sharing.{HasShared, IsServed, SharedServe, lacks_any_shared, shared_of}
+use Rattle.version_assign.specs.Sharing.{HasShared, IsServed, KeepsShared, ServesAs, SharedServe, if_shared, lacks_any_shared, shared_of}
 use Rattle.version_assign.proofs.Maps.{or_false}
 use Rattle.version_assign.proofs.Names.{id_same}
 use Rattle.version_assign.proofs.Naming.{id_turned}
@@ -36,13 +36,9 @@ absent (o ∷ os) id away = go (is_shared_one o) (or_false (id_eq id o.id) (list
     go true off more = ap (λ c. cond c (Some o) (opening_object (shared_of os) id)) (id_turned o.id id ∙ off.0) ∙ more off.1
     go false off more = more off.1
 
-abbrev if_shared : Option Object → Option Object
-if_shared None = None
-if_shared (Some o) = cond (is_shared o.owner) (Some o) None
-
-found : (os : List Object) (id : ObjectId) → repeats id_eq (map id_of os) ≡ false → opening_object (shared_of os) id ≡ if_shared (opening_object os id)
-found [] id once = refl
-found (o ∷ os) id once = go (id_eq o.id id) refl (is_shared_one o) refl (or_false (list_any (id_eq o.id) (map id_of os)) (repeats id_eq (map id_of os)) once) (found os id)
+found_in : (os : List Object) (id : ObjectId) → repeats id_eq (map id_of os) ≡ false → opening_object (shared_of os) id ≡ if_shared (opening_object os id)
+found_in [] id once = refl
+found_in (o ∷ os) id once = go (id_eq o.id id) refl (is_shared_one o) refl (or_false (list_any (id_eq o.id) (map id_of os)) (repeats id_eq (map id_of os)) once) (found_in os id)
   where
     go : (b : Bool) → id_eq o.id id ≡ b → (s : Bool) → is_shared_one o ≡ s → (list_any (id_eq o.id) (map id_of os) ≡ false) × (repeats id_eq (map id_of os) ≡ false)
         → (repeats id_eq (map id_of os) ≡ false → opening_object (shared_of os) id ≡ if_shared (opening_object os id))
@@ -73,17 +69,18 @@ or_true : (b : Bool) → (b || true) ≡ true
 or_true true = refl
 or_true false = refl
 
-module _ (opening : List Object) (once : repeats id_eq (map id_of opening) ≡ false) where
-  abbrev shared : List Object
-  shared = shared_of opening
+-- the shared objects of an opening, whose objects have distinct ids, are found in it
+pub shared_keeps : (opening : List Object) → repeats id_eq (map id_of opening) ≡ false → KeepsShared (shared_of opening) opening
+shared_keeps opening once id = found_in opening id once
 
+module _ (shared opening : List Object) (found : KeepsShared shared opening) where
   -- ---- what is lacking, and where objects begin
 
   one_lacks : (j : Input × Option Digest) → lacks_shared shared j ≡ lacks_shared opening j
   one_lacks (inputs.Pure bytes, o) = refl
   one_lacks (inputs.Owned r, o) = refl
   one_lacks (inputs.Immutable r, o) = refl
-  one_lacks (inputs.Shared y n m, None) = ap (λ o. not (is_shared_object o)) (found opening y once) ∙ still_lacks (opening_object opening y)
+  one_lacks (inputs.Shared y n m, None) = ap (λ o. not (is_shared_object o)) (found y) ∙ still_lacks (opening_object opening y)
   one_lacks (inputs.Shared y n m, Some origin) = refl
 
   all_lack : (c : Certificate) → lacks_any_shared shared c ≡ lacks_any_shared opening c
@@ -94,7 +91,7 @@ module _ (opening : List Object) (once : repeats id_eq (map id_of opening) ≡ f
   one_begins id (inputs.Owned r, o) off = refl
   one_begins id (inputs.Immutable r, o) off = refl
   one_begins id (inputs.Shared y n m, None) off =
-      ap (λ o. where_true (id_eq y id) (version_in o, producers.Opening)) (found opening y once ∙ stays (opening_object opening y) off)
+      ap (λ o. where_true (id_eq y id) (version_in o, producers.Opening)) (found y ∙ stays (opening_object opening y) off)
   one_begins id (inputs.Shared y n m, Some origin) off = refl
 
   all_begin : (id : ObjectId) (js : List (Input × Option Digest)) → list_any (lacks_shared opening) js ≡ false → first_of (beginning shared id) js ≡ first_of (beginning opening id) js
@@ -240,10 +237,15 @@ module _ (opening : List Object) (once : repeats id_eq (map id_of opening) ≡ f
   unfolding seen
   same_seen r epoch entries = same_fold r epoch entries nothing_seen tt
 
+pub kept_serve : (kept opening : List Object) → KeepsShared kept opening → ServesAs kept opening
+kept_serve kept opening found = record { entered = same_entered kept opening found; passed = same_passed kept opening found }
+
 pub shared_serve : SharedServe
-shared_serve opening once = record {
-  entered = same_entered opening once;
-  passed = same_passed opening once;
-  saw = same_saw opening once;
-  seen = same_seen opening once;
-}
+shared_serve opening once =
+    let found : KeepsShared (shared_of opening) opening = shared_keeps opening once in
+    record {
+      entered = same_entered (shared_of opening) opening found;
+      passed = same_passed (shared_of opening) opening found;
+      saw = same_saw (shared_of opening) opening found;
+      seen = same_seen (shared_of opening) opening found;
+    }

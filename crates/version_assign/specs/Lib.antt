@@ -5,3 +5,4 @@ pub mod Steps
 pub mod Sharing
 pub mod Waiting
 pub mod Registers
+pub mod Changes

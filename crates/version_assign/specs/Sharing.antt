@@ -1,13 +1,15 @@
 -- An epoch's admission needs no more of its opening than the objects that are shared in it.
-use Rattle.std.specs.Prelude.{◌≡◌, ℕ, Bool, false, List, filter, map, Option}
+use Rattle.std.specs.Prelude.{◌≡◌, ℕ, Bool, false, List, filter, map, Option, Some, None, if◌then◌else◌}
 use Rattle.std.specs.List.{list_any}
 use Rattle.chain_types.specs.declared.objects.Object.{Object}
+use Rattle.chain_types.specs.declared.objects.ObjectId.{ObjectId}
 use Rattle.chain_types.specs.Equal.{id_eq}
 use Rattle.chain_messages.specs.declared.messages.Certificate.{Certificate}
 use Rattle.answer_types.specs.declared.answers.Held.{Held}
 use Rattle.protocol_spec.specs.Chain.Certificates.{Rules}
 use Rattle.protocol_spec.specs.Chain.Words.{Each, repeats}
-use Rattle.protocol_spec.specs.Member.Admission.{Admitted, Admission, entered, joined_inputs, lacks_shared, passed_mark}
+use Rattle.protocol_spec.specs.Chain.Keys.{is_shared}
+use Rattle.protocol_spec.specs.Member.Admission.{Admitted, Admission, entered, joined_inputs, lacks_shared, opening_object, passed_mark}
 use Rattle.protocol_spec.specs.Member.Sequence.{Sequence, saw, seen}
 use Rattle.version_assign.specs.Calls.{id_of, is_shared_one}
 
@@ -24,6 +26,22 @@ IsServed opening x = lacks_any_shared opening x.cert ≡ false
 -- what was admitted has its shared inputs; so it is before the first entry, and each step keeps it
 abbrev pub HasShared : List Object → Admission → Type 0
 HasShared opening a = Each (IsServed opening) a.admitted
+
+-- an object, where it is shared
+abbrev pub if_shared : Option Object → Option Object
+if_shared None = None
+if_shared (Some o) = if is_shared o.owner then Some o else None
+
+-- these are the objects that are shared in the opening, as far as a look-up tells
+abbrev pub KeepsShared : List Object → List Object → Type 0
+KeepsShared kept opening = (id : ObjectId) → opening_object kept id ≡ if_shared (opening_object opening id)
+
+-- entries and marks make the same of both
+pub record ServesAs (kept opening : List Object) : Type 0 where
+  pub entered : (writers : Option ℕ) (a : Admission) (h : Held) → HasShared opening a
+      → (entered writers kept a h ≡ entered writers opening a h) × HasShared opening (entered writers opening a h)
+  pub passed : (writers : Option ℕ) (a : Admission) → HasShared opening a
+      → (passed_mark writers kept a ≡ passed_mark writers opening a) × HasShared opening (passed_mark writers opening a)
 
 -- each step makes the same of both openings
 pub record Serve (opening : List Object) : Type 0 where

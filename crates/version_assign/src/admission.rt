@@ -1,14 +1,16 @@
 //! The admission, and what it answers.
 
 ghost use Rattle.std.specs.Prelude.{◌≡◌, ℕ, ◌<◌, ◌^◌, [], Some, IfOk, OnErr, OnOk, None, false, length, map, option_map, slice_get};
-ghost use Rattle.protocol_spec.specs.Chain.Words.{repeats};
+ghost use Rattle.protocol_spec.specs.Chain.Words.{Each, repeats};
 ghost use Rattle.protocol_spec.specs.Chain.Keys.{objects_of};
 ghost use Rattle.protocol_spec.specs.Chain.Shape.{shape_fault};
 ghost use Rattle.chain_types.specs.Equal.{id_eq};
 ghost use Rattle.protocol_spec.specs.Member.Admission.{Admitted, assigned_of, cert_of, deferred_on, digest_of_admitted, is_known, nothing_admitted, pending_on};
+ghost use Rattle.version_assign.specs.Changes.{IsOwn, Renews};
 ghost use Rattle.version_assign.specs.Calls.{admitted_since, dropped_since, id_of, opened, uncut, version_of, with_cut, with_entry, with_mark};
 
 use crate::book::Book;
+use crate::changes::Change;
 use crate::register::Register;
 use crate::shared::shared_objects;
 use crate::taken::Taken;
@@ -201,5 +203,47 @@ impl Admission {
         ensures { self.new ≡ record self.old { admission = nothing_admitted } }
     {
         self.register.clear(self.alloc);
+    }
+
+    /// Before the first entry of an epoch that opens with nothing. Takes no memory.
+    pub fn empty(alloc: Global, writers: Option<u32>) -> Admission
+        ensures { result ≡ opened [] writers }
+    {
+        bound_of(writers);
+        let book = Book {
+            rows: Vec::new(alloc),
+            known: IndexSet::new(alloc),
+            admitted: IndexMap::new(alloc),
+            dropped: Vec::new(alloc),
+            marked: 0,
+            waiting: 0,
+            low: 0,
+            lines: IndexMap::new(alloc),
+            opening: IndexMap::new(alloc),
+            writers,
+        };
+        let register = Register {
+            book,
+            waits: Waits::new(alloc),
+        };
+        Admission { register, alloc }
+    }
+
+    /// Goes to the next epoch, which opens with what this one did, but for these changes: no entry of it was seen. Each
+    /// object has the id under which it changed. Time grows with the changes, and not with what is shared. Where memory
+    /// is refused, the opening is not to be used.
+    pub fn renew(&mut self, changes: &[Change]) -> Result<(), OutOfMemory>
+        requires own { Each IsOwn changes.now }
+        ensures ok { OnOk result (Renews self.old self.new changes.now) }
+        ensures limit { self.new.writers ≡ self.old.writers }
+    {
+        self.register.renew(self.alloc, changes)
+    }
+
+    /// The limit of writers. Takes no memory.
+    pub fn writers(&self) -> Option<u32>
+        ensures { result ≡ self.now.writers }
+    {
+        self.register.book.writers
     }
 }

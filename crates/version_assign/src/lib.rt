@@ -11,6 +11,7 @@ mod admission;
 mod asking;
 mod begun;
 mod book;
+mod changes;
 mod entries;
 mod laws;
 mod lines;
@@ -22,5 +23,6 @@ mod taken;
 mod waits;
 
 pub use admission::Admission;
+pub use changes::Change;
 pub use laws::shared_objects_serve;
 pub use taken::Taken;

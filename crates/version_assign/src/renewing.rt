@@ -1,15 +1,19 @@
-//! An epoch's admission from its beginning once more.
+//! An epoch's admission from its beginning once more, and that of the next epoch.
 
-ghost use Rattle.std.specs.Prelude.{◌≡◌, []};
+ghost use Rattle.std.specs.Prelude.{◌≡◌, [], OnOk};
+ghost use Rattle.protocol_spec.specs.Chain.Words.{Each};
 ghost use Rattle.protocol_spec.specs.Member.Admission.{nothing_admitted};
 ghost use Rattle.version_assign.specs.Books.{IsKept, shown};
+ghost use Rattle.version_assign.specs.Changes.{IsOwn, Renews};
 ghost use Rattle.version_assign.specs.Registers.{IsWhole};
 
 use crate::book::Book;
+use crate::changes::{Change, change_all};
 use crate::register::Register;
 use crate::waits::Waits;
 use indexmap::{IndexMap, IndexSet};
 use std::alloc::Global;
+use wire_bcs::OutOfMemory;
 
 impl Book {
     /// Leaves the opening and the limit, and nothing else.
@@ -30,7 +34,38 @@ impl Book {
     }
 }
 
+impl Book {
+    /// The opening of the next epoch, and nothing else. Where memory is refused, some of what changed is as it was.
+    fn renew(&mut self, alloc: Global, changes: &[Change]) -> Result<(), OutOfMemory>
+        requires kept { IsKept self.old }
+        requires own { Each IsOwn changes.now }
+        ensures kept { IsKept self.new }
+        ensures value { OnOk result (Renews (shown self.old) (shown self.new) changes.now) }
+        ensures limit { self.new.writers ≡ self.old.writers }
+        ensures rows { self.new.rows.items ≡ [] }
+    {
+        self.clear(alloc);
+        let answer = change_all(&mut self.opening, changes);
+        // A map's count says that no id comes twice.
+        let _distinct = self.opening.len();
+        answer
+    }
+}
+
 impl Register {
+    /// The opening of the next epoch, and nothing else. Where memory is refused, some of what changed is as it was.
+    #[tactic(auto, using(crate::proofs::Registering::nothing_filed))]
+    pub(crate) fn renew(&mut self, alloc: Global, changes: &[Change]) -> Result<(), OutOfMemory>
+        requires kept { IsWhole self.old }
+        requires own { Each IsOwn changes.now }
+        ensures kept { IsWhole self.new }
+        ensures value { OnOk result (Renews (shown self.old.book) (shown self.new.book) changes.now) }
+        ensures limit { self.new.book.writers ≡ self.old.book.writers }
+    {
+        self.waits = Waits::new(alloc);
+        self.book.renew(alloc, changes)
+    }
+
     /// Leaves the opening and the limit, and nothing else.
     #[tactic(auto, using(crate::proofs::Registering::nothing_filed))]
     pub(crate) fn clear(&mut self, alloc: Global)

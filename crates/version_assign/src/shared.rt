@@ -14,7 +14,7 @@ use std::alloc::Global;
 use wire_bcs::{OutOfMemory, Seq};
 
 /// Whether the object is shared.
-fn is_shared_one(object: &Object) -> bool
+pub(crate) fn is_shared_one(object: &Object) -> bool
     ensures { result ≡ is_shared_one object.now }
 {
     matches!(object.owner, Owner::Shared(_))

@@ -14,3 +14,4 @@ mod Based
 mod Ascending
 mod Turned
 mod Opened
+pub mod Openings

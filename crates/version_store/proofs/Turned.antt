@@ -42,7 +42,7 @@ module _ (rows : List (ObjectId × Object)) (own : Each IsOwn rows) (separate : 
 
 -- ---- the live objects
 
-live_has : (s : Stored) (id : ObjectId) → HasId id (live s.opening s.executed id)
+pub live_has : (s : Stored) (id : ObjectId) → HasId id (live s.opening s.executed id)
 unfolding live
 live_has s id = by (is_deleted s.executed id) (newest_has id (held_in s))
   where
@@ -50,7 +50,7 @@ live_has s id = by (is_deleted s.executed id) (newest_has id (held_in s))
     by true h = tt
     by false h = h
 
-live_none : (s : Stored) (id : ObjectId) → newest id (held_in s) ≡ None → live s.opening s.executed id ≡ None
+pub live_none : (s : Stored) (id : ObjectId) → newest id (held_in s) ≡ None → live s.opening s.executed id ≡ None
 unfolding live
 live_none s id none = ap (cond (is_deleted s.executed id) None) none ∙ by (is_deleted s.executed id)
   where
@@ -58,7 +58,7 @@ live_none s id none = ap (cond (is_deleted s.executed id) None) none ∙ by (is_
     by true = refl
     by false = refl
 
-abbrev live_in : Stored → ObjectId → Option Object
+abbrev pub live_in : Stored → ObjectId → Option Object
 live_in s id = live s.opening s.executed id
 
 live_folds : (s : Stored) (ids : List ObjectId) (entries : List (ObjectId × Object)) → all_live s entries ids ≡ fold with_live entries (map (live_in s) ids)
@@ -70,7 +70,7 @@ ids_of_versions s [] = refl
 ids_of_versions s (v ∷ vs) = ap (λ os. live_in s v.object.id ∷ os) (ids_of_versions s vs)
 
 -- the list of the live objects, by the ids of all versions
-live_by_ids : (s : Stored) → live_list s.opening s.executed ≡ map object_under (fold with_live [] (map (live_in s) (map version_id (held_in s))))
+pub live_by_ids : (s : Stored) → live_list s.opening s.executed ≡ map object_under (fold with_live [] (map (live_in s) (map version_id (held_in s))))
 unfolding live_list
 live_by_ids s = ap (λ os. map object_under (fold with_live [] os)) (ids_of_versions s (held_in s))
 
@@ -91,14 +91,14 @@ any_none false false h = (refl, refl)
 any_none false true h = absurd (cc)
 any_none true b h = absurd (cc)
 
-any_parts : (id : ObjectId) (xs ys : List ObjectId) → list_any (id_eq id) (xs ++ ys) ≡ false → (list_any (id_eq id) xs ≡ false) × (list_any (id_eq id) ys ≡ false)
+pub any_parts : (id : ObjectId) (xs ys : List ObjectId) → list_any (id_eq id) (xs ++ ys) ≡ false → (list_any (id_eq id) xs ≡ false) × (list_any (id_eq id) ys ≡ false)
 any_parts id [] ys h = (refl, h)
 any_parts id (x ∷ xs) ys h =
     let p : (id_eq id x ≡ false) × (list_any (id_eq id) (xs ++ ys) ≡ false) = any_none (id_eq id x) (list_any (id_eq id) (xs ++ ys)) h in
     let q : (list_any (id_eq id) xs ≡ false) × (list_any (id_eq id) ys ≡ false) = any_parts id xs ys p.1 in
     (ap (λ b. b || list_any (id_eq id) xs) p.0 ∙ q.0, q.1)
 
-no_row : (id : ObjectId) (rows : List (ObjectId × Object)) → list_any (id_eq id) (map (λ (e : ObjectId × Object). e.0) rows) ≡ false → lookup (id_eq id) rows ≡ None
+pub no_row : (id : ObjectId) (rows : List (ObjectId × Object)) → list_any (id_eq id) (map (λ (e : ObjectId × Object). e.0) rows) ≡ false → lookup (id_eq id) rows ≡ None
 no_row id [] h = refl
 no_row id (e ∷ es) h =
     let p : (id_eq id e.0 ≡ false) × (list_any (id_eq id) (map (λ (f : ObjectId × Object). f.0) es) ≡ false) = any_none (id_eq id e.0) (list_any (id_eq id) (map (λ (f : ObjectId × Object). f.0) es)) h in

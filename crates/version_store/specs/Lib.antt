@@ -7,3 +7,4 @@ pub mod Changes
 pub mod Live
 pub mod Fresh
 pub mod Makers
+pub mod Changed

@@ -12,6 +12,7 @@
 #![tactic(auto)]
 
 mod base;
+mod changed;
 mod found;
 mod fresh;
 mod live;

@@ -1,5 +1,6 @@
-use Rattle.std.proofs.Common.{ap, ◌∙◌, false}
+use Rattle.std.proofs.Common.{ap, subst, sym, false}
 use Rattle.version_assign.specs.Calls.{Admitting}
+use Rattle.validator_core.specs.Courses.{Opens}
 use Rattle.validator_core.proofs.Coursing.{empty_sound}
 use Rattle.validator_core.proofs.course.Course.forget.Goals as goal
 
@@ -18,4 +19,4 @@ returns-clause-sound c =
       ended = false;
       alloc = c.args.self.now.alloc;
     })
-    (ap (λ (a : Admitting). a.opening) c.clear.ensures ∙ c.requires.0, c.requires.1) (ap (λ (a : Admitting). a.admission) c.clear.ensures) c.new.ensures c.new-2.ensures c.new-3.ensures.value c.new-3.ensures.behind
+    (subst (λ (a : Admitting). Opens a.opening c.args.self.now.store.opening) (sym c.clear.ensures) c.requires) (ap (λ (a : Admitting). a.admission) c.clear.ensures) c.new.ensures c.new-2.ensures c.new-3.ensures.value c.new-3.ensures.behind

@@ -1,9 +1,7 @@
-use Rattle.std.proofs.Common.{ap, sym, subst, ◌∙◌, false}
-use Rattle.scene_spec.specs.Starts.{AreApart}
+use Rattle.std.proofs.Common.{ap, false}
 use Rattle.version_assign.specs.Calls.{Admitting}
-use Rattle.version_assign.specs.Sharing.{shared_of}
 use Rattle.version_store.specs.Stores.{Stored}
-use Rattle.validator_core.proofs.Coursing.{empty_sound}
+use Rattle.validator_core.proofs.Coursing.{empty_sound, opens_apart}
 use Rattle.validator_core.proofs.course.Course.fresh.Goals as goal
 
 pub returns-clause-sound : goal.returns-clause-sound
@@ -21,5 +19,5 @@ returns-clause-sound c =
       ended = false;
       alloc = c.args.alloc;
     })
-    (ap (λ (a : Admitting). a.opening) c.in_ok-new.ensures ∙ sym (ap (λ (s : Stored). shared_of s.opening) c.in_ok-opening.ensures), subst (λ (s : Stored). AreApart s.opening) (sym c.in_ok-opening.ensures) c.requires)
+    (opens_apart c.args.opening.now c.in_ok-new.field-0.opening c.in_ok-opening.field-0.opening (ap (λ (a : Admitting). a.opening) c.in_ok-new.ensures) (ap (λ (s : Stored). s.opening) c.in_ok-opening.ensures) c.requires)
     (ap (λ (a : Admitting). a.admission) c.in_ok-new.ensures) c.new.ensures c.new-2.ensures c.new-4.ensures.value c.new-4.ensures.behind

@@ -9,4 +9,5 @@ invariant_of-result c = record {
   few = subst (λ (votes : List Cast). AllFew votes) (sym c.new.ensures) tt;
   sound = c.in_ok-fresh.ensures.sound;
   seen = let none : c.in_ok-fresh.field-0.seen ≡ 0 = ap (λ (x : Coursed). x.sequence.number) c.in_ok-fresh.ensures.value in omega (arith, none);
+  front = omega arith;
 }

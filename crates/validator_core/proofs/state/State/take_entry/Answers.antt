@@ -6,7 +6,11 @@ use Rattle.validator_core.specs.Entries.{behind_entry, what_as}
 use Rattle.validator_core.specs.Limits.{Accepting, Limited, terms_at}
 use Rattle.validator_core.specs.Sound.{member_with}
 use Rattle.validator_core.proofs.Bringing.{entry_is}
+use Rattle.validator_core.proofs.Fronts.{ordered_behind}
 use Rattle.validator_core.proofs.state.State.take_entry.Goals as goal
+
+pub ordered_on-self-inside-requires : goal.ordered_on-self-inside-requires
+ordered_on-self-inside-requires c = let s = c.self.inside in ordered_behind c.args.committee.now s.ordered (coursed s.course) c.args.arrival (coursed c.see.new.self) c.self.invariant.front c.in-Ok.ensures.value
 
 pub returns-in-Ok-clause-state : goal.returns-in-Ok-clause-state
 returns-in-Ok-clause-state c =

@@ -1,0 +1,33 @@
+use Rattle.std.proofs.Common.{subst, sym, false}
+use Rattle.epoch_turn.specs.Chains.{cut_of_chain}
+use Rattle.version_store.specs.Stores.{Stored}
+use Rattle.validator_core.specs.Courses.{Opens}
+use Rattle.validator_core.proofs.Coursing.{fresh_sound}
+use Rattle.validator_core.proofs.Renewing.{reverted_are, turned_is}
+use Rattle.validator_core.proofs.course.Course.turn.Goals as goal
+
+pub returns-clause-sound : goal.returns-clause-sound
+returns-clause-sound c =
+    fresh_sound
+    (record {
+      epoch = c.in-Some.next;
+      store = c.turn.new.self;
+      held = c.new.result;
+      waiting = c.new-2.result;
+      admission = c.renew.new.admission;
+      chain = c.turn-2.new.self;
+      seen = 0;
+      ends = c.new-self.result;
+      ended = false;
+      alloc = c.args.self.now.alloc;
+    })
+    c.args.self.now.chain (subst (λ (s : Stored). Opens c.renew.new.admission.opening s.opening) (sym c.in_ok-turn.ensures.ok) c.in_ok-renew.ensures.opens) c.in_ok-renew.ensures.nothing c.new.ensures c.new-2.ensures
+    c.turn-2.ensures.value c.turn-2.ensures.behind
+
+pub returns-clause-value : goal.returns-clause-value
+returns-clause-value c =
+    turned_is c.args.self.now c.requires (cut_of_chain c.args.self.now.chain) c.in_ok-reverted.ensures.cut c.revert_uncut.new.store c.turn.new.self c.in-Some.next c.renew.new.admission c.turn-2.new.self c.new.result c.new-self.result
+    c.in_ok-reverted.ensures.store c.in_ok-turn.ensures.ok c.in-Some.ensures c.in_ok-renew.ensures.nothing c.renew.ensures.limit c.turn-2.ensures.value c.new.ensures c.new-self.ensures
+
+pub returns-clause-reverted : goal.returns-clause-reverted
+returns-clause-reverted c = reverted_are c.args.self.now c.requires (cut_of_chain c.args.self.now.chain) c.in_ok-reverted.ensures.cut c.in_ok-reverted.reverted c.in_ok-reverted.ensures.undone

@@ -1,0 +1,10 @@
+use Rattle.std.proofs.Common.{◌≡◌, [], length}
+use Rattle.validator_core.specs.Renewals.{changes_after}
+use Rattle.validator_core.proofs.renewal.changes_of.Given as goal
+
+-- what is left comes to what all come to
+abbrev pub invariant-loop-rest : goal.invariant-loop-rest
+invariant-loop-rest l = changes_after l.store l.changes l.rest ≡ changes_after l.store [] l.ids
+
+abbrev pub decreases-loop-rest : goal.decreases-loop-rest
+decreases-loop-rest l = length l.rest
