@@ -11,3 +11,4 @@ pub mod Clashing
 pub mod Filing
 pub mod Writers
 pub mod Repeating
+pub mod Layering

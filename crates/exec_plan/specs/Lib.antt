@@ -7,3 +7,6 @@ pub mod Written
 pub mod Runs
 pub mod Places
 pub mod Waits
+pub mod Layers
+pub mod Tasks
+pub mod Planning

@@ -13,12 +13,16 @@ mod behind;
 mod inputs;
 mod leaving;
 mod makers;
+mod planning;
 mod readiness;
 mod running;
 mod single;
+mod task;
 mod waiting;
 mod writing;
 
 pub use leaving::left;
+pub use planning::{layers_are_rounds, plan_keeps_the_rounds};
 pub use running::run;
+pub use task::{Carry, Outcome, Slot, Want};
 pub use waiting::Waiting;
