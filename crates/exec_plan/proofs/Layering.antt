@@ -10,7 +10,7 @@ use Rattle.chain_types.specs.declared.objects.Producer.TheVariants as producers
 use Rattle.answer_types.specs.declared.pieces.Executed.{Executed}
 use Rattle.answer_types.specs.declared.answers.Held.{Held}
 use Rattle.chain_types.specs.Equal.{digest_eq, key_eq}
-use Rattle.protocol_spec.specs.Chain.Words.{Each, all_some, repeats, where_true}
+use Rattle.protocol_spec.specs.Chain.Words.{Along, Each, all_some, repeats, where_true}
 use Rattle.protocol_spec.specs.Chain.Keys.{fits}
 use Rattle.protocol_spec.proofs.ListLemmas.{and-first, and-second, or-first, or-second}
 use Rattle.protocol_spec.specs.Block.Execution.{execution, written_keys}
@@ -30,17 +30,17 @@ use Rattle.exec_plan.proofs.Making.{unmade_rests}
 use Rattle.exec_plan.proofs.Readying.{IsReady, executed_rests, is_ready, ready_alike}
 use Rattle.exec_plan.proofs.Settling.{AreOthers, find_none, never_new, none_by, not_among}
 
-clash : {b : Bool} → b ≡ true → b ≡ false → ⊥
+pub clash : {b : Bool} → b ≡ true → b ≡ false → ⊥
 clash p q = absurd (cc)
 
-either_true : (a b : Bool) → (a || b) ≡ true → (a ≡ true) ⊎ (b ≡ true)
+pub either_true : (a b : Bool) → (a || b) ≡ true → (a ≡ true) ⊎ (b ≡ true)
 either_true true b e = inl refl
 either_true false b e = inr e
 
-true_left : (a b : Bool) → a ≡ true → (a || b) ≡ true
+pub true_left : (a b : Bool) → a ≡ true → (a || b) ≡ true
 true_left a b e = ap (λ c. c || b) e
 
-true_right : (a b : Bool) → b ≡ true → (a || b) ≡ true
+pub true_right : (a b : Bool) → b ≡ true → (a || b) ≡ true
 true_right true b e = refl
 true_right false b e = e
 
@@ -140,7 +140,7 @@ module _ (b : Books) (before more : List Execution) (h : Held) where
 
 -- ---- who is planned
 
-planned_join : (xs ys : List Held) (tx : Digest) → is_planned (xs ++ ys) tx ≡ (is_planned xs tx || is_planned ys tx)
+pub planned_join : (xs ys : List Held) (tx : Digest) → is_planned (xs ++ ys) tx ≡ (is_planned xs tx || is_planned ys tx)
 planned_join xs ys tx = any_join (is_of tx) xs ys
 
 module _ (test : Held → Bool) where
@@ -224,7 +224,7 @@ turn_planned b (h ∷ hs) executed tx there = go (ready b executed h) refl there
 
 -- ---- who makes what is wanted
 
-opening_other : (more : List Execution) → AreOthers producers.Opening more
+pub opening_other : (more : List Execution) → AreOthers producers.Opening more
 opening_other [] = tt
 opening_other (x ∷ xs) = (refl, opening_other xs)
 
@@ -279,6 +279,24 @@ module _ (b : Books) (executed : List Execution) (planned : List Held) where
     pub stays : (tx : Digest) → is_executed executed tx ≡ true → is_executed now tx ≡ true
     pub rests : (place : ℕ) (h : Held) → slice_get b.held place ≡ Some h → is_planned planned h.digest ≡ true → ready b now h ≡ None
     pub supplied : (place : ℕ) (h : Held) → slice_get b.held place ≡ Some h → is_planned planned h.digest ≡ true → list_all (is_supplied executed planned) (wants_of b.admission h) ≡ true
+
+  -- what it takes to join this layer
+  pub record Joins (h : Held) : Type 0 where
+    pub not_before : is_executed executed h.digest ≡ false
+    pub not_planned : is_planned planned h.digest ≡ false
+    pub may : may_run b h ≡ true
+    pub all : list_all (is_supplied executed planned) (wants_of b.admission h) ≡ true
+
+  pub joins : (h : Held) → joins_layer b executed planned h ≡ true → Joins h
+  joins h is = go (is_executed executed h.digest) refl (is_planned planned h.digest) refl (may_run b h) refl (list_all (is_supplied executed planned) (wants_of b.admission h)) refl is
+    where
+      go : (e : Bool) → is_executed executed h.digest ≡ e → (p : Bool) → is_planned planned h.digest ≡ p → (m : Bool) → may_run b h ≡ m
+          → (s : Bool) → list_all (is_supplied executed planned) (wants_of b.admission h) ≡ s → (not e && not p && m && s) ≡ true → Joins h
+      go true ex p pl m may s sup is = absurd (cc)
+      go false ex true pl m may s sup is = absurd (cc)
+      go false ex false pl false may s sup is = absurd (cc)
+      go false ex false pl true may false sup is = absurd (cc)
+      go false ex false pl true may true sup is = record { not_before = ex; not_planned = pl; may = may; all = sup }
 
   module _ (now : List Execution) (behind : IsBehind now) where
     unsupplied : (ws : List Wanted) → list_all (is_supplied executed planned) ws ≡ false → list_all (is_made now) ws ≡ false
@@ -344,24 +362,6 @@ module _ (b : Books) (executed : List Execution) (planned : List Held) where
     first place h hs at =
         let same : place + 0 ≡ place = omega arith in
         subst (λ n. slice_get b.held n ≡ Some h) same (at 0 h refl)
-
-    -- what it takes to join this layer
-    record Joins (h : Held) : Type 0 where
-      not_before : is_executed executed h.digest ≡ false
-      not_planned : is_planned planned h.digest ≡ false
-      may : may_run b h ≡ true
-      all : list_all (is_supplied executed planned) (wants_of b.admission h) ≡ true
-
-    joins : (h : Held) → joins_layer b executed planned h ≡ true → Joins h
-    joins h is = go (is_executed executed h.digest) refl (is_planned planned h.digest) refl (may_run b h) refl (list_all (is_supplied executed planned) (wants_of b.admission h)) refl is
-      where
-        go : (e : Bool) → is_executed executed h.digest ≡ e → (p : Bool) → is_planned planned h.digest ≡ p → (m : Bool) → may_run b h ≡ m
-            → (s : Bool) → list_all (is_supplied executed planned) (wants_of b.admission h) ≡ s → (not e && not p && m && s) ≡ true → Joins h
-        go true ex p pl m may s sup is = absurd (cc)
-        go false ex true pl m may s sup is = absurd (cc)
-        go false ex false pl false may s sup is = absurd (cc)
-        go false ex false pl true may false sup is = absurd (cc)
-        go false ex false pl true may true sup is = record { not_before = ex; not_planned = pl; may = may; all = sup }
 
     -- one more member
     more_new : (round : List Execution) (h : Held) (x : Execution) (hs : List Held) → AreApart (h ∷ hs) → IsNew round (h ∷ hs) → Joins h → x.digest ≡ h.digest → IsNew (round ++ x ∷ []) hs
@@ -515,7 +515,7 @@ behind_more b executed planned now behind apart = record {
 
     supplying : (place : ℕ) (h : Held) → slice_get b.held place ≡ Some h → (is_planned planned h.digest ≡ true) ⊎ (is_planned layer h.digest ≡ true) → list_all (is_supplied executed (planned ++ layer)) (wants_of b.admission h) ≡ true
     supplying place h at (inl there) = supplied_more executed planned layer (wants_of b.admission h) (behind.supplied place h at there)
-    supplying place h at (inr there) = supplied_more executed planned layer (wants_of b.admission h) (joins b executed planned now behind h (is_picked (joins_layer b executed planned) b.held apart place h at there)).all
+    supplying place h at (inr there) = supplied_more executed planned layer (wants_of b.admission h) (joins b executed planned h (is_picked (joins_layer b executed planned) b.held apart place h at there)).all
 
 -- ---- all layers
 
@@ -542,3 +542,60 @@ nothing_planned b executed = record {
 pub turns_are_rounds : TurnsAreRounds
 unfolding planned_of rounds
 turns_are_rounds b executed apart = layers_turn (length b.held) b executed [] executed apart (nothing_planned b executed)
+
+-- ---- who is planned joins a layer
+
+along_join : {A : Type 0} (P : List A → A → Type 0) (before xs ys : List A) → Along P before xs → Along P (before ++ xs) ys → Along P before (xs ++ ys)
+along_join P before [] ys p q = subst (λ b. Along P b ys) (append-nil before) q
+along_join P before (x ∷ xs) ys p q = (p.0, along_join P (before ++ x ∷ []) xs ys p.1 (subst (λ b. Along P b ys) (sym (append_assoc before (x ∷ []) xs)) q))
+
+module _ (b : Books) (executed : List Execution) (planned : List Held) where
+  joins_behind : (more : List Held) (h : Held) → Joins b executed planned h → is_planned more h.digest ≡ false → Joins b executed (planned ++ more) h
+  joins_behind more h joined out = record {
+    not_before = joined.not_before;
+    not_planned = planned_join planned more h.digest ∙ false_both (is_planned planned h.digest) (is_planned more h.digest) joined.not_planned out;
+    may = joined.may;
+    all = supplied_more executed planned more (wants_of b.admission h) joined.all;
+  }
+
+  layer_along : (hs more : List Held) → AreApart hs → Each (λ (h : Held). is_planned more h.digest ≡ false) hs → Along (Joins b executed) (planned ++ more) (filter (joins_layer b executed planned) hs)
+  layer_along [] more apart out = tt
+  layer_along (h ∷ hs) more apart out =
+      go (joins_layer b executed planned h) refl
+      (λ ms. layer_along hs ms (or-second (list_any (digest_eq h.digest) (map digest_of_held hs)) (repeats digest_eq (map digest_of_held hs)) apart))
+    where
+      next : (ks : List Held) → Each (λ (k : Held). is_planned more k.digest ≡ false) ks → list_any (digest_eq h.digest) (map digest_of_held ks) ≡ false
+          → Each (λ (k : Held). is_planned (more ++ h ∷ []) k.digest ≡ false) ks
+      next [] each apart = tt
+      next (k ∷ ks) each apart = (
+        planned_join more (h ∷ []) k.digest
+            ∙ false_both (is_planned more k.digest) (digest_eq h.digest k.digest || false) each.0
+            (false_both (digest_eq h.digest k.digest) false (or-first (digest_eq h.digest k.digest) (list_any (digest_eq h.digest) (map digest_of_held ks)) apart) refl),
+        next ks each.1 (or-second (digest_eq h.digest k.digest) (list_any (digest_eq h.digest) (map digest_of_held ks)) apart),
+      )
+
+      go : (j : Bool) → joins_layer b executed planned h ≡ j
+          → ((ms : List Held) → Each (λ (k : Held). is_planned ms k.digest ≡ false) hs → Along (Joins b executed) (planned ++ ms) (filter (joins_layer b executed planned) hs))
+          → Along (Joins b executed) (planned ++ more) (cond j (h ∷ filter (joins_layer b executed planned) hs) (filter (joins_layer b executed planned) hs))
+      go false is rest = rest more out.1
+      go true is rest = (
+        joins_behind more h (joins b executed planned h is) out.0,
+        subst (λ f. Along (Joins b executed) f (filter (joins_layer b executed planned) hs)) (sym (append_assoc planned more (h ∷ [])))
+            (rest (more ++ h ∷ []) (next hs out.1 (or-first (list_any (digest_eq h.digest) (map digest_of_held hs)) (repeats digest_eq (map digest_of_held hs)) apart))),
+      )
+
+none_planned : (hs : List Held) → Each (λ (h : Held). is_planned [] h.digest ≡ false) hs
+none_planned [] = tt
+none_planned (h ∷ hs) = (refl, none_planned hs)
+
+layers_along : (n : ℕ) (b : Books) (executed : List Execution) (planned : List Held) → AreApart b.held → Along (Joins b executed) planned (layers_within n b executed planned)
+layers_along zero b executed planned apart = tt
+layers_along (suc n) b executed planned apart =
+    along_join (Joins b executed) planned (layer_of b executed planned) (layers_within n b executed (planned ++ layer_of b executed planned))
+    (subst (λ f. Along (Joins b executed) f (layer_of b executed planned)) (append-nil planned) (layer_along b executed planned b.held [] apart (none_planned b.held)))
+    (layers_along n b executed (planned ++ layer_of b executed planned) apart)
+
+-- each planned certificate joins a layer behind those in front of it
+pub planned_along : (b : Books) (executed : List Execution) → AreApart b.held → Along (Joins b executed) [] (planned_of b executed)
+unfolding planned_of
+planned_along b executed apart = layers_along (length b.held) b executed [] apart

@@ -12,3 +12,5 @@ pub mod Filing
 pub mod Writers
 pub mod Repeating
 pub mod Layering
+pub mod Linking
+pub mod Carrying

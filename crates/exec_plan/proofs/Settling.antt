@@ -68,7 +68,7 @@ not_among tx (x ∷ xs) none = go (digest_eq x.digest tx) refl none (λ rest. no
     go false is none rest = (is, rest none)
 
 -- an opening object is nobody's
-not_opened : (key : ObjectKey) (tx : Digest) (objects : List Object) → find (is_wanted key (Some (producers.Tx tx))) (map opened objects) ≡ None
+pub not_opened : (key : ObjectKey) (tx : Digest) (objects : List Object) → find (is_wanted key (Some (producers.Tx tx))) (map opened objects) ≡ None
 not_opened key tx [] = refl
 not_opened key tx (o ∷ os) =
     ap (λ b. cond b (Some (opened o)) (find (is_wanted key (Some (producers.Tx tx))) (map opened os))) (and_false (key_eq (object_key o) key))

@@ -1,6 +1,6 @@
 -- The tasks of a plan, what comes of each, and what is kept. Source: this profile; what executes a transaction is the
 -- definition of execution (Sui Lutris).
-use Rattle.std.specs.Prelude.{ℕ, ◌==◌, Bool, true, false, ◌&&◌, List, [], ◌∷◌, ◌++◌, map, filter, filter_map, find, position, zip, length, Option, Some, None, if◌then◌else◌}
+use Rattle.std.specs.Prelude.{ℕ, suc, ◌==◌, Bool, true, false, ◌&&◌, List, [], ◌∷◌, ◌++◌, map, filter, filter_map, find, zip, length, Option, Some, None, option_map, if◌then◌else◌}
 use Rattle.std.specs.List.{list_any, list_all}
 use Rattle.digest_core.specs.declared.Digest.{Digest}
 use Rattle.chain_types.specs.declared.objects.ObjectKey.{ObjectKey}
@@ -44,11 +44,16 @@ pub record Link : Type 0 where
 
 -- ---- what the tasks want
 
+-- the number of a transaction's task among these, from 0 on
+abbrev pub number_of : Digest → List Held → Option ℕ
+number_of tx [] = None
+number_of tx (h ∷ hs) = if is_of tx h then Some 0 else option_map suc (number_of tx hs)
+
 -- the number of the task that makes a version, among the tasks in front
 abbrev pub maker_number : List Held → Option Producer → Option ℕ
 maker_number front None = None
 maker_number front (Some producers.Opening) = None
-maker_number front (Some (producers.Tx tx)) = position (is_of tx) front
+maker_number front (Some (producers.Tx tx)) = number_of tx front
 
 -- the object, where it is held; else an edge, where a task in front makes it
 abbrev pub slot_as : Option Object → Option ℕ → Slot
@@ -111,6 +116,18 @@ edges_of b executed = map edge_of (links_of b executed)
 
 unfoldable pub tasks_of : Books → List Execution → List Planned
 tasks_of b executed = tasks_after (versions b.opening executed) b.admission (links_of b executed) [] (planned_of b executed)
+
+-- how many edges go to a task, and from it
+abbrev pub is_edge : Slot → Bool
+is_edge (slots.Here o) = false
+is_edge slots.Edge = true
+is_edge slots.Lacks = false
+
+abbrev pub takes_of : Planned → ℕ
+takes_of t = length (filter (λ (w : Want). is_edge w.slot) t.wants)
+
+abbrev pub count_given : Planned → ℕ
+count_given t = length t.gives
 
 -- ---- what comes of a task
 

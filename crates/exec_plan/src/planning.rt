@@ -10,6 +10,7 @@ pub fn layers_are_rounds()
 {}
 
 /// What is kept of the outputs of a run's plan is what the rounds execute, in the same order.
+#[tactic(auto, using(crate::proofs::Carrying::keeps_rounds))]
 pub fn plan_keeps_the_rounds()
     ensures { KeepsTheRounds }
 {}
