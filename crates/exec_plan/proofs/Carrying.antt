@@ -32,7 +32,7 @@ use Rattle.exec_plan.specs.Books.{AreApart}
 use Rattle.exec_plan.specs.Layers.{in_turn, is_maker_planned, is_of, is_planned, is_supplied, onto_kept, planned_of}
 use Rattle.exec_plan.specs.Makers.{is_made}
 use Rattle.exec_plan.specs.Planning.{KeepsTheRounds}
-use Rattle.exec_plan.specs.Tasks.{Link, Planned, carried, carried_by, carry_as, carry_of, edges_of, is_at, is_not_run, is_origin_kept, keep_as, kept_of, lacking, link_as, link_of, links_of, maker_number, number_of, object_of, origin_of, outcome_of, outcome_on, outcome_with, outputs_of, slot_as, task_of, tasks_after, tasks_of, want_as}
+use Rattle.exec_plan.specs.Tasks.{Link, Planned, carried, carry_as, carry_of, edges_of, first_carry, is_at, is_not_run, is_origin_kept, keep_as, kept_of, lacking, link_as, link_of, links_of, maker_number, number_of, object_of, origin_of, other_carries, outcome_of, outcome_on, outcome_with, outputs_of, slot_as, task_of, tasks_after, tasks_of, want_as}
 use Rattle.exec_plan.proofs.Following.{executed_join, versions_join}
 use Rattle.exec_plan.proofs.Layering.{AreStrangers, Joins, clash, either_true, found_apart, opening_other, planned_along, planned_join, stranger_by, true_left, true_right, turns_are_rounds}
 use Rattle.exec_plan.proofs.Linking.{carry_on, count_tasks, inputs_are, inputs_at, links, outcome_at, outcome_in, outs_after, outs_are, tasks, tasks_join}
@@ -264,6 +264,9 @@ module _ (b : Books) (executed : List Execution) (all : List Held) where
         wants : List Want
         wants = map (want_as vs front) ws
 
+        inputs : Option Object → Option ℕ → List Carry
+        inputs f m = map carry (cons_option (link_as (length front) w.key f m) (filter_map (link_of vs front) ws))
+
         Rest : Type 0
         Rest = (carried wants rest ≡ map (λ w. carry_as (there w)) ws) × (list_any is_not_run rest ≡ false)
 
@@ -275,8 +278,8 @@ module _ (b : Books) (executed : List Execution) (all : List Held) where
         runs (Some o) e = e
 
         go : (f : Option Object) → found vs w ≡ f → (m : Option ℕ) → maker_number front w.producer ≡ m → is_made now w ≡ true → Rest
-            → (carried_by (slot_as f m) (carried wants) (map carry (cons_option (link_as (length front) w.key f m) (filter_map (link_of vs front) ws))) ≡ carry_as (there w) ∷ map (λ w. carry_as (there w)) ws)
-            × (list_any is_not_run (map carry (cons_option (link_as (length front) w.key f m) (filter_map (link_of vs front) ws))) ≡ false)
+            → (first_carry (slot_as f m) (inputs f m) ∷ carried wants (other_carries (slot_as f m) (inputs f m)) ≡ carry_as (there w) ∷ map (λ w. carry_as (there w)) ws)
+            × (list_any is_not_run (inputs f m) ≡ false)
         go (Some o) is m number made more = (behind (carries.Object o) (ap carry_as (sym (here_stays w o is))) more.0, more.1)
         go None is None number made more = (behind carries.Lacks (ap carry_as (sym (lacks_still w number ∙ is))) more.0, more.1)
         go None is (Some n) number made more =

@@ -14,3 +14,4 @@ pub mod Repeating
 pub mod Layering
 pub mod Linking
 pub mod Carrying
+pub mod Gathering

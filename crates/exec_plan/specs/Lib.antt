@@ -10,3 +10,4 @@ pub mod Waits
 pub mod Layers
 pub mod Tasks
 pub mod Planning
+pub mod Gathering

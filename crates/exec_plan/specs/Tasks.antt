@@ -1,6 +1,6 @@
 -- The tasks of a plan, what comes of each, and what is kept. Source: this profile; what executes a transaction is the
 -- definition of execution (Sui Lutris).
-use Rattle.std.specs.Prelude.{ℕ, suc, ◌==◌, Bool, true, false, ◌&&◌, List, [], ◌∷◌, ◌++◌, map, filter, filter_map, find, zip, length, Option, Some, None, option_map, if◌then◌else◌}
+use Rattle.std.specs.Prelude.{◌≡◌, ℕ, suc, ◌==◌, Bool, true, false, ◌&&◌, List, [], ◌∷◌, ◌++◌, map, filter, filter_map, find, zip, length, Option, Some, None, option_map, if◌then◌else◌}
 use Rattle.std.specs.List.{list_any, list_all}
 use Rattle.digest_core.specs.declared.Digest.{Digest}
 use Rattle.chain_types.specs.declared.objects.ObjectKey.{ObjectKey}
@@ -11,9 +11,10 @@ use Rattle.chain_types.specs.declared.transactions.Transaction.{Transaction}
 use Rattle.answer_types.specs.declared.pieces.Executed.{Executed}
 use Rattle.answer_types.specs.declared.answers.Held.{Held}
 use Rattle.chain_types.specs.Equal.{key_eq}
-use Rattle.chain_types.specs.Digests.{consumed_keys}
+use Rattle.chain_types.specs.Digests.{consumed_keys, transaction_digest}
 use Rattle.protocol_spec.specs.Chain.Words.{first_of, where_true}
 use Rattle.protocol_spec.specs.Chain.Keys.{object_key, fits}
+use Rattle.protocol_spec.specs.Chain.Shape.{shape_fault}
 use Rattle.protocol_spec.specs.Block.Execution.{execution, written_keys}
 use Rattle.protocol_spec.specs.Member.Versions.{Execution, Version, versions}
 use Rattle.protocol_spec.specs.Member.Admission.{Admission}
@@ -106,6 +107,10 @@ abbrev pub tasks_after : List Version → Admission → List Link → List Held 
 tasks_after held a links front [] = []
 tasks_after held a links front (h ∷ hs) = task_of held a links front h ∷ tasks_after held a links (front ++ h ∷ []) hs
 
+-- a task of a transaction of valid shape, under the transaction's digest
+abbrev pub IsSoundTask : Transaction → Digest → Type 0
+IsSoundTask tx digest = (shape_fault tx ≡ None) × (digest ≡ transaction_digest tx)
+
 -- ---- the plan of a run
 
 unfoldable pub links_of : Books → List Execution → List Link
@@ -131,16 +136,23 @@ count_given t = length t.gives
 
 -- ---- what comes of a task
 
--- what is there of each want: the object, what the next incoming edge carries, or nothing
-abbrev pub carried_by : Slot → (List Carry → List Carry) → List Carry → List Carry
-carried_by (slots.Here o) rest inputs = carries.Object o ∷ rest inputs
-carried_by slots.Lacks rest inputs = carries.Lacks ∷ rest inputs
-carried_by slots.Edge rest [] = carries.NotRun ∷ rest []
-carried_by slots.Edge rest (input ∷ inputs) = input ∷ rest inputs
+-- what is there of a want: the object, what the next incoming edge carries, or nothing
+abbrev pub first_carry : Slot → List Carry → Carry
+first_carry (slots.Here o) inputs = carries.Object o
+first_carry slots.Lacks inputs = carries.Lacks
+first_carry slots.Edge [] = carries.NotRun
+first_carry slots.Edge (input ∷ inputs) = input
+
+-- and what the edges behind it carry
+abbrev pub other_carries : Slot → List Carry → List Carry
+other_carries (slots.Here o) inputs = inputs
+other_carries slots.Lacks inputs = inputs
+other_carries slots.Edge [] = []
+other_carries slots.Edge (input ∷ inputs) = inputs
 
 abbrev pub carried : List Want → List Carry → List Carry
 carried [] inputs = []
-carried (w ∷ ws) inputs = carried_by w.slot (carried ws) inputs
+carried (w ∷ ws) inputs = first_carry w.slot inputs ∷ carried ws (other_carries w.slot inputs)
 
 abbrev pub is_not_run : Carry → Bool
 is_not_run (carries.Object o) = false
