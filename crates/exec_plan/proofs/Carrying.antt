@@ -32,7 +32,8 @@ use Rattle.exec_plan.specs.Books.{AreApart}
 use Rattle.exec_plan.specs.Layers.{in_turn, is_maker_planned, is_of, is_planned, is_supplied, onto_kept, planned_of}
 use Rattle.exec_plan.specs.Makers.{is_made}
 use Rattle.exec_plan.specs.Planning.{KeepsTheRounds}
-use Rattle.exec_plan.specs.Tasks.{Link, Planned, carried, carry_as, carry_of, edges_of, first_carry, is_at, is_not_run, is_origin_kept, keep_as, kept_of, lacking, link_as, link_of, links_of, maker_number, number_of, object_of, origin_of, other_carries, outcome_of, outcome_on, outcome_with, outputs_of, slot_as, task_of, tasks_after, tasks_of, want_as}
+use Rattle.exec_plan.specs.declared.link.Link.{Link}
+use Rattle.exec_plan.specs.Tasks.{Planned, carried, carry_as, carry_of, edges_of, first_carry, is_at, is_not_run, is_origin_kept, keep_as, kept_of, lacking, link_as, link_of, links_of, maker_number, number_of, object_of, origin_of, other_carries, outcome_of, outcome_on, outcome_with, outputs_of, slot_as, task_of, tasks_after, tasks_of, want_as}
 use Rattle.exec_plan.proofs.Following.{executed_join, versions_join}
 use Rattle.exec_plan.proofs.Layering.{AreStrangers, Joins, clash, either_true, found_apart, opening_other, planned_along, planned_join, stranger_by, true_left, true_right, turns_are_rounds}
 use Rattle.exec_plan.proofs.Linking.{carry_on, count_tasks, inputs_are, inputs_at, links, outcome_at, outcome_in, outs_after, outs_are, tasks, tasks_join}

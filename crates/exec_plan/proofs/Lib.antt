@@ -14,4 +14,5 @@ pub mod Repeating
 pub mod Layering
 pub mod Linking
 pub mod Carrying
+pub mod LaidOut
 pub mod Gathering

@@ -26,7 +26,8 @@ use Rattle.exec_plan.specs.declared.task.Outcome.{Outcome}
 use Rattle.exec_plan.specs.declared.task.Outcome.TheVariants as outcomes
 use Rattle.exec_plan.specs.declared.task.Want.{Want}
 use Rattle.exec_plan.specs.Layers.{is_of}
-use Rattle.exec_plan.specs.Tasks.{Link, Planned, carry_of, count_given, edge_of, gives_of, is_edge, key_of_link, link_as, link_of, links_after, maker_number, number_of, outcome_of, output_of, slot_as, takes_of, task_of, tasks_after, values_of, want_as}
+use Rattle.exec_plan.specs.declared.link.Link.{Link}
+use Rattle.exec_plan.specs.Tasks.{Planned, carry_of, count_given, edge_of, gives_of, is_edge, key_of_link, link_as, link_of, links_after, maker_number, number_of, outcome_of, output_of, slot_as, takes_of, task_of, tasks_after, values_of, want_as}
 
 -- ---- numbers of tasks
 
@@ -52,11 +53,11 @@ maker_below front (Some (producers.Tx tx)) n e = number_below tx front n e
 abbrev pub goes_to : ℕ → Link → Bool
 goes_to n l = eqb l.to n
 
-abbrev comes_from : ℕ → Link → Bool
+abbrev pub comes_from : ℕ → Link → Bool
 comes_from n l = eqb l.from n
 
 -- a link comes from a task in front of the one that it goes to, and that is below a number
-abbrev IsForward : ℕ → Link → Type 0
+abbrev pub IsForward : ℕ → Link → Type 0
 IsForward n l = (l.from < l.to) × (l.to < n)
 
 each_join : {A : Type 0} (P : A → Type 0) (xs ys : List A) → Each P xs → Each P ys → Each P (xs ++ ys)
@@ -98,7 +99,7 @@ module _ (vs : List Version) (a : Admission) where
       go None None more = more
       go None (Some k) more = ap (λ b. cond b (record { from = k; to = length front; key = w.key } ∷ filter (goes_to n) rest) (filter (goes_to n) rest)) (ne_eqb (length front) n other) ∙ more
 
-  longer_by : (front : List Held) (x : Held) → length (front ++ x ∷ []) ≡ suc (length front)
+  pub longer_by : (front : List Held) (x : Held) → length (front ++ x ∷ []) ≡ suc (length front)
   longer_by [] x = refl
   longer_by (y ∷ front) x = ap suc (longer_by front x)
 
@@ -132,7 +133,7 @@ module _ (vs : List Version) (a : Admission) where
       n : ℕ
       n = length front
 
-  forward_here : (n : ℕ) (front : List Held) (ws : List Wanted) → length front < n → Each (IsForward n) (filter_map (link_of vs front) ws)
+  pub forward_here : (n : ℕ) (front : List Held) (ws : List Wanted) → length front < n → Each (IsForward n) (filter_map (link_of vs front) ws)
   forward_here n front [] low = tt
   forward_here n front (w ∷ ws) low = go (found vs w) (maker_number front w.producer) refl (forward_here n front ws low)
     where
@@ -144,7 +145,7 @@ module _ (vs : List Version) (a : Admission) where
       go None None e more = more
       go None (Some k) e more = ((maker_below front w.producer k e, low), more)
 
-  links_forward : (n : ℕ) (xs front : List Held) → length front + length xs ≤ n → Each (IsForward n) (links_after vs a front xs)
+  pub links_forward : (n : ℕ) (xs front : List Held) → length front + length xs ≤ n → Each (IsForward n) (links_after vs a front xs)
   links_forward n [] front low = tt
   links_forward n (x ∷ xs) front low =
       each_join (IsForward n) (filter_map (link_of vs front) (wants_of a x)) (links_after vs a (front ++ x ∷ []) xs)

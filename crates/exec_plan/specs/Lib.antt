@@ -11,3 +11,4 @@ pub mod Layers
 pub mod Tasks
 pub mod Planning
 pub mod Gathering
+pub mod Drafts

@@ -21,6 +21,7 @@ use Rattle.protocol_spec.specs.Member.Admission.{Admission}
 use Rattle.protocol_spec.specs.Member.Rounds.{Books, Wanted, found, is_maker_done, wants_of, writes_new}
 use Rattle.dag_core.specs.declared.plan.Edge.{Edge}
 use Rattle.dag_core.specs.Values.{outputs}
+use Rattle.exec_plan.specs.declared.link.Link.{Link}
 use Rattle.exec_plan.specs.declared.task.Carry.{Carry}
 use Rattle.exec_plan.specs.declared.task.Carry.TheVariants as carries
 use Rattle.exec_plan.specs.declared.task.Outcome.{Outcome}
@@ -36,12 +37,6 @@ pub record Planned : Type 0 where
   pub tx : Transaction
   pub wants : List Want
   pub gives : List ObjectKey
-
--- a version that one task hands to a later one
-pub record Link : Type 0 where
-  pub from : ℕ
-  pub to : ℕ
-  pub key : ObjectKey
 
 -- ---- what the tasks want
 

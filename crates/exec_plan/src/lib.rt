@@ -10,8 +10,10 @@
 #![tactic(auto)]
 
 mod behind;
+mod drafting;
 mod inputs;
 mod leaving;
+mod link;
 mod makers;
 mod planning;
 mod readiness;

@@ -3,18 +3,20 @@
 ghost use Rattle.std.specs.Prelude.{◌≡◌, ◌++◌, [], IfOk, OnOk, find, map};
 ghost use Rattle.std.specs.List.{list_any};
 ghost use Rattle.std.specs.Option.{option_to_list};
+ghost use Rattle.exec_plan.specs.Books.{IsSound};
+ghost use Rattle.exec_plan.specs.Drafts.{bare_task, with_give};
 ghost use Rattle.exec_plan.specs.Gathering.{gathered_after, is_lacking};
 ghost use Rattle.exec_plan.specs.Tasks.{carry_as, carry_of, first_carry, is_at, is_not_run, object_of, other_carries, outcome_of, outcome_with};
 
 use crate::single::key_of;
-use answer_types::Executed;
+use answer_types::{Executed, Held};
 use chain_types::{Object, ObjectKey, Producer, Transaction};
 use dag_core::Job;
 use digest_core::Digest;
 use ptb_run::{execute, fits};
 use std::alloc::Global;
 use std::marker::Model;
-use wire_bcs::{OutOfMemory, Seq};
+use wire_bcs::{Duplicate, OutOfMemory, Seq};
 
 /// What an edge carries of a wanted version: the object, or that the transaction that was to make it did not, or
 /// that this was not executed.
@@ -165,6 +167,34 @@ fn carry_of(outcome: &Outcome, key: &ObjectKey) -> Carry
 }
 
 impl Task {
+    /// The task of a held certificate that wants this, and hands on nothing yet.
+    pub(crate) fn bare(alloc: Global, held: &Held, wants: Seq<Want>) -> Result<Task, OutOfMemory>
+        requires { IsSound held.now }
+        ensures { IfOk result (λ task. task ≡ bare_task held.now wants) }
+    {
+        let tx = held.cert.tx.copy()?;
+        Ok(Task {
+            digest: held.digest,
+            tx,
+            wants,
+            gives: Seq::new(alloc),
+        })
+    }
+
+    /// It hands on one more version.
+    pub(crate) fn give(&mut self, key: ObjectKey) -> Result<(), OutOfMemory>
+        ensures { OnOk result (self.new ≡ with_give self.old key) }
+    {
+        self.gives.push(key)
+    }
+
+    /// The transaction's digest.
+    pub(crate) fn digest(&self) -> Digest
+        ensures { result ≡ self.now.digest }
+    {
+        self.digest
+    }
+
     /// What comes of it on these objects.
     fn outcome_with(&self, alloc: Global, objects: &Seq<Object>) -> Result<Outcome, OutOfMemory>
         ensures { IfOk result (λ outcome. outcome ≡ outcome_with self.now.tx objects.now) }
