@@ -15,4 +15,5 @@ pub mod Layering
 pub mod Linking
 pub mod Carrying
 pub mod LaidOut
+pub mod Looking
 pub mod Gathering

@@ -12,3 +12,5 @@ pub mod Tasks
 pub mod Planning
 pub mod Gathering
 pub mod Drafts
+pub mod Past
+pub mod Ahead

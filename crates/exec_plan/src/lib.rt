@@ -15,6 +15,8 @@ mod inputs;
 mod leaving;
 mod link;
 mod makers;
+mod past;
+mod planner;
 mod planning;
 mod readiness;
 mod running;

@@ -1,0 +1,242 @@
+-- Which certificates the next layer has, and where the others stand.
+use Rattle.std.proofs.Common.{◌≡◌, ℕ, zero, suc, ◌+◌, ◌-◌, ◌<◌, Bool, true, false, cond, not, ◌&&◌, ◌||◌, List, [], ◌∷◌, ◌++◌, map, length, Option, Some, None, is_some, inl, inr, refl, ap, sym, subst, ◌∙◌, append_assoc, append-nil, arith}
+use Rattle.std.specs.Prelude.{◌⊎◌, ◌≤◌, filter, filter_map, drop, find, slice_get, slice_index, take}
+use Rattle.std.specs.List.{cons_option, list_all, list_any}
+use Rattle.std.specs.List.Sorted.{IsStrictlySortedBy}
+use Rattle.std.specs.Ordering.{nat_cmp}
+use Rattle.indexmap.specs.IndexSet.{insert_all, insert_key}
+use Rattle.digest_core.specs.declared.Digest.{Digest}
+use Rattle.chain_types.specs.declared.objects.Producer.{Producer}
+use Rattle.chain_types.specs.declared.objects.Producer.TheVariants as producers
+use Rattle.answer_types.specs.declared.answers.Held.{Held}
+use Rattle.chain_types.specs.Equal.{digest_eq}
+use Rattle.protocol_spec.specs.Chain.Words.{Each, Has}
+use Rattle.protocol_spec.specs.Member.Versions.{Execution, is_executed}
+use Rattle.protocol_spec.specs.Member.Admission.{Admission}
+use Rattle.protocol_spec.specs.Member.Rounds.{Books, Wanted, is_maker_done, may_run, wants_of}
+use Rattle.version_store.proofs.Equality.{digest_same, digest_self, turn}
+use Rattle.version_store.specs.Stores.{Stored}
+use Rattle.exec_plan.specs.declared.waiting.Waiting.{Waiting}
+use Rattle.exec_plan.specs.Ahead.{AreParked, AreTaken, Parked, has_run, joins_now, joins_of, lacks_admission, layer_places, waits_behind, was_taken, with_digest}
+use Rattle.exec_plan.specs.Behind.{Frees, Lists, StaysListed, is_among, listed}
+use Rattle.exec_plan.specs.Books.{AreApart, books_of, digest_of_held, is_let}
+use Rattle.exec_plan.specs.Drafts.{picked}
+use Rattle.exec_plan.specs.Layers.{is_maker_planned, is_of, is_planned, is_supplied, joins_layer, layer_of}
+use Rattle.exec_plan.specs.Makers.{are_made, is_made}
+use Rattle.exec_plan.specs.Past.{as_if, empty_execution}
+use Rattle.exec_plan.specs.Places.{Picks, placed_after}
+use Rattle.exec_plan.specs.Waits.{Filed, IsBehind, IsFiled, IsWaiting, comes_next, has_settled, is_behind, is_loose, is_unadmitted, was_run}
+use Rattle.exec_plan.proofs.Filing.{after_has, after_keeps, join_first, join_second}
+use Rattle.exec_plan.proofs.Following.{any_join, executed_join}
+use Rattle.exec_plan.proofs.Layering.{clash, either_true, is_picked, planned_join, true_left, true_right}
+use Rattle.exec_plan.proofs.Joined.{tail_is}
+use Rattle.exec_plan.proofs.Making.{makes_not}
+use Rattle.exec_plan.proofs.Rounding.{all_far, ascends, at_front, at_none, longer, picks_of}
+
+-- ---- names
+
+named_is : (txs : List Digest) (tx : Digest) → is_executed (map empty_execution txs) tx ≡ list_any (digest_eq tx) txs
+named_is [] tx = refl
+named_is (d ∷ ds) tx = go (digest_eq d tx) (digest_eq tx d) (turn digest_eq digest_same digest_self d tx) (named_is ds tx)
+  where
+    go : (b c : Bool) → b ≡ c → is_executed (map empty_execution ds) tx ≡ list_any (digest_eq tx) ds
+        → is_some (cond b (Some (empty_execution d)) (find (λ (y : Execution). digest_eq y.digest tx) (map empty_execution ds))) ≡ (c || list_any (digest_eq tx) ds)
+    go true true e more = refl
+    go false false e more = more
+    go true false e more = absurd (cc)
+    go false true e more = absurd (cc)
+
+pub known_is : (txs : List Digest) (s : Stored) (tx : Digest) → is_executed (as_if txs s).executed tx ≡ (list_any (digest_eq tx) txs || is_executed s.executed tx)
+known_is txs s tx = executed_join (map empty_execution txs) s.executed tx ∙ ap (λ c. c || is_executed s.executed tx) (named_is txs tx)
+
+or_none : (a : Bool) → a ≡ (a || false)
+or_none true = refl
+or_none false = refl
+
+or_assoc : (a b c : Bool) → ((a || b) || c) ≡ (a || (b || c))
+or_assoc true b c = refl
+or_assoc false b c = refl
+
+one_named : (txs : List Digest) (d tx : Digest) → list_any (digest_eq tx) (insert_key digest_eq txs d) ≡ (list_any (digest_eq tx) txs || digest_eq tx d)
+one_named txs d tx = go (list_any (digest_eq d) txs) refl
+  where
+    absorb : (a b : Bool) → (b ≡ true → a ≡ true) → a ≡ (a || b)
+    absorb true b f = refl
+    absorb false false f = refl
+    absorb false true f = f refl
+
+    go : (b : Bool) → list_any (digest_eq d) txs ≡ b → list_any (digest_eq tx) (cond b txs (txs ++ d ∷ [])) ≡ (list_any (digest_eq tx) txs || digest_eq tx d)
+    go true there =
+        absorb (list_any (digest_eq tx) txs) (digest_eq tx d) (λ same. ap (λ (x : Digest). list_any (digest_eq x) txs) (digest_same tx d same) ∙ there)
+    go false there = any_join (digest_eq tx) txs (d ∷ []) ∙ ap (λ b. list_any (digest_eq tx) txs || b) (sym (or_none (digest_eq tx d)))
+
+-- who is named behind more names
+pub all_named : (more txs : List Digest) (tx : Digest) → list_any (digest_eq tx) (insert_all digest_eq txs more) ≡ (list_any (digest_eq tx) txs || list_any (digest_eq tx) more)
+all_named [] txs tx = or_none (list_any (digest_eq tx) txs)
+all_named (d ∷ ds) txs tx =
+    all_named ds (insert_key digest_eq txs d) tx
+    ∙ ap (λ b. b || list_any (digest_eq tx) ds) (one_named txs d tx)
+    ∙ or_assoc (list_any (digest_eq tx) txs) (digest_eq tx d) (list_any (digest_eq tx) ds)
+
+among_is : (txs : List Digest) (tx : Digest) → is_among txs tx ≡ list_any (digest_eq tx) txs
+among_is [] tx = refl
+among_is (d ∷ ds) tx = ap (λ c. c || is_among ds tx) (turn digest_eq digest_same digest_self d tx) ∙ ap (λ c. digest_eq tx d || c) (among_is ds tx)
+
+planned_is : (hs : List Held) (tx : Digest) → list_any (digest_eq tx) (map digest_of_held hs) ≡ is_planned hs tx
+planned_is [] tx = refl
+planned_is (h ∷ hs) tx =
+    ap (λ c. c || list_any (digest_eq tx) (map digest_of_held hs)) (turn digest_eq digest_same digest_self tx h.digest) ∙ ap (λ c. digest_eq h.digest tx || c) (planned_is hs tx)
+
+-- these names are those of the planned certificates
+abbrev pub Agrees : List Digest → List Held → Type 0
+Agrees txs planned = (tx : Digest) → list_any (digest_eq tx) txs ≡ is_planned planned tx
+
+pub agrees_more : (txs : List Digest) (planned more : List Held) → Agrees txs planned → Agrees (insert_all digest_eq txs (map digest_of_held more)) (planned ++ more)
+agrees_more txs planned more agrees tx =
+    all_named (map digest_of_held more) txs tx
+    ∙ ap (λ c. c || list_any (digest_eq tx) (map digest_of_held more)) (agrees tx)
+    ∙ ap (λ c. is_planned planned tx || c) (planned_is more tx)
+    ∙ sym (planned_join planned more tx)
+
+-- ---- who joins
+
+module _ (s : Stored) (a : Admission) (held : List Held) (txs : List Digest) (planned : List Held) (agrees : Agrees txs planned) where
+  abbrev now : Stored
+  now = as_if txs s
+
+  known : (tx : Digest) → is_executed now.executed tx ≡ (is_executed s.executed tx || is_planned planned tx)
+  known tx = known_is txs s tx ∙ ap (λ c. c || is_executed s.executed tx) (agrees tx) ∙ swap (is_planned planned tx) (is_executed s.executed tx)
+    where
+      swap : (a b : Bool) → (a || b) ≡ (b || a)
+      swap true true = refl
+      swap true false = refl
+      swap false true = refl
+      swap false false = refl
+
+  supplied_is : (ws : List Wanted) → list_all (is_made now.executed) ws ≡ list_all (is_supplied s.executed planned) ws
+  supplied_is [] = refl
+  supplied_is (w ∷ ws) = ap (λ c. c && list_all (is_made now.executed) ws) (by w.producer) ∙ ap (λ c. is_supplied s.executed planned w && c) (supplied_is ws)
+    where
+      by : (p : Option Producer) → is_maker_done now.executed p ≡ is_maker_planned s.executed planned p
+      by None = refl
+      by (Some producers.Opening) = refl
+      by (Some (producers.Tx tx)) = known tx
+
+  joins_is : (h : Held) → joins_now now a h ≡ joins_layer (books_of s a held) s.executed planned h
+  joins_is h =
+      ap (λ c. not c && is_let a h && are_made now.executed a h) (known h.digest)
+      ∙ ap (λ c. not (is_executed s.executed h.digest || is_planned planned h.digest) && is_let a h && c) (supplied_is (wants_of a h))
+      ∙ go (is_executed s.executed h.digest) (is_planned planned h.digest) (is_let a h) (list_all (is_supplied s.executed planned) (wants_of a h))
+    where
+      go : (e p m c : Bool) → (not (e || p) && m && c) ≡ (not e && not p && m && c)
+      go true p m c = refl
+      go false true m c = refl
+      go false false m c = refl
+
+  pub layer_is : filter (joins_now now a) held ≡ layer_of (books_of s a held) s.executed planned
+  layer_is = go held
+    where
+      go : (hs : List Held) → filter (joins_now now a) hs ≡ filter (joins_layer (books_of s a held) s.executed planned) hs
+      go [] = refl
+      go (h ∷ hs) =
+          ap (λ c. cond c (h ∷ filter (joins_now now a) hs) (filter (joins_now now a) hs)) (joins_is h)
+          ∙ ap (λ l. cond (joins_layer (books_of s a held) s.executed planned h) (h ∷ l) l) (go hs)
+
+-- ---- a layer by its places
+
+module _ (s : Stored) (a : Admission) (all : List Held) where
+  abbrev Rests : Held → Type 0
+  Rests h = joins_now s a h ≡ false
+
+  abbrev layer_in : List ℕ → List Held
+  layer_in places = picked all (layer_places s a all places)
+
+  none_there : (places : List ℕ) → Each (λ p. length all ≤ p) places → layer_in places ≡ []
+  none_there [] far = refl
+  none_there (p ∷ ps) far = ap (λ (o : Option Held). picked all (cond (joins_of s a o) (p ∷ layer_places s a all ps) (layer_places s a all ps))) (at_none all p far.0) ∙ none_there ps far.1
+
+  rests : (h : Held) (hs : List Held) → Rests h → filter (joins_now s a) (h ∷ hs) ≡ filter (joins_now s a) hs
+  rests h hs none = ap (λ c. cond c (h ∷ filter (joins_now s a) hs) (filter (joins_now s a) hs)) none
+
+  one_there : (p : ℕ) (ps : List ℕ) (h : Held) → slice_get all p ≡ Some h → layer_in (p ∷ ps) ≡ cond (joins_now s a h) (h ∷ layer_in ps) (layer_in ps)
+  one_there p ps h at =
+      ap (λ (o : Option Held). picked all (cond (joins_of s a o) (p ∷ layer_places s a all ps) (layer_places s a all ps))) at
+      ∙ go (joins_now s a h)
+    where
+      go : (c : Bool) → picked all (cond c (p ∷ layer_places s a all ps) (layer_places s a all ps)) ≡ cond c (h ∷ layer_in ps) (layer_in ps)
+      go true = ap (λ (o : Option Held). cons_option o (layer_in ps)) at
+      go false = refl
+
+  picks_layer : (places : List ℕ) (hs front : List Held) → all ≡ front ++ hs → Picks Rests (length front) places hs → layer_in places ≡ filter (joins_now s a) hs
+  picks_layer places [] front is picks = none_there places (all_far s a all places front is picks)
+  picks_layer [] (h ∷ hs) front is picks =
+      picks_layer [] hs (front ++ h ∷ []) (is ∙ sym (append_assoc front (h ∷ []) hs)) (subst (λ n. Picks Rests n [] hs) (sym (longer front h)) picks.1)
+      ∙ sym (rests h hs picks.0)
+  picks_layer (p ∷ ps) (h ∷ hs) front is (inl picks) =
+      one_there p ps h (ap (slice_get all) picks.0 ∙ ap (λ xs. slice_get xs (length front)) is ∙ at_front front h hs)
+      ∙ ap (λ l. cond (joins_now s a h) (h ∷ l) l)
+      (picks_layer ps hs (front ++ h ∷ []) (is ∙ sym (append_assoc front (h ∷ []) hs)) (subst (λ n. Picks Rests n ps hs) (sym (longer front h)) picks.1))
+  picks_layer (p ∷ ps) (h ∷ hs) front is (inr picks) =
+      picks_layer (p ∷ ps) hs (front ++ h ∷ []) (is ∙ sym (append_assoc front (h ∷ []) hs)) (subst (λ n. Picks Rests n (p ∷ ps) hs) (sym (longer front h)) picks.1)
+      ∙ sym (rests h hs picks.0)
+
+  -- the layer of ascending places is the layer of all, where those at other places do not join
+  layer_of_places : (places : List ℕ) → IsStrictlySortedBy nat_cmp places → ((i : ℕ) (h : Held) → slice_get all i ≡ Some h → Has places i ⊎ (joins_now s a h ≡ false)) → layer_in places ≡ filter (joins_now s a) all
+  layer_of_places places sorted names = picks_layer places all [] refl (picks_of Rests all 0 places (ascends places sorted) (low places) named)
+    where
+      low : (ps : List ℕ) → Each (λ p. 0 ≤ p) ps
+      low [] = tt
+      low (p ∷ ps) = (omega arith, low ps)
+
+      named : (i : ℕ) (h : Held) → slice_get all i ≡ Some h → Has places (0 + i) ⊎ Rests h
+      named i h at =
+          let same : i ≡ 0 + i = omega arith in
+          subst (λ n. Has places n ⊎ Rests h) same (names i h at)
+
+  -- ---- who waits for nothing
+
+  abbrev open_of : Waiting → List ℕ
+  open_of w = placed_after (placed_after [] w.settled.keys) w.next.keys
+
+  open_or_rests : (w : Waiting) → IsWaiting s a all w → (place : ℕ) (h : Held) → slice_get all place ≡ Some h → Has (open_of w) place ⊎ (joins_now s a h ≡ false)
+  open_or_rests w filed place h at = go (filed.at place h at)
+    where
+      and_false : (b : Bool) → (b && false) ≡ false
+      and_false true = refl
+      and_false false = refl
+
+      go : Filed s a [] w place h → Has (open_of w) place ⊎ (joins_now s a h ≡ false)
+      go (was_run ran) = inr (ap (λ c. not c && is_let a h && are_made s.executed a h) ran)
+      go (is_unadmitted unlet has) = inr (ap (λ c. not (is_executed s.executed h.digest) && c && are_made s.executed a h) unlet ∙ either (not (is_executed s.executed h.digest)) (are_made s.executed a h))
+        where
+          either : (b c : Bool) → (b && false && c) ≡ false
+          either true c = refl
+          either false c = refl
+      go (comes_next may has made) = inl (after_has w.next.keys (placed_after [] w.settled.keys) place has)
+      go (has_settled may has made none) = inl (after_keeps w.next.keys (placed_after [] w.settled.keys) place (after_has w.settled.keys [] place has))
+      go (is_behind may b) =
+          inr (ap (λ c. not (is_executed s.executed h.digest) && is_let a h && c) (makes_not s.executed a h b.maker b.makes b.first) ∙ either (not (is_executed s.executed h.digest)) (is_let a h))
+        where
+          either : (b c : Bool) → (b && c && false) ≡ false
+          either true true = refl
+          either true false = refl
+          either false c = refl
+      go (is_loose has) = absurd has
+
+  pub layer_now : (w : Waiting) (places : List ℕ) → IsWaiting s a all w → IsStrictlySortedBy nat_cmp places → places ≡ open_of w → picked all (layer_places s a all places) ≡ filter (joins_now s a) all
+  layer_now w places filed sorted same = layer_of_places places sorted (λ i h at. subst (λ ps. Has ps i ⊎ (joins_now s a h ≡ false)) (sym same) (open_or_rests w filed i h at))
+
+-- ---- the loop over a layer
+
+pub front_digests : (held : List Held) (txs new : List Digest) (rest : List ℕ) {all : List Digest} → 1 ≤ length rest → new ≡ with_digest txs (slice_get held (slice_index rest 0))
+    → txs ++ map digest_of_held (picked held rest) ≡ all → new ++ map digest_of_held (picked held (take (length rest - 1) (drop 1 rest))) ≡ all
+front_digests held txs new [] some is whole = absurd (omega (arith, some))
+front_digests held txs new (p ∷ ps) some is whole =
+    ap (λ l. new ++ map digest_of_held (picked held l)) (tail_is p ps)
+    ∙ ap (λ ds. ds ++ map digest_of_held (picked held ps)) is
+    ∙ go (slice_get held p)
+    ∙ whole
+  where
+    go : (o : Option Held) → with_digest txs o ++ map digest_of_held (picked held ps) ≡ txs ++ map digest_of_held (cons_option o (picked held ps))
+    go None = refl
+    go (Some h) = append_assoc txs (h.digest ∷ []) (map digest_of_held (picked held ps))
