@@ -1,6 +1,7 @@
 -- Which certificates the next layer has, and where the others stand.
-use Rattle.std.proofs.Common.{◌≡◌, ℕ, zero, suc, ◌+◌, ◌-◌, ◌<◌, Bool, true, false, cond, not, ◌&&◌, ◌||◌, List, [], ◌∷◌, ◌++◌, map, length, Option, Some, None, is_some, inl, inr, refl, ap, sym, subst, ◌∙◌, append_assoc, append-nil, arith}
-use Rattle.std.specs.Prelude.{◌⊎◌, ◌≤◌, filter, filter_map, drop, find, slice_get, slice_index, take}
+use Rattle.std.proofs.Common.{◌≡◌, ℕ, zero, suc, ◌+◌, ◌-◌, ◌<◌, Bool, true, false, cond, not, ◌&&◌, ◌||◌, List, [], ◌∷◌, ◌++◌, map, length, Option, Some, None, is_some, inl, inr, refl, ap, sym, subst, ◌∙◌, append_assoc, append-nil, ne_eqb, arith}
+use Rattle.std.specs.Prelude.{◌⊎◌, ◌≤◌, ◌==◌, filter, filter_map, drop, find, slice_get, slice_index, take}
+use Rattle.std.proofs.lemmas.List.Elements.{filter_map-append}
 use Rattle.std.specs.List.{cons_option, list_all, list_any}
 use Rattle.std.specs.List.Sorted.{IsStrictlySortedBy}
 use Rattle.std.specs.Ordering.{nat_cmp}
@@ -11,13 +12,14 @@ use Rattle.chain_types.specs.declared.objects.Producer.TheVariants as producers
 use Rattle.answer_types.specs.declared.answers.Held.{Held}
 use Rattle.chain_types.specs.Equal.{digest_eq}
 use Rattle.protocol_spec.specs.Chain.Words.{Each, Has}
+use Rattle.protocol_spec.specs.Chain.Shape.{is_empty_list}
 use Rattle.protocol_spec.specs.Member.Versions.{Execution, is_executed}
 use Rattle.protocol_spec.specs.Member.Admission.{Admission}
 use Rattle.protocol_spec.specs.Member.Rounds.{Books, Wanted, is_maker_done, may_run, wants_of}
 use Rattle.version_store.proofs.Equality.{digest_same, digest_self, turn}
 use Rattle.version_store.specs.Stores.{Stored}
 use Rattle.exec_plan.specs.declared.waiting.Waiting.{Waiting}
-use Rattle.exec_plan.specs.Ahead.{AreParked, AreTaken, Parked, has_run, joins_now, joins_of, lacks_admission, layer_places, waits_behind, was_taken, with_digest}
+use Rattle.exec_plan.specs.Ahead.{AreParked, AreTaken, Parked, has_run, joining, joins_now, joins_of, lacks_admission, layer_places, waits_behind, was_taken, with_digest}
 use Rattle.exec_plan.specs.Behind.{Frees, Lists, StaysListed, is_among, listed}
 use Rattle.exec_plan.specs.Books.{AreApart, books_of, digest_of_held, is_let}
 use Rattle.exec_plan.specs.Drafts.{picked}
@@ -240,3 +242,117 @@ front_digests held txs new (p ∷ ps) some is whole =
     go : (o : Option Held) → with_digest txs o ++ map digest_of_held (picked held ps) ≡ txs ++ map digest_of_held (cons_option o (picked held ps))
     go None = refl
     go (Some h) = append_assoc txs (h.digest ∷ []) (map digest_of_held (picked held ps))
+
+-- ---- behind a layer
+
+planned_at : (test : Held → Bool) (hs : List Held) (place : ℕ) (h : Held) → slice_get hs place ≡ Some h → test h ≡ true → is_planned (filter test hs) h.digest ≡ true
+planned_at test [] place h at is = absurd (cc)
+planned_at test (k ∷ ks) zero h at is =
+    ap (λ c. is_planned (cond c (k ∷ filter test ks) (filter test ks)) h.digest) (ap test same ∙ is)
+    ∙ true_left (digest_eq k.digest h.digest) (is_planned (filter test ks) h.digest) (ap (λ (x : Held). digest_eq x.digest h.digest) same ∙ digest_self h.digest)
+  where
+    same : k ≡ h
+    same = cc
+planned_at test (k ∷ ks) (suc n) h at is = go (test k) (planned_at test ks n h at is)
+  where
+    go : (c : Bool) → is_planned (filter test ks) h.digest ≡ true → is_planned (cond c (k ∷ filter test ks) (filter test ks)) h.digest ≡ true
+    go true there = true_right (digest_eq k.digest h.digest) (is_planned (filter test ks) h.digest) there
+    go false there = there
+
+module _ (s : Stored) (a : Admission) (held : List Held) (txs : List Digest) where
+  abbrev before : Stored
+  before = as_if txs s
+
+  abbrev layer : List Held
+  layer = joining before a held
+
+  abbrev names : List Digest
+  names = map digest_of_held layer
+
+  abbrev more : List Digest
+  more = insert_all digest_eq txs names
+
+  abbrev after : Stored
+  after = as_if more s
+
+  known_more : (tx : Digest) → is_executed after.executed tx ≡ (is_executed before.executed tx || list_any (digest_eq tx) names)
+  known_more tx =
+      known_is more s tx
+      ∙ ap (λ c. c || is_executed s.executed tx) (all_named names txs tx)
+      ∙ go (list_any (digest_eq tx) txs) (list_any (digest_eq tx) names) (is_executed s.executed tx)
+      ∙ ap (λ c. c || list_any (digest_eq tx) names) (sym (known_is txs s tx))
+    where
+      go : (n d e : Bool) → ((n || d) || e) ≡ ((n || e) || d)
+      go true d e = refl
+      go false true true = refl
+      go false true false = refl
+      go false false true = refl
+      go false false false = refl
+
+  has_joined : (place : ℕ) (h : Held) → slice_get held place ≡ Some h → joins_now before a h ≡ true → list_any (digest_eq h.digest) names ≡ true
+  has_joined place h at is = planned_is layer h.digest ∙ planned_at (joins_now before a) held place h at is
+
+  -- where all that a certificate wants is made, it is executed or joins the layer
+  run_or_joins : (place : ℕ) (h : Held) → slice_get held place ≡ Some h → is_let a h ≡ true → are_made before.executed a h ≡ true → is_executed after.executed h.digest ≡ true
+  run_or_joins place h at may made = known_more h.digest ∙ go (is_executed before.executed h.digest) refl
+    where
+      go : (c : Bool) → is_executed before.executed h.digest ≡ c → (is_executed before.executed h.digest || list_any (digest_eq h.digest) names) ≡ true
+      go true ran = true_left (is_executed before.executed h.digest) (list_any (digest_eq h.digest) names) ran
+      go false out =
+          true_right (is_executed before.executed h.digest) (list_any (digest_eq h.digest) names)
+          (has_joined place h at
+          (ap (λ c. not c && is_let a h && are_made before.executed a h) out ∙ ap (λ c. c && are_made before.executed a h) may ∙ made))
+
+  -- each certificate that waited for one of the layer is to be filed, and all else stands where it stood
+  pub layer_filed : (old mid new : Waiting) (freed : List ℕ) → IsWaiting before a held old → mid.unadmitted.entries ≡ old.unadmitted.entries → mid.behind.entries ≡ old.behind.entries
+      → new.unadmitted.entries ≡ mid.unadmitted.entries → Frees mid.behind.entries new.behind.entries freed [] names → IsFiled after a freed held new
+  layer_filed old mid new freed filed out same still frees = record { at = λ place h at. go place h at (filed.at place h at) }
+    where
+      waits : (place : ℕ) (h : Held) → is_let a h ≡ true → (b : IsBehind before.executed a old place h) → Has freed place ⊎ StaysListed new.behind.entries [] names b.maker place → Filed after a freed new place h
+      waits place h may b (inl has) = is_loose has
+      waits place h may b (inr stays) = is_behind may (record {
+        maker = b.maker;
+        listed = stays.listed;
+        makes = b.makes;
+        first = known_more b.maker ∙ ap (λ c. c || list_any (digest_eq b.maker) names) b.first ∙ sym (among_is names b.maker) ∙ stays.out;
+      })
+
+      go : (place : ℕ) (h : Held) → slice_get held place ≡ Some h → Filed before a [] old place h → Filed after a freed new place h
+      go place h at (was_run ran) = was_run (known_more h.digest ∙ true_left (is_executed before.executed h.digest) (list_any (digest_eq h.digest) names) ran)
+      go place h at (is_unadmitted unlet has) = is_unadmitted unlet (subst (λ (ls : Lists). Has (listed ls h.digest) place) (sym (still ∙ out)) has)
+      go place h at (comes_next may has made) = was_run (run_or_joins place h at may made)
+      go place h at (has_settled may has made none) = was_run (run_or_joins place h at may made)
+      go place h at (is_behind may b) = waits place h may b (frees.at b.maker place (subst (λ (ls : Lists). Has (listed ls b.maker) place) (sym same) b.listed))
+      go place h at (is_loose has) = absurd has
+
+  -- the places of the layer were taken
+  pub layer_taken : AreApart held → (old : Waiting) (taken looked : List ℕ) → IsWaiting before a held old → looked ≡ open_of before a held old → AreTaken held txs taken → AreTaken held more (taken ++ looked)
+  layer_taken apart old taken looked filed is were place h at named = either (either_true (list_any (digest_eq h.digest) txs) (list_any (digest_eq h.digest) names) (sym (all_named names txs h.digest) ∙ named))
+    where
+      opened : Has (open_of before a held old) place ⊎ (joins_now before a h ≡ false) → joins_now before a h ≡ true → Has (taken ++ looked) place
+      opened (inl has) joined = join_second taken looked place (subst (λ ps. Has ps place) (sym is) has)
+      opened (inr out) joined = absurd (clash joined out)
+
+      either : (list_any (digest_eq h.digest) txs ≡ true) ⊎ (list_any (digest_eq h.digest) names ≡ true) → Has (taken ++ looked) place
+      either (inl earlier) = join_first taken looked place (were place h at earlier)
+      either (inr new) =
+          opened (open_or_rests before a held old filed place h at)
+          (is_picked (joins_now before a) held apart place h at (sym (planned_is layer h.digest) ∙ new))
+
+pub picked_join : (held : List Held) (xs ys : List ℕ) → picked held (xs ++ ys) ≡ picked held xs ++ picked held ys
+picked_join held xs ys = filter_map-append (slice_get held) xs ys
+
+-- ---- what the calls for a layer say
+
+pub layer_found : (s : Stored) (a : Admission) (held : List Held) (w : Waiting) (past : Stored) (looked sliced layer : List ℕ) → past ≡ s → sliced ≡ looked → layer ≡ layer_places past a held sliced → IsWaiting s a held w
+    → IsStrictlySortedBy nat_cmp looked → looked ≡ open_of s a held w → picked held layer ≡ joining s a held
+layer_found s a held w past looked sliced places is same found filed sorted opened =
+    ap (picked held) (found ∙ ap (λ (t : Stored). layer_places t a held sliced) is ∙ ap (layer_places s a held) same)
+    ∙ layer_now s a held w looked filed sorted opened
+
+pub empty_named : (txs : List Digest) (hs : List Held) → txs ≡ map digest_of_held hs → (length txs == 0) ≡ is_empty_list hs
+empty_named txs hs is = ap (λ (ds : List Digest). length ds == 0) is ∙ go hs
+  where
+    go : (ks : List Held) → (length (map digest_of_held ks) == 0) ≡ is_empty_list ks
+    go [] = refl
+    go (k ∷ ks) = ne_eqb (suc (length (map digest_of_held ks))) 0 (λ e. absurd (omega (arith, e)))

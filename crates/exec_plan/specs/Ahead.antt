@@ -19,6 +19,10 @@ use Rattle.exec_plan.specs.Waits.{IsBehind}
 abbrev pub joins_now : Stored → Admission → Held → Bool
 joins_now s a h = not (is_executed s.executed h.digest) && is_let a h && are_made s.executed a h
 
+-- those of these certificates that do
+abbrev pub joining : Stored → Admission → List Held → List Held
+joining s a held = filter (joins_now s a) held
+
 abbrev pub joins_of : Stored → Admission → Option Held → Bool
 joins_of s a None = false
 joins_of s a (Some h) = joins_now s a h

@@ -4,12 +4,12 @@ ghost use Rattle.std.specs.Prelude.{◌≡◌, ◌++◌, ◌∷◌, [], IfOk, On
 ghost use Rattle.indexmap.specs.IndexSet.{insert_all, insert_key};
 ghost use Rattle.chain_types.specs.Equal.{digest_eq};
 ghost use Rattle.protocol_spec.specs.Chain.Shape.{is_empty_list};
-ghost use Rattle.exec_plan.specs.Ahead.{AreParked, AreTaken, joins_now, joins_of, layer_places, with_digest};
+ghost use Rattle.exec_plan.specs.Ahead.{AreParked, AreTaken, joining, joins_now, joins_of, layer_places, with_digest};
 ghost use Rattle.exec_plan.specs.Books.{AreApart, books_of, digest_of_held};
 ghost use Rattle.exec_plan.specs.Drafts.{picked};
 ghost use Rattle.exec_plan.specs.Layers.{planned_of};
 ghost use Rattle.exec_plan.specs.Past.{as_if};
-ghost use Rattle.exec_plan.specs.Waits.{IsFiled};
+ghost use Rattle.exec_plan.specs.Waits.{IsWaiting};
 
 use crate::inputs::is_let;
 use crate::makers::awaited;
@@ -143,4 +143,70 @@ pub(crate) struct Ahead {
     pub(crate) places: Seq<usize>,
     /// All places that were taken from those that wait for nothing.
     pub(crate) taken: Seq<usize>,
+}
+
+impl Ahead {
+    /// Nothing so far. Takes no memory.
+    fn new(alloc: Global) -> Ahead
+        ensures planned { result.planned.keys ≡ [] }
+        ensures places { result.places ≡ [] }
+        ensures taken { result.taken ≡ [] }
+    {
+        Ahead {
+            planned: IndexSet::new(alloc),
+            places: Seq::new(alloc),
+            taken: Seq::new(alloc),
+        }
+    }
+
+    /// One more layer: its places, and its transactions, among places that were taken.
+    fn add(
+        &mut self,
+        taken: &[usize],
+        layer: &[usize],
+        txs: &[Digest],
+    ) -> Result<(), OutOfMemory>
+        ensures planned { OnOk result (self.new.planned.keys ≡ insert_all digest_eq self.old.planned.keys txs.now) }
+        ensures places { OnOk result (self.new.places ≡ self.old.places ++ layer.now) }
+        ensures taken { OnOk result (self.new.taken ≡ self.old.taken ++ taken.now) }
+    {
+        self.taken.extend(taken)?;
+        self.places.extend(layer)?;
+        add_all_planned(&mut self.planned, txs)
+    }
+}
+
+/// Plans one more layer, and answers whether it is empty. The certificates that wait for its transactions wait for what
+/// else they want, as if these had been executed.
+fn plan_layer(
+    alloc: Global,
+    store: &Store,
+    admission: &Admission,
+    waiting: &mut Waiting,
+    held: &[Held],
+    ahead: &mut Ahead,
+) -> Result<bool, OutOfMemory>
+    requires apart { AreApart held.now }
+    requires filed { IsWaiting (as_if ahead.old.planned.keys store.now) admission.now.admission held.now waiting.old }
+    requires taken { AreTaken held.now ahead.old.planned.keys ahead.old.taken }
+    ensures last { IfOk result (λ last. last ≡ is_empty_list (joining (as_if ahead.old.planned.keys store.now) admission.now.admission held.now)) }
+    ensures places { OnOk result (picked held.now ahead.new.places ≡ picked held.now ahead.old.places ++ joining (as_if ahead.old.planned.keys store.now) admission.now.admission held.now) }
+    ensures planned { OnOk result (ahead.new.planned.keys ≡ insert_all digest_eq ahead.old.planned.keys (map digest_of_held (joining (as_if ahead.old.planned.keys store.now) admission.now.admission held.now))) }
+    ensures filed { OnOk result (IsWaiting (as_if ahead.new.planned.keys store.now) admission.now.admission held.now waiting.new) }
+    ensures taken { OnOk result (AreTaken held.now ahead.new.planned.keys ahead.new.taken) }
+{
+    let looked = waiting.take_open(alloc)?;
+    let layer = layer_among(
+        alloc,
+        &Past::new(store, &ahead.planned),
+        admission,
+        held,
+        looked.as_slice(),
+    )?;
+    let txs = digests_at(alloc, held, layer.as_slice())?;
+    ahead.add(looked.as_slice(), layer.as_slice(), txs.as_slice())?;
+    let freed = waiting.free(txs.as_slice())?;
+    let past = Past::new(store, &ahead.planned);
+    waiting.file_each(&past, admission, held, freed.as_slice())?;
+    Ok(txs.is_empty())
 }
