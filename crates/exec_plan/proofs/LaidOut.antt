@@ -26,11 +26,13 @@ use Rattle.dag_core.specs.Values.{count_in, count_out, first_bad, is_forward, so
 use Rattle.dag_core.proofs.Fixed.{IsPlan}
 use Rattle.exec_plan.specs.declared.link.Link.{Link}
 use Rattle.exec_plan.specs.declared.task.Want.{Want}
-use Rattle.exec_plan.specs.Books.{digest_of_held}
+use Rattle.version_store.specs.Stores.{Stored, held_in}
+use Rattle.exec_plan.specs.Books.{AreApart, books_of, digest_of_held}
 use Rattle.exec_plan.specs.Drafts.{Drafted, IsDraft, all_given, bare_task, drafted_after, drafted_at, drafted_with, given, given_at, link_in, nothing_drafted, number_in, picked, want_in, with_give}
-use Rattle.exec_plan.specs.Layers.{is_of, is_planned}
-use Rattle.exec_plan.specs.Tasks.{Planned, count_given, edge_of, gives_of, key_of_link, link_as, link_of, links_after, maker_number, number_of, origin_of, slot_as, takes_of, task_of, tasks_after, values_of, want_as}
+use Rattle.exec_plan.specs.Layers.{is_of, is_planned, planned_of}
+use Rattle.exec_plan.specs.Tasks.{Planned, count_given, edge_of, edges_of, gives_of, key_of_link, link_as, link_of, links_after, links_of, maker_number, number_of, origin_of, slot_as, takes_of, task_of, tasks_after, tasks_of, values_of, want_as}
 use Rattle.exec_plan.proofs.Joined.{tail_is}
+use Rattle.exec_plan.proofs.Layering.{Joins, planned_along}
 use Rattle.exec_plan.proofs.Linking.{IsForward, comes_from, forward_here, links_forward, links_join, longer_by, task_plan, tasks_join}
 
 -- one more certificate, by what each call leaves
@@ -341,3 +343,30 @@ module _ (d : Drafted) (is : IsDraft d) (tasks : List Planned) (edges : List Edg
   never_bad place bad =
       let at = position-Some (λ edge. not (is_forward (length tasks) edge)) edges place (record { from = 0; to = 0 }) bad in
       backward (source edges place) (target edges place) (length tasks) (as_plan.forward place at.0) at.1
+
+-- ---- the draft of a plan
+
+module _ (s : Stored) (a : Admission) (held : List Held) (d : Drafted) (places : List ℕ) (apart : AreApart held) (drafted : d ≡ drafted_after (held_in s) a nothing_drafted (picked held places)) (are : picked held places ≡ planned_of (books_of s a held) s.executed) where
+  abbrev planned : List Held
+  planned = planned_of (books_of s a held) s.executed
+
+  news : (hs front : List Held) → Along (Joins (books_of s a held) s.executed) front hs → AreNew (held_in s) a front hs
+  news [] front along = tt
+  news (h ∷ hs) front along = (along.0.not_planned, news hs (front ++ h ∷ []) along.1)
+
+  draft_planned : d ≡ draft_of (held_in s) a planned
+  draft_planned =
+      drafted
+      ∙ ap (drafted_after (held_in s) a nothing_drafted) are
+      ∙ draft_is (held_in s) a planned (news planned [] (planned_along (books_of s a held) s.executed apart))
+
+  pub is_draft : IsDraft d
+  is_draft = record { held = held_in s; admission = a; planned = planned; tasks = ap (λ (x : Drafted). x.tasks) draft_planned; edges = ap (λ (x : Drafted). x.edges) draft_planned }
+
+  pub draft_tasks : d.tasks ≡ tasks_of (books_of s a held) s.executed
+  unfolding tasks_of links_of
+  draft_tasks = ap (λ (x : Drafted). x.tasks) draft_planned
+
+  pub draft_edges : d.edges ≡ edges_of (books_of s a held) s.executed
+  unfolding edges_of links_of
+  draft_edges = ap (λ (x : Drafted). x.edges) draft_planned

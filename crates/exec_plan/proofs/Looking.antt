@@ -19,14 +19,15 @@ use Rattle.protocol_spec.specs.Member.Rounds.{Books, Wanted, is_maker_done, may_
 use Rattle.version_store.proofs.Equality.{digest_same, digest_self, turn}
 use Rattle.version_store.specs.Stores.{Stored}
 use Rattle.exec_plan.specs.declared.waiting.Waiting.{Waiting}
-use Rattle.exec_plan.specs.Ahead.{AreParked, AreTaken, Parked, has_run, joining, joins_now, joins_of, lacks_admission, layer_places, waits_behind, was_taken, with_digest}
+use Rattle.exec_plan.specs.Ahead.{Agrees, AreParked, AreTaken, Parked, has_run, joining, joins_now, joins_of, lacks_admission, layer_places, waits_behind, was_taken, with_digest}
 use Rattle.exec_plan.specs.Behind.{Frees, Lists, StaysListed, is_among, listed}
 use Rattle.exec_plan.specs.Books.{AreApart, books_of, digest_of_held, is_let}
 use Rattle.exec_plan.specs.Drafts.{picked}
-use Rattle.exec_plan.specs.Layers.{is_maker_planned, is_of, is_planned, is_supplied, joins_layer, layer_of}
+use Rattle.exec_plan.specs.Layers.{is_maker_planned, is_of, is_planned, is_supplied, joins_layer, layer_of, layers_within, planned_of}
 use Rattle.exec_plan.specs.Makers.{are_made, is_made}
 use Rattle.exec_plan.specs.Past.{as_if, empty_execution}
 use Rattle.exec_plan.specs.Places.{Picks, placed_after}
+use Rattle.exec_plan.specs.Runs.{with_executions}
 use Rattle.exec_plan.specs.Waits.{Filed, IsBehind, IsFiled, IsWaiting, comes_next, has_settled, is_behind, is_loose, is_unadmitted, was_run}
 use Rattle.exec_plan.proofs.Filing.{after_has, after_keeps, join_first, join_second}
 use Rattle.exec_plan.proofs.Following.{any_join, executed_join}
@@ -88,10 +89,6 @@ planned_is : (hs : List Held) (tx : Digest) → list_any (digest_eq tx) (map dig
 planned_is [] tx = refl
 planned_is (h ∷ hs) tx =
     ap (λ c. c || list_any (digest_eq tx) (map digest_of_held hs)) (turn digest_eq digest_same digest_self tx h.digest) ∙ ap (λ c. digest_eq h.digest tx || c) (planned_is hs tx)
-
--- these names are those of the planned certificates
-abbrev pub Agrees : List Digest → List Held → Type 0
-Agrees txs planned = (tx : Digest) → list_any (digest_eq tx) txs ≡ is_planned planned tx
 
 pub agrees_more : (txs : List Digest) (planned more : List Held) → Agrees txs planned → Agrees (insert_all digest_eq txs (map digest_of_held more)) (planned ++ more)
 agrees_more txs planned more agrees tx =
@@ -356,3 +353,120 @@ empty_named txs hs is = ap (λ (ds : List Digest). length ds == 0) is ∙ go hs
     go : (ks : List Held) → (length (map digest_of_held ks) == 0) ≡ is_empty_list ks
     go [] = refl
     go (k ∷ ks) = ne_eqb (suc (length (map digest_of_held ks))) 0 (λ e. absurd (omega (arith, e)))
+
+-- before the first layer none is taken
+pub none_taken : (held : List Held) (txs : List Digest) (taken : List ℕ) → txs ≡ [] → AreTaken held txs taken
+none_taken held txs taken none place h at named = absurd (clash (ap (λ (ds : List Digest). list_any (digest_eq h.digest) ds) (sym none) ∙ named) refl)
+
+-- ---- layer after layer
+
+layers_end : (n : ℕ) (b : Books) (executed : List Execution) (planned : List Held) → layer_of b executed planned ≡ [] → layers_within n b executed planned ≡ []
+layers_end zero b executed planned none = refl
+layers_end (suc n) b executed planned none =
+    ap (λ l. l ++ layers_within n b executed (planned ++ l)) none
+    ∙ ap (layers_within n b executed) (append-nil planned)
+    ∙ layers_end n b executed planned none
+
+one_layer : (n : ℕ) (b : Books) (executed : List Execution) (planned : List Held) → 0 < n → layers_within n b executed planned ≡ layer_of b executed planned ++ layers_within (n - 1) b executed (planned ++ layer_of b executed planned)
+one_layer zero b executed planned some = absurd (omega (arith, some))
+one_layer (suc n) b executed planned some = ap (λ k. layer_of b executed planned ++ layers_within k b executed (planned ++ layer_of b executed planned)) (omega arith)
+
+-- the layers that are left come to the whole plan
+pub record Goes (s : Stored) (a : Admission) (held : List Held) (left : ℕ) (txs : List Digest) (planned : List Held) : Type 0 where
+  pub whole : planned ++ layers_within left (books_of s a held) s.executed planned ≡ planned_of (books_of s a held) s.executed
+  pub agrees : Agrees txs planned
+
+module _ (s : Stored) (a : Admission) (held : List Held) where
+  abbrev b : Books
+  b = books_of s a held
+
+  pub goes_first : (left : ℕ) (txs : List Digest) (planned : List Held) → left ≡ length held → txs ≡ [] → planned ≡ [] → Goes s a held left txs planned
+  unfolding planned_of
+  goes_first left txs planned counted none nothing = record {
+    whole = ap (λ (hs : List Held). hs ++ layers_within left b s.executed hs) nothing ∙ ap (λ n. layers_within n b s.executed []) counted;
+    agrees = λ tx. ap (λ (ds : List Digest). list_any (digest_eq tx) ds) none ∙ sym (ap (λ (hs : List Held). is_planned hs tx) nothing);
+  }
+
+  pub goes_next : (left : ℕ) (txs new : List Digest) (planned more : List Held) → Goes s a held left txs planned → 0 < left → more ≡ planned ++ joining (as_if txs s) a held
+      → new ≡ insert_all digest_eq txs (map digest_of_held (joining (as_if txs s) a held)) → Goes s a held (left - 1) new more
+  goes_next left txs new planned all goes some is named = record {
+    whole =
+    ap (λ (hs : List Held). hs ++ layers_within (left - 1) b s.executed hs) (is ∙ ap (λ (hs : List Held). planned ++ hs) layer)
+        ∙ append_assoc planned (layer_of b s.executed planned) (layers_within (left - 1) b s.executed (planned ++ layer_of b s.executed planned))
+        ∙ ap (λ (hs : List Held). planned ++ hs) (sym (one_layer left b s.executed planned some))
+        ∙ goes.whole;
+    agrees = λ tx. ap (list_any (digest_eq tx)) named ∙ agrees_more txs planned (joining (as_if txs s) a held) goes.agrees tx ∙ ap (λ (hs : List Held). is_planned hs tx) (sym is);
+  }
+    where
+      layer : joining (as_if txs s) a held ≡ layer_of b s.executed planned
+      layer = layer_is s a held txs planned goes.agrees
+
+  -- where the layer is empty, or none is left, all is planned
+  pub goes_last : (left : ℕ) (txs : List Digest) (planned more : List Held) → Goes s a held left txs planned → more ≡ planned ++ joining (as_if txs s) a held → is_empty_list (joining (as_if txs s) a held) ≡ true
+      → more ≡ planned_of b s.executed
+  goes_last left txs planned more goes is none =
+      is ∙ ap (λ (hs : List Held). planned ++ hs) (empty (joining (as_if txs s) a held) none)
+      ∙ ap (λ (hs : List Held). planned ++ hs) (sym (layers_end left b s.executed planned (sym (layer_is s a held txs planned goes.agrees) ∙ empty (joining (as_if txs s) a held) none)))
+      ∙ goes.whole
+    where
+      empty : (hs : List Held) → is_empty_list hs ≡ true → hs ≡ []
+      empty [] e = refl
+      empty (h ∷ hs) e = absurd (cc)
+
+  pub goes_end : (left : ℕ) (txs : List Digest) (planned : List Held) → Goes s a held left txs planned → left ≡ 0 → planned ≡ planned_of b s.executed
+  goes_end left txs planned goes none = sym (append-nil planned) ∙ ap (λ n. planned ++ layers_within n b s.executed planned) (sym none) ∙ goes.whole
+
+  -- ---- behind a plan
+
+  pub parks : (txs : List Digest) (planned : List Held) (old new : Waiting) (taken looked all : List ℕ) → Agrees txs planned → IsWaiting (as_if txs s) a held old → AreTaken held txs taken
+      → looked ≡ open_of (as_if txs s) a held old → new.unadmitted.entries ≡ old.unadmitted.entries → new.behind.entries ≡ old.behind.entries → all ≡ taken ++ looked → AreParked s a planned all held new
+  parks txs planned old new taken looked all agrees filed were opened out same is = record { at = λ place h at. subst (λ ps. Parked s a planned ps new place h) (sym is) (go place h at (filed.at place h at)) }
+    where
+      ran : (place : ℕ) (h : Held) → slice_get held place ≡ Some h → (list_any (digest_eq h.digest) txs ≡ true) ⊎ (is_executed s.executed h.digest ≡ true) → Parked s a planned (taken ++ looked) new place h
+      ran place h at (inl named) = was_taken (join_first taken looked place (were place h at named))
+      ran place h at (inr done) = has_run done
+
+      second : (n d : Bool) → (n || d) ≡ false → d ≡ false
+      second true d e = absurd (cc)
+      second false d e = e
+
+      first : (n d : Bool) → (n || d) ≡ false → n ≡ false
+      first true d e = absurd (cc)
+      first false d e = refl
+
+      go : (place : ℕ) (h : Held) → slice_get held place ≡ Some h → Filed (as_if txs s) a [] old place h → Parked s a planned (taken ++ looked) new place h
+      go place h at (was_run done) = ran place h at (either_true (list_any (digest_eq h.digest) txs) (is_executed s.executed h.digest) (sym (known_is txs s h.digest) ∙ done))
+      go place h at (is_unadmitted unlet has) = lacks_admission unlet (subst (λ (ls : Lists). Has (listed ls h.digest) place) (sym out) has)
+      go place h at (comes_next may has made) = was_taken (join_second taken looked place (subst (λ ps. Has ps place) (sym opened) (after_has old.next.keys (placed_after [] old.settled.keys) place has)))
+      go place h at (has_settled may has made none) =
+          was_taken (join_second taken looked place (subst (λ ps. Has ps place) (sym opened) (after_keeps old.next.keys (placed_after [] old.settled.keys) place (after_has old.settled.keys [] place has))))
+      go place h at (is_behind may c) =
+          waits_behind may
+          (record {
+            maker = c.maker;
+            listed = subst (λ (ls : Lists). Has (listed ls c.maker) place) (sym same) c.listed;
+            makes = c.makes;
+            first = second (list_any (digest_eq c.maker) txs) (is_executed s.executed c.maker) (sym (known_is txs s c.maker) ∙ c.first);
+          })
+          (sym (agrees c.maker) ∙ first (list_any (digest_eq c.maker) txs) (is_executed s.executed c.maker) (sym (known_is txs s c.maker) ∙ c.first))
+      go place h at (is_loose has) = absurd has
+
+  -- once some of the planned are executed, only the places that were taken are to be filed
+  pub unparks : (planned : List Held) (kept : List Execution) (taken : List ℕ) (w : Waiting) → ((tx : Digest) → is_executed kept tx ≡ true → is_planned planned tx ≡ true) → AreParked s a planned taken held w
+      → IsFiled (with_executions s kept) a taken held w
+  unparks planned kept taken w among parked = record { at = λ place h at. go place h (parked.at place h at) }
+    where
+      out : (tx : Digest) → is_planned planned tx ≡ false → (c : Bool) → is_executed kept tx ≡ c → is_executed kept tx ≡ false
+      out tx unplanned false e = e
+      out tx unplanned true e = absurd (clash (among tx e) unplanned)
+
+      go : (place : ℕ) (h : Held) → Parked s a planned taken w place h → Filed (with_executions s kept) a taken w place h
+      go place h (has_run done) = was_run (executed_join s.executed kept h.digest ∙ true_left (is_executed s.executed h.digest) (is_executed kept h.digest) done)
+      go place h (lacks_admission unlet has) = is_unadmitted unlet has
+      go place h (waits_behind may c unplanned) = is_behind may (record {
+        maker = c.maker;
+        listed = c.listed;
+        makes = c.makes;
+        first = executed_join s.executed kept c.maker ∙ ap (λ x. x || is_executed kept c.maker) c.first ∙ out c.maker unplanned (is_executed kept c.maker) refl;
+      })
+      go place h (was_taken has) = is_loose has

@@ -36,6 +36,10 @@ abbrev pub with_digest : List Digest → Option Held → List Digest
 with_digest txs None = txs
 with_digest txs (Some h) = txs ++ h.digest ∷ []
 
+-- these transactions are the planned ones
+abbrev pub Agrees : List Digest → List Held → Type 0
+Agrees txs planned = (tx : Digest) → list_any (digest_eq tx) txs ≡ is_planned planned tx
+
 -- the place of each certificate with one of these digests was taken
 abbrev pub AreTaken : List Held → List Digest → List ℕ → Type 0
 AreTaken held txs taken = (place : ℕ) (h : Held) → slice_get held place ≡ Some h → list_any (digest_eq h.digest) txs ≡ true → Has taken place

@@ -19,6 +19,7 @@ mod past;
 mod planner;
 mod planning;
 mod readiness;
+mod ready;
 mod running;
 mod single;
 mod task;
@@ -27,6 +28,7 @@ mod writing;
 
 pub use leaving::left;
 pub use planning::{layers_are_rounds, plan_keeps_the_rounds};
+pub use ready::{Ready, plan_ready};
 pub use running::run;
-pub use task::{Carry, Outcome, Slot, Want};
+pub use task::{Carry, Outcome, Slot, Task, Want};
 pub use waiting::Waiting;

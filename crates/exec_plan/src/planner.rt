@@ -4,7 +4,7 @@ ghost use Rattle.std.specs.Prelude.{◌≡◌, ◌++◌, ◌∷◌, [], IfOk, On
 ghost use Rattle.indexmap.specs.IndexSet.{insert_all, insert_key};
 ghost use Rattle.chain_types.specs.Equal.{digest_eq};
 ghost use Rattle.protocol_spec.specs.Chain.Shape.{is_empty_list};
-ghost use Rattle.exec_plan.specs.Ahead.{AreParked, AreTaken, joining, joins_now, joins_of, layer_places, with_digest};
+ghost use Rattle.exec_plan.specs.Ahead.{Agrees, AreParked, AreTaken, joining, joins_now, joins_of, layer_places, with_digest};
 ghost use Rattle.exec_plan.specs.Books.{AreApart, books_of, digest_of_held};
 ghost use Rattle.exec_plan.specs.Drafts.{picked};
 ghost use Rattle.exec_plan.specs.Layers.{planned_of};
@@ -209,4 +209,51 @@ fn plan_layer(
     let past = Past::new(store, &ahead.planned);
     waiting.file_each(&past, admission, held, freed.as_slice())?;
     Ok(txs.is_empty())
+}
+
+/// Plans layer after layer.
+fn plan_layers(
+    alloc: Global,
+    store: &Store,
+    admission: &Admission,
+    waiting: &mut Waiting,
+    held: &[Held],
+) -> Result<Ahead, OutOfMemory>
+    requires apart { AreApart held.now }
+    requires filed { IsWaiting store.now admission.now.admission held.now waiting.old }
+    ensures places { IfOk result (λ ahead. picked held.now ahead.places ≡ planned_of (books_of store.now admission.now.admission held.now) store.now.executed) }
+    ensures agrees { IfOk result (λ ahead. Agrees ahead.planned.keys (picked held.now ahead.places)) }
+    ensures filed { IfOk result (λ ahead. IsWaiting (as_if ahead.planned.keys store.now) admission.now.admission held.now waiting.new) }
+    ensures taken { IfOk result (λ ahead. AreTaken held.now ahead.planned.keys ahead.taken) }
+{
+    let mut ahead = Ahead::new(alloc);
+    let mut left = held.len();
+    while left > 0 {
+        let last = plan_layer(alloc, store, admission, waiting, held, &mut ahead)?;
+        if last {
+            return Ok(ahead);
+        }
+        left -= 1;
+    }
+    Ok(ahead)
+}
+
+/// The places of the certificates that a run plans, in order. They are taken out of what waits, and the others wait for
+/// what is neither executed nor planned.
+pub(crate) fn plan_places(
+    alloc: Global,
+    store: &Store,
+    admission: &Admission,
+    waiting: &mut Waiting,
+    held: &[Held],
+) -> Result<Ahead, OutOfMemory>
+    requires apart { AreApart held.now }
+    requires filed { IsWaiting store.now admission.now.admission held.now waiting.old }
+    ensures places { IfOk result (λ ahead. picked held.now ahead.places ≡ planned_of (books_of store.now admission.now.admission held.now) store.now.executed) }
+    ensures parked { IfOk result (λ ahead. AreParked store.now admission.now.admission (planned_of (books_of store.now admission.now.admission held.now) store.now.executed) ahead.taken held.now waiting.new) }
+{
+    let mut ahead = plan_layers(alloc, store, admission, waiting, held)?;
+    let looked = waiting.take_open(alloc)?;
+    ahead.taken.extend(looked.as_slice())?;
+    Ok(ahead)
 }
