@@ -14,3 +14,4 @@ pub mod Gathering
 pub mod Drafts
 pub mod Past
 pub mod Ahead
+pub mod Keeping

@@ -12,6 +12,7 @@
 mod behind;
 mod drafting;
 mod inputs;
+mod keeping;
 mod leaving;
 mod link;
 mod makers;

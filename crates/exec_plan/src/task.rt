@@ -3,6 +3,7 @@
 ghost use Rattle.std.specs.Prelude.{◌≡◌, ◌++◌, [], IfOk, OnOk, find, map};
 ghost use Rattle.std.specs.List.{list_any};
 ghost use Rattle.std.specs.Option.{option_to_list};
+ghost use Rattle.chain_types.specs.Digests.{consumed_keys};
 ghost use Rattle.exec_plan.specs.Books.{IsSound};
 ghost use Rattle.exec_plan.specs.Drafts.{bare_task, with_give};
 ghost use Rattle.exec_plan.specs.Gathering.{gathered_after, is_lacking};
@@ -10,7 +11,7 @@ ghost use Rattle.exec_plan.specs.Tasks.{carry_as, carry_of, first_carry, is_at, 
 
 use crate::single::key_of;
 use answer_types::{Executed, Held};
-use chain_types::{Object, ObjectKey, Producer, Transaction};
+use chain_types::{Object, ObjectKey, Producer, Transaction, owned_keys};
 use dag_core::Job;
 use digest_core::Digest;
 use ptb_run::{execute, fits};
@@ -188,11 +189,18 @@ impl Task {
         self.gives.push(key)
     }
 
-    /// The transaction's digest.
-    pub(crate) fn digest(&self) -> Digest
-        ensures { result ≡ self.now.digest }
+    /// What it wants.
+    pub(crate) fn wants(&self) -> &[Want]
+        ensures { result.now ≡ self.now.wants }
     {
-        self.digest
+        self.wants.as_slice()
+    }
+
+    /// The versions that its transaction consumes.
+    pub(crate) fn consumed(&self, alloc: Global) -> Result<Seq<ObjectKey>, OutOfMemory>
+        ensures { IfOk result (λ keys. keys ≡ consumed_keys self.now.tx) }
+    {
+        owned_keys(alloc, &self.tx)
     }
 
     /// What comes of it on these objects.
