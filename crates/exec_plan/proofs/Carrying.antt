@@ -13,7 +13,7 @@ use Rattle.answer_types.specs.declared.pieces.Executed.{Executed}
 use Rattle.answer_types.specs.declared.answers.Held.{Held}
 use Rattle.chain_types.specs.Equal.{digest_eq, key_eq}
 use Rattle.chain_types.specs.Digests.{consumed_keys}
-use Rattle.protocol_spec.specs.Chain.Words.{Along, all_some, first_of, first_some, onto_some, where_true}
+use Rattle.protocol_spec.specs.Chain.Words.{Along, Each, all_some, first_of, first_some, onto_some, where_true}
 use Rattle.protocol_spec.specs.Chain.Tests.{producer_eq}
 use Rattle.protocol_spec.specs.Chain.Keys.{fits, object_key}
 use Rattle.protocol_spec.proofs.ListLemmas.{and-first, and-second, or-second}
@@ -28,14 +28,16 @@ use Rattle.exec_plan.specs.declared.task.Carry.TheVariants as carries
 use Rattle.exec_plan.specs.declared.task.Outcome.{Outcome}
 use Rattle.exec_plan.specs.declared.task.Outcome.TheVariants as outcomes
 use Rattle.exec_plan.specs.declared.task.Want.{Want}
-use Rattle.exec_plan.specs.Books.{AreApart}
+use Rattle.exec_plan.specs.Books.{AreApart, IsSound}
+use Rattle.exec_plan.specs.Keeping.{CanBeKept, IsNamed, kept_more}
 use Rattle.exec_plan.specs.Layers.{in_turn, is_maker_planned, is_of, is_planned, is_supplied, onto_kept, planned_of}
 use Rattle.exec_plan.specs.Makers.{is_made}
 use Rattle.exec_plan.specs.Planning.{KeepsTheRounds}
 use Rattle.exec_plan.specs.declared.link.Link.{Link}
-use Rattle.exec_plan.specs.Tasks.{Planned, carried, carry_as, carry_of, edges_of, first_carry, is_at, is_not_run, is_origin_kept, keep_as, kept_of, lacking, link_as, link_of, links_of, maker_number, number_of, object_of, origin_of, other_carries, outcome_of, outcome_on, outcome_with, outputs_of, slot_as, task_of, tasks_after, tasks_of, want_as}
+use Rattle.exec_plan.specs.Tasks.{IsSoundTask, Planned, carried, carry_as, carry_of, edges_of, first_carry, is_at, is_not_run, is_origin_kept, keep_as, kept_of, lacking, link_as, link_of, links_of, maker_number, number_of, object_of, origin_of, other_carries, outcome_of, outcome_on, outcome_with, outputs_of, slot_as, task_of, tasks_after, tasks_of, want_as}
+use Rattle.exec_plan.proofs.Executing.{names_itself}
 use Rattle.exec_plan.proofs.Following.{executed_join, versions_join}
-use Rattle.exec_plan.proofs.Layering.{AreStrangers, Joins, clash, either_true, found_apart, opening_other, planned_along, planned_join, stranger_by, true_left, true_right, turns_are_rounds}
+use Rattle.exec_plan.proofs.Layering.{AreStrangers, Joins, clash, each_planned, either_true, found_apart, opening_other, planned_along, planned_join, stranger_by, true_left, true_right, turns_are_rounds}
 use Rattle.exec_plan.proofs.Linking.{carry_on, count_tasks, inputs_are, inputs_at, links, outcome_at, outcome_in, outs_after, outs_are, tasks, tasks_join}
 use Rattle.exec_plan.proofs.Making.{unmade_rests}
 use Rattle.exec_plan.proofs.Readying.{is_ready, ready_alike}
@@ -518,6 +520,60 @@ module _ (b : Books) (executed : List Execution) (all : List Held) where
           ∙ more (kept ++ x ∷ []) (stands_with front kept stands h hs whole along.0 x e)
           ∙ ap (λ y. in_turn b y hs) (sym (append_assoc executed kept (x ∷ []))))
 
+  -- ---- each can be kept in its turn
+
+  named_on : (t : Planned) (objects : List Object) → IsSoundTask t.tx t.digest → IsNamed t (outcome_with t.tx objects)
+  named_on t objects sound = go (fits t.tx objects)
+    where
+      go : (c : Bool) → IsNamed t (cond c (outcomes.Done (execution t.tx objects)) outcomes.Unfit)
+      go true = names_itself t.tx objects ∙ sym sound.1
+      go false = tt
+
+  named_in : (t : Planned) (inputs : List Carry) → IsSoundTask t.tx t.digest → IsNamed t (outcome_of t inputs)
+  named_in t inputs sound = go (list_any is_not_run inputs) (first_of lacking (zip t.wants (carried t.wants inputs)))
+    where
+      on : (o : Option Want) → IsNamed t (outcome_on t.tx (carried t.wants inputs) o)
+      on (Some w) = tt
+      on None = named_on t (filter_map object_of (carried t.wants inputs)) sound
+
+      go : (c : Bool) (o : Option Want) → IsNamed t (cond c outcomes.Waits (outcome_on t.tx (carried t.wants inputs) o))
+      go true o = tt
+      go false o = on o
+
+  can_turn : (hs front : List Held) (kept : List Execution) → all ≡ front ++ hs → Along (Joins b executed) front hs → Stands front kept → Each IsSound hs
+      → CanBeKept b.opening (executed ++ kept) (tasks_after vs a (links vs a all) front hs) (outs_after vs a all (length front) (tasks_after vs a (links vs a all) front hs))
+  can_turn [] front kept whole along stands sound = tt
+  can_turn (h ∷ hs) front kept whole along stands sound = (
+    not_now front kept stands h hs whole along.0,
+    (
+      named_in (task_of vs a (links vs a all) front h) (inputs_at vs a all (length front)) sound.0,
+      subst (λ (o : Option Execution). CanBeKept b.opening (kept_more now o) ts outs) (sym (keep_is front kept stands h hs whole along.0))
+          (go (ready b now h) refl (λ k s. can_turn hs (front ++ h ∷ []) k (whole ∙ sym (append_assoc front (h ∷ []) hs)) along.1 s sound.1)),
+    ),
+  )
+    where
+      now : List Execution
+      now = executed ++ kept
+
+      ts : List Planned
+      ts = tasks_after vs a (links vs a all) (front ++ h ∷ []) hs
+
+      outs : List (Digest × Outcome)
+      outs = outs_after vs a all (length front + 1) ts
+
+      More : Type 0
+      More = (k : List Execution) → Stands (front ++ h ∷ []) k → CanBeKept b.opening (executed ++ k) ts (outs_after vs a all (length (front ++ h ∷ [])) ts)
+
+      next : length (front ++ h ∷ []) ≡ length front + 1
+      next = let l = longer front h in omega (arith, l)
+
+      go : (o : Option Execution) → ready b now h ≡ o → More → CanBeKept b.opening (kept_more now o) ts outs
+      go None e more = subst (λ n. CanBeKept b.opening now ts (outs_after vs a all n ts)) next (more kept (stands_without front kept stands h hs whole along.0))
+      go (Some x) e more =
+          subst (λ n. CanBeKept b.opening (now ++ x ∷ []) ts (outs_after vs a all n ts)) next
+          (subst (λ y. CanBeKept b.opening y ts (outs_after vs a all (length (front ++ h ∷ [])) ts)) (sym (append_assoc executed kept (x ∷ [])))
+          (more (kept ++ x ∷ []) (stands_with front kept stands h hs whole along.0 x e)))
+
   none_stands : Stands [] []
   none_stands = record {
     fresh = λ tx there. absurd (never there);
@@ -533,6 +589,18 @@ module _ (b : Books) (executed : List Execution) (all : List Held) where
       ap (λ e. kept_of b.opening e (tasks vs a all) (outs_after vs a all 0 (tasks vs a all))) (sym (append-nil executed))
       ∙ kept_turn all [] [] refl along none_stands
       ∙ ap (λ e. in_turn b e all) (append-nil executed)
+
+  pub whole_can : Along (Joins b executed) [] all → Each IsSound all → CanBeKept b.opening executed (tasks vs a all) (outs_after vs a all 0 (tasks vs a all))
+  whole_can along sound =
+      subst (λ e. CanBeKept b.opening e (tasks vs a all) (outs_after vs a all 0 (tasks vs a all))) (append-nil executed)
+      (can_turn all [] [] refl along none_stands sound)
+
+-- each task of a run's plan can be kept in its turn
+pub can_be_kept : (b : Books) (executed : List Execution) → AreApart b.held → Each IsSound b.held → CanBeKept b.opening executed (tasks_of b executed) (outputs_of b executed)
+unfolding links_of edges_of tasks_of outputs_of
+can_be_kept b executed apart sound =
+    subst (CanBeKept b.opening executed (tasks_of b executed)) (sym (outs_are (versions b.opening executed) b.admission (planned_of b executed)))
+    (whole_can b executed (planned_of b executed) (planned_along b executed apart) (each_planned b executed IsSound sound))
 
 -- what is kept of a plan's outputs is what the rounds execute
 pub keeps_rounds : KeepsTheRounds

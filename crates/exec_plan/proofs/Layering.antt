@@ -599,3 +599,27 @@ layers_along (suc n) b executed planned apart =
 pub planned_along : (b : Books) (executed : List Execution) → AreApart b.held → Along (Joins b executed) [] (planned_of b executed)
 unfolding planned_of
 planned_along b executed apart = layers_along (length b.held) b executed [] apart
+
+-- what each held certificate has, each planned one has
+
+each_joined : {A : Type 0} (P : A → Type 0) (xs ys : List A) → Each P xs → Each P ys → Each P (xs ++ ys)
+each_joined P [] ys p q = q
+each_joined P (x ∷ xs) ys p q = (p.0, each_joined P xs ys p.1 q)
+
+each_picked : {A : Type 0} (P : A → Type 0) (test : A → Bool) (xs : List A) → Each P xs → Each P (filter test xs)
+each_picked P test [] each = tt
+each_picked {A = A} P test (x ∷ xs) each = go (test x) (each_picked P test xs each.1)
+  where
+    go : (c : Bool) → Each P (filter test xs) → Each P (cond c (x ∷ filter test xs) (filter test xs))
+    go true rest = (each.0, rest)
+    go false rest = rest
+
+each_within : (n : ℕ) (b : Books) (executed : List Execution) (planned : List Held) (P : Held → Type 0) → Each P b.held → Each P (layers_within n b executed planned)
+each_within zero b executed planned P each = tt
+each_within (suc n) b executed planned P each =
+    each_joined P (layer_of b executed planned) (layers_within n b executed (planned ++ layer_of b executed planned)) (each_picked P (joins_layer b executed planned) b.held each)
+    (each_within n b executed (planned ++ layer_of b executed planned) P each)
+
+pub each_planned : (b : Books) (executed : List Execution) (P : Held → Type 0) → Each P b.held → Each P (planned_of b executed)
+unfolding planned_of
+each_planned b executed P each = each_within (length b.held) b executed [] P each

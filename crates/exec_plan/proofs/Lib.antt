@@ -16,4 +16,5 @@ pub mod Linking
 pub mod Carrying
 pub mod LaidOut
 pub mod Looking
+pub mod Kept
 pub mod Gathering
