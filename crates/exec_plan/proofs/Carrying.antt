@@ -16,7 +16,7 @@ use Rattle.chain_types.specs.Digests.{consumed_keys}
 use Rattle.protocol_spec.specs.Chain.Words.{Along, Each, all_some, first_of, first_some, onto_some, where_true}
 use Rattle.protocol_spec.specs.Chain.Tests.{producer_eq}
 use Rattle.protocol_spec.specs.Chain.Keys.{fits, object_key}
-use Rattle.protocol_spec.proofs.ListLemmas.{and-first, and-second, or-second}
+use Rattle.protocol_spec.proofs.ListLemmas.{and-first, and-second, or-first, or-second}
 use Rattle.protocol_spec.specs.Block.Execution.{execution, written_keys}
 use Rattle.protocol_spec.specs.Member.Versions.{Execution, Version, is_executed, object_in, opened, versions, written, written_by}
 use Rattle.protocol_spec.specs.Member.Admission.{Admission}
@@ -34,7 +34,7 @@ use Rattle.exec_plan.specs.Layers.{in_turn, is_maker_planned, is_of, is_planned,
 use Rattle.exec_plan.specs.Makers.{is_made}
 use Rattle.exec_plan.specs.Planning.{KeepsTheRounds}
 use Rattle.exec_plan.specs.declared.link.Link.{Link}
-use Rattle.exec_plan.specs.Tasks.{IsSoundTask, Planned, carried, carry_as, carry_of, edges_of, first_carry, is_at, is_not_run, is_origin_kept, keep_as, kept_of, lacking, link_as, link_of, links_of, maker_number, number_of, object_of, origin_of, other_carries, outcome_of, outcome_on, outcome_with, outputs_of, slot_as, task_of, tasks_after, tasks_of, want_as}
+use Rattle.exec_plan.specs.Tasks.{IsSoundTask, Planned, carried, carry_as, carry_of, edges_of, first_carry, is_at, is_not_run, is_origin_kept, keep_as, kept_of, lacking, link_as, link_of, links_of, maker_number, number_of, object_of, origin_of, other_carries, outcome_for, outcome_of, outcome_on, outcome_with, outputs_of, slot_as, task_of, tasks_after, tasks_of, want_as}
 use Rattle.exec_plan.proofs.Executing.{names_itself}
 use Rattle.exec_plan.proofs.Following.{executed_join, versions_join}
 use Rattle.exec_plan.proofs.Layering.{AreStrangers, Joins, clash, each_planned, either_true, found_apart, opening_other, planned_along, planned_join, stranger_by, true_left, true_right, turns_are_rounds}
@@ -151,7 +151,7 @@ module _ {W : Type 0} (want : W → Want) (there : W → Option Object) where
   alone None = refl
   alone (Some w) = refl
 
-  abbrev lacks : List W → Option Want
+  abbrev pub lacks : List W → Option Want
   lacks ws = first_of lacking (zip (map want ws) (map (λ w. carry_as (there w)) ws))
 
   abbrev objects_in : List W → List Object
@@ -190,13 +190,13 @@ module _ (b : Books) (executed : List Execution) (all : List Held) where
   made_of kept key tx = found (versions b.opening (executed ++ kept)) (record { key = key; producer = Some (producers.Tx tx) })
 
   -- the task was executed, and what is found of it is what it wrote
-  record IsDone (kept : List Execution) (tx : Digest) (n : ℕ) : Type 0 where
+  pub record IsDone (kept : List Execution) (tx : Digest) (n : ℕ) : Type 0 where
     gave : Executed
     done : outcome n ≡ outcomes.Done gave
     made : (key : ObjectKey) → made_of kept key tx ≡ find (is_at key) gave.objects
 
   -- what is kept of the tasks in front: only planned transactions, none executed before, each with what it wrote
-  record Stands (front : List Held) (kept : List Execution) : Type 0 where
+  pub record Stands (front : List Held) (kept : List Execution) : Type 0 where
     fresh : (tx : Digest) → is_planned front tx ≡ true → is_executed executed tx ≡ false
     known : (tx : Digest) → is_executed kept tx ≡ true → is_planned front tx ≡ true
     done : (tx : Digest) (n : ℕ) → number_of tx front ≡ Some n → is_executed kept tx ≡ true → IsDone kept tx n
@@ -583,6 +583,61 @@ module _ (b : Books) (executed : List Execution) (all : List Held) where
     where
       never : false ≡ true → ⊥
       never e = cc
+
+  -- ---- what came of one task
+
+  along_rest : (xs ys before : List Held) → Along (Joins b executed) before (xs ++ ys) → Along (Joins b executed) (before ++ xs) ys
+  along_rest [] ys before along = subst (λ f. Along (Joins b executed) f ys) (sym (append-nil before)) along
+  along_rest (x ∷ xs) ys before along = subst (λ f. Along (Joins b executed) f ys) (append_assoc before (x ∷ []) xs) (along_rest xs ys (before ++ x ∷ []) along.1)
+
+  stands_at : (mid hs front : List Held) (kept : List Execution) → all ≡ front ++ (mid ++ hs) → Along (Joins b executed) front (mid ++ hs) → Stands front kept → Stands (front ++ mid) (kept ++ in_turn b (executed ++ kept) mid)
+  stands_at [] hs front kept whole along stands =
+      subst (λ f. Stands f (kept ++ [])) (sym (append-nil front)) (subst (λ k. Stands front k) (sym (append-nil kept)) stands)
+  stands_at (h ∷ mid) hs front kept whole along stands =
+      subst (λ f. Stands f (kept ++ in_turn b (executed ++ kept) (h ∷ mid))) (append_assoc front (h ∷ []) mid)
+      (go (ready b (executed ++ kept) h) refl (λ k s. stands_at mid hs (front ++ h ∷ []) k (whole ∙ sym (append_assoc front (h ∷ []) (mid ++ hs))) along.1 s))
+    where
+      go : (o : Option Execution) → ready b (executed ++ kept) h ≡ o
+          → ((k : List Execution) → Stands (front ++ h ∷ []) k → Stands ((front ++ h ∷ []) ++ mid) (k ++ in_turn b (executed ++ k) mid))
+          → Stands ((front ++ h ∷ []) ++ mid) (kept ++ onto_kept (λ more. in_turn b more mid) (executed ++ kept) o)
+      go None e more = more kept (stands_without front kept stands h (mid ++ hs) whole along.0)
+      go (Some x) e more =
+          subst (λ k. Stands ((front ++ h ∷ []) ++ mid) k)
+          (ap (λ y. (kept ++ x ∷ []) ++ in_turn b y mid) (sym (append_assoc executed kept (x ∷ [])))
+          ∙ append_assoc kept (x ∷ []) (in_turn b ((executed ++ kept) ++ x ∷ []) mid))
+          (more (kept ++ x ∷ []) (stands_with front kept stands h (mid ++ hs) whole along.0 x e))
+
+  -- what came of a task whose makers were all executed in front of it
+  pub came : (front back : List Held) (h : Held) → all ≡ front ++ h ∷ back → Along (Joins b executed) [] all → list_all (is_made (executed ++ in_turn b executed front)) (wants_of a h) ≡ true
+      → outcome_of (task_of vs a (links vs a all) front h) (inputs_at vs a all (length front))
+      ≡ outcome_on h.cert.tx (map (λ w. carry_as (found (versions b.opening (executed ++ in_turn b executed front)) w)) (wants_of a h))
+      (lacks (want_as vs front) (λ w. found (versions b.opening (executed ++ in_turn b executed front)) w) (wants_of a h))
+  came front back h whole along made = comes_as front (in_turn b executed front) stood h back whole (along_rest front (h ∷ back) [] split).0 made
+    where
+      split : Along (Joins b executed) [] (front ++ h ∷ back)
+      split = subst (λ hs. Along (Joins b executed) [] hs) whole along
+
+      stood : Stands front (in_turn b executed front)
+      stood = subst (λ e. Stands front (in_turn b e front)) (append-nil executed) (stands_at front (h ∷ back) [] [] whole split none_stands)
+
+  -- the outcome of a transaction is that of the first task that is of it
+  pub came_at : (pre f back : List Held) (h : Held) → is_planned pre h.digest ≡ false
+      → outcome_for (outs_after vs a all (length f) (tasks_after vs a (links vs a all) f (pre ++ h ∷ back))) h.digest
+      ≡ Some (outcome_of (task_of vs a (links vs a all) (f ++ pre) h) (inputs_at vs a all (length (f ++ pre))))
+  came_at [] f back h out =
+      ap (λ c. cond c (Some (outcome_of (task_of vs a (links vs a all) f h) (inputs_at vs a all (length f)))) rest) (digest_self h.digest)
+      ∙ ap (λ g. Some (outcome_of (task_of vs a (links vs a all) g h) (inputs_at vs a all (length g)))) (sym (append-nil f))
+    where
+      rest : Option Outcome
+      rest = outcome_for (outs_after vs a all (length f + 1) (tasks_after vs a (links vs a all) (f ++ h ∷ []) back)) h.digest
+  came_at (k ∷ ks) f back h out =
+      ap (λ c. cond c (Some (outcome_of (task_of vs a (links vs a all) f k) (inputs_at vs a all (length f)))) (rest (length f + 1))) (or-first (digest_eq k.digest h.digest) (is_planned ks h.digest) out)
+      ∙ ap rest (let l = longer f k in omega (arith, l))
+      ∙ came_at ks (f ++ k ∷ []) back h (or-second (digest_eq k.digest h.digest) (is_planned ks h.digest) out)
+      ∙ ap (λ g. Some (outcome_of (task_of vs a (links vs a all) g h) (inputs_at vs a all (length g)))) (append_assoc f (k ∷ []) ks)
+    where
+      rest : ℕ → Option Outcome
+      rest n = outcome_for (outs_after vs a all n (tasks_after vs a (links vs a all) (f ++ k ∷ []) (ks ++ h ∷ back))) h.digest
 
   pub whole_turn : Along (Joins b executed) [] all → kept_of b.opening executed (tasks vs a all) (outs_after vs a all 0 (tasks vs a all)) ≡ in_turn b executed all
   whole_turn along =

@@ -17,4 +17,5 @@ pub mod Carrying
 pub mod LaidOut
 pub mod Looking
 pub mod Kept
+pub mod Remaining
 pub mod Gathering

@@ -10,7 +10,8 @@ use Rattle.chain_types.specs.declared.objects.Producer.TheVariants as producers
 use Rattle.chain_types.specs.declared.transactions.Transaction.{Transaction}
 use Rattle.answer_types.specs.declared.pieces.Executed.{Executed}
 use Rattle.answer_types.specs.declared.answers.Held.{Held}
-use Rattle.chain_types.specs.Equal.{key_eq}
+use Rattle.answer_types.specs.declared.answers.Left.{Left}
+use Rattle.chain_types.specs.Equal.{digest_eq, key_eq}
 use Rattle.chain_types.specs.Digests.{consumed_keys, transaction_digest}
 use Rattle.protocol_spec.specs.Chain.Words.{first_of, where_true}
 use Rattle.protocol_spec.specs.Chain.Keys.{object_key, fits}
@@ -18,7 +19,7 @@ use Rattle.protocol_spec.specs.Chain.Shape.{shape_fault}
 use Rattle.protocol_spec.specs.Block.Execution.{execution, written_keys}
 use Rattle.protocol_spec.specs.Member.Versions.{Execution, Version, versions}
 use Rattle.protocol_spec.specs.Member.Admission.{Admission}
-use Rattle.protocol_spec.specs.Member.Rounds.{Books, Wanted, found, is_maker_done, wants_of, writes_new}
+use Rattle.protocol_spec.specs.Member.Rounds.{Books, Wanted, found, is_due, is_maker_done, wants_of, writes_new}
 use Rattle.dag_core.specs.declared.plan.Edge.{Edge}
 use Rattle.dag_core.specs.Values.{outputs}
 use Rattle.exec_plan.specs.declared.link.Link.{Link}
@@ -226,3 +227,26 @@ abbrev pub kept_of : List Object → List Execution → List Planned → List (D
 kept_of opening executed [] outs = []
 kept_of opening executed (t ∷ ts) [] = []
 kept_of opening executed (t ∷ ts) (o ∷ os) = onto_kept (λ more. kept_of opening more ts os) executed (keep_as opening executed t o.1)
+
+-- ---- what is left
+
+-- what came of a transaction's task
+abbrev pub outcome_for : List (Digest × Outcome) → Digest → Option Outcome
+outcome_for [] tx = None
+outcome_for (o ∷ os) tx = if digest_eq o.0 tx then Some o.1 else outcome_for os tx
+
+-- the first version that was not there, none where all were
+abbrev pub key_lacking : Outcome → Option ObjectKey
+key_lacking (outcomes.Absent key origin) = Some key
+key_lacking (outcomes.Done gave) = None
+key_lacking outcomes.Unfit = None
+key_lacking outcomes.Waits = None
+
+-- a certificate whose task was not kept is left, where all that it waits for is executed behind these
+abbrev pub left_by : Books → List Execution → Held → Option Outcome → Option Left
+left_by b executed h None = None
+left_by b executed h (Some o) = where_true (is_due b executed h) (record { tx = h.digest; key = key_lacking o })
+
+-- what these outputs leave, in order of holding
+unfoldable pub left_of_outputs : Books → List Execution → List (Digest × Outcome) → List Left
+left_of_outputs b executed outs = filter_map (λ (h : Held). left_by b executed h (outcome_for outs h.digest)) b.held

@@ -29,7 +29,7 @@ mod waiting;
 mod writing;
 
 pub use leaving::left;
-pub use planning::{layers_are_rounds, plan_keeps_the_rounds};
+pub use planning::{layers_are_rounds, plan_keeps_the_rounds, plan_leaves_the_left};
 pub use ready::{Ready, plan_ready};
 pub use running::run;
 pub use settled::{run_planned, settle};

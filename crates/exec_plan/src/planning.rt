@@ -1,6 +1,6 @@
 //! What the plan of a run keeps: a law over definitions.
 
-ghost use Rattle.exec_plan.specs.Planning.{KeepsTheRounds, TurnsAreRounds};
+ghost use Rattle.exec_plan.specs.Planning.{KeepsTheRounds, LeavesTheLeft, TurnsAreRounds};
 
 /// Who goes once over the planned certificates, in order, and executes each that is ready behind those before it,
 /// executes the rounds.
@@ -13,4 +13,10 @@ pub fn layers_are_rounds()
 #[tactic(auto, using(crate::proofs::Carrying::keeps_rounds))]
 pub fn plan_keeps_the_rounds()
     ensures { KeepsTheRounds }
+{}
+
+/// What is left of the outputs, behind what is kept of them, is what the run leaves, in order of holding.
+#[tactic(auto, using(crate::proofs::Remaining::leaves_left))]
+pub fn plan_leaves_the_left()
+    ensures { LeavesTheLeft }
 {}

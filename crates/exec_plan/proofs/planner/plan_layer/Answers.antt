@@ -1,4 +1,4 @@
-use Rattle.std.proofs.Common.{[], ◌≡◌, ◌∙◌, ◌++◌, List, ℕ, ap, map, subst, sym}
+use Rattle.std.proofs.Common.{[], ◌∙◌, ◌++◌, List, ℕ, ap, map, subst, sym}
 use Rattle.indexmap.specs.IndexSet.{insert_all}
 use Rattle.digest_core.specs.declared.Digest.{Digest}
 use Rattle.chain_types.specs.Equal.{digest_eq}

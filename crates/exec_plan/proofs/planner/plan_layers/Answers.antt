@@ -1,4 +1,4 @@
-use Rattle.std.proofs.Common.{◌-◌, ◌∙◌, [], List, ap, length, refl, subst, sym}
+use Rattle.std.proofs.Common.{◌∙◌, List, ap, length, refl, subst, sym}
 use Rattle.digest_core.specs.declared.Digest.{Digest}
 use Rattle.exec_plan.specs.Drafts.{picked}
 use Rattle.exec_plan.specs.Past.{as_if}

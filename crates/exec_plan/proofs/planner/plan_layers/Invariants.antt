@@ -1,4 +1,3 @@
-use Rattle.std.proofs.Common.{◌≡◌}
 use Rattle.exec_plan.specs.Ahead.{AreTaken}
 use Rattle.exec_plan.specs.Drafts.{picked}
 use Rattle.exec_plan.specs.Past.{as_if}

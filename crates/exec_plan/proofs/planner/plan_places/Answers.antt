@@ -1,4 +1,4 @@
-use Rattle.std.proofs.Common.{◌∙◌, ◌++◌, List, ap, subst, sym}
+use Rattle.std.proofs.Common.{◌∙◌, ◌++◌, List, ap, subst}
 use Rattle.answer_types.specs.declared.answers.Held.{Held}
 use Rattle.exec_plan.specs.Ahead.{Agrees}
 use Rattle.exec_plan.specs.Books.{books_of}

@@ -1,4 +1,4 @@
-use Rattle.std.proofs.Common.{◌≡◌, ◌∙◌, ap}
+use Rattle.std.proofs.Common.{◌∙◌, ap}
 use Rattle.version_store.specs.Stores.{held_in}
 use Rattle.exec_plan.specs.Drafts.{drafted_after, nothing_drafted, picked}
 use Rattle.exec_plan.proofs.LaidOut.{draft_edges, draft_tasks, is_draft}

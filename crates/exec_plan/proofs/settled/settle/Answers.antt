@@ -1,4 +1,4 @@
-use Rattle.std.proofs.Common.{◌≡◌, ◌++◌, ◌∙◌, List, ap, map}
+use Rattle.std.proofs.Common.{◌++◌, ◌∙◌, List, ap, map}
 use Rattle.effects_core.specs.declared.effects.Effects.{Effects}
 use Rattle.exec_plan.specs.Tasks.{kept_of}
 use Rattle.exec_plan.specs.Books.{effects_of}

@@ -1,4 +1,4 @@
-use Rattle.std.proofs.Common.{◌≡◌, ◌∙◌, ◌++◌, map, List, sym, ap, subst}
+use Rattle.std.proofs.Common.{◌∙◌, ◌++◌, map, List, ap}
 use Rattle.protocol_spec.specs.Member.Rounds.{wants_of}
 use Rattle.version_store.specs.Stores.{held_in}
 use Rattle.exec_plan.specs.declared.link.Link.{Link}
