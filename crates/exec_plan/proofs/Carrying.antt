@@ -1,5 +1,5 @@
 -- A task whose makers are all kept gets what is present behind what is kept, so what is kept is what is ready in turn.
-use Rattle.std.proofs.Common.{◌≡◌, ℕ, zero, suc, ◌+◌, Bool, true, false, cond, not, ◌&&◌, ◌||◌, List, [], ◌∷◌, ◌++◌, map, length, Option, Some, None, is_some, inl, inr, refl, ap, sym, subst, ◌∙◌, append_assoc, append-nil, arith}
+use Rattle.std.proofs.Common.{◌≡◌, ℕ, suc, ◌+◌, Bool, true, false, cond, not, ◌&&◌, ◌||◌, List, [], ◌∷◌, ◌++◌, map, length, Option, Some, None, is_some, inl, inr, refl, ap, sym, subst, ◌∙◌, append_assoc, append-nil, arith}
 use Rattle.std.specs.Prelude.{◌⊎◌, filter_map, find, flat_map, option_map, slice_get, zip}
 use Rattle.std.specs.List.{cons_option, list_all, list_any}
 use Rattle.std.proofs.lemmas.Option.{same_Some}
@@ -8,13 +8,10 @@ use Rattle.chain_types.specs.declared.objects.Object.{Object}
 use Rattle.chain_types.specs.declared.objects.ObjectKey.{ObjectKey}
 use Rattle.chain_types.specs.declared.objects.Producer.{Producer}
 use Rattle.chain_types.specs.declared.objects.Producer.TheVariants as producers
-use Rattle.chain_types.specs.declared.transactions.Transaction.{Transaction}
 use Rattle.answer_types.specs.declared.pieces.Executed.{Executed}
 use Rattle.answer_types.specs.declared.answers.Held.{Held}
 use Rattle.chain_types.specs.Equal.{digest_eq, key_eq}
-use Rattle.chain_types.specs.Digests.{consumed_keys}
 use Rattle.protocol_spec.specs.Chain.Words.{Along, Each, all_some, first_of, first_some, onto_some, where_true}
-use Rattle.protocol_spec.specs.Chain.Tests.{producer_eq}
 use Rattle.protocol_spec.specs.Chain.Keys.{fits, object_key}
 use Rattle.protocol_spec.proofs.ListLemmas.{and-first, and-second, or-first, or-second}
 use Rattle.protocol_spec.specs.Block.Execution.{execution, written_keys}
@@ -30,19 +27,19 @@ use Rattle.exec_plan.specs.declared.task.Outcome.TheVariants as outcomes
 use Rattle.exec_plan.specs.declared.task.Want.{Want}
 use Rattle.exec_plan.specs.Books.{AreApart, IsSound}
 use Rattle.exec_plan.specs.Keeping.{CanBeKept, IsNamed, kept_more}
-use Rattle.exec_plan.specs.Layers.{in_turn, is_maker_planned, is_of, is_planned, is_supplied, onto_kept, planned_of}
+use Rattle.exec_plan.specs.Layers.{in_turn, is_of, is_planned, onto_kept, planned_of}
 use Rattle.exec_plan.specs.Makers.{is_made}
 use Rattle.exec_plan.specs.Planning.{KeepsTheRounds}
 use Rattle.exec_plan.specs.declared.link.Link.{Link}
 use Rattle.exec_plan.specs.Tasks.{IsSoundTask, Planned, carried, carry_as, carry_of, edges_of, first_carry, is_at, is_not_run, is_origin_kept, keep_as, kept_of, lacking, link_as, link_of, links_of, maker_number, number_of, object_of, origin_of, other_carries, outcome_for, outcome_of, outcome_on, outcome_with, outputs_of, slot_as, task_of, tasks_after, tasks_of, want_as}
 use Rattle.exec_plan.proofs.Executing.{names_itself}
 use Rattle.exec_plan.proofs.Following.{executed_join, versions_join}
-use Rattle.exec_plan.proofs.Layering.{AreStrangers, Joins, clash, each_planned, either_true, found_apart, opening_other, planned_along, planned_join, stranger_by, true_left, true_right, turns_are_rounds}
+use Rattle.exec_plan.proofs.Layering.{Joins, clash, each_planned, either_true, found_apart, opening_other, planned_along, planned_join, stranger_by, true_left, true_right, turns_are_rounds}
 use Rattle.exec_plan.proofs.Linking.{carry_on, count_tasks, inputs_are, inputs_at, links, outcome_at, outcome_in, outs_after, outs_are, tasks, tasks_join}
 use Rattle.exec_plan.proofs.Making.{unmade_rests}
 use Rattle.exec_plan.proofs.Readying.{is_ready, ready_alike}
 use Rattle.exec_plan.proofs.Rounding.{at_front, longer}
-use Rattle.exec_plan.proofs.Settling.{AreOthers, find_none, none_by, not_among, not_opened}
+use Rattle.exec_plan.proofs.Settling.{none_by, not_among, not_opened}
 
 -- ---- searches
 

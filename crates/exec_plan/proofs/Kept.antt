@@ -1,9 +1,9 @@
 -- What is kept of the outputs of a plan is the run, and what the plan took out is filed behind it.
-use Rattle.std.proofs.Common.{◌≡◌, ℕ, Bool, true, false, List, ap, sym, subst, ◌∙◌}
+use Rattle.std.proofs.Common.{◌≡◌, ℕ, true, List, ap, sym, subst, ◌∙◌}
 use Rattle.digest_core.specs.declared.Digest.{Digest}
 use Rattle.answer_types.specs.declared.answers.Held.{Held}
 use Rattle.protocol_spec.specs.Chain.Words.{Each}
-use Rattle.protocol_spec.specs.Member.Versions.{Execution, is_executed}
+use Rattle.protocol_spec.specs.Member.Versions.{is_executed}
 use Rattle.protocol_spec.specs.Member.Admission.{Admission}
 use Rattle.protocol_spec.specs.Member.Rounds.{Books, rounds}
 use Rattle.version_store.specs.Stores.{Stored}
@@ -23,7 +23,7 @@ use Rattle.exec_plan.proofs.Layering.{turn_planned, turns_are_rounds}
 use Rattle.exec_plan.proofs.Looking.{unparks}
 
 module _ (s : Stored) (a : Admission) (held : List Held) (tasks sliced : List Planned) (edges : List Edge) (outs among : List (Digest × Outcome)) (apart : AreApart held)
-  (are_tasks : tasks ≡ tasks_of (books_of s a held) s.executed) (are_edges : edges ≡ edges_of (books_of s a held) s.executed) (are_outs : outs ≡ outputs output_of values_of edges tasks) (same : sliced ≡ tasks) (alike : among ≡ outs) where
+    (are_tasks : tasks ≡ tasks_of (books_of s a held) s.executed) (are_edges : edges ≡ edges_of (books_of s a held) s.executed) (are_outs : outs ≡ outputs output_of values_of edges tasks) (same : sliced ≡ tasks) (alike : among ≡ outs) where
   abbrev b : Books
   b = books_of s a held
 

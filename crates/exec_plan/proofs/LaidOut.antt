@@ -1,16 +1,15 @@
 -- The tasks and edges that are laid out certificate by certificate are those of the plan.
-use Rattle.std.proofs.Common.{◌≡◌, ◌≢◌, ℕ, zero, suc, ◌+◌, ◌-◌, ◌<◌, ◌≤◌, Bool, true, false, cond, eqb, eq-eqb, ne_eqb, not, ltb, ◌&&◌, ◌||◌, List, [], ◌∷◌, ◌++◌, map, length, get_or, take, drop, Option, Some, None, inl, inr, refl, ap, sym, subst, ◌∙◌, append_assoc, append-nil, arith}
-use Rattle.std.specs.Prelude.{◌⊎◌, filter, filter_map, option_map, position, slice_get, slice_index, slice_set}
+use Rattle.std.proofs.Common.{◌≡◌, ◌≢◌, ℕ, zero, suc, ◌+◌, ◌-◌, ◌<◌, ◌≤◌, Bool, true, false, cond, eq-eqb, ne_eqb, not, ltb, ◌&&◌, ◌||◌, List, [], ◌∷◌, ◌++◌, map, length, get_or, take, drop, Option, Some, None, refl, ap, sym, subst, ◌∙◌, append_assoc, append-nil, arith}
+use Rattle.std.specs.Prelude.{filter, filter_map, option_map, position, slice_get, slice_index}
 use Rattle.std.specs.Option.{option_to_list}
 use Rattle.std.specs.List.{cons_option, list_any, position_from}
-use Rattle.std.proofs.lemmas.List.Elements.{filter-append, filter_map-append}
+use Rattle.std.proofs.lemmas.List.Elements.{filter-append}
 use Rattle.std.proofs.lemmas.Iterator.Adapters.{position_from-zero}
 use Rattle.std.proofs.lemmas.List.{length-map}
 use Rattle.std.proofs.lemmas.List.Quantifiers.{position-Some}
 use Rattle.std.proofs.lemmas.Bool.Decides.{nat_tests}
 use Rattle.indexmap.specs.IndexSet.{insert_key}
 use Rattle.digest_core.specs.declared.Digest.{Digest}
-use Rattle.chain_types.specs.declared.objects.Object.{Object}
 use Rattle.chain_types.specs.declared.objects.ObjectKey.{ObjectKey}
 use Rattle.chain_types.specs.declared.objects.Producer.{Producer}
 use Rattle.chain_types.specs.declared.objects.Producer.TheVariants as producers
@@ -28,7 +27,7 @@ use Rattle.exec_plan.specs.declared.link.Link.{Link}
 use Rattle.exec_plan.specs.declared.task.Want.{Want}
 use Rattle.version_store.specs.Stores.{Stored, held_in}
 use Rattle.exec_plan.specs.Books.{AreApart, books_of, digest_of_held}
-use Rattle.exec_plan.specs.Drafts.{Drafted, IsDraft, all_given, bare_task, drafted_after, drafted_at, drafted_with, given, given_at, link_in, nothing_drafted, number_in, picked, want_in, with_give}
+use Rattle.exec_plan.specs.Drafts.{Drafted, IsDraft, all_given, bare_task, drafted_after, drafted_at, drafted_with, given, given_at, link_in, nothing_drafted, number_in, picked, want_in}
 use Rattle.exec_plan.specs.Layers.{is_of, is_planned, planned_of}
 use Rattle.exec_plan.specs.Tasks.{Planned, count_given, edge_of, edges_of, gives_of, key_of_link, link_as, link_of, links_after, links_of, maker_number, number_of, origin_of, slot_as, takes_of, task_of, tasks_after, tasks_of, values_of, want_as}
 use Rattle.exec_plan.proofs.Joined.{tail_is}

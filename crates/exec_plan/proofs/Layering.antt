@@ -4,7 +4,6 @@ use Rattle.std.specs.Prelude.{◌⊎◌, filter, find, flat_map, length, option_
 use Rattle.std.specs.List.{list_all, list_any}
 use Rattle.digest_core.specs.declared.Digest.{Digest}
 use Rattle.chain_types.specs.declared.objects.Object.{Object}
-use Rattle.chain_types.specs.declared.objects.ObjectKey.{ObjectKey}
 use Rattle.chain_types.specs.declared.objects.Producer.{Producer}
 use Rattle.chain_types.specs.declared.objects.Producer.TheVariants as producers
 use Rattle.answer_types.specs.declared.pieces.Executed.{Executed}
@@ -14,20 +13,19 @@ use Rattle.protocol_spec.specs.Chain.Words.{Along, Each, all_some, repeats, wher
 use Rattle.protocol_spec.specs.Chain.Keys.{fits}
 use Rattle.protocol_spec.proofs.ListLemmas.{and-first, and-second, or-first, or-second}
 use Rattle.protocol_spec.specs.Block.Execution.{execution, written_keys}
-use Rattle.protocol_spec.specs.Member.Versions.{Execution, Version, execution_of, is_executed, object_in, versions, written_by}
-use Rattle.protocol_spec.specs.Member.Admission.{Admission}
-use Rattle.protocol_spec.specs.Member.Rounds.{Books, Wanted, clashes, executes_as, found, holds_key, is_maker_done, is_wanted, may_run, present, ready, ready_as, ready_on, round_add, round_among, round_of, rounds, rounds_within, wants_of, writes_new}
+use Rattle.protocol_spec.specs.Member.Versions.{Execution, Version, is_executed, object_in, versions, written_by}
+use Rattle.protocol_spec.specs.Member.Rounds.{Books, Wanted, clashes, executes_as, found, is_maker_done, is_wanted, may_run, present, ready, ready_as, ready_on, round_add, round_among, round_of, rounds, rounds_within, wants_of, writes_new}
 use Rattle.version_store.proofs.Equality.{digest_same, digest_self, turn}
 use Rattle.version_store.specs.Stores.{Stored}
-use Rattle.exec_plan.specs.Books.{AreApart, books_of, digest_of_held}
+use Rattle.exec_plan.specs.Books.{AreApart, digest_of_held}
 use Rattle.exec_plan.specs.Layers.{in_turn, is_maker_planned, is_of, is_planned, is_supplied, joins_layer, layer_of, layers_within, onto_kept, planned_of}
-use Rattle.exec_plan.specs.Makers.{are_made, is_made}
+use Rattle.exec_plan.specs.Makers.{is_made}
 use Rattle.exec_plan.specs.Planning.{TurnsAreRounds}
 use Rattle.exec_plan.specs.Written.{writes}
 use Rattle.exec_plan.proofs.Clashing.{IsCovered, covered_at, now_held}
 use Rattle.exec_plan.proofs.Following.{any_join, executed_join, none_out, still_new, versions_join}
 use Rattle.exec_plan.proofs.Making.{unmade_rests}
-use Rattle.exec_plan.proofs.Readying.{IsReady, executed_rests, is_ready, ready_alike}
+use Rattle.exec_plan.proofs.Readying.{executed_rests, is_ready, ready_alike}
 use Rattle.exec_plan.proofs.Settling.{AreOthers, find_none, never_new, none_by, not_among}
 
 pub clash : {b : Bool} → b ≡ true → b ≡ false → ⊥

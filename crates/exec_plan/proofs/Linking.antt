@@ -8,7 +8,6 @@ use Rattle.std.specs.List.{cons_option}
 use Rattle.std.specs.Option.{option_to_list}
 use Rattle.digest_core.specs.declared.Digest.{Digest}
 use Rattle.chain_types.specs.declared.objects.Object.{Object}
-use Rattle.chain_types.specs.declared.objects.ObjectKey.{ObjectKey}
 use Rattle.chain_types.specs.declared.objects.Producer.{Producer}
 use Rattle.chain_types.specs.declared.objects.Producer.TheVariants as producers
 use Rattle.answer_types.specs.declared.answers.Held.{Held}
@@ -418,6 +417,6 @@ module _ (vs : List Version) (a : Admission) (all : List Held) where
       same_lists (outputs output_of values_of edges tasks) (outs_after 0 tasks)
       (length-outputs_after output_of values_of edges (replicate (length edges) None) 0 tasks ∙ sym (count_outs 0 tasks))
       (λ k o e.
-        let from = out_at tasks 0 k o e in
-        let z : 0 + k ≡ k = omega arith in
-        task_output output_of values_of takes_of count_given edges tasks task_plan k from.0 from.1 ∙ ap Some (sym (from.2 ∙ ap (λ m. output_of from.0 (inputs_at m)) z)))
+      let from = out_at tasks 0 k o e in
+      let z : 0 + k ≡ k = omega arith in
+      task_output output_of values_of takes_of count_given edges tasks task_plan k from.0 from.1 ∙ ap Some (sym (from.2 ∙ ap (λ m. output_of from.0 (inputs_at m)) z)))

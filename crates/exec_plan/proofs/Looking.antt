@@ -1,6 +1,6 @@
 -- Which certificates the next layer has, and where the others stand.
 use Rattle.std.proofs.Common.{◌≡◌, ℕ, zero, suc, ◌+◌, ◌-◌, ◌<◌, Bool, true, false, cond, not, ◌&&◌, ◌||◌, List, [], ◌∷◌, ◌++◌, map, length, Option, Some, None, is_some, inl, inr, refl, ap, sym, subst, ◌∙◌, append_assoc, append-nil, ne_eqb, arith}
-use Rattle.std.specs.Prelude.{◌⊎◌, ◌≤◌, ◌==◌, filter, filter_map, drop, find, slice_get, slice_index, take}
+use Rattle.std.specs.Prelude.{◌⊎◌, ◌≤◌, ◌==◌, filter, drop, find, slice_get, slice_index, take}
 use Rattle.std.proofs.lemmas.List.Elements.{filter_map-append}
 use Rattle.std.specs.List.{cons_option, list_all, list_any}
 use Rattle.std.specs.List.Sorted.{IsStrictlySortedBy}
@@ -15,7 +15,7 @@ use Rattle.protocol_spec.specs.Chain.Words.{Each, Has}
 use Rattle.protocol_spec.specs.Chain.Shape.{is_empty_list}
 use Rattle.protocol_spec.specs.Member.Versions.{Execution, is_executed}
 use Rattle.protocol_spec.specs.Member.Admission.{Admission}
-use Rattle.protocol_spec.specs.Member.Rounds.{Books, Wanted, is_maker_done, may_run, wants_of}
+use Rattle.protocol_spec.specs.Member.Rounds.{Books, Wanted, is_maker_done, wants_of}
 use Rattle.version_store.proofs.Equality.{digest_same, digest_self, turn}
 use Rattle.version_store.specs.Stores.{Stored}
 use Rattle.exec_plan.specs.declared.waiting.Waiting.{Waiting}
@@ -23,7 +23,7 @@ use Rattle.exec_plan.specs.Ahead.{Agrees, AreParked, AreTaken, Parked, has_run, 
 use Rattle.exec_plan.specs.Behind.{Frees, Lists, StaysListed, is_among, listed}
 use Rattle.exec_plan.specs.Books.{AreApart, books_of, digest_of_held, is_let}
 use Rattle.exec_plan.specs.Drafts.{picked}
-use Rattle.exec_plan.specs.Layers.{is_maker_planned, is_of, is_planned, is_supplied, joins_layer, layer_of, layers_within, planned_of}
+use Rattle.exec_plan.specs.Layers.{is_maker_planned, is_planned, is_supplied, joins_layer, layer_of, layers_within, planned_of}
 use Rattle.exec_plan.specs.Makers.{are_made, is_made}
 use Rattle.exec_plan.specs.Past.{as_if, empty_execution}
 use Rattle.exec_plan.specs.Places.{Picks, placed_after}
@@ -391,7 +391,7 @@ module _ (s : Stored) (a : Admission) (held : List Held) where
       → new ≡ insert_all digest_eq txs (map digest_of_held (joining (as_if txs s) a held)) → Goes s a held (left - 1) new more
   goes_next left txs new planned all goes some is named = record {
     whole =
-    ap (λ (hs : List Held). hs ++ layers_within (left - 1) b s.executed hs) (is ∙ ap (λ (hs : List Held). planned ++ hs) layer)
+        ap (λ (hs : List Held). hs ++ layers_within (left - 1) b s.executed hs) (is ∙ ap (λ (hs : List Held). planned ++ hs) layer)
         ∙ append_assoc planned (layer_of b s.executed planned) (layers_within (left - 1) b s.executed (planned ++ layer_of b s.executed planned))
         ∙ ap (λ (hs : List Held). planned ++ hs) (sym (one_layer left b s.executed planned some))
         ∙ goes.whole;

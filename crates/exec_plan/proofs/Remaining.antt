@@ -9,25 +9,23 @@ use Rattle.chain_types.specs.declared.objects.Producer.{Producer}
 use Rattle.chain_types.specs.declared.objects.Producer.TheVariants as producers
 use Rattle.chain_types.specs.declared.transactions.Transaction.{Transaction}
 use Rattle.answer_types.specs.declared.answers.Held.{Held}
-use Rattle.answer_types.specs.declared.answers.Left.{Left}
 use Rattle.chain_types.specs.Equal.{digest_eq}
-use Rattle.protocol_spec.specs.Chain.Words.{Along, Each, all_some, first_of, first_some, repeats, where_true}
+use Rattle.protocol_spec.specs.Chain.Words.{Along, Each, first_of, first_some, repeats, where_true}
 use Rattle.protocol_spec.specs.Chain.Keys.{fits}
 use Rattle.protocol_spec.proofs.ListLemmas.{and-first, and-second, or-first, or-second}
 use Rattle.protocol_spec.specs.Block.Execution.{execution}
 use Rattle.protocol_spec.specs.Member.Versions.{Execution, Version, is_executed, versions}
-use Rattle.protocol_spec.specs.Member.Admission.{Admission}
-use Rattle.protocol_spec.specs.Member.Rounds.{Books, Wanted, found, is_due, is_maker_done, is_origin_done, left, left_as, may_run, missing, rounds, wants_of}
+use Rattle.protocol_spec.specs.Member.Rounds.{Books, Wanted, found, is_due, is_maker_done, is_origin_done, left, left_as, may_run, missing, wants_of}
 use Rattle.version_store.proofs.Equality.{digest_same, digest_self, turn}
 use Rattle.exec_plan.specs.declared.task.Carry.{Carry}
 use Rattle.exec_plan.specs.declared.task.Outcome.{Outcome}
 use Rattle.exec_plan.specs.declared.task.Outcome.TheVariants as outcomes
 use Rattle.exec_plan.specs.declared.task.Want.{Want}
 use Rattle.exec_plan.specs.Books.{AreApart, digest_of_held}
-use Rattle.exec_plan.specs.Layers.{in_turn, is_maker_planned, is_of, is_planned, is_supplied, joins_layer, layer_of, layers_within, planned_of}
+use Rattle.exec_plan.specs.Layers.{in_turn, is_maker_planned, is_planned, is_supplied, joins_layer, layer_of, layers_within, planned_of}
 use Rattle.exec_plan.specs.Makers.{is_made}
 use Rattle.exec_plan.specs.Planning.{LeavesTheLeft}
-use Rattle.exec_plan.specs.Tasks.{Planned, carry_as, edges_of, key_lacking, lacking, left_by, left_of_outputs, links_of, object_of, outcome_for, outcome_of, outcome_on, outcome_with, outputs_of, task_of, tasks_after, tasks_of, want_as}
+use Rattle.exec_plan.specs.Tasks.{carry_as, edges_of, key_lacking, lacking, left_by, left_of_outputs, links_of, object_of, outcome_for, outcome_of, outcome_on, outputs_of, task_of, tasks_after, tasks_of, want_as}
 use Rattle.exec_plan.proofs.Carrying.{came, came_at, keeps_rounds}
 use Rattle.exec_plan.proofs.Following.{executed_join}
 use Rattle.exec_plan.proofs.Layering.{AreNewcomers, AreStrangers, Joins, clash, each_planned, either_true, found_apart, joins, planned_along, planned_join, stranger_by, strangers, true_left, true_right, turn_join, turn_planned, turns_are_rounds}

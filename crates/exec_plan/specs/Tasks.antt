@@ -8,7 +8,6 @@ use Rattle.chain_types.specs.declared.objects.Object.{Object}
 use Rattle.chain_types.specs.declared.objects.Producer.{Producer}
 use Rattle.chain_types.specs.declared.objects.Producer.TheVariants as producers
 use Rattle.chain_types.specs.declared.transactions.Transaction.{Transaction}
-use Rattle.answer_types.specs.declared.pieces.Executed.{Executed}
 use Rattle.answer_types.specs.declared.answers.Held.{Held}
 use Rattle.answer_types.specs.declared.answers.Left.{Left}
 use Rattle.chain_types.specs.Equal.{digest_eq, key_eq}

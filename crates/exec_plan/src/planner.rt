@@ -98,11 +98,7 @@ fn add_digest(txs: &mut Seq<Digest>, held: &[Held], place: usize) -> Result<(), 
 }
 
 /// The transactions of the certificates at these places.
-fn digests_at(
-    alloc: Global,
-    held: &[Held],
-    places: &[usize],
-) -> Result<Seq<Digest>, OutOfMemory>
+fn digests_at(alloc: Global, held: &[Held], places: &[usize]) -> Result<Seq<Digest>, OutOfMemory>
     ensures { IfOk result (λ txs. txs ≡ map digest_of_held (picked held.now places.now)) }
 {
     let mut txs = Seq::new(alloc);
@@ -160,12 +156,7 @@ impl Ahead {
     }
 
     /// One more layer: its places, and its transactions, among places that were taken.
-    fn add(
-        &mut self,
-        taken: &[usize],
-        layer: &[usize],
-        txs: &[Digest],
-    ) -> Result<(), OutOfMemory>
+    fn add(&mut self, taken: &[usize], layer: &[usize], txs: &[Digest]) -> Result<(), OutOfMemory>
         ensures planned { OnOk result (self.new.planned.keys ≡ insert_all digest_eq self.old.planned.keys txs.now) }
         ensures places { OnOk result (self.new.places ≡ self.old.places ++ layer.now) }
         ensures taken { OnOk result (self.new.taken ≡ self.old.taken ++ taken.now) }

@@ -156,12 +156,7 @@ impl Waiting {
     {
         let woken = self.wake(txs)?;
         let none = IndexSet::new(self.alloc);
-        self.file_each(
-            &Past::of(store, &none),
-            admission,
-            held,
-            woken.as_slice(),
-        )
+        self.file_each(&Past::of(store, &none), admission, held, woken.as_slice())
     }
 
     /// The same as [`Waiting::hold`] does, of the certificate at a place, where there is one.
