@@ -45,7 +45,7 @@ more_writes round more (k ∷ ks) some = go (writes round k) refl some (more_wri
         (any_join (λ (y : Execution). has_key (written_keys y.gave) k) round more ∙ or_true (writes round k) (writes more k) is)
     go false is some rest = true_or (writes (round ++ more) k) (list_any (writes (round ++ more)) ks) (rest some)
 
-now_held : (opening : List Object) (before more : List Execution) (keys : List ObjectKey) → list_any (writes more) keys ≡ true → list_any (holds_key (versions opening (before ++ more))) keys ≡ true
+pub now_held : (opening : List Object) (before more : List Execution) (keys : List ObjectKey) → list_any (writes more) keys ≡ true → list_any (holds_key (versions opening (before ++ more))) keys ≡ true
 now_held opening before more [] some = absurd (cc)
 now_held opening before more (k ∷ ks) some = go (writes more k) refl some (now_held opening before more ks)
   where
@@ -58,7 +58,7 @@ now_held opening before more (k ∷ ks) some = go (writes more k) refl some (now
 
 -- ---- a round has each ready certificate, or one that writes what it writes
 
-abbrev IsCovered : List Execution → Held → Execution → Type 0
+abbrev pub IsCovered : List Execution → Held → Execution → Type 0
 IsCovered round h x = (is_executed round h.digest ≡ true) ⊎ (clashes round x ≡ true)
 
 module _ (b : Books) (executed : List Execution) where
@@ -91,7 +91,7 @@ module _ (b : Books) (executed : List Execution) where
           ∙ true_or (is_executed round h.digest) (is_executed (x ∷ []) h.digest) (ap (λ (c : Bool). is_some (cond c (Some x) None)) itself)
           )
 
-  covered_at : (hs : List Held) (round : List Execution) (place : ℕ) (h : Held) (x : Execution) → slice_get hs place ≡ Some h → ready b executed h ≡ Some x → IsCovered (round_among b executed round hs) h x
+  pub covered_at : (hs : List Held) (round : List Execution) (place : ℕ) (h : Held) (x : Execution) → slice_get hs place ≡ Some h → ready b executed h ≡ Some x → IsCovered (round_among b executed round hs) h x
   covered_at [] round place h x at is = absurd (cc)
   covered_at (k ∷ ks) round zero h x at is =
       covered_later h x ks (round_add round (ready b executed k))

@@ -60,11 +60,11 @@ placed_keeps (q ∷ qs) p k has = go (nat_cmp p q) has (placed_keeps qs p k)
     go Equal has more = has
     go Greater has more = behind more has
 
-after_keeps : (places set : List ℕ) (k : ℕ) → Has set k → Has (placed_after set places) k
+pub after_keeps : (places set : List ℕ) (k : ℕ) → Has set k → Has (placed_after set places) k
 after_keeps [] set k has = has
 after_keeps (p ∷ ps) set k has = after_keeps ps (placed set p) k (placed_keeps set p k has)
 
-after_has : (places set : List ℕ) (k : ℕ) → Has places k → Has (placed_after set places) k
+pub after_has : (places set : List ℕ) (k : ℕ) → Has places k → Has (placed_after set places) k
 after_has [] set k has = absurd has
 after_has (p ∷ ps) set k (inl is) = after_keeps ps (placed set p) k (subst (Has (placed set p)) is (placed_has set p))
 after_has (p ∷ ps) set k (inr has) = after_has ps (placed set p) k has
@@ -292,12 +292,12 @@ pub now_listed : (old new : Lists) (tx : Digest) (after : List ℕ) (p : ℕ) �
 now_listed old new tx after p has reads =
     subst (λ (ps : List ℕ). Has ps p) (sym (ap (λ (o : Option (List ℕ)). unwrap_or o []) (reads tx ∙ ap (λ c. cond c (Some after) (lookup (digest_eq tx) old)) (digest_self tx)))) has
 
-join_first : {A : Type 0} → (xs ys : List A) (y : A) → Has xs y → Has (xs ++ ys) y
+pub join_first : {A : Type 0} → (xs ys : List A) (y : A) → Has xs y → Has (xs ++ ys) y
 join_first [] ys y has = absurd has
 join_first (x ∷ xs) ys y (inl is) = inl is
 join_first (x ∷ xs) ys y (inr has) = inr (join_first xs ys y has)
 
-join_second : {A : Type 0} → (xs ys : List A) (y : A) → Has ys y → Has (xs ++ ys) y
+pub join_second : {A : Type 0} → (xs ys : List A) (y : A) → Has ys y → Has (xs ++ ys) y
 join_second [] ys y has = has
 join_second (x ∷ xs) ys y has = inr (join_second xs ys y has)
 

@@ -132,7 +132,7 @@ module _ (b : Books) (executed : List Execution) where
       let step : AreOut (round_add round (ready b executed h)) hs × Along Next executed (round_add round (ready b executed h)) = step_follows h hs round apart out along (ready b executed h) refl in
       round_follows hs (round_add round (ready b executed h)) (or-second (list_any (digest_eq h.digest) (map digest_of_held hs)) (repeats digest_eq (map digest_of_held hs)) apart) step.0 step.1
 
-none_out : (hs : List Held) → Each (λ (h : Held). is_executed [] h.digest ≡ false) hs
+pub none_out : (hs : List Held) → Each (λ (h : Held). is_executed [] h.digest ≡ false) hs
 none_out [] = tt
 none_out (h ∷ hs) = (refl, none_out hs)
 

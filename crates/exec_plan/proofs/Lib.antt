@@ -11,3 +11,11 @@ pub mod Clashing
 pub mod Filing
 pub mod Writers
 pub mod Repeating
+pub mod Layering
+pub mod Linking
+pub mod Carrying
+pub mod LaidOut
+pub mod Looking
+pub mod Kept
+pub mod Remaining
+pub mod Gathering

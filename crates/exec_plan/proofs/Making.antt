@@ -133,7 +133,7 @@ module _ (opening : List Object) (executed : List Execution) where
       go (Some producers.Opening) none = absurd (cc)
       go (Some (producers.Tx tx)) none = not_made opening executed w.key tx none
 
-  not_all_found : (ws : List Wanted) → list_all (is_made executed) ws ≡ false → all_some (map (found (versions opening executed)) ws) ≡ None
+  pub not_all_found : (ws : List Wanted) → list_all (is_made executed) ws ≡ false → all_some (map (found (versions opening executed)) ws) ≡ None
   not_all_found [] none = absurd (cc)
   not_all_found (w ∷ ws) none = go (is_made executed w) refl none (not_all_found ws)
     where

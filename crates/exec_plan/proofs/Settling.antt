@@ -25,7 +25,7 @@ use Rattle.exec_plan.proofs.Following.{executed_join, holds_join, versions_join}
 
 -- ---- searches
 
-find_none : {A : Type 0} (test : A → Bool) (xs ys : List A) → find test ys ≡ None → find test (xs ++ ys) ≡ find test xs
+pub find_none : {A : Type 0} (test : A → Bool) (xs ys : List A) → find test ys ≡ None → find test (xs ++ ys) ≡ find test xs
 find_none test [] ys none = none
 find_none test (x ∷ xs) ys none = go (test x) (find_none test xs ys none)
   where
@@ -40,7 +40,7 @@ and_false false = refl
 -- ---- who made what a transaction wrote
 
 -- a transaction wrote nothing that another made
-not_by : (key : ObjectKey) (p : Producer) (tx : Digest) (objects : List Object) → producer_eq (producers.Tx tx) p ≡ false → find (is_wanted key (Some p)) (map (written tx) objects) ≡ None
+pub not_by : (key : ObjectKey) (p : Producer) (tx : Digest) (objects : List Object) → producer_eq (producers.Tx tx) p ≡ false → find (is_wanted key (Some p)) (map (written tx) objects) ≡ None
 not_by key p tx [] other = refl
 not_by key p tx (o ∷ os) other =
     ap (λ b. cond b (Some (written tx o)) (find (is_wanted key (Some p)) (map (written tx) os))) (ap (λ b. key_eq (object_key o) key && b) other ∙ and_false (key_eq (object_key o) key))
@@ -51,14 +51,14 @@ abbrev pub AreOthers : Producer → List Execution → Type 0
 AreOthers p [] = Unit {0}
 AreOthers p (x ∷ xs) = (producer_eq (producers.Tx x.digest) p ≡ false) × AreOthers p xs
 
-none_by : (key : ObjectKey) (p : Producer) (xs : List Execution) → AreOthers p xs → find (is_wanted key (Some p)) (flat_map written_by xs) ≡ None
+pub none_by : (key : ObjectKey) (p : Producer) (xs : List Execution) → AreOthers p xs → find (is_wanted key (Some p)) (flat_map written_by xs) ≡ None
 none_by key p [] others = refl
 none_by key p (x ∷ xs) others =
     find_none (is_wanted key (Some p)) (written_by x) (flat_map written_by xs) (none_by key p xs others.1)
     ∙ not_by key p x.digest x.gave.objects others.0
 
 -- who was not executed is none of those that were
-not_among : (tx : Digest) (xs : List Execution) → is_executed xs tx ≡ false → AreOthers (producers.Tx tx) xs
+pub not_among : (tx : Digest) (xs : List Execution) → is_executed xs tx ≡ false → AreOthers (producers.Tx tx) xs
 not_among tx [] none = tt
 not_among tx (x ∷ xs) none = go (digest_eq x.digest tx) refl none (λ rest. not_among tx xs rest)
   where
@@ -68,7 +68,7 @@ not_among tx (x ∷ xs) none = go (digest_eq x.digest tx) refl none (λ rest. no
     go false is none rest = (is, rest none)
 
 -- an opening object is nobody's
-not_opened : (key : ObjectKey) (tx : Digest) (objects : List Object) → find (is_wanted key (Some (producers.Tx tx))) (map opened objects) ≡ None
+pub not_opened : (key : ObjectKey) (tx : Digest) (objects : List Object) → find (is_wanted key (Some (producers.Tx tx))) (map opened objects) ≡ None
 not_opened key tx [] = refl
 not_opened key tx (o ∷ os) =
     ap (λ b. cond b (Some (opened o)) (find (is_wanted key (Some (producers.Tx tx))) (map opened os))) (and_false (key_eq (object_key o) key))

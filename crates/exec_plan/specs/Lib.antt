@@ -7,3 +7,11 @@ pub mod Written
 pub mod Runs
 pub mod Places
 pub mod Waits
+pub mod Layers
+pub mod Tasks
+pub mod Planning
+pub mod Gathering
+pub mod Drafts
+pub mod Past
+pub mod Ahead
+pub mod Keeping

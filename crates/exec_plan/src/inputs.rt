@@ -78,7 +78,7 @@ impl Model for Want {
 
 impl Want {
     /// The key of the version.
-    fn key(&self) -> ObjectKey
+    pub(crate) fn key(&self) -> ObjectKey
         ensures { result ≡ self.now.key }
     {
         self.key
@@ -238,7 +238,7 @@ pub(crate) fn wants(
 }
 
 /// The object that is wanted, where it is held.
-fn found<'a>(store: &'a Store, want: &Want) -> Option<&'a Object>
+pub(crate) fn found<'a>(store: &'a Store, want: &Want) -> Option<&'a Object>
     ensures { option_copied result ≡ found (held_in store.now) want.now }
 {
     match want.maker() {

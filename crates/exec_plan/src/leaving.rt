@@ -9,9 +9,11 @@ ghost use Rattle.exec_plan.specs.Waits.{IsWaiting};
 
 use crate::inputs::{first_missing, is_let, wants};
 use crate::makers::first_unmade;
+use crate::past::Past;
 use crate::waiting::Waiting;
 use answer_types::{Held, Left};
 use digest_core::Digest;
+use indexmap::IndexSet;
 use std::alloc::Global;
 use version_assign::Admission;
 use version_store::Store;
@@ -64,7 +66,8 @@ fn left_one(
         return Ok(None);
     }
     let wants = wants(alloc, admission, held)?;
-    if first_unmade(store, wants.as_slice()).is_some() {
+    let none = IndexSet::new(alloc);
+    if first_unmade(&Past::of(store, &none), wants.as_slice()).is_some() {
         return Ok(None);
     }
     Ok(Some(Left {

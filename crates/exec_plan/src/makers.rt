@@ -5,21 +5,21 @@ ghost use Rattle.protocol_spec.specs.Chain.Words.{first_of};
 ghost use Rattle.exec_plan.specs.Makers.{awaited_of, unmade, unmade_by};
 
 use crate::inputs::{Want, wants};
+use crate::past::Past;
 use answer_types::Held;
 use chain_types::Producer;
 use digest_core::Digest;
 use std::alloc::Global;
 use version_assign::Admission;
-use version_store::Store;
 use wire_bcs::OutOfMemory;
 
 /// The transaction that makes a version, where it is not executed.
-fn unmade_by(store: &Store, maker: &Option<Producer>) -> Option<Digest>
-    ensures { result ≡ unmade_by store.now.executed maker.now }
+fn unmade_by(past: &Past<'_>, maker: &Option<Producer>) -> Option<Digest>
+    ensures { result ≡ unmade_by past.now.executed maker.now }
 {
     match maker {
         Some(Producer::Tx(tx)) => {
-            if store.is_executed(tx) {
+            if past.is_executed(tx) {
                 return None;
             }
             Some(*tx)
@@ -30,12 +30,12 @@ fn unmade_by(store: &Store, maker: &Option<Producer>) -> Option<Digest>
 }
 
 /// The first transaction, not executed, that makes one of the wanted versions.
-pub(crate) fn first_unmade(store: &Store, wants: &[Want]) -> Option<Digest>
-    ensures { result ≡ first_of (unmade store.now.executed) wants.now }
+pub(crate) fn first_unmade(past: &Past<'_>, wants: &[Want]) -> Option<Digest>
+    ensures { result ≡ first_of (unmade past.now.executed) wants.now }
 {
     let mut rest = wants;
     while let [want, after @ ..] = rest {
-        if let Some(tx) = unmade_by(store, &want.maker()) {
+        if let Some(tx) = unmade_by(past, &want.maker()) {
             return Some(tx);
         }
         rest = after;
@@ -47,12 +47,12 @@ pub(crate) fn first_unmade(store: &Store, wants: &[Want]) -> Option<Digest>
 /// executed.
 pub(crate) fn awaited(
     alloc: Global,
-    store: &Store,
+    past: &Past<'_>,
     admission: &Admission,
     held: &Held,
 ) -> Result<Option<Digest>, OutOfMemory>
-    ensures { IfOk result (λ tx. tx ≡ awaited_of store.now.executed admission.now.admission held.now) }
+    ensures { IfOk result (λ tx. tx ≡ awaited_of past.now.executed admission.now.admission held.now) }
 {
     let wants = wants(alloc, admission, held)?;
-    Ok(first_unmade(store, wants.as_slice()))
+    Ok(first_unmade(past, wants.as_slice()))
 }

@@ -8,11 +8,13 @@ ghost use Rattle.exec_plan.specs.Books.{AreApart, IsSound, books_of, effects_of}
 ghost use Rattle.exec_plan.specs.Waits.{IsWaiting};
 ghost use Rattle.exec_plan.specs.Runs.{with_executions};
 
+use crate::past::Past;
 use crate::single::round_at;
 use crate::waiting::Waiting;
 use crate::writing::write_all;
 use answer_types::Held;
 use effects_core::Effects;
+use indexmap::IndexSet;
 use std::alloc::Global;
 use version_assign::Admission;
 use version_store::Store;
@@ -44,7 +46,8 @@ fn run_round(
     waiting.settle(store, held, places.as_slice())?;
     let txs = round.digests(alloc)?;
     let freed = waiting.free(txs.as_slice())?;
-    waiting.file_each(store, admission, held, freed.as_slice())?;
+    let none = IndexSet::new(alloc);
+    waiting.file_each(&Past::of(store, &none), admission, held, freed.as_slice())?;
     Ok(last)
 }
 

@@ -44,7 +44,7 @@ impl Model for Round {
 }
 
 /// The version that an object is.
-fn key_of(object: &Object) -> ObjectKey
+pub(crate) fn key_of(object: &Object) -> ObjectKey
     ensures { result ≡ object_key object.now }
 {
     ObjectKey {

@@ -13,9 +13,10 @@ ghost use Rattle.exec_plan.specs.Waits.{Filed, IsFiled, IsWaiting, KeepsPlaces, 
 use crate::behind::{add_behind, free_behind};
 use crate::inputs::is_let;
 use crate::makers::awaited;
+use crate::past::Past;
 use answer_types::Held;
 use digest_core::Digest;
-use indexmap::IndexMap;
+use indexmap::{IndexMap, IndexSet};
 use std::alloc::Global;
 use std::collections::BTreeSet;
 use version_assign::Admission;
@@ -87,27 +88,42 @@ impl Waiting {
     /// waits for, or for the next round.
     fn file(
         &mut self,
-        store: &Store,
+        past: &Past<'_>,
         admission: &Admission,
         place: usize,
         held: &Held,
     ) -> Result<(), OutOfMemory>
         ensures kept { KeepsPlaces self.old self.new }
-        ensures filed { OnOk result (Filed store.now admission.now.admission [] self.new place held.now) }
+        ensures filed { OnOk result (Filed past.now admission.now.admission [] self.new place held.now) }
     {
-        if store.is_executed(&held.digest) {
+        if past.is_executed(&held.digest) {
             return Ok(());
         }
         if !is_let(admission, held) {
             return add_behind(self.alloc, &mut self.unadmitted, held.digest, place);
         }
-        match awaited(self.alloc, store, admission, held)? {
+        match awaited(self.alloc, past, admission, held)? {
             Some(tx) => add_behind(self.alloc, &mut self.behind, tx, place),
             None => {
                 self.next.insert(place)?;
                 Ok(())
             }
         }
+    }
+
+    /// One more certificate is held, behind these.
+    fn hold_behind(
+        &mut self,
+        past: &Past<'_>,
+        admission: &Admission,
+        held: &[Held],
+        new: &Held,
+    ) -> Result<(), OutOfMemory>
+        requires { IsWaiting past.now admission.now.admission held.now self.old }
+        ensures ok { OnOk result (IsWaiting past.now admission.now.admission (held.now ++ new.now ∷ []) self.new) }
+        ensures err { OnErr result (IsWaiting past.now admission.now.admission held.now self.new) }
+    {
+        self.file(past, admission, held.len(), new)
     }
 
     /// One more certificate is held, behind these. After a refusal all that waited waits.
@@ -122,7 +138,8 @@ impl Waiting {
         ensures ok { OnOk result (IsWaiting store.now admission.now.admission (held.now ++ new.now ∷ []) self.new) }
         ensures err { OnErr result (IsWaiting store.now admission.now.admission held.now self.new) }
     {
-        self.file(store, admission, held.len(), new)
+        let none = IndexSet::new(self.alloc);
+        self.hold_behind(&Past::of(store, &none), admission, held, new)
     }
 
     /// These transactions, and no others, were newly admitted: those of them that are held wait for what they want
@@ -138,22 +155,23 @@ impl Waiting {
         ensures { OnOk result (IsWaiting store.now admission.now.admission held.now self.new) }
     {
         let woken = self.wake(txs)?;
-        self.file_each(store, admission, held, woken.as_slice())
+        let none = IndexSet::new(self.alloc);
+        self.file_each(&Past::of(store, &none), admission, held, woken.as_slice())
     }
 
     /// The same as [`Waiting::hold`] does, of the certificate at a place, where there is one.
     fn file_at(
         &mut self,
-        store: &Store,
+        past: &Past<'_>,
         admission: &Admission,
         held: &[Held],
         place: usize,
     ) -> Result<(), OutOfMemory>
         ensures kept { KeepsPlaces self.old self.new }
-        ensures filed { OnOk result ((h : H) → slice_get held.now place ≡ Some h → Filed store.now admission.now.admission [] self.new place h) }
+        ensures filed { OnOk result ((h : H) → slice_get held.now place ≡ Some h → Filed past.now admission.now.admission [] self.new place h) }
     {
         match held.get(place) {
-            Some(held) => self.file(store, admission, place, held),
+            Some(held) => self.file(past, admission, place, held),
             None => Ok(()),
         }
     }
@@ -161,17 +179,17 @@ impl Waiting {
     /// The same of the certificates at these places.
     pub(crate) fn file_each(
         &mut self,
-        store: &Store,
+        past: &Past<'_>,
         admission: &Admission,
         held: &[Held],
         places: &[usize],
     ) -> Result<(), OutOfMemory>
-        requires { IsFiled store.now admission.now.admission places.now held.now self.old }
-        ensures { OnOk result (IsWaiting store.now admission.now.admission held.now self.new) }
+        requires { IsFiled past.now admission.now.admission places.now held.now self.old }
+        ensures { OnOk result (IsWaiting past.now admission.now.admission held.now self.new) }
     {
         let mut rest = places;
         while let [place, after @ ..] = rest {
-            self.file_at(store, admission, held, *place)?;
+            self.file_at(past, admission, held, *place)?;
             rest = after;
         }
         Ok(())
@@ -194,6 +212,19 @@ impl Waiting {
         add_places(&mut all, places_of(alloc, &self.settled)?.as_slice())?;
         add_places(&mut all, places_of(alloc, &self.next)?.as_slice())?;
         places_of(alloc, &all)
+    }
+
+    /// Takes out the places of all certificates that wait for nothing, in order.
+    pub(crate) fn take_open(&mut self, alloc: Global) -> Result<Vec<usize>, OutOfMemory>
+        ensures places { IfOk result (λ places. places.items ≡ placed_after (placed_after [] self.old.settled.keys) self.old.next.keys) }
+        ensures ordered { IfOk result (λ places. IsStrictlySortedBy nat_cmp places.items) }
+        ensures unadmitted { OnOk result (self.new.unadmitted.entries ≡ self.old.unadmitted.entries) }
+        ensures behind { OnOk result (self.new.behind.entries ≡ self.old.behind.entries) }
+    {
+        let places = self.open_places(alloc)?;
+        self.next = BTreeSet::new(self.alloc);
+        self.settled = BTreeSet::new(self.alloc);
+        Ok(places)
     }
 
     /// A round looked at these places, and is executed: those that it left stay.

@@ -13,7 +13,7 @@ use version_store::Store;
 use wire_bcs::{Duplicate, OutOfMemory, Seq};
 
 /// A copy of effects.
-fn copy_of(effects: &Effects) -> Result<Effects, OutOfMemory>
+pub(crate) fn copy_of(effects: &Effects) -> Result<Effects, OutOfMemory>
     ensures { IfOk result (λ copy. copy ≡ effects.now) }
 {
     let written = effects.written.copy()?;

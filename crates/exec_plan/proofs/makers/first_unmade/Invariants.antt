@@ -5,7 +5,7 @@ use Rattle.exec_plan.proofs.makers.first_unmade.Given as goal
 
 -- of what was passed, all is made
 abbrev pub invariant-loop-rest : goal.invariant-loop-rest
-invariant-loop-rest l = first_of (unmade l.store.executed) l.rest ≡ first_of (unmade l.store.executed) l.wants
+invariant-loop-rest l = first_of (unmade l.past.executed) l.rest ≡ first_of (unmade l.past.executed) l.wants
 
 abbrev pub decreases-loop-rest : goal.decreases-loop-rest
 decreases-loop-rest l = length l.rest

@@ -4,7 +4,7 @@ use Rattle.exec_plan.proofs.waiting.Waiting.file_each.Given as goal
 
 -- the places that are left are still to be filed
 abbrev pub invariant-loop-rest : goal.invariant-loop-rest
-invariant-loop-rest l = IsFiled l.store l.admission.admission l.rest l.held l.self
+invariant-loop-rest l = IsFiled l.past l.admission.admission l.rest l.held l.self
 
 abbrev pub decreases-loop-rest : goal.decreases-loop-rest
 decreases-loop-rest l = length l.rest

@@ -1,0 +1,294 @@
+//! The tasks and edges of a plan.
+
+ghost use Rattle.std.specs.Prelude.{◌≡◌, ◌++◌, ◌∷◌, ◌^◌, ◌<◌, [], IfOk, OnOk, filter_map, length, map, option_copied, slice_get};
+ghost use Rattle.std.specs.Option.{option_to_list};
+ghost use Rattle.protocol_spec.specs.Chain.Words.{Each};
+ghost use Rattle.protocol_spec.specs.Member.Rounds.{wants_of};
+ghost use Rattle.version_store.specs.Stores.{held_in};
+ghost use Rattle.exec_plan.specs.Books.{IsSound};
+ghost use Rattle.exec_plan.specs.Drafts.{IsDraft, all_given, drafted_after, drafted_at, drafted_with, given, link_in, nothing_drafted, number_in, picked, want_in};
+ghost use Rattle.exec_plan.specs.Tasks.{edge_of, link_as, origin_of, slot_as};
+
+use crate::inputs::{Want as Need, found, wants};
+use crate::link::Link;
+use crate::task::{Slot, Task, Want};
+use answer_types::Held;
+use chain_types::{Object, ObjectKey, Producer};
+use dag_core::{Edge, Plan, PlanRefusal};
+use digest_core::Digest;
+use indexmap::IndexSet;
+use std::alloc::Global;
+use std::marker::Model;
+use version_assign::Admission;
+use version_store::Store;
+use wire_bcs::{OutOfMemory, Seq};
+
+/// A plan has fewer tasks and edges than this; more count as want of memory.
+pub(crate) const LIMIT: usize = 2_147_483_648;
+
+/// The number of the task that makes a version, where these are the planned transactions.
+fn number_in(numbers: &IndexSet<Digest>, maker: &Option<Producer>) -> Option<u32>
+    requires { length numbers.now.keys < 2 ^ 31 }
+    ensures { result ≡ number_in numbers.now.keys maker.now }
+{
+    match maker {
+        Some(Producer::Tx(tx)) => match numbers.get_index_of(tx) {
+            Some(number) => Some(number as u32),
+            None => None,
+        },
+        Some(Producer::Opening) => None,
+        None => None,
+    }
+}
+
+/// Where a version comes from that is held, or that the task with this number makes.
+fn slot_of(found: Option<&Object>, maker: Option<u32>) -> Slot
+    ensures { result ≡ slot_as (option_copied found.entry) maker }
+{
+    match found {
+        Some(object) => Slot::Here(*object),
+        None => match maker {
+            Some(_) => Slot::Edge,
+            None => Slot::Lacks,
+        },
+    }
+}
+
+/// What the edge to a task carries, where there is one.
+fn link_of(to: u32, key: ObjectKey, found: Option<&Object>, maker: Option<u32>) -> Option<Link>
+    ensures { result ≡ link_as to key (option_copied found.entry) maker }
+{
+    match found {
+        Some(_) => None,
+        None => match maker {
+            Some(from) => Some(Link { from, to, key }),
+            None => None,
+        },
+    }
+}
+
+/// Who makes a version: the opening, where nobody is named.
+fn origin_of(maker: Option<Producer>) -> Producer
+    ensures { result ≡ origin_of maker }
+{
+    match maker {
+        Some(producer) => producer,
+        None => Producer::Opening,
+    }
+}
+
+/// Adds a link, where there is one.
+fn add_link(links: &mut Seq<Link>, link: Option<Link>) -> Result<(), OutOfMemory>
+    ensures { OnOk result (links.new ≡ links.old ++ option_to_list link) }
+{
+    match link {
+        Some(link) => links.push(link),
+        None => Ok(()),
+    }
+}
+
+/// What a task wants, and the links to it.
+#[derive(Drop)]
+struct Wanted {
+    wants: Seq<Want>,
+    links: Seq<Link>,
+}
+
+/// Adds what is wanted of one version, and the link to the next task, where there is one.
+fn add_need(
+    store: &Store,
+    numbers: &IndexSet<Digest>,
+    need: &Need,
+    wants: &mut Seq<Want>,
+    links: &mut Seq<Link>,
+) -> Result<(), OutOfMemory>
+    requires { length numbers.now.keys < 2 ^ 31 }
+    ensures wants { OnOk result (wants.new ≡ wants.old ++ want_in (held_in store.now) numbers.now.keys need.now ∷ []) }
+    ensures links { OnOk result (links.new ≡ links.old ++ option_to_list (link_in (held_in store.now) numbers.now.keys need.now)) }
+{
+    let to = numbers.len() as u32;
+    let maker = need.maker();
+    let there = found(store, need);
+    let number = number_in(numbers, &maker);
+    wants.push(Want {
+        key: need.key(),
+        origin: origin_of(maker),
+        slot: slot_of(there, number),
+    })?;
+    add_link(links, link_of(to, need.key(), there, number))
+}
+
+/// What the next task behind these wants, and the links to it.
+fn wanting(
+    alloc: Global,
+    store: &Store,
+    numbers: &IndexSet<Digest>,
+    needs: &[Need],
+) -> Result<Wanted, OutOfMemory>
+    requires { length numbers.now.keys < 2 ^ 31 }
+    ensures wants { IfOk result (λ w. w.wants ≡ map (want_in (held_in store.now) numbers.now.keys) needs.now) }
+    ensures links { IfOk result (λ w. w.links ≡ filter_map (link_in (held_in store.now) numbers.now.keys) needs.now) }
+{
+    let mut wants = Seq::new(alloc);
+    let mut links = Seq::new(alloc);
+    let mut rest = needs;
+    while let [need, after @ ..] = rest {
+        add_need(store, numbers, need, &mut wants, &mut links)?;
+        rest = after;
+    }
+    Ok(Wanted { wants, links })
+}
+
+/// The task that a link comes from hands on its version.
+fn give(tasks: &mut Vec<Task>, link: &Link) -> Result<(), OutOfMemory>
+    ensures { OnOk result (tasks.new.items ≡ given tasks.old.items link.now) }
+{
+    match tasks.get_mut(link.from as usize) {
+        Some(task) => task.give(link.key),
+        None => Ok(()),
+    }
+}
+
+/// So do the tasks of all these links.
+fn give_all(tasks: &mut Vec<Task>, links: &[Link]) -> Result<(), OutOfMemory>
+    ensures { OnOk result (tasks.new.items ≡ all_given tasks.old.items links.now) }
+{
+    let mut rest = links;
+    while let [link, after @ ..] = rest {
+        give(tasks, link)?;
+        rest = after;
+    }
+    Ok(())
+}
+
+/// Adds the edges of these links.
+fn add_edges(edges: &mut Seq<Edge>, links: &[Link]) -> Result<(), OutOfMemory>
+    ensures { OnOk result (edges.new ≡ edges.old ++ map edge_of links.now) }
+{
+    let mut rest = links;
+    while let [link, after @ ..] = rest {
+        edges.push(Edge {
+            from: link.from,
+            to: link.to,
+        })?;
+        rest = after;
+    }
+    Ok(())
+}
+
+/// The tasks and edges so far. Contracts see them, and the planned transactions by their numbers.
+#[derive(Drop)]
+pub(crate) struct Draft {
+    numbers: IndexSet<Digest>,
+    tasks: Vec<Task>,
+    edges: Seq<Edge>,
+}
+
+impl Model for Draft {
+    ghost use Rattle.exec_plan.specs.Drafts.{Drafted};
+
+    ghost Value = { Drafted };
+
+    ghost view = { λ d. record { keys = d.numbers.keys; tasks = d.tasks.items; edges = d.edges } };
+}
+
+impl Draft {
+    /// Nothing so far. Takes no memory.
+    pub(crate) fn new(alloc: Global) -> Draft
+        ensures { result ≡ nothing_drafted }
+    {
+        Draft {
+            numbers: IndexSet::new(alloc),
+            tasks: Vec::new(alloc),
+            edges: Seq::new(alloc),
+        }
+    }
+
+    /// With the task of one more certificate, and the edges to it.
+    fn with(
+        self,
+        alloc: Global,
+        store: &Store,
+        admission: &Admission,
+        held: &Held,
+    ) -> Result<Draft, OutOfMemory>
+        requires { IsSound held.now }
+        ensures { IfOk result (λ draft. draft ≡ drafted_with (held_in store.now) (wants_of admission.now.admission held.now) self held.now) }
+    {
+        let mut numbers = self.numbers;
+        let mut tasks = self.tasks;
+        let mut edges = self.edges;
+        if numbers.len() >= LIMIT {
+            return Err(OutOfMemory);
+        }
+        let needs = wants(alloc, admission, held)?;
+        let wanting = wanting(alloc, store, &numbers, needs.as_slice())?;
+        give_all(&mut tasks, wanting.links.as_slice())?;
+        add_edges(&mut edges, wanting.links.as_slice())?;
+        tasks.push(Task::bare(alloc, held, wanting.wants)?)?;
+        numbers.insert(held.digest)?;
+        Ok(Draft {
+            numbers,
+            tasks,
+            edges,
+        })
+    }
+}
+
+impl Draft {
+    /// The plan. A plan of 2^31 tasks or edges counts as want of memory.
+    pub(crate) fn into_plan(self, alloc: Global) -> Result<Plan<Task>, OutOfMemory>
+        requires { IsDraft self }
+        ensures jobs { IfOk result (λ plan. plan.jobs ≡ self.tasks) }
+        ensures edges { IfOk result (λ plan. plan.edges ≡ self.edges) }
+    {
+        let tasks = Seq::from_vec(self.tasks);
+        if tasks.len() >= LIMIT as u64 || self.edges.len() >= LIMIT as u64 {
+            return Err(OutOfMemory);
+        }
+        match Plan::new(alloc, tasks, self.edges) {
+            Ok(plan) => Ok(plan),
+            Err(PlanRefusal::OutOfMemory) => Err(OutOfMemory),
+            Err(PlanRefusal::BadEdge(_)) => unreachable!(),
+        }
+    }
+}
+
+/// With the task of the certificate at a place, where there is one.
+#[tactic(auto, using(crate::proofs::Executing::each_at))]
+fn with_at(
+    draft: Draft,
+    alloc: Global,
+    store: &Store,
+    admission: &Admission,
+    held: &[Held],
+    place: usize,
+) -> Result<Draft, OutOfMemory>
+    requires { Each IsSound held.now }
+    ensures { IfOk result (λ more. more ≡ drafted_at (held_in store.now) admission.now.admission draft (slice_get held.now place)) }
+{
+    match held.get(place) {
+        Some(held) => draft.with(alloc, store, admission, held),
+        None => Ok(draft),
+    }
+}
+
+/// The tasks of the certificates at these places, and the edges between them.
+pub(crate) fn draft_all(
+    alloc: Global,
+    store: &Store,
+    admission: &Admission,
+    held: &[Held],
+    places: &[usize],
+) -> Result<Draft, OutOfMemory>
+    requires { Each IsSound held.now }
+    ensures { IfOk result (λ draft. draft ≡ drafted_after (held_in store.now) admission.now.admission nothing_drafted (picked held.now places.now)) }
+{
+    let mut draft = Draft::new(alloc);
+    let mut rest = places;
+    while let [place, after @ ..] = rest {
+        draft = with_at(draft, alloc, store, admission, held, *place)?;
+        rest = after;
+    }
+    Ok(draft)
+}

@@ -1,0 +1,129 @@
+//! Which outputs of a plan are kept.
+
+ghost use Rattle.std.specs.Prelude.{◌≡◌, ◌++◌, ◌&&◌, IfOk, OnOk, false, map};
+ghost use Rattle.std.specs.List.{list_all};
+ghost use Rattle.protocol_spec.specs.Block.Execution.{written_keys};
+ghost use Rattle.protocol_spec.specs.Member.Rounds.{writes_new};
+ghost use Rattle.protocol_spec.specs.Member.Versions.{is_executed};
+ghost use Rattle.version_store.specs.Stores.{held_in};
+ghost use Rattle.exec_plan.specs.Books.{effects_of};
+ghost use Rattle.exec_plan.specs.Keeping.{CanBeKept, IsNamed, with_effects, with_kept};
+ghost use Rattle.exec_plan.specs.Runs.{with_executions};
+ghost use Rattle.exec_plan.specs.Tasks.{is_origin_kept, keep_as, kept_of};
+ghost use Rattle.exec_plan.specs.declared.task.Outcome.TheVariants.{Done};
+
+use crate::task::{Outcome, Task, Want};
+use crate::writing::copy_of;
+use answer_types::Executed;
+use chain_types::Producer;
+use digest_core::Digest;
+use effects_core::Effects;
+use std::alloc::Global;
+use version_store::Store;
+use wire_bcs::{Duplicate, OutOfMemory, Seq};
+
+/// Whether the transaction that makes a wanted version is executed.
+fn is_origin_kept(store: &Store, want: &Want) -> bool
+    ensures { result ≡ is_origin_kept store.now.executed want.now }
+{
+    match want.origin {
+        Producer::Tx(tx) => store.is_executed(&tx),
+        Producer::Opening => true,
+    }
+}
+
+/// Whether all that makes what is wanted is executed.
+fn are_kept(store: &Store, wants: &[Want]) -> bool
+    ensures { result ≡ list_all (is_origin_kept store.now.executed) wants.now }
+{
+    let mut rest = wants;
+    while let [want, after @ ..] = rest {
+        if !is_origin_kept(store, want) {
+            return false;
+        }
+        rest = after;
+    }
+    true
+}
+
+/// Whether what a task gave is kept: all that makes what it wants is executed, and all that it writes is new.
+fn keeps(store: &Store, task: &Task, gave: &Executed) -> Result<bool, OutOfMemory>
+    ensures { IfOk result (λ keeps. keeps ≡ (list_all (is_origin_kept store.now.executed) task.now.wants && writes_new (held_in store.now) (written_keys gave.now))) }
+{
+    if !are_kept(store, task.wants()) {
+        return Ok(false);
+    }
+    store.are_new(&gave.objects)
+}
+
+/// Writes what a task gave, where it is kept, and adds a copy of its effects.
+fn keep_done(
+    alloc: Global,
+    store: &mut Store,
+    effects: &mut Seq<Effects>,
+    task: &Task,
+    gave: &Executed,
+) -> Result<(), OutOfMemory>
+    requires named { gave.now.effects.tx ≡ task.now.digest }
+    requires first { is_executed store.old.executed task.now.digest ≡ false }
+    ensures written { OnOk result (store.new ≡ with_kept store.old (keep_as store.old.opening store.old.executed task.now (Done gave.now))) }
+    ensures copied { OnOk result (effects.new ≡ with_effects effects.old (keep_as store.old.opening store.old.executed task.now (Done gave.now))) }
+    ensures opening { store.new.opening ≡ store.old.opening }
+{
+    if !keeps(store, task, gave)? {
+        return Ok(());
+    }
+    effects.push(copy_of(&gave.effects)?)?;
+    let consumed = task.consumed(alloc)?;
+    let written = copy_of(&gave.effects)?;
+    let objects = gave.objects.copy()?;
+    store.write(written, objects, &consumed)
+}
+
+/// The same of what came of a task.
+fn keep_one(
+    alloc: Global,
+    store: &mut Store,
+    effects: &mut Seq<Effects>,
+    task: &Task,
+    output: &(Digest, Outcome),
+) -> Result<(), OutOfMemory>
+    requires named { IsNamed task.now output.now.1 }
+    requires first { is_executed store.old.executed task.now.digest ≡ false }
+    ensures written { OnOk result (store.new ≡ with_kept store.old (keep_as store.old.opening store.old.executed task.now output.now.1)) }
+    ensures copied { OnOk result (effects.new ≡ with_effects effects.old (keep_as store.old.opening store.old.executed task.now output.now.1)) }
+    ensures opening { store.new.opening ≡ store.old.opening }
+{
+    match &output.1 {
+        Outcome::Done(gave) => keep_done(alloc, store, effects, task, gave),
+        Outcome::Absent { .. } => Ok(()),
+        Outcome::Unfit => Ok(()),
+        Outcome::Waits => Ok(()),
+    }
+}
+
+/// The same of all these tasks, from the first on.
+pub(crate) fn keep_all(
+    alloc: Global,
+    store: &mut Store,
+    effects: &mut Seq<Effects>,
+    tasks: &[Task],
+    outputs: &[(Digest, Outcome)],
+) -> Result<(), OutOfMemory>
+    requires { CanBeKept store.old.opening store.old.executed tasks.now outputs.now }
+    ensures written { OnOk result (store.new ≡ with_executions store.old (kept_of store.old.opening store.old.executed tasks.now outputs.now)) }
+    ensures copied { OnOk result (effects.new ≡ effects.old ++ map effects_of (kept_of store.old.opening store.old.executed tasks.now outputs.now)) }
+    ensures opening { store.new.opening ≡ store.old.opening }
+{
+    let mut rest = tasks;
+    let mut left = outputs;
+    while let [task, after @ ..] = rest {
+        let [output, others @ ..] = left else {
+            return Ok(());
+        };
+        keep_one(alloc, store, effects, task, output)?;
+        rest = after;
+        left = others;
+    }
+    Ok(())
+}

@@ -1,0 +1,293 @@
+//! The tasks of a plan: what each wants, what comes of it, and what it hands on.
+
+ghost use Rattle.std.specs.Prelude.{◌≡◌, ◌++◌, [], IfOk, OnOk, find, map};
+ghost use Rattle.std.specs.List.{list_any};
+ghost use Rattle.std.specs.Option.{option_to_list};
+ghost use Rattle.chain_types.specs.Digests.{consumed_keys};
+ghost use Rattle.exec_plan.specs.Books.{IsSound};
+ghost use Rattle.exec_plan.specs.Drafts.{bare_task, with_give};
+ghost use Rattle.exec_plan.specs.Gathering.{gathered_after, is_lacking};
+ghost use Rattle.exec_plan.specs.Tasks.{carry_as, carry_of, first_carry, is_at, is_not_run, object_of, other_carries, outcome_of, outcome_with};
+
+use crate::single::key_of;
+use answer_types::{Executed, Held};
+use chain_types::{Object, ObjectKey, Producer, Transaction, owned_keys};
+use dag_core::Job;
+use digest_core::Digest;
+use ptb_run::{execute, fits};
+use std::alloc::Global;
+use std::marker::Model;
+use wire_bcs::{Duplicate, OutOfMemory, Seq};
+
+/// What an edge carries of a wanted version: the object, or that the transaction that was to make it did not, or
+/// that this was not executed.
+#[derive(Clone, Copy, Debug)]
+pub enum Carry {
+    Object(Object),
+    Lacks,
+    NotRun,
+}
+
+/// What comes of a task, the first that applies.
+#[derive(Debug, Drop)]
+pub enum Outcome {
+    /// It was executed.
+    Done(Executed),
+    /// This version, the first that is lacking, is not there.
+    Absent { key: ObjectKey, origin: Producer },
+    /// What it wants is there and does not fit it.
+    Unfit,
+    /// A transaction that makes what it wants was not executed.
+    Waits,
+}
+
+/// Where a wanted version comes from: it is held, an earlier task makes it, or nobody does.
+#[derive(Clone, Copy, Debug)]
+pub enum Slot {
+    Here(Object),
+    Edge,
+    Lacks,
+}
+
+/// A version that a task wants, and who makes it.
+#[derive(Clone, Copy, Debug)]
+pub struct Want {
+    pub key: ObjectKey,
+    pub origin: Producer,
+    pub slot: Slot,
+}
+
+/// The execution of one certified transaction. Contracts see its digest, the transaction, what it wants, and the keys of
+/// what it hands on, one for each outgoing edge. No task holds a result.
+#[derive(Debug, Drop)]
+pub struct Task {
+    digest: Digest,
+    tx: Transaction,
+    wants: Seq<Want>,
+    gives: Seq<ObjectKey>,
+}
+
+impl Model for Task {
+    ghost use Rattle.exec_plan.specs.Tasks.{IsSoundTask, Planned};
+
+    ghost Value = { Planned };
+
+    ghost view = { λ t. record { digest = t.digest; tx = t.tx; wants = t.wants; gives = t.gives } };
+
+    ghost invariant = { λ t. IsSoundTask t.tx t.digest };
+}
+
+/// What there is of the wants of a task: all objects, or the first want of which there is nothing.
+#[derive(Debug, Drop)]
+enum Gathered {
+    All(Seq<Object>),
+    Lacking(Want),
+}
+
+/// Whether a transaction that makes a wanted version was not executed.
+fn is_not_run(carry: &Carry) -> bool
+    ensures { result ≡ is_not_run carry.now }
+{
+    matches!(carry, Carry::NotRun)
+}
+
+/// Whether that is so of one of these.
+fn any_not_run(inputs: &[Carry]) -> bool
+    ensures { result ≡ list_any is_not_run inputs.now }
+{
+    for input in inputs {
+        if is_not_run(input) {
+            return true;
+        }
+    }
+    false
+}
+
+/// What is there of a want, and what the edges behind it carry.
+fn carry_for<'a>(slot: &Slot, inputs: &'a [Carry]) -> (Carry, &'a [Carry])
+    ensures first { result.0 ≡ first_carry slot.now inputs.now }
+    ensures others { result.1.now ≡ other_carries slot.now inputs.now }
+{
+    match slot {
+        Slot::Here(object) => (Carry::Object(*object), inputs),
+        Slot::Lacks => (Carry::Lacks, inputs),
+        Slot::Edge => match inputs {
+            [first, others @ ..] => (*first, others),
+            [] => (Carry::NotRun, inputs),
+        },
+    }
+}
+
+/// Whether there is nothing of a want.
+fn is_lacking(carry: &Carry) -> bool
+    ensures { result ≡ is_lacking carry.now }
+{
+    matches!(carry, Carry::Lacks)
+}
+
+/// Adds the object, where there is one.
+fn add_object(objects: &mut Seq<Object>, carry: &Carry) -> Result<(), OutOfMemory>
+    ensures { OnOk result (objects.new ≡ objects.old ++ option_to_list (object_of carry.now)) }
+{
+    match carry {
+        Carry::Object(object) => objects.push(*object),
+        Carry::Lacks => Ok(()),
+        Carry::NotRun => Ok(()),
+    }
+}
+
+/// The objects of a task's wants, where its edges carry these.
+fn gather(alloc: Global, wants: &[Want], inputs: &[Carry]) -> Result<Gathered, OutOfMemory>
+    ensures { IfOk result (λ gathered. gathered ≡ gathered_after [] wants.now inputs.now) }
+{
+    let mut objects = Seq::new(alloc);
+    let mut left = inputs;
+    let mut rest = wants;
+    while let [want, after @ ..] = rest {
+        let (carry, others) = carry_for(&want.slot, left);
+        if is_lacking(&carry) {
+            return Ok(Gathered::Lacking(*want));
+        }
+        add_object(&mut objects, &carry)?;
+        left = others;
+        rest = after;
+    }
+    Ok(Gathered::All(objects))
+}
+
+/// What is handed on under a key.
+fn carry_of(outcome: &Outcome, key: &ObjectKey) -> Carry
+    ensures { result ≡ carry_of outcome.now key.now }
+{
+    match outcome {
+        Outcome::Done(gave) => written_at(gave.objects.as_slice(), key),
+        Outcome::Absent { .. } => Carry::NotRun,
+        Outcome::Unfit => Carry::NotRun,
+        Outcome::Waits => Carry::NotRun,
+    }
+}
+
+impl Task {
+    /// The task of a held certificate that wants this, and hands on nothing yet.
+    pub(crate) fn bare(alloc: Global, held: &Held, wants: Seq<Want>) -> Result<Task, OutOfMemory>
+        requires { IsSound held.now }
+        ensures { IfOk result (λ task. task ≡ bare_task held.now wants) }
+    {
+        let tx = held.cert.tx.copy()?;
+        Ok(Task {
+            digest: held.digest,
+            tx,
+            wants,
+            gives: Seq::new(alloc),
+        })
+    }
+
+    /// It hands on one more version.
+    pub(crate) fn give(&mut self, key: ObjectKey) -> Result<(), OutOfMemory>
+        ensures { OnOk result (self.new ≡ with_give self.old key) }
+    {
+        self.gives.push(key)
+    }
+
+    /// What it wants.
+    pub(crate) fn wants(&self) -> &[Want]
+        ensures { result.now ≡ self.now.wants }
+    {
+        self.wants.as_slice()
+    }
+
+    /// The versions that its transaction consumes.
+    pub(crate) fn consumed(&self, alloc: Global) -> Result<Seq<ObjectKey>, OutOfMemory>
+        ensures { IfOk result (λ keys. keys ≡ consumed_keys self.now.tx) }
+    {
+        owned_keys(alloc, &self.tx)
+    }
+
+    /// What comes of it on these objects.
+    fn outcome_with(&self, alloc: Global, objects: &Seq<Object>) -> Result<Outcome, OutOfMemory>
+        ensures { IfOk result (λ outcome. outcome ≡ outcome_with self.now.tx objects.now) }
+    {
+        if !fits(&self.tx, objects) {
+            return Ok(Outcome::Unfit);
+        }
+        let gave = execute(alloc, &self.tx, &self.digest, objects)?;
+        Ok(Outcome::Done(gave))
+    }
+
+    /// What comes of it where its edges carry these.
+    #[tactic(auto, using(crate::proofs::Gathering::gathered_is))]
+    fn outcome(&self, alloc: Global, inputs: &[Carry]) -> Result<Outcome, OutOfMemory>
+        ensures { IfOk result (λ outcome. outcome ≡ outcome_of self.now inputs.now) }
+    {
+        if any_not_run(inputs) {
+            return Ok(Outcome::Waits);
+        }
+        match gather(alloc, self.wants.as_slice(), inputs)? {
+            Gathered::All(objects) => self.outcome_with(alloc, &objects),
+            Gathered::Lacking(want) => Ok(Outcome::Absent {
+                key: want.key,
+                origin: want.origin,
+            }),
+        }
+    }
+}
+
+/// The object with this key, where one was written.
+fn written_at(objects: &[Object], key: &ObjectKey) -> Carry
+    ensures { result ≡ carry_as (find (is_at key.now) objects.now) }
+{
+    let mut rest = objects;
+    while let [object, after @ ..] = rest {
+        if key_of(object) == *key {
+            return Carry::Object(*object);
+        }
+        rest = after;
+    }
+    Carry::Lacks
+}
+
+/// What is handed on under these keys.
+fn carries_of(
+    alloc: Global,
+    outcome: &Outcome,
+    keys: &[ObjectKey],
+) -> Result<Seq<Carry>, OutOfMemory>
+    ensures { IfOk result (λ carries. carries ≡ map (carry_of outcome.now) keys.now) }
+{
+    let mut carries = Seq::new(alloc);
+    let mut rest = keys;
+    while let [key, after @ ..] = rest {
+        carries.push(carry_of(outcome, key))?;
+        rest = after;
+    }
+    Ok(carries)
+}
+
+impl Job for Task {
+    type Value = Carry;
+
+    type Output = (Digest, Outcome);
+
+    ghost use Rattle.std.proofs.lemmas.List.{length-map};
+    ghost use Rattle.exec_plan.specs.Tasks.{carry_of, count_given, outcome_of, output_of, takes_of, values_of};
+
+    ghost takes = { takes_of };
+
+    ghost gives = { count_given };
+
+    ghost output = { output_of };
+
+    ghost values = { values_of };
+
+    ghost sized = { λ task inputs _. length-map task.gives (carry_of (outcome_of task inputs)) };
+
+    fn run(
+        &self,
+        alloc: Global,
+        inputs: &Seq<Carry>,
+    ) -> Result<((Digest, Outcome), Seq<Carry>), OutOfMemory> {
+        let outcome = self.outcome(alloc, inputs.as_slice())?;
+        let carries = carries_of(alloc, &outcome, self.gives.as_slice())?;
+        Ok(((self.digest, outcome), carries))
+    }
+}
