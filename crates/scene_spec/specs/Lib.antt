@@ -1,5 +1,4 @@
 pub mod Terms
-pub mod Taken
 pub mod Starts
 pub mod Seats
 pub mod Known

@@ -11,7 +11,7 @@ use Rattle.journal_core.specs.Records as journals
 use Rattle.answer_types.specs.declared.refusals.StartRefusal.{StartRefusal}
 use Rattle.answer_types.specs.declared.refusals.StartRefusal.TheVariants as no_start
 use Rattle.protocol_spec.specs.Member.Member.{Member, after, fresh}
-use Rattle.scene_spec.specs.Taken.{is_taken}
+use Rattle.protocol_spec.specs.Member.Replay.{is_allowed}
 
 -- no two objects have one id
 abbrev pub AreApart : List Object → Type 0
@@ -24,7 +24,7 @@ read_record bytes = read_as (whole journals.journal_record bytes)
 -- would have appended (2)
 abbrev pub taken_at : Rules → Member → ℕ → Result Record WireFault → Result Member StartRefusal
 taken_at r m place (Err fault) = Err (no_start.BadRecord place 1)
-taken_at r m place (Ok x) = if is_taken r m x then Ok (after r m x) else Err (no_start.BadRecord place 2)
+taken_at r m place (Ok x) = if is_allowed r m x then Ok (after r m x) else Err (no_start.BadRecord place 2)
 
 -- the state behind these records, of which the first stands at this place
 abbrev pub started_from : Rules → Member → ℕ → List (List ℕ) → Result Member StartRefusal

@@ -59,7 +59,7 @@ pub record Shows (trust : Trust) (s : Setting) (w : World) (sc : Scene) : Type 0
 
 -- ---- the forms that run
 
--- all but those by which an epoch ends, and acknowledgements
+-- all of them
 abbrev pub is_plain : Event → Bool
 is_plain (event.Tx name sender spoiled epoch gas budget inputs commands) = true
 is_plain (event.Vote m tx) = true
@@ -67,20 +67,20 @@ is_plain (event.Fvote m tx origins) = true
 is_plain (event.Cert tx members) = true
 is_plain (event.Send m tx) = true
 is_plain (event.Order tx) = true
-is_plain (event.OrderEnd m) = false
+is_plain (event.OrderEnd m) = true
 is_plain event.OrderCommit = true
 is_plain (event.See m entries) = true
 is_plain (event.Run m workers) = true
 is_plain (event.Close m) = true
-is_plain (event.End m) = false
-is_plain (event.Turn m) = false
+is_plain (event.End m) = true
+is_plain (event.Turn m) = true
 is_plain (event.Show m) = true
 is_plain (event.Stop m kept) = true
 is_plain (event.Restart m) = true
 is_plain (event.RawVote m bytes) = true
 is_plain (event.RawHold m bytes) = true
-is_plain (event.Ack m tx spoiled) = false
-is_plain (event.Final tx members) = false
+is_plain (event.Ack m tx spoiled) = true
+is_plain (event.Final tx members) = true
 
 abbrev pub is_restart : Event → Bool
 is_restart (event.Tx name sender spoiled epoch gas budget inputs commands) = false

@@ -12,7 +12,6 @@ ghost use Rattle.journal_core.specs.Records as journals;
 ghost use Rattle.protocol_spec.specs.Member.Calls.{ran_items, record_limit, run_answer};
 ghost use Rattle.protocol_spec.specs.Member.Member.{after, with_rounds};
 ghost use Rattle.protocol_spec.specs.Member.Replay.{is_allowed, ran_item_eq};
-ghost use Rattle.scene_spec.specs.Taken.{is_taken};
 ghost use Rattle.validator_core.specs.Answers.{OnTaken, bare, sealed_as};
 ghost use Rattle.scene_spec.specs.Terms.{rules_for};
 ghost use Rattle.validator_core.specs.Limits.{terms_at};
@@ -223,10 +222,9 @@ impl State {
         Ok(true)
     }
 
-    /// Takes a record that was read back, where a call that is answered so far would append it in this state: that
-    /// of a vote, a certificate, an entry, a run or a close; else false. Where false is answered or memory is refused the
+    /// Takes a record that was read back, where a call would append it in this state; else false. Where false is answered or memory is refused the
     /// state is not to be used.
-    #[tactic(auto, unfolding(scene_spec::specs::Taken::is_taken, protocol_spec::specs::Member::Replay::is_allowed, protocol_spec::specs::Member::Calls::run_answer, protocol_spec::specs::Member::Calls::close_answer, protocol_spec::specs::Member::Member::after, journal_core::specs::Records::journal_record))]
+    #[tactic(auto, unfolding(protocol_spec::specs::Member::Replay::is_allowed, protocol_spec::specs::Member::Calls::run_answer, protocol_spec::specs::Member::Calls::close_answer, protocol_spec::specs::Member::Calls::turn_answer, protocol_spec::specs::Member::Member::after, journal_core::specs::Records::journal_record))]
     pub fn take<S: Sealer>(
         &mut self,
         committee: &Committee,
@@ -234,7 +232,7 @@ impl State {
         kept: Record,
     ) -> Result<bool, OutOfMemory>
         requires { journals.journal_record.short kept }
-        ensures taken { IfOk result (λ taken. taken ≡ is_taken (rules_for (terms_at self.old committee.now) (S.accepts sealer.now)) self.old.member kept) }
+        ensures taken { IfOk result (λ taken. taken ≡ is_allowed (rules_for (terms_at self.old committee.now) (S.accepts sealer.now)) self.old.member kept) }
         ensures state { OnTaken result (self.new.member ≡ after (rules_for (terms_at self.old committee.now) (S.accepts sealer.now)) self.old.member kept) }
         ensures limit { self.new.writers ≡ self.old.writers }
     {
@@ -245,7 +243,7 @@ impl State {
             Record::Ran(txs) => self.take_txs_back(txs.as_slice()),
             Record::Ran2(items) => self.take_items_back(items.as_slice()),
             Record::Close => Ok(self.take_close_back()),
-            Record::Turn => Ok(false),
+            Record::Turn => self.take_turn_back(),
         }
     }
 }

@@ -57,9 +57,8 @@ impl Model for Validator {
 impl Validator {
     /// Starts the member of this number from the records that it kept, none for a new one, in an epoch 0 that opens
     /// with these objects, none of them twice; its sequences have this limit of writers, or none. `BadRecord` comes
-    /// exactly at the first record that does not decode (1), or that no call would have appended (2). Records of
-    /// votes, certificates, entries, runs and closes are taken, a run's in both forms, with effects and without;
-    /// those of turns are not taken yet.
+    /// exactly at the first record that does not decode (1), or that no call would have appended (2). The record of a
+    /// run is taken in both forms, with effects and without.
     #[tactic(auto, unfolding(scene_spec::specs::Starts::started))]
     pub fn start<S: Sealer>(
         alloc: Global,

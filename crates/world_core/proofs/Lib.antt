@@ -20,8 +20,10 @@ pub mod SeeTexts
 pub mod SeeLines
 pub mod Nexts
 pub mod Ordered
-mod First
 pub mod Silent
+pub mod Turning
+pub mod Leaving
 pub mod Saying
 pub mod Acking
 pub mod OrderedEnds
+mod First

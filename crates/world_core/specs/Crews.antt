@@ -34,6 +34,11 @@ abbrev pub honest_at : Option Post → Option Seat
 honest_at None = None
 honest_at (Some p) = if p.honest then p.standing else None
 
+-- the epoch of a member that stands
+abbrev pub epoch_of : Option Seat → ℕ
+epoch_of None = 0
+epoch_of (Some seat) = seat.state.epoch
+
 -- what is shown of a member that stands: its epoch, and its live objects
 abbrev pub shown_of : Seat → ℕ × List Object
 shown_of seat = (seat.state.epoch, live_objects seat.state)

@@ -15,14 +15,16 @@ use Rattle.answer_types.specs.declared.refusals.RunRefusal.{RunRefusal}
 use Rattle.answer_types.specs.declared.refusals.RunRefusal.TheVariants as no_run
 use Rattle.answer_types.specs.declared.refusals.SeeRefusal.{SeeRefusal}
 use Rattle.answer_types.specs.declared.refusals.SeeRefusal.TheVariants as no_see
+use Rattle.answer_types.specs.declared.refusals.TurnRefusal.{TurnRefusal}
+use Rattle.answer_types.specs.declared.refusals.TurnRefusal.TheVariants as no_turn
 use Rattle.answer_types.specs.declared.refusals.VoteRefusal.{VoteRefusal}
 use Rattle.answer_types.specs.declared.refusals.VoteRefusal.TheVariants as no_vote
 use Rattle.answer_types.specs.declared.refusals.HoldRefusal.{HoldRefusal}
 use Rattle.answer_types.specs.declared.refusals.HoldRefusal.TheVariants as no_hold
 use Rattle.protocol_spec.specs.Member.Member.{Member}
-use Rattle.protocol_spec.specs.Member.Calls.{close_answer, hold_answer, run_answer, see_answer, vote_answer}
+use Rattle.protocol_spec.specs.Member.Calls.{close_answer, hold_answer, run_answer, see_answer, turn_answer, vote_answer}
 use Rattle.world_spec.specs.World.{Reached, finds_down, stops, answers}
-use Rattle.validator_core.specs.Calls.{Closes, Holds, Runs, Sees, Votes, close_ended, hold_ended, run_ended, see_ended, vote_ended}
+use Rattle.validator_core.specs.Calls.{Closes, Holds, Runs, Sees, Turns, Votes, close_ended, hold_ended, run_ended, see_ended, turn_ended, vote_ended}
 use Rattle.validator_core.specs.Seats.{answered}
 use Rattle.scene_spec.specs.Posts.{AddsLeft, MayAddLeft}
 use Rattle.world_core.specs.declared.reply.SeatFault.{SeatFault}
@@ -79,6 +81,10 @@ pub record SaysClose (r : Rules) (before : Member) (given : Result Bool CloseRef
   pub answer : Closes (close_answer r before) given
   pub ended : close_ended given ≡ answered
 
+pub record SaysTurn (r : Rules) (before : Member) (given : Result (List Digest) TurnRefusal) : Type 0 where
+  pub answer : Turns (turn_answer r before) given
+  pub ended : turn_ended given ≡ answered
+
 -- ---- the record
 
 -- Ok: the record that the call leaves was added, where there is one; else it was added or nothing was
@@ -122,6 +128,11 @@ abbrev pub close_fault : Result Bool CloseRefusal → Option SeatFault
 close_fault (Err no_close.KeepFault) = Some faults.KeepFault
 close_fault (Err no_close.OutOfMemory) = Some faults.OutOfMemory
 close_fault answer = None
+
+abbrev pub turn_fault : Result (List Digest) TurnRefusal → Option SeatFault
+turn_fault (Err no_turn.KeepFault) = Some faults.KeepFault
+turn_fault (Err no_turn.OutOfMemory) = Some faults.OutOfMemory
+turn_fault answer = None
 
 -- ---- on paper
 

@@ -517,6 +517,7 @@ impl World {
             Event::Send { member, tx } => self.send(keeper, sealer, *member, tx),
             Event::Run { member, workers } => self.run(keeper, sealer, *member, *workers),
             Event::Close(member) => self.close(keeper, sealer, *member),
+            Event::Turn(member) => self.turn(keeper, sealer, *member),
             Event::RawVote { member, bytes } => self.raw_vote(keeper, sealer, *member, bytes),
             Event::RawHold { member, bytes } => self.raw_hold(keeper, sealer, *member, bytes),
             Event::Tx { .. }
@@ -527,7 +528,6 @@ impl World {
             | Event::OrderCommit
             | Event::See { .. }
             | Event::End(_)
-            | Event::Turn(_)
             | Event::Show(_)
             | Event::Stop { .. }
             | Event::Restart(_)

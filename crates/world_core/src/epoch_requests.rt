@@ -1,19 +1,21 @@
-//! Requests to a member that is up: entries of its sequence, and the close of its epoch.
+//! Requests to a member that is up: entries of its sequence, and the close and the turn of its epoch.
 
 ghost use Rattle.std.specs.Prelude.{◌≡◌, ◌<◌, ◌≤◌, IfOk, IsErrOf, OnOk, true};
 ghost use Rattle.outside.specs.Causes.{Rose};
-ghost use Rattle.protocol_spec.specs.Member.Calls.{closes, due, sees};
+ghost use Rattle.protocol_spec.specs.Member.Calls.{closes, due, sees, turns};
 ghost use Rattle.scene_spec.specs.Seats.{bare_rules, rules_of_seat};
 ghost use Rattle.scene_spec.specs.Posts.{seat_behind};
 ghost use Rattle.world_core.specs.declared.reply.SeatFault.TheVariants as faults;
-ghost use Rattle.world_core.specs.Replies.{Leaves, SaysClose, SaysSee, close_fault, see_fault};
+ghost use Rattle.world_core.specs.Replies.{Leaves, SaysClose, SaysSee, SaysTurn, close_fault, see_fault, turn_fault};
 
 use crate::reply::SeatFault;
 use crate::requests::Asks;
-use answer_types::{CloseRefusal, SeeRefusal, Seen};
+use answer_types::{CloseRefusal, SeeRefusal, Seen, TurnRefusal};
+use digest_core::Digest;
 use outside::Keeper;
 use quorum_core::Sealer;
 use validator_core::Validator;
+use wire_bcs::Seq;
 
 /// The entry of this number of the member's sequence, spelled.
 #[derive(Clone, Copy)]
@@ -132,6 +134,67 @@ fn ask_close<D: Keeper>(
 {
     let answer = validator.close(keeper);
     match close_fault(&answer) {
+        Some(fault) => Err(fault),
+        None => Ok(answer),
+    }
+}
+
+/// A request to turn to the next epoch.
+#[derive(Clone, Copy)]
+pub(crate) struct TurnRequest;
+
+#[tactic(auto, using(validator_core::proofs::Turned::turn_answer_alike, validator_core::proofs::Turned::turn_due_alike, validator_core::proofs::Turned::turn_called_alike))]
+impl Asks for TurnRequest {
+    type Answer = Result<Seq<Digest>, TurnRefusal>;
+
+    ghost call = { λ _. turns };
+
+    ghost says = { λ _ r _ _ before given. SaysTurn r before given };
+
+    fn ask<D: Keeper, S: Sealer>(
+        &self,
+        validator: &mut Validator,
+        keeper: &mut D,
+        _sealer: &S,
+    ) -> Result<Result<Seq<Digest>, TurnRefusal>, SeatFault> {
+        ask_turn(validator, keeper)
+    }
+}
+
+/// The fault behind an answer; none where it is one.
+fn turn_fault(answer: &Result<Seq<Digest>, TurnRefusal>) -> Option<SeatFault>
+    ensures { result ≡ turn_fault answer.now }
+{
+    match answer {
+        Err(TurnRefusal::KeepFault) => Some(SeatFault::KeepFault),
+        Err(TurnRefusal::OutOfMemory) => Some(SeatFault::OutOfMemory),
+        Ok(_) => None,
+        Err(
+            TurnRefusal::Down
+            | TurnRefusal::Halted { .. }
+            | TurnRefusal::Full
+            | TurnRefusal::NotEnded
+            | TurnRefusal::Waits { .. },
+        ) => None,
+    }
+}
+
+/// Turns a member that is up to the next epoch.
+fn ask_turn<D: Keeper>(
+    validator: &mut Validator,
+    keeper: &mut D,
+) -> Result<Result<Seq<Digest>, TurnRefusal>, SeatFault>
+    requires known { validator.old.member < D.width keeper.old }
+    requires up { validator.old.up ≡ true }
+    ensures answer { IfOk result (SaysTurn (bare_rules validator.old) validator.old.state) }
+    ensures state { OnOk result (validator.new ≡ seat_behind (bare_rules validator.old) turns validator.old) }
+    ensures kept { Leaves (D.lists keeper.old) (D.lists keeper.new) validator.old.member (due (bare_rules validator.old) validator.old.state turns) result }
+    ensures width { D.width keeper.new ≡ D.width keeper.old }
+    ensures later { D.failed keeper.old ≤ D.failed keeper.new }
+    ensures fault { IsErrOf result faults.KeepFault → Rose (D.failed keeper.old) (D.failed keeper.new) }
+{
+    let answer = validator.turn(keeper);
+    match turn_fault(&answer) {
         Some(fault) => Err(fault),
         None => Ok(answer),
     }

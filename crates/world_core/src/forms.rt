@@ -6,8 +6,7 @@ ghost use Rattle.world_core.specs.Forms.{is_plain_form};
 
 use schedule_text::{Event, Forms, Statement};
 
-/// The forms that run: all set-up lines, and the lines `tx`, `vote`, `fvote`, `cert`, `send`, `order T`, `order
-/// commit`, `see`, `run`, `close`, `show`, `stop`, `restart` and `raw`.
+/// The forms that run: all of them.
 pub struct PlainForms;
 
 /// Whether the event has a form that runs. Takes no memory.
@@ -29,12 +28,12 @@ pub fn is_plain(event: &Event) -> bool
         | Event::Stop { .. }
         | Event::Restart(_)
         | Event::RawVote { .. }
-        | Event::RawHold { .. } => true,
-        Event::OrderEnd(_)
+        | Event::RawHold { .. }
+        | Event::OrderEnd(_)
         | Event::End(_)
         | Event::Turn(_)
         | Event::Ack { .. }
-        | Event::Final { .. } => false,
+        | Event::Final { .. } => true,
     }
 }
 

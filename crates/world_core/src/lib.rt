@@ -35,6 +35,7 @@ mod step;
 mod stops;
 mod sums;
 mod terms;
+mod turns;
 mod votes;
 mod world;
 

@@ -1,4 +1,4 @@
-//! Lines that hand no call to a member and restart none.
+//! Lines that touch no record.
 
 ghost use Rattle.std.specs.Prelude.{◌≡◌, ◌∷◌, [], IfOk, OnOk, slice_get, true};
 ghost use Rattle.report_text.specs.declared.lines.Line.TheVariants as line;
@@ -66,7 +66,7 @@ impl World {
         }
     }
 
-    /// Runs a line that hands no call to a member and restarts none.
+    /// Runs a line that touches no record.
     #[tactic(auto, unfolding(scene_spec::specs::Steps::steps_to, scene_spec::specs::Steps::lines_in), using(crate::proofs::Texts::show_is))]
     pub(crate) fn run_quiet<S: MakesSeals>(
         &mut self,
@@ -111,6 +111,15 @@ impl World {
             Event::Order(tx) => self.order_cert(tx.as_slice()),
             Event::OrderEnd(member) => self.order_end(sealer, *member),
             Event::OrderCommit => self.order_commit(),
+            Event::End(member) => self.say_end(sealer, *member),
+            Event::Ack {
+                member,
+                tx,
+                spoiled,
+            } => self.say_ack(sealer, *member, tx.as_slice(), *spoiled),
+            Event::Final { tx, members } => {
+                self.collect_final(sealer, tx.as_slice(), members.as_slice())
+            }
             Event::Show(member) => self.show(*member),
             Event::Stop { member, kept } => self.stop(*member, *kept),
             Event::Vote { .. }
@@ -118,13 +127,10 @@ impl World {
             | Event::See { .. }
             | Event::Run { .. }
             | Event::Close(_)
-            | Event::End(_)
             | Event::Turn(_)
             | Event::Restart(_)
             | Event::RawVote { .. }
-            | Event::RawHold { .. }
-            | Event::Ack { .. }
-            | Event::Final { .. } => unreachable!(),
+            | Event::RawHold { .. } => unreachable!(),
         }
     }
 }

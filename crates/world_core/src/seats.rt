@@ -4,26 +4,26 @@ ghost use Rattle.std.specs.Prelude.{◌≡◌, ◌≤◌, ℕ, [], IfOk, IsErrOf
 ghost use Rattle.outside.specs.Causes.{Rose};
 ghost use Rattle.outside.specs.Lists.{KeepsJournals};
 ghost use Rattle.scene_spec.specs.Terms.{rules_for};
-ghost use Rattle.protocol_spec.specs.Member.Calls.{ack_answer, closes, end_answer, holds, runs, sees, votes};
+ghost use Rattle.protocol_spec.specs.Member.Calls.{ack_answer, closes, end_answer, holds, runs, sees, turns, votes};
 ghost use Rattle.scene_spec.specs.Starts.{AreApart};
 ghost use Rattle.scene_spec.specs.Posts.{armed_at, new_posts, posts_behind, reached_in, record_left};
 ghost use Rattle.scene_spec.specs.Steps.{held_in, says_in, seat_state, standing_at};
 ghost use Rattle.world_core.specs.declared.reply.SeatFault.TheVariants as faults;
 ghost use Rattle.world_core.specs.declared.reply.RestartFault.TheVariants as restart_faults;
-ghost use Rattle.world_core.specs.Crews.{IsPlaced, PostsAfter, fallen_at, honest_at, honest_flags, shown_of};
-ghost use Rattle.world_core.specs.Replies.{Leaves, Replies, SaysClose, SaysHold, SaysRun, SaysSee, SaysVote};
+ghost use Rattle.world_core.specs.Crews.{IsPlaced, PostsAfter, epoch_of, fallen_at, honest_at, honest_flags, shown_of};
+ghost use Rattle.world_core.specs.Replies.{Leaves, Replies, SaysClose, SaysHold, SaysRun, SaysSee, SaysTurn, SaysVote};
 ghost use Rattle.world_lines.specs.Answers.{stated_as};
 ghost use Rattle.world_spec.specs.Step.{executed_digest};
 ghost use Rattle.world_core.specs.SeatRestarts.{HasBadRecord, Restarted};
 
 use crate::asking::{ask_ack, ask_end};
-use crate::epoch_requests::{CloseRequest, SeeRequest};
+use crate::epoch_requests::{CloseRequest, SeeRequest, TurnRequest};
 use crate::reply::{Reply, RestartFault, SeatFault};
 use crate::requests::{Asks, HoldRequest, RunRequest, VoteRequest};
 use crate::seat::Seat;
 use crate::starts::{records_of, start_new};
 use crate::terms::Terms;
-use answer_types::{AckRefusal, EndRefusal, SeeRefusal, Seen};
+use answer_types::{AckRefusal, EndRefusal, SeeRefusal, Seen, TurnRefusal};
 use chain_messages::Sealed;
 use chain_types::{Object, ObjectKey};
 use digest_core::Digest;
@@ -293,6 +293,41 @@ impl Seats {
         ensures fault { IsErrOf result faults.KeepFault → Rose (D.failed keeper.old) (D.failed keeper.new) }
     {
         self.call(alloc, keeper, sealer, member, &CloseRequest)
+    }
+
+    /// Turns a member to the next epoch (epoch change of Sui Lutris). The seals play no part in it. Replies and refusals
+    /// are those of [`Seats::vote`].
+    #[tactic(auto, using(crate::proofs::Calling::on_ok, crate::proofs::Calling::on_err))]
+    pub fn turn<D: Keeper, S: Sealer>(
+        &mut self,
+        alloc: Global,
+        keeper: &mut D,
+        sealer: &S,
+        member: u32,
+    ) -> Result<Reply<Result<Seq<Digest>, TurnRefusal>>, SeatFault>
+        requires known { length self.old.posts ≤ D.width keeper.old }
+        ensures answer { IfOk result (Replies (SaysTurn (rules_for self.old.terms (S.accepts sealer.now))) (reached_in (rules_for self.old.terms (S.accepts sealer.now)) self.old.posts member turns)) }
+        ensures posts { OnOk result (self.new.posts ≡ posts_behind (rules_for self.old.terms (S.accepts sealer.now)) self.old.posts member turns) }
+        ensures fallen { OnErr result (self.new.posts ≡ fallen_at self.old.posts member) }
+        ensures terms { self.new.terms ≡ self.old.terms }
+        ensures count { length self.new.posts ≡ length self.old.posts }
+        ensures kept { Leaves (D.lists keeper.old) (D.lists keeper.new) member (record_left (reached_in (rules_for self.old.terms (S.accepts sealer.now)) self.old.posts member turns)) result }
+        ensures width { D.width keeper.new ≡ D.width keeper.old }
+        ensures later { D.failed keeper.old ≤ D.failed keeper.new }
+        ensures fault { IsErrOf result faults.KeepFault → Rose (D.failed keeper.old) (D.failed keeper.new) }
+    {
+        self.call(alloc, keeper, sealer, member, &TurnRequest)
+    }
+
+    /// The epoch of a member that is up; 0 where it is down or not there. Takes no memory.
+    #[tactic(auto, using(crate::proofs::Turning::epoch_none, crate::proofs::Turning::epoch_some))]
+    pub fn epoch(&self, member: u32) -> u64
+        ensures { result ≡ epoch_of (standing_at (slice_get self.now.posts member)) }
+    {
+        match self.standing(member) {
+            Some(validator) => validator.epoch(),
+            None => 0,
+        }
     }
 
     /// What a member says of its End (epoch change of Sui Lutris); none where it is down or not there. It keeps no

@@ -23,7 +23,7 @@ impl World {
     /// Runs one line, and answers the lines that the report has for it. Each record that it leaves is appended before
     /// the call that leaves it answers. `KeepFault`: the keeper failed, and its count of faults rose. `BadRecord`: the
     /// member of a `restart` line does not start from its records. Behind a fault nothing is said of the world.
-    #[tactic(auto, unfolding(scene_spec::specs::Steps::work_of), using(crate::proofs::Steps::fault_left, crate::proofs::Steps::quiet_left, crate::proofs::Stays::restart_stays))]
+    #[tactic(auto, unfolding(scene_spec::specs::Steps::work_of), using(crate::proofs::Steps::fault_left, crate::proofs::Leaving::quiet_leaves, crate::proofs::Stays::restart_stays))]
     pub fn step<D: Keeper, S: MakesSeals>(
         &mut self,
         keeper: &mut D,
@@ -55,6 +55,7 @@ impl World {
             | Event::Send { .. }
             | Event::Run { .. }
             | Event::Close(_)
+            | Event::Turn(_)
             | Event::RawVote { .. }
             | Event::RawHold { .. } => match self.run_call(keeper, sealer, event) {
                 Ok(lines) => Ok(lines),
@@ -66,16 +67,15 @@ impl World {
             | Event::Cert { .. }
             | Event::Order(_)
             | Event::OrderCommit
+            | Event::OrderEnd(_)
+            | Event::End(_)
+            | Event::Ack { .. }
+            | Event::Final { .. }
             | Event::Show(_)
             | Event::Stop { .. } => match self.run_quiet(sealer, event) {
                 Ok(lines) => Ok(lines),
                 Err(OutOfMemory) => Err(WorldFault::OutOfMemory),
             },
-            Event::OrderEnd(_)
-            | Event::End(_)
-            | Event::Turn(_)
-            | Event::Ack { .. }
-            | Event::Final { .. } => unreachable!(),
         }
     }
 }

@@ -42,7 +42,7 @@ fn spoil(digest: &Digest) -> Digest
 }
 
 /// The digest, spoiled where that is asked for. Takes no memory.
-pub(crate) fn spoiled_if(spoiled: bool, digest: &Digest) -> Digest
+pub fn spoiled_if(spoiled: bool, digest: &Digest) -> Digest
     ensures { result ≡ spoiled_if spoiled digest.now }
 {
     if spoiled { spoil(digest) } else { *digest }

@@ -24,7 +24,7 @@ mod short;
 mod shown;
 
 pub use directory::Directory;
-pub use inputs::HeldDigests;
+pub use inputs::{HeldDigests, spoiled_if};
 pub use line::TxLine;
 pub use making::{MakeRefusal, MakesSeals, make};
 pub use making_law::made_in_a_world;

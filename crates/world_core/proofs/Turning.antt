@@ -1,0 +1,112 @@
+-- What a member answers to a turn, and what becomes of the call.
+use Rattle.std.proofs.Common.{◌≡◌, ◌∙◌, ap, sym, refl, subst, ℕ, Bool, List, [], ◌∷◌, ◌++◌, map, append-nil, Option, Some, None, Result, Ok, Err}
+use Rattle.std.specs.Prelude.{IfOk, slice_get}
+use Rattle.digest_core.specs.declared.Digest.{Digest}
+use Rattle.answer_types.specs.declared.refusals.TurnRefusal.{TurnRefusal}
+use Rattle.answer_types.specs.declared.refusals.TurnRefusal.TheVariants as no_turn
+use Rattle.journal_core.specs.declared.records.Record.{Record}
+use Rattle.protocol_spec.specs.Chain.Certificates.{Rules}
+use Rattle.protocol_spec.specs.Member.Member.{Member}
+use Rattle.protocol_spec.specs.Member.Calls.{due, turn_answer, turns}
+use Rattle.report_text.specs.declared.lines.Line.{Line}
+use Rattle.report_text.specs.declared.lines.Line.TheVariants as line
+use Rattle.report_text.specs.declared.lines.TurnText.TheVariants as turn_text
+use Rattle.schedule_text.specs.declared.words.Event.TheVariants as event
+use Rattle.validator_core.specs.Calls.{Turns, turn_ended}
+use Rattle.validator_core.specs.Seats.{answered}
+use Rattle.world_lines.specs.Answers.{member_in}
+use Rattle.world_spec.specs.Setting.{Trust}
+use Rattle.world_spec.specs.World.{Reached, Said, World, answers, finds_down, reached_up, said_by, stated, stops}
+use Rattle.world_spec.specs.Report.{turn_answered, turn_reached}
+use Rattle.scene_spec.proofs.LineWorlds.{turn_same}
+use Rattle.scene_spec.specs.Known.{Known, world_with}
+use Rattle.scene_spec.specs.Seats.{Seat}
+use Rattle.scene_spec.specs.Posts.{Post, reached_in, reached_post, reached_standing, stated_in}
+use Rattle.scene_spec.specs.Scene.{Scene, bare_setting, bare_world, rules_in}
+use Rattle.scene_spec.specs.Steps.{lines_in, standing_at}
+use Rattle.world_core.specs.Crews.{epoch_of}
+use Rattle.world_core.specs.Epochs.{turn_lines_by}
+use Rattle.world_core.specs.Replies.{HasAnswered, HasStopped, SaysTurn}
+
+pub epoch_none : (standing : Option Seat) → None ≡ standing → 0 ≡ epoch_of standing
+epoch_none standing is = ap epoch_of is
+
+pub epoch_some : (seat : Seat) (standing : Option Seat) (n : ℕ) → Some seat ≡ standing → n ≡ seat.state.epoch → n ≡ epoch_of standing
+epoch_some seat standing n is same = same ∙ ap epoch_of is
+
+turn_is : (said given : Result (List Digest) TurnRefusal) → Turns said given → turn_ended given ≡ answered → said ≡ given
+turn_is said (Ok txs) is e = is
+turn_is said (Err no_turn.OutOfMemory) is e = absurd (cc)
+turn_is said (Err no_turn.KeepFault) is e = absurd (cc)
+turn_is said (Err no_turn.Down) is e = is
+turn_is said (Err (no_turn.Halted first second)) is e = is
+turn_is said (Err no_turn.Full) is e = is
+turn_is said (Err no_turn.NotEnded) is e = is
+turn_is said (Err (no_turn.Waits tx)) is e = is
+
+-- the lines look at nothing of the member but its epoch
+epoch_alone : (w : World) (m : ℕ) (before : Member) (given : Result (List Digest) TurnRefusal) → turn_answered w m (member_in before.epoch) given ≡ turn_answered w m before given
+epoch_alone w m before (Ok txs) = refl
+epoch_alone w m before (Err no_turn.Down) = refl
+epoch_alone w m before (Err (no_turn.Halted first second)) = refl
+epoch_alone w m before (Err no_turn.Full) = refl
+epoch_alone w m before (Err no_turn.NotEnded) = refl
+epoch_alone w m before (Err (no_turn.Waits tx)) = refl
+epoch_alone w m before (Err no_turn.KeepFault) = refl
+epoch_alone w m before (Err no_turn.OutOfMemory) = refl
+
+-- a member that answers stands in the state in which it answers
+answers_in : (before : Member) (x : Option Record) (state : Member) (armed : Option Bool) (d : Option Record) → reached_up state armed d ≡ answers before x → before ≡ state
+answers_in before x state None d e = let same : answers state d ≡ answers before x = e in cc
+answers_in before x state (Some kept) None e = let same : answers state None ≡ answers before x = e in cc
+answers_in before x state (Some kept) (Some y) e = absurd (let same : stops kept y ≡ answers before x = e in cc)
+
+epoch_standing : (r : Rules) (before : Member) (x : Option Record) (armed : Option Bool) (standing : Option Seat) → reached_standing r turns armed standing ≡ answers before x → epoch_of standing ≡ before.epoch
+epoch_standing r before x armed None e = absurd (let same : finds_down ≡ answers before x = e in cc)
+epoch_standing r before x armed (Some seat) e = sym (ap (λ (m : Member). m.epoch) (answers_in before x seat.state armed (due r seat.state turns) e))
+
+epoch_post : (r : Rules) (before : Member) (x : Option Record) (p : Option Post) → reached_post r turns p ≡ answers before x → epoch_of (standing_at p) ≡ before.epoch
+epoch_post r before x None e = absurd (let same : finds_down ≡ answers before x = e in cc)
+epoch_post r before x (Some p) e = epoch_standing r before x p.armed p.standing e
+
+pub turn_down : (k : Known) (r : Rules) (m : ℕ) (what : Reached) (lines : List Line) → what ≡ finds_down → lines ≡ line.Turn m turn_text.Down ∷ [] → lines ≡ turn_lines_by k r m what
+turn_down k r m what lines is l = l ∙ sym (ap (turn_lines_by k r m) is)
+
+pub turn_stopped : (k : Known) (r : Rules) (m : ℕ) (what : Reached) (lines : List Line) → HasStopped what → lines ≡ line.Turn m turn_text.Stopped ∷ [] → lines ≡ turn_lines_by k r m what
+turn_stopped k r m what lines is l = l ∙ sym (ap (turn_lines_by k r m) is.is)
+
+pub turn_said : (k : Known) (r : Rules) (posts : List Post) (m epoch : ℕ) (given : Result (List Digest) TurnRefusal) (lines : List Line)
+    → HasAnswered (SaysTurn r) (reached_in r posts m turns) given → epoch ≡ epoch_of (standing_at (slice_get posts m)) → lines ≡ turn_answered (world_with k) m (member_in epoch) given → lines ≡ turn_lines_by k r m (reached_in r posts m turns)
+turn_said k r posts m epoch given lines is at l =
+    l
+    ∙ ap (λ (n : ℕ). turn_answered (world_with k) m (member_in n) given) (at ∙ epoch_post r is.before is.due (slice_get posts m) is.is)
+    ∙ epoch_alone (world_with k) m is.before given
+    ∙ sym (ap (turn_answered (world_with k) m is.before) (turn_is (turn_answer r is.before) given is.says.answer is.says.ended))
+    ∙ sym (ap (turn_lines_by k r m) is.is)
+
+-- nothing is stated
+pub turn_states : (r : Rules) (m : ℕ) (xs : List Said) (what : Reached) → xs ≡ xs ++ map (said_by m) (stated_in r turns what)
+unfolding stated
+turn_states r m xs finds_down = sym (append-nil xs)
+turn_states r m xs (stops kept x) = sym (append-nil xs)
+turn_states r m xs (answers before x) = sym (append-nil xs)
+
+pub turn_lines_is : (trust : Trust) (sc : Scene) (m : ℕ) → turn_lines_by sc.known (rules_in trust.accepts sc) m (reached_in (rules_in trust.accepts sc) sc.posts m turns) ≡ turn_reached (bare_setting trust sc) (bare_world sc) m (reached_in (rules_in trust.accepts sc) sc.posts m turns)
+turn_lines_is trust sc m = go (reached_in (rules_in trust.accepts sc) sc.posts m turns)
+  where
+    go : (what : Reached) → turn_lines_by sc.known (rules_in trust.accepts sc) m what ≡ turn_reached (bare_setting trust sc) (bare_world sc) m what
+    go finds_down = refl
+    go (stops kept x) = refl
+    go (answers before x) = sym (turn_same (bare_setting trust sc) (bare_world sc) m before (turn_answer (rules_in trust.accepts sc) before))
+
+ok_then : {A E : Type 0} (P Q : A → Type 0) (result : Result A E) → ((a : A) → P a → Q a) → IfOk result P → IfOk result Q
+ok_then P Q (Ok a) f p = f a p
+ok_then P Q (Err e) f p = tt
+
+pub turn_told : {E : Type 0} (trust : Trust) (v sc : Scene) (m : ℕ) (result : Result (List Line) E) → v ≡ sc
+    → IfOk result (λ lines. lines ≡ turn_lines_by v.known (rules_in trust.accepts v) m (reached_in (rules_in trust.accepts v) v.posts m turns)) → IfOk result (λ lines. lines ≡ lines_in trust sc (event.Turn m))
+unfolding lines_in
+turn_told trust v sc m result same is =
+    subst (λ (x : Scene). IfOk result (λ lines. lines ≡ lines_in trust x (event.Turn m))) same
+    (ok_then (λ lines. lines ≡ turn_lines_by v.known (rules_in trust.accepts v) m (reached_in (rules_in trust.accepts v) v.posts m turns)) (λ lines. lines ≡ lines_in trust v (event.Turn m)) result
+    (λ lines e. e ∙ turn_lines_is trust v m) is)
