@@ -15,6 +15,8 @@ pub mod Stating
 pub mod Steps
 pub mod Stays
 pub mod Seeing
+pub mod Closing
+pub mod SeeTexts
 pub mod Nexts
 pub mod Ordered
 mod First

@@ -1,5 +1,5 @@
 -- A line that names a transaction or a certificate, by what is spelled.
-use Rattle.std.proofs.Common.{◌≡◌, ◌∙◌, ap, refl, subst, ℕ, List, [], ◌∷◌, Option, Some, None, Result, Ok, Err, option_map, inl}
+use Rattle.std.proofs.Common.{◌≡◌, ◌∙◌, ap, refl, sym, subst, ℕ, List, [], ◌∷◌, Option, Some, None, Result, Ok, Err, option_map, append-nil, inl, inr}
 use Rattle.outside.specs.Lists.{Journals, KeepsJournals}
 use Rattle.chain_messages.specs.declared.messages.Certificate.{Certificate}
 use Rattle.protocol_spec.specs.Chain.Certificates.{Rules}
@@ -13,12 +13,26 @@ use Rattle.report_text.specs.declared.lines.VoteText.TheVariants as vote_text
 use Rattle.world_spec.specs.Setting.{Name, Trust}
 use Rattle.world_spec.specs.World.{Made}
 use Rattle.journal_core.specs.declared.records.Record.{Record}
-use Rattle.scene_spec.specs.Posts.{AddsLeft, MayAddLeft, reached_in, record_left}
+use Rattle.scene_spec.specs.Posts.{AddsAll, AddsFront, AddsLeft, MayAddLeft, list_of, reached_in, record_left}
 use Rattle.scene_spec.specs.Scene.{Scene}
-use Rattle.scene_spec.specs.Steps.{call_on, called_by, called_scene, held_call, hold_text_in, send_text_in, signed_call, vote_lines_in, vote_text_in}
+use Rattle.scene_spec.specs.Steps.{asked, asks, called_scene, held_call, hold_text_in, send_text_in, signed_call, vote_lines_in, vote_text_in, worked}
 use Rattle.world_core.specs.Replies.{Leaves}
 use Rattle.world_core.specs.Kept.{LeavesAs}
 use Rattle.world_core.specs.Texts.{spelled_cert, spelled_tx}
+
+-- ---- told lists behind a call
+
+-- a call leaves its record, or none
+pub adds_all : (before now : Option Journals) (m : ℕ) (x : Option Record) → AddsLeft before now m x → AddsAll before now m (list_of x)
+adds_all None now m None is = tt
+adds_all None now m (Some x) is = tt
+adds_all (Some lists) now m None is = is
+adds_all (Some lists) now m (Some x) is = is
+
+pub adds_front : (before now : Option Journals) (m : ℕ) (x : Option Record) → MayAddLeft before now m x → AddsFront before now m (list_of x)
+adds_front before now m x (inl adds) = record { front = list_of x; rest = []; is = sym (append-nil (list_of x)); adds = adds_all before now m x adds }
+adds_front None now m x (inr keeps) = record { front = []; rest = list_of x; is = refl; adds = tt }
+adds_front (Some lists) now m x (inr keeps) = record { front = []; rest = list_of x; is = refl; adds = keeps }
 
 pub keeps_same : (told : Option Journals) → KeepsJournals told told
 keeps_same None = tt
@@ -26,7 +40,7 @@ keeps_same (Some lists) = refl
 
 -- ---- vote
 
-pub vote_none_world : (r : Rules) (sc : Scene) (m : ℕ) (t : Option Made) → None ≡ option_map spelled_tx t → sc ≡ called_by r sc (call_on m (option_map signed_call t))
+pub vote_none_world : (r : Rules) (sc : Scene) (m : ℕ) (t : Option Made) → None ≡ option_map spelled_tx t → sc ≡ worked r sc (asked m (option_map signed_call t))
 vote_none_world r sc m None e = refl
 vote_none_world r sc m (Some t) e = absurd (cc)
 
@@ -34,12 +48,12 @@ pub vote_none_lines : (trust : Trust) (sc : Scene) (m : ℕ) (name : Name) (t : 
 vote_none_lines trust sc m name None lines e l = l
 vote_none_lines trust sc m name (Some t) lines e l = absurd (cc)
 
-pub vote_none_kept : {A E : Type 0} (r : Rules) (sc : Scene) (m : ℕ) (t : Option Made) (told : Option Journals) (result : Result A E) → None ≡ option_map spelled_tx t → LeavesAs r sc (call_on m (option_map signed_call t)) told told result
+pub vote_none_kept : {A E : Type 0} (r : Rules) (sc : Scene) (m : ℕ) (t : Option Made) (told : Option Journals) (result : Result A E) → None ≡ option_map spelled_tx t → LeavesAs r sc (asked m (option_map signed_call t)) told told result
 vote_none_kept r sc m None told (Ok a) e = keeps_same told
 vote_none_kept r sc m None told (Err x) e = keeps_same told
 vote_none_kept r sc m (Some t) told result e = absurd (cc)
 
-pub vote_some_world : (r : Rules) (sc new : Scene) (m : ℕ) (t : Option Made) (bytes : List ℕ) → Some bytes ≡ option_map spelled_tx t → new ≡ called_scene r sc m (votes bytes) → new ≡ called_by r sc (call_on m (option_map signed_call t))
+pub vote_some_world : (r : Rules) (sc new : Scene) (m : ℕ) (t : Option Made) (bytes : List ℕ) → Some bytes ≡ option_map spelled_tx t → new ≡ called_scene r sc m (votes bytes) → new ≡ worked r sc (asked m (option_map signed_call t))
 vote_some_world r sc new m None bytes e n = absurd (cc)
 vote_some_world r sc new m (Some t) bytes e n = n ∙ ap (λ b. called_scene r sc m (votes b)) (cc)
 
@@ -48,20 +62,20 @@ vote_some_lines trust sc m name None bytes lines text e x l = absurd (cc)
 vote_some_lines trust sc m name (Some t) bytes lines text e x l = l ∙ ap (λ y. line.Vote m name y ∷ []) (x ∙ ap (vote_text_in trust sc m) (cc))
 
 pub vote_some_kept : {B F : Type 0} (r : Rules) (sc : Scene) (m : ℕ) (t : Option Made) (bytes : List ℕ) (before now : Option Journals) → Some bytes ≡ option_map spelled_tx t
-    → AddsLeft before now m (record_left (reached_in r sc.posts m (votes bytes))) → (result : Result B F) → LeavesAs r sc (call_on m (option_map signed_call t)) before now result
+    → AddsLeft before now m (record_left (reached_in r sc.posts m (votes bytes))) → (result : Result B F) → LeavesAs r sc (asked m (option_map signed_call t)) before now result
 vote_some_kept r sc m None bytes before now e is result = absurd (cc)
-vote_some_kept r sc m (Some t) bytes before now e is (Ok b) = subst (λ c. AddsLeft before now m (record_left (reached_in r sc.posts m (votes c)))) (cc) is
-vote_some_kept r sc m (Some t) bytes before now e is (Err b) = inl (subst (λ c. AddsLeft before now m (record_left (reached_in r sc.posts m (votes c)))) (cc) is)
+vote_some_kept r sc m (Some t) bytes before now e is (Ok b) = adds_all before now m _ (subst (λ c. AddsLeft before now m (record_left (reached_in r sc.posts m (votes c)))) (cc) is)
+vote_some_kept r sc m (Some t) bytes before now e is (Err b) = adds_front before now m _ (inl (subst (λ c. AddsLeft before now m (record_left (reached_in r sc.posts m (votes c)))) (cc) is))
 
 -- where nothing more comes of it
 pub vote_some_fault : (B F : Type 0) (r : Rules) (sc : Scene) (m : ℕ) (t : Option Made) (bytes : List ℕ) (before now : Option Journals) → Some bytes ≡ option_map spelled_tx t
-    → MayAddLeft before now m (record_left (reached_in r sc.posts m (votes bytes))) → (e : F) → LeavesAs r sc (call_on m (option_map signed_call t)) before now (let x : Result B F = Err e in x)
+    → MayAddLeft before now m (record_left (reached_in r sc.posts m (votes bytes))) → (e : F) → LeavesAs r sc (asked m (option_map signed_call t)) before now (let x : Result B F = Err e in x)
 vote_some_fault B F r sc m None bytes before now e is f = absurd (cc)
-vote_some_fault B F r sc m (Some t) bytes before now e is f = subst (λ c. MayAddLeft before now m (record_left (reached_in r sc.posts m (votes c)))) (cc) is
+vote_some_fault B F r sc m (Some t) bytes before now e is f = adds_front before now m _ (subst (λ c. MayAddLeft before now m (record_left (reached_in r sc.posts m (votes c)))) (cc) is)
 
 -- ---- send
 
-pub send_none_world : (r : Rules) (sc : Scene) (m : ℕ) (c : Option Certificate) → None ≡ option_map spelled_cert c → sc ≡ called_by r sc (call_on m (option_map held_call c))
+pub send_none_world : (r : Rules) (sc : Scene) (m : ℕ) (c : Option Certificate) → None ≡ option_map spelled_cert c → sc ≡ worked r sc (asked m (option_map held_call c))
 send_none_world r sc m None e = refl
 send_none_world r sc m (Some c) e = absurd (cc)
 
@@ -69,12 +83,12 @@ pub send_none_lines : (trust : Trust) (sc : Scene) (m : ℕ) (name : Name) (c : 
 send_none_lines trust sc m name None lines e l = l
 send_none_lines trust sc m name (Some c) lines e l = absurd (cc)
 
-pub send_none_kept : {A E : Type 0} (r : Rules) (sc : Scene) (m : ℕ) (c : Option Certificate) (told : Option Journals) (result : Result A E) → None ≡ option_map spelled_cert c → LeavesAs r sc (call_on m (option_map held_call c)) told told result
+pub send_none_kept : {A E : Type 0} (r : Rules) (sc : Scene) (m : ℕ) (c : Option Certificate) (told : Option Journals) (result : Result A E) → None ≡ option_map spelled_cert c → LeavesAs r sc (asked m (option_map held_call c)) told told result
 send_none_kept r sc m None told (Ok a) e = keeps_same told
 send_none_kept r sc m None told (Err x) e = keeps_same told
 send_none_kept r sc m (Some c) told result e = absurd (cc)
 
-pub send_some_world : (r : Rules) (sc new : Scene) (m : ℕ) (c : Option Certificate) (bytes : List ℕ) → Some bytes ≡ option_map spelled_cert c → new ≡ called_scene r sc m (holds bytes) → new ≡ called_by r sc (call_on m (option_map held_call c))
+pub send_some_world : (r : Rules) (sc new : Scene) (m : ℕ) (c : Option Certificate) (bytes : List ℕ) → Some bytes ≡ option_map spelled_cert c → new ≡ called_scene r sc m (holds bytes) → new ≡ worked r sc (asked m (option_map held_call c))
 send_some_world r sc new m None bytes e n = absurd (cc)
 send_some_world r sc new m (Some c) bytes e n = n ∙ ap (λ b. called_scene r sc m (holds b)) (cc)
 
@@ -83,15 +97,15 @@ send_some_lines trust sc m name None bytes lines text e x l = absurd (cc)
 send_some_lines trust sc m name (Some c) bytes lines text e x l = l ∙ ap (λ y. line.Send m name y ∷ []) (x ∙ ap (hold_text_in trust sc m) (cc))
 
 pub send_some_kept : {B F : Type 0} (r : Rules) (sc : Scene) (m : ℕ) (c : Option Certificate) (bytes : List ℕ) (before now : Option Journals) → Some bytes ≡ option_map spelled_cert c
-    → AddsLeft before now m (record_left (reached_in r sc.posts m (holds bytes))) → (result : Result B F) → LeavesAs r sc (call_on m (option_map held_call c)) before now result
+    → AddsLeft before now m (record_left (reached_in r sc.posts m (holds bytes))) → (result : Result B F) → LeavesAs r sc (asked m (option_map held_call c)) before now result
 send_some_kept r sc m None bytes before now e is result = absurd (cc)
-send_some_kept r sc m (Some c) bytes before now e is (Ok b) = subst (λ x. AddsLeft before now m (record_left (reached_in r sc.posts m (holds x)))) (cc) is
-send_some_kept r sc m (Some c) bytes before now e is (Err b) = inl (subst (λ x. AddsLeft before now m (record_left (reached_in r sc.posts m (holds x)))) (cc) is)
+send_some_kept r sc m (Some c) bytes before now e is (Ok b) = adds_all before now m _ (subst (λ x. AddsLeft before now m (record_left (reached_in r sc.posts m (holds x)))) (cc) is)
+send_some_kept r sc m (Some c) bytes before now e is (Err b) = adds_front before now m _ (inl (subst (λ x. AddsLeft before now m (record_left (reached_in r sc.posts m (holds x)))) (cc) is))
 
 pub send_some_fault : (B F : Type 0) (r : Rules) (sc : Scene) (m : ℕ) (c : Option Certificate) (bytes : List ℕ) (before now : Option Journals) → Some bytes ≡ option_map spelled_cert c
-    → MayAddLeft before now m (record_left (reached_in r sc.posts m (holds bytes))) → (e : F) → LeavesAs r sc (call_on m (option_map held_call c)) before now (let x : Result B F = Err e in x)
+    → MayAddLeft before now m (record_left (reached_in r sc.posts m (holds bytes))) → (e : F) → LeavesAs r sc (asked m (option_map held_call c)) before now (let x : Result B F = Err e in x)
 send_some_fault B F r sc m None bytes before now e is f = absurd (cc)
-send_some_fault B F r sc m (Some c) bytes before now e is f = subst (λ x. MayAddLeft before now m (record_left (reached_in r sc.posts m (holds x)))) (cc) is
+send_some_fault B F r sc m (Some c) bytes before now e is f = adds_front before now m _ (subst (λ x. MayAddLeft before now m (record_left (reached_in r sc.posts m (holds x)))) (cc) is)
 
 -- ---- a call behind which something else fails
 
@@ -99,10 +113,10 @@ pub may_left : (before now : Option Journals) (m : ℕ) (x : Option Record) → 
 may_left before now m x is = inl is
 
 -- what a call leaves, as what its line leaves
-pub left_as : {A E : Type 0} (r : Rules) (sc : Scene) (m : ℕ) (call : Call) (before now : Option Journals) (result : Result A E) → Leaves before now m (record_left (reached_in r sc.posts m call)) result → LeavesAs r sc (Some (m, call)) before now result
-left_as r sc m call before now (Ok a) is = is
-left_as r sc m call before now (Err e) is = is
+pub left_as : {A E : Type 0} (r : Rules) (sc : Scene) (m : ℕ) (call : Call) (before now : Option Journals) (result : Result A E) → Leaves before now m (record_left (reached_in r sc.posts m call)) result → LeavesAs r sc (asks m call) before now result
+left_as r sc m call before now (Ok a) is = adds_all before now m (record_left (reached_in r sc.posts m call)) is
+left_as r sc m call before now (Err e) is = adds_front before now m (record_left (reached_in r sc.posts m call)) is
 
-pub left_on : {A E : Type 0} (r : Rules) (sc : Scene) (m : ℕ) (call : Call) (before now : Option Journals) (result : Result A E) → AddsLeft before now m (record_left (reached_in r sc.posts m call)) → LeavesAs r sc (Some (m, call)) before now result
-left_on r sc m call before now (Ok a) is = is
-left_on r sc m call before now (Err e) is = inl is
+pub left_on : {A E : Type 0} (r : Rules) (sc : Scene) (m : ℕ) (call : Call) (before now : Option Journals) (result : Result A E) → AddsLeft before now m (record_left (reached_in r sc.posts m call)) → LeavesAs r sc (asks m call) before now result
+left_on r sc m call before now (Ok a) is = adds_all before now m (record_left (reached_in r sc.posts m call)) is
+left_on r sc m call before now (Err e) is = adds_front before now m (record_left (reached_in r sc.posts m call)) (inl is)

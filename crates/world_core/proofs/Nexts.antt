@@ -1,16 +1,24 @@
 -- The next entry of a member, by what is seen of it.
-use Rattle.std.proofs.Common.{◌≡◌, ◌∙◌, ap, sym, refl, ℕ, Bool, true, false, cond, List, Option, Some, None, option_map}
-use Rattle.std.specs.Prelude.{option_and_then, slice_get}
+use Rattle.std.proofs.Common.{◌≡◌, ◌∙◌, ap, sym, refl, subst, ℕ, Bool, true, false, cond, List, ◌++◌, Option, Some, None, option_map, Result, Ok, Err}
+use Rattle.std.specs.Prelude.{OnOk, option_and_then, slice_get}
 use Rattle.chain_messages.specs.declared.messages.Entry.{Entry}
+use Rattle.journal_core.specs.declared.records.Record.{Record}
+use Rattle.outside.specs.Lists.{Journals}
+use Rattle.report_text.specs.declared.lines.Line.{Line}
 use Rattle.protocol_spec.specs.Member.Member.{Member}
 use Rattle.protocol_spec.specs.Member.Calls.{Call, sees}
 use Rattle.world_lines.specs.Orders.{spelled_entry}
+use Rattle.world_spec.specs.Setting.{Trust}
 use Rattle.world_spec.specs.World.{entries_at, next_call_of, numbered_call}
-use Rattle.scene_spec.specs.Posts.{Post}
-use Rattle.scene_spec.specs.Scene.{Scene, bare_world}
+use Rattle.world_spec.specs.Report.{Lines}
+use Rattle.scene_spec.specs.Posts.{AddsAll, AddsFront, Post, list_of, reached_in, record_left}
+use Rattle.scene_spec.specs.Scene.{Scene, bare_world, rules_in}
 use Rattle.scene_spec.specs.Seats.{Seat}
-use Rattle.scene_spec.specs.Steps.{next_on, seat_state, standing_at}
-use Rattle.world_core.specs.Sees.{next_by, next_for}
+use Rattle.scene_spec.specs.Steps.{call_lines_in, left_if, next_on, seat_state, standing_at}
+use Rattle.world_core.specs.Replies.{Leaves}
+use Rattle.world_core.specs.Sees.{LeavesAll, next_by, next_for, see_lines_by}
+use Rattle.world_core.proofs.Lines.{adds_all, adds_front}
+use Rattle.world_core.proofs.SeeTexts.{see_lines_are}
 
 module _ (posts : List Post) (sequences : List (List Entry)) (m : ℕ) where
   by_standing : (standing : Option Seat) → standing ≡ standing_at (slice_get posts m) → next_by posts sequences m ≡ option_and_then (next_for sequences) (option_map seat_state standing)
@@ -34,13 +42,21 @@ module _ (posts : List Post) (sequences : List (List Entry)) (m : ℕ) where
     called_as n None bytes e = ap (λ (b : Option (List ℕ)). option_map (sees n) b) e
     called_as n (Some entry) bytes e = ap (λ (b : Option (List ℕ)). option_map (sees n) b) e
 
-    pub by_bytes : (n epoch : ℕ) (bytes : Option (List ℕ)) → seat.state.sequence.ended ≡ false → n ≡ seat.state.sequence.number → epoch ≡ seat.state.epoch → bytes ≡ option_map spelled_entry (slice_get (entries_at sequences epoch) n)
+    by_bytes : (n epoch : ℕ) (bytes : Option (List ℕ)) → seat.state.sequence.ended ≡ false → n ≡ seat.state.sequence.number → epoch ≡ seat.state.epoch → bytes ≡ option_map spelled_entry (slice_get (entries_at sequences epoch) n)
         → option_map (sees n) bytes ≡ next_by posts sequences m
     by_bytes n epoch bytes ended number at found =
         called_as n (slice_get (entries_at sequences epoch) n) bytes found
         ∙ ap (λ (k : ℕ). option_map (numbered_call k) (slice_get (entries_at sequences epoch) k)) number
         ∙ ap (λ (k : ℕ). option_map (numbered_call seat.state.sequence.number) (slice_get (entries_at sequences k) seat.state.sequence.number)) at
         ∙ sym (unended ended)
+
+    pub by_left : (n epoch : ℕ) → seat.state.sequence.ended ≡ false → n ≡ seat.state.sequence.number → epoch ≡ seat.state.epoch → None ≡ option_map spelled_entry (slice_get (entries_at sequences epoch) n)
+        → None ≡ next_by posts sequences m
+    by_left n epoch ended number at found = by_bytes n epoch None ended number at found
+
+    pub by_some : (n epoch : ℕ) (bytes : List ℕ) → seat.state.sequence.ended ≡ false → n ≡ seat.state.sequence.number → epoch ≡ seat.state.epoch → Some bytes ≡ option_map spelled_entry (slice_get (entries_at sequences epoch) n)
+        → Some (sees n bytes) ≡ next_by posts sequences m
+    by_some n epoch bytes ended number at found = by_bytes n epoch (Some bytes) ended number at found
 
 -- in a scene it is the definition's
 same_next : (sc : Scene) (o : Option Member) → option_and_then (next_for sc.sequences) o ≡ option_and_then (next_call_of (bare_world sc)) o
@@ -49,3 +65,27 @@ same_next sc (Some m) = refl
 
 pub next_is : (sc : Scene) (m : ℕ) → next_by sc.posts sc.sequences m ≡ next_on sc m
 next_is sc m = same_next sc (option_map seat_state (standing_at (slice_get sc.posts m)))
+
+-- ---- what handing in the next entry leaves, in the scene
+
+module _ (trust : Trust) (v sc : Scene) (m number : ℕ) (bytes : List ℕ) (view : v ≡ sc) (next : Some (sees number bytes) ≡ next_by v.posts v.sequences m) where
+  next_in : next_on sc m ≡ Some (sees number bytes)
+  next_in = ap (λ (x : Scene). next_on x m) (sym view) ∙ sym (next_is v m) ∙ sym next
+
+  pub next_lines : {E : Type 0} (result : Result Bool E) (old new : List Line)
+      → OnOk result (new ≡ old ++ (see_lines_by v.known (rules_in trust.accepts v) m number bytes (reached_in (rules_in trust.accepts v) v.posts m (sees number bytes))).0)
+      → OnOk result (new ≡ old ++ (call_lines_in trust sc m (next_on sc m)).0)
+  next_lines (Err e) old new is = tt
+  next_lines (Ok goes) old new is =
+      is
+      ∙ ap (λ (ls : Lines). old ++ ls.0) (see_lines_are trust v m number bytes (reached_in (rules_in trust.accepts v) v.posts m (sees number bytes)))
+      ∙ ap (λ (x : Scene). old ++ (call_lines_in trust x m (Some (sees number bytes))).0) view
+      ∙ ap (λ (c : Option Call). old ++ (call_lines_in trust sc m c).0) (sym next_in)
+
+  left_is : list_of (record_left (reached_in (rules_in trust.accepts v) v.posts m (sees number bytes))) ≡ left_if (rules_in trust.accepts sc) sc m (next_on sc m)
+  left_is = ap (λ (x : Scene). left_if (rules_in trust.accepts x) x m (Some (sees number bytes))) view ∙ ap (λ (c : Option Call). left_if (rules_in trust.accepts sc) sc m c) (sym next_in)
+
+  pub next_kept : {E : Type 0} (result : Result Bool E) (before now : Option Journals)
+      → Leaves before now m (record_left (reached_in (rules_in trust.accepts v) v.posts m (sees number bytes))) result → LeavesAll before now m (left_if (rules_in trust.accepts sc) sc m (next_on sc m)) result
+  next_kept (Ok goes) before now is = subst (λ (xs : List Record). AddsAll before now m xs) left_is (adds_all before now m (record_left (reached_in (rules_in trust.accepts v) v.posts m (sees number bytes))) is)
+  next_kept (Err e) before now is = subst (λ (xs : List Record). AddsFront before now m xs) left_is (adds_front before now m (record_left (reached_in (rules_in trust.accepts v) v.posts m (sees number bytes))) is)

@@ -1,6 +1,6 @@
 -- A member that is handed entries, one after the other: behind the first that it does not take, nothing changes.
-use Rattle.std.proofs.Common.{◌≡◌, ◌∙◌, ap, sym, refl, subst, ℕ, zero, suc, Bool, true, false, cond, List, [], ◌∷◌, ◌++◌, map, length, Option, Some, None, option_map, Result, Ok, Err, append_assoc, append-nil, inl, inr}
-use Rattle.std.specs.Prelude.{slice_get, slice_set, option_and_then, min, is_some, nat_le, fold}
+use Rattle.std.proofs.Common.{◌≡◌, ◌∙◌, ap, sym, refl, subst, ℕ, zero, suc, Bool, true, false, cond, List, [], ◌∷◌, ◌++◌, map, length, Option, Some, None, option_map, Result, Ok, Err, append_assoc, append-nil, arith}
+use Rattle.std.specs.Prelude.{◌<◌, ◌-◌, slice_get, slice_set, option_and_then, min, is_some, nat_le, fold}
 use Rattle.chain_messages.specs.declared.messages.Entry.{Entry}
 use Rattle.chain_messages.specs.Messages as messages
 use Rattle.journal_core.specs.declared.records.Record.{Record}
@@ -20,7 +20,7 @@ use Rattle.world_spec.specs.World.{Said, Reached, answers, built_statements, fin
 use Rattle.world_spec.specs.Report.{Lines, and_lines, entry_lines, entry_reached}
 use Rattle.scene_spec.specs.Seats.{Seat}
 use Rattle.scene_spec.specs.Terms.{Terms, rules_for}
-use Rattle.scene_spec.specs.Posts.{AddsAll, AddsFront, AddsLeft, MayAddLeft, Post, list_of, post_behind, posts_behind, posts_with, reached_in, reached_post, reached_standing, record_left, seat_behind, stated_in, with_all}
+use Rattle.scene_spec.specs.Posts.{AddsAll, AddsFront, Post, list_of, post_behind, posts_behind, posts_with, reached_in, reached_post, reached_standing, record_left, seat_behind, stated_in, with_all}
 use Rattle.scene_spec.specs.Scene.{Scene, bare_setting, bare_world, rules_in}
 use Rattle.scene_spec.specs.Steps.{call_lines_in, called_if, called_scene, entries_lines_in, left_if, next_on, seat_state, sees_left, sees_to, standing_at}
 use Rattle.world_core.specs.Sees.{HasSeen}
@@ -59,10 +59,10 @@ module _ (r : Rules) (m : ℕ) where
       record {
         scene = ap (λ (c : Option Call). sees_to r n (called_if r sc m c) m) next ∙ ap (λ (x : Scene). sees_to r n x m) same ∙ rest.scene;
         records =
-          ap (λ (c : Option Call). left_if r sc m c ++ sees_left r n (called_if r sc m c) m) next
-          ∙ ap (λ (x : Option Record). list_of x ++ sees_left r n (called_scene r sc m call) m) none
-          ∙ ap (λ (x : Scene). sees_left r n x m) same
-          ∙ rest.records;
+            ap (λ (c : Option Call). left_if r sc m c ++ sees_left r n (called_if r sc m c) m) next
+            ∙ ap (λ (x : Option Record). list_of x ++ sees_left r n (called_scene r sc m call) m) none
+            ∙ ap (λ (x : Scene). sees_left r n x m) same
+            ∙ rest.records;
       }
 
   -- ---- a member that refuses
@@ -262,18 +262,6 @@ adds_then (Some lists) b c m xs ys one two =
     let more : c ≡ Some (with_all (with_all lists m xs) m ys) = subst (λ (told : Option Journals). AddsAll told c m ys) one two in
     more ∙ ap (λ (l : Journals). Some l) (sym (fold_join (λ (told : Journals) (x : Record). with_record told m (journals.journal_record.spell x)) lists xs ys))
 
--- a call leaves its record, or none
-adds_left : (before now : Option Journals) (m : ℕ) (x : Option Record) → AddsLeft before now m x → AddsAll before now m (list_of x)
-adds_left None now m None is = tt
-adds_left None now m (Some x) is = tt
-adds_left (Some lists) now m None is = is
-adds_left (Some lists) now m (Some x) is = is
-
-may_left : (before now : Option Journals) (m : ℕ) (x : Option Record) → MayAddLeft before now m x → AddsFront before now m (list_of x)
-may_left before now m x (inl adds) = record { front = list_of x; rest = []; is = sym (append-nil (list_of x)); adds = adds_left before now m x adds }
-may_left None now m x (inr keeps) = record { front = []; rest = list_of x; is = refl; adds = tt }
-may_left (Some lists) now m x (inr keeps) = record { front = []; rest = list_of x; is = refl; adds = keeps }
-
 -- ---- entry after entry
 
 module _ (trust : Trust) (m n : ℕ) (old : Scene) (before : Option Journals) (lines : List Line) where
@@ -281,7 +269,13 @@ module _ (trust : Trust) (m n : ℕ) (old : Scene) (before : Option Journals) (l
   pub seen_none : HasSeen trust m n old old before before lines lines n
   seen_none = record { scene = refl; says = refl; done = []; records = refl; adds = adds_none before m; rules = refl; many = refl }
 
-  module _ (now next : Scene) (told later : Option Journals) (so_far more : List Line) (still : ℕ) (has : HasSeen trust m n old now before told lines so_far (suc still)) where
+  module _ (now next : Scene) (told later : Option Journals) (so_far more : List Line) (left : ℕ) (some : 0 < left) (has_ : HasSeen trust m n old now before told lines so_far left) where
+    still : ℕ
+    still = left - 1
+
+    has : HasSeen trust m n old now before told lines so_far (suc still)
+    has = subst (λ (k : ℕ). HasSeen trust m n old now before told lines so_far k) (omega (arith, some)) has_
+
     abbrev rules_now : Rules
     rules_now = rules_in trust.accepts now
 
@@ -302,20 +296,20 @@ module _ (trust : Trust) (m n : ℕ) (old : Scene) (before : Option Journals) (l
 
     -- one entry more
     pub seen_one : next ≡ called_if rules_now now m (next_on now m) → next.terms ≡ now.terms → length next.posts ≡ length now.posts → more ≡ so_far ++ (call_lines_in trust now m (next_on now m)).0
-        → true ≡ (call_lines_in trust now m (next_on now m)).1 → AddsAll told later m (left_if rules_now now m (next_on now m)) → HasSeen trust m n old next before later lines more still
+        → true ≡ (call_lines_in trust now m (next_on now m)).1 → AddsAll told later m (left_if rules_now now m (next_on now m)) → HasSeen trust m n old next before later lines more (left - 1)
     seen_one is terms many said goes adds =
         record {
           scene = scene_now is;
           says =
-            ap (λ (ls : List Line). ls ++ entries_lines_in trust still next m) said
-            ∙ append_assoc so_far (call_lines_in trust now m (next_on now m)).0 (entries_lines_in trust still next m)
-            ∙ ap (λ (ls : List Line). so_far ++ ls) (joined (call_lines_in trust now m (next_on now m)) goes)
-            ∙ has.says;
+              ap (λ (ls : List Line). ls ++ entries_lines_in trust still next m) said
+              ∙ append_assoc so_far (call_lines_in trust now m (next_on now m)).0 (entries_lines_in trust still next m)
+              ∙ ap (λ (ls : List Line). so_far ++ ls) (joined (call_lines_in trust now m (next_on now m)) goes)
+              ∙ has.says;
           done = has.done ++ left_if rules_old now m (next_on now m);
           records =
-            has.records
-            ∙ sym (append_assoc has.done (left_if rules_old now m (next_on now m)) (sees_left rules_old still (called_if rules_old now m (next_on now m)) m))
-            ∙ ap (λ (x : Scene). (has.done ++ left_if rules_old now m (next_on now m)) ++ sees_left rules_old still x m) (sym (called_now is));
+              has.records
+              ∙ sym (append_assoc has.done (left_if rules_old now m (next_on now m)) (sees_left rules_old still (called_if rules_old now m (next_on now m)) m))
+              ∙ ap (λ (x : Scene). (has.done ++ left_if rules_old now m (next_on now m)) ++ sees_left rules_old still x m) (sym (called_now is));
           adds = adds_then before told later m has.done (left_if rules_old now m (next_on now m)) has.adds (left_now adds);
           rules = terms ∙ has.rules;
           many = many ∙ has.many;
@@ -358,10 +352,10 @@ module _ (trust : Trust) (m n : ℕ) (old : Scene) (before : Option Journals) (l
           front = has.done ++ adds.front;
           rest = adds.rest ++ sees_left rules_old still (called_if rules_old now m (next_on now m)) m;
           is =
-            has.records
-            ∙ ap (λ (xs : List Record). has.done ++ (xs ++ sees_left rules_old still (called_if rules_old now m (next_on now m)) m)) (sym (ap (λ (r : Rules). left_if r now m (next_on now m)) same_rules) ∙ adds.is)
-            ∙ ap (λ (xs : List Record). has.done ++ xs) (append_assoc adds.front adds.rest (sees_left rules_old still (called_if rules_old now m (next_on now m)) m))
-            ∙ sym (append_assoc has.done adds.front (adds.rest ++ sees_left rules_old still (called_if rules_old now m (next_on now m)) m));
+              has.records
+              ∙ ap (λ (xs : List Record). has.done ++ (xs ++ sees_left rules_old still (called_if rules_old now m (next_on now m)) m)) (sym (ap (λ (r : Rules). left_if r now m (next_on now m)) same_rules) ∙ adds.is)
+              ∙ ap (λ (xs : List Record). has.done ++ xs) (append_assoc adds.front adds.rest (sees_left rules_old still (called_if rules_old now m (next_on now m)) m))
+              ∙ sym (append_assoc has.done adds.front (adds.rest ++ sees_left rules_old still (called_if rules_old now m (next_on now m)) m));
           adds = adds_then before told later m has.done adds.front has.adds adds.adds;
         }
 

@@ -1,16 +1,18 @@
 -- A step leaves the number of members and the terms as they are.
-use Rattle.std.proofs.Common.{◌≡◌, ◌∙◌, ap, sym, refl, subst, ℕ, zero, suc, List, [], ◌∷◌, length, Option, Some, None, Result, Ok, Err}
+use Rattle.std.proofs.Common.{◌≡◌, ◌∙◌, ap, sym, refl, subst, ℕ, zero, suc, Bool, true, false, cond, List, [], ◌∷◌, ◌++◌, length, Option, Some, None, Result, Ok, Err}
 use Rattle.std.specs.Prelude.{OnOk, slice_get, slice_set}
 use Rattle.outside.specs.Lists.{Journals}
 use Rattle.protocol_spec.specs.Chain.Certificates.{Rules}
-use Rattle.protocol_spec.specs.Member.Calls.{Call, holds, runs, votes}
+use Rattle.protocol_spec.specs.Member.Calls.{Call, acks, closes, ends, holds, runs, turns, votes}
 use Rattle.schedule_text.specs.declared.words.Event.{Event}
 use Rattle.schedule_text.specs.declared.words.Event.TheVariants as event
 use Rattle.report_text.specs.declared.lines.Line.{Line}
 use Rattle.world_spec.specs.Setting.{Trust}
+use Rattle.world_spec.specs.World.{Made, is_honest, said_by}
+use Rattle.world_spec.specs.Names.{made_named}
 use Rattle.scene_spec.specs.Posts.{Post, arming, changed_at, posts_with, starting}
-use Rattle.scene_spec.specs.Scene.{Scene, rules_in}
-use Rattle.scene_spec.specs.Steps.{call_of, called_by, called_scene, steps_to}
+use Rattle.scene_spec.specs.Scene.{Scene, bare_world, rules_in}
+use Rattle.scene_spec.specs.Steps.{Work, acked_in, asks, called_if, called_scene, false_ack_in, hands, idle, next_on, sees_to, steps_to, work_of, worked}
 use Rattle.world_core.specs.Restarts.{Accepting, RestartsAs}
 use Rattle.world_core.specs.Stays.{Stays}
 use Rattle.world_core.specs.declared.world.WorldFault.{WorldFault}
@@ -31,31 +33,51 @@ called_many r call posts m (Some p) = set_many posts m _
 one_call : (r : Rules) (sc : Scene) (m : ℕ) (call : Call) → Stays sc (called_scene r sc m call)
 one_call r sc m call = record { many = called_many r call sc.posts m (slice_get sc.posts m); terms = refl }
 
-any_call : (r : Rules) (sc : Scene) (call : Option (ℕ × Call)) → Stays sc (called_by r sc call)
-any_call r sc None = record { many = refl; terms = refl }
-any_call r sc (Some call) = one_call r sc call.0 call.1
+stays_then : (old mid new : Scene) → Stays old mid → Stays mid new → Stays old new
+stays_then old mid new one two = record { many = two.many ∙ one.many; terms = two.terms ∙ one.terms }
+
+pub next_stays : (r : Rules) (sc : Scene) (m : ℕ) (call : Option Call) → Stays sc (called_if r sc m call)
+next_stays r sc m None = record { many = refl; terms = refl }
+next_stays r sc m (Some call) = one_call r sc m call
+
+sees_stays : (r : Rules) (n : ℕ) (sc : Scene) (m : ℕ) → Stays sc (sees_to r n sc m)
+sees_stays r zero sc m = record { many = refl; terms = refl }
+sees_stays r (suc n) sc m = stays_then sc (called_if r sc m (next_on sc m)) (sees_to r n (called_if r sc m (next_on sc m)) m) (next_stays r sc m (next_on sc m)) (sees_stays r n (called_if r sc m (next_on sc m)) m)
+
+any_work : (r : Rules) (sc : Scene) (work : Work) → Stays sc (worked r sc work)
+any_work r sc idle = record { many = refl; terms = refl }
+any_work r sc (asks m call) = one_call r sc m call
+any_work r sc (hands m n) = sees_stays r n sc m
+
+ack_stays : (r : Rules) (sc : Scene) (m : ℕ) (spoiled : Bool) (t : Option Made) → Stays sc (acked_in r sc m spoiled t)
+ack_stays r sc m spoiled None = record { many = refl; terms = refl }
+ack_stays r sc m spoiled (Some t) = go (is_honest (bare_world sc) m)
+  where
+    go : (b : Bool) → Stays sc (cond b (called_scene r sc m (acks t.digest)) (record sc { said = sc.said ++ said_by m (false_ack_in sc t spoiled) ∷ [] }))
+    go true = one_call r sc m (acks t.digest)
+    go false = record { many = refl; terms = refl }
 
 pub stays : (trust : Trust) (sc : Scene) (e : Event) → Stays sc (steps_to trust sc e)
 unfolding steps_to
 stays trust sc (event.Tx name sender spoiled epoch gas budget inputs commands) = record { many = refl; terms = refl }
-stays trust sc (event.Vote m tx) = any_call (rules_in trust.accepts sc) sc (call_of sc (event.Vote m tx))
+stays trust sc (event.Vote m tx) = any_work (rules_in trust.accepts sc) sc (work_of sc (event.Vote m tx))
 stays trust sc (event.Fvote m tx origins) = record { many = refl; terms = refl }
 stays trust sc (event.Cert tx members) = record { many = refl; terms = refl }
-stays trust sc (event.Send m tx) = any_call (rules_in trust.accepts sc) sc (call_of sc (event.Send m tx))
+stays trust sc (event.Send m tx) = any_work (rules_in trust.accepts sc) sc (work_of sc (event.Send m tx))
 stays trust sc (event.Order tx) = record { many = refl; terms = refl }
 stays trust sc (event.OrderEnd m) = record { many = refl; terms = refl }
 stays trust sc event.OrderCommit = record { many = refl; terms = refl }
-stays trust sc (event.See m entries) = record { many = refl; terms = refl }
+stays trust sc (event.See m entries) = any_work (rules_in trust.accepts sc) sc (work_of sc (event.See m entries))
 stays trust sc (event.Run m workers) = one_call (rules_in trust.accepts sc) sc m runs
-stays trust sc (event.Close m) = record { many = refl; terms = refl }
-stays trust sc (event.End m) = record { many = refl; terms = refl }
-stays trust sc (event.Turn m) = record { many = refl; terms = refl }
+stays trust sc (event.Close m) = one_call (rules_in trust.accepts sc) sc m closes
+stays trust sc (event.End m) = one_call (rules_in trust.accepts sc) sc m ends
+stays trust sc (event.Turn m) = one_call (rules_in trust.accepts sc) sc m turns
 stays trust sc (event.Show m) = record { many = refl; terms = refl }
 stays trust sc (event.Stop m kept) = record { many = changed_many sc.posts m (arming kept) (slice_get sc.posts m); terms = refl }
 stays trust sc (event.Restart m) = record { many = refl; terms = refl }
 stays trust sc (event.RawVote m bytes) = one_call (rules_in trust.accepts sc) sc m (votes bytes)
 stays trust sc (event.RawHold m bytes) = one_call (rules_in trust.accepts sc) sc m (holds bytes)
-stays trust sc (event.Ack m tx spoiled) = record { many = refl; terms = refl }
+stays trust sc (event.Ack m tx spoiled) = ack_stays (rules_in trust.accepts sc) sc m spoiled (made_named (bare_world sc) tx)
 stays trust sc (event.Final tx members) = record { many = refl; terms = refl }
 
 pub restart_stays : (accepts : Accepting) (told : Option Journals) (m : ℕ) (old new : Scene) (p : Option Post) (result : Result (List Line) WorldFault) → RestartsAs accepts told m old new p result → OnOk result (Stays old new)

@@ -2,6 +2,8 @@
 use Rattle.std.specs.Prelude.{ℕ, List, [], ◌∷◌, Option, Some, None}
 use Rattle.report_text.specs.declared.lines.Line.{Line}
 use Rattle.report_text.specs.declared.lines.Line.TheVariants as line
+use Rattle.report_text.specs.declared.lines.CloseText.{CloseText}
+use Rattle.report_text.specs.declared.lines.CloseText.TheVariants as close_text
 use Rattle.report_text.specs.declared.lines.RunText.TheVariants as run_text
 use Rattle.report_text.specs.declared.lines.SendText.{SendText}
 use Rattle.report_text.specs.declared.lines.SendText.TheVariants as send_text
@@ -13,9 +15,9 @@ use Rattle.chain_messages.specs.declared.messages.Certificate.{Certificate}
 use Rattle.chain_messages.specs.Messages as messages
 use Rattle.protocol_spec.specs.Chain.Certificates.{Rules}
 use Rattle.protocol_spec.specs.Member.Member.{live_objects}
-use Rattle.protocol_spec.specs.Member.Calls.{hold_answer, run_answer, vote_answer}
+use Rattle.protocol_spec.specs.Member.Calls.{close_answer, hold_answer, run_answer, vote_answer}
 use Rattle.world_spec.specs.World.{Made, Reached, finds_down, stops, answers}
-use Rattle.world_spec.specs.Report.{hold_answered, run_answered, shown, vote_answered}
+use Rattle.world_spec.specs.Report.{close_answered, hold_answered, run_answered, shown, vote_answered}
 use Rattle.scene_spec.specs.Known.{Known, setting_with, world_with}
 use Rattle.scene_spec.specs.Seats.{Seat}
 
@@ -28,6 +30,11 @@ abbrev pub hold_text_by : Known → Rules → List ℕ → Reached → SendText
 hold_text_by k r bytes finds_down = send_text.Down
 hold_text_by k r bytes (stops kept x) = send_text.Stopped
 hold_text_by k r bytes (answers m x) = hold_answered (setting_with k) (world_with k) (hold_answer r m bytes)
+
+abbrev pub close_text_by : Known → Rules → Reached → CloseText
+close_text_by k r finds_down = close_text.Down
+close_text_by k r (stops kept x) = close_text.Stopped
+close_text_by k r (answers m x) = close_answered (world_with k) (close_answer r m)
 
 abbrev pub run_lines_by : Known → Rules → ℕ → Reached → List Line
 run_lines_by k r m finds_down = line.Run m run_text.Down ∷ []

@@ -15,7 +15,7 @@ ghost use Rattle.world_lines.specs.Answers.{vote_as};
 ghost use Rattle.scene_spec.specs.Known.{setting_with, world_with};
 ghost use Rattle.scene_spec.specs.Posts.{posts_behind, reached_in, record_left, stated_in};
 ghost use Rattle.scene_spec.specs.Scene.{bare_setting, bare_world, rules_in};
-ghost use Rattle.scene_spec.specs.Steps.{call_of, called_scene, hold_text_in, lines_in, steps_to, vote_text_in};
+ghost use Rattle.scene_spec.specs.Steps.{called_scene, hold_text_in, lines_in, steps_to, vote_text_in, work_of};
 ghost use Rattle.world_core.specs.declared.reply.SeatFault.TheVariants as fault;
 ghost use Rattle.world_core.specs.Replies.{Leaves};
 ghost use Rattle.world_core.specs.Kept.{LeavesAs, is_call};
@@ -322,7 +322,7 @@ impl World {
     }
 
     /// The line `vote`: asks a member for its vote for the transaction of this name.
-    #[tactic(auto, unfolding(scene_spec::specs::Steps::steps_to, scene_spec::specs::Steps::lines_in, scene_spec::specs::Steps::call_of), using(crate::proofs::Lines::vote_none_world, crate::proofs::Lines::vote_none_lines, crate::proofs::Lines::vote_none_kept, crate::proofs::Lines::vote_some_world, crate::proofs::Lines::vote_some_lines, crate::proofs::Lines::vote_some_kept, crate::proofs::Lines::vote_some_fault))]
+    #[tactic(auto, unfolding(scene_spec::specs::Steps::steps_to, scene_spec::specs::Steps::lines_in, scene_spec::specs::Steps::work_of), using(crate::proofs::Lines::vote_none_world, crate::proofs::Lines::vote_none_lines, crate::proofs::Lines::vote_none_kept, crate::proofs::Lines::vote_some_world, crate::proofs::Lines::vote_some_lines, crate::proofs::Lines::vote_some_kept, crate::proofs::Lines::vote_some_fault))]
     fn vote<D: Keeper, S: MakesSeals>(
         &mut self,
         keeper: &mut D,
@@ -333,7 +333,7 @@ impl World {
         requires room { length self.old.posts ≤ D.width keeper.old }
         ensures world { OnOk result (self.new ≡ steps_to (trust_by (S.made sealer.now) (S.accepts sealer.now)) self.old (events.Vote member tx.now)) }
         ensures lines { IfOk result (λ lines. lines ≡ lines_in (trust_by (S.made sealer.now) (S.accepts sealer.now)) self.old (events.Vote member tx.now)) }
-        ensures kept { LeavesAs (rules_in (S.accepts sealer.now) self.old) self.old (call_of self.old (events.Vote member tx.now)) (D.lists keeper.old) (D.lists keeper.new) result }
+        ensures kept { LeavesAs (rules_in (S.accepts sealer.now) self.old) self.old (work_of self.old (events.Vote member tx.now)) (D.lists keeper.old) (D.lists keeper.new) result }
         ensures width { D.width keeper.new ≡ D.width keeper.old }
         ensures later { D.failed keeper.old ≤ D.failed keeper.new }
         ensures fault { IsErrOf result fault.KeepFault → Rose (D.failed keeper.old) (D.failed keeper.new) }
@@ -370,7 +370,7 @@ impl World {
     }
 
     /// The line `send`: hands the certificate that was formed last for this name to a member.
-    #[tactic(auto, unfolding(scene_spec::specs::Steps::steps_to, scene_spec::specs::Steps::lines_in, scene_spec::specs::Steps::call_of), using(crate::proofs::Lines::send_none_world, crate::proofs::Lines::send_none_lines, crate::proofs::Lines::send_none_kept, crate::proofs::Lines::send_some_world, crate::proofs::Lines::send_some_lines, crate::proofs::Lines::send_some_kept, crate::proofs::Lines::send_some_fault))]
+    #[tactic(auto, unfolding(scene_spec::specs::Steps::steps_to, scene_spec::specs::Steps::lines_in, scene_spec::specs::Steps::work_of), using(crate::proofs::Lines::send_none_world, crate::proofs::Lines::send_none_lines, crate::proofs::Lines::send_none_kept, crate::proofs::Lines::send_some_world, crate::proofs::Lines::send_some_lines, crate::proofs::Lines::send_some_kept, crate::proofs::Lines::send_some_fault))]
     fn send<D: Keeper, S: MakesSeals>(
         &mut self,
         keeper: &mut D,
@@ -381,7 +381,7 @@ impl World {
         requires room { length self.old.posts ≤ D.width keeper.old }
         ensures world { OnOk result (self.new ≡ steps_to (trust_by (S.made sealer.now) (S.accepts sealer.now)) self.old (events.Send member tx.now)) }
         ensures lines { IfOk result (λ lines. lines ≡ lines_in (trust_by (S.made sealer.now) (S.accepts sealer.now)) self.old (events.Send member tx.now)) }
-        ensures kept { LeavesAs (rules_in (S.accepts sealer.now) self.old) self.old (call_of self.old (events.Send member tx.now)) (D.lists keeper.old) (D.lists keeper.new) result }
+        ensures kept { LeavesAs (rules_in (S.accepts sealer.now) self.old) self.old (work_of self.old (events.Send member tx.now)) (D.lists keeper.old) (D.lists keeper.new) result }
         ensures width { D.width keeper.new ≡ D.width keeper.old }
         ensures later { D.failed keeper.old ≤ D.failed keeper.new }
         ensures fault { IsErrOf result fault.KeepFault → Rose (D.failed keeper.old) (D.failed keeper.new) }
@@ -418,7 +418,7 @@ impl World {
     }
 
     /// The line `run`: lets a member run what it holds.
-    #[tactic(auto, unfolding(scene_spec::specs::Steps::steps_to, scene_spec::specs::Steps::lines_in, scene_spec::specs::Steps::call_of), using(crate::proofs::Texts::run_lines_is, crate::proofs::Lines::left_as))]
+    #[tactic(auto, unfolding(scene_spec::specs::Steps::steps_to, scene_spec::specs::Steps::lines_in, scene_spec::specs::Steps::work_of), using(crate::proofs::Texts::run_lines_is, crate::proofs::Lines::left_as))]
     fn run<D: Keeper, S: MakesSeals>(
         &mut self,
         keeper: &mut D,
@@ -429,7 +429,7 @@ impl World {
         requires room { length self.old.posts ≤ D.width keeper.old }
         ensures world { OnOk result (self.new ≡ steps_to (trust_by (S.made sealer.now) (S.accepts sealer.now)) self.old (events.Run member workers)) }
         ensures lines { IfOk result (λ lines. lines ≡ lines_in (trust_by (S.made sealer.now) (S.accepts sealer.now)) self.old (events.Run member workers)) }
-        ensures kept { LeavesAs (rules_in (S.accepts sealer.now) self.old) self.old (call_of self.old (events.Run member workers)) (D.lists keeper.old) (D.lists keeper.new) result }
+        ensures kept { LeavesAs (rules_in (S.accepts sealer.now) self.old) self.old (work_of self.old (events.Run member workers)) (D.lists keeper.old) (D.lists keeper.new) result }
         ensures width { D.width keeper.new ≡ D.width keeper.old }
         ensures later { D.failed keeper.old ≤ D.failed keeper.new }
         ensures fault { IsErrOf result fault.KeepFault → Rose (D.failed keeper.old) (D.failed keeper.new) }
@@ -445,7 +445,7 @@ impl World {
     }
 
     /// The line `raw .. vote`: asks a member for its vote for what the bytes spell.
-    #[tactic(auto, unfolding(scene_spec::specs::Steps::steps_to, scene_spec::specs::Steps::lines_in, scene_spec::specs::Steps::call_of), using(crate::proofs::Lines::left_as, crate::proofs::Lines::left_on))]
+    #[tactic(auto, unfolding(scene_spec::specs::Steps::steps_to, scene_spec::specs::Steps::lines_in, scene_spec::specs::Steps::work_of), using(crate::proofs::Lines::left_as, crate::proofs::Lines::left_on))]
     fn raw_vote<D: Keeper, S: MakesSeals>(
         &mut self,
         keeper: &mut D,
@@ -456,7 +456,7 @@ impl World {
         requires room { length self.old.posts ≤ D.width keeper.old }
         ensures world { OnOk result (self.new ≡ steps_to (trust_by (S.made sealer.now) (S.accepts sealer.now)) self.old (events.RawVote member bytes.now)) }
         ensures lines { IfOk result (λ lines. lines ≡ lines_in (trust_by (S.made sealer.now) (S.accepts sealer.now)) self.old (events.RawVote member bytes.now)) }
-        ensures kept { LeavesAs (rules_in (S.accepts sealer.now) self.old) self.old (call_of self.old (events.RawVote member bytes.now)) (D.lists keeper.old) (D.lists keeper.new) result }
+        ensures kept { LeavesAs (rules_in (S.accepts sealer.now) self.old) self.old (work_of self.old (events.RawVote member bytes.now)) (D.lists keeper.old) (D.lists keeper.new) result }
         ensures width { D.width keeper.new ≡ D.width keeper.old }
         ensures later { D.failed keeper.old ≤ D.failed keeper.new }
         ensures fault { IsErrOf result fault.KeepFault → Rose (D.failed keeper.old) (D.failed keeper.new) }
@@ -471,7 +471,7 @@ impl World {
     }
 
     /// The line `raw .. hold`: hands the bytes to a member as a certificate.
-    #[tactic(auto, unfolding(scene_spec::specs::Steps::steps_to, scene_spec::specs::Steps::lines_in, scene_spec::specs::Steps::call_of), using(crate::proofs::Lines::left_as, crate::proofs::Lines::left_on))]
+    #[tactic(auto, unfolding(scene_spec::specs::Steps::steps_to, scene_spec::specs::Steps::lines_in, scene_spec::specs::Steps::work_of), using(crate::proofs::Lines::left_as, crate::proofs::Lines::left_on))]
     fn raw_hold<D: Keeper, S: MakesSeals>(
         &mut self,
         keeper: &mut D,
@@ -482,7 +482,7 @@ impl World {
         requires room { length self.old.posts ≤ D.width keeper.old }
         ensures world { OnOk result (self.new ≡ steps_to (trust_by (S.made sealer.now) (S.accepts sealer.now)) self.old (events.RawHold member bytes.now)) }
         ensures lines { IfOk result (λ lines. lines ≡ lines_in (trust_by (S.made sealer.now) (S.accepts sealer.now)) self.old (events.RawHold member bytes.now)) }
-        ensures kept { LeavesAs (rules_in (S.accepts sealer.now) self.old) self.old (call_of self.old (events.RawHold member bytes.now)) (D.lists keeper.old) (D.lists keeper.new) result }
+        ensures kept { LeavesAs (rules_in (S.accepts sealer.now) self.old) self.old (work_of self.old (events.RawHold member bytes.now)) (D.lists keeper.old) (D.lists keeper.new) result }
         ensures width { D.width keeper.new ≡ D.width keeper.old }
         ensures later { D.failed keeper.old ≤ D.failed keeper.new }
         ensures fault { IsErrOf result fault.KeepFault → Rose (D.failed keeper.old) (D.failed keeper.new) }
@@ -507,7 +507,7 @@ impl World {
         requires call { is_call event.now ≡ true }
         ensures world { OnOk result (self.new ≡ steps_to (trust_by (S.made sealer.now) (S.accepts sealer.now)) self.old event.now) }
         ensures lines { IfOk result (λ lines. lines ≡ lines_in (trust_by (S.made sealer.now) (S.accepts sealer.now)) self.old event.now) }
-        ensures kept { LeavesAs (rules_in (S.accepts sealer.now) self.old) self.old (call_of self.old event.now) (D.lists keeper.old) (D.lists keeper.new) result }
+        ensures kept { LeavesAs (rules_in (S.accepts sealer.now) self.old) self.old (work_of self.old event.now) (D.lists keeper.old) (D.lists keeper.new) result }
         ensures width { D.width keeper.new ≡ D.width keeper.old }
         ensures later { D.failed keeper.old ≤ D.failed keeper.new }
         ensures fault { IsErrOf result fault.KeepFault → Rose (D.failed keeper.old) (D.failed keeper.new) }
@@ -516,6 +516,7 @@ impl World {
             Event::Vote { member, tx } => self.vote(keeper, sealer, *member, tx),
             Event::Send { member, tx } => self.send(keeper, sealer, *member, tx),
             Event::Run { member, workers } => self.run(keeper, sealer, *member, *workers),
+            Event::Close(member) => self.close(keeper, sealer, *member),
             Event::RawVote { member, bytes } => self.raw_vote(keeper, sealer, *member, bytes),
             Event::RawHold { member, bytes } => self.raw_hold(keeper, sealer, *member, bytes),
             Event::Tx { .. }
@@ -525,7 +526,6 @@ impl World {
             | Event::OrderEnd(_)
             | Event::OrderCommit
             | Event::See { .. }
-            | Event::Close(_)
             | Event::End(_)
             | Event::Turn(_)
             | Event::Show(_)

@@ -10,9 +10,10 @@ ghost use Rattle.world_core.specs.Replies.{Leaves, SaysClose, SaysSee, close_fau
 
 use crate::reply::SeatFault;
 use crate::requests::Asks;
+use answer_types::{CloseRefusal, SeeRefusal, Seen};
 use outside::Keeper;
 use quorum_core::Sealer;
-use validator_core::{CloseRefusal, SeeRefusal, Seen, Validator};
+use validator_core::Validator;
 
 /// The entry of this number of the member's sequence, spelled.
 #[derive(Clone, Copy)]

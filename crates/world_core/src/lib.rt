@@ -15,6 +15,7 @@
 
 mod calls;
 mod certs;
+mod closes;
 mod epoch_requests;
 mod forms;
 mod opening;

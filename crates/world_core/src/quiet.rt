@@ -108,13 +108,13 @@ impl World {
             Event::Cert { tx, members } => {
                 self.form_cert(sealer, tx.as_slice(), members.as_slice())
             }
+            Event::Order(tx) => self.order_cert(tx.as_slice()),
+            Event::OrderCommit => self.order_commit(),
             Event::Show(member) => self.show(*member),
             Event::Stop { member, kept } => self.stop(*member, *kept),
             Event::Vote { .. }
             | Event::Send { .. }
-            | Event::Order(_)
             | Event::OrderEnd(_)
-            | Event::OrderCommit
             | Event::See { .. }
             | Event::Run { .. }
             | Event::Close(_)

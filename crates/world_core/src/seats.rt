@@ -20,6 +20,7 @@ use crate::requests::{Asks, HoldRequest, RunRequest, VoteRequest};
 use crate::seat::Seat;
 use crate::starts::{records_of, start_new};
 use crate::terms::Terms;
+use answer_types::{SeeRefusal, Seen};
 use chain_types::{Object, ObjectKey};
 use digest_core::Digest;
 use outside::{Keeper, OutFault};
@@ -27,8 +28,7 @@ use quorum_core::{Committee, Sealer};
 use std::alloc::Global;
 use std::marker::Model;
 use validator_core::{
-    CloseRefusal, HoldRefusal, Ran, RunRefusal, SeeRefusal, Seen, StartRefusal, Validator, VoteRefusal,
-    Voted,
+    CloseRefusal, HoldRefusal, Ran, RunRefusal, StartRefusal, Validator, VoteRefusal, Voted,
 };
 use wire_bcs::{OutOfMemory, Seq};
 use world_names::HeldDigests;

@@ -80,6 +80,7 @@ fn add_last(lines: &mut Seq<Line>, line: Line) -> Result<bool, SeatFault>
 }
 
 /// Hands a member the entry of this number, adds its lines, and tells whether the line goes on behind it.
+#[tactic(auto, using(crate::proofs::SeeTexts::see_down, crate::proofs::SeeTexts::down_ends, crate::proofs::SeeTexts::see_stopped, crate::proofs::SeeTexts::stopped_ends, crate::proofs::SeeTexts::see_said, crate::proofs::SeeTexts::said_goes, crate::proofs::SeeTexts::see_states, crate::proofs::Texts::down_states, crate::proofs::Texts::stopped_states))]
 fn see<D: Keeper, S: Sealer>(
     seats: &mut Seats,
     said: &mut SaidBook,

@@ -1,0 +1,55 @@
+-- What a member answers to the close of its epoch, and what becomes of the call.
+use Rattle.std.proofs.Common.{◌≡◌, ◌∙◌, ap, sym, refl, ℕ, Bool, List, ◌++◌, map, append-nil, Result, Ok, Err}
+use Rattle.answer_types.specs.declared.refusals.CloseRefusal.{CloseRefusal}
+use Rattle.answer_types.specs.declared.refusals.CloseRefusal.TheVariants as no_close
+use Rattle.protocol_spec.specs.Chain.Certificates.{Rules}
+use Rattle.protocol_spec.specs.Member.Calls.{close_answer, closes}
+use Rattle.report_text.specs.declared.lines.CloseText.{CloseText}
+use Rattle.report_text.specs.declared.lines.CloseText.TheVariants as close_text
+use Rattle.validator_core.specs.Calls.{Closes, close_ended}
+use Rattle.validator_core.specs.Seats.{answered}
+use Rattle.world_spec.specs.Setting.{Trust}
+use Rattle.world_spec.specs.World.{Reached, Said, answers, finds_down, said_by, stated, stops}
+use Rattle.world_spec.specs.Report.{close_answered, close_reached}
+use Rattle.scene_spec.proofs.LineWorlds.{close_same}
+use Rattle.scene_spec.specs.Known.{Known, world_with}
+use Rattle.scene_spec.specs.Posts.{reached_in, stated_in}
+use Rattle.scene_spec.specs.Scene.{Scene, bare_setting, bare_world, rules_in}
+use Rattle.world_core.specs.Replies.{HasAnswered, HasStopped, SaysClose}
+use Rattle.world_core.specs.Texts.{close_text_by}
+
+close_is : (said given : Result Bool CloseRefusal) → Closes said given → close_ended given ≡ answered → said ≡ given
+close_is said (Ok new) is e = is
+close_is said (Err no_close.OutOfMemory) is e = absurd (cc)
+close_is said (Err no_close.KeepFault) is e = absurd (cc)
+close_is said (Err no_close.Down) is e = is
+close_is said (Err (no_close.Halted first second)) is e = is
+close_is said (Err no_close.Full) is e = is
+
+pub close_down : (k : Known) (r : Rules) (what : Reached) → what ≡ finds_down → close_text.Down ≡ close_text_by k r what
+close_down k r what is = sym (ap (close_text_by k r) is)
+
+pub close_stopped : (k : Known) (r : Rules) (what : Reached) → HasStopped what → close_text.Stopped ≡ close_text_by k r what
+close_stopped k r what is = sym (ap (close_text_by k r) is.is)
+
+pub close_said : (k : Known) (r : Rules) (what : Reached) (given : Result Bool CloseRefusal) (text : CloseText)
+    → HasAnswered (SaysClose r) what given → text ≡ close_answered (world_with k) given → text ≡ close_text_by k r what
+close_said k r what given text is t =
+    t
+    ∙ sym (ap (close_answered (world_with k)) (close_is (close_answer r is.before) given is.says.answer is.says.ended))
+    ∙ sym (ap (close_text_by k r) is.is)
+
+pub close_text_is : (trust : Trust) (sc : Scene) (m : ℕ) → close_text_by sc.known (rules_in trust.accepts sc) (reached_in (rules_in trust.accepts sc) sc.posts m closes) ≡ close_reached (bare_setting trust sc) (bare_world sc) (reached_in (rules_in trust.accepts sc) sc.posts m closes)
+close_text_is trust sc m = go (reached_in (rules_in trust.accepts sc) sc.posts m closes)
+  where
+    go : (what : Reached) → close_text_by sc.known (rules_in trust.accepts sc) what ≡ close_reached (bare_setting trust sc) (bare_world sc) what
+    go finds_down = refl
+    go (stops kept x) = refl
+    go (answers before x) = sym (close_same (bare_setting trust sc) (bare_world sc) (close_answer (rules_in trust.accepts sc) before))
+
+-- nothing is stated
+pub close_states : (r : Rules) (m : ℕ) (xs : List Said) (what : Reached) → xs ≡ xs ++ map (said_by m) (stated_in r closes what)
+unfolding stated
+close_states r m xs finds_down = sym (append-nil xs)
+close_states r m xs (stops kept x) = sym (append-nil xs)
+close_states r m xs (answers before x) = sym (append-nil xs)
