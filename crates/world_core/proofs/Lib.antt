@@ -17,6 +17,7 @@ pub mod Stays
 pub mod Seeing
 pub mod Closing
 pub mod SeeTexts
+pub mod SeeLines
 pub mod Nexts
 pub mod Ordered
 mod First

@@ -15,7 +15,7 @@ use Rattle.world_spec.specs.World.{Made}
 use Rattle.journal_core.specs.declared.records.Record.{Record}
 use Rattle.scene_spec.specs.Posts.{AddsAll, AddsFront, AddsLeft, MayAddLeft, list_of, reached_in, record_left}
 use Rattle.scene_spec.specs.Scene.{Scene}
-use Rattle.scene_spec.specs.Steps.{asked, asks, called_scene, held_call, hold_text_in, send_text_in, signed_call, vote_lines_in, vote_text_in, worked}
+use Rattle.scene_spec.specs.Steps.{MayAddLine, asked, asks, called_scene, held_call, hold_text_in, records_left, send_text_in, signed_call, vote_lines_in, vote_text_in, worked}
 use Rattle.world_core.specs.Replies.{Leaves}
 use Rattle.world_core.specs.Kept.{LeavesAs}
 use Rattle.world_core.specs.Texts.{spelled_cert, spelled_tx}
@@ -68,10 +68,10 @@ vote_some_kept r sc m (Some t) bytes before now e is (Ok b) = adds_all before no
 vote_some_kept r sc m (Some t) bytes before now e is (Err b) = adds_front before now m _ (inl (subst (λ c. AddsLeft before now m (record_left (reached_in r sc.posts m (votes c)))) (cc) is))
 
 -- where nothing more comes of it
-pub vote_some_fault : (B F : Type 0) (r : Rules) (sc : Scene) (m : ℕ) (t : Option Made) (bytes : List ℕ) (before now : Option Journals) → Some bytes ≡ option_map spelled_tx t
-    → MayAddLeft before now m (record_left (reached_in r sc.posts m (votes bytes))) → (e : F) → LeavesAs r sc (asked m (option_map signed_call t)) before now (let x : Result B F = Err e in x)
-vote_some_fault B F r sc m None bytes before now e is f = absurd (cc)
-vote_some_fault B F r sc m (Some t) bytes before now e is f = adds_front before now m _ (subst (λ c. MayAddLeft before now m (record_left (reached_in r sc.posts m (votes c)))) (cc) is)
+pub vote_cut : (r : Rules) (sc : Scene) (m : ℕ) (t : Option Made) (bytes : List ℕ) (before now : Option Journals) → Some bytes ≡ option_map spelled_tx t
+    → MayAddLeft before now m (record_left (reached_in r sc.posts m (votes bytes))) → MayAddLine (records_left r sc (asked m (option_map signed_call t))) before now
+vote_cut r sc m None bytes before now e is = absurd (cc)
+vote_cut r sc m (Some t) bytes before now e is = adds_front before now m _ (subst (λ c. MayAddLeft before now m (record_left (reached_in r sc.posts m (votes c)))) (cc) is)
 
 -- ---- send
 
@@ -102,10 +102,10 @@ send_some_kept r sc m None bytes before now e is result = absurd (cc)
 send_some_kept r sc m (Some c) bytes before now e is (Ok b) = adds_all before now m _ (subst (λ x. AddsLeft before now m (record_left (reached_in r sc.posts m (holds x)))) (cc) is)
 send_some_kept r sc m (Some c) bytes before now e is (Err b) = adds_front before now m _ (inl (subst (λ x. AddsLeft before now m (record_left (reached_in r sc.posts m (holds x)))) (cc) is))
 
-pub send_some_fault : (B F : Type 0) (r : Rules) (sc : Scene) (m : ℕ) (c : Option Certificate) (bytes : List ℕ) (before now : Option Journals) → Some bytes ≡ option_map spelled_cert c
-    → MayAddLeft before now m (record_left (reached_in r sc.posts m (holds bytes))) → (e : F) → LeavesAs r sc (asked m (option_map held_call c)) before now (let x : Result B F = Err e in x)
-send_some_fault B F r sc m None bytes before now e is f = absurd (cc)
-send_some_fault B F r sc m (Some c) bytes before now e is f = adds_front before now m _ (subst (λ x. MayAddLeft before now m (record_left (reached_in r sc.posts m (holds x)))) (cc) is)
+pub send_cut : (r : Rules) (sc : Scene) (m : ℕ) (c : Option Certificate) (bytes : List ℕ) (before now : Option Journals) → Some bytes ≡ option_map spelled_cert c
+    → MayAddLeft before now m (record_left (reached_in r sc.posts m (holds bytes))) → MayAddLine (records_left r sc (asked m (option_map held_call c))) before now
+send_cut r sc m None bytes before now e is = absurd (cc)
+send_cut r sc m (Some c) bytes before now e is = adds_front before now m _ (subst (λ x. MayAddLeft before now m (record_left (reached_in r sc.posts m (holds x)))) (cc) is)
 
 -- ---- a call behind which something else fails
 

@@ -14,6 +14,7 @@ use Rattle.world_spec.specs.Report.{order_said}
 use Rattle.world_lines.specs.Orders.{Orders, open_in, with_entry}
 use Rattle.scene_spec.specs.Scene.{Scene, bare_world}
 use Rattle.scene_spec.specs.Steps.{with_order}
+use Rattle.scene_spec.specs.Worlds.{AreKeepable}
 
 pub short_mark : messages.entry.short entry.Commit
 unfolding messages.entry
@@ -65,3 +66,6 @@ module _ (sc : Scene) (c : Option Certificate) (cert : Certificate) (is : Some c
 
 pub says_none : (sc : Scene) (c : Option Certificate) → None ≡ c → order_text.NoCertificate ≡ order_said (bare_world sc) c
 says_none sc c none = ap (λ (x : Option Certificate). order_said (bare_world sc) x) none
+
+pub can_keep : (v sc : Scene) → v ≡ sc → AreKeepable v.sequences → AreKeepable sc.sequences
+can_keep v sc view is = subst (λ (x : Scene). AreKeepable x.sequences) view is

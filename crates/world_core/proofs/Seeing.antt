@@ -25,7 +25,7 @@ use Rattle.scene_spec.specs.Scene.{Scene, bare_setting, bare_world, rules_in}
 use Rattle.scene_spec.specs.Steps.{call_lines_in, called_if, called_scene, entries_lines_in, left_if, next_on, seat_state, sees_left, sees_to, standing_at}
 use Rattle.world_core.specs.Sees.{HasSeen}
 
-set_same : {A : Type 0} (xs : List A) (m : ℕ) (x : A) → slice_get xs m ≡ Some x → slice_set xs m x ≡ xs
+pub set_same : {A : Type 0} (xs : List A) (m : ℕ) (x : A) → slice_get xs m ≡ Some x → slice_set xs m x ≡ xs
 set_same [] m x e = refl
 set_same {A} (y ∷ ys) zero x e = ap (λ (z : A). z ∷ ys) (let same : Some y ≡ Some x = e in sym (cc))
 set_same {A} (y ∷ ys) (suc m) x e = ap (λ (zs : List A). y ∷ zs) (set_same ys m x e)
@@ -252,7 +252,7 @@ fold_join : {A B : Type 0} (f : B → A → B) (b : B) (xs ys : List A) → fold
 fold_join f b [] ys = refl
 fold_join f b (x ∷ xs) ys = fold_join f (f b x) xs ys
 
-adds_none : (told : Option Journals) (m : ℕ) → AddsAll told told m []
+pub adds_none : (told : Option Journals) (m : ℕ) → AddsAll told told m []
 adds_none None m = tt
 adds_none (Some lists) m = refl
 
@@ -270,7 +270,7 @@ module _ (trust : Trust) (m n : ℕ) (old : Scene) (before : Option Journals) (l
   seen_none = record { scene = refl; says = refl; done = []; records = refl; adds = adds_none before m; rules = refl; many = refl }
 
   module _ (now next : Scene) (told later : Option Journals) (so_far more : List Line) (left : ℕ) (some : 0 < left) (has_ : HasSeen trust m n old now before told lines so_far left) where
-    still : ℕ
+    abbrev still : ℕ
     still = left - 1
 
     has : HasSeen trust m n old now before told lines so_far (suc still)

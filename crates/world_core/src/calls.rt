@@ -322,7 +322,7 @@ impl World {
     }
 
     /// The line `vote`: asks a member for its vote for the transaction of this name.
-    #[tactic(auto, unfolding(scene_spec::specs::Steps::steps_to, scene_spec::specs::Steps::lines_in, scene_spec::specs::Steps::work_of), using(crate::proofs::Lines::vote_none_world, crate::proofs::Lines::vote_none_lines, crate::proofs::Lines::vote_none_kept, crate::proofs::Lines::vote_some_world, crate::proofs::Lines::vote_some_lines, crate::proofs::Lines::vote_some_kept, crate::proofs::Lines::vote_some_fault))]
+    #[tactic(auto, unfolding(scene_spec::specs::Steps::steps_to, scene_spec::specs::Steps::lines_in, scene_spec::specs::Steps::work_of), using(crate::proofs::Lines::vote_none_world, crate::proofs::Lines::vote_none_lines, crate::proofs::Lines::vote_none_kept, crate::proofs::Lines::vote_some_world, crate::proofs::Lines::vote_some_lines, crate::proofs::Lines::vote_some_kept, crate::proofs::Lines::vote_cut))]
     fn vote<D: Keeper, S: MakesSeals>(
         &mut self,
         keeper: &mut D,
@@ -370,7 +370,7 @@ impl World {
     }
 
     /// The line `send`: hands the certificate that was formed last for this name to a member.
-    #[tactic(auto, unfolding(scene_spec::specs::Steps::steps_to, scene_spec::specs::Steps::lines_in, scene_spec::specs::Steps::work_of), using(crate::proofs::Lines::send_none_world, crate::proofs::Lines::send_none_lines, crate::proofs::Lines::send_none_kept, crate::proofs::Lines::send_some_world, crate::proofs::Lines::send_some_lines, crate::proofs::Lines::send_some_kept, crate::proofs::Lines::send_some_fault))]
+    #[tactic(auto, unfolding(scene_spec::specs::Steps::steps_to, scene_spec::specs::Steps::lines_in, scene_spec::specs::Steps::work_of), using(crate::proofs::Lines::send_none_world, crate::proofs::Lines::send_none_lines, crate::proofs::Lines::send_none_kept, crate::proofs::Lines::send_some_world, crate::proofs::Lines::send_some_lines, crate::proofs::Lines::send_some_kept, crate::proofs::Lines::send_cut))]
     fn send<D: Keeper, S: MakesSeals>(
         &mut self,
         keeper: &mut D,

@@ -5,6 +5,7 @@ ghost use Rattle.chain_messages.specs.declared.messages.Entry.TheVariants as ent
 ghost use Rattle.report_text.specs.declared.lines.Line.TheVariants as line;
 ghost use Rattle.scene_spec.specs.Scene.{bare_world};
 ghost use Rattle.scene_spec.specs.Steps.{with_order};
+ghost use Rattle.scene_spec.specs.Worlds.{AreKeepable};
 ghost use Rattle.world_spec.specs.Names.{cert_named};
 ghost use Rattle.world_spec.specs.Report.{order_said};
 ghost use Rattle.world_spec.specs.Step.{appended_entry, open_entries, ordered};
@@ -24,6 +25,14 @@ fn order_line(alloc: Global, tx: &[u8], text: OrderText) -> Result<Seq<Line>, Ou
 }
 
 impl World {
+    /// Each entry that was ordered can be kept, as the book of sequences has it. Nothing runs.
+    #[tactic(auto, using(crate::proofs::Ordered::can_keep))]
+    pub(crate) fn can_keep(&self)
+        ensures { AreKeepable self.now.sequences }
+    {
+        let _order = &self.order;
+    }
+
     /// The line `order T`: orders the certificate that was formed last for this name, where it is of the open epoch.
     #[tactic(auto, using(crate::proofs::Ordered::orders_none, crate::proofs::Ordered::orders_late, crate::proofs::Ordered::orders_one, crate::proofs::Ordered::short_cert))]
     pub(crate) fn order_cert(&mut self, tx: &[u8]) -> Result<Seq<Line>, OutOfMemory>

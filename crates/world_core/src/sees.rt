@@ -190,7 +190,7 @@ impl World {
 
     /// Hands a member so many entries, one after the other, up to the first behind which nothing goes on: adds their
     /// lines.
-    #[tactic(auto, using(crate::proofs::Seeing::seen_none, crate::proofs::Seeing::seen_one, crate::proofs::Seeing::seen_all, crate::proofs::Seeing::seen_last, crate::proofs::Seeing::seen_cut))]
+    #[tactic(auto, using(crate::proofs::Seeing::seen_none, crate::proofs::Seeing::seen_one, crate::proofs::Seeing::last_scene, crate::proofs::Seeing::last_lines, crate::proofs::Seeing::last_kept, crate::proofs::Seeing::seen_cut, crate::proofs::Seeing::all_scene, crate::proofs::Seeing::all_lines, crate::proofs::Seeing::all_kept))]
     fn see_all<D: Keeper, S: MakesSeals>(
         &mut self,
         keeper: &mut D,
@@ -253,7 +253,7 @@ impl World {
     }
 
     /// The line `see`: hands a member the next entries of its sequence, so many at most.
-    #[tactic(auto, unfolding(scene_spec::specs::Steps::steps_to, scene_spec::specs::Steps::lines_in, scene_spec::specs::Steps::work_of), using(crate::proofs::Seeing::see_down_world, crate::proofs::Seeing::see_halted_world, crate::proofs::Seeing::see_some_world))]
+    #[tactic(auto, unfolding(scene_spec::specs::Steps::steps_to, scene_spec::specs::Steps::lines_in, scene_spec::specs::Steps::work_of), using(crate::proofs::SeeLines::down_world, crate::proofs::SeeLines::down_lines, crate::proofs::SeeLines::down_kept, crate::proofs::SeeLines::halted_world, crate::proofs::SeeLines::halted_lines, crate::proofs::SeeLines::halted_kept, crate::proofs::SeeLines::taken_world, crate::proofs::SeeLines::taken_kept, crate::proofs::SeeLines::taken_cut, crate::proofs::SeeLines::nothing_lines, crate::proofs::SeeLines::taken_lines))]
     pub(crate) fn see<D: Keeper, S: MakesSeals>(
         &mut self,
         keeper: &mut D,
@@ -279,7 +279,7 @@ impl World {
                 Err(OutOfMemory) => Err(SeatFault::OutOfMemory),
             };
         }
-        let count = self.entries_left(validator).min(entries as u64);
+        let count = (entries as u64).min(self.entries_left(validator));
         let mut lines = Seq::new(alloc);
         match self.see_all(keeper, sealer, &mut lines, member, count) {
             Ok(()) => {}

@@ -43,6 +43,7 @@ impl World {
         ensures fault { IsErrOf result fault.KeepFault → Rose (D.failed keeper.old) (D.failed keeper.new) }
         ensures bad { (m place : ℕ) → IsErrOf result (fault.BadRecord m place) → is_restart event.now ≡ true }
     {
+        self.can_keep();
         match event {
             Event::Restart(member) => self.restart(keeper, sealer, *member),
             Event::See { member, entries } => match self.see(keeper, sealer, *member, *entries) {
