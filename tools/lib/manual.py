@@ -74,12 +74,19 @@ def examples(path):
     """The examples of a document. A block `schedule python` is a program that prints the schedule; `report tail` is a report's end."""
     found = []
     for number, heading, language, words, text in blocks(read(path)):
+        if words[:1] == ["of"]:
+            continue
         if language == "schedule":
             made = subprocess.run([sys.executable, "-c", text], stdout=subprocess.PIPE, check=True).stdout if words == ["python"] else text.encode()
             found.append(Example(f"{path}:{number}", heading, made))
         elif language == "report" and found and found[-1].report is None:
             found[-1].report, found[-1].is_tail = text, words == ["tail"]
     return found
+
+
+def quotes(path):
+    """What a document quotes `of` a schedule file: the place, `schedule` or `report`, the file, the text."""
+    return [(f"{path}:{number}", language, words[1], text) for number, _, language, words, text in blocks(read(path)) if words[:1] == ["of"]]
 
 
 # What the sources declare by which the words of a schedule, the causes and the lines of a report are found, in whatever crate they stand.

@@ -15,19 +15,22 @@ class Line:
 
     word = property(lambda self: self.words[0])
     is_setup = property(lambda self: self.word in SETUP)
+    # `order end M`; without a member it is the order of a transaction named `end`
+    is_order_end = property(lambda self: self.words[:2] == ["order", "end"] and len(self.words) > 2)
 
     @property
     def member(self):
         """The member that the event asks, or none."""
-        if self.word in OF_MEMBER and len(self.words) > 1 and self.words[1].isdigit():
-            return int(self.words[1])
-        return int(self.words[2]) if self.words[:2] == ["order", "end"] else None
+        at = 2 if self.is_order_end else 1
+        if (self.is_order_end or self.word in OF_MEMBER) and len(self.words) > at and self.words[at].isdigit():
+            return int(self.words[at])
+        return None
 
     @property
     def tx(self):
         """The name of the transaction that the event is about, or none."""
         at = {"tx": 1, "cert": 1, "final": 1, "vote": 2, "fvote": 2, "send": 2, "ack": 2}.get(self.word)
-        if self.word == "order" and self.words[1] not in ("end", "commit"):
+        if self.word == "order" and not self.is_order_end and self.words[1:] != ["commit"]:
             at = 1
         return self.words[at] if at and len(self.words) > at else None
 
@@ -49,9 +52,19 @@ def refusal(report):
     return (int(found[1]), int(found[2])) if found else None
 
 
+def entries(event):
+    """The lines that a `see` event has of entries."""
+    return [line for line in event.said if line.startswith(f"see {event.words[1]} entry ")] if event.word == "see" else []
+
+
 def is_of(event, line):
-    """Whether a line of the report is one more of a `see` event."""
-    return event.word == "see" and line.startswith(f"see {event.words[1]} entry ")
+    """Whether a line of the report is one more of a `see` event, which has no more entries than it asks for."""
+    return event.word == "see" and line.startswith(f"see {event.words[1]} entry ") and 0 < len(entries(event)) < int(event.words[2])
+
+
+def checkpoints(event):
+    """What a `see` or a `run` says of the checkpoints that were built."""
+    return [line.strip() for line in event.said if line.startswith("  checkpoint ")]
 
 
 def read(schedule, report):
@@ -60,7 +73,7 @@ def read(schedule, report):
     setup, events = [it for it in found if it.is_setup], [it for it in found if not it.is_setup]
     at = -1
     for line in report.splitlines():
-        if not line.startswith("  ") and not (at >= 0 and is_of(events[at], line) and events[at].said):
+        if not line.startswith("  ") and not (at >= 0 and is_of(events[at], line)):
             at += 1
         if 0 <= at < len(events):
             events[at].said.append(line)
