@@ -39,7 +39,7 @@ use Rattle.scene_spec.specs.Posts.{Post, reached_in, seat_at}
 use Rattle.scene_spec.specs.Scene.{Scene, bare_setting, bare_world, rules_in}
 use Rattle.scene_spec.specs.Steps as scenes
 use Rattle.scene_spec.specs.Steps.{ack_lines_in, ack_text_in, call_lines_in, called_scene, entries_lines_in, hold_text_in, lines_in, next_on, see_halted_in, see_lines_in, send_text_in, show_in, standing_at, state_at, vote_lines_in, vote_text_in}
-use Rattle.scene_spec.specs.Worlds.{Shows, is_plain, is_restart, journal_in, post_of, posts_from, scene_of, spelled}
+use Rattle.scene_spec.specs.Worlds.{Shows, is_restart, journal_in, post_of, posts_from, scene_of, spelled}
 use Rattle.run_law.proofs.ScenePosts.{called-same, place, posts-get, reached-same}
 use Rattle.run_law.proofs.SceneSees.{IsUp, IsDown, stands, up-behind, up-member, up-next, up-next-on, up-state}
 use Rattle.run_law.proofs.SceneSteps.{bare-honest, origins-same, collected-same}
@@ -319,8 +319,8 @@ module _ (trust : Trust) (s : Setting) (rules : s.rules ≡ rules_for (terms_of 
   lines-same (event.Ack m tx spoiled) other = ack-lines trust s rules seal w m tx (made_named w tx)
   lines-same (event.Final tx members) other = final-same trust s rules seal w tx members (made_named w tx)
 
-pub lines-shown : (trust : Trust) (s : Setting) (w : World) (sc : Scene) (e : Event) → Shows trust s w sc → is_plain e ≡ true → is_restart e ≡ false → lines_of s w e ≡ lines_in trust sc e
-lines-shown trust s w sc e shows plain other =
+pub lines-shown : (trust : Trust) (s : Setting) (w : World) (sc : Scene) (e : Event) → Shows trust s w sc → is_restart e ≡ false → lines_of s w e ≡ lines_in trust sc e
+lines-shown trust s w sc e shows other =
     lines-same trust s shows.rules shows.seal w e other ∙ ap (λ (x : Scene). lines_in trust x e) (sym shows.scene)
 
 counted : (seat : Option worlds.Seat) → record_count seat ≡ length (spelled (records_of seat))

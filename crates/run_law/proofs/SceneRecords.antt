@@ -22,7 +22,7 @@ use Rattle.scene_spec.specs.Posts.{list_of, reached_in, record_left, with_all}
 use Rattle.scene_spec.specs.Scene.{Scene, rules_in}
 use Rattle.scene_spec.specs.Steps as scenes
 use Rattle.scene_spec.specs.Steps.{AddsLine, MayAddLine, Work, idle, asks, hands, ack_work, asked, held_call, left_if, next_on, records_left, sees_left, signed_call, work_of}
-use Rattle.scene_spec.specs.Worlds.{HasRoom, IsFront, Shows, Tells, TellsFront, is_plain, journal_in, posts_from, scene_of, spelled}
+use Rattle.scene_spec.specs.Worlds.{HasRoom, IsFront, Shows, Tells, TellsFront, journal_in, posts_from, scene_of, spelled}
 use Rattle.run_law.proofs.ScenePosts.{reached-same}
 use Rattle.run_law.proofs.SceneSees.{IsUp, IsDown, count-same, down-next, down-step, next-same, stands, up-next, up-next-on}
 use Rattle.run_law.proofs.SceneSteps.{bare-honest}
@@ -279,9 +279,9 @@ module _ (trust : Trust) (s : Setting) (w : World) (sc : Scene) (e : Event) (sho
   told-behind None now room tells adds = absurd tells
   told-behind (Some lists) now room tells adds = subst (λ (told : Option Journals). Tells told (happens s w e)) (sym (added lists now left adds)) (line-tells lists room tells)
 
-pub line-told : (trust : Trust) (s : Setting) (w : World) (sc : Scene) (e : Event) (before now : Option Journals) → Shows trust s w sc → is_plain e ≡ true → HasRoom before w → Tells before w
+pub line-told : (trust : Trust) (s : Setting) (w : World) (sc : Scene) (e : Event) (before now : Option Journals) → Shows trust s w sc → HasRoom before w → Tells before w
     → AddsLine (records_left (rules_in trust.accepts sc) sc (work_of sc e)) before now → Tells now (happens s w e)
-line-told trust s w sc e before now shows plain room tells adds = told-behind trust s w sc e shows before now room tells adds
+line-told trust s w sc e before now shows room tells adds = told-behind trust s w sc e shows before now room tells adds
 
 -- ---- fronts
 
@@ -390,10 +390,10 @@ module _ (lists : Journals) (now : Option Journals) (w : World) where
   front-added (Some (m, records)) adds tells =
       front-told m adds.front adds.rest adds.adds (subst (λ (all : List Record). Tells (Some (with_all lists m all)) w) adds.is tells)
 
-pub line-cut : (trust : Trust) (s : Setting) (w : World) (sc : Scene) (e : Event) (before now : Option Journals) → Shows trust s w sc → is_plain e ≡ true → HasRoom before w → Tells before w
+pub line-cut : (trust : Trust) (s : Setting) (w : World) (sc : Scene) (e : Event) (before now : Option Journals) → Shows trust s w sc → HasRoom before w → Tells before w
     → MayAddLine (records_left (rules_in trust.accepts sc) sc (work_of sc e)) before now → TellsFront now (happens s w e)
-line-cut trust s w sc e None now shows plain room tells adds = absurd tells
-line-cut trust s w sc e (Some lists) now shows plain room tells adds =
+line-cut trust s w sc e None now shows room tells adds = absurd tells
+line-cut trust s w sc e (Some lists) now shows room tells adds =
     front-added lists now (happens s w e) (records_left (rules_in trust.accepts sc) sc (work_of sc e)) adds (line-tells trust s w sc e shows lists room tells)
 
 -- ---- the first world

@@ -33,7 +33,7 @@ use Rattle.text_law.proofs.Texts.{most_words, IsShortEvent}
 use Rattle.text_law.proofs.TextLines.{text-short}
 use Rattle.text_law.proofs.Fits.{AreThings, IsFitMade, genesis-digest}
 use Rattle.text_law.proofs.Runs.{AreSeals, IsFit, IsFitEvent, world-fit}
-use Rattle.scene_spec.specs.Worlds.{AreKeepable, IsTrueOf, ReadsFit, Restarts, is_plain}
+use Rattle.scene_spec.specs.Worlds.{AreKeepable, ReadsFit, Restarts}
 use Rattle.run_law.proofs.SceneSees.{see-each}
 use Rattle.run_law.proofs.SceneStarts.{entry-spelled, hold-bytes, hold-spelled, run-starts, vote-bytes, vote-spelled}
 
@@ -117,8 +117,8 @@ module _ (s : Setting) (seals : AreSeals s.seal) (things : AreThings s.things) w
       each-join ReadsFit (calls_of s w e) (all_of calls_of s events (happens s w e)) (line-read s (0 + length before) w fit e each.0)
       (subst (λ (v : World). Each ReadsFit (all_of calls_of s events v)) (run-push s before e (new_world s)) rest)
 
-  read-starts : (events : List Event) → length events ≤ most_words → AllByRecursion IsFitEvent events → Each (IsTrueOf is_plain) events → AreKeepable (world_after s events).sequences → Restarts s (world_after s events)
-  read-starts events few each plain keepable = run-starts s events plain (calls-read [] events (omega (arith, few)) tt each) keepable
+  read-starts : (events : List Event) → length events ≤ most_words → AllByRecursion IsFitEvent events → AreKeepable (world_after s events).sequences → Restarts s (world_after s events)
+  read-starts events few each keepable = run-starts s events (calls-read [] events (omega (arith, few)) tt each) keepable
 
 -- ---- what a text says
 
@@ -142,9 +142,9 @@ fit-events : (events : List Event) → AllByRecursion IsStatement (map (λ e. st
 fit-events [] said short = tt
 fit-events (e ∷ events) said short = ((said.0, short.0), fit-events events said.1 short.1)
 
-pub text-starts : (text : List ℕ) (t : Schedule) → schedule_of text ≡ Ok t → (secret : List ℕ) → (front rest : List Event) → t.events ≡ front ++ rest → Each (IsTrueOf is_plain) t.events
+pub text-starts : (text : List ℕ) (t : Schedule) → schedule_of text ≡ Ok t → (secret : List ℕ) → (front rest : List Event) → t.events ≡ front ++ rest
     → AreKeepable (world_after (keyed_setting secret t) front).sequences → Restarts (keyed_setting secret t) (world_after (keyed_setting secret t) front)
-text-starts text t read secret front rest is plain keepable =
+text-starts text t read secret front rest is keepable =
     let short = text-short text t read in
     let fits : AllByRecursion IsFitEvent t.events =
     fit-events t.events (all-back IsStatement (map (λ x. statement.Setup x) t.setup) (map (λ e. statement.Event e) t.events) (text_said text t read).words) short.0 in
@@ -152,5 +152,4 @@ text-starts text t read secret front rest is plain keepable =
     let long = length-append front rest in
     read-starts (keyed_setting secret t) (setting-seals secret t) (setting-things secret t) front (omega (arith, few, long))
     (all-front IsFitEvent front rest (subst (λ (l : List Event). AllByRecursion IsFitEvent l) is fits))
-    (each-front (IsTrueOf is_plain) front rest (subst (λ (l : List Event). Each (IsTrueOf is_plain) l) is plain))
     keepable

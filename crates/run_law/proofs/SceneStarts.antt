@@ -34,6 +34,7 @@ use Rattle.answer_types.specs.declared.refusals.SeeRefusal.{SeeRefusal}
 use Rattle.answer_types.specs.declared.refusals.RunRefusal.{RunRefusal}
 use Rattle.answer_types.specs.declared.refusals.RunRefusal.TheVariants as no_run
 use Rattle.answer_types.specs.declared.refusals.CloseRefusal.{CloseRefusal}
+use Rattle.answer_types.specs.declared.refusals.TurnRefusal.{TurnRefusal}
 use Rattle.answer_types.specs.declared.refusals.StartRefusal.{StartRefusal}
 use Rattle.answer_types.specs.declared.refusals.StartRefusal.TheVariants as no_start
 use Rattle.protocol_spec.specs.Chain.Words.{Along, Each, and_then, first_some, unless_refused, where_true}
@@ -42,9 +43,8 @@ use Rattle.protocol_spec.proofs.ListLemmas.{along-push}
 use Rattle.protocol_spec.specs.Member.Versions.{Execution}
 use Rattle.protocol_spec.specs.Member.Rounds.{rounds}
 use Rattle.protocol_spec.specs.Member.Member.{Member, after, books, fresh, state, with_rounds}
-use Rattle.protocol_spec.specs.Member.Calls.{Call, votes, holds, sees, runs, closes, ends, turns, acks, Voted, close_answer, close_record, due, halted, hold_answer, hold_record, is_hold_kept, kept_vote, ran_as, ran_item, ran_items, ran_record, record_limit, run_answer, run_record, see_cases, see_record, vote_answer, vote_record}
+use Rattle.protocol_spec.specs.Member.Calls.{Call, votes, holds, sees, runs, closes, ends, turns, acks, Voted, close_answer, close_record, due, halted, hold_answer, hold_record, is_hold_kept, kept_vote, ran_as, ran_item, ran_items, ran_record, record_limit, run_answer, run_record, see_cases, see_record, turn_answer, turn_record, vote_answer, vote_record}
 use Rattle.protocol_spec.specs.Member.Replay.{is_allowed}
-use Rattle.scene_spec.specs.Taken.{is_taken}
 use Rattle.schedule_text.specs.declared.words.Event.{Event}
 use Rattle.schedule_text.specs.declared.words.Event.TheVariants as event
 use Rattle.world_spec.specs.Setting.{Trust, Setting}
@@ -64,7 +64,7 @@ use Rattle.text_law.proofs.Members.{AreOrigins, IsDigest, IsFitMember, IsFitStat
 use Rattle.text_law.proofs.Fits.{origins-fit}
 use Rattle.scene_spec.specs.Scene.{Scene, bare_world}
 use Rattle.scene_spec.specs.Steps.{idle, asks, ack_work, asked, held_call, signed_call, work_of}
-use Rattle.scene_spec.specs.Worlds.{AreKeepable, IsKeepable, IsTrueOf, ReadsFit, Restarts, Shows, WorkReadsFit, is_plain, scene_of, spelled}
+use Rattle.scene_spec.specs.Worlds.{AreKeepable, IsKeepable, ReadsFit, Restarts, Shows, WorkReadsFit, scene_of, spelled}
 use Rattle.run_law.proofs.SceneCounted.{few-rounds, holds-few}
 use Rattle.run_law.proofs.SceneRecords.{spelled-push}
 use Rattle.run_law.proofs.SceneSees.{see-each}
@@ -113,25 +113,6 @@ entry-spelled number e fits x is = spelled-fits messages.entry e x fits is
 
 -- ---- records that are taken back
 
-abbrev IsTakenBack : Record → Type 0
-IsTakenBack (record_as.Vote tx origins) = Unit {0}
-IsTakenBack (record_as.Hold c) = Unit {0}
-IsTakenBack (record_as.See bytes) = Unit {0}
-IsTakenBack record_as.Close = Unit {0}
-IsTakenBack (record_as.Ran txs) = Unit {0}
-IsTakenBack record_as.Turn = ⊥
-IsTakenBack (record_as.Ran2 items) = Unit {0}
-
-taken-back : (r : Rules) (m : Member) (x : Record) → IsTakenBack x → is_allowed r m x ≡ true → is_taken r m x ≡ true
-unfolding is_taken
-taken-back r m (record_as.Vote tx origins) back allowed = allowed
-taken-back r m (record_as.Hold c) back allowed = allowed
-taken-back r m (record_as.See bytes) back allowed = allowed
-taken-back r m record_as.Close back allowed = allowed
-taken-back r m (record_as.Ran txs) back allowed = allowed
-taken-back r m record_as.Turn back allowed = absurd back
-taken-back r m (record_as.Ran2 items) back allowed = allowed
-
 abbrev started_as : Member → Result Member StartRefusal
 started_as m = Ok m
 
@@ -140,7 +121,7 @@ same-start m n e = cc
 
 -- one more record, which is read as x and taken
 start-push : (r : Rules) (kept : List (List ℕ)) (m : Member) (place : ℕ) (bytes : List ℕ) (n : Member) (x : Record)
-    → started_from r m place kept ≡ Ok n → read_record bytes ≡ Ok x → is_taken r n x ≡ true → started_from r m place (kept ++ bytes ∷ []) ≡ Ok (after r n x)
+    → started_from r m place kept ≡ Ok n → read_record bytes ≡ Ok x → is_allowed r n x ≡ true → started_from r m place (kept ++ bytes ∷ []) ≡ Ok (after r n x)
 start-push r [] m place bytes n x e read taken =
     let same = same-start m n e in
     ap (λ (b : Result Record WireFault). and_then (taken_at r m place b) (λ next. Ok next)) read
@@ -149,7 +130,7 @@ start-push r [] m place bytes n x e read taken =
 start-push r (b ∷ kept) m place bytes n x e read taken = go (taken_at r m place (read_record b)) e (λ next. start-push r kept next (place + 1) bytes n x)
   where
     go : (t : Result Member StartRefusal) → and_then t (λ next. started_from r next (place + 1) kept) ≡ Ok n
-        → ((next : Member) → started_from r next (place + 1) kept ≡ Ok n → read_record bytes ≡ Ok x → is_taken r n x ≡ true → started_from r next (place + 1) (kept ++ bytes ∷ []) ≡ Ok (after r n x))
+        → ((next : Member) → started_from r next (place + 1) kept ≡ Ok n → read_record bytes ≡ Ok x → is_allowed r n x ≡ true → started_from r next (place + 1) (kept ++ bytes ∷ []) ≡ Ok (after r n x))
         → and_then t (λ next. started_from r next (place + 1) (kept ++ bytes ∷ [])) ≡ Ok (after r n x)
     go (Ok next) e more = more next e read taken
     go (Err refusal) e more = absurd (cc)
@@ -182,6 +163,10 @@ close-record : journals.journal_record.fits record_as.Close
 unfolding journals.journal_record
 close-record = tt
 
+turn-fits : journals.journal_record.fits record_as.Turn
+unfolding journals.journal_record
+turn-fits = tt
+
 effects-digest : (e : Effects) → IsDigest (digest_of_effects e)
 unfolding digest_of_effects
 effects-digest e = tagged-digest _ _
@@ -203,7 +188,7 @@ Given (sees number bytes) = length bytes < length_limit
 Given runs = Unit {0}
 Given closes = Unit {0}
 Given ends = Unit {0}
-Given turns = ⊥
+Given turns = Unit {0}
 Given (acks tx) = Unit {0}
 
 module _ (r : Rules) (opening : List Object) (records : List Record) (fit : IsFitMember (state r opening records)) (x : Record) where
@@ -211,7 +196,7 @@ module _ (r : Rules) (opening : List Object) (records : List Record) (fit : IsFi
   m = state r opening records
 
   abbrev IsGood : Record → Type 0
-  IsGood y = journals.journal_record.fits y × IsTakenBack y
+  IsGood y = journals.journal_record.fits y
 
   some-record : (y : Record) → Some y ≡ Some x → y ≡ x
   some-record y e = cc
@@ -227,7 +212,7 @@ module _ (r : Rules) (opening : List Object) (records : List Record) (fit : IsFi
     where
       go : (b : Bool) (st : Statement) → IsFitStatement st → cond b (kept_vote s.tx st) None ≡ Some x → IsGood x
       go false st is e = absurd (cc)
-      go true (statement.Vote epoch tx origins) is e = good-of (record_as.Vote s.tx origins) e (vote-record s.tx origins (signed-fits s (fits s refl)) is, tt)
+      go true (statement.Vote epoch tx origins) is e = good-of (record_as.Vote s.tx origins) e (vote-record s.tx origins (signed-fits s (fits s refl)) is)
       go true (statement.End epoch) is e = absurd (cc)
       go true (statement.Checkpoint epoch number digest) is e = absurd (cc)
       go true (statement.Ack epoch tx effects) is e = absurd (cc)
@@ -237,7 +222,7 @@ module _ (r : Rules) (opening : List Object) (records : List Record) (fit : IsFi
   hold-good (Ok c) answer fits e = go (is_hold_kept answer) e
     where
       go : (b : Bool) → where_true b (record_as.Hold c) ≡ Some x → IsGood x
-      go true e = good-of (record_as.Hold c) e (hold-record c (fits c refl), tt)
+      go true e = good-of (record_as.Hold c) e (hold-record c (fits c refl))
       go false e = absurd (cc)
 
   -- a run that answers finds room for a record
@@ -274,16 +259,20 @@ module _ (r : Rules) (opening : List Object) (records : List Record) (fit : IsFi
           let due_ : due r m runs ≡ Some (record_as.Ran2 (i ∷ is)) = d ∙ sym e in
           let few : length (i ∷ is) < length_limit = subst (λ (l : List RanItem). length l < length_limit) are (few-items ran answers) in
           let each : AllByRecursion journals.ran_item.fits (i ∷ is) = subst (λ (l : List RanItem). AllByRecursion journals.ran_item.fits l) are (items-fit (rounds (books m) m.executed) (ran-digests (i ∷ is) due_)) in
-          good-of (record_as.Ran2 (i ∷ is)) e (run-record (i ∷ is) few each, tt)
+          good-of (record_as.Ran2 (i ∷ is)) e (run-record (i ∷ is) few each)
 
   see-good : (number : ℕ) (bytes : List ℕ) (refusal : Option SeeRefusal) → length bytes < length_limit → see_record m number bytes refusal ≡ Some x → IsGood x
   see-good number bytes (Some refusal) few e = absurd (cc)
-  see-good number bytes None few e = good-of (record_as.See bytes) e (see-record bytes few, tt)
+  see-good number bytes None few e = good-of (record_as.See bytes) e (see-record bytes few)
 
   close-good : (answer : Result Bool CloseRefusal) → close_record answer ≡ Some x → IsGood x
   close-good (Err refusal) e = absurd (cc)
-  close-good (Ok true) e = good-of record_as.Close e (close-record, tt)
+  close-good (Ok true) e = good-of record_as.Close e close-record
   close-good (Ok false) e = absurd (cc)
+
+  turn-good : (answer : Result (List Digest) TurnRefusal) → turn_record answer ≡ Some x → IsGood x
+  turn-good (Err refusal) e = absurd (cc)
+  turn-good (Ok txs) e = good-of record_as.Turn e turn-fits
 
   stated-vote : (bytes : List ℕ) → Each IsFitStatement (voted_statement (vote_answer r m bytes))
   unfolding stated
@@ -301,7 +290,7 @@ module _ (r : Rules) (opening : List Object) (records : List Record) (fit : IsFi
   due-good runs given d = run-due d
   due-good closes given d = close-good (close_answer r m) d
   due-good ends given d = absurd (cc)
-  due-good turns given d = absurd given
+  due-good turns given d = turn-good (turn_answer r m) d
   due-good (acks tx) given d = absurd (cc)
 
 -- ---- one record more
@@ -310,7 +299,7 @@ module _ (s : Setting) where
   abbrev Starts : List Record → Type 0
   Starts records = (started s.rules s.opening (spelled records) ≡ Ok (state s.rules s.opening records)) × Along (IsDueBehind s.rules s.opening) [] records
 
-  start-more : (records : List Record) (x : Record) → journals.journal_record.fits x → is_taken s.rules (state s.rules s.opening records) x ≡ true
+  start-more : (records : List Record) (x : Record) → journals.journal_record.fits x → is_allowed s.rules (state s.rules s.opening records) x ≡ true
       → started s.rules s.opening (spelled records) ≡ Ok (state s.rules s.opening records) → started s.rules s.opening (spelled (records ++ x ∷ [])) ≡ Ok (state s.rules s.opening (records ++ x ∷ []))
   unfolding started
   start-more records x fits taken starts =
@@ -322,8 +311,8 @@ module _ (s : Setting) where
   start-step records call x given d starts =
       let fit = fit-along s.rules s.opening [] records starts.1 (fit-none s.rules s.opening) in
       let good = due-good s.rules s.opening records fit x call given d in
-      let taken = taken-back s.rules (state s.rules s.opening records) x good.1 (due-allowed s.rules (state s.rules s.opening records) x call d) in
-      (start-more records x good.0 taken starts.0, along-push (IsDueBehind s.rules s.opening) [] records x starts.1 (call, d))
+      let taken = due-allowed s.rules (state s.rules s.opening records) x call d in
+      (start-more records x good taken starts.0, along-push (IsDueBehind s.rules s.opening) [] records x starts.1 (call, d))
 
   no-start : Starts []
   unfolding started state
@@ -364,37 +353,37 @@ module _ (s : Setting) where
   ack-given None = tt
   ack-given (Some t) = (tt, tt)
 
-  line-given : (w : World) (e : Event) → is_plain e ≡ true → WorkReadsFit (work_of (scene_of s w) e) → AreKeepable w.sequences → Each Given (calls_of s w e)
+  line-given : (w : World) (e : Event) → WorkReadsFit (work_of (scene_of s w) e) → AreKeepable w.sequences → Each Given (calls_of s w e)
   unfolding work_of
-  line-given w (event.Tx name sender spoiled epoch gas budget inputs commands) plain fits keepable = tt
-  line-given w (event.Vote m tx) plain fits keepable = vote-given m (made_named w tx) fits
-  line-given w (event.Fvote m tx origins) plain fits keepable = tt
-  line-given w (event.Cert tx members) plain fits keepable = tt
-  line-given w (event.Send m tx) plain fits keepable = send-given m (cert_named w tx) fits
-  line-given w (event.Order tx) plain fits keepable = tt
-  line-given w (event.OrderEnd m) plain fits keepable = tt
-  line-given w event.OrderCommit plain fits keepable = tt
-  line-given w (event.See m entries) plain fits keepable = see-given w m (min entries (entries_left w (member_at s w m))) keepable
-  line-given w (event.Run m workers) plain fits keepable = (tt, tt)
-  line-given w (event.Close m) plain fits keepable = (tt, tt)
-  line-given w (event.End m) plain fits keepable = (tt, tt)
-  line-given w (event.Turn m) plain fits keepable = absurd (cc)
-  line-given w (event.Show m) plain fits keepable = tt
-  line-given w (event.Stop m kept) plain fits keepable = tt
-  line-given w (event.Restart m) plain fits keepable = tt
-  line-given w (event.RawVote m bytes) plain fits keepable = (fits, tt)
-  line-given w (event.RawHold m bytes) plain fits keepable = (fits, tt)
-  line-given w (event.Ack m tx spoiled) plain fits keepable = ack-given (made_named w tx)
-  line-given w (event.Final tx members) plain fits keepable = tt
+  line-given w (event.Tx name sender spoiled epoch gas budget inputs commands) fits keepable = tt
+  line-given w (event.Vote m tx) fits keepable = vote-given m (made_named w tx) fits
+  line-given w (event.Fvote m tx origins) fits keepable = tt
+  line-given w (event.Cert tx members) fits keepable = tt
+  line-given w (event.Send m tx) fits keepable = send-given m (cert_named w tx) fits
+  line-given w (event.Order tx) fits keepable = tt
+  line-given w (event.OrderEnd m) fits keepable = tt
+  line-given w event.OrderCommit fits keepable = tt
+  line-given w (event.See m entries) fits keepable = see-given w m (min entries (entries_left w (member_at s w m))) keepable
+  line-given w (event.Run m workers) fits keepable = (tt, tt)
+  line-given w (event.Close m) fits keepable = (tt, tt)
+  line-given w (event.End m) fits keepable = (tt, tt)
+  line-given w (event.Turn m) fits keepable = (tt, tt)
+  line-given w (event.Show m) fits keepable = tt
+  line-given w (event.Stop m kept) fits keepable = tt
+  line-given w (event.Restart m) fits keepable = tt
+  line-given w (event.RawVote m bytes) fits keepable = (fits, tt)
+  line-given w (event.RawHold m bytes) fits keepable = (fits, tt)
+  line-given w (event.Ack m tx spoiled) fits keepable = ack-given (made_named w tx)
+  line-given w (event.Final tx members) fits keepable = tt
 
   pub first-starts : Restarts s (new_world s)
   unfolding new_world
   first-starts = all-start (new_world s) (new-seats s Given Starts start-step s.honest no-start)
 
-pub line-starts : (trust : Trust) (s : Setting) (w : World) (sc : Scene) (e : Event) → Shows trust s w sc → is_plain e ≡ true → WorkReadsFit (work_of sc e) → AreKeepable w.sequences → Restarts s w → Restarts s (happens s w e)
-line-starts trust s w sc e shows plain fits keepable restarts =
+pub line-starts : (trust : Trust) (s : Setting) (w : World) (sc : Scene) (e : Event) → Shows trust s w sc → WorkReadsFit (work_of sc e) → AreKeepable w.sequences → Restarts s w → Restarts s (happens s w e)
+line-starts trust s w sc e shows fits keepable restarts =
     all-start s (happens s w e)
-    (kept-line s Given (Starts s) (start-step s) w e (line-given s w e plain (subst (λ (x : Scene). WorkReadsFit (work_of x e)) shows.scene fits) keepable) (each-starts s w restarts))
+    (kept-line s Given (Starts s) (start-step s) w e (line-given s w e (subst (λ (x : Scene). WorkReadsFit (work_of x e)) shows.scene fits) keepable) (each-starts s w restarts))
 
 -- ---- a run
 
@@ -439,18 +428,18 @@ module _ (s : Setting) where
   work-reads w (event.Ack m tx spoiled) fits = ack-work w m (made_named w tx)
   work-reads w (event.Final tx members) fits = tt
 
-  run-given : (events : List Event) (w : World) → Each (IsTrueOf is_plain) events → Each ReadsFit (all_of calls_of s events w) → AreKeepable (run s events w).sequences → Each Given (all_of calls_of s events w)
-  run-given [] w plain fits keepable = tt
-  run-given (e ∷ events) w plain fits keepable =
+  run-given : (events : List Event) (w : World) → Each ReadsFit (all_of calls_of s events w) → AreKeepable (run s events w).sequences → Each Given (all_of calls_of s events w)
+  run-given [] w fits keepable = tt
+  run-given (e ∷ events) w fits keepable =
       each-join Given (calls_of s w e) (all_of calls_of s events (happens s w e))
-      (line-given s w e plain.0 (work-reads w e (each-front ReadsFit (calls_of s w e) _ fits)) (run-keepable s (e ∷ events) w keepable))
-      (run-given events (happens s w e) plain.1 (each-back ReadsFit (calls_of s w e) _ fits) keepable)
+      (line-given s w e (work-reads w e (each-front ReadsFit (calls_of s w e) _ fits)) (run-keepable s (e ∷ events) w keepable))
+      (run-given events (happens s w e) (each-back ReadsFit (calls_of s w e) _ fits) keepable)
 
-  all-given : (events : List Event) → Each (IsTrueOf is_plain) events → Each ReadsFit (all_of calls_of s events (new_world s)) → AreKeepable (world_after s events).sequences → Each Given (all_of calls_of s events (new_world s))
+  all-given : (events : List Event) → Each ReadsFit (all_of calls_of s events (new_world s)) → AreKeepable (world_after s events).sequences → Each Given (all_of calls_of s events (new_world s))
   unfolding world_after
-  all-given events plain fits keepable = run-given events (new_world s) plain fits keepable
+  all-given events fits keepable = run-given events (new_world s) fits keepable
 
-pub run-starts : (s : Setting) (events : List Event) → Each (IsTrueOf is_plain) events → Each ReadsFit (all_of calls_of s events (new_world s)) → AreKeepable (world_after s events).sequences → Restarts s (world_after s events)
-run-starts s events plain fits keepable =
-    let all = in_world_given s Given (Starts s) (start-step s) (no-start s) events (all-given s events plain fits keepable) in
+pub run-starts : (s : Setting) (events : List Event) → Each ReadsFit (all_of calls_of s events (new_world s)) → AreKeepable (world_after s events).sequences → Restarts s (world_after s events)
+run-starts s events fits keepable =
+    let all = in_world_given s Given (Starts s) (start-step s) (no-start s) events (all-given s events fits keepable) in
     record { starts = λ m seat at. (all m seat at).0; due = λ m seat at. (all m seat at).1 }

@@ -37,7 +37,7 @@ use Rattle.scene_spec.specs.Seats.{Seat}
 use Rattle.scene_spec.specs.Posts.{Post, arming, new_posts, seat_at, started_at, starting}
 use Rattle.scene_spec.specs.Scene.{Scene, bare_seat, bare_setting, bare_world, new_scene, rules_in}
 use Rattle.scene_spec.specs.Steps.{Work, asks, hands, acked_in, asked, called_scene, false_ack_in, held_by, held_call, held_in, says_in, sees_to, signed_call, state_at, steps_to, with_order, with_tx, work_of, worked}
-use Rattle.scene_spec.specs.Worlds.{Restarts, Shows, is_plain, is_restart, journal_in, post_of, posts_from, scene_of, spelled}
+use Rattle.scene_spec.specs.Worlds.{Restarts, Shows, is_restart, journal_in, post_of, posts_from, scene_of, spelled}
 use Rattle.run_law.proofs.ScenePosts.{place-first, called-same, called-open, changed-same}
 use Rattle.run_law.proofs.SceneSees.{count-same, sees-same}
 
@@ -322,8 +322,8 @@ module _ (s : Setting) where
 shown-in : (trust : Trust) (s : Setting) (w : World) (sc : Scene) (e : Event) (next : Scene) → Shows trust s w sc → next ≡ scene_of s (happens s w e) → Shows trust s (happens s w e) next
 shown-in trust s w sc e next shows is = record { rules = shows.rules; seal = shows.seal; scene = is }
 
-pub step-shown : (trust : Trust) (s : Setting) (w : World) (sc : Scene) (e : Event) → Shows trust s w sc → is_plain e ≡ true → is_restart e ≡ false → Shows trust s (happens s w e) (steps_to trust sc e)
-step-shown trust s w sc e shows plain other =
+pub step-shown : (trust : Trust) (s : Setting) (w : World) (sc : Scene) (e : Event) → Shows trust s w sc → is_restart e ≡ false → Shows trust s (happens s w e) (steps_to trust sc e)
+step-shown trust s w sc e shows other =
     shown-in trust s w sc e (steps_to trust sc e) shows
     (ap (λ (x : Scene). steps_to trust x e) shows.scene ∙ sym (scene-step s trust shows.rules shows.seal w e other))
 

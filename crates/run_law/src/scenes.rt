@@ -29,14 +29,14 @@ ghost use Rattle.scene_spec.specs.Starts.{started};
 ghost use Rattle.scene_spec.specs.Posts.{started_at};
 ghost use Rattle.scene_spec.specs.Scene.{Scene, new_scene, rules_in};
 ghost use Rattle.scene_spec.specs.Steps.{AddsLine, MayAddLine, lines_in, records_left, steps_to, work_of};
-ghost use Rattle.scene_spec.specs.Worlds.{AreKeepable, HasRoom, IsTrueOf, ReadsFit, Restarts, Shows, Tells, TellsFront, WorkReadsFit, is_plain, is_restart, journal_in};
+ghost use Rattle.scene_spec.specs.Worlds.{AreKeepable, HasRoom, ReadsFit, Restarts, Shows, Tells, TellsFront, WorkReadsFit, is_restart, journal_in};
 
 /// The scene of the set-up shows the definition's first world, and each step of a scene shows the world behind
 /// the line, with the definition's lines.
 pub fn steps_of_a_world()
     ensures first { (trust : Trust) (lines : List Setup) → Shows trust (setting_of trust lines) (new_world (setting_of trust lines)) (new_scene (setting_of trust lines) lines) }
-    ensures steps { (trust : Trust) (s : Setting) (w : World) (sc : Scene) (e : Event) → Shows trust s w sc → is_plain e ≡ true → is_restart e ≡ false → Shows trust s (happens s w e) (steps_to trust sc e) }
-    ensures lines { (trust : Trust) (s : Setting) (w : World) (sc : Scene) (e : Event) → Shows trust s w sc → is_plain e ≡ true → is_restart e ≡ false → lines_of s w e ≡ lines_in trust sc e }
+    ensures steps { (trust : Trust) (s : Setting) (w : World) (sc : Scene) (e : Event) → Shows trust s w sc → is_restart e ≡ false → Shows trust s (happens s w e) (steps_to trust sc e) }
+    ensures lines { (trust : Trust) (s : Setting) (w : World) (sc : Scene) (e : Event) → Shows trust s w sc → is_restart e ≡ false → lines_of s w e ≡ lines_in trust sc e }
     ensures restart { (trust : Trust) (s : Setting) (w : World) (sc : Scene) (m : ℕ) (state : Member) → Shows trust s w sc → Restarts s w → m < length w.seats → started s.rules s.opening (journal_in w m) ≡ Ok state → Shows trust s (happens s w (event.Restart m)) (record sc { posts = started_at sc.terms sc.posts m state }) }
     ensures restarted { (s : Setting) (w : World) (m : ℕ) → lines_of s w (event.Restart m) ≡ line.Restart m (restart_text.Records (length (journal_in w m))) ∷ [] }
     ensures posts { (trust : Trust) (s : Setting) (w : World) (sc : Scene) → Shows trust s w sc → length sc.posts ≡ length w.seats }
@@ -47,10 +47,10 @@ pub fn steps_of_a_world()
 /// type and the entries before it have spellings that can be kept.
 pub fn records_of_a_world()
     ensures first { (s : Setting) → Restarts s (new_world s) }
-    ensures starts { (trust : Trust) (s : Setting) (w : World) (sc : Scene) (e : Event) → Shows trust s w sc → is_plain e ≡ true → WorkReadsFit (work_of sc e) → AreKeepable w.sequences → Restarts s w → Restarts s (happens s w e) }
+    ensures starts { (trust : Trust) (s : Setting) (w : World) (sc : Scene) (e : Event) → Shows trust s w sc → WorkReadsFit (work_of sc e) → AreKeepable w.sequences → Restarts s w → Restarts s (happens s w e) }
     ensures opens { (s : Setting) (lists : Journals) → ((m : ℕ) → journal_of lists m ≡ []) → Tells (Some lists) (new_world s) }
-    ensures told { (trust : Trust) (s : Setting) (w : World) (sc : Scene) (e : Event) (before now : Option Journals) → Shows trust s w sc → is_plain e ≡ true → HasRoom before w → Tells before w → AddsLine (records_left (rules_in trust.accepts sc) sc (work_of sc e)) before now → Tells now (happens s w e) }
-    ensures cut { (trust : Trust) (s : Setting) (w : World) (sc : Scene) (e : Event) (before now : Option Journals) → Shows trust s w sc → is_plain e ≡ true → HasRoom before w → Tells before w → MayAddLine (records_left (rules_in trust.accepts sc) sc (work_of sc e)) before now → TellsFront now (happens s w e) }
+    ensures told { (trust : Trust) (s : Setting) (w : World) (sc : Scene) (e : Event) (before now : Option Journals) → Shows trust s w sc → HasRoom before w → Tells before w → AddsLine (records_left (rules_in trust.accepts sc) sc (work_of sc e)) before now → Tells now (happens s w e) }
+    ensures cut { (trust : Trust) (s : Setting) (w : World) (sc : Scene) (e : Event) (before now : Option Journals) → Shows trust s w sc → HasRoom before w → Tells before w → MayAddLine (records_left (rules_in trust.accepts sc) sc (work_of sc e)) before now → TellsFront now (happens s w e) }
     ensures fronts { (told : Option Journals) (w : World) → Tells told w → TellsFront told w }
     ensures ahead { (s : Setting) (w : World) (e : Event) (told : Option Journals) → TellsFront told w → TellsFront told (happens s w e) }
 {}
@@ -64,9 +64,9 @@ pub fn bytes_of_calls()
     ensures entries { (number : ℕ) (e : Entry) → messages.entry.fits e → ReadsFit (sees number (messages.entry.spell e)) }
 {}
 
-/// In every run of plain lines whose entries can be kept each member starts from its records: where what is read from
+/// In every run whose entries can be kept each member starts from its records: where what is read from
 /// the bytes of its calls fits, and so in each run that a text says, behind each front of its lines.
 pub fn restarts_of_a_run()
-    ensures run { (s : Setting) (events : List Event) → Each (IsTrueOf is_plain) events → Each ReadsFit (all_of calls_of s events (new_world s)) → AreKeepable (world_after s events).sequences → Restarts s (world_after s events) }
-    ensures read { (text : List ℕ) (t : Schedule) → schedule_of text ≡ Ok t → (secret : List ℕ) → (front rest : List Event) → t.events ≡ front ++ rest → Each (IsTrueOf is_plain) t.events → AreKeepable (world_after (keyed_setting secret t) front).sequences → Restarts (keyed_setting secret t) (world_after (keyed_setting secret t) front) }
+    ensures run { (s : Setting) (events : List Event) → Each ReadsFit (all_of calls_of s events (new_world s)) → AreKeepable (world_after s events).sequences → Restarts s (world_after s events) }
+    ensures read { (text : List ℕ) (t : Schedule) → schedule_of text ≡ Ok t → (secret : List ℕ) → (front rest : List Event) → t.events ≡ front ++ rest → AreKeepable (world_after (keyed_setting secret t) front).sequences → Restarts (keyed_setting secret t) (world_after (keyed_setting secret t) front) }
 {}

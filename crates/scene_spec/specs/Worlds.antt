@@ -1,4 +1,4 @@
--- The scene of a world, the forms of line that run, and told records. Source: this profile.
+-- The scene of a world, and told records. Source: this profile.
 use Rattle.std.specs.Prelude.{◌≡◌, ◌<◌, ◌≤◌, ℕ, suc, length, Bool, true, false, List, [], ◌∷◌, ◌++◌, map, slice_get, Option, Some, None, Ok, if◌then◌else◌}
 use Rattle.journal_core.specs.declared.records.Record.{Record}
 use Rattle.journal_core.specs.Records as journals
@@ -57,31 +57,7 @@ pub record Shows (trust : Trust) (s : Setting) (w : World) (sc : Scene) : Type 0
   pub seal : s.seal ≡ trust.seal
   pub scene : sc ≡ scene_of s w
 
--- ---- the forms that run
-
--- all of them
-abbrev pub is_plain : Event → Bool
-is_plain (event.Tx name sender spoiled epoch gas budget inputs commands) = true
-is_plain (event.Vote m tx) = true
-is_plain (event.Fvote m tx origins) = true
-is_plain (event.Cert tx members) = true
-is_plain (event.Send m tx) = true
-is_plain (event.Order tx) = true
-is_plain (event.OrderEnd m) = true
-is_plain event.OrderCommit = true
-is_plain (event.See m entries) = true
-is_plain (event.Run m workers) = true
-is_plain (event.Close m) = true
-is_plain (event.End m) = true
-is_plain (event.Turn m) = true
-is_plain (event.Show m) = true
-is_plain (event.Stop m kept) = true
-is_plain (event.Restart m) = true
-is_plain (event.RawVote m bytes) = true
-is_plain (event.RawHold m bytes) = true
-is_plain (event.Ack m tx spoiled) = true
-is_plain (event.Final tx members) = true
-
+-- a line that reads records
 abbrev pub is_restart : Event → Bool
 is_restart (event.Tx name sender spoiled epoch gas budget inputs commands) = false
 is_restart (event.Vote m tx) = false
@@ -151,9 +127,6 @@ WorkReadsFit (hands m n) = Unit {0}
 abbrev pub HasRoom : Option Journals → World → Type 0
 HasRoom None w = Unit {0}
 HasRoom (Some lists) w = length w.seats ≤ length lists
-
-abbrev pub IsTrueOf : {A : Type 0} → (A → Bool) → A → Type 0
-IsTrueOf p x = p x ≡ true
 
 -- ---- entries that can be kept
 

@@ -4,7 +4,7 @@
 //! member that they are for, and answers the lines that the report has for it. Contracts see the world as a scene:
 //! the terms and the opening, what is known under names, what was ordered, said and formed, and the members as they
 //! stand. Each step is the definition's step of that scene, with its lines, and the keeper's lists grow by the
-//! records that the line leaves. [`PlainForms`] are the forms of line that are run.
+//! records that the line leaves.
 //! [`World::sums`] tells what a member has built and holds, in numbers.
 //! Each name, vote and version is found by a map, so a line costs time in proportion to its own words.
 //!
@@ -20,7 +20,6 @@ mod certs;
 mod closes;
 mod ends;
 mod epoch_requests;
-mod forms;
 mod opening;
 mod orders;
 mod quiet;
@@ -39,7 +38,6 @@ mod turns;
 mod votes;
 mod world;
 
-pub use forms::{PlainForms, is_plain};
 pub use reply::{Reply, RestartFault, SeatFault};
 pub use seats::Seats;
 pub use sums::Sums;

@@ -4,7 +4,7 @@ ghost use Rattle.std.specs.Prelude.{◌≡◌, ◌≤◌, ℕ, IfOk, IsErrOf, On
 ghost use Rattle.outside.specs.Causes.{Rose};
 ghost use Rattle.scene_spec.specs.Scene.{rules_in};
 ghost use Rattle.scene_spec.specs.Steps.{lines_in, steps_to, work_of};
-ghost use Rattle.scene_spec.specs.Worlds.{AreKeepable, is_plain, is_restart};
+ghost use Rattle.scene_spec.specs.Worlds.{AreKeepable, is_restart};
 ghost use Rattle.world_core.specs.declared.world.WorldFault.TheVariants as fault;
 ghost use Rattle.world_core.specs.Kept.{LeavesAs};
 ghost use Rattle.world_core.specs.Restarts.{MayRestart};
@@ -31,7 +31,6 @@ impl World {
         event: &Event,
     ) -> Result<Seq<Line>, WorldFault>
         requires room { length self.old.posts ≤ D.width keeper.old }
-        requires plain { is_plain event.now ≡ true }
         ensures world { OnOk result (is_restart event.now ≡ false → self.new ≡ steps_to (trust_by (S.made sealer.now) (S.accepts sealer.now)) self.old event.now) }
         ensures lines { IfOk result (λ lines. is_restart event.now ≡ false → lines ≡ lines_in (trust_by (S.made sealer.now) (S.accepts sealer.now)) self.old event.now) }
         ensures kept { LeavesAs (rules_in (S.accepts sealer.now) self.old) self.old (work_of self.old event.now) (D.lists keeper.old) (D.lists keeper.new) result }

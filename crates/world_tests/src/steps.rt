@@ -7,7 +7,7 @@ use schedule_text::{Event, Schedule, Setup, read_schedule};
 use std::alloc::Global;
 use std::test::Fail;
 use wire_bcs::{OutOfMemory, Seq};
-use world_core::{World, WorldFault, WorldRefusal, is_plain};
+use world_core::{World, WorldFault, WorldRefusal};
 
 /// A coin of alice's goes to bob.
 const TRANSFER: &str = "member 1 honest\ncoin g0 alice 10000\n\
@@ -26,7 +26,7 @@ pub(crate) fn opened(alloc: Global, setup: &Seq<Setup>) -> Result<World, WorldRe
 
 /// Runs a line of a form that is run, where the keeper has a list for each member.
 fn step(world: &mut World, keeper: &mut MemKeeper, event: &Event) -> Result<Seq<Line>, WorldFault> {
-    if !is_plain(event) || world.members() > keeper.members() {
+    if world.members() > keeper.members() {
         return Err(WorldFault::OutOfMemory);
     }
     world.step(keeper, &sealer(), event)
