@@ -8,7 +8,6 @@ use Rattle.world_spec.specs.Setting.{Trust, setting_of}
 use Rattle.world_spec.specs.World.{Seat, member_in}
 use Rattle.world_spec.specs.Run.{world_after}
 use Rattle.world_spec.specs.Assumptions.{IsHonestRun}
-use Rattle.safety_law.proofs.Fronts.{honest-front}
 use Rattle.safety_law.proofs.Forks.{no-fork}
 use Rattle.safety_law.proofs.Owner.{owner, signed}
 use Rattle.safety_law.proofs.Voted.{certified-is}
@@ -26,11 +25,7 @@ append_nil : {A : Type 0} (xs : List A) → xs ++ [] ≡ xs
 append_nil [] = refl
 append_nil (x ∷ xs) = ap (λ ys. x ∷ ys) (append_nil xs)
 
-module _ (text : List ℕ) (t : Schedule) (read : schedule_of text ≡ Ok t) (trust : Trust) (front back : List Event) (cut : t.events ≡ front ++ back)
-    (run_is : IsHonestRun (setting_of trust t.setup) t.events) where
-  honest : IsHonestRun (setting_of trust t.setup) front
-  honest = honest-front (setting_of trust t.setup) front back (subst (IsHonestRun (setting_of trust t.setup)) cut run_is)
-
+module _ (text : List ℕ) (t : Schedule) (read : schedule_of text ≡ Ok t) (trust : Trust) (front : List Event) (honest : IsHonestRun (setting_of trust t.setup) front) where
   -- a front, and nothing behind it
   honest_here : IsHonestRun (setting_of trust t.setup) (front ++ [])
   honest_here = subst (IsHonestRun (setting_of trust t.setup)) (sym (append_nil front)) honest

@@ -69,7 +69,7 @@ pub record Holds (s : Setting) (events : List Event) : Type 0 where
   -- what a quorum acknowledged stands, with these effects, in a checkpoint of its epoch at each member that has left it
   pub final : (epoch : ℕ) (tx effects : Digest) (members : List ℕ) → IsFinal s (world_after s events) epoch tx effects members → StandsForGood s events epoch tx effects
 
--- whatever text is read as a schedule, and whatever seals are accepted: each moment of its run, if the run is honest
+-- whatever text is read as a schedule, and whatever seals are accepted: each moment of its run, if the run is honest so far
 abbrev pub EveryMomentHolds : Type 0
-EveryMomentHolds = (text : List ℕ) (t : Schedule) → schedule_of text ≡ Ok t → (trust : Trust) → IsHonestRun (setting_of trust t.setup) t.events
-    → (front back : List Event) → t.events ≡ front ++ back → Holds (setting_of trust t.setup) front
+EveryMomentHolds = (text : List ℕ) (t : Schedule) → schedule_of text ≡ Ok t → (trust : Trust) → (front back : List Event) → t.events ≡ front ++ back
+    → IsHonestRun (setting_of trust t.setup) front → Holds (setting_of trust t.setup) front

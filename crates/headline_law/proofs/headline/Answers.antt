@@ -2,4 +2,4 @@ use Rattle.headline_law.proofs.Moments.{moment_holds}
 use Rattle.headline_law.proofs.headline.Goals as goal
 
 pub returns : goal.returns
-returns c = λ text t read trust run_is front back cut. moment_holds text t read trust front back cut run_is
+returns c = λ text t read trust front back cut honest. moment_holds text t read trust front honest
