@@ -1,5 +1,5 @@
 -- What is written and kept behind a front of the events.
-use Rattle.std.proofs.Common.{◌≡◌, ◌≤◌, ◌<◌, ◌+◌, inl, inr, ℕ, zero, suc, Bool, true, List, [], ◌∷◌, ◌++◌, map, length, take, drop, get_or, Option, Some, None, slice_get, refl, sym, ap, ◌∙◌, subst, append_assoc, append-nil, take-append-drop, arith}
+use Rattle.std.proofs.Common.{◌≡◌, ◌≤◌, ◌<◌, ◌+◌, inl, inr, ℕ, zero, suc, Bool, List, [], ◌∷◌, ◌++◌, map, length, take, drop, get_or, Option, Some, None, slice_get, refl, sym, ap, ◌∙◌, subst, append_assoc, append-nil, take-append-drop}
 use Rattle.std.proofs.lemmas.Grind.{flat_map-append}
 use Rattle.std.proofs.lemmas.List.{drop_more, take_all, take_more}
 use Rattle.std.specs.Io.KnownBytes.{Appends, Keeps}
@@ -18,7 +18,7 @@ use Rattle.world_spec.specs.Step.{happens}
 use Rattle.world_spec.specs.Report.{lines_of}
 use Rattle.world_spec.specs.Run.{journal, records_of, report, report_from, report_of, run, world_after}
 use Rattle.scene_spec.specs.Scene.{Scene}
-use Rattle.scene_spec.specs.Worlds.{AreKeepable, IsTrueOf, Restarts, Shows, is_plain, journal_in}
+use Rattle.scene_spec.specs.Worlds.{AreKeepable, Restarts, Shows, journal_in}
 use Rattle.world_core.specs.Restarts.{StaysDown}
 use Rattle.committee_core.specs.Journals.{AreAtLeast, AreEmpty, IsTold, KeepsFronts, KeepsRun, ReadsBack, ReadsNone, StartsAlong}
 use Rattle.committee_core.specs.Laws.{SceneLaws}
@@ -30,11 +30,6 @@ use Rattle.committee_core.proofs.Following.{FrontFrom, IsFollowed, ReadsTold, Te
 use Rattle.committee_core.proofs.Restarting.{restart-of}
 
 -- ---- lists
-
-pub each-get : {A : Type 0} (P : A → Type 0) (xs : List A) (i : ℕ) (d : A) → Each P xs → i < length xs → P (get_or xs i d)
-each-get P [] i d all below = absurd (omega (arith, below))
-each-get P (x ∷ xs) zero d all below = all.0
-each-get P (x ∷ xs) (suc i) d all below = let low : i < length xs = omega (arith, below) in each-get P xs i d all.1 low
 
 each-front : {A : Type 0} (P : A → Type 0) (xs ys : List A) → Each P (xs ++ ys) → Each P xs
 each-front P [] ys all = tt
@@ -105,16 +100,16 @@ behind-none trust s start held sc shows empty = record { shows = shows; tells = 
 
 -- one event more
 pub behind-more : (trust : Trust) (l : SceneLaws trust) (s : Setting) (start : Option Journals) (held0 : Option (List ℕ)) (front : List Event) (e : Event) (sc now : Scene) (told told' : Option Journals) (held held' : Option (List ℕ))
-    → StartsBehind s front → Behind trust s start held0 front sc told held → ReadsTold start e → is_plain e ≡ true → AreAtLeast start (length sc.posts) → Passes trust e sc now told told' held held' → Behind trust s start held0 (front ++ e ∷ []) now told' held'
-behind-more trust l s start held0 front e sc now told told' held held' starts b reads plain wide p =
+    → StartsBehind s front → Behind trust s start held0 front sc told held → ReadsTold start e → AreAtLeast start (length sc.posts) → Passes trust e sc now told told' held held' → Behind trust s start held0 (front ++ e ∷ []) now told' held'
+behind-more trust l s start held0 front e sc now told told' held held' starts b reads wide p =
     let w : World = run s front (new_world s) in
-    let f : IsFollowed trust s w e now p.given = followed trust l s w sc now e start told told' p.given b.shows (starts (keepable-shown trust s w sc b.shows p.taken.keepable)) b.tells reads plain p.taken in
+    let f : IsFollowed trust s w e now p.given = followed trust l s w sc now e start told told' p.given b.shows (starts (keepable-shown trust s w sc b.shows p.taken.keepable)) b.tells reads p.taken in
     let to : happens s w e ≡ run s (front ++ e ∷ []) (new_world s) = sym (run-append s front (e ∷ []) (new_world s)) in
     let text : lines_text (report_from s front (new_world s)) ++ lines_text (lines_of s w e) ≡ lines_text (report_from s (front ++ e ∷ []) (new_world s)) =
     ap (λ (t : List ℕ). lines_text (report_from s front (new_world s)) ++ t) (sym (append-nil (lines_text (lines_of s w e))) ∙ sym (text-line s e [] w)) ∙ sym (text-append s front (e ∷ []) (new_world s)) in
     record {
       shows = subst (λ (v : World). Shows trust s v now) to f.shows;
-      tells = subst (TellsFrom start told') to (kept-taken trust l s w sc now e start told told' p.given b.shows b.tells plain wide p.taken);
+      tells = subst (TellsFrom start told') to (kept-taken trust l s w sc now e start told told' p.given b.shows b.tells wide p.taken);
       written = subst (Appends held0 held') text (Appends-trans held0 held held' _ _ b.written (subst (λ (g : List Line). Appends held held' (lines_text g)) f.lines p.written));
     }
 
@@ -126,18 +121,15 @@ event-here es i e is below = ap (λ (xs : List Event). take i es ++ xs) (ap (λ 
 take-here : (es : List Event) (i : ℕ) (e : Event) → e ≡ get_or es i e → i < length es → take (i + 1) es ≡ take i es ++ e ∷ []
 take-here es i e is below = take_more es i e below ∙ ap (λ (d : Event). take i es ++ d ∷ []) (sym is)
 
-pub plain-here : (es : List Event) (i : ℕ) (e : Event) → e ≡ get_or es i e → i < length es → Each (IsTrueOf is_plain) es → is_plain e ≡ true
-plain-here es i e is below all = ap is_plain is ∙ each-get (IsTrueOf is_plain) es i e all below
-
 pub behind-next : (trust : Trust) (l : SceneLaws trust) (s : Setting) (start : Option Journals) (held0 : Option (List ℕ)) (es : List Event) (i : ℕ) (e : Event) (sc now : Scene) (told told' : Option Journals) (held held' : Option (List ℕ))
-    → StartsAlong s es → e ≡ get_or es i e → i < length es → Each (IsTrueOf is_plain) es → AreAtLeast start (length sc.posts)
+    → StartsAlong s es → e ≡ get_or es i e → i < length es → AreAtLeast start (length sc.posts)
     → (ReadsBack start (take i es) → Behind trust s start held0 (take i es) sc told held) → Passes trust e sc now told told' held held'
     → ReadsBack start (take (i + 1) es) → Behind trust s start held0 (take (i + 1) es) now told' held'
-behind-next trust l s start held0 es i e sc now told told' held held' along is below all wide so p reads =
+behind-next trust l s start held0 es i e sc now told told' held held' along is below wide so p reads =
     let more = take-here es i e is below in
     let back : ReadsBack start (take i es ++ e ∷ []) = subst (ReadsBack start) more reads in
     subst (λ (front : List Event). Behind trust s start held0 front now told' held') (sym more)
-    (behind-more trust l s start held0 (take i es) e sc now told told' held held' (starts-at s es (take i es) (drop i es) along (sym (take-append-drop i es))) (so (reads-front start (take i es) (e ∷ []) back)) (reads-next start (take i es) e [] back) (plain-here es i e is below all) wide p)
+    (behind-more trust l s start held0 (take i es) e sc now told told' held held' (starts-at s es (take i es) (drop i es) along (sym (take-append-drop i es))) (so (reads-front start (take i es) (e ∷ []) back)) (reads-next start (take i es) e [] back) wide p)
 
 -- ---- the end
 
@@ -200,30 +192,30 @@ ahead-of trust l s start told front e back f =
 
 -- the next event was not taken
 cut-untaken : (trust : Trust) (l : SceneLaws trust) (s : Schedule) (start : Option Journals) (held0 : Option (List ℕ)) (front : List Event) (e : Event) (back : List Event) (sc : Scene) (told told' : Option Journals) (held held' : Option (List ℕ))
-    → s.events ≡ front ++ e ∷ back → is_plain e ≡ true → AreAtLeast start (length sc.posts) → (ReadsBack start front → Behind trust (setting_in trust s) start held0 front sc told held)
+    → s.events ≡ front ++ e ∷ back → AreAtLeast start (length sc.posts) → (ReadsBack start front → Behind trust (setting_in trust s) start held0 front sc told held)
     → IsUntaken trust e sc told told' held held' → RunsFront trust s held0 held' start told'
-cut-untaken trust l s start held0 front e back sc told told' held held' is plain wide so cut =
+cut-untaken trust l s start held0 front e back sc told told' held held' is wide so cut =
     runs-front trust s start told' held0 held' (front ++ e ∷ back) is
     (λ reads. front-written (setting_in trust s) front e back held0 held held' (so (reads-front start front (e ∷ back) reads)).written (none-written held held' _ cut.written))
     (λ t. let b = so (inl t) in
     ahead-of trust l (setting_in trust s) start told' front e back
-    (kept-untaken trust l (setting_in trust s) (run (setting_in trust s) front (new_world (setting_in trust s))) sc e start told told' b.shows b.tells plain wide cut.kept))
+    (kept-untaken trust l (setting_in trust s) (run (setting_in trust s) front (new_world (setting_in trust s))) sc e start told told' b.shows b.tells wide cut.kept))
 
 -- it was taken, and a front of its lines was written
 cut-unwritten : (trust : Trust) (l : SceneLaws trust) (s : Schedule) (start : Option Journals) (held0 : Option (List ℕ)) (front : List Event) (e : Event) (back : List Event) (sc : Scene) (told told' : Option Journals) (held held' : Option (List ℕ))
-    → s.events ≡ front ++ e ∷ back → is_plain e ≡ true → AreAtLeast start (length sc.posts) → (ReadsBack start front → Behind trust (setting_in trust s) start held0 front sc told held)
+    → s.events ≡ front ++ e ∷ back → AreAtLeast start (length sc.posts) → (ReadsBack start front → Behind trust (setting_in trust s) start held0 front sc told held)
     → StartsAlong (setting_in trust s) s.events → IsUnwritten trust e sc told told' held held' → RunsFront trust s held0 held' start told'
-cut-unwritten trust l s start held0 front e back sc told told' held held' is plain wide so along cut =
+cut-unwritten trust l s start held0 front e back sc told told' held held' is wide so along cut =
     let st : Setting = setting_in trust s in
     let w : World = run st front (new_world st) in
     runs-front trust s start told' held0 held' (front ++ e ∷ back) is
     (λ reads. let b = so (reads-front start front (e ∷ back) reads) in
     let starts : Restarts st w = starts-at st s.events front (e ∷ back) along is (keepable-shown trust st w sc b.shows cut.taken.keepable) in
-    let f : IsFollowed trust st w e cut.now cut.given = followed trust l st w sc cut.now e start told told' cut.given b.shows starts b.tells (reads-next start front e back reads) plain cut.taken in
+    let f : IsFollowed trust st w e cut.now cut.given = followed trust l st w sc cut.now e start told told' cut.given b.shows starts b.tells (reads-next start front e back reads) cut.taken in
     front-written st front e back held0 held held' b.written (subst (λ (g : List Line). AppendsFront held held' (lines_text g)) f.lines cut.written))
     (λ t. let b = so (inl t) in
     ahead-of trust l st start told' front e back
-    (front-told trust l start told' (happens st w e) (kept-taken trust l st w sc cut.now e start told told' cut.given b.shows b.tells plain wide cut.taken)))
+    (front-told trust l start told' (happens st w e) (kept-taken trust l st w sc cut.now e start told told' cut.given b.shows b.tells wide cut.taken)))
 
 -- a record that it reads back is bad
 untold-where : (start : Option Journals) → ((t : IsTold start) → start ≡ None) → start ≡ None
@@ -259,18 +251,18 @@ meets trust s Writes joins start held0 front e back sc told held held' is so alo
     }
 
 cut-at : (trust : Trust) (l : SceneLaws trust) (s : Schedule) (start : Option Journals) (held0 : Option (List ℕ)) (front : List Event) (e : Event) (back : List Event) (sc : Scene) (told told' : Option Journals) (held held' : Option (List ℕ))
-    → s.events ≡ front ++ e ∷ back → is_plain e ≡ true → AreAtLeast start (length sc.posts) → (ReadsBack start front → Behind trust (setting_in trust s) start held0 front sc told held)
+    → s.events ≡ front ++ e ∷ back → AreAtLeast start (length sc.posts) → (ReadsBack start front → Behind trust (setting_in trust s) start held0 front sc told held)
     → StartsAlong (setting_in trust s) s.events → IsCutAt trust e sc told told' held held' → RunsCut trust s held0 held' start told'
-cut-at trust l s start held0 front e back sc told told' held held' is plain wide so along (untaken cut) = inl (cut-untaken trust l s start held0 front e back sc told told' held held' is plain wide so cut)
-cut-at trust l s start held0 front e back sc told told' held held' is plain wide so along (unwritten cut) = inl (cut-unwritten trust l s start held0 front e back sc told told' held held' is plain wide so along cut)
-cut-at trust l s start held0 front e back sc told told' held held' is plain wide so along (unsaid bad) = inr (meets trust s AppendsFront front-joins start held0 front e back sc told held held' is so along bad)
+cut-at trust l s start held0 front e back sc told told' held held' is wide so along (untaken cut) = inl (cut-untaken trust l s start held0 front e back sc told told' held held' is wide so cut)
+cut-at trust l s start held0 front e back sc told told' held held' is wide so along (unwritten cut) = inl (cut-unwritten trust l s start held0 front e back sc told told' held held' is wide so along cut)
+cut-at trust l s start held0 front e back sc told told' held held' is wide so along (unsaid bad) = inr (meets trust s AppendsFront front-joins start held0 front e back sc told held held' is so along bad)
 
 pub cut-here : (trust : Trust) (l : SceneLaws trust) (s : Schedule) (start : Option Journals) (held0 : Option (List ℕ)) (i : ℕ) (e : Event) (sc : Scene) (told told' : Option Journals) (held held' : Option (List ℕ))
-    → e ≡ get_or s.events i e → i < length s.events → Each (IsTrueOf is_plain) s.events → AreAtLeast start (length sc.posts)
+    → e ≡ get_or s.events i e → i < length s.events → AreAtLeast start (length sc.posts)
     → (ReadsBack start (take i s.events) → Behind trust (setting_in trust s) start held0 (take i s.events) sc told held)
     → StartsAlong (setting_in trust s) s.events → IsCutAt trust e sc told told' held held' → RunsCut trust s held0 held' start told'
-cut-here trust l s start held0 i e sc told told' held held' is below all wide so along cut =
-    cut-at trust l s start held0 (take i s.events) e (drop (i + 1) s.events) sc told told' held held' (sym (event-here s.events i e is below)) (plain-here s.events i e is below all) wide so along cut
+cut-here trust l s start held0 i e sc told told' held held' is below wide so along cut =
+    cut-at trust l s start held0 (take i s.events) e (drop (i + 1) s.events) sc told told' held held' (sym (event-here s.events i e is below)) wide so along cut
 
 pub bad-here : (trust : Trust) (s : Schedule) (start : Option Journals) (held0 : Option (List ℕ)) (i : ℕ) (e : Event) (sc : Scene) (told : Option Journals) (held held' : Option (List ℕ))
     → e ≡ get_or s.events i e → i < length s.events

@@ -20,7 +20,7 @@ use Rattle.world_spec.specs.Run.{records_of, run}
 use Rattle.scene_spec.specs.Posts.{Post, with_all}
 use Rattle.scene_spec.specs.Scene.{Scene, rules_in}
 use Rattle.scene_spec.specs.Steps.{AddsLine, MayAddLine, records_left, work_of}
-use Rattle.scene_spec.specs.Worlds.{AreKeepable, Restarts, Shows, Tells, TellsFront, is_plain, is_restart, journal_in, posts_from}
+use Rattle.scene_spec.specs.Worlds.{AreKeepable, Restarts, Shows, Tells, TellsFront, is_restart, journal_in, posts_from}
 use Rattle.world_core.specs.Restarts.{RestartsAs, StaysDown}
 use Rattle.committee_core.specs.Laws.{SceneLaws}
 use Rattle.committee_core.specs.Journals.{AreAtLeast, IsTold, ReadsNone}
@@ -97,18 +97,18 @@ seats-none s k (suc m) (seat ∷ seats) h = seats-none s (suc k) m seats h
 
 -- the records that it leaves are added to told lists
 leaves-told : (trust : Trust) (l : SceneLaws trust) (s : Setting) (w : World) (sc : Scene) (e : Event) (lists : Journals) (now : Option Journals)
-    → Shows trust s w sc → is_plain e ≡ true → length w.seats ≤ length lists → Tells (Some lists) w → AddsLine (records_left (rules_in trust.accepts sc) sc (work_of sc e)) (Some lists) now
+    → Shows trust s w sc → length w.seats ≤ length lists → Tells (Some lists) w → AddsLine (records_left (rules_in trust.accepts sc) sc (work_of sc e)) (Some lists) now
     → (lists' : Journals) × (now ≡ Some lists') × (length lists' ≡ length lists) × Tells (Some lists') (happens s w e)
-leaves-told trust l s w sc e lists now shows plain room tells left =
+leaves-told trust l s w sc e lists now shows room tells left =
     let told = added-told lists now (records_left (rules_in trust.accepts sc) sc (work_of sc e)) left in
-    (told.0, told.1, told.2, subst (λ (j : Option Journals). Tells j (happens s w e)) told.1 (l.told s w sc e (Some lists) now shows plain room tells left))
+    (told.0, told.1, told.2, subst (λ (j : Option Journals). Tells j (happens s w e)) told.1 (l.told s w sc e (Some lists) now shows room tells left))
 
 may-leave-told : (trust : Trust) (l : SceneLaws trust) (s : Setting) (w : World) (sc : Scene) (e : Event) (lists : Journals) (now : Option Journals)
-    → Shows trust s w sc → is_plain e ≡ true → length w.seats ≤ length lists → Tells (Some lists) w → MayAddLine (records_left (rules_in trust.accepts sc) sc (work_of sc e)) (Some lists) now
+    → Shows trust s w sc → length w.seats ≤ length lists → Tells (Some lists) w → MayAddLine (records_left (rules_in trust.accepts sc) sc (work_of sc e)) (Some lists) now
     → (lists' : Journals) × (now ≡ Some lists') × TellsFront (Some lists') (happens s w e)
-may-leave-told trust l s w sc e lists now shows plain room tells left =
+may-leave-told trust l s w sc e lists now shows room tells left =
     let told = may-told lists now (records_left (rules_in trust.accepts sc) sc (work_of sc e)) left in
-    (told.0, told.1, subst (λ (j : Option Journals). TellsFront j (happens s w e)) told.1 (l.cut s w sc e (Some lists) now shows plain room tells left))
+    (told.0, told.1, subst (λ (j : Option Journals). TellsFront j (happens s w e)) told.1 (l.cut s w sc e (Some lists) now shows room tells left))
 
 -- the scene shows the world behind the event, the lines are the definition's, and told lists are its journals
 pub record IsFollowed (trust : Trust) (s : Setting) (w : World) (e : Event) (now : Scene) (given : List Line) : Type 0 where
@@ -156,41 +156,41 @@ followed-restart trust l s w sc now e (Some start) told told' given shows starts
     (subst (λ (j : Option Journals). RestartsAs trust.accepts j m sc now (slice_get sc.posts m) (Ok given)) same (taken.restart m is)))
 
 followed-as : (trust : Trust) (l : SceneLaws trust) (s : Setting) (w : World) (sc now : Scene) (e : Event) (start told told' : Option Journals) (given : List Line) (restarts : Bool) → is_restart e ≡ restarts
-    → Shows trust s w sc → Restarts s w → TellsFrom start told w → ReadsTold start e → is_plain e ≡ true → IsTaken trust e sc now told told' given → IsFollowed trust s w e now given
-followed-as trust l s w sc now e start told told' given false is shows starts tells reads plain taken = record {
-  shows = subst (Shows trust s (happens s w e)) (sym (taken.scene is)) (l.steps s w sc e shows plain is);
-  lines = taken.lines is ∙ sym (l.lines s w sc e shows plain is);
+    → Shows trust s w sc → Restarts s w → TellsFrom start told w → ReadsTold start e → IsTaken trust e sc now told told' given → IsFollowed trust s w e now given
+followed-as trust l s w sc now e start told told' given false is shows starts tells reads taken = record {
+  shows = subst (Shows trust s (happens s w e)) (sym (taken.scene is)) (l.steps s w sc e shows is);
+  lines = taken.lines is ∙ sym (l.lines s w sc e shows is);
 }
-followed-as trust l s w sc now e start told told' given true is shows starts tells reads plain taken =
+followed-as trust l s w sc now e start told told' given true is shows starts tells reads taken =
     let m = restart-of e is in
     followed-restart trust l s w sc now e start told told' given shows starts tells reads m.0 m.1 taken
 
 pub followed : (trust : Trust) (l : SceneLaws trust) (s : Setting) (w : World) (sc now : Scene) (e : Event) (start told told' : Option Journals) (given : List Line)
-    → Shows trust s w sc → Restarts s w → TellsFrom start told w → ReadsTold start e → is_plain e ≡ true → IsTaken trust e sc now told told' given → IsFollowed trust s w e now given
-followed trust l s w sc now e start told told' given shows starts tells reads plain taken =
-    followed-as trust l s w sc now e start told told' given (is_restart e) refl shows starts tells reads plain taken
+    → Shows trust s w sc → Restarts s w → TellsFrom start told w → ReadsTold start e → IsTaken trust e sc now told told' given → IsFollowed trust s w e now given
+followed trust l s w sc now e start told told' given shows starts tells reads taken =
+    followed-as trust l s w sc now e start told told' given (is_restart e) refl shows starts tells reads taken
 
 -- told lists behind a taken event
 pub kept-taken : (trust : Trust) (l : SceneLaws trust) (s : Setting) (w : World) (sc now : Scene) (e : Event) (start told told' : Option Journals) (given : List Line)
-    → Shows trust s w sc → TellsFrom start told w → is_plain e ≡ true → AreAtLeast start (length sc.posts) → IsTaken trust e sc now told told' given → TellsFrom start told' (happens s w e)
-kept-taken trust l s w sc now e None told told' given shows tells plain wide taken = tt
-kept-taken trust l s w sc now e (Some start) told told' given shows (lists, same, size, tells) plain wide taken =
+    → Shows trust s w sc → TellsFrom start told w → AreAtLeast start (length sc.posts) → IsTaken trust e sc now told told' given → TellsFrom start told' (happens s w e)
+kept-taken trust l s w sc now e None told told' given shows tells wide taken = tt
+kept-taken trust l s w sc now e (Some start) told told' given shows (lists, same, size, tells) wide taken =
     let count : length sc.posts ≡ length w.seats = seats-length trust s w sc shows in
     let enough : length sc.posts ≤ length start = wide in
     let room : length w.seats ≤ length lists = omega (arith, count, enough, size) in
-    let left = leaves-told trust l s w sc e lists told' shows plain room tells
+    let left = leaves-told trust l s w sc e lists told' shows room tells
     (subst (λ (j : Option Journals). AddsLine (records_left (rules_in trust.accepts sc) sc (work_of sc e)) j told') same taken.kept) in
     (left.0, left.1, left.2 ∙ size, left.3)
 
 -- and behind one that was not taken
 pub kept-untaken : (trust : Trust) (l : SceneLaws trust) (s : Setting) (w : World) (sc : Scene) (e : Event) (start told told' : Option Journals)
-    → Shows trust s w sc → TellsFrom start told w → is_plain e ≡ true → AreAtLeast start (length sc.posts) → MayAddLine (records_left (rules_in trust.accepts sc) sc (work_of sc e)) told told' → FrontFrom start told' (happens s w e)
-kept-untaken trust l s w sc e None told told' shows tells plain wide left = tt
-kept-untaken trust l s w sc e (Some start) told told' shows (lists, same, size, tells) plain wide left =
+    → Shows trust s w sc → TellsFrom start told w → AreAtLeast start (length sc.posts) → MayAddLine (records_left (rules_in trust.accepts sc) sc (work_of sc e)) told told' → FrontFrom start told' (happens s w e)
+kept-untaken trust l s w sc e None told told' shows tells wide left = tt
+kept-untaken trust l s w sc e (Some start) told told' shows (lists, same, size, tells) wide left =
     let count : length sc.posts ≡ length w.seats = seats-length trust s w sc shows in
     let enough : length sc.posts ≤ length start = wide in
     let room : length w.seats ≤ length lists = omega (arith, count, enough, size) in
-    may-leave-told trust l s w sc e lists told' shows plain room tells
+    may-leave-told trust l s w sc e lists told' shows room tells
     (subst (λ (j : Option Journals). MayAddLine (records_left (rules_in trust.accepts sc) sc (work_of sc e)) j told') same left)
 
 pub front-told : (trust : Trust) (l : SceneLaws trust) (start told : Option Journals) (w : World) → TellsFrom start told w → FrontFrom start told w

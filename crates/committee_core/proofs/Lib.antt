@@ -4,7 +4,6 @@ pub mod Taken
 pub mod Written
 pub mod Following
 pub mod Behind
-pub mod Plain
 pub mod Opening
 pub mod Whole
 pub mod Ended

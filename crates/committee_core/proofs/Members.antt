@@ -13,11 +13,10 @@ use Rattle.schedule_text.specs.declared.statement.Statement.{Statement}
 use Rattle.schedule_text.specs.declared.statement.Statement.TheVariants as statement
 use Rattle.schedule_text.specs.Agrees.{no_lines}
 use Rattle.schedule_text.specs.Known.{Check, add_line, also, after_check, check, event_check, roles, setup_check, setup_kind_check}
+use Rattle.schedule_text.specs.Schedule.{schedule_of}
 use Rattle.text_law.specs.Sayable.{IsSayable, IsStatement, added, makes_member, then_read}
 use Rattle.text_law.proofs.SaidWhole.{text_said}
 use Rattle.world_spec.specs.Setting.{stakes_of}
-use Rattle.committee_core.specs.Report.{readable}
-use Rattle.committee_core.proofs.Plain.{read_is_schedule}
 
 -- ---- each has a stake
 
@@ -136,10 +135,10 @@ committee-said stakes false false None e m z = refl
 not-many : (n : ℕ) → n ≤ 64 → nat_lt 64 n ≡ false
 not-many n few = grind (arith, nat_tests, few)
 
-pub read_committee : (text : List ℕ) (s : Schedule) → readable text ≡ Ok s → committee_of (stakes_of s.setup) ≡ Ok (stakes_of s.setup)
+pub read_committee : (text : List ℕ) (s : Schedule) → schedule_of text ≡ Ok s → committee_of (stakes_of s.setup) ≡ Ok (stakes_of s.setup)
 unfolding committee_of
 read_committee text s h =
-    let said : IsSayable s = text_said text s (read_is_schedule text s h) in
+    let said : IsSayable s = text_said text s h in
     let few : IsFew s = added-few _ no_lines s said.order (omega arith) in
     committee-said (stakes_of s.setup) (length (stakes_of s.setup) == 0) (nat_lt 64 (length (stakes_of s.setup))) (zero_from 0 (stakes_of s.setup))
     (some-member s.setup said.members) (not-many (length (stakes_of s.setup)) few) (stakes-some s.setup _ 0 said.words)

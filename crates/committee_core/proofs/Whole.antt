@@ -9,7 +9,6 @@ use Rattle.quorum_core.specs.Signers as codecs
 use Rattle.quorum_core.specs.Seals.{keyed_seal as sealed_under}
 use Rattle.outside.specs.Lists.{Journals, KeepsJournals}
 use Rattle.schedule_text.specs.declared.words.Schedule.{Schedule}
-use Rattle.schedule_text.specs.Forms.{schedule_within}
 use Rattle.schedule_text.specs.Schedule.{Refused, longest_text, schedule_of}
 use Rattle.world_spec.specs.Setting.{Trust}
 use Rattle.world_spec.specs.Keyed.{keyed, keyed_seal, program_secret}
@@ -17,7 +16,7 @@ use Rattle.world_spec.specs.Run.{journal}
 use Rattle.world_core.specs.Trusts.{trust_by}
 use Rattle.committee_core.specs.Headline.{program_trust}
 use Rattle.committee_core.specs.Journals.{AreEmpty, KeepsFronts}
-use Rattle.committee_core.specs.Report.{readable, refusal_text, report_text, setting_in}
+use Rattle.committee_core.specs.Report.{refusal_text, report_text, setting_in}
 use Rattle.committee_core.specs.Streams.{AppendsFront}
 use Rattle.committee_core.specs.Ways.{RunsCut, TextCut}
 
@@ -39,10 +38,10 @@ pub nothing_done : (trust : Trust) (r : Result Schedule Refused) (held : Option 
 nothing_done trust (Ok s) held start empty = nothing_run trust s held start empty
 nothing_done trust (Err r) held start empty = (([], refusal_text r, refl, Appends-nil held), keeps_same start)
 
-pub schedule_cut : (trust : Trust) (text : List ℕ) (s : Schedule) (held held' : Option (List ℕ)) (kept kept' : Option Journals) → readable text ≡ Ok s → RunsCut trust s held held' kept kept' → TextCut trust (readable text) held held' kept kept'
+pub schedule_cut : (trust : Trust) (text : List ℕ) (s : Schedule) (held held' : Option (List ℕ)) (kept kept' : Option Journals) → schedule_of text ≡ Ok s → RunsCut trust s held held' kept kept' → TextCut trust (schedule_of text) held held' kept kept'
 schedule_cut trust text s held held' kept kept' is cut = subst (λ (r : Result Schedule Refused). TextCut trust r held held' kept kept') (sym is) cut
 
-pub refusal_cut : (trust : Trust) (text : List ℕ) (r : Refused) (held held' : Option (List ℕ)) (kept : Option Journals) → readable text ≡ Err r → AppendsFront held held' (refusal_text r) → TextCut trust (readable text) held held' kept kept
+pub refusal_cut : (trust : Trust) (text : List ℕ) (r : Refused) (held held' : Option (List ℕ)) (kept : Option Journals) → schedule_of text ≡ Err r → AppendsFront held held' (refusal_text r) → TextCut trust (schedule_of text) held held' kept kept
 refusal_cut trust text r held held' kept is cut = subst (λ (x : Result Schedule Refused). TextCut trust x held held' kept kept) (sym is) (cut, keeps_same kept)
 
 -- ---- the program's seals
@@ -64,12 +63,12 @@ program_seals secret is = subst (λ (x : List ℕ). trust_by (λ signer bytes. s
 -- ---- a whole text
 
 -- what is read where longer texts are refused is not longer
-short_where : (limit n : ℕ) (long : Bool) (refused : Refused) (rest within : Result Schedule Refused) (s : Schedule) → long ≡ nat_lt limit n
-    → (if long then (if long then Err refused else rest) else within) ≡ Ok s → n ≤ limit
-short_where limit n true refused rest within s is e = absurd (cc)
-short_where limit n false refused rest within s is e = grind (arith, nat_tests)
+short_where : (limit n : ℕ) (long : Bool) (refused : Refused) (rest : Result Schedule Refused) (s : Schedule) → long ≡ nat_lt limit n
+    → (if long then Err refused else rest) ≡ Ok s → n ≤ limit
+short_where limit n true refused rest s is e = absurd (cc)
+short_where limit n false refused rest s is e = grind (arith, nat_tests)
 
 -- a schedule is no longer than the limit
-pub short : (text : List ℕ) (s : Schedule) → readable text ≡ Ok s → length text ≤ longest_text
-unfolding schedule_within schedule_of
-short text s e = short_where longest_text (length text) (nat_lt longest_text (length text)) _ _ _ s refl e
+pub short : (text : List ℕ) (s : Schedule) → schedule_of text ≡ Ok s → length text ≤ longest_text
+unfolding schedule_of
+short text s e = short_where longest_text (length text) (nat_lt longest_text (length text)) _ _ s refl e

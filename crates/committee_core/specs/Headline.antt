@@ -7,12 +7,12 @@ use Rattle.chain_types.specs.Digests.{consumed_keys}
 use Rattle.chain_messages.specs.declared.messages.Certificate.{Certificate}
 use Rattle.schedule_text.specs.declared.words.Event.{Event}
 use Rattle.schedule_text.specs.declared.words.Schedule.{Schedule}
-use Rattle.schedule_text.specs.Schedule.{Refused, longest_text}
+use Rattle.schedule_text.specs.Schedule.{Refused, longest_text, schedule_of}
 use Rattle.protocol_spec.specs.Chain.Words.{Has}
 use Rattle.world_spec.specs.Setting.{Setting, Trust}
 use Rattle.world_spec.specs.Keyed.{keyed, program_secret}
 use Rattle.world_spec.specs.Assumptions.{IsCertified, IsHonestRun}
-use Rattle.committee_core.specs.Report.{readable, refusal_text, setting_in}
+use Rattle.committee_core.specs.Report.{refusal_text, setting_in}
 use Rattle.committee_core.specs.Streams.{ReadsText}
 use Rattle.committee_core.specs.Ways.{MeetsBadRecord, RunsWhole, TextCut}
 
@@ -44,7 +44,7 @@ pub record IsWhole (left left' held held' : Option (List ℕ)) (kept kept' : Opt
   pub schedule : Schedule
   pub read : Consumes left left' text
   pub ended : IsAtEnd left'
-  pub is : readable text ≡ Ok schedule
+  pub is : schedule_of text ≡ Ok schedule
   pub runs : RunsWhole program_trust schedule held held' kept kept'
   pub apart : ConsumesOnce schedule schedule.events
 
@@ -53,7 +53,7 @@ pub record IsRefused (left left' held held' : Option (List ℕ)) (kept kept' : O
   pub text : List ℕ
   pub refused : Refused
   pub read : ReadsText longest_text left left' text
-  pub is : readable text ≡ Err refused
+  pub is : schedule_of text ≡ Err refused
   pub written : Appends held held' (refusal_text refused)
   pub stays : KeepsJournals kept kept'
 
@@ -63,7 +63,7 @@ pub record IsBad (left left' held held' : Option (List ℕ)) (kept : Option Jour
   pub schedule : Schedule
   pub read : Consumes left left' text
   pub ended : IsAtEnd left'
-  pub is : readable text ≡ Ok schedule
+  pub is : schedule_of text ≡ Ok schedule
   pub meets : MeetsBadRecord program_trust schedule Appends held held' kept
   pub apart : FrontsConsumeOnce schedule
 
@@ -71,8 +71,8 @@ pub record IsBad (left left' held held' : Option (List ℕ)) (kept : Option Jour
 pub record WritesFront (left left' held held' : Option (List ℕ)) (kept kept' : Option Journals) : Type 0 where
   pub text : List ℕ
   pub read : ReadsText longest_text left left' text
-  pub cut : TextCut program_trust (readable text) held held' kept kept'
-  pub apart : (s : Schedule) → readable text ≡ Ok s → FrontsConsumeOnce s
+  pub cut : TextCut program_trust (schedule_of text) held held' kept kept'
+  pub apart : (s : Schedule) → schedule_of text ≡ Ok s → FrontsConsumeOnce s
 
 -- a run that was cut: nothing was written and kept, or a front
 abbrev pub IsCut : Option (List ℕ) → Option (List ℕ) → Option (List ℕ) → Option (List ℕ) → Option Journals → Option Journals → Type 0

@@ -3,11 +3,12 @@ use Rattle.std.specs.Prelude.{◌≡◌, ◌≤◌, ◌⊎◌, ℕ, false, List,
 use Rattle.outside.specs.Lists.{Journals, journal_of}
 use Rattle.schedule_text.specs.declared.words.Event.{Event}
 use Rattle.schedule_text.specs.declared.words.Schedule.{Schedule}
+use Rattle.schedule_text.specs.Schedule.{schedule_of}
 use Rattle.protocol_spec.specs.Chain.Words.{Each}
 use Rattle.world_spec.specs.Setting.{Setting, Trust}
 use Rattle.world_spec.specs.Run.{journal, world_after}
 use Rattle.scene_spec.specs.Worlds.{AreKeepable, IsFront, Restarts, is_restart}
-use Rattle.committee_core.specs.Report.{readable, setting_in}
+use Rattle.committee_core.specs.Report.{setting_in}
 
 -- lists are told
 abbrev pub IsTold : Option Journals → Type 0
@@ -48,4 +49,4 @@ StartsAlong s events = (front back : List Event) → events ≡ front ++ back �
 
 -- so it is in the run of each text that is read
 abbrev pub StartsWhereRead : Trust → Type 0
-StartsWhereRead trust = (text : List ℕ) (s : Schedule) → readable text ≡ Ok s → StartsAlong (setting_in trust s) s.events
+StartsWhereRead trust = (text : List ℕ) (s : Schedule) → schedule_of text ≡ Ok s → StartsAlong (setting_in trust s) s.events

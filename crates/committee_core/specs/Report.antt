@@ -1,21 +1,13 @@
 -- The report of a run, as bytes.
-use Rattle.std.specs.Prelude.{ℕ, List, Result}
+use Rattle.std.specs.Prelude.{ℕ, List}
 use Rattle.std.specs.List.{flat_map}
 use Rattle.report_text.specs.declared.lines.Line.{Line}
 use Rattle.report_text.specs.declared.lines.Line.TheVariants as line
 use Rattle.report_text.specs.Text.{text_of}
 use Rattle.schedule_text.specs.declared.words.Schedule.{Schedule}
-use Rattle.schedule_text.specs.Forms.{schedule_within}
 use Rattle.schedule_text.specs.Schedule.{Refused}
-use Rattle.protocol_spec.specs.Chain.Words.{Each}
 use Rattle.world_spec.specs.Setting.{Setting, Trust, setting_of}
 use Rattle.world_spec.specs.Run.{report_of}
-use Rattle.scene_spec.specs.Worlds.{IsTrueOf, is_plain}
-use Rattle.world_core.specs.Forms.{is_plain_form}
-
--- the schedule that bytes are, where all its lines have a form that is run
-abbrev pub readable : List ℕ → Result Schedule Refused
-readable text = schedule_within is_plain_form text
 
 -- what the set-up lines of a schedule fix
 abbrev pub setting_in : Trust → Schedule → Setting
@@ -32,7 +24,3 @@ report_text trust s = lines_text (report_of trust s)
 -- the one line of a refusal
 abbrev pub refusal_text : Refused → List ℕ
 refusal_text r = text_of (line.Refused r.line r.cause)
-
--- all events have a form that runs; each set-up line has one
-abbrev pub IsPlain : Schedule → Type 0
-IsPlain s = Each (IsTrueOf is_plain) s.events

@@ -1,13 +1,12 @@
 //! Running one event: it is taken, and its lines are written as one piece.
 
-ghost use Rattle.std.specs.Prelude.{◌≡◌, ◌≤◌, ℕ, length, true, IfOk, OnErr, OnOk, IsErrOf};
+ghost use Rattle.std.specs.Prelude.{◌≡◌, ◌≤◌, ℕ, length, IfOk, OnErr, OnOk, IsErrOf};
 ghost use Rattle.std.specs.Io.KnownBytes.{Appends};
 ghost use Rattle.outside.specs.Causes.{Rose};
 ghost use Rattle.outside.specs.declared.faults.OutFault.TheVariants as out_fault;
 ghost use Rattle.report_text.specs.Text.{text_of};
 ghost use Rattle.scene_spec.specs.Scene.{rules_in};
 ghost use Rattle.scene_spec.specs.Steps.{MayAddLine, records_left, work_of};
-ghost use Rattle.scene_spec.specs.Worlds.{is_plain};
 ghost use Rattle.world_core.specs.Trusts.{trust_by};
 ghost use Rattle.world_core.specs.declared.world.WorldFault.TheVariants as fault;
 ghost use Rattle.committee_core.specs.Report.{lines_text};
@@ -89,7 +88,6 @@ fn take_event<S: MakesSeals, D: Keeper>(
     keeper: &mut D,
 ) -> Result<Seq<Line>, WorldFault>
     requires room { length world.old.posts ≤ D.width keeper.old }
-    requires plain { is_plain event.now ≡ true }
     ensures taken { IfOk result (IsTaken (trust_by (S.made sealer.now) (S.accepts sealer.now)) event.now world.old world.new (D.lists keeper.old) (D.lists keeper.new)) }
     ensures left { OnErr result (MayAddLine (records_left (rules_in (S.accepts sealer.now) world.old) world.old (work_of world.old event.now)) (D.lists keeper.old) (D.lists keeper.new)) }
     ensures bad { (member place : ℕ) → IsErrOf result (fault.BadRecord member place) → ReadsBad (trust_by (S.made sealer.now) (S.accepts sealer.now)) event.now world.old (D.lists keeper.old) member place }
@@ -112,7 +110,6 @@ pub(crate) fn run_event<S: MakesSeals, K: Sink, D: Keeper>(
     keeper: &mut D,
 ) -> Result<(), Stop>
     requires room { length world.old.posts ≤ D.width keeper.old }
-    requires plain { is_plain event.now ≡ true }
     ensures ok { OnOk result (Passes (trust_by (S.made sealer.now) (S.accepts sealer.now)) event.now world.old world.new (D.lists keeper.old) (D.lists keeper.new) (K.held sink.old) (K.held sink.new)) }
     ensures cut { OnErr result (IsCutAt (trust_by (S.made sealer.now) (S.accepts sealer.now)) event.now world.old (D.lists keeper.old) (D.lists keeper.new) (K.held sink.old) (K.held sink.new)) }
     ensures bad { IsErrOf result stop.BadRecord → IsBadRecord (trust_by (S.made sealer.now) (S.accepts sealer.now)) event.now world.old (D.lists keeper.old) Appends (K.held sink.old) (K.held sink.new) }

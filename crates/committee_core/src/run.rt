@@ -7,7 +7,7 @@ ghost use Rattle.scene_spec.specs.Scene.{new_scene};
 ghost use Rattle.world_core.specs.Trusts.{trust_by};
 ghost use Rattle.committee_core.specs.Journals.{AreAtLeast, AreEmpty, StartsAlong};
 ghost use Rattle.committee_core.specs.Laws.{SceneLaws};
-ghost use Rattle.committee_core.specs.Report.{IsPlain, setting_in};
+ghost use Rattle.committee_core.specs.Report.{setting_in};
 ghost use Rattle.committee_core.specs.Ways.{MeetsBadRecord, RunsCut, RunsWhole};
 ghost use Rattle.committee_core.specs.declared.stop.Stop.TheVariants as stop;
 
@@ -32,7 +32,6 @@ pub(crate) fn run_events<S: MakesSeals, K: Sink, D: Keeper>(
     requires room { length world.old.posts ≤ D.width keeper.old }
     requires wide { AreAtLeast (D.lists keeper.old) (length world.old.posts) }
     requires empty { AreEmpty (D.lists keeper.old) }
-    requires plain { IsPlain schedule.now }
     requires laws { SceneLaws (trust_by (S.made sealer.now) (S.accepts sealer.now)) }
     requires along { StartsAlong (setting_in (trust_by (S.made sealer.now) (S.accepts sealer.now)) schedule.now) schedule.now.events }
     ensures ok { OnOk result (RunsWhole (trust_by (S.made sealer.now) (S.accepts sealer.now)) schedule.now (K.held sink.old) (K.held sink.new) (D.lists keeper.old) (D.lists keeper.new)) }

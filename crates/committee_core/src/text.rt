@@ -8,13 +8,13 @@ ghost use Rattle.report_text.specs.declared.lines.Line.TheVariants as report_lin
 ghost use Rattle.report_text.specs.Text.{text_of};
 ghost use Rattle.quorum_core.specs.Committee.{committee_of};
 ghost use Rattle.schedule_text.specs.declared.words.Schedule.{Schedule};
-ghost use Rattle.schedule_text.specs.Schedule.{Refused};
+ghost use Rattle.schedule_text.specs.Schedule.{Refused, schedule_of};
 ghost use Rattle.scene_spec.specs.Scene.{new_scene};
 ghost use Rattle.world_spec.specs.Setting.{stakes_of};
 ghost use Rattle.world_core.specs.Trusts.{trust_by};
 ghost use Rattle.committee_core.specs.Journals.{AreEmpty, StartsAlong};
 ghost use Rattle.committee_core.specs.Laws.{SceneLaws};
-ghost use Rattle.committee_core.specs.Report.{IsPlain, readable, refusal_text, setting_in};
+ghost use Rattle.committee_core.specs.Report.{refusal_text, setting_in};
 ghost use Rattle.committee_core.specs.Streams.{AppendsFront};
 ghost use Rattle.committee_core.specs.Ways.{MeetsBadRecord, RunsCut, RunsWhole, TextCut};
 ghost use Rattle.committee_core.specs.declared.stop.Stop.TheVariants as stop;
@@ -26,10 +26,10 @@ use crate::run::run_events;
 use crate::stop::{Ended, Stop};
 use outside::{Keeper, OutFault, Sink};
 use report_text::Line;
-use schedule_text::{Schedule, ScheduleRefusal, read_schedule_within};
+use schedule_text::{Schedule, ScheduleRefusal, read_schedule};
 use std::alloc::Global;
 use wire_bcs::OutOfMemory;
-use world_core::{PlainForms, World, WorldRefusal};
+use world_core::{World, WorldRefusal};
 use world_names::MakesSeals;
 
 /// Opens the world of a set-up whose members are a committee, as those of each schedule that is read are. It has at
@@ -63,7 +63,6 @@ fn run_schedule<S: MakesSeals, K: Sink, D: Keeper>(
     requires room { 64 ≤ D.width keeper.old }
     requires empty { AreEmpty (D.lists keeper.old) }
     requires committee { committee_of (stakes_of schedule.now.setup) ≡ Ok (stakes_of schedule.now.setup) }
-    requires plain { IsPlain schedule.now }
     requires laws { SceneLaws (trust_by (S.made sealer.now) (S.accepts sealer.now)) }
     requires along { StartsAlong (setting_in (trust_by (S.made sealer.now) (S.accepts sealer.now)) schedule.now) schedule.now.events }
     ensures ok { OnOk result (RunsWhole (trust_by (S.made sealer.now) (S.accepts sealer.now)) schedule.now (K.held sink.old) (K.held sink.new) (D.lists keeper.old) (D.lists keeper.new)) }
@@ -97,7 +96,7 @@ fn refuse<K: Sink>(alloc: Global, line: u64, cause: u8, sink: &mut K) -> Result<
 }
 
 /// Runs a text: writes the report of the schedule that it is, or the line that says why it is none.
-#[tactic(auto, using(crate::proofs::Plain::plain_read, crate::proofs::Members::read_committee, crate::proofs::Whole::nothing_done, crate::proofs::Whole::schedule_cut, crate::proofs::Whole::refusal_cut, crate::proofs::Whole::keeps_same))]
+#[tactic(auto, using(crate::proofs::Members::read_committee, crate::proofs::Whole::nothing_done, crate::proofs::Whole::schedule_cut, crate::proofs::Whole::refusal_cut, crate::proofs::Whole::keeps_same))]
 pub(crate) fn run_text<S: MakesSeals, K: Sink, D: Keeper>(
     alloc: Global,
     text: &[u8],
@@ -108,14 +107,14 @@ pub(crate) fn run_text<S: MakesSeals, K: Sink, D: Keeper>(
     requires room { 64 ≤ D.width keeper.old }
     requires empty { AreEmpty (D.lists keeper.old) }
     requires laws { SceneLaws (trust_by (S.made sealer.now) (S.accepts sealer.now)) }
-    ensures ran { result ≡ Ok ended.Ran → (s : Schedule) × (readable text.now ≡ Ok s) × RunsWhole (trust_by (S.made sealer.now) (S.accepts sealer.now)) s (K.held sink.old) (K.held sink.new) (D.lists keeper.old) (D.lists keeper.new) }
-    ensures refused { result ≡ Ok ended.Refused → (r : Refused) × (readable text.now ≡ Err r) × Appends (K.held sink.old) (K.held sink.new) (refusal_text r) × KeepsJournals (D.lists keeper.old) (D.lists keeper.new) }
-    ensures bad { IsErrOf result stop.BadRecord → (s : Schedule) × (readable text.now ≡ Ok s) × MeetsBadRecord (trust_by (S.made sealer.now) (S.accepts sealer.now)) s Appends (K.held sink.old) (K.held sink.new) (D.lists keeper.old) }
-    ensures cut { OnErr result (TextCut (trust_by (S.made sealer.now) (S.accepts sealer.now)) (readable text.now) (K.held sink.old) (K.held sink.new) (D.lists keeper.old) (D.lists keeper.new)) }
+    ensures ran { result ≡ Ok ended.Ran → (s : Schedule) × (schedule_of text.now ≡ Ok s) × RunsWhole (trust_by (S.made sealer.now) (S.accepts sealer.now)) s (K.held sink.old) (K.held sink.new) (D.lists keeper.old) (D.lists keeper.new) }
+    ensures refused { result ≡ Ok ended.Refused → (r : Refused) × (schedule_of text.now ≡ Err r) × Appends (K.held sink.old) (K.held sink.new) (refusal_text r) × KeepsJournals (D.lists keeper.old) (D.lists keeper.new) }
+    ensures bad { IsErrOf result stop.BadRecord → (s : Schedule) × (schedule_of text.now ≡ Ok s) × MeetsBadRecord (trust_by (S.made sealer.now) (S.accepts sealer.now)) s Appends (K.held sink.old) (K.held sink.new) (D.lists keeper.old) }
+    ensures cut { OnErr result (TextCut (trust_by (S.made sealer.now) (S.accepts sealer.now)) (schedule_of text.now) (K.held sink.old) (K.held sink.new) (D.lists keeper.old) (D.lists keeper.new)) }
     ensures fault { IsErrOf result stop.WriteFault → Rose (K.faults sink.old) (K.faults sink.new) }
     ensures keep_fault { IsErrOf result stop.KeepFault → Rose (D.failed keeper.old) (D.failed keeper.new) }
 {
-    match read_schedule_within(alloc, &PlainForms, text) {
+    match read_schedule(alloc, text) {
         Ok(schedule) => match run_schedule(alloc, &schedule, sealer, sink, keeper) {
             Ok(()) => Ok(Ended::Ran),
             Err(stop) => Err(stop),

@@ -6,13 +6,13 @@ ghost use Rattle.std.specs.Io.KnownBytes.{Appends, Keeps};
 ghost use Rattle.outside.specs.Causes.{Rose};
 ghost use Rattle.outside.specs.Lists.{KeepsJournals};
 ghost use Rattle.schedule_text.specs.declared.words.Schedule.{Schedule};
-ghost use Rattle.schedule_text.specs.Schedule.{Refused};
+ghost use Rattle.schedule_text.specs.Schedule.{Refused, schedule_of};
 ghost use Rattle.quorum_core.specs.Seals.{keyed_seal};
 ghost use Rattle.world_core.specs.Trusts.{trust_by};
 ghost use Rattle.committee_core.specs.Headline.{IsBad, IsCut, IsRefused, IsRun, IsWhole, program_trust};
 ghost use Rattle.committee_core.specs.Journals.{AreEmpty};
 ghost use Rattle.committee_core.specs.Laws.{SceneLaws};
-ghost use Rattle.committee_core.specs.Report.{readable, refusal_text};
+ghost use Rattle.committee_core.specs.Report.{refusal_text};
 ghost use Rattle.committee_core.specs.Ways.{MeetsBadRecord, RunsWhole, TextCut};
 ghost use Rattle.committee_core.specs.declared.stop.Stop.TheVariants as stop;
 ghost use Rattle.committee_core.specs.declared.stop.Ended.TheVariants as ended;
@@ -67,10 +67,10 @@ fn run_sealed<K: Sink, D: Keeper>(
 ) -> Result<Ended, Stop>
     requires room { 64 ≤ D.width keeper.old }
     requires empty { AreEmpty (D.lists keeper.old) }
-    ensures ran { result ≡ Ok ended.Ran → (s : Schedule) × (readable text.now ≡ Ok s) × RunsWhole program_trust s (K.held sink.old) (K.held sink.new) (D.lists keeper.old) (D.lists keeper.new) }
-    ensures refused { result ≡ Ok ended.Refused → (r : Refused) × (readable text.now ≡ Err r) × Appends (K.held sink.old) (K.held sink.new) (refusal_text r) × KeepsJournals (D.lists keeper.old) (D.lists keeper.new) }
-    ensures bad { IsErrOf result stop.BadRecord → (s : Schedule) × (readable text.now ≡ Ok s) × MeetsBadRecord program_trust s Appends (K.held sink.old) (K.held sink.new) (D.lists keeper.old) }
-    ensures cut { OnErr result (TextCut program_trust (readable text.now) (K.held sink.old) (K.held sink.new) (D.lists keeper.old) (D.lists keeper.new)) }
+    ensures ran { result ≡ Ok ended.Ran → (s : Schedule) × (schedule_of text.now ≡ Ok s) × RunsWhole program_trust s (K.held sink.old) (K.held sink.new) (D.lists keeper.old) (D.lists keeper.new) }
+    ensures refused { result ≡ Ok ended.Refused → (r : Refused) × (schedule_of text.now ≡ Err r) × Appends (K.held sink.old) (K.held sink.new) (refusal_text r) × KeepsJournals (D.lists keeper.old) (D.lists keeper.new) }
+    ensures bad { IsErrOf result stop.BadRecord → (s : Schedule) × (schedule_of text.now ≡ Ok s) × MeetsBadRecord program_trust s Appends (K.held sink.old) (K.held sink.new) (D.lists keeper.old) }
+    ensures cut { OnErr result (TextCut program_trust (schedule_of text.now) (K.held sink.old) (K.held sink.new) (D.lists keeper.old) (D.lists keeper.new)) }
     ensures fault { IsErrOf result stop.WriteFault → Rose (K.faults sink.old) (K.faults sink.new) }
     ensures keep_fault { IsErrOf result stop.KeepFault → Rose (D.failed keeper.old) (D.failed keeper.new) }
 {
@@ -84,11 +84,11 @@ fn run_read<K: Sink, D: Keeper>(alloc: Global, text: &[u8], sink: &mut K, keeper
     requires room { 64 ≤ D.width keeper.old }
     requires empty { AreEmpty (D.lists keeper.old) }
     ensures known { (result ≡ 0) ⊎ (result ≡ 3) ⊎ (result ≡ 5) ⊎ (result ≡ 6) ⊎ (result ≡ 7) }
-    ensures ran { result ≡ 0 → (s : Schedule) × (readable text.now ≡ Ok s) × RunsWhole program_trust s (K.held sink.old) (K.held sink.new) (D.lists keeper.old) (D.lists keeper.new) }
-    ensures refused { result ≡ 3 → (r : Refused) × (readable text.now ≡ Err r) × Appends (K.held sink.old) (K.held sink.new) (refusal_text r) × KeepsJournals (D.lists keeper.old) (D.lists keeper.new) }
+    ensures ran { result ≡ 0 → (s : Schedule) × (schedule_of text.now ≡ Ok s) × RunsWhole program_trust s (K.held sink.old) (K.held sink.new) (D.lists keeper.old) (D.lists keeper.new) }
+    ensures refused { result ≡ 3 → (r : Refused) × (schedule_of text.now ≡ Err r) × Appends (K.held sink.old) (K.held sink.new) (refusal_text r) × KeepsJournals (D.lists keeper.old) (D.lists keeper.new) }
     ensures write_fault { result ≡ 5 → Rose (K.faults sink.old) (K.faults sink.new) }
-    ensures kept { result ≡ 6 → (Rose (D.failed keeper.old) (D.failed keeper.new) × TextCut program_trust (readable text.now) (K.held sink.old) (K.held sink.new) (D.lists keeper.old) (D.lists keeper.new)) ⊎ ((s : Schedule) × (readable text.now ≡ Ok s) × MeetsBadRecord program_trust s Appends (K.held sink.old) (K.held sink.new) (D.lists keeper.old)) }
-    ensures cut { (result ≡ 5) ⊎ (result ≡ 7) → TextCut program_trust (readable text.now) (K.held sink.old) (K.held sink.new) (D.lists keeper.old) (D.lists keeper.new) }
+    ensures kept { result ≡ 6 → (Rose (D.failed keeper.old) (D.failed keeper.new) × TextCut program_trust (schedule_of text.now) (K.held sink.old) (K.held sink.new) (D.lists keeper.old) (D.lists keeper.new)) ⊎ ((s : Schedule) × (schedule_of text.now ≡ Ok s) × MeetsBadRecord program_trust s Appends (K.held sink.old) (K.held sink.new) (D.lists keeper.old)) }
+    ensures cut { (result ≡ 5) ⊎ (result ≡ 7) → TextCut program_trust (schedule_of text.now) (K.held sink.old) (K.held sink.new) (D.lists keeper.old) (D.lists keeper.new) }
 {
     match run_sealed(alloc, text, sink, keeper) {
         Ok(Ended::Ran) => 0,
@@ -132,7 +132,7 @@ fn run<S: Source, K: Sink, D: Keeper>(
 /// |---|---|---|
 /// | 0 | where all events ran, and the source was read to its end | the whole report; each told list is its member's journal |
 /// | 2 | exactly where the words are not `run` | nothing |
-/// | 3 | exactly where the bytes are no schedule of forms that run, and the line was written | `refused line L cause C`; told lists stay |
+/// | 3 | exactly where the bytes are no schedule, and the line was written | `refused line L cause C`; told lists stay |
 /// | 4 | only where the source's count of faults rose | nothing; told lists stay |
 /// | 5 | only where the sink's count of faults rose | a front of what was to be written; each told list is a front of its journal |
 /// | 6 | only where the keeper's count of faults rose, or a record read back is bad | a front of the report, and after a bad record `restart M: bad record PLACE` |

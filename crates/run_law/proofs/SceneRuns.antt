@@ -22,7 +22,6 @@ use Rattle.world_spec.specs.Run.{run, world_after}
 use Rattle.world_spec.specs.Assumptions.{ack_call, all_of, calls_of, see_calls, send_call, vote_call}
 use Rattle.text_law.specs.Sayable.{IsByte, IsStatement}
 use Rattle.text_law.proofs.SaidWhole.{text_said}
-use Rattle.safety_law.proofs.InWorld.{each-front}
 use Rattle.safety_law.proofs.Kept.{find-has}
 use Rattle.safety_law.proofs.Once.{each-has}
 use Rattle.safety_law.proofs.Steps.{last-has}

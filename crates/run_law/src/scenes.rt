@@ -1,6 +1,6 @@
 //! A step of the scene is the definition's step.
 
-ghost use Rattle.std.specs.Prelude.{◌≡◌, ◌<◌, ℕ, List, ◌∷◌, ◌++◌, [], Option, Some, Ok, false, length, true};
+ghost use Rattle.std.specs.Prelude.{◌≡◌, ◌<◌, ℕ, List, ◌∷◌, ◌++◌, [], Option, Some, Ok, false, length};
 ghost use Rattle.wire_bcs.specs.Place.{IsBytes};
 ghost use Rattle.chain_types.specs.declared.transactions.SignedTx.{SignedTx};
 ghost use Rattle.chain_types.specs.Transactions as transactions;

@@ -1,6 +1,6 @@
 -- The lines of acknowledgements and of what they make final, in each of their ways.
-use Rattle.std.proofs.Common.{◌≡◌, ◌∙◌, ap, sym, refl, ℕ, Bool, true, false, cond, List, [], ◌∷◌, ◌++◌, Option, Some, None}
-use Rattle.std.specs.Prelude.{slice_get}
+use Rattle.std.proofs.Common.{◌≡◌, ◌∙◌, ap, sym, refl, ℕ, Bool, true, false, cond, List, [], ◌∷◌, ◌++◌, Option, Some, None, Result, Ok, Err, subst}
+use Rattle.std.specs.Prelude.{IfOk, slice_get}
 use Rattle.chain_messages.specs.declared.messages.Statement.{Statement}
 use Rattle.chain_types.specs.Equal.{digest_eq}
 use Rattle.protocol_spec.specs.Chain.Certificates.{Rules}
@@ -13,6 +13,7 @@ use Rattle.report_text.specs.declared.lines.FinalText.{FinalText}
 use Rattle.report_text.specs.declared.lines.FinalText.TheVariants as final_text
 use Rattle.world_spec.specs.Setting.{Name, Trust}
 use Rattle.world_spec.specs.World.{Made, Said, is_honest, said_by}
+use Rattle.world_spec.specs.Names.{made_named}
 use Rattle.world_spec.specs.Step.{Collected, ack_in, collected, last_said}
 use Rattle.world_spec.specs.Report.{ack_reached, acks_collected, final_collected, final_lines}
 use Rattle.scene_spec.specs.Scene.{Scene, bare_setting, bare_world, rules_in}
@@ -75,3 +76,15 @@ module _ (trust : Trust) (sc : Scene) (tx : Name) (ms : List ℕ) (t : Option Ma
       now
       ∙ ap (λ (x : FinalText). line.Final tx x ∷ []) (said ∙ ap (λ (c : Collected). final_collected ms c) gave)
       ∙ ap (λ (x : Option Made). final_lines (bare_setting trust sc) (bare_world sc) tx ms x) is
+
+ok_then : {A E : Type 0} (P Q : A → Type 0) (result : Result A E) → ((a : A) → P a → Q a) → IfOk result P → IfOk result Q
+ok_then P Q (Ok a) f p = f a p
+ok_then P Q (Err e) f p = tt
+
+pub final_told : {E : Type 0} (trust : Trust) (v sc : Scene) (tx : Name) (ms : List ℕ) (made : Made) (found : Collected) (text : FinalText) (result : Result (List Line) E) → v ≡ sc → Some made ≡ made_named (bare_world v) tx
+    → found ≡ collected digest_eq v.terms.stakes (λ (m : ℕ). last_said (ack_in made.signed.tx.epoch made.digest) m v.said) ms → text ≡ final_collected ms found → IfOk result (λ lines. lines ≡ line.Final tx text ∷ [])
+    → IfOk result (λ lines. lines ≡ final_lines (bare_setting trust sc) (bare_world sc) tx ms (made_named (bare_world sc) tx))
+final_told trust v sc tx ms made found text result view is gave said told =
+    subst (λ (x : Scene). IfOk result (λ lines. lines ≡ final_lines (bare_setting trust x) (bare_world x) tx ms (made_named (bare_world x) tx))) view
+    (ok_then (λ lines. lines ≡ line.Final tx text ∷ []) (λ lines. lines ≡ final_lines (bare_setting trust v) (bare_world v) tx ms (made_named (bare_world v) tx)) result
+    (λ lines now. named_final trust v tx ms (made_named (bare_world v) tx) made found text lines is gave said now) told)

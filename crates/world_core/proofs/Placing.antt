@@ -33,6 +33,10 @@ AreWhole terms flags posts = ArePlaced terms posts × (flags ≡ honest_flags po
 pub placed_in : (terms : Terms) (posts : List Post) (n m : ℕ) (old : Post) → n ≡ length posts → m < n → old ≡ get_or posts m old → ArePlaced terms posts → IsPlaced terms m old.standing
 placed_in terms posts n m old count low is placed = subst (IsPlacedPost terms m) (slice_get_read posts n m old count low is) (placed m)
 
+-- a member that stands at a number is placed there
+pub placed_at : (terms : Terms) (posts : List Post) (m : ℕ) (p : Post) (o : Option Seat) → ArePlaced terms posts → Some p ≡ slice_get posts m → o ≡ p.standing → IsPlaced terms m o
+placed_at terms posts m p o all at is = subst (IsPlaced terms m) (sym is) (subst (IsPlacedPost terms m) (sym at) (all m))
+
 pub whole_with : (terms : Terms) (flags : List Bool) (posts : List Post) (n m : ℕ) (old p : Post) → n ≡ length posts → m < n → old ≡ get_or posts m old → AreWhole terms flags posts → IsPlaced terms m p.standing → p.honest ≡ old.honest
     → AreWhole terms flags (set posts m p)
 whole_with terms flags posts n m old p count low is whole placed same =

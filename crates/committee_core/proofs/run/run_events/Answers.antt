@@ -32,7 +32,7 @@ returns-in_err-run_event-clause-cut g c =
     rw p.1
     (cut-here trust c.requires.laws c.args.schedule.now (g.D.Keeper.lists c.args.keeper.now) (g.K.Sink.held c.args.sink.now) c.loop-event.event-index c.event-item.result c.loop-event.world
     (g.D.Keeper.lists c.loop-event.keeper) (g.D.Keeper.lists c.run_event.new.keeper) (g.K.Sink.held c.loop-event.sink) (g.K.Sink.held c.run_event.new.sink)
-    is below c.requires.plain wide c.loop-event.invariant.behind c.requires.along c.in_err-run_event.ensures.cut)
+    is below wide c.loop-event.invariant.behind c.requires.along c.in_err-run_event.ensures.cut)
 
 pub returns-in_err-run_event-clause-bad : goal.returns-in_err-run_event-clause-bad
 returns-in_err-run_event-clause-bad g c =
@@ -54,7 +54,7 @@ loop-event-preserved g c =
     record {
       behind = λ reads. behind-next trust c.requires.laws (setting_in trust c.args.schedule.now) (g.D.Keeper.lists c.args.keeper.now) (g.K.Sink.held c.args.sink.now) c.args.schedule.now.events
           c.loop-event.event-index c.event-item.result c.loop-event.world c.run_event.new.world (g.D.Keeper.lists c.loop-event.keeper) (g.D.Keeper.lists c.run_event.new.keeper)
-          (g.K.Sink.held c.loop-event.sink) (g.K.Sink.held c.run_event.new.sink) c.requires.along is below c.requires.plain wide c.loop-event.invariant.behind c.in_ok-run_event.ensures.ok reads;
+          (g.K.Sink.held c.loop-event.sink) (g.K.Sink.held c.run_event.new.sink) c.requires.along is below wide c.loop-event.invariant.behind c.in_ok-run_event.ensures.ok reads;
       stay = c.in_ok-run_event.ensures.stay ∙ c.loop-event.invariant.stay;
       width = c.in_ok-run_event.ensures.width ∙ c.loop-event.invariant.width;
       later = grind arith;
