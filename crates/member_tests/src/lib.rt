@@ -10,4 +10,6 @@ mod stated;
 #[cfg(test)]
 mod states;
 #[cfg(test)]
+mod turned;
+#[cfg(test)]
 mod validators;

@@ -121,7 +121,7 @@ fn a_vote_is_fresh_once(rt: HostRuntime) -> Result<(), Fail> {
 }
 
 /// The version of the coin behind the transaction.
-fn sent_key() -> ObjectKey {
+pub(crate) fn sent_key() -> ObjectKey {
     ObjectKey {
         id: ObjectId(Digest([7; 32])),
         version: 2,
