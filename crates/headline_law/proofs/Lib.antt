@@ -1,1 +1,17 @@
+pub mod Waiting
+pub mod Ending
+pub mod Counting
+pub mod Saying
+pub mod Along
+pub mod Turning
+pub mod Knowing
+pub mod Settling
+pub mod Dropping
+pub mod Admitting
+pub mod Standing
+pub mod Once
+pub mod Printing
+pub mod Telling
+pub mod Rolls
+pub mod Reporting
 pub mod Moments

@@ -19,6 +19,7 @@ use Rattle.agreement_law.proofs.Sums.{are-backed, only-gas, set-up-backed}
 use Rattle.ready_law.proofs.Running.{no-run-leaves-anything}
 use Rattle.amount_law.proofs.Epochs.{gas-was-held}
 use Rattle.amount_law.proofs.Texts.{money-amounts, no-gas-cap, set-up-amounts}
+use Rattle.headline_law.proofs.Standing.{final-stands}
 use Rattle.headline_law.specs.Headline.{Agree, AreSafe, Holds, Stands}
 
 append_nil : {A : Type 0} (xs : List A) → xs ++ [] ≡ xs
@@ -66,4 +67,4 @@ module _ (text : List ℕ) (t : Schedule) (read : schedule_of text ≡ Ok t) (tr
       }
 
   pub moment_holds : Holds (setting_of trust t.setup) front
-  moment_holds = record { certified = safe; member = stands; members = agree }
+  moment_holds = record { certified = safe; member = stands; members = agree; final = final-stands (setting_of trust t.setup) front honest (set-up-apart trust t.setup) }

@@ -2,6 +2,7 @@
 -- statement is forged and no digests collide, whatever is delivered, lost, repeated, stopped and started again. Source:
 -- Sui Lutris.
 use Rattle.std.specs.Prelude.{◌≡◌, ◌≢◌, ◌<◌, ◌+◌, ◌⊎◌, ℕ, suc, true, List, [], ◌++◌, slice_get, Some, None, Ok}
+use Rattle.digest_core.specs.declared.Digest.{Digest}
 use Rattle.chain_types.specs.declared.objects.ObjectKey.{ObjectKey}
 use Rattle.chain_types.specs.declared.transactions.SignedTx.{SignedTx}
 use Rattle.chain_types.specs.Digests.{consumed_keys}
@@ -19,12 +20,13 @@ use Rattle.world_spec.specs.Setting.{Setting, Trust, setting_of}
 use Rattle.world_spec.specs.World.{Seat, World, is_honest, member_in}
 use Rattle.world_spec.specs.Openings.{opening_at}
 use Rattle.world_spec.specs.Run.{world_after}
-use Rattle.world_spec.specs.Assumptions.{IsCertified, IsHonestRun}
+use Rattle.world_spec.specs.Assumptions.{IsCertified, IsFinal, IsHonestRun}
 use Rattle.block_law.specs.Money.{supply_sum}
 use Rattle.safety_law.specs.Owners.{all_handed}
 use Rattle.agreement_law.specs.Opened.{OpensAsLeft}
 use Rattle.agreement_law.specs.Past.{past_at}
 use Rattle.agreement_law.specs.Sums.{epoch_gas}
+use Rattle.headline_law.specs.Final.{StandsForGood}
 
 -- what holds of the certified transactions
 pub record AreSafe (s : Setting) (events : List Event) : Type 0 where
@@ -64,6 +66,8 @@ pub record Holds (s : Setting) (events : List Event) : Type 0 where
   pub member : (m : ℕ) (seat : Seat) → slice_get (world_after s events).seats m ≡ Some seat → Stands s (world_after s events) (member_in s seat)
   pub members : (m n : ℕ) (a b : Seat) → slice_get (world_after s events).seats m ≡ Some a → slice_get (world_after s events).seats n ≡ Some b
       → Agree (member_in s a) (member_in s b)
+  -- what a quorum acknowledged stands, with these effects, in a checkpoint of its epoch at each member that has left it
+  pub final : (epoch : ℕ) (tx effects : Digest) (members : List ℕ) → IsFinal s (world_after s events) epoch tx effects members → StandsForGood s events epoch tx effects
 
 -- whatever text is read as a schedule, and whatever seals are accepted: each moment of its run, if the run is honest
 abbrev pub EveryMomentHolds : Type 0

@@ -1,6 +1,7 @@
 -- The lines of acknowledgements and of what they make final, in each of their ways.
-use Rattle.std.proofs.Common.{◌≡◌, ◌∙◌, ap, sym, refl, ℕ, Bool, true, false, cond, List, [], ◌∷◌, ◌++◌, Option, Some, None, Result, Ok, Err, subst}
-use Rattle.std.specs.Prelude.{IfOk, slice_get}
+use Rattle.std.proofs.Common.{◌≡◌, ◌∙◌, ap, sym, refl, ℕ, Bool, true, false, cond, List, [], ◌∷◌, ◌++◌, map, Option, Some, None, Result, subst}
+use Rattle.std.proofs.lemmas.Result.{IfOk-weaker}
+use Rattle.std.specs.Prelude.{IfOk, OnOk, slice_get}
 use Rattle.chain_messages.specs.declared.messages.Statement.{Statement}
 use Rattle.chain_types.specs.Equal.{digest_eq}
 use Rattle.protocol_spec.specs.Chain.Certificates.{Rules}
@@ -17,11 +18,12 @@ use Rattle.world_spec.specs.Names.{made_named}
 use Rattle.world_spec.specs.Step.{Collected, ack_in, collected, last_said}
 use Rattle.world_spec.specs.Report.{ack_reached, acks_collected, final_collected, final_lines}
 use Rattle.scene_spec.specs.Scene.{Scene, bare_setting, bare_world, rules_in}
-use Rattle.scene_spec.specs.Steps.{ack_lines_in, acked_in, called_scene, comes_to}
+use Rattle.scene_spec.specs.Steps.{ack_lines_in, acked_in, called_scene, comes_to, state_at}
 use Rattle.world_core.specs.Crews.{honest_flags}
-use Rattle.world_core.specs.Epochs.{false_ack_by}
+use Rattle.world_core.specs.Epochs.{ack_statements, ack_text_by, false_ack_by}
 use Rattle.world_core.specs.Votes.{flag_at}
-use Rattle.world_core.proofs.Silent.{saying}
+use Rattle.world_core.proofs.Silent.{ack_scene, ack_text_is, saying}
+use Rattle.world_core.proofs.Sound.{on_ok}
 use Rattle.world_core.proofs.Voting.{honest_same}
 
 module _ (trust : Trust) (sc : Scene) (m : ℕ) (tx : Name) (spoiled : Bool) (t : Option Made) where
@@ -62,6 +64,29 @@ module _ (trust : Trust) (sc : Scene) (m : ℕ) (tx : Name) (spoiled : Bool) (t 
     pub faulty_lines : (lines : List Line) → flag_at (slice_get (honest_flags sc.posts) m) ≡ false → lines ≡ line.Ack m tx ack_text.Said ∷ [] → lines ≡ ack_lines_in trust sc m tx t
     faulty_lines lines flag now = now ∙ lines_as made is false flag
 
+-- ---- an acknowledgement of a transaction that is known, told of the world as it was
+
+module _ {E : Type 0} (trust : Trust) (v sc : Scene) (m : ℕ) (tx : Name) (spoiled : Bool) (made : Made) (result : Result (List Line) E) (view : v ≡ sc) (is : Some made ≡ made_named (bare_world v) tx) where
+  -- the world behind the line
+  abbrev IsAcked : List Said → Scene → Type 0
+  IsAcked said x = saying v said ≡ acked_in (rules_in trust.accepts x) x m spoiled (made_named (bare_world x) tx)
+
+  pub honest_told : (said : List Said) → flag_at (slice_get (honest_flags v.posts) m) ≡ true → said ≡ v.said ++ map (said_by m) (ack_statements (rules_in trust.accepts v) made.digest (state_at v m)) → OnOk result (IsAcked said sc)
+  honest_told said flag told =
+      on_ok (IsAcked said sc) result
+      (subst (IsAcked said) view (honest_acks trust v m tx spoiled (made_named (bare_world v) tx) made is said flag (ack_scene trust v m made.digest said told)))
+
+  pub faulty_told : (st : Statement) (said : List Said) → flag_at (slice_get (honest_flags v.posts) m) ≡ false → st ≡ false_ack_by v.posts made spoiled → said ≡ v.said ++ said_by m st ∷ [] → OnOk result (IsAcked said sc)
+  faulty_told st said flag lie told =
+      on_ok (IsAcked said sc) result (subst (IsAcked said) view (faulty_acks trust v m tx spoiled (made_named (bare_world v) tx) made is st said flag lie told))
+
+  pub honest_lines_told : (text : AckText) → flag_at (slice_get (honest_flags v.posts) m) ≡ true → text ≡ ack_text_by v.known (rules_in trust.accepts v) made.digest (state_at v m)
+      → IfOk result (λ lines. lines ≡ line.Ack m tx text ∷ []) → IfOk result (λ lines. lines ≡ ack_lines_in trust sc m tx (made_named (bare_world sc) tx))
+  honest_lines_told text flag said told =
+      subst (λ (x : Scene). IfOk result (λ lines. lines ≡ ack_lines_in trust x m tx (made_named (bare_world x) tx))) view
+      (IfOk-weaker result (λ lines. lines ≡ line.Ack m tx text ∷ []) (λ lines. lines ≡ ack_lines_in trust v m tx (made_named (bare_world v) tx))
+      (λ lines now. honest_lines trust v m tx spoiled (made_named (bare_world v) tx) made is text lines flag (said ∙ ack_text_is trust v m made.digest) now) told)
+
 -- ---- final
 
 module _ (trust : Trust) (sc : Scene) (tx : Name) (ms : List ℕ) (t : Option Made) where
@@ -77,14 +102,10 @@ module _ (trust : Trust) (sc : Scene) (tx : Name) (ms : List ℕ) (t : Option Ma
       ∙ ap (λ (x : FinalText). line.Final tx x ∷ []) (said ∙ ap (λ (c : Collected). final_collected ms c) gave)
       ∙ ap (λ (x : Option Made). final_lines (bare_setting trust sc) (bare_world sc) tx ms x) is
 
-ok_then : {A E : Type 0} (P Q : A → Type 0) (result : Result A E) → ((a : A) → P a → Q a) → IfOk result P → IfOk result Q
-ok_then P Q (Ok a) f p = f a p
-ok_then P Q (Err e) f p = tt
-
 pub final_told : {E : Type 0} (trust : Trust) (v sc : Scene) (tx : Name) (ms : List ℕ) (made : Made) (found : Collected) (text : FinalText) (result : Result (List Line) E) → v ≡ sc → Some made ≡ made_named (bare_world v) tx
     → found ≡ collected digest_eq v.terms.stakes (λ (m : ℕ). last_said (ack_in made.signed.tx.epoch made.digest) m v.said) ms → text ≡ final_collected ms found → IfOk result (λ lines. lines ≡ line.Final tx text ∷ [])
     → IfOk result (λ lines. lines ≡ final_lines (bare_setting trust sc) (bare_world sc) tx ms (made_named (bare_world sc) tx))
 final_told trust v sc tx ms made found text result view is gave said told =
     subst (λ (x : Scene). IfOk result (λ lines. lines ≡ final_lines (bare_setting trust x) (bare_world x) tx ms (made_named (bare_world x) tx))) view
-    (ok_then (λ lines. lines ≡ line.Final tx text ∷ []) (λ lines. lines ≡ final_lines (bare_setting trust v) (bare_world v) tx ms (made_named (bare_world v) tx)) result
+    (IfOk-weaker result (λ lines. lines ≡ line.Final tx text ∷ []) (λ lines. lines ≡ final_lines (bare_setting trust v) (bare_world v) tx ms (made_named (bare_world v) tx))
     (λ lines now. named_final trust v tx ms (made_named (bare_world v) tx) made found text lines is gave said now) told)

@@ -1,11 +1,15 @@
 -- Calls that keep no record: the members stay as they are, and what the member states is its answer in its state.
-use Rattle.std.proofs.Common.{◌≡◌, ◌∙◌, ap, sym, refl, subst, ℕ, Bool, List, [], ◌++◌, map, Option, Some, None, option_map, Result}
-use Rattle.std.specs.Prelude.{slice_get, slice_set}
+use Rattle.std.proofs.Common.{◌≡◌, ◌∙◌, ap, sym, refl, subst, ℕ, Bool, List, [], ◌∷◌, ◌++◌, map, Option, Some, None, option_map, Result}
+use Rattle.std.proofs.lemmas.Result.{IfOk-weaker}
+use Rattle.std.specs.Prelude.{IfOk, OnOk, slice_get, slice_set}
 use Rattle.digest_core.specs.declared.Digest.{Digest}
 use Rattle.chain_messages.specs.declared.messages.Statement.{Statement}
 use Rattle.journal_core.specs.declared.records.Record.{Record}
 use Rattle.outside.specs.Lists.{Journals}
 use Rattle.protocol_spec.specs.Chain.Certificates.{Rules}
+use Rattle.report_text.specs.declared.lines.EndText.{EndText}
+use Rattle.report_text.specs.declared.lines.Line.{Line}
+use Rattle.report_text.specs.declared.lines.Line.TheVariants as line
 use Rattle.protocol_spec.specs.Member.Member.{Member}
 use Rattle.protocol_spec.specs.Member.Calls.{Call, ack_answer, acks, due, end_answer, ends}
 use Rattle.world_spec.specs.Setting.{Trust}
@@ -20,6 +24,7 @@ use Rattle.world_core.specs.Epochs.{ack_statements, ack_text_by, end_statements,
 use Rattle.world_core.specs.Kept.{LeavesAs}
 use Rattle.world_core.proofs.Lines.{keeps_same, left_on}
 use Rattle.world_core.proofs.Seeing.{set_same}
+use Rattle.world_core.proofs.Sound.{on_ok}
 
 -- a member in this state answers in it; one that is down finds nobody
 abbrev pub reached_of : Option Member → Reached
@@ -132,3 +137,20 @@ module _ (trust : Trust) (sc : Scene) (m : ℕ) where
 
     pub ack_leaves : {A E : Type 0} (told : Option Journals) (result : Result A E) → LeavesAs r sc (asks m (acks tx)) told told result
     ack_leaves told result = left_on r sc m (acks tx) told told result (subst (λ (x : Option Record). AddsLeft told told m x) (sym (none_left r (acks tx) (acks_silent r tx) sc.posts m)) (keeps_same told))
+
+-- ---- an End, told of the world as it was
+
+module _ {E : Type 0} (trust : Trust) (v sc : Scene) (m : ℕ) (result : Result (List Line) E) (view : v ≡ sc) where
+  pub end_told : (said : List Said) → said ≡ v.said ++ map (said_by m) (end_statements (rules_in trust.accepts v) (state_at v m)) → OnOk result (saying v said ≡ called_scene (rules_in trust.accepts sc) sc m ends)
+  end_told said told =
+      on_ok (saying v said ≡ called_scene (rules_in trust.accepts sc) sc m ends) result
+      (subst (λ (x : Scene). saying v said ≡ called_scene (rules_in trust.accepts x) x m ends) view (end_scene trust v m said told))
+
+  -- its line
+  abbrev IsEnd : Scene → List Line → Type 0
+  IsEnd x lines = lines ≡ line.End m (end_reached (bare_setting trust x) (bare_world x) (comes_to trust x m ends)) ∷ []
+
+  pub end_lines_told : (text : EndText) → text ≡ end_text_by v.known (rules_in trust.accepts v) (state_at v m) → IfOk result (λ lines. lines ≡ line.End m text ∷ []) → IfOk result (IsEnd sc)
+  end_lines_told text said told =
+      subst (λ (x : Scene). IfOk result (IsEnd x)) view
+      (IfOk-weaker result (λ lines. lines ≡ line.End m text ∷ []) (IsEnd v) (λ lines now. now ∙ ap (λ (t : EndText). line.End m t ∷ []) (said ∙ end_text_is trust v m)) told)

@@ -1,5 +1,11 @@
+use Rattle.std.proofs.Common.{rules, ◌≡◌, true, List, Ok, Result}
+use Rattle.report_text.specs.declared.lines.Line.{Line}
 use Rattle.schedule_text.specs.declared.words.Event.TheVariants as events
+use Rattle.scene_spec.specs.Steps.{work_of}
+use Rattle.world_core.specs.Kept.{is_quiet}
 use Rattle.world_core.specs.Trusts.{trust_by}
+use Rattle.world_core.specs.declared.world.WorldFault.{WorldFault}
+use Rattle.world_core.proofs.Leaving.{quiet_leaves}
 use Rattle.world_core.proofs.Stays.{step_stays}
 use Rattle.world_core.proofs.world.World.step.Goals as goal
 
@@ -11,3 +17,8 @@ returns-in-Ok-run_call-clause-stay g c = step_stays (trust_by (g.S.MakesSeals.ma
 
 pub returns-in-Ok-run_quiet-clause-stay : goal.returns-in-Ok-run_quiet-clause-stay
 returns-in-Ok-run_quiet-clause-stay g c = step_stays (trust_by (g.S.MakesSeals.made c.args.sealer.now) (g.S.Sealer.accepts c.args.sealer.now)) c.args.self.now c.run_quiet.new.self c.args.event.now c.in-Ok-run_quiet.ensures.world
+
+pub returns-in-Ok-run_quiet-clause-kept : goal.returns-in-Ok-run_quiet-clause-kept
+unfolding work_of
+returns-in-Ok-run_quiet-clause-kept g c =
+    quiet_leaves (trust_by (g.S.MakesSeals.made c.args.sealer.now) (g.S.Sealer.accepts c.args.sealer.now)) c.args.self.now c.args.event.now (g.D.Keeper.lists c.args.keeper.now) (let x : Result (List Line) WorldFault = Ok c.in-Ok-run_quiet.lines in x) (let quiet : is_quiet c.args.event.now ≡ true = search rules in quiet)

@@ -1,5 +1,0 @@
-use Rattle.final_law.proofs.Counting.{counted-stated}
-use Rattle.final_law.proofs.epochs.counted_is_stated.Goals as goal
-
-pub returns : goal.returns
-returns c = counted-stated

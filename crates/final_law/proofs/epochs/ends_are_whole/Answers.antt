@@ -1,5 +1,0 @@
-use Rattle.final_law.proofs.Ending.{ends-whole}
-use Rattle.final_law.proofs.epochs.ends_are_whole.Goals as goal
-
-pub returns : goal.returns
-returns c = ends-whole

@@ -1,5 +1,0 @@
-use Rattle.final_law.proofs.Waiting.{nothing-free}
-use Rattle.final_law.proofs.epochs.nothing_free_waits.Goals as goal
-
-pub returns : goal.returns
-returns c = nothing-free

@@ -1,5 +1,0 @@
-use Rattle.final_law.proofs.Once.{final-agreed}
-use Rattle.final_law.proofs.finality.final_is_agreed.Goals as goal
-
-pub returns : goal.returns
-returns c = final-agreed

@@ -1,5 +1,0 @@
-use Rattle.final_law.proofs.Once.{final-once}
-use Rattle.final_law.proofs.finality.final_once.Goals as goal
-
-pub returns : goal.returns
-returns c = final-once

@@ -1,5 +1,0 @@
-use Rattle.final_law.proofs.Standing.{final-stands}
-use Rattle.final_law.proofs.finality.final_stands.Goals as goal
-
-pub returns : goal.returns
-returns c = final-stands

@@ -1,5 +1,0 @@
-use Rattle.final_law.proofs.Standing.{stands-in-schedules}
-use Rattle.final_law.proofs.finality.final_stands_in_schedules.Goals as goal
-
-pub returns : goal.returns
-returns c = stands-in-schedules

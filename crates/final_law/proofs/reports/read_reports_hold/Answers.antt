@@ -1,5 +1,0 @@
-use Rattle.final_law.proofs.Reporting.{read-reports}
-use Rattle.final_law.proofs.reports.read_reports_hold.Goals as goal
-
-pub returns : goal.returns
-returns c = read-reports

@@ -1,5 +1,0 @@
-use Rattle.final_law.proofs.Reporting.{reported-stands}
-use Rattle.final_law.proofs.reports.reported_stands.Goals as goal
-
-pub returns : goal.returns
-returns c = reported-stands

@@ -1,5 +1,0 @@
-use Rattle.final_law.proofs.Saying.{every-ack}
-use Rattle.final_law.proofs.statements.every_ack_was_executed.Goals as goal
-
-pub returns : goal.returns
-returns c = every-ack

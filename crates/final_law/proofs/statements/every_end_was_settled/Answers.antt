@@ -1,5 +1,0 @@
-use Rattle.final_law.proofs.Saying.{every-end}
-use Rattle.final_law.proofs.statements.every_end_was_settled.Goals as goal
-
-pub returns : goal.returns
-returns c = every-end

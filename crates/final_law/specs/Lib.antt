@@ -1,4 +1,0 @@
-pub mod Ended
-pub mod Stated
-pub mod Final
-pub mod Printed

@@ -1,0 +1,24 @@
+//! Under the run assumptions, what a quorum acknowledged is never undone.
+ghost use Rattle.headline_law.specs.Final.{FinalIsAgreed, FinalOnce, FinalStands, FinalStandsInSchedules};
+
+/// A transaction whose effects a quorum acknowledged, faulty members among it, stands with these effects in a checkpoint of
+/// its epoch at every member that left the epoch, and no checkpoint of the epoch there has it with others; whether they
+/// acknowledged it before the member left the epoch or behind it.
+pub fn final_stands()
+    ensures { FinalStands }
+{}
+
+/// So it is in every run of every schedule.
+pub fn final_stands_in_schedules()
+    ensures { FinalStandsInSchedules }
+{}
+
+/// Before that too: whoever has executed it in that epoch has it with these effects.
+pub fn final_is_agreed()
+    ensures { FinalIsAgreed }
+{}
+
+/// No two quorums acknowledged different effects of a transaction, nor in different epochs.
+pub fn final_once()
+    ensures { FinalOnce }
+{}
