@@ -90,6 +90,11 @@ def executions(event):
     return found
 
 
+def reverted(event):
+    """The transactions that a turn says were taken back."""
+    return [line.removeprefix("  reverted ") for line in event.said[1:] if line.startswith("  reverted ")] if event.word == "turn" else []
+
+
 def shown(event):
     """What a show says of each object: name, version, owner and content."""
     found = [re.fullmatch(r"  (\S+) v(\d+) (.*)", line) for line in event.said[1:]] if event.word == "show" else []
