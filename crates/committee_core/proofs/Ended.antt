@@ -10,9 +10,8 @@ use Rattle.world_spec.specs.Keyed.{program_secret}
 use Rattle.world_spec.specs.Run.{world_after}
 use Rattle.scene_spec.specs.Worlds.{AreKeepable, Restarts}
 use Rattle.text_law.specs.HonestTexts.{keyed_setting}
-use Rattle.safety_law.proofs.Owner.{owner}
-use Rattle.safety_law.proofs.Voted.{certified-is}
-use Rattle.committee_core.specs.Headline.{ConsumesOnce, IsBad, IsCut, IsRefused, IsWhole, program_trust}
+use Rattle.headline_law.proofs.Moments.{moment_is_promised}
+use Rattle.committee_core.specs.Headline.{HoldsAlong, IsBad, IsCut, IsRefused, IsWhole, program_trust}
 use Rattle.committee_core.specs.Journals.{StartsWhereRead}
 use Rattle.committee_core.specs.Report.{refusal_text, setting_in}
 use Rattle.committee_core.specs.Streams.{ReadsText}
@@ -27,11 +26,11 @@ read_starts law trust same = λ text s is front back cut.
     subst (λ (t : Trust). AreKeepable (world_after (setting_in t s) front).sequences → Restarts (setting_in t s) (world_after (setting_in t s) front)) (sym same)
     (law text s is program_secret front back cut)
 
--- what the lines certify is consumed once
-once : (s : Schedule) (events : List Event) → ConsumesOnce s events
-once s events = λ honest c d formed other. owner (setting_in program_trust s) events honest c d (certified-is (setting_in program_trust s) events c formed) (certified-is (setting_in program_trust s) events d other)
+-- the headline holds at each moment of the run of a text that is read
+holds_along : (text : List ℕ) (s : Schedule) → schedule_of text ≡ Ok s → HoldsAlong s
+holds_along text s is = moment_is_promised text s is program_trust
 
--- the text was read, it is a schedule, it ran, and what it certified is consumed once
+-- the text was read, it is a schedule, and it ran
 pub whole : (left left' held held' : Option (List ℕ)) (kept kept' : Option Journals) (text : List ℕ) → ReadsText longest_text left left' text
     → (s : Schedule) × (schedule_of text ≡ Ok s) × RunsWhole program_trust s held held' kept kept' → IsWhole left left' held held' kept kept'
 whole left left' held held' kept kept' text read (s, is, runs) = record {
@@ -41,7 +40,7 @@ whole left left' held held' kept kept' text read (s, is, runs) = record {
   ended = read.ended (short text s is);
   is = is;
   runs = runs;
-  apart = once s s.events;
+  holds = holds_along text s is;
 }
 
 pub refused : (left left' held held' : Option (List ℕ)) (kept kept' : Option Journals) (text : List ℕ) → ReadsText longest_text left left' text
@@ -50,7 +49,7 @@ refused left left' held held' kept kept' text read (r, is, written, stays) = rec
 
 pub cut : (left left' held held' : Option (List ℕ)) (kept kept' : Option Journals) (text : List ℕ) → ReadsText longest_text left left' text
     → TextCut program_trust (schedule_of text) held held' kept kept' → IsCut left left' held held' kept kept'
-cut left left' held held' kept kept' text read ends = inr (record { text = text; read = read; cut = ends; apart = λ s is front rest same. once s front })
+cut left left' held held' kept kept' text read ends = inr (record { text = text; read = read; cut = ends; holds = λ s is. holds_along text s is })
 
 pub bad : (left left' held held' : Option (List ℕ)) (kept : Option Journals) (text : List ℕ) → ReadsText longest_text left left' text
     → (s : Schedule) × (schedule_of text ≡ Ok s) × MeetsBadRecord program_trust s Appends held held' kept → IsBad left left' held held' kept
@@ -61,7 +60,7 @@ bad left left' held held' kept text read (s, is, meets) = record {
   ended = read.ended (short text s is);
   is = is;
   meets = meets;
-  apart = λ front rest same. once s front;
+  holds = holds_along text s is;
 }
 
 -- a keeper's fault, or a bad record

@@ -2,16 +2,12 @@
 use Rattle.std.specs.Prelude.{◌≡◌, ◌⊎◌, ℕ, List, [], ◌∷◌, ◌++◌, Option, Ok, Err, codes}
 use Rattle.std.specs.Io.KnownBytes.{Appends, Consumes, IsAtEnd, Keeps}
 use Rattle.outside.specs.Lists.{Journals, KeepsJournals}
-use Rattle.chain_types.specs.declared.objects.ObjectKey.{ObjectKey}
-use Rattle.chain_types.specs.Digests.{consumed_keys}
-use Rattle.chain_messages.specs.declared.messages.Certificate.{Certificate}
 use Rattle.schedule_text.specs.declared.words.Event.{Event}
 use Rattle.schedule_text.specs.declared.words.Schedule.{Schedule}
 use Rattle.schedule_text.specs.Schedule.{Refused, longest_text, schedule_of}
-use Rattle.protocol_spec.specs.Chain.Words.{Has}
-use Rattle.world_spec.specs.Setting.{Setting, Trust}
+use Rattle.world_spec.specs.Setting.{Trust}
 use Rattle.world_spec.specs.Keyed.{keyed, program_secret}
-use Rattle.world_spec.specs.Assumptions.{IsCertified, IsHonestRun}
+use Rattle.headline_law.specs.Headline.{IsPromised}
 use Rattle.committee_core.specs.Report.{refusal_text, setting_in}
 use Rattle.committee_core.specs.Streams.{ReadsText}
 use Rattle.committee_core.specs.Ways.{MeetsBadRecord, RunsWhole, TextCut}
@@ -24,21 +20,12 @@ IsRun words = words ≡ codes "run" ∷ []
 unfoldable pub program_trust : Trust
 program_trust = keyed program_secret
 
--- two certificates of one epoch that consume one version are of one transaction
-abbrev pub NeverConsumedTwice : Setting → List Event → Type 0
-NeverConsumedTwice s events = (c d : Certificate) → IsCertified s events c → IsCertified s events d → c.tx.epoch ≡ d.tx.epoch
-    → (key : ObjectKey) → Has (consumed_keys c.tx) key → Has (consumed_keys d.tx) key → c.tx ≡ d.tx
-
--- under the run assumptions of these lines no two transactions on one object version are certified in one epoch
-abbrev pub ConsumesOnce : Schedule → List Event → Type 0
-ConsumesOnce s events = IsHonestRun (setting_in program_trust s) events → NeverConsumedTwice (setting_in program_trust s) events
-
--- so it is of each front of the lines, whichever of them ran
-abbrev pub FrontsConsumeOnce : Schedule → Type 0
-FrontsConsumeOnce s = (front rest : List Event) → s.events ≡ front ++ rest → ConsumesOnce s front
+-- the headline, behind each front of the lines, whichever of them ran
+abbrev pub HoldsAlong : Schedule → Type 0
+HoldsAlong s = (front rest : List Event) → s.events ≡ front ++ rest → IsPromised (setting_in program_trust s) front
 
 -- a whole run: nothing is left of the source, the bytes read are a schedule, its report is written and its journals
--- are kept, and under the run assumptions no two transactions on one object version are certified in one epoch
+-- are kept, and the headline holds at each of its moments
 pub record IsWhole (left left' held held' : Option (List ℕ)) (kept kept' : Option Journals) : Type 0 where
   pub text : List ℕ
   pub schedule : Schedule
@@ -46,7 +33,7 @@ pub record IsWhole (left left' held held' : Option (List ℕ)) (kept kept' : Opt
   pub ended : IsAtEnd left'
   pub is : schedule_of text ≡ Ok schedule
   pub runs : RunsWhole program_trust schedule held held' kept kept'
-  pub apart : ConsumesOnce schedule schedule.events
+  pub holds : HoldsAlong schedule
 
 -- the bytes read, to the end or to one past the limit, are no schedule, and the line that says why was written
 pub record IsRefused (left left' held held' : Option (List ℕ)) (kept kept' : Option Journals) : Type 0 where
@@ -65,14 +52,14 @@ pub record IsBad (left left' held held' : Option (List ℕ)) (kept : Option Jour
   pub ended : IsAtEnd left'
   pub is : schedule_of text ≡ Ok schedule
   pub meets : MeetsBadRecord program_trust schedule Appends held held' kept
-  pub apart : FrontsConsumeOnce schedule
+  pub holds : HoldsAlong schedule
 
 -- the text was read whole, and a front of what is to be written and kept for it was written and kept
 pub record WritesFront (left left' held held' : Option (List ℕ)) (kept kept' : Option Journals) : Type 0 where
   pub text : List ℕ
   pub read : ReadsText longest_text left left' text
   pub cut : TextCut program_trust (schedule_of text) held held' kept kept'
-  pub apart : (s : Schedule) → schedule_of text ≡ Ok s → FrontsConsumeOnce s
+  pub holds : (s : Schedule) → schedule_of text ≡ Ok s → HoldsAlong s
 
 -- a run that was cut: nothing was written and kept, or a front
 abbrev pub IsCut : Option (List ℕ) → Option (List ℕ) → Option (List ℕ) → Option (List ℕ) → Option Journals → Option Journals → Type 0

@@ -9,6 +9,7 @@ use Rattle.world_spec.specs.World.{Seat, member_in}
 use Rattle.world_spec.specs.Run.{world_after}
 use Rattle.world_spec.specs.Assumptions.{IsHonestRun}
 use Rattle.safety_law.proofs.Forks.{no-fork}
+use Rattle.safety_law.proofs.Once.{voted-once}
 use Rattle.safety_law.proofs.Owner.{owner, signed}
 use Rattle.safety_law.proofs.Voted.{certified-is}
 use Rattle.agreement_law.proofs.SetUp.{set-up-apart}
@@ -18,14 +19,15 @@ use Rattle.agreement_law.proofs.Sums.{are-backed, only-gas, set-up-backed}
 use Rattle.ready_law.proofs.Running.{no-run-leaves-anything}
 use Rattle.amount_law.proofs.Epochs.{gas-was-held}
 use Rattle.amount_law.proofs.Texts.{money-amounts, no-gas-cap, set-up-amounts}
+use Rattle.headline_law.proofs.Reporting.{read-front}
 use Rattle.headline_law.proofs.Standing.{final-stands}
-use Rattle.headline_law.specs.Headline.{Agree, AreSafe, Holds, Stands}
+use Rattle.headline_law.specs.Headline.{Agree, AreSafe, Holds, IsPromised, Stands}
 
 append_nil : {A : Type 0} (xs : List A) → xs ++ [] ≡ xs
 append_nil [] = refl
 append_nil (x ∷ xs) = ap (λ ys. x ∷ ys) (append_nil xs)
 
-module _ (text : List ℕ) (t : Schedule) (read : schedule_of text ≡ Ok t) (trust : Trust) (front : List Event) (honest : IsHonestRun (setting_of trust t.setup) front) where
+module _ (text : List ℕ) (t : Schedule) (read : schedule_of text ≡ Ok t) (trust : Trust) (front back : List Event) (cut : t.events ≡ front ++ back) (honest : IsHonestRun (setting_of trust t.setup) front) where
   -- a front, and nothing behind it
   honest_here : IsHonestRun (setting_of trust t.setup) (front ++ [])
   honest_here = subst (IsHonestRun (setting_of trust t.setup)) (sym (append_nil front)) honest
@@ -61,5 +63,14 @@ module _ (text : List ℕ) (t : Schedule) (read : schedule_of text ≡ Ok t) (tr
         checkpoints = one-list s front [] honest_here (set-up-apart trust t.setup) m n a b one later;
       }
 
-  pub moment_holds : Holds (setting_of trust t.setup) front
-  moment_holds = record { certified = safe; member = stands; members = agree; final = final-stands (setting_of trust t.setup) front honest (set-up-apart trust t.setup) }
+  moment_holds : Holds (setting_of trust t.setup) front
+  moment_holds = record {
+    certified = safe;
+    member = stands;
+    members = agree;
+    final = final-stands (setting_of trust t.setup) front honest (set-up-apart trust t.setup);
+    reported = read-front text t read trust front back cut honest;
+  }
+
+pub moment_is_promised : (text : List ℕ) (t : Schedule) → schedule_of text ≡ Ok t → (trust : Trust) → (front back : List Event) → t.events ≡ front ++ back → IsPromised (setting_of trust t.setup) front
+moment_is_promised text t read trust front back cut = record { votes = voted-once (setting_of trust t.setup) front; holds = moment_holds text t read trust front back cut }

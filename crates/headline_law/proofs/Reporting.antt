@@ -1,5 +1,5 @@
 -- Each line of the report that says that a transaction is final comes of a `final` line of the schedule, and holds for good.
-use Rattle.std.proofs.Common.{inl, inr, sym, subst, ap, ◌∙◌}
+use Rattle.std.proofs.Common.{inl, inr, sym, subst, ap, append_assoc, ◌∙◌}
 use Rattle.std.specs.Prelude.{◌≡◌, ◌⊎◌, ℕ, true, List, [], ◌∷◌, ◌++◌, Ok}
 use Rattle.chain_messages.specs.declared.messages.Statement.TheVariants as statement
 use Rattle.schedule_text.specs.declared.words.Event.{Event}
@@ -91,3 +91,11 @@ unfolding report_of
 read-reports text t read trust run_is name members h =
     let it = told (setting_of trust t.setup) name members t.events h in
     was-final (setting_of trust t.setup) t.events run_is (set-up-apart trust t.setup) name members (read-roll text t read trust it.front name members it.back it.split) it
+
+-- and in the report of each front of its lines
+pub read-front : (text : List ℕ) (t : Schedule) → schedule_of text ≡ Ok t → (trust : Trust) → (front back : List Event) → t.events ≡ front ++ back → IsHonestRun (setting_of trust t.setup) front
+    → (name : Name) (members : List ℕ) → Has (report (setting_of trust t.setup) front) (final_by name members) → WasFinal (setting_of trust t.setup) front name members
+read-front text t read trust front back cut honest name members h =
+    let it = told (setting_of trust t.setup) name members front h in
+    let whole : t.events ≡ it.front ++ (event.Final name members ∷ (it.back ++ back)) = cut ∙ ap (λ (es : List Event). es ++ back) it.split ∙ append_assoc it.front (event.Final name members ∷ it.back) back in
+    was-final (setting_of trust t.setup) front honest (set-up-apart trust t.setup) name members (read-roll text t read trust it.front name members (it.back ++ back) whole) it

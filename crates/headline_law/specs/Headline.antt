@@ -1,12 +1,14 @@
 -- The headline, on one page: what holds of every moment of every run in which under a third of the stake is faulty, no
 -- statement is forged and no digests collide, whatever is delivered, lost, repeated, stopped and started again. Source:
 -- Sui Lutris.
-use Rattle.std.specs.Prelude.{◌≡◌, ◌≢◌, ◌<◌, ◌+◌, ◌⊎◌, ℕ, suc, true, List, [], ◌++◌, slice_get, Some, None, Ok}
+use Rattle.std.specs.Prelude.{◌≡◌, ◌≢◌, ◌<◌, ◌+◌, ◌⊎◌, ℕ, suc, true, List, [], ◌++◌, slice_get, Option, Some, None, Ok}
 use Rattle.digest_core.specs.declared.Digest.{Digest}
 use Rattle.chain_types.specs.declared.objects.ObjectKey.{ObjectKey}
 use Rattle.chain_types.specs.declared.transactions.SignedTx.{SignedTx}
-use Rattle.chain_types.specs.Digests.{consumed_keys}
+use Rattle.chain_types.specs.declared.transactions.Transaction.{Transaction}
+use Rattle.chain_types.specs.Digests.{consumed_keys, transaction_digest}
 use Rattle.chain_messages.specs.declared.messages.Certificate.{Certificate}
+use Rattle.journal_core.specs.declared.records.Record.TheVariants as record_as
 use Rattle.answer_types.specs.declared.answers.Ran.{Ran}
 use Rattle.schedule_text.specs.declared.words.Schedule.{Schedule}
 use Rattle.schedule_text.specs.declared.words.Event.{Event}
@@ -16,10 +18,10 @@ use Rattle.protocol_spec.specs.Chain.Keys.{currency_sum}
 use Rattle.protocol_spec.specs.Chain.Certificates.{accepts_sender}
 use Rattle.protocol_spec.specs.Member.Member.{Member, built, fork_of}
 use Rattle.protocol_spec.specs.Member.Calls.{run_answer}
-use Rattle.world_spec.specs.Setting.{Setting, Trust, setting_of}
+use Rattle.world_spec.specs.Setting.{Name, Setting, Trust, setting_of}
 use Rattle.world_spec.specs.World.{Seat, World, is_honest, member_in}
 use Rattle.world_spec.specs.Openings.{opening_at}
-use Rattle.world_spec.specs.Run.{world_after}
+use Rattle.world_spec.specs.Run.{report, world_after}
 use Rattle.world_spec.specs.Assumptions.{IsCertified, IsFinal, IsHonestRun}
 use Rattle.block_law.specs.Money.{supply_sum}
 use Rattle.safety_law.specs.Owners.{all_handed}
@@ -27,6 +29,7 @@ use Rattle.agreement_law.specs.Opened.{OpensAsLeft}
 use Rattle.agreement_law.specs.Past.{past_at}
 use Rattle.agreement_law.specs.Sums.{epoch_gas}
 use Rattle.headline_law.specs.Final.{StandsForGood}
+use Rattle.headline_law.specs.Printed.{WasFinal, final_by}
 
 -- what holds of the certified transactions
 pub record AreSafe (s : Setting) (events : List Event) : Type 0 where
@@ -68,8 +71,22 @@ pub record Holds (s : Setting) (events : List Event) : Type 0 where
       → Agree (member_in s a) (member_in s b)
   -- what a quorum acknowledged stands, with these effects, in a checkpoint of its epoch at each member that has left it
   pub final : (epoch : ℕ) (tx effects : Digest) (members : List ℕ) → IsFinal s (world_after s events) epoch tx effects members → StandsForGood s events epoch tx effects
+  -- and so does each transaction of which the report says that it is final
+  pub reported : (name : Name) (members : List ℕ) → Has (report s events) (final_by name members) → WasFinal s events name members
 
--- whatever text is read as a schedule, and whatever seals are accepted: each moment of its run, if the run is honest so far
+-- no member cast votes of one epoch for different transactions that consume one version, over its whole journal
+abbrev pub VotesOnce : Setting → List Event → Type 0
+VotesOnce s events = (m : ℕ) (seat : Seat) → slice_get (world_after s events).seats m ≡ Some seat
+    → (t u : Transaction) (origins others : List (Option Digest)) → Has seat.records (record_as.Vote t origins) → Has seat.records (record_as.Vote u others)
+    → t.epoch ≡ u.epoch → (transaction_digest t ≡ transaction_digest u → ⊥)
+    → (key : ObjectKey) → Has (consumed_keys t) key → Has (consumed_keys u) key → ⊥
+
+-- the moment behind these events: the first with no premise, the second under the run assumptions
+pub record IsPromised (s : Setting) (events : List Event) : Type 0 where
+  pub votes : VotesOnce s events
+  pub holds : IsHonestRun s events → Holds s events
+
+-- whatever text is read as a schedule, and whatever seals are accepted: each moment of its run
 abbrev pub EveryMomentHolds : Type 0
 EveryMomentHolds = (text : List ℕ) (t : Schedule) → schedule_of text ≡ Ok t → (trust : Trust) → (front back : List Event) → t.events ≡ front ++ back
-    → IsHonestRun (setting_of trust t.setup) front → Holds (setting_of trust t.setup) front
+    → IsPromised (setting_of trust t.setup) front
