@@ -1,4 +1,5 @@
-//! Tests of a world: names, the transactions of lines, the lines of answers, what members said, seats, whole steps, and
+//! Tests of a world: names, the transactions of lines, Ends that are
+//! ordered, the lines of answers, what members said, seats, whole steps, and
 //! sums.
 #![tactic(auto)]
 
@@ -6,6 +7,8 @@
 mod common;
 #[cfg(test)]
 mod directories;
+#[cfg(test)]
+mod ends;
 #[cfg(test)]
 mod lines;
 #[cfg(test)]
