@@ -83,12 +83,7 @@ fn false_ack(seats: &Seats, made: &MadeTx, spoiled: bool) -> Result<Statement, O
 }
 
 /// The line for an acknowledgement.
-fn ack_line(
-    alloc: Global,
-    member: u32,
-    tx: &[u8],
-    text: AckText,
-) -> Result<Seq<Line>, OutOfMemory>
+fn ack_line(alloc: Global, member: u32, tx: &[u8], text: AckText) -> Result<Seq<Line>, OutOfMemory>
     ensures { IfOk result (λ lines. lines ≡ line.Ack member tx.now text ∷ []) }
 {
     let tx = Seq::from_slice(alloc, tx)?;

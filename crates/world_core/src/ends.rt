@@ -80,13 +80,7 @@ impl World {
         ensures world { OnOk result (self.new ≡ steps_to (trust_by (S.made sealer.now) (S.accepts sealer.now)) self.old (events.End member)) }
         ensures lines { IfOk result (λ lines. lines ≡ lines_in (trust_by (S.made sealer.now) (S.accepts sealer.now)) self.old (events.End member)) }
     {
-        let text = say_end(
-            &self.seats,
-            &mut self.said,
-            &self.directory,
-            sealer,
-            member,
-        )?;
+        let text = say_end(&self.seats, &mut self.said, &self.directory, sealer, member)?;
         end_line(self.alloc, member, text)
     }
 }
