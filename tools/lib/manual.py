@@ -184,7 +184,7 @@ def pattern(form):
     """What finds a form in the lines of a report: capital words stand for words."""
     said = re.sub(r"\bvV\b", "v\\\\d+", re.escape(form.removesuffix("..")).replace("\\ ", " "))
     said = re.sub(r"(?<![a-z\\])[A-Z][A-Z0-9]*", "\\\\S+", said)
-    is_line = form.startswith("  ") or ":" in form or form.startswith("refused")
+    is_line = form.startswith("  ") or ":" in form or form.startswith(("refused", "certified"))
     return re.compile(f"(?m)^{said}" if is_line else f"(?m)^  \\S+ v\\d+.* {said}( |$)")
 
 

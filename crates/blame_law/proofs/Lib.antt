@@ -1,3 +1,16 @@
 pub mod Blaming
 pub mod Sound
 pub mod Heavy
+pub mod Building
+pub mod Agreeing
+pub mod Stepping
+pub mod Placing
+pub mod Mapping
+pub mod Linking
+pub mod Flags
+pub mod Cutting
+pub mod Members
+pub mod Built
+pub mod Past
+pub mod Handing
+pub mod Looking

@@ -1,1 +1,3 @@
 pub mod Blame
+pub mod Checked
+pub mod Followed

@@ -1,7 +1,17 @@
-//! Who sealed for two transactions of one epoch that consume one version is faulty, and has more than a third of the stake.
+//! Who sealed for two transactions of one epoch that consume one version is faulty, and has more than a third of the
+//! stake; a certified chain is made of what honest members have built; and what a member has built a follower applies.
 #![tactic(auto)]
 
+mod chains;
+mod followers;
+
 ghost use Rattle.blame_law.specs.Blame.{NoneIsHonest, TheyHaveMoreThanAThird};
+
+pub use chains::{certified_agrees, certified_agrees_in_schedules, certified_is_built};
+pub use followers::{
+    followers_open_alike, followers_open_alike_in_schedules, honest_checkpoints_are_followed,
+    honest_checkpoints_are_followed_in_schedules, looked_up_is_handed,
+};
 
 /// Where no statement is forged and no digests of transactions collide, no honest member is blamed for two certified
 /// transactions of a run: whoever is, did vote twice. How many are faulty plays no part.

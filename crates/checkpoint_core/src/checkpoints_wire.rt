@@ -1,6 +1,6 @@
 //! Checkpoints on the wire, and their digests.
 
-ghost use Rattle.std.specs.Prelude.{◌≡◌, IfOk};
+ghost use Rattle.std.specs.Prelude.{◌≡◌, IfOk, false, true};
 ghost use Rattle.checkpoint_core.specs.Checkpoints as codecs;
 
 use crate::checkpoints::{Checkpoint, Item};
@@ -63,6 +63,20 @@ impl Duplicate for Checkpoint {
             items: self.items.copy()?,
             last: self.last,
         })
+    }
+}
+
+/// How long a list is at least that cannot be spelled.
+const TOO_LONG: u64 = 2_147_483_648;
+
+impl Checkpoint {
+    /// Whether it can be spelled: it has at most 2147483647 items. Takes no memory.
+    #[tactic(auto, using(crate::proofs::Shorts::few_short, crate::proofs::Shorts::short_few))]
+    pub fn is_short(&self) -> bool
+        ensures short { result ≡ true → codecs.checkpoint.short self.now }
+        ensures long { result ≡ false → codecs.checkpoint.short self.now → ⊥ }
+    {
+        self.items.len() < TOO_LONG
     }
 }
 

@@ -1,16 +1,24 @@
-//! `committee run`: reads a schedule from standard input, runs it, and writes the report.
+//! `committee run` reads a schedule from standard input, runs it, and writes the report. `committee make N` runs a
+//! schedule of N transactions that it makes, and writes one line. `committee replay M` starts member M of a schedule's
+//! set-up from records that were kept, and writes what it holds. Behind a command `in FILE` keeps the records in a file,
+//! and not in memory alone.
 //!
-//! [`committee_core::committee`] is the program over any source, sink and keeper; its clauses are what is
-//! promised. `main` hands it the real standard streams and a keeper in memory, ends with its
-//! status, and says on standard error what a status other than 0 and 3 means.
+//! [`committee_core::committee`] is the program over any source, sink and keeper, and [`committee_core::committee_in`] over
+//! a journal file; their clauses are what is promised. `main` hands it the real standard streams, and a keeper in memory or
+//! the file that the words name, ends with its status, and says on standard error what a status other than 0, 3 and 8
+//! means.
 #![tactic(auto)]
 
-use committee_core::{committee, fresh_keeper};
-use outside_std::{InSource, OutSink};
+use command_words::place_of;
+use committee_core::{committee, committee_in, fresh_keeper};
+use outside::{Sink, Source};
+use outside_std::{FileDisk, InSource, OutSink};
 use std::alloc::{AllocError, Global};
 use std::env;
 use std::io::{self, BufWriter};
 use std::process::ExitCode;
+use std::sync::Wait;
+use std::thread::Threads;
 
 /// The words behind the program's name.
 fn words_of(rt: &HostRuntime) -> io::Result<Vec<String>> {
@@ -24,7 +32,9 @@ fn words_of(rt: &HostRuntime) -> io::Result<Vec<String>> {
 /// What standard error says of a status.
 fn message(status: u8) -> Option<&'static str> {
     match status {
-        2 => Some("usage: committee run"),
+        2 => Some(
+            "usage: committee run | committee make N | committee check STAKES TX | committee follow M | committee desk N | committee replay M",
+        ),
         4 => Some("read fault"),
         5 => Some("write fault"),
         6 => Some("keep fault"),
@@ -33,32 +43,63 @@ fn message(status: u8) -> Option<&'static str> {
     }
 }
 
-/// Runs the words over the standard streams, with the records in memory. A report that was taken
-/// and could not be handed on is a write fault.
-fn status_of(rt: &HostRuntime) -> u8 {
+/// Runs the words with the records in memory.
+fn in_memory<R: Threads + Wait + Sync, S: Source, K: Sink>(
+    threads: &R,
+    rt: &HostRuntime,
+    words: &[String],
+    source: &mut S,
+    sink: &mut K,
+) -> u8 {
+    let Ok(mut keeper) = fresh_keeper(rt.alloc(), &[]) else {
+        return 7;
+    };
+    committee(threads, rt.alloc(), words, source, sink, &mut keeper)
+}
+
+/// Runs the words before `in` with the records in the file that the word at `place` names.
+fn in_file<R: Threads + Wait + Sync, S: Source, K: Sink>(
+    threads: &R,
+    rt: &HostRuntime,
+    words: &[String],
+    place: usize,
+    source: &mut S,
+    sink: &mut K,
+) -> u8 {
+    let (Some(path), Some(command)) = (words.get(place), words.get(..place.saturating_sub(1)))
+    else {
+        return 2;
+    };
+    let Ok(disk) = FileDisk::open(rt, path.as_str()) else {
+        return 6;
+    };
+    let (status, _disk) = committee_in(threads, rt.alloc(), command, source, sink, disk);
+    status
+}
+
+/// Runs the words over the standard streams, with threads of `threads`. A report that was taken and could not be handed
+/// on is a write fault.
+fn status_of<R: Threads + Wait + Sync>(threads: &R, rt: &HostRuntime) -> u8 {
     let Ok(words) = words_of(rt) else {
         return 7;
     };
     let Ok(writer) = BufWriter::new(rt.alloc(), io::writer(rt)) else {
         return 7;
     };
-    let Ok(mut keeper) = fresh_keeper(rt.alloc(), &[]) else {
-        return 7;
-    };
     let mut source = InSource::new(rt.reader());
     let mut sink = OutSink::new(writer);
-    let status = committee(
-        rt.alloc(),
-        words.as_slice(),
-        &mut source,
-        &mut sink,
-        &mut keeper,
-    );
+    let status = match place_of(words.as_slice()) {
+        Some(place) => {
+            let words = words.as_slice();
+            in_file(threads, rt, words, place as usize, &mut source, &mut sink)
+        }
+        None => in_memory(threads, rt, words.as_slice(), &mut source, &mut sink),
+    };
     if sink.finish() { status } else { 5 }
 }
 
 fn main(rt: HostRuntime) -> ExitCode {
-    let status = status_of(&rt);
+    let status = status_of(&rt, &rt);
     if let Some(text) = message(status) {
         let _ = eprintln!(rt; "{text}");
     }

@@ -24,8 +24,8 @@ use Rattle.committee_core.specs.Journals.{AreAtLeast, AreEmpty, IsTold, KeepsFro
 use Rattle.committee_core.specs.Laws.{SceneLaws}
 use Rattle.committee_core.specs.Report.{lines_text, setting_in}
 use Rattle.committee_core.specs.Steps.{IsBadRecord, IsCutAt, untaken, unwritten, unsaid, IsUntaken, IsUnwritten, Passes}
-use Rattle.committee_core.specs.Streams.{AppendsFront}
-use Rattle.committee_core.specs.Ways.{MeetsBadRecord, RunsCut, RunsFront, RunsWhole}
+use Rattle.outside.specs.Streams.{AppendsFront}
+use Rattle.committee_core.specs.Ways.{MeetsBadRecord, RunsCut, RunsFront, RunsWhole, ShowsRun}
 use Rattle.committee_core.proofs.Following.{FrontFrom, IsFollowed, ReadsTold, TellsFrom, bad-untold, followed, front-ahead, front-told, keepable-shown, kept-taken, kept-untaken}
 use Rattle.committee_core.proofs.Restarting.{restart-of}
 
@@ -156,6 +156,12 @@ pub whole-run : (trust : Trust) (s : Schedule) (start : Option Journals) (held0 
 whole-run trust s start held0 i sc told held done so =
     whole-front trust s start held0 sc told held
     (subst (λ (es : List Event). ReadsBack start es → Behind trust (setting_in trust s) start held0 es sc told held) (take_all i s.events done) so)
+
+pub whole-shown : (trust : Trust) (s : Schedule) (start : Option Journals) (held0 : Option (List ℕ)) (i : ℕ) (sc : Scene) (told : Option Journals) (held : Option (List ℕ))
+    → length s.events ≤ i → (ReadsBack start (take i s.events) → Behind trust (setting_in trust s) start held0 (take i s.events) sc told held) → ShowsRun trust s start sc
+unfolding world_after
+whole-shown trust s start held0 i sc told held done so = λ reads.
+    (subst (λ (es : List Event). ReadsBack start es → Behind trust (setting_in trust s) start held0 es sc told held) (take_all i s.events done) so reads).shows
 
 -- ---- cuts
 

@@ -14,7 +14,7 @@ use Rattle.headline_law.proofs.Moments.{moment_is_promised}
 use Rattle.committee_core.specs.Headline.{HoldsAlong, IsBad, IsCut, IsRefused, IsWhole, program_trust}
 use Rattle.committee_core.specs.Journals.{StartsWhereRead}
 use Rattle.committee_core.specs.Report.{refusal_text, setting_in}
-use Rattle.committee_core.specs.Streams.{ReadsText}
+use Rattle.outside.specs.Streams.{ReadsText}
 use Rattle.committee_core.specs.Ways.{MeetsBadRecord, RunsWhole, TextCut}
 use Rattle.committee_core.proofs.Whole.{short}
 
@@ -27,7 +27,7 @@ read_starts law trust same = λ text s is front back cut.
     (law text s is program_secret front back cut)
 
 -- the headline holds at each moment of the run of a text that is read
-holds_along : (text : List ℕ) (s : Schedule) → schedule_of text ≡ Ok s → HoldsAlong s
+pub holds_along : (text : List ℕ) (s : Schedule) → schedule_of text ≡ Ok s → HoldsAlong s
 holds_along text s is = moment_is_promised text s is program_trust
 
 -- the text was read, it is a schedule, and it ran

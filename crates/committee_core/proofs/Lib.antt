@@ -1,4 +1,3 @@
-pub mod Ends
 pub mod Restarting
 pub mod Taken
 pub mod Written
@@ -8,3 +7,12 @@ pub mod Opening
 pub mod Whole
 pub mod Ended
 pub mod Members
+pub mod Standing
+pub mod Made
+pub mod Agreeing
+pub mod Usage
+pub mod Obeying
+pub mod Replays
+pub mod Voting
+pub mod InFiles
+pub mod Caught

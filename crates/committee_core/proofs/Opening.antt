@@ -53,7 +53,7 @@ wide_enough (Some lists) n k members fits = let size : length lists ≡ k = memb
 
 -- ---- a keeper in memory
 
-fresh-list : (n m : ℕ) → journal_of (replicate n []) m ≡ []
+pub fresh-list : (n m : ℕ) → journal_of (replicate n []) m ≡ []
 fresh-list zero m = refl
 fresh-list (suc n) zero = refl
 fresh-list (suc n) (suc m) = fresh-list n m

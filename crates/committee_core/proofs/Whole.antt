@@ -13,22 +13,23 @@ use Rattle.schedule_text.specs.Schedule.{Refused, longest_text, schedule_of}
 use Rattle.world_spec.specs.Setting.{Trust}
 use Rattle.world_spec.specs.Keyed.{keyed, keyed_seal, program_secret}
 use Rattle.world_spec.specs.Run.{journal}
+use Rattle.scene_spec.specs.Scene.{Scene}
 use Rattle.world_core.specs.Trusts.{trust_by}
 use Rattle.committee_core.specs.Headline.{program_trust}
 use Rattle.committee_core.specs.Journals.{AreEmpty, KeepsFronts}
 use Rattle.committee_core.specs.Report.{refusal_text, report_text, setting_in}
-use Rattle.committee_core.specs.Streams.{AppendsFront}
-use Rattle.committee_core.specs.Ways.{RunsCut, TextCut}
+use Rattle.outside.specs.Streams.{AppendsFront}
+use Rattle.committee_core.specs.Ways.{RunsCut, RunsSilently, RunsWhole, ShowsRun, TextCut}
 
 -- ---- nothing was done yet
 
-empty-fronts : (trust : Trust) (s : Schedule) (start : Option Journals) → AreEmpty start → KeepsFronts trust s start start
-empty-fronts trust s None empty = tt
-empty-fronts trust s (Some lists) empty =
+pub empty_fronts : (trust : Trust) (s : Schedule) (start : Option Journals) → AreEmpty start → KeepsFronts trust s start start
+empty_fronts trust s None empty = tt
+empty_fronts trust s (Some lists) empty =
     (lists, refl, λ m. (journal (setting_in trust s) s.events m, sym (ap (λ (l : List (List ℕ)). l ++ journal (setting_in trust s) s.events m) (empty m))))
 
 pub nothing_run : (trust : Trust) (s : Schedule) (held : Option (List ℕ)) (start : Option Journals) → AreEmpty start → RunsCut trust s held held start start
-nothing_run trust s held start empty = inl (record { written = λ reads. ([], report_text trust s, refl, Appends-nil held); journals = empty-fronts trust s start empty })
+nothing_run trust s held start empty = inl (record { written = λ reads. ([], report_text trust s, refl, Appends-nil held); journals = empty_fronts trust s start empty })
 
 pub keeps_same : (start : Option Journals) → KeepsJournals start start
 keeps_same None = tt
@@ -72,3 +73,9 @@ short_where limit n false refused rest s is e = grind (arith, nat_tests)
 pub short : (text : List ℕ) (s : Schedule) → schedule_of text ≡ Ok s → length text ≤ longest_text
 unfolding schedule_of
 short text s e = short_where longest_text (length text) (nat_lt longest_text (length text)) _ _ s refl e
+
+-- ---- a run with no report
+
+pub ran_silently : (trust : Trust) (text : List ℕ) (s : Schedule) (kept kept' : Option Journals) (sc : Scene) → schedule_of text ≡ Ok s
+    → RunsWhole trust s None None kept kept' → ShowsRun trust s kept sc → RunsSilently trust text kept kept' sc
+ran_silently trust text s kept kept' sc is runs shows = record { schedule = s; is = is; shows = shows; journals = runs.journals }

@@ -10,7 +10,7 @@ use Rattle.scene_spec.specs.Scene.{Scene, rules_in}
 use Rattle.scene_spec.specs.Steps.{MayAddLine, records_left, work_of}
 use Rattle.committee_core.specs.Report.{lines_text}
 use Rattle.committee_core.specs.Steps.{IsBadRecord, IsCutAt, untaken, unwritten, unsaid, IsTaken, Passes, ReadsBad}
-use Rattle.committee_core.specs.Streams.{AppendsFront}
+use Rattle.outside.specs.Streams.{AppendsFront}
 use Rattle.committee_core.specs.Ways.{bad_record_text}
 
 pub passes_as : {E : Type 0} (r : Result (Unit {0}) E) (trust : Trust) (e : Event) (sc now : Scene) (told told' : Option Journals) (held held' : Option (List ℕ)) (given : List Line)

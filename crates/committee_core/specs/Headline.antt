@@ -9,7 +9,7 @@ use Rattle.world_spec.specs.Setting.{Trust}
 use Rattle.world_spec.specs.Keyed.{keyed, program_secret}
 use Rattle.headline_law.specs.Headline.{IsPromised}
 use Rattle.committee_core.specs.Report.{refusal_text, setting_in}
-use Rattle.committee_core.specs.Streams.{ReadsText}
+use Rattle.outside.specs.Streams.{ReadsText}
 use Rattle.committee_core.specs.Ways.{MeetsBadRecord, RunsWhole, TextCut}
 
 -- the words are exactly `run`

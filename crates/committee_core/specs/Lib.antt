@@ -1,7 +1,14 @@
-pub mod Streams
 pub mod Report
 pub mod Journals
 pub mod Laws
 pub mod Ways
 pub mod Steps
 pub mod Headline
+pub mod Outside
+pub mod Make
+pub mod Follow
+pub mod Endings
+pub mod Agreement
+pub mod Replay
+pub mod Desk
+pub mod InFile

@@ -11,7 +11,7 @@ use Rattle.scene_spec.specs.Steps.{AddsLine, MayAddLine, lines_in, records_left,
 use Rattle.scene_spec.specs.Worlds.{AreKeepable, is_restart}
 use Rattle.world_core.specs.Restarts.{RestartsAs, StaysDown}
 use Rattle.committee_core.specs.Report.{lines_text}
-use Rattle.committee_core.specs.Streams.{AppendsFront}
+use Rattle.outside.specs.Streams.{AppendsFront}
 use Rattle.committee_core.specs.Ways.{bad_record_text}
 
 -- the event was taken and gives these lines; each entry that was ordered before it can be kept

@@ -8,17 +8,23 @@ use Rattle.report_text.specs.Text.{text_of}
 use Rattle.schedule_text.specs.declared.words.Event.{Event}
 use Rattle.schedule_text.specs.declared.words.Event.TheVariants as event
 use Rattle.schedule_text.specs.declared.words.Schedule.{Schedule}
-use Rattle.schedule_text.specs.Schedule.{Refused}
+use Rattle.schedule_text.specs.Schedule.{Refused, schedule_of}
 use Rattle.world_spec.specs.Setting.{Trust}
-use Rattle.world_spec.specs.Run.{report}
+use Rattle.world_spec.specs.Run.{report, world_after}
+use Rattle.scene_spec.specs.Scene.{Scene}
+use Rattle.scene_spec.specs.Worlds.{Shows}
 use Rattle.committee_core.specs.Journals.{KeepsFronts, KeepsRun, ReadsBack}
 use Rattle.committee_core.specs.Report.{lines_text, refusal_text, report_text, setting_in}
-use Rattle.committee_core.specs.Streams.{AppendsFront}
+use Rattle.outside.specs.Streams.{AppendsFront}
 
 -- all events ran
 pub record RunsWhole (trust : Trust) (s : Schedule) (held held' : Option (List ℕ)) (kept kept' : Option Journals) : Type 0 where
   pub written : ReadsBack kept s.events → Appends held held' (report_text trust s)
   pub journals : KeepsRun trust s kept kept'
+
+-- what the code sees of the world behind all events is the definition's, where what is read back is what was appended
+abbrev pub ShowsRun : Trust → Schedule → Option Journals → Scene → Type 0
+ShowsRun trust s kept sc = ReadsBack kept s.events → Shows trust (setting_in trust s) (world_after (setting_in trust s) s.events) sc
 
 -- the run was cut
 pub record RunsFront (trust : Trust) (s : Schedule) (held held' : Option (List ℕ)) (kept kept' : Option Journals) : Type 0 where
@@ -47,3 +53,10 @@ RunsCut trust s held held' kept kept' = RunsFront trust s held held' kept kept' 
 abbrev pub TextCut : Trust → Result Schedule Refused → Option (List ℕ) → Option (List ℕ) → Option Journals → Option Journals → Type 0
 TextCut trust (Ok s) held held' kept kept' = RunsCut trust s held held' kept kept'
 TextCut trust (Err r) held held' kept kept' = AppendsFront held held' (refusal_text r) × KeepsJournals kept kept'
+
+-- the text is a schedule whose events all ran, no report was written, and this is seen of the world behind them
+pub record RunsSilently (trust : Trust) (text : List ℕ) (kept kept' : Option Journals) (sc : Scene) : Type 0 where
+  pub schedule : Schedule
+  pub is : schedule_of text ≡ Ok schedule
+  pub shows : ShowsRun trust schedule kept sc
+  pub journals : KeepsRun trust schedule kept kept'

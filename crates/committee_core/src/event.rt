@@ -11,22 +11,22 @@ ghost use Rattle.world_core.specs.Trusts.{trust_by};
 ghost use Rattle.world_core.specs.declared.world.WorldFault.TheVariants as fault;
 ghost use Rattle.committee_core.specs.Report.{lines_text};
 ghost use Rattle.committee_core.specs.Steps.{IsBadRecord, IsCutAt, IsTaken, Passes, ReadsBad};
-ghost use Rattle.committee_core.specs.Streams.{AppendsFront};
+ghost use Rattle.outside.specs.Streams.{AppendsFront};
 ghost use Rattle.committee_core.specs.Ways.{bad_record_text};
 ghost use Rattle.committee_core.specs.declared.stop.Stop.TheVariants as stop;
 
 use crate::stop::Stop;
-use crate::streams::write_all;
-use outside::{Keeper, OutFault, Sink};
+use outside::{Keeper, OutFault, Sink, write_all};
 use report_text::{Line, RestartText, print_line};
 use schedule_text::Event;
 use std::alloc::Global;
+use std::thread::Threads;
 use wire_bcs::{OutOfMemory, Seq};
 use world_core::{World, WorldFault};
 use world_names::MakesSeals;
 
 /// The bytes of lines.
-fn print_lines(alloc: Global, lines: &Seq<Line>) -> Result<Seq<u8>, OutOfMemory>
+pub(crate) fn print_lines(alloc: Global, lines: &Seq<Line>) -> Result<Seq<u8>, OutOfMemory>
     ensures { IfOk result (λ text. text ≡ lines_text lines.now) }
 {
     let mut text = Seq::new(alloc);
@@ -60,7 +60,7 @@ pub(crate) fn write_line<K: Sink>(alloc: Global, line: &Line, sink: &mut K) -> R
 }
 
 /// Writes the line of a bad record.
-fn write_bad_record<K: Sink>(
+pub(crate) fn write_bad_record<K: Sink>(
     alloc: Global,
     member: u32,
     place: u64,
@@ -81,7 +81,8 @@ fn write_bad_record<K: Sink>(
 
 /// Takes one event, and gives its lines. `room`: the keeper has a list for each member.
 #[tactic(auto, using(crate::proofs::Taken::taken_as, crate::proofs::Taken::left_as, crate::proofs::Taken::bad_as, crate::proofs::Taken::stay_as))]
-fn take_event<S: MakesSeals, D: Keeper>(
+fn take_event<R: Threads + Sync, S: MakesSeals, D: Keeper>(
+    rt: &R,
     world: &mut World,
     event: &Event,
     sealer: &S,
@@ -96,12 +97,13 @@ fn take_event<S: MakesSeals, D: Keeper>(
     ensures later { D.failed keeper.old ≤ D.failed keeper.new }
     ensures fault { IsErrOf result fault.KeepFault → Rose (D.failed keeper.old) (D.failed keeper.new) }
 {
-    world.step(keeper, sealer, event)
+    world.step(rt, keeper, sealer, event)
 }
 
 /// Takes one event, and writes its lines. `room`: the keeper has a list for each member.
 #[tactic(auto, using(crate::proofs::Written::passes_as, crate::proofs::Written::cut_taken, crate::proofs::Written::cut_untaken, crate::proofs::Written::cut_bad, crate::proofs::Written::said_bad))]
-pub(crate) fn run_event<S: MakesSeals, K: Sink, D: Keeper>(
+pub(crate) fn run_event<R: Threads + Sync, S: MakesSeals, K: Sink, D: Keeper>(
+    rt: &R,
     alloc: Global,
     world: &mut World,
     event: &Event,
@@ -120,7 +122,7 @@ pub(crate) fn run_event<S: MakesSeals, K: Sink, D: Keeper>(
     ensures kept_later { D.failed keeper.old ≤ D.failed keeper.new }
     ensures keep_fault { IsErrOf result stop.KeepFault → Rose (D.failed keeper.old) (D.failed keeper.new) }
 {
-    match take_event(world, event, sealer, keeper) {
+    match take_event(rt, world, event, sealer, keeper) {
         Ok(lines) => match write_lines(alloc, &lines, sink) {
             Ok(()) => Ok(()),
             Err(OutFault::Failed) => Err(Stop::WriteFault),

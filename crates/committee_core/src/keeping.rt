@@ -8,7 +8,7 @@ use std::alloc::Global;
 use wire_bcs::OutOfMemory;
 
 /// The members that a committee has at most.
-const MOST_MEMBERS: u32 = 64;
+pub(crate) const MOST_MEMBERS: u32 = 64;
 
 /// A keeper in memory with an empty list for each of 64 members. It fails at exactly the calls with
 /// the numbers in `failing`.

@@ -1,15 +1,33 @@
 //! The program `committee` over any source, sink and keeper: reading a schedule, running it, and writing its report.
 //!
 //! The clauses of [`committee`] are what is promised. [`fresh_keeper`] is a keeper in memory for its members.
+//! [`committee_in`] is the program over a journal file. [`world_behind`] runs a schedule with no report. [`agrees`] holds a
+//! chain that a client checked to the members of a world.
 #![tactic(auto)]
 
+mod agreement;
+mod check;
+mod desk;
 mod event;
+mod follow;
+mod in_file;
 mod keeping;
+mod make;
+mod replay;
+mod report;
 mod run;
+mod saying;
+mod seals;
+mod silent;
 mod stop;
-mod streams;
 mod text;
 mod top;
+mod verdict;
 
+pub use agreement::{Agreement, agrees, is_same};
+pub use in_file::committee_in;
 pub use keeping::fresh_keeper;
+pub use seals::program_sealer;
+pub use silent::{Unrun, world_behind};
+pub use text::{LONGEST_TEXT, refuse};
 pub use top::committee;

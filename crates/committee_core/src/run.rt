@@ -1,14 +1,17 @@
-//! Running a schedule from its set-up on, line by line.
+//! Running a schedule from its set-up on, line by line, up to the world behind it.
 
-ghost use Rattle.std.specs.Prelude.{◌≡◌, ◌≤◌, length, OnErr, OnOk, IsErrOf};
+ghost use Rattle.std.specs.Prelude.{◌≡◌, ◌≤◌, Ok, length, IfOk, OnErr, OnOk, IsErrOf};
 ghost use Rattle.std.specs.Io.KnownBytes.{Appends};
 ghost use Rattle.outside.specs.Causes.{Rose};
+ghost use Rattle.outside.specs.Lists.{HasMembers};
+ghost use Rattle.quorum_core.specs.Committee.{committee_of};
 ghost use Rattle.scene_spec.specs.Scene.{new_scene};
+ghost use Rattle.world_spec.specs.Setting.{stakes_of};
 ghost use Rattle.world_core.specs.Trusts.{trust_by};
 ghost use Rattle.committee_core.specs.Journals.{AreAtLeast, AreEmpty, StartsAlong};
 ghost use Rattle.committee_core.specs.Laws.{SceneLaws};
 ghost use Rattle.committee_core.specs.Report.{setting_in};
-ghost use Rattle.committee_core.specs.Ways.{MeetsBadRecord, RunsCut, RunsWhole};
+ghost use Rattle.committee_core.specs.Ways.{MeetsBadRecord, RunsCut, RunsWhole, ShowsRun};
 ghost use Rattle.committee_core.specs.declared.stop.Stop.TheVariants as stop;
 
 use crate::event::run_event;
@@ -16,11 +19,14 @@ use crate::stop::Stop;
 use outside::{Keeper, Sink};
 use schedule_text::Schedule;
 use std::alloc::Global;
-use world_core::World;
+use std::thread::Threads;
+use wire_bcs::OutOfMemory;
+use world_core::{World, WorldRefusal};
 use world_names::MakesSeals;
 
 /// Runs the events in order, from the world of the set-up on.
-pub(crate) fn run_events<S: MakesSeals, K: Sink, D: Keeper>(
+fn run_events<R: Threads + Sync, S: MakesSeals, K: Sink, D: Keeper>(
+    rt: &R,
     alloc: Global,
     world: &mut World,
     schedule: &Schedule,
@@ -35,6 +41,7 @@ pub(crate) fn run_events<S: MakesSeals, K: Sink, D: Keeper>(
     requires laws { SceneLaws (trust_by (S.made sealer.now) (S.accepts sealer.now)) }
     requires along { StartsAlong (setting_in (trust_by (S.made sealer.now) (S.accepts sealer.now)) schedule.now) schedule.now.events }
     ensures ok { OnOk result (RunsWhole (trust_by (S.made sealer.now) (S.accepts sealer.now)) schedule.now (K.held sink.old) (K.held sink.new) (D.lists keeper.old) (D.lists keeper.new)) }
+    ensures shows { OnOk result (ShowsRun (trust_by (S.made sealer.now) (S.accepts sealer.now)) schedule.now (D.lists keeper.old) world.new) }
     ensures cut { OnErr result (RunsCut (trust_by (S.made sealer.now) (S.accepts sealer.now)) schedule.now (K.held sink.old) (K.held sink.new) (D.lists keeper.old) (D.lists keeper.new)) }
     ensures bad { IsErrOf result stop.BadRecord → MeetsBadRecord (trust_by (S.made sealer.now) (S.accepts sealer.now)) schedule.now Appends (K.held sink.old) (K.held sink.new) (D.lists keeper.old) }
     ensures later { K.faults sink.old ≤ K.faults sink.new }
@@ -43,7 +50,61 @@ pub(crate) fn run_events<S: MakesSeals, K: Sink, D: Keeper>(
     ensures keep_fault { IsErrOf result stop.KeepFault → Rose (D.failed keeper.old) (D.failed keeper.new) }
 {
     for event in schedule.events.as_slice() {
-        run_event(alloc, world, event, sealer, sink, keeper)?;
+        run_event(rt, alloc, world, event, sealer, sink, keeper)?;
     }
     Ok(())
+}
+
+/// Opens the world of a set-up whose members are a committee, as those of each schedule that is read are. It has at
+/// most 64 members.
+#[tactic(auto, using(crate::proofs::Opening::few_posts))]
+pub(crate) fn open_world<S: MakesSeals>(
+    alloc: Global,
+    schedule: &Schedule,
+    sealer: &S,
+) -> Result<World, OutOfMemory>
+    requires committee { committee_of (stakes_of schedule.now.setup) ≡ Ok (stakes_of schedule.now.setup) }
+    ensures opened { IfOk result (λ w. w ≡ new_scene (setting_in (trust_by (S.made sealer.now) (S.accepts sealer.now)) schedule.now) schedule.now.setup) }
+    ensures few { IfOk result (λ w. length w.posts ≤ 64) }
+{
+    match World::new(alloc, schedule.setup.as_slice(), sealer) {
+        Ok(world) => Ok(world),
+        Err(WorldRefusal::NoCommittee) => unreachable!(),
+        Err(WorldRefusal::OutOfMemory) => Err(OutOfMemory),
+    }
+}
+
+/// Runs a schedule from its set-up on. Answers the world behind it.
+#[tactic(auto, using(crate::proofs::Opening::wide_enough, crate::proofs::Whole::nothing_run))]
+pub(crate) fn run_schedule<R: Threads + Sync, S: MakesSeals, K: Sink, D: Keeper>(
+    rt: &R,
+    alloc: Global,
+    schedule: &Schedule,
+    sealer: &S,
+    sink: &mut K,
+    keeper: &mut D,
+) -> Result<World, Stop>
+    requires room { 64 ≤ D.width keeper.old }
+    requires empty { AreEmpty (D.lists keeper.old) }
+    requires committee { committee_of (stakes_of schedule.now.setup) ≡ Ok (stakes_of schedule.now.setup) }
+    requires laws { SceneLaws (trust_by (S.made sealer.now) (S.accepts sealer.now)) }
+    requires along { StartsAlong (setting_in (trust_by (S.made sealer.now) (S.accepts sealer.now)) schedule.now) schedule.now.events }
+    ensures ok { IfOk result (λ _. RunsWhole (trust_by (S.made sealer.now) (S.accepts sealer.now)) schedule.now (K.held sink.old) (K.held sink.new) (D.lists keeper.old) (D.lists keeper.new)) }
+    ensures shows { IfOk result (λ w. ShowsRun (trust_by (S.made sealer.now) (S.accepts sealer.now)) schedule.now (D.lists keeper.old) w) }
+    ensures cut { OnErr result (RunsCut (trust_by (S.made sealer.now) (S.accepts sealer.now)) schedule.now (K.held sink.old) (K.held sink.new) (D.lists keeper.old) (D.lists keeper.new)) }
+    ensures bad { IsErrOf result stop.BadRecord → MeetsBadRecord (trust_by (S.made sealer.now) (S.accepts sealer.now)) schedule.now Appends (K.held sink.old) (K.held sink.new) (D.lists keeper.old) }
+    ensures later { K.faults sink.old ≤ K.faults sink.new }
+    ensures fault { IsErrOf result stop.WriteFault → Rose (K.faults sink.old) (K.faults sink.new) }
+    ensures kept_later { D.failed keeper.old ≤ D.failed keeper.new }
+    ensures keep_fault { IsErrOf result stop.KeepFault → Rose (D.failed keeper.old) (D.failed keeper.new) }
+{
+    // told lists are as many as the keeper has
+    let _ = keeper.members();
+    match open_world(alloc, schedule, sealer) {
+        Ok(mut world) => match run_events(rt, alloc, &mut world, schedule, sealer, sink, keeper) {
+            Ok(()) => Ok(world),
+            Err(stop) => Err(stop),
+        },
+        Err(OutOfMemory) => Err(Stop::OutOfMemory),
+    }
 }

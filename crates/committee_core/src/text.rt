@@ -1,88 +1,38 @@
 //! Running a text: the report of a schedule, or the line of its refusal.
 
-ghost use Rattle.std.specs.Prelude.{◌≡◌, ◌≤◌, Ok, Err, length, IfOk, OnErr, OnOk, IsErrOf};
+ghost use Rattle.std.specs.Prelude.{◌≡◌, ◌≤◌, Ok, Err, OnErr, OnOk, IsErrOf};
 ghost use Rattle.std.specs.Io.KnownBytes.{Appends};
 ghost use Rattle.outside.specs.Causes.{Rose};
-ghost use Rattle.outside.specs.Lists.{HasMembers, KeepsJournals};
+ghost use Rattle.outside.specs.Lists.{KeepsJournals};
 ghost use Rattle.report_text.specs.declared.lines.Line.TheVariants as report_line;
 ghost use Rattle.report_text.specs.Text.{text_of};
-ghost use Rattle.quorum_core.specs.Committee.{committee_of};
 ghost use Rattle.schedule_text.specs.declared.words.Schedule.{Schedule};
 ghost use Rattle.schedule_text.specs.Schedule.{Refused, schedule_of};
-ghost use Rattle.scene_spec.specs.Scene.{new_scene};
-ghost use Rattle.world_spec.specs.Setting.{stakes_of};
 ghost use Rattle.world_core.specs.Trusts.{trust_by};
-ghost use Rattle.committee_core.specs.Journals.{AreEmpty, StartsAlong};
+ghost use Rattle.committee_core.specs.Journals.{AreEmpty};
 ghost use Rattle.committee_core.specs.Laws.{SceneLaws};
-ghost use Rattle.committee_core.specs.Report.{refusal_text, setting_in};
-ghost use Rattle.committee_core.specs.Streams.{AppendsFront};
-ghost use Rattle.committee_core.specs.Ways.{MeetsBadRecord, RunsCut, RunsWhole, TextCut};
+ghost use Rattle.committee_core.specs.Report.{refusal_text};
+ghost use Rattle.outside.specs.Streams.{AppendsFront};
+ghost use Rattle.committee_core.specs.Ways.{MeetsBadRecord, RunsWhole, TextCut};
 ghost use Rattle.committee_core.specs.declared.stop.Stop.TheVariants as stop;
 ghost use Rattle.committee_core.specs.declared.stop.Ended.TheVariants as ended;
 ghost use Rattle.outside.specs.declared.faults.OutFault.TheVariants as out_fault;
 
 use crate::event::write_line;
-use crate::run::run_events;
+use crate::run::run_schedule;
 use crate::stop::{Ended, Stop};
 use outside::{Keeper, OutFault, Sink};
 use report_text::Line;
-use schedule_text::{Schedule, ScheduleRefusal, read_schedule};
+use schedule_text::{ScheduleRefusal, read_schedule};
 use std::alloc::Global;
-use wire_bcs::OutOfMemory;
-use world_core::{World, WorldRefusal};
+use std::thread::Threads;
 use world_names::MakesSeals;
 
-/// Opens the world of a set-up whose members are a committee, as those of each schedule that is read are. It has at
-/// most 64 members.
-#[tactic(auto, using(crate::proofs::Opening::few_posts))]
-fn open_world<S: MakesSeals>(
-    alloc: Global,
-    schedule: &Schedule,
-    sealer: &S,
-) -> Result<World, OutOfMemory>
-    requires committee { committee_of (stakes_of schedule.now.setup) ≡ Ok (stakes_of schedule.now.setup) }
-    ensures opened { IfOk result (λ w. w ≡ new_scene (setting_in (trust_by (S.made sealer.now) (S.accepts sealer.now)) schedule.now) schedule.now.setup) }
-    ensures few { IfOk result (λ w. length w.posts ≤ 64) }
-{
-    match World::new(alloc, schedule.setup.as_slice(), sealer) {
-        Ok(world) => Ok(world),
-        Err(WorldRefusal::NoCommittee) => unreachable!(),
-        Err(WorldRefusal::OutOfMemory) => Err(OutOfMemory),
-    }
-}
+/// The bytes of a schedule, at most.
+pub const LONGEST_TEXT: u32 = 16_777_216;
 
-/// Runs a schedule from its set-up on.
-#[tactic(auto, using(crate::proofs::Opening::wide_enough, crate::proofs::Whole::nothing_run))]
-fn run_schedule<S: MakesSeals, K: Sink, D: Keeper>(
-    alloc: Global,
-    schedule: &Schedule,
-    sealer: &S,
-    sink: &mut K,
-    keeper: &mut D,
-) -> Result<(), Stop>
-    requires room { 64 ≤ D.width keeper.old }
-    requires empty { AreEmpty (D.lists keeper.old) }
-    requires committee { committee_of (stakes_of schedule.now.setup) ≡ Ok (stakes_of schedule.now.setup) }
-    requires laws { SceneLaws (trust_by (S.made sealer.now) (S.accepts sealer.now)) }
-    requires along { StartsAlong (setting_in (trust_by (S.made sealer.now) (S.accepts sealer.now)) schedule.now) schedule.now.events }
-    ensures ok { OnOk result (RunsWhole (trust_by (S.made sealer.now) (S.accepts sealer.now)) schedule.now (K.held sink.old) (K.held sink.new) (D.lists keeper.old) (D.lists keeper.new)) }
-    ensures cut { OnErr result (RunsCut (trust_by (S.made sealer.now) (S.accepts sealer.now)) schedule.now (K.held sink.old) (K.held sink.new) (D.lists keeper.old) (D.lists keeper.new)) }
-    ensures bad { IsErrOf result stop.BadRecord → MeetsBadRecord (trust_by (S.made sealer.now) (S.accepts sealer.now)) schedule.now Appends (K.held sink.old) (K.held sink.new) (D.lists keeper.old) }
-    ensures later { K.faults sink.old ≤ K.faults sink.new }
-    ensures fault { IsErrOf result stop.WriteFault → Rose (K.faults sink.old) (K.faults sink.new) }
-    ensures kept_later { D.failed keeper.old ≤ D.failed keeper.new }
-    ensures keep_fault { IsErrOf result stop.KeepFault → Rose (D.failed keeper.old) (D.failed keeper.new) }
-{
-    // told lists are as many as the keeper has
-    let _ = keeper.members();
-    match open_world(alloc, schedule, sealer) {
-        Ok(mut world) => run_events(alloc, &mut world, schedule, sealer, sink, keeper),
-        Err(OutOfMemory) => Err(Stop::OutOfMemory),
-    }
-}
-
-/// Writes the line of a refusal.
-fn refuse<K: Sink>(alloc: Global, line: u64, cause: u8, sink: &mut K) -> Result<(), OutFault>
+/// Writes the line of a refusal, `refused line L cause C`.
+pub fn refuse<K: Sink>(alloc: Global, line: u64, cause: u8, sink: &mut K) -> Result<(), OutFault>
     ensures ok { OnOk result (Appends (K.held sink.old) (K.held sink.new) (text_of (report_line.Refused line cause))) }
     ensures some { AppendsFront (K.held sink.old) (K.held sink.new) (text_of (report_line.Refused line cause)) }
     ensures later { K.faults sink.old ≤ K.faults sink.new }
@@ -97,7 +47,8 @@ fn refuse<K: Sink>(alloc: Global, line: u64, cause: u8, sink: &mut K) -> Result<
 
 /// Runs a text: writes the report of the schedule that it is, or the line that says why it is none.
 #[tactic(auto, using(crate::proofs::Members::read_committee, crate::proofs::Whole::nothing_done, crate::proofs::Whole::schedule_cut, crate::proofs::Whole::refusal_cut, crate::proofs::Whole::keeps_same))]
-pub(crate) fn run_text<S: MakesSeals, K: Sink, D: Keeper>(
+pub(crate) fn run_text<R: Threads + Sync, S: MakesSeals, K: Sink, D: Keeper>(
+    rt: &R,
     alloc: Global,
     text: &[u8],
     sealer: &S,
@@ -115,8 +66,8 @@ pub(crate) fn run_text<S: MakesSeals, K: Sink, D: Keeper>(
     ensures keep_fault { IsErrOf result stop.KeepFault → Rose (D.failed keeper.old) (D.failed keeper.new) }
 {
     match read_schedule(alloc, text) {
-        Ok(schedule) => match run_schedule(alloc, &schedule, sealer, sink, keeper) {
-            Ok(()) => Ok(Ended::Ran),
+        Ok(schedule) => match run_schedule(rt, alloc, &schedule, sealer, sink, keeper) {
+            Ok(_world) => Ok(Ended::Ran),
             Err(stop) => Err(stop),
         },
         Err(ScheduleRefusal::Refused { line, cause }) => match refuse(alloc, line, cause, sink) {

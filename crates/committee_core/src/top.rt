@@ -1,137 +1,56 @@
 //! The top call.
 
-ghost use Rattle.std.specs.Prelude.{◌≡◌, ◌↔◌, ◌⊎◌, ◌≤◌, Ok, Err, bytes_eq, codes, map, IsErrOf, IsTrue, OnErr};
+ghost use Rattle.std.specs.Prelude.{◌≡◌, ◌↔◌, ◌≤◌, None, Some, IfSome, map};
 ghost use Rattle.std.specs.String.{string_bytes};
-ghost use Rattle.std.specs.Io.KnownBytes.{Appends, Keeps};
-ghost use Rattle.outside.specs.Causes.{Rose};
-ghost use Rattle.outside.specs.Lists.{KeepsJournals};
-ghost use Rattle.schedule_text.specs.declared.words.Schedule.{Schedule};
-ghost use Rattle.schedule_text.specs.Schedule.{Refused, schedule_of};
-ghost use Rattle.quorum_core.specs.Seals.{keyed_seal};
-ghost use Rattle.world_core.specs.Trusts.{trust_by};
-ghost use Rattle.committee_core.specs.Headline.{IsBad, IsCut, IsRefused, IsRun, IsWhole, program_trust};
-ghost use Rattle.committee_core.specs.Journals.{AreEmpty};
-ghost use Rattle.committee_core.specs.Laws.{SceneLaws};
-ghost use Rattle.committee_core.specs.Report.{refusal_text};
-ghost use Rattle.committee_core.specs.Ways.{MeetsBadRecord, RunsWhole, TextCut};
-ghost use Rattle.committee_core.specs.declared.stop.Stop.TheVariants as stop;
-ghost use Rattle.committee_core.specs.declared.stop.Ended.TheVariants as ended;
+ghost use Rattle.committee_core.specs.Endings.{BeginsEmpty, Ends};
+ghost use Rattle.committee_core.specs.Outside.{outside};
+ghost use Rattle.command_words.specs.Words.{IsInRange, command_in};
 
-use crate::stop::{Ended, Stop};
-use crate::streams::read_text;
-use crate::text::run_text;
-use outside::{Keeper, OutFault, Sink, Source};
-use quorum_core::KeyedSeal;
-use run_law::{records_of_a_world, restarts_of_a_run, steps_of_a_world};
+use crate::check::check;
+use crate::desk::desk;
+use crate::follow::follow;
+use crate::make::make;
+use crate::replay::replay;
+use crate::report::run;
+use command_words::{Command, command_of, is_parsed};
+use outside::{Keeper, Sink, Source};
 use std::alloc::Global;
+use std::sync::Wait;
+use std::thread::Threads;
+use text_law::generated_text_is_a_schedule;
 
-/// Whether the word is `run`.
-fn is_run_word(word: &str) -> bool
-    ensures { IsTrue result ↔ (word.now ≡ codes "run") }
-{
-    word == "run"
-}
-
-/// Whether the words are exactly `run`.
-fn is_run(words: &[String]) -> bool
-    ensures { IsTrue result ↔ IsRun (map string_bytes words.now) }
-{
-    match words {
-        [word] => is_run_word(word.as_str()),
-        _ => false,
-    }
-}
-
-/// The seals of the program: those under a secret of 32 bytes of hexadecimal 5a.
-fn program_sealer() -> KeyedSeal
-    ensures { trust_by (λ signer bytes. keyed_seal result.secret signer bytes) (λ signer bytes seal. bytes_eq seal.0 (keyed_seal result.secret signer bytes).0) ≡ program_trust }
-{
-    KeyedSeal::new([0x5a; 32])
-}
-
-/// The laws by which the code's view of a world follows the definition's, for these seals.
-fn laws_of_scenes()
-    ensures { SceneLaws program_trust }
-{
-    steps_of_a_world();
-    records_of_a_world();
-    restarts_of_a_run();
-}
-
-/// Runs a text under the seals of the program.
-fn run_sealed<K: Sink, D: Keeper>(
+/// Does what the command says. Answers the status.
+fn obey<R: Threads + Wait + Sync, S: Source, K: Sink, D: Keeper>(
+    rt: &R,
     alloc: Global,
-    text: &[u8],
-    sink: &mut K,
-    keeper: &mut D,
-) -> Result<Ended, Stop>
-    requires room { 64 ≤ D.width keeper.old }
-    requires empty { AreEmpty (D.lists keeper.old) }
-    ensures ran { result ≡ Ok ended.Ran → (s : Schedule) × (schedule_of text.now ≡ Ok s) × RunsWhole program_trust s (K.held sink.old) (K.held sink.new) (D.lists keeper.old) (D.lists keeper.new) }
-    ensures refused { result ≡ Ok ended.Refused → (r : Refused) × (schedule_of text.now ≡ Err r) × Appends (K.held sink.old) (K.held sink.new) (refusal_text r) × KeepsJournals (D.lists keeper.old) (D.lists keeper.new) }
-    ensures bad { IsErrOf result stop.BadRecord → (s : Schedule) × (schedule_of text.now ≡ Ok s) × MeetsBadRecord program_trust s Appends (K.held sink.old) (K.held sink.new) (D.lists keeper.old) }
-    ensures cut { OnErr result (TextCut program_trust (schedule_of text.now) (K.held sink.old) (K.held sink.new) (D.lists keeper.old) (D.lists keeper.new)) }
-    ensures fault { IsErrOf result stop.WriteFault → Rose (K.faults sink.old) (K.faults sink.new) }
-    ensures keep_fault { IsErrOf result stop.KeepFault → Rose (D.failed keeper.old) (D.failed keeper.new) }
-{
-    laws_of_scenes();
-    let sealer = program_sealer();
-    run_text(alloc, text, &sealer, sink, keeper)
-}
-
-/// Runs a text that was read, to its end or to one byte past the longest. Answers the status.
-fn run_read<K: Sink, D: Keeper>(alloc: Global, text: &[u8], sink: &mut K, keeper: &mut D) -> u8
-    requires room { 64 ≤ D.width keeper.old }
-    requires empty { AreEmpty (D.lists keeper.old) }
-    ensures known { (result ≡ 0) ⊎ (result ≡ 3) ⊎ (result ≡ 5) ⊎ (result ≡ 6) ⊎ (result ≡ 7) }
-    ensures ran { result ≡ 0 → (s : Schedule) × (schedule_of text.now ≡ Ok s) × RunsWhole program_trust s (K.held sink.old) (K.held sink.new) (D.lists keeper.old) (D.lists keeper.new) }
-    ensures refused { result ≡ 3 → (r : Refused) × (schedule_of text.now ≡ Err r) × Appends (K.held sink.old) (K.held sink.new) (refusal_text r) × KeepsJournals (D.lists keeper.old) (D.lists keeper.new) }
-    ensures write_fault { result ≡ 5 → Rose (K.faults sink.old) (K.faults sink.new) }
-    ensures kept { result ≡ 6 → (Rose (D.failed keeper.old) (D.failed keeper.new) × TextCut program_trust (schedule_of text.now) (K.held sink.old) (K.held sink.new) (D.lists keeper.old) (D.lists keeper.new)) ⊎ ((s : Schedule) × (schedule_of text.now ≡ Ok s) × MeetsBadRecord program_trust s Appends (K.held sink.old) (K.held sink.new) (D.lists keeper.old)) }
-    ensures cut { (result ≡ 5) ⊎ (result ≡ 7) → TextCut program_trust (schedule_of text.now) (K.held sink.old) (K.held sink.new) (D.lists keeper.old) (D.lists keeper.new) }
-{
-    match run_sealed(alloc, text, sink, keeper) {
-        Ok(Ended::Ran) => 0,
-        Ok(Ended::Refused) => 3,
-        Err(Stop::WriteFault) => 5,
-        Err(Stop::KeepFault) => 6,
-        Err(Stop::BadRecord) => 6,
-        Err(Stop::OutOfMemory) => 7,
-    }
-}
-
-/// Reads the source and runs the text. Answers the status.
-fn run<S: Source, K: Sink, D: Keeper>(
-    alloc: Global,
+    command: Command,
     source: &mut S,
     sink: &mut K,
     keeper: &mut D,
 ) -> u8
     requires room { 64 ≤ D.width keeper.old }
-    requires empty { AreEmpty (D.lists keeper.old) }
-    ensures known { (result ≡ 0) ⊎ (result ≡ 3) ⊎ (result ≡ 4) ⊎ (result ≡ 5) ⊎ (result ≡ 6) ⊎ (result ≡ 7) }
-    ensures whole { result ≡ 0 → IsWhole (S.left source.old) (S.left source.new) (K.held sink.old) (K.held sink.new) (D.lists keeper.old) (D.lists keeper.new) }
-    ensures refused { result ≡ 3 → IsRefused (S.left source.old) (S.left source.new) (K.held sink.old) (K.held sink.new) (D.lists keeper.old) (D.lists keeper.new) }
-    ensures read_fault { result ≡ 4 → Rose (S.faults source.old) (S.faults source.new) }
-    ensures unwritten { result ≡ 4 → Keeps (K.held sink.old) (K.held sink.new) × KeepsJournals (D.lists keeper.old) (D.lists keeper.new) }
-    ensures write_fault { result ≡ 5 → Rose (K.faults sink.old) (K.faults sink.new) }
-    ensures keep_fault { result ≡ 6 → (Rose (D.failed keeper.old) (D.failed keeper.new) × IsCut (S.left source.old) (S.left source.new) (K.held sink.old) (K.held sink.new) (D.lists keeper.old) (D.lists keeper.new)) ⊎ IsBad (S.left source.old) (S.left source.new) (K.held sink.old) (K.held sink.new) (D.lists keeper.old) }
-    ensures cut { (result ≡ 5) ⊎ (result ≡ 7) → IsCut (S.left source.old) (S.left source.new) (K.held sink.old) (K.held sink.new) (D.lists keeper.old) (D.lists keeper.new) }
+    requires empty { BeginsEmpty (Some command) (D.lists keeper.old) }
+    requires range { IsInRange command }
+    ensures { Ends (Some command) (outside (S.left source.old) (S.faults source.old) (K.held sink.old) (K.faults sink.old) (D.lists keeper.old) (D.failed keeper.old)) (outside (S.left source.new) (S.faults source.new) (K.held sink.new) (K.faults sink.new) (D.lists keeper.new) (D.failed keeper.new)) result }
 {
-    match read_text(alloc, source) {
-        Ok(text) => run_read(alloc, text.as_slice(), sink, keeper),
-        Err(OutFault::Failed) => 4,
-        Err(OutFault::OutOfMemory) => 7,
+    match command {
+        Command::Run => run(rt, alloc, source, sink, keeper),
+        Command::Make { number } => make(rt, alloc, number, sink, keeper),
+        Command::Check { committee, tx } => check(alloc, &committee, &tx, source, sink),
+        Command::Follow { member } => follow(rt, alloc, member, source, sink, keeper),
+        Command::Desk { callers } => desk(rt, alloc, callers, source, sink),
+        Command::Replay { member } => replay(alloc, member, source, sink, keeper),
     }
 }
 
-/// Runs the program: with the words `run`, the schedule that the source holds, over a keeper with a
-/// list for each of 64 members, which has no record where it tells its lists. Answers the status.
+/// Runs the program: does what the words say, over a keeper with a list for each of 64 members. Where the words run
+/// events, it has no record where it tells its lists. Answers the status.
+///
+/// `run`: runs the schedule that the source holds.
 ///
 /// | Status | Comes | Written, kept |
 /// |---|---|---|
 /// | 0 | where all events ran, and the source was read to its end | the whole report; each told list is its member's journal |
-/// | 2 | exactly where the words are not `run` | nothing |
 /// | 3 | exactly where the bytes are no schedule, and the line was written | `refused line L cause C`; told lists stay |
 /// | 4 | only where the source's count of faults rose | nothing; told lists stay |
 /// | 5 | only where the sink's count of faults rose | a front of what was to be written; each told list is a front of its journal |
@@ -140,7 +59,74 @@ fn run<S: Source, K: Sink, D: Keeper>(
 ///
 /// A keeper that tells its lists never gives a bad record. Of the report over one that does not is
 /// said nothing behind the first restart.
-pub fn committee<S: Source, K: Sink, D: Keeper>(
+///
+/// `make N`, for N from 1 to 10,000: runs the generator's schedule of N transactions, whose late member runs on 4
+/// workers, and writes `make N: transactions A checkpoints B objects C sum D`: the transactions in the checkpoints that
+/// member 0 built, these checkpoints, its live objects and their sum in currency 0. The source is not touched.
+///
+/// | Status | Comes | Written, kept |
+/// |---|---|---|
+/// | 0 | where all events ran | the line; each told list is its member's journal |
+/// | 5 | only where the sink's count of faults rose | a front of the line; each told list is a front of its journal |
+/// | 6 | only where the keeper's count of faults rose | as at 5 |
+/// | 7 | for want of memory | as at 5 |
+///
+/// `check STAKES TX`, for 1 to 64 stakes from 1 to 4294967295, joined by commas, and the 64 hexadecimal digits of a
+/// digest: reads a chain of checkpoints from the source, at most 16777216 bytes, and says whether it is certified by a
+/// committee of these stakes, under the seals of the program, and in which checkpoint the transaction stands. The
+/// keeper is not touched.
+///
+/// | Status | Comes | Written |
+/// |---|---|---|
+/// | 0 | exactly where the bytes spell a certified chain, and the line was written | `certified N included in K` with the number of links and the number of the first checkpoint that lists the transaction, or `certified N not included` |
+/// | 4 | only where the source's count of faults rose | nothing |
+/// | 5 | only where the sink's count of faults rose | a front of the line |
+/// | 7 | for want of memory | a front of the line |
+/// | 8 | exactly where there are more bytes, or they spell no chain, or one that is not certified, and the line was written | `refused too large`, `refused malformed at A why W`, `refused link P cause C` |
+///
+/// `follow M`, for M from 0 to 63: runs the schedule that the source holds, and writes no report. Then a follower that opens
+/// with the objects of the set-up takes the checkpoints that member M built in the epochs before its own, each with the
+/// transactions that `tx` lines made, and its live objects are compared with those with which the member opened its epoch.
+///
+/// | Status | Comes | Written, kept |
+/// |---|---|---|
+/// | 0 | where all events ran, and the objects are the same | `follow M: equal checkpoints B epoch E objects C`: the checkpoints that were taken, the member's epoch, and the follower's live objects; each told list is its member's journal |
+/// | 3, 4 | as for `run` | as for `run` |
+/// | 5 | only where the sink's count of faults rose | a front of the line; each told list is a front of its journal |
+/// | 6 | only where the keeper's count of faults rose, or a record read back is bad | nothing; lists as at 5 |
+/// | 7 | for want of memory | as at 5 |
+/// | 8 | where all events ran, and one of these applies | the first that does of `follow M: no honest member`, `follow M: down`, `follow M: stuck N P` and `follow M: differs N P`, with the number of the first checkpoint that is not applied and the place of its first bad transaction, `follow M: unequal`; lists as at 0 |
+///
+/// `desk N`, for N from 1 to 16: puts member 0 of the set-up of the schedule that the source holds, whose events are all
+/// `tx`, behind a vote desk, and lets N callers, each in a thread of its own, ask it for its votes. A caller asks for the
+/// transactions whose places have its number as the remainder by N, in order. It leaves the keeper's lists.
+///
+/// | Status | Comes | Written |
+/// |---|---|---|
+/// | 0 | where all were asked for, and none lacked memory | `desk 0: calls C`, and for each call, in the order in which they were made, two spaces and the line of its vote: one history of them all |
+/// | 3 | exactly where the bytes are no schedule, and the line was written | `refused line L cause C` |
+/// | 4 | only where the source's count of faults rose | nothing |
+/// | 5 | only where the sink's count of faults rose | a front of what was to be written |
+/// | 7 | for want of memory | as at 5 |
+/// | 8 | exactly where an event is no `tx` line, or member 0 is not honest, and the line was written | `desk: only tx lines`, else `desk: no honest member` |
+///
+/// `replay M`, for M from 0 to 63: starts member M of the set-up of the schedule that the source holds, whose events do
+/// not run, from the records that the keeper has. It leaves the keeper's lists.
+///
+/// | Status | Comes | Written |
+/// |---|---|---|
+/// | 0 | where the member started | `restart M: records N`, and the lines of `show M` for the member in that state, by the names of the set-up |
+/// | 3 | exactly where the bytes are no schedule, and the line was written | `refused line L cause C` |
+/// | 4 | only where the source's count of faults rose | nothing |
+/// | 5 | only where the sink's count of faults rose | a front of what was to be written |
+/// | 6 | where a record is bad, or where the keeper's count of faults rose | `restart M: bad record PLACE`; nothing behind a fault |
+/// | 7 | for want of memory | as at 5 |
+/// | 8 | exactly where the set-up has no honest member M | `replay M: no honest member` |
+///
+/// Status 2 comes exactly where the words are no command: nothing is read, written and kept then.
+#[tactic(auto, using(crate::proofs::Obeying::unused, crate::proofs::Obeying::obeyed, crate::proofs::Obeying::starved))]
+pub fn committee<R: Threads + Wait + Sync, S: Source, K: Sink, D: Keeper>(
+    rt: &R,
     alloc: Global,
     words: &[String],
     source: &mut S,
@@ -148,20 +134,16 @@ pub fn committee<S: Source, K: Sink, D: Keeper>(
     keeper: &mut D,
 ) -> u8
     requires room { 64 ≤ D.width keeper.old }
-    requires empty { AreEmpty (D.lists keeper.old) }
-    ensures known { (result ≡ 0) ⊎ (result ≡ 2) ⊎ (result ≡ 3) ⊎ (result ≡ 4) ⊎ (result ≡ 5) ⊎ (result ≡ 6) ⊎ (result ≡ 7) }
-    ensures usage { (result ≡ 2) ↔ (IsRun (map string_bytes words.now) → ⊥) }
-    ensures unused { result ≡ 2 → Keeps (S.left source.old) (S.left source.new) × Keeps (K.held sink.old) (K.held sink.new) × KeepsJournals (D.lists keeper.old) (D.lists keeper.new) }
-    ensures whole { result ≡ 0 → IsWhole (S.left source.old) (S.left source.new) (K.held sink.old) (K.held sink.new) (D.lists keeper.old) (D.lists keeper.new) }
-    ensures refused { result ≡ 3 → IsRefused (S.left source.old) (S.left source.new) (K.held sink.old) (K.held sink.new) (D.lists keeper.old) (D.lists keeper.new) }
-    ensures read_fault { result ≡ 4 → Rose (S.faults source.old) (S.faults source.new) }
-    ensures unwritten { result ≡ 4 → Keeps (K.held sink.old) (K.held sink.new) × KeepsJournals (D.lists keeper.old) (D.lists keeper.new) }
-    ensures write_fault { result ≡ 5 → Rose (K.faults sink.old) (K.faults sink.new) }
-    ensures keep_fault { result ≡ 6 → (Rose (D.failed keeper.old) (D.failed keeper.new) × IsCut (S.left source.old) (S.left source.new) (K.held sink.old) (K.held sink.new) (D.lists keeper.old) (D.lists keeper.new)) ⊎ IsBad (S.left source.old) (S.left source.new) (K.held sink.old) (K.held sink.new) (D.lists keeper.old) }
-    ensures cut { (result ≡ 5) ⊎ (result ≡ 7) → IsCut (S.left source.old) (S.left source.new) (K.held sink.old) (K.held sink.new) (D.lists keeper.old) (D.lists keeper.new) }
+    requires empty { BeginsEmpty (command_in (map string_bytes words.now)) (D.lists keeper.old) }
+    ensures usage { (result ≡ 2) ↔ (command_in (map string_bytes words.now) ≡ None) }
+    ensures ends { Ends (command_in (map string_bytes words.now)) (outside (S.left source.old) (S.faults source.old) (K.held sink.old) (K.faults sink.old) (D.lists keeper.old) (D.failed keeper.old)) (outside (S.left source.new) (S.faults source.new) (K.held sink.new) (K.faults sink.new) (D.lists keeper.new) (D.failed keeper.new)) result }
 {
-    if !is_run(words) {
+    let Some(command) = command_of(words) else {
         return 2;
+    };
+    generated_text_is_a_schedule();
+    if !is_parsed(alloc, words) {
+        return 7;
     }
-    run(alloc, source, sink, keeper)
+    obey(rt, alloc, command, source, sink, keeper)
 }

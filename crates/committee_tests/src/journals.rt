@@ -10,12 +10,13 @@ use std::test::Fail;
 use wire_bcs::{OutOfMemory, Seq};
 
 /// Three of four members vote, and the first one executes the certificate.
-const CERTIFIED: &str =
+pub(crate) const CERTIFIED: &str =
     "member 1 honest\nmember 1 honest\nmember 1 honest\nmember 1 honest\ncoin g0 alice 10000\n\
 tx t1 alice 0 g0@1 2000 n:500 a:bob split(gas,i0) transfer(r0,i1)\n\
 vote 0 t1\nvote 1 t1\nvote 2 t1\ncert t1 0 1 2\nsend 0 t1\nrun 0 2\nshow 0\n";
 
-const REPORT: &str = "tx t1: made\nvote 0 t1: voted -\nvote 1 t1: voted -\nvote 2 t1: voted -\n\
+pub(crate) const REPORT: &str =
+    "tx t1: made\nvote 0 t1: voted -\nvote 1 t1: voted -\nvote 2 t1: voted -\n\
 cert t1: formed by 0 1 2\nsend 0 t1: held\nrun 0: executed 1\n  t1 done v2 gas 1200\n\
 show 0: epoch 0 objects 2\n  g0 v2 alice coin 0 8300\n  t1.0 v2 bob coin 0 500\n";
 
@@ -133,7 +134,11 @@ fn run_record(alloc: Global) -> Result<Seq<u8>, OutOfMemory> {
 }
 
 /// The record at a place of a member's list, where there is one.
-fn record_at(keeper: &mut MemKeeper, member: u32, place: u64) -> Result<Option<Seq<u8>>, OutFault> {
+pub(crate) fn record_at(
+    keeper: &mut MemKeeper,
+    member: u32,
+    place: u64,
+) -> Result<Option<Seq<u8>>, OutFault> {
     if member >= keeper.members() {
         return Ok(None);
     }
@@ -145,7 +150,7 @@ fn record_at(keeper: &mut MemKeeper, member: u32, place: u64) -> Result<Option<S
 }
 
 /// Tests the record at a place of a member's list.
-fn expect_record(
+pub(crate) fn expect_record(
     rt: &impl Abort,
     keeper: &mut MemKeeper,
     member: u32,
@@ -191,7 +196,7 @@ fn expect_lists(rt: &impl Abort, alloc: Global, keeper: &mut MemKeeper) -> Resul
 fn the_records_are_those_of_the_rules(rt: HostRuntime) -> Result<(), Fail> {
     let mut keeper = fresh_keeper(rt.alloc(), &[])?;
     let mut sink = MemSink::new(rt.alloc(), &[])?;
-    let ended = run_over(rt.alloc(), CERTIFIED, 64, 0, &mut sink, &mut keeper)?;
+    let ended = run_over(&rt, rt.alloc(), CERTIFIED, 64, 0, &mut sink, &mut keeper)?;
     assert_eq!(rt; ended, 0);
     assert_eq!(rt; sink.bytes(), REPORT.as_bytes());
     expect_lists(&rt, rt.alloc(), &mut keeper)

@@ -2,6 +2,10 @@
 #![tactic(auto)]
 
 #[cfg(test)]
+mod altered;
+#[cfg(test)]
+mod files;
+#[cfg(test)]
 mod journals;
 #[cfg(test)]
 mod runs;

@@ -3,13 +3,16 @@
 ghost use Rattle.std.specs.Prelude.{◌<◌, ◌≤◌, length};
 ghost use Rattle.committee_core.specs.Journals.{AreEmpty};
 
+use crate::journals::{CERTIFIED, REPORT};
 use committee_core::{committee, fresh_keeper};
 use outside::{AlteredKeeper, Keeper, MemKeeper, MemSink, MemSource, NarrowSink, Sink, Source};
 use std::alloc::Global;
 use std::process::Abort;
+use std::sync::Wait;
 use std::test::Fail;
+use std::thread::Threads;
 
-const PATH: &str = "member 1 honest\ncoin g0 alice 10000\n\
+pub(crate) const PATH: &str = "member 1 honest\ncoin g0 alice 10000\n\
 tx t1 alice 0 g0@1 2000 a:bob transfer(gas,i0)\n\
 vote 0 t1\ncert t1 0\nsend 0 t1\nrun 0 1\nshow 0\n";
 
@@ -26,8 +29,15 @@ const LINES: [&str; 6] = [
 const RESTART: &str = "member 1 honest\ncoin g0 alice 10000\n\
 tx t1 alice 0 g0@1 2000 a:bob transfer(gas,i0)\nvote 0 t1\nrestart 0\n";
 
+/// The same among four members, with another transaction.
+const FOUR_RESTART: &str =
+    "member 1 honest\nmember 1 honest\nmember 1 honest\nmember 1 honest\ncoin g0 alice 10000\n\
+tx t1 alice 0 g0@1 2000 n:500 a:bob split(gas,i0) transfer(r0,i1)\nvote 0 t1\nrestart 0\n";
+
 /// Runs the words `run` over a text, and gives the status.
-pub(crate) fn run_over<K: Sink, D: Keeper>(
+#[tactic(auto, using(committee_core::proofs::Obeying::begins_empty))]
+pub(crate) fn run_over<R: Threads + Wait + Sync, K: Sink, D: Keeper>(
+    rt: &R,
     alloc: Global,
     text: &str,
     piece: u32,
@@ -41,12 +51,12 @@ pub(crate) fn run_over<K: Sink, D: Keeper>(
 {
     let words = vec![in alloc; "run".to_string(alloc)?]?;
     let mut source = MemSource::new(alloc, text.as_bytes(), piece, [failing_read].as_slice())?;
-    Ok(committee(alloc, words.as_slice(), &mut source, sink, keeper))
+    Ok(committee(rt, alloc, words.as_slice(), &mut source, sink, keeper))
 }
 
 /// Runs a text over a source, a sink and a keeper that fail at these calls, and tests the status and what was written.
-pub(crate) fn expect_run(
-    rt: &impl Abort,
+pub(crate) fn expect_run<R: Abort + Threads + Wait + Sync>(
+    rt: &R,
     alloc: Global,
     text: &str,
     failing: [u64; 3],
@@ -56,7 +66,7 @@ pub(crate) fn expect_run(
     let [read, write, keep] = failing;
     let mut sink = MemSink::new(alloc, [write].as_slice())?;
     let mut keeper = fresh_keeper(alloc, [keep].as_slice())?;
-    let ended = run_over(alloc, text, 64, read, &mut sink, &mut keeper)?;
+    let ended = run_over(rt, alloc, text, 64, read, &mut sink, &mut keeper)?;
     assert_eq!(rt; ended, status, "at {read}, {write}, {keep} of {text}");
     assert_eq!(rt;
         sink.bytes(),
@@ -109,30 +119,34 @@ fn each_failing_call_has_its_status(rt: HostRuntime) -> Result<(), Fail> {
     Ok(())
 }
 
-/// Runs the path over a sink that takes at most so many bytes of a piece.
-fn expect_narrow(
-    rt: &impl Abort,
+/// Runs a text over a sink that takes at most so many bytes of a piece.
+fn expect_narrow<R: Abort + Threads + Wait + Sync>(
+    rt: &R,
     alloc: Global,
+    text: &str,
     most: u32,
     status: u8,
-    events: u64,
+    written: &str,
 ) -> Result<(), Fail> {
     let mut sink = NarrowSink::new(alloc, most, &[])?;
     let mut keeper = fresh_keeper(alloc, &[])?;
-    let ended = run_over(alloc, PATH, 7, 0, &mut sink, &mut keeper)?;
-    assert_eq!(rt; ended, status, "at {most}");
-    assert_eq!(rt;
-        sink.bytes(),
-        front(alloc, LINES.as_slice(), events)?.as_bytes(),
-        "at {most}"
-    );
+    let ended = run_over(rt, alloc, text, 7, 0, &mut sink, &mut keeper)?;
+    assert_eq!(rt; ended, status, "at {most} of {text}");
+    assert_eq!(rt; sink.bytes(), written.as_bytes(), "at {most} of {text}");
     Ok(())
 }
 
 #[test]
 fn pieces_do_not_matter(rt: HostRuntime) -> Result<(), Fail> {
-    expect_narrow(&rt, rt.alloc(), 7, 0, 6)?;
-    expect_narrow(&rt, rt.alloc(), 0, 5, 0)
+    let report = front(rt.alloc(), LINES.as_slice(), 6)?;
+    expect_narrow(&rt, rt.alloc(), PATH, 7, 0, report.as_str())?;
+    expect_narrow(&rt, rt.alloc(), PATH, 0, 5, "")
+}
+
+#[test]
+fn pieces_of_a_longer_report_do_not_matter(rt: HostRuntime) -> Result<(), Fail> {
+    expect_narrow(&rt, rt.alloc(), CERTIFIED, 7, 0, REPORT)?;
+    expect_narrow(&rt, rt.alloc(), CERTIFIED, 0, 5, "")
 }
 
 #[test]
@@ -142,7 +156,7 @@ fn a_bad_record_is_said(rt: HostRuntime) -> Result<(), Fail> {
         let inner = fresh_keeper(rt.alloc(), &[])?;
         let mut keeper = AlteredKeeper::new(inner, 0, 0, [byte].as_slice())?;
         let mut sink = MemSink::new(rt.alloc(), &[])?;
-        let ended = run_over(rt.alloc(), RESTART, 64, 0, &mut sink, &mut keeper)?;
+        let ended = run_over(&rt, rt.alloc(), RESTART, 64, 0, &mut sink, &mut keeper)?;
         assert_eq!(rt; ended, 6, "at {byte}");
         assert_eq!(rt;
             sink.bytes(),
@@ -151,7 +165,7 @@ fn a_bad_record_is_said(rt: HostRuntime) -> Result<(), Fail> {
     }
     let mut keeper = fresh_keeper(rt.alloc(), &[])?;
     let mut sink = MemSink::new(rt.alloc(), &[])?;
-    let ended = run_over(rt.alloc(), RESTART, 64, 0, &mut sink, &mut keeper)?;
+    let ended = run_over(&rt, rt.alloc(), RESTART, 64, 0, &mut sink, &mut keeper)?;
     assert_eq!(rt; ended, 0);
     assert_eq!(rt;
         sink.bytes(),
@@ -160,14 +174,56 @@ fn a_bad_record_is_said(rt: HostRuntime) -> Result<(), Fail> {
     Ok(())
 }
 
+/// Runs the schedule of four members over a keeper that gives this byte as the first record of member 0.
+fn expect_bad_byte<R: Abort + Threads + Wait + Sync>(
+    rt: &R,
+    alloc: Global,
+    byte: u8,
+) -> Result<(), Fail> {
+    let inner = fresh_keeper(alloc, &[])?;
+    let mut keeper = AlteredKeeper::new(inner, 0, 0, [byte].as_slice())?;
+    let mut sink = MemSink::new(alloc, &[])?;
+    let ended = run_over(rt, alloc, FOUR_RESTART, 64, 0, &mut sink, &mut keeper)?;
+    assert_eq!(rt; ended, 6, "at {byte}");
+    assert_eq!(rt;
+        sink.bytes(),
+        b"tx t1: made\nvote 0 t1: voted -\nrestart 0: bad record 0\n".as_slice(),
+        "at {byte}"
+    );
+    Ok(())
+}
+
 #[test]
+fn a_bad_record_of_one_of_four_is_said(rt: HostRuntime) -> Result<(), Fail> {
+    expect_bad_byte(&rt, rt.alloc(), 6)?;
+    expect_bad_byte(&rt, rt.alloc(), 5)
+}
+
+#[test]
+fn a_record_that_is_not_read_back(rt: HostRuntime) -> Result<(), Fail> {
+    // the keeper's first call is the append of the vote, the second one the restart's read
+    let written = "tx t1: made\nvote 0 t1: voted -\n";
+    expect_run(&rt, rt.alloc(), FOUR_RESTART, [0, 0, 2], 6, written)?;
+    let whole = "tx t1: made\nvote 0 t1: voted -\nrestart 0: records 1\n";
+    expect_run(&rt, rt.alloc(), FOUR_RESTART, [0, 0, 0], 0, whole)
+}
+
+#[test]
+#[tactic(auto, using(committee_core::proofs::Obeying::begins_empty))]
 fn other_words_are_refused(rt: HostRuntime) -> Result<(), Fail> {
     let alloc = rt.alloc();
     let words = vec![in alloc; "run".to_string(alloc)?, "run".to_string(alloc)?]?;
     let mut source = MemSource::new(alloc, PATH.as_bytes(), 64, &[])?;
     let mut sink = MemSink::new(alloc, &[])?;
     let mut keeper = fresh_keeper(alloc, &[])?;
-    let ended = committee(alloc, words.as_slice(), &mut source, &mut sink, &mut keeper);
+    let ended = committee(
+        &rt,
+        alloc,
+        words.as_slice(),
+        &mut source,
+        &mut sink,
+        &mut keeper,
+    );
     assert_eq!(rt; ended, 2);
     assert_eq!(rt; sink.bytes(), b"".as_slice());
     Ok(())

@@ -4,7 +4,9 @@
 use crate::runs::{expect_run, front};
 use std::alloc::Global;
 use std::process::Abort;
+use std::sync::Wait;
 use std::test::Fail;
+use std::thread::Threads;
 
 /// The member stops at the append of its vote for t1, and the record is lost.
 const LOST: &str =
@@ -105,8 +107,8 @@ fn failing(call: Call, number: u64) -> [u64; 3] {
 }
 
 /// Runs a text with a call that fails, and tests the status and what was written.
-fn expect_row(
-    rt: &impl Abort,
+fn expect_row<R: Abort + Threads + Wait + Sync>(
+    rt: &R,
     alloc: Global,
     text: &str,
     lines: &[&str],

@@ -4,7 +4,7 @@
 //! runs the job, and pays the values to it. Whatever the number of workers and the order of their steps, the outputs are
 //! those of the plan, each task runs once, and the seat that comes back has claimed every task and paid and taken every edge
 //! once. Tasks go round by decks, one for each worker; what is proved of a run rests on the board alone.
-//! A [`Gate`] is told of each execution.
+//! A [`Gate`] is told of each execution. Beneath stands [`run_team`], for any work that can be handed out in parts.
 //!
 //! No speed is promised: a worker that finds nothing retires for good, so after a narrow place in a plan only those run on
 //! that had something. Nor does any proof say that two workers run at one time.
@@ -24,3 +24,4 @@ mod worker;
 
 pub use gate::{Gate, OpenGate};
 pub use run::{PoolRun, run_plan};
+pub use team::{Team, run_team};

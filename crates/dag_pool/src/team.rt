@@ -6,7 +6,7 @@ ghost use Rattle.std.specs.Thread.{IsSend, IsSync};
 use std::thread::{Threads, join};
 
 /// Work that is handed out in parts, done, and put together again. Workers are numbered from 0 on.
-pub(crate) trait Team<S> {
+pub trait Team<S> {
     // It may be handed out to so many workers.
     ghost ready: { Self → ℕ → S → Type 0 };
 
@@ -38,7 +38,7 @@ pub(crate) trait Team<S> {
 }
 
 /// Hands the work out to so many workers, each in a thread of its own, and puts together what they did.
-pub(crate) fn run_team<R: Threads + Sync, S: Send + Drop, T: Team<S> + Sync>(
+pub fn run_team<R: Threads + Sync, S: Send + Drop, T: Team<S> + Sync>(
     rt: &R,
     team: &T,
     mut shift: S,

@@ -1,6 +1,7 @@
 pub mod Appending
 pub mod Changes
 pub mod Counting
+pub mod Folding
 pub mod Gates
 pub mod Heads
 pub mod Listing
@@ -9,4 +10,5 @@ pub mod Moments
 pub mod Opening
 pub mod Reading
 pub mod Recording
+pub mod Running
 pub mod Walking

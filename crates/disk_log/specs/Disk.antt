@@ -62,6 +62,11 @@ abbrev pub EachImage : (List ℕ → Type 0) → List Moment → Type 0
 EachImage P [] = Unit {0}
 EachImage P (m ∷ ms) = ((image : List ℕ) → IsImage m image → P image) × EachImage P ms
 
+-- at each of these moments what reads give is one of the files that a crash may leave
+abbrev pub AreSeen : List Moment → Type 0
+AreSeen [] = Unit {0}
+AreSeen (m ∷ ms) = IsImage m m.reads × AreSeen ms
+
 -- at each moment from the old one on, itself with them, a crash leaves only files that have P; the moments
 -- before it are as they were
 pub record LeavesOnly (P : List ℕ → Type 0) (old new : History) : Type 0 where

@@ -2,7 +2,7 @@
 
 ghost use Rattle.std.specs.Prelude.{◌≡◌, ℕ, ◌+◌, ◌<◌, ◌≤◌, ◌^◌, length, IsErr, OnOk, Option};
 ghost use Rattle.outside.specs.Causes.{KeepCause, Rose};
-ghost use Rattle.disk_log.specs.Disk.{History, HasExtent, IsGiven, Written, Synced, GrowsTo};
+ghost use Rattle.disk_log.specs.Disk.{History, AreSeen, HasExtent, IfTold, IsGiven, Written, Synced, GrowsTo, moments};
 
 use outside::{Failed, OutFault};
 
@@ -55,4 +55,7 @@ pub trait Disk {
 
     /// The told bytes are as many as the size says.
     ghost sized: { (disk : Self) → HasExtent (history disk) (extent disk) };
+
+    /// At each told moment what reads give is one of the files that a crash may leave.
+    ghost seen: { (disk : Self) → IfTold (history disk) (λ h. AreSeen (moments h)) };
 }

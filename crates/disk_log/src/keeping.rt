@@ -1,6 +1,6 @@
 //! A log as a keeper of records.
 
-ghost use Rattle.std.specs.Prelude.{◌≡◌, ◌<◌, ◌^◌, ℕ, length, slice_index, IfOk, IsErrOf};
+ghost use Rattle.std.specs.Prelude.{◌≡◌, ◌<◌, ◌≤◌, ◌^◌, ℕ, length, slice_index, IfOk, IsErrOf};
 ghost use Rattle.outside.specs.Causes.{KeepCause, Rose};
 ghost use Rattle.outside.specs.Lists.{Appended, IsRecordAt, KeepsJournals};
 ghost use Rattle.outside.specs.declared.faults.OutFault.TheVariants as fault;
@@ -63,6 +63,7 @@ impl<K: Disk> Keeper for DiskLog<K> {
         ensures history { K.history self.new.disk ≡ K.history self.old.disk }
         ensures stays { self.new ≡ record self.old { disk = self.new.disk; faults = self.new.faults } }
         ensures disk { IsErrOf result fault.Failed → Rose (K.failed self.old.disk) (K.failed self.new.disk) }
+        ensures disk_later { K.failed self.old.disk ≤ K.failed self.new.disk }
         ensures exactly { (IsErrOf result fault.Failed → ⊥) → self.new.faults ≡ self.old.faults }
     {
         match self.read_record(member, place) {

@@ -9,9 +9,13 @@
 //! stands the next gate. A record counts where its gate is 1, all before it count, and it lies in
 //! the file with the next gate. [`DiskLog`] puts a record behind a gate that is not open on the
 //! disk, with the next gate closed, and opens the gate once all of that is on the disk. So a crash
-//! at any moment leaves the acknowledged records, with the one in progress or without it.
+//! at any moment leaves the acknowledged records, with the one in progress or without it. [`RunLog`] is
+//! the log as a run of the program keeps its records in it.
 #![tactic(auto)]
 
+mod crash;
+#[cfg(test)]
+mod crash_tests;
 mod disk;
 mod index;
 mod keeping;
@@ -19,9 +23,11 @@ mod log;
 mod mem_disk;
 mod mend;
 mod moment;
+mod present;
 mod put;
 mod record;
 mod refusals;
+mod run_log;
 mod walk;
 
 pub use disk::Disk;
@@ -29,6 +35,7 @@ pub use log::DiskLog;
 pub use mem_disk::{Change, MemDisk};
 pub use moment::{Moment, Span};
 pub use refusals::{LogRefusal, OpenRefusal};
+pub use run_log::RunLog;
 
 #[cfg(test)]
 mod tests;

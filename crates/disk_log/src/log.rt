@@ -4,8 +4,10 @@ ghost use Rattle.std.specs.Prelude.{◌≡◌, ◌↔◌, ◌+◌, ◌-◌, ◌<
 ghost use Rattle.outside.specs.Causes.{KeepCause};
 ghost use Rattle.outside.specs.Lists.{IsCountOf, IsRecordAt};
 ghost use Rattle.outside.specs.declared.faults.OutFault.TheVariants as fault;
+ghost use Rattle.disk_log.specs.Disk.{IfTold};
 ghost use Rattle.disk_log.specs.Keeping.{AppendCause, Appends, IsGood, NotOpened, Opened, counts_behind, end_behind, shut_behind, told_lists};
 ghost use Rattle.disk_log.specs.Log.{Recorded, WalkCause, with_span};
+ghost use Rattle.disk_log.specs.Running.{IsEmptyTo};
 ghost use Rattle.disk_log.specs.declared.refusals.LogRefusal.TheVariants as refused;
 
 use crate::disk::Disk;
@@ -243,6 +245,20 @@ impl<K: Disk> DiskLog<K> {
         ensures { result ≡ self.now.faults }
     {
         self.faults
+    }
+
+    /// The disk's count of faults. Takes no memory.
+    pub fn disk_faults(&self) -> u64
+        ensures { result ≡ K.failed self.now.disk }
+    {
+        self.disk.faults()
+    }
+
+    /// Whether no record was acknowledged. Takes no memory.
+    pub fn is_empty(&self) -> bool
+        ensures { IfTold (K.history self.now.disk) (IsEmptyTo self.now.end result) }
+    {
+        self.end == 0
     }
 
     /// Counts a fault of its own.

@@ -5,10 +5,12 @@ ghost use Rattle.std.specs.Vec.{vec_capacity};
 ghost use Rattle.outside.specs.Causes.{KeepCause, Rose};
 ghost use Rattle.outside.specs.Turns.{fails_next};
 ghost use Rattle.outside.specs.declared.faults.OutFault.TheVariants as fault;
-ghost use Rattle.disk_log.specs.Disk.{IsGiven, Written, Synced, GrowsTo, with_bytes};
+ghost use Rattle.disk_log.specs.Disk.{IsGiven, Written, Synced, GrowsTo};
 ghost use Rattle.disk_log.specs.Memory.{behind_read, behind_sync, behind_write, history_of, last_synced};
 
 use crate::disk::Disk;
+use crate::moment::Moment;
+use crate::present::{overwritten, present};
 use outside::{Failed, OutFault, Turns};
 use std::alloc::Global;
 use std::marker::Model;
@@ -44,19 +46,6 @@ impl Model for MemDisk {
     ghost invariant = { λ s. (s.reads ≡ (history_of s.first s.changes.items).now.reads)
         × (length s.reads < 2 ^ 63)
         × All (λ c. c.at + length c.bytes < 2 ^ 63) s.changes.items };
-}
-
-/// The bytes with these at a place.
-fn overwritten(alloc: Global, old: &[u8], at: usize, bytes: &[u8]) -> Result<Seq<u8>, OutOfMemory>
-    requires { at ≤ length old.now }
-    ensures { IfOk result (λ new. new ≡ with_bytes old.now at bytes.now) }
-{
-    let (front, back) = old.split_at(at);
-    let mut new = Seq::from_slice(alloc, front)?;
-    new.extend(bytes)?;
-    let (_, behind) = back.split_at(bytes.len().min(back.len()));
-    new.extend(behind)?;
-    Ok(new)
 }
 
 /// Makes room for one change more.
@@ -105,9 +94,24 @@ impl MemDisk {
     {
         self.reads.as_slice()
     }
+
+    /// The present moment.
+    #[tactic(auto, using(crate::proofs::Folding::moment_is, crate::proofs::Folding::moment_sizes))]
+    pub(crate) fn moment(&self) -> Result<Moment, OutOfMemory>
+        ensures now { IfOk result (λ m. m ≡ (history_of self.now.first self.now.changes).now) }
+        ensures sizes { IfOk result (λ m. length m.stable ≤ m.most) }
+    {
+        present(
+            *self.changes.allocator(),
+            self.first.as_slice(),
+            self.changes.as_slice(),
+        )
+    }
 }
 
 impl Disk for MemDisk {
+    ghost use Rattle.disk_log.specs.SeenLaws.{history_seen};
+
     ghost history = { λ d. Some (history_of d.first d.changes) };
 
     ghost extent = { λ d. length (history_of d.first d.changes).now.reads };
@@ -115,6 +119,8 @@ impl Disk for MemDisk {
     ghost failed = { λ d. d.faults };
 
     ghost sized = { λ d. refl };
+
+    ghost seen = { λ d. history_seen d.first d.changes };
 
     fn size(&self) -> u64 {
         self.reads.len()

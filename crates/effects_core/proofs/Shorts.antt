@@ -1,4 +1,4 @@
--- Effects whose lists are short can be spelled.
+-- Effects can be spelled exactly where their lists are short.
 use Rattle.std.proofs.Common.{◌<◌, length}
 use Rattle.wire_bcs.specs.Digests.{digest}
 use Rattle.wire_bcs.specs.Items.{length_limit}
@@ -25,3 +25,11 @@ status_short (statuses.Aborted command code) = (tt, tt)
 pub effects_short : (e : Effects) → length e.written < length_limit → length e.deleted < length_limit → codecs.effects.short e
 unfolding codecs.effects codecs.written object_id digest
 effects_short e written deleted = (tt, (status_short e.status, (tt, (tt, (tt, ((written, λ k d l. (tt, (owner_short _, tt))), (deleted, λ k d l. tt)))))))
+
+pub short_written : (e : Effects) → codecs.effects.short e → length e.written < length_limit
+unfolding codecs.effects
+short_written e short = short.1.1.1.1.1.0.0
+
+pub short_deleted : (e : Effects) → codecs.effects.short e → length e.deleted < length_limit
+unfolding codecs.effects
+short_deleted e short = short.1.1.1.1.1.1.0

@@ -1,6 +1,6 @@
 //! Effects on the wire, and their digests.
 
-ghost use Rattle.std.specs.Prelude.{◌≡◌, IfOk, true};
+ghost use Rattle.std.specs.Prelude.{◌≡◌, IfOk, false, true};
 ghost use Rattle.effects_core.specs.Effects as codecs;
 
 use crate::effects::{Effects, Status, Written};
@@ -124,9 +124,10 @@ const TOO_LONG: u64 = 2_147_483_648;
 
 impl Effects {
     /// Whether they can be spelled: their lists are at most 2147483647 long. Takes no memory.
-    #[tactic(auto, using(crate::proofs::Shorts::effects_short))]
+    #[tactic(auto, using(crate::proofs::Shorts::effects_short, crate::proofs::Shorts::short_written, crate::proofs::Shorts::short_deleted))]
     pub fn is_short(&self) -> bool
-        ensures { result ≡ true → codecs.effects.short self.now }
+        ensures short { result ≡ true → codecs.effects.short self.now }
+        ensures long { result ≡ false → codecs.effects.short self.now → ⊥ }
     {
         self.written.len() < TOO_LONG && self.deleted.len() < TOO_LONG
     }

@@ -1,26 +1,23 @@
 -- One checkpoint more.
-use Rattle.std.proofs.Common.{◌≡◌, ◌∙◌, refl, sym, ap, suc, ◌<◌, List, [], ◌∷◌, ◌++◌, Option, Some, None, option_map, length, append_assoc, append-nil}
+use Rattle.std.proofs.Common.{◌≡◌, ◌∙◌, refl, sym, ap, suc, List, [], ◌∷◌, ◌++◌, Option, Some, None, option_map, length, append_assoc, append-nil}
 use Rattle.std.specs.Prelude.{map}
-use Rattle.wire_bcs.specs.Digests.{digest}
-use Rattle.effects_core.specs.declared.effects.Effects.{Effects}
+use Rattle.digest_core.specs.declared.Digest.{Digest}
 use Rattle.effects_core.specs.Effects.{digest_of_effects}
 use Rattle.checkpoint_core.specs.declared.checkpoints.Item.{Item}
-use Rattle.checkpoint_core.specs.declared.checkpoints.Checkpoint.{Checkpoint}
-use Rattle.checkpoint_core.specs.Checkpoints as codecs
 use Rattle.protocol_spec.specs.Member.Versions.{Execution}
 use Rattle.protocol_spec.specs.Member.Checkpoints.{effects_digest_of, zero_digest}
 use Rattle.epoch_turn.specs.declared.due.Due.{Due}
 use Rattle.epoch_turn.specs.Dues.{due_item}
 use Rattle.epoch_turn.specs.Kept.{items_after}
 
-abbrev pub effects_in : Option Execution → Option Effects
-effects_in x = option_map (λ (y : Execution). y.gave.effects) x
+abbrev pub digest_in : Option Execution → Option Digest
+digest_in x = option_map (λ (y : Execution). digest_of_effects y.gave.effects) x
 
-pub digest_known : (x : Option Execution) (e : Effects) → Some e ≡ effects_in x → effects_digest_of x ≡ digest_of_effects e
-digest_known None e is = absurd (cc)
-digest_known (Some x) e is = ap digest_of_effects (cc is)
+pub digest_known : (x : Option Execution) (d : Digest) → Some d ≡ digest_in x → effects_digest_of x ≡ d
+digest_known None d is = absurd (cc)
+digest_known (Some x) d is = sym (cc is)
 
-pub digest_unknown : (x : Option Execution) → None ≡ effects_in x → effects_digest_of x ≡ zero_digest
+pub digest_unknown : (x : Option Execution) → None ≡ digest_in x → effects_digest_of x ≡ zero_digest
 digest_unknown None is = refl
 digest_unknown (Some x) is = absurd (cc)
 
@@ -34,7 +31,3 @@ items_all executed txs = items_behind executed [] txs
 pub items_many : (executed : List Execution) (txs : List Due) → length (map (due_item executed) txs) ≡ length txs
 items_many executed [] = refl
 items_many executed (d ∷ ds) = ap suc (items_many executed ds)
-
-pub checkpoint_short : (c : Checkpoint) → length c.items < 2147483648 → codecs.checkpoint.short c
-unfolding codecs.checkpoint codecs.item digest
-checkpoint_short c few = (tt, (tt, (tt, ((few, λ k d l. (tt, tt)), tt))))

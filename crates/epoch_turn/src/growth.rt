@@ -10,13 +10,9 @@ ghost use Rattle.epoch_turn.specs.Kept.{grown, grown_all, grown_by, items_after,
 use crate::due::{CutMark, Due};
 use checkpoint_core::{Checkpoint, Item, checkpoint_digest};
 use digest_core::Digest;
-use effects_core::effects_digest;
 use std::alloc::Global;
 use version_store::Store;
 use wire_bcs::{OutOfMemory, Seq};
-
-/// How long a list is at least that cannot be spelled.
-const TOO_LONG: usize = 2_147_483_648;
 
 /// Where a chain ends.
 #[derive(Clone, Copy)]
@@ -40,20 +36,14 @@ pub(crate) struct Growth {
     pub(crate) tip: Tip,
 }
 
-/// The digest of what an executed transaction did. A list of 2^31 objects, more than a transaction can write, counts
-/// as want of memory.
+/// The digest of what an executed transaction did; 32 zero bytes where it was not executed. Takes no memory.
 #[tactic(auto, using(crate::proofs::Building::digest_known, crate::proofs::Building::digest_unknown))]
-fn effects_digest_in(alloc: Global, store: &Store, tx: &Digest) -> Result<Digest, OutOfMemory>
-    ensures { IfOk result (λ d. d ≡ effects_digest_of (execution_of store.now.executed tx.now)) }
+fn effects_digest_in(store: &Store, tx: &Digest) -> Digest
+    ensures { result ≡ effects_digest_of (execution_of store.now.executed tx.now) }
 {
-    match store.executed(tx) {
-        Some(effects) => {
-            if !effects.is_short() {
-                return Err(OutOfMemory);
-            }
-            effects_digest(alloc, effects)
-        }
-        None => Ok(Digest([0; 32])),
+    match store.executed_digest(tx) {
+        Some(digest) => digest,
+        None => Digest([0; 32]),
     }
 }
 
@@ -64,10 +54,9 @@ fn collect_items(alloc: Global, store: &Store, txs: &[Due]) -> Result<Seq<Item>,
     let mut items = Seq::new(alloc);
     let mut rest = txs;
     while let [one, after @ ..] = rest {
-        let effects = effects_digest_in(alloc, store, &one.tx)?;
         items.push(Item {
             tx: one.tx,
-            effects,
+            effects: effects_digest_in(store, &one.tx),
         })?;
         rest = after;
     }
@@ -126,20 +115,20 @@ impl Tip {
 }
 
 impl Growth {
-    /// Adds a checkpoint with so many transactions.
-    #[tactic(auto, using(crate::proofs::Building::checkpoint_short))]
+    /// Adds a checkpoint with so many transactions. One that cannot be spelled counts as want of memory.
     fn push(&mut self, alloc: Global, size: usize, next: Checkpoint) -> Result<(), OutOfMemory>
-        requires { length next.items < 2147483648 }
         ensures { OnOk result (self.new ≡ grown_by self.old size next) }
     {
+        if !next.is_short() {
+            return Err(OutOfMemory);
+        }
         let digest = checkpoint_digest(alloc, &next)?;
         self.tip = self.tip.behind(size, digest)?;
         self.fresh.push(next)?;
         Ok(())
     }
 
-    /// Adds the checkpoint of these transactions. A list of 2^31 of them counts as want of memory.
-    #[tactic(auto, using(crate::proofs::Building::items_many))]
+    /// Adds the checkpoint of these transactions.
     fn add(
         &mut self,
         alloc: Global,
@@ -150,9 +139,6 @@ impl Growth {
     ) -> Result<(), OutOfMemory>
         ensures { OnOk result (self.new ≡ grown epoch store.now.executed self.old txs.now last) }
     {
-        if txs.len() >= TOO_LONG {
-            return Err(OutOfMemory);
-        }
         let next = self.tip.next(alloc, epoch, store, txs, last)?;
         self.push(alloc, txs.len(), next)
     }

@@ -1,29 +1,20 @@
--- A certificate that a round looked at is executed behind it, or is never ready: what did not run clashes with what did.
-use Rattle.std.proofs.Common.{◌≡◌, ℕ, zero, suc, Bool, true, false, cond, not, ◌&&◌, ◌||◌, List, [], ◌∷◌, ◌++◌, Option, Some, None, is_some, inl, inr, refl, ap, sym, subst, ◌∙◌}
+-- A certificate that is ready before a round is executed by it, or clashes with what did.
+use Rattle.std.proofs.Common.{◌≡◌, ℕ, zero, suc, Bool, true, false, cond, ◌||◌, List, [], ◌∷◌, ◌++◌, Option, Some, None, is_some, inl, inr, refl, ap, sym, subst, ◌∙◌}
 use Rattle.std.specs.Prelude.{◌⊎◌, slice_get}
-use Rattle.std.specs.List.{list_all, list_any}
+use Rattle.std.specs.List.{list_any}
 use Rattle.digest_core.specs.declared.Digest.{Digest}
 use Rattle.chain_types.specs.declared.objects.Object.{Object}
 use Rattle.chain_types.specs.declared.objects.ObjectKey.{ObjectKey}
-use Rattle.answer_types.specs.declared.pieces.Executed.{Executed}
 use Rattle.answer_types.specs.declared.answers.Held.{Held}
-use Rattle.chain_types.specs.Equal.{digest_eq, key_eq}
-use Rattle.protocol_spec.specs.Chain.Words.{Along, repeats, where_true}
-use Rattle.protocol_spec.specs.Chain.Keys.{fits}
+use Rattle.chain_types.specs.Equal.{digest_eq}
 use Rattle.protocol_spec.specs.Chain.Tests.{has_key}
-use Rattle.protocol_spec.specs.Block.Execution.{execution, written_keys}
+use Rattle.protocol_spec.specs.Block.Execution.{written_keys}
 use Rattle.protocol_spec.specs.Member.Versions.{Execution, is_executed, versions}
-use Rattle.protocol_spec.specs.Member.Admission.{Admission}
-use Rattle.protocol_spec.specs.Member.Rounds.{Books, clashes, executes_as, holds_key, may_run, present, ready, ready_as, ready_on, round_add, round_among, round_of, wants_of, writes_new}
+use Rattle.protocol_spec.specs.Member.Rounds.{Books, clashes, holds_key, ready, round_add, round_among}
 use Rattle.version_store.proofs.Equality.{digest_self}
-use Rattle.version_store.specs.Stores.{Stored}
-use Rattle.exec_plan.specs.Books.{AreApart, books_of, ready_in}
-use Rattle.exec_plan.specs.Makers.{are_made, is_made}
-use Rattle.exec_plan.specs.Runs.{IsNext, with_executions}
 use Rattle.exec_plan.specs.Written.{writes}
-use Rattle.exec_plan.proofs.Following.{any_join, executed_join, holds_join, round_next}
-use Rattle.exec_plan.proofs.Readying.{is_ready, ready_alike}
-use Rattle.exec_plan.proofs.Settling.{present_later, settled}
+use Rattle.exec_plan.proofs.Following.{any_join, executed_join, holds_join}
+use Rattle.exec_plan.proofs.Readying.{is_ready}
 
 or_true : (a b : Bool) → a ≡ true → (a || b) ≡ true
 or_true a b is = ap (λ c. c || b) is
@@ -100,69 +91,3 @@ module _ (b : Books) (executed : List Execution) where
       same : k ≡ h
       same = cc
   covered_at (k ∷ ks) round (suc n) h x at is = covered_at ks (round_add round (ready b executed k)) n h x at is
-
--- ---- what clashes is not ready any more
-
-module _ (b : Books) (before more : List Execution) (h : Held) (x : Execution) where
-  pub clash_rests : Along (IsNext b.opening) before more → list_all (is_made before) (wants_of b.admission h) ≡ true → ready b before h ≡ Some x → list_any (writes more) (written_keys x.gave) ≡ true
-      → ready b (before ++ more) h ≡ None
-  unfolding ready
-  clash_rests along done is clash =
-      ap (λ (p : Option (List Object)). cond (not (is_executed (before ++ more) h.digest) && may_run b h) (ready_on b (before ++ more) h p) None) (present_later b before more h along done)
-      ∙ neither (not (is_executed (before ++ more) h.digest) && may_run b h) (ready_on b (before ++ more) h (present b before h))
-      (go (not (is_executed before h.digest) && may_run b h) (present b before h) is)
-    where
-      neither : (c : Bool) (o : Option Execution) → o ≡ None → cond c o None ≡ None
-      neither true o none = none
-      neither false o none = refl
-
-      writing : (gave : Executed) (w : Bool) → where_true w (executes_as h gave) ≡ Some x → ready_as b (before ++ more) h gave ≡ None
-      writing gave false e = absurd (cc)
-      writing gave true e =
-          ap (λ (held : Bool). where_true (not held && not (repeats key_eq (written_keys gave))) (executes_as h gave))
-          (now_held b.opening before more (written_keys gave) (ap (λ (y : Execution). list_any (writes more) (written_keys y.gave)) same ∙ clash))
-        where
-          same : executes_as h gave ≡ x
-          same = cc
-
-      fitting : (objects : List Object) (f : Bool) → cond f (ready_as b before h (execution h.cert.tx objects)) None ≡ Some x → cond f (ready_as b (before ++ more) h (execution h.cert.tx objects)) None ≡ None
-      fitting objects false e = refl
-      fitting objects true e = writing (execution h.cert.tx objects) (writes_new (versions b.opening before) (written_keys (execution h.cert.tx objects))) e
-
-      go : (c : Bool) (p : Option (List Object)) → cond c (ready_on b before h p) None ≡ Some x → ready_on b (before ++ more) h p ≡ None
-      go false p e = absurd (cc)
-      go true None e = refl
-      go true (Some objects) e = fitting objects (fits h.cert.tx objects) e
-
--- ---- behind a round
-
-abbrev pub round_in : Stored → Admission → List Held → List Execution
-round_in s a held = round_of (books_of s a held) s.executed
-
-module _ (s : Stored) (a : Admission) (held : List Held) (apart : AreApart held) where
-  abbrev b : Books
-  b = books_of s a held
-
-  abbrev round : List Execution
-  round = round_in s a held
-
-  -- a certificate that was not ready, although all that it wants was made, is not ready
-  pub stays_unready : (h : Held) → are_made s.executed a h ≡ true → ready_in s a h ≡ None → ready_in (with_executions s round) a h ≡ None
-  stays_unready h made none =
-      ready_alike (with_executions s round) a held h
-      ∙ settled b s.executed round h (round_next b s.executed apart) made (sym (ready_alike s a held h) ∙ none)
-
-  -- one that the round looked at was executed, or is not ready
-  pub looked_at : (place : ℕ) (h : Held) → slice_get held place ≡ Some h → are_made s.executed a h ≡ true
-      → (is_executed (s.executed ++ round) h.digest ≡ true) ⊎ (ready_in (with_executions s round) a h ≡ None)
-  unfolding round_of
-  looked_at place h at made = go (ready b s.executed h) refl
-    where
-      either : (x : Execution) → ready b s.executed h ≡ Some x → IsCovered round h x → (is_executed (s.executed ++ round) h.digest ≡ true) ⊎ (ready_in (with_executions s round) a h ≡ None)
-      either x e (inl ran) = inl (executed_join s.executed round h.digest ∙ true_or (is_executed s.executed h.digest) (is_executed round h.digest) ran)
-      either x e (inr clash) =
-          inr (ready_alike (with_executions s round) a held h ∙ clash_rests b s.executed round h x (round_next b s.executed apart) made e clash)
-
-      go : (o : Option Execution) → ready b s.executed h ≡ o → (is_executed (s.executed ++ round) h.digest ≡ true) ⊎ (ready_in (with_executions s round) a h ≡ None)
-      go None e = inr (stays_unready h made (ready_alike s a held h ∙ e))
-      go (Some x) e = either x e (covered_at b s.executed held [] place h x at e)

@@ -1,9 +1,9 @@
--- Where held certificates stand, as places are filed, settled and freed.
-use Rattle.std.proofs.Common.{◌≡◌, ℕ, zero, suc, Bool, true, false, cond, not, ◌||◌, List, [], ◌∷◌, ◌++◌, map, length, Option, Some, None, is_some, inl, inr, refl, ap, sym, subst, ◌∙◌, ◌-◌, append-nil, arith}
+-- Where held certificates stand, as places are filed and freed.
+use Rattle.std.proofs.Common.{◌≡◌, ℕ, zero, suc, Bool, true, false, cond, ◌||◌, List, [], ◌∷◌, ◌++◌, map, length, Option, Some, None, inl, inr, refl, ap, sym, subst, ◌∙◌, ◌-◌, arith}
 use Rattle.std.proofs.Math.ListN.{get_or}
 use Rattle.std.specs.List.{list_all}
 use Rattle.std.specs.List.Sorted.{IsStrictlySortedBy}
-use Rattle.std.specs.Prelude.{OnErr, OnOk, Result, Ok, Err, ◌⊎◌, ◌≤◌, drop, find, slice_get, slice_index, take, unwrap_or}
+use Rattle.std.specs.Prelude.{OnErr, OnOk, Result, Ok, Err, ◌⊎◌, ◌≤◌, drop, slice_get, slice_index, take, unwrap_or}
 use Rattle.std.specs.Map.{lookup}
 use Rattle.std.specs.Ordering.{match_ordering, nat_cmp}
 use Rattle.std.specs.declared.cmp.Ordering.{Ordering}
@@ -14,27 +14,21 @@ use Rattle.chain_types.specs.declared.objects.Producer.TheVariants as producers
 use Rattle.answer_types.specs.declared.answers.Held.{Held}
 use Rattle.chain_types.specs.Equal.{digest_eq}
 use Rattle.protocol_spec.specs.Chain.Words.{Has}
-use Rattle.protocol_spec.specs.Member.Versions.{Execution, is_executed}
 use Rattle.protocol_spec.specs.Member.Admission.{Admission}
 use Rattle.protocol_spec.specs.Member.Rounds.{Wanted, left}
 use Rattle.version_store.specs.Stores.{Stored}
 use Rattle.version_store.proofs.Equality.{digest_same, digest_self}
 use Rattle.exec_plan.specs.declared.waiting.Waiting.{Waiting}
 use Rattle.exec_plan.specs.Behind.{Frees, KeepsListed, Lists, StaysListed, is_among, listed}
-use Rattle.exec_plan.specs.Books.{AreApart, books_of, digest_of, is_let, left_in, ready_in}
-use Rattle.exec_plan.specs.Steps.{left_after, round_at}
+use Rattle.exec_plan.specs.Books.{books_of, is_let, left_in}
+use Rattle.exec_plan.specs.Steps.{left_after}
 use Rattle.exec_plan.specs.Makers.{are_made, is_made, producer_in}
-use Rattle.exec_plan.specs.Places.{is_pending, placed, placed_after, settled_after}
-use Rattle.exec_plan.specs.Runs.{with_executions}
-use Rattle.exec_plan.specs.Waits.{Filed, IsBehind, IsFiled, IsWaiting, KeepsPlaces, StoodBefore, was_run, is_unadmitted, comes_next, has_settled, is_behind, is_loose}
-use Rattle.exec_plan.proofs.Clashing.{looked_at, round_in, stays_unready}
-use Rattle.exec_plan.proofs.Following.{executed_join}
-use Rattle.exec_plan.proofs.Growing.{let_grow, ready_grow, still_out, wants_grow}
+use Rattle.exec_plan.specs.Places.{placed}
+use Rattle.exec_plan.specs.Waits.{Filed, IsFiled, IsWaiting, KeepsPlaces, StoodBefore, was_run, is_unadmitted, comes_next, is_behind, is_loose}
+use Rattle.exec_plan.proofs.Growing.{let_grow, still_out, wants_grow}
 use Rattle.exec_plan.proofs.Joined.{tail_is}
 use Rattle.exec_plan.proofs.LeftOver.{executed_stays, left_of_places, unlet_stays}
-use Rattle.exec_plan.proofs.Rounding.{round_of_places}
-use Rattle.exec_plan.proofs.Making.{made_later, makes_not, unmade_rests, unmade_stays}
-use Rattle.exec_plan.proofs.Readying.{executed_rests, unlet_rests}
+use Rattle.exec_plan.proofs.Making.{makes_not, unmade_stays}
 
 -- ---- sets of places
 
@@ -60,32 +54,6 @@ placed_keeps (q ∷ qs) p k has = go (nat_cmp p q) has (placed_keeps qs p k)
     go Equal has more = has
     go Greater has more = behind more has
 
-pub after_keeps : (places set : List ℕ) (k : ℕ) → Has set k → Has (placed_after set places) k
-after_keeps [] set k has = has
-after_keeps (p ∷ ps) set k has = after_keeps ps (placed set p) k (placed_keeps set p k has)
-
-pub after_has : (places set : List ℕ) (k : ℕ) → Has places k → Has (placed_after set places) k
-after_has [] set k has = absurd has
-after_has (p ∷ ps) set k (inl is) = after_keeps ps (placed set p) k (subst (Has (placed set p)) is (placed_has set p))
-after_has (p ∷ ps) set k (inr has) = after_has ps (placed set p) k has
-
-module _ (executed : List Execution) (held : List Held) where
-  one_settles : (b : Bool) (set : List ℕ) (p k : ℕ) → Has set k → Has (cond b (placed set p) set) k
-  one_settles true set p k has = placed_keeps set p k has
-  one_settles false set p k has = has
-
-  settled_keeps : (places set : List ℕ) (k : ℕ) → Has set k → Has (settled_after executed held set places) k
-  settled_keeps [] set k has = has
-  settled_keeps (p ∷ ps) set k has =
-      settled_keeps ps (cond (is_pending executed (slice_get held p)) (placed set p) set) k (one_settles (is_pending executed (slice_get held p)) set p k has)
-
-  settled_has : (places set : List ℕ) (k : ℕ) → Has places k → is_pending executed (slice_get held k) ≡ true → Has (settled_after executed held set places) k
-  settled_has [] set k has pending = absurd has
-  settled_has (p ∷ ps) set k (inl is) pending =
-      settled_keeps ps (cond (is_pending executed (slice_get held p)) (placed set p) set) k
-      (subst (λ (b : Bool). Has (cond b (placed set p) set) k) (sym (ap (λ n. is_pending executed (slice_get held n)) is ∙ pending)) (subst (Has (placed set p)) is (placed_has set p)))
-  settled_has (p ∷ ps) set k (inr has) pending = settled_has ps (cond (is_pending executed (slice_get held p)) (placed set p) set) k has pending
-
 -- ---- what stands where
 
 -- what is kept stays
@@ -93,7 +61,6 @@ pub filed_kept : (s : Stored) (a : Admission) (loose : List ℕ) (old new : Wait
 filed_kept s a loose old new place h kept (was_run is) = was_run is
 filed_kept s a loose old new place h kept (is_unadmitted out has) = is_unadmitted out (kept.unadmitted h.digest place has)
 filed_kept s a loose old new place h kept (comes_next may has made) = comes_next may (kept.next place has) made
-filed_kept s a loose old new place h kept (has_settled may has made none) = has_settled may (kept.settled place has) made none
 filed_kept s a loose old new place h kept (is_behind may b) = is_behind may (record { maker = b.maker; listed = kept.listed b.maker place b.listed; makes = b.makes; first = b.first })
 filed_kept s a loose old new place h kept (is_loose has) = is_loose has
 
@@ -125,7 +92,6 @@ one_filed s a held p ps old new kept here filed = record { at = λ place h is. g
     more n h (was_run is) = was_run is
     more n h (is_unadmitted out has) = is_unadmitted out has
     more n h (comes_next may has made) = comes_next may has made
-    more n h (has_settled may has made none) = has_settled may has made none
     more n h (is_behind may b) = is_behind may b
     more n h (is_loose has) = absurd has
 
@@ -133,7 +99,6 @@ one_filed s a held p ps old new kept here filed = record { at = λ place h is. g
     go place h at (was_run is) = was_run is
     go place h at (is_unadmitted out has) = is_unadmitted out has
     go place h at (comes_next may has made) = comes_next may has made
-    go place h at (has_settled may has made none) = has_settled may has made none
     go place h at (is_behind may b) = is_behind may b
     go place h at (is_loose (inl is)) = subst (λ n. Filed s a ps new n h) is (more p h (here h (ap (slice_get held) is ∙ at)))
     go place h at (is_loose (inr has)) = is_loose has
@@ -145,69 +110,12 @@ pub front_filed : (s : Stored) (a : Admission) (held : List Held) (rest : List �
 front_filed s a held [] old new kept here some filed = absurd (omega (arith, some))
 front_filed s a held (p ∷ ps) old new kept here some filed = subst (λ (qs : List ℕ). IsFiled s a qs held new) (sym (tail_is p ps)) (one_filed s a held p ps old new kept here filed)
 
--- ---- behind a round
-
-ran_among : (round : List Execution) (tx : Digest) → is_among (map digest_of round) tx ≡ is_executed round tx
-ran_among [] tx = refl
-ran_among (x ∷ xs) tx = go (digest_eq x.digest tx) (ran_among xs tx)
-  where
-    go : (b : Bool) → is_among (map digest_of xs) tx ≡ is_executed xs tx → (b || is_among (map digest_of xs) tx) ≡ is_some (cond b (Some x) (find (λ (y : Execution). digest_eq y.digest tx) xs))
-    go true rest = refl
-    go false rest = rest
-
-module _ (s : Stored) (a : Admission) (held : List Held) (apart : AreApart held) (old mid new : Waiting) (freed : List ℕ) where
-  abbrev round : List Execution
-  round = round_in s a held
-
-  abbrev after : Stored
-  after = with_executions s round
-
-  settles : (place : ℕ) (h : Held) → slice_get held place ≡ Some h → is_let a h ≡ true → Has old.next.keys place → are_made s.executed a h ≡ true
-      → new.settled.keys ≡ settled_after after.executed held old.settled.keys old.next.keys
-      → (is_executed after.executed h.digest ≡ true) ⊎ (ready_in after a h ≡ None) → Filed after a freed new place h
-  settles place h at may has made is (inl ran) = was_run ran
-  settles place h at may has made is (inr none) = go (is_executed after.executed h.digest) refl
-    where
-      go : (b : Bool) → is_executed after.executed h.digest ≡ b → Filed after a freed new place h
-      go true ran = was_run ran
-      go false first =
-          has_settled may
-          (subst (λ ks. Has ks place) (sym is) (settled_has after.executed held old.next.keys old.settled.keys place has (ap (is_pending after.executed) at ∙ ap not first)))
-          (made_later s.executed round a h made) none
-
-  still_behind : (place : ℕ) (h : Held) → is_let a h ≡ true → (b : IsBehind s.executed a old place h) → Has freed place ⊎ StaysListed new.behind.entries [] (map digest_of round) b.maker place
-      → Filed after a freed new place h
-  still_behind place h may b (inl has) = is_loose has
-  still_behind place h may b (inr stays) = is_behind may (record {
-    maker = b.maker;
-    listed = stays.listed;
-    makes = b.makes;
-    first = executed_join s.executed round b.maker ∙ ap (λ c. c || is_executed round b.maker) b.first ∙ sym (ran_among round b.maker) ∙ stays.out;
-  })
-
-  pub passed : IsWaiting s a held old → mid.settled.keys ≡ settled_after after.executed held old.settled.keys old.next.keys → mid.unadmitted.entries ≡ old.unadmitted.entries → mid.behind.entries ≡ old.behind.entries
-      → new.settled.keys ≡ mid.settled.keys → new.unadmitted.entries ≡ mid.unadmitted.entries → Frees mid.behind.entries new.behind.entries freed [] (map digest_of round) → IsFiled after a freed held new
-  passed filed settled out same kept still frees = record { at = λ place h at. go place h at (filed.at place h at) }
-    where
-      is : new.settled.keys ≡ settled_after after.executed held old.settled.keys old.next.keys
-      is = kept ∙ settled
-
-      go : (place : ℕ) (h : Held) → slice_get held place ≡ Some h → Filed s a [] old place h → Filed after a freed new place h
-      go place h at (was_run ran) = was_run (executed_join s.executed round h.digest ∙ ap (λ c. c || is_executed round h.digest) ran)
-      go place h at (is_unadmitted unlet has) = is_unadmitted unlet (subst (λ (ls : Lists). Has (listed ls h.digest) place) (sym (still ∙ out)) has)
-      go place h at (comes_next may has made) = settles place h at may has made is (looked_at s a held apart place h at made)
-      go place h at (has_settled may has made none) =
-          has_settled may (subst (λ ks. Has ks place) (sym is) (settled_keeps after.executed held old.next.keys old.settled.keys place has))
-          (made_later s.executed round a h made) (stays_unready s a held apart h made none)
-      go place h at (is_behind may b) = still_behind place h may b (frees.at b.maker place (subst (λ (ls : Lists). Has (listed ls b.maker) place) (sym same) b.listed))
-      go place h at (is_loose has) = absurd has
-
 -- ---- behind an admission
 
 -- the places of the newly admitted are to be filed, and all else stands where it stood
 pub woken : (s : Stored) (after : Admission) (txs : List Digest) (held : List Held) (old new : Waiting) (freed : List ℕ) → StoodBefore s after txs held old → new.next.keys ≡ old.next.keys
-    → new.settled.keys ≡ old.settled.keys → new.behind.entries ≡ old.behind.entries → Frees old.unadmitted.entries new.unadmitted.entries freed [] txs → IsFiled s after freed held new
-woken s after txs held old new freed stood next settled behind frees = record { at = λ place h at. go place h (stood.waits.at place h at) }
+    → new.behind.entries ≡ old.behind.entries → Frees old.unadmitted.entries new.unadmitted.entries freed [] txs → IsFiled s after freed held new
+woken s after txs held old new freed stood next behind frees = record { at = λ place h at. go place h (stood.waits.at place h at) }
   where
     out : (place : ℕ) (h : Held) → is_let stood.before h ≡ false → Has freed place ⊎ StaysListed new.unadmitted.entries [] txs h.digest place → Filed s after freed new place h
     out place h unlet (inl has) = is_loose has
@@ -221,9 +129,6 @@ woken s after txs held old new freed stood next settled behind frees = record { 
     go place h (is_unadmitted unlet has) = out place h unlet (frees.at h.digest place has)
     go place h (comes_next may has is) =
         comes_next (let_grow stood.before after txs stood.admits h may) (subst (λ ks. Has ks place) (sym next) has) (made h may is)
-    go place h (has_settled may has is none) =
-        has_settled (let_grow stood.before after txs stood.admits h may) (subst (λ ks. Has ks place) (sym settled) has) (made h may is)
-        (ready_grow stood.before after txs stood.admits s h may ∙ none)
     go place h (is_behind may b) = is_behind (let_grow stood.before after txs stood.admits h may) (record {
       maker = b.maker;
       listed = subst (λ (ls : Lists). Has (listed ls b.maker) place) (sym behind) b.listed;
@@ -232,31 +137,17 @@ woken s after txs held old new freed stood next settled behind frees = record { 
     })
     go place h (is_loose has) = absurd has
 
--- ---- what a round and the rest look at
-
--- a certificate that the next round does not look at is not ready
-pub next_or_rests : (s : Stored) (a : Admission) (held : List Held) (w : Waiting) → IsWaiting s a held w → (place : ℕ) (h : Held) → slice_get held place ≡ Some h
-    → Has w.next.keys place ⊎ (ready_in s a h ≡ None)
-next_or_rests s a held w filed place h at = go (filed.at place h at)
-  where
-    go : Filed s a [] w place h → Has w.next.keys place ⊎ (ready_in s a h ≡ None)
-    go (was_run ran) = inr (executed_rests (books_of s a []) s.executed h ran)
-    go (is_unadmitted unlet has) = inr (unlet_rests s a h unlet)
-    go (comes_next may has made) = inl has
-    go (has_settled may has made none) = inr none
-    go (is_behind may b) = inr (unmade_rests s a h (makes_not s.executed a h b.maker b.makes b.first))
-    go (is_loose has) = absurd has
+-- ---- what a run leaves
 
 -- one that waits for a transaction, or is executed, is not left
 pub open_or_stays : (s : Stored) (a : Admission) (held : List Held) (w : Waiting) → IsWaiting s a held w → (place : ℕ) (h : Held) → slice_get held place ≡ Some h
-    → Has (placed_after (placed_after [] w.settled.keys) w.next.keys) place ⊎ (left_in s a h ≡ None)
+    → Has w.next.keys place ⊎ (left_in s a h ≡ None)
 open_or_stays s a held w filed place h at = go (filed.at place h at)
   where
-    go : Filed s a [] w place h → Has (placed_after (placed_after [] w.settled.keys) w.next.keys) place ⊎ (left_in s a h ≡ None)
+    go : Filed s a [] w place h → Has w.next.keys place ⊎ (left_in s a h ≡ None)
     go (was_run ran) = inr (executed_stays s a h ran)
     go (is_unadmitted unlet has) = inr (unlet_stays s a h unlet)
-    go (comes_next may has made) = inl (after_has w.next.keys (placed_after [] w.settled.keys) place has)
-    go (has_settled may has made none) = inl (after_keeps w.next.keys (placed_after [] w.settled.keys) place (after_has w.settled.keys [] place has))
+    go (comes_next may has made) = inl has
     go (is_behind may b) = inr (unmade_stays s a h (makes_not s.executed a h b.maker b.makes b.first))
     go (is_loose has) = absurd has
 
@@ -329,13 +220,6 @@ front_freed old mid new freed more d [] all some frees is others = absurd (omega
 front_freed old mid new freed more d (y ∷ ys) all some frees is others =
     subst (λ (ds : List Digest). Frees old new more ds all) (sym (tail_is y ys)) (one_freed old mid new freed more y ys all frees is others)
 
--- of an admission, what is admitted counts alone
-pub waits_alike : (s : Stored) (before after : Admission) (held : List Held) (w : Waiting) → after.admitted ≡ before.admitted → IsWaiting s before held w → IsWaiting s after held w
-waits_alike s before after held w same filed =
-    woken s after [] held w w []
-    (record { before = before; admits = record { more = []; admitted = same ∙ sym (append-nil before.admitted); named = refl }; waits = filed })
-    refl refl refl (none_freed w.unadmitted.entries [])
-
 -- ---- the calls
 
 pub nothing_waits : (s : Stored) (a : Admission) (w : Waiting) → IsWaiting s a [] w
@@ -348,23 +232,7 @@ pub on_err : {T E P : Type 0} → (r : Result T E) → P → OnErr r P
 on_err (Ok x) p = tt
 on_err (Err e) p = p
 
--- the round of the places that come next
-pub round_now : (s : Stored) (a : Admission) (held : List Held) (w : Waiting) (places : List ℕ) (ran : List Execution) → IsWaiting s a held w → IsStrictlySortedBy nat_cmp w.next.keys → places ≡ w.next.keys
-    → ran ≡ round_at s a held [] places → ran ≡ round_in s a held
-round_now s a held w places ran filed sorted same is = is ∙ ap (round_at s a held []) same ∙ round_of_places s a held w.next.keys sorted (next_or_rests s a held w filed)
-
 -- those left of the places that wait for nothing
-pub left_now : (s : Stored) (a : Admission) (held : List Held) (w : Waiting) (places : List ℕ) → IsWaiting s a held w → IsStrictlySortedBy nat_cmp places → places ≡ placed_after (placed_after [] w.settled.keys) w.next.keys
+pub left_now : (s : Stored) (a : Admission) (held : List Held) (w : Waiting) (places : List ℕ) → IsWaiting s a held w → IsStrictlySortedBy nat_cmp places → places ≡ w.next.keys
     → left_after s a held [] places ≡ left (books_of s a held) s.executed
 left_now s a held w places filed sorted same = left_of_places s a held places sorted (λ i h at. subst (λ ps. Has ps i ⊎ (left_in s a h ≡ None)) (sym same) (open_or_stays s a held w filed i h at))
-
--- where all stands behind a round that was written, settled and freed
-pub passes : (s t : Stored) (a : Admission) (held : List Held) → AreApart held → (old mid new : Waiting) (places freed loose : List ℕ) (txs : List Digest) → IsWaiting s a held old
-    → t ≡ with_executions s (round_in s a held) → places ≡ old.next.keys → mid.settled.keys ≡ settled_after t.executed held old.settled.keys places → mid.unadmitted.entries ≡ old.unadmitted.entries
-    → mid.behind.entries ≡ old.behind.entries → new.settled.keys ≡ mid.settled.keys → new.unadmitted.entries ≡ mid.unadmitted.entries → txs ≡ map digest_of (round_in s a held)
-    → Frees mid.behind.entries new.behind.entries freed [] txs → loose ≡ freed → IsFiled t a loose held new
-passes s t a held apart old mid new places freed loose txs filed written looked settled out same kept still ran frees taken =
-    subst (λ (ps : List ℕ). IsFiled t a ps held new) (sym taken) (subst (λ (u : Stored). IsFiled u a freed held new) (sym written)
-    (passed s a held apart old mid new freed filed
-    (settled ∙ ap (λ (u : Stored). settled_after u.executed held old.settled.keys places) written ∙ ap (settled_after (with_executions s (round_in s a held)).executed held old.settled.keys) looked)
-    out same kept still (subst (λ (ds : List Digest). Frees mid.behind.entries new.behind.entries freed [] ds) ran frees)))

@@ -1,5 +1,5 @@
 -- The members of a round, one after the other, can each be executed behind those before it.
-use Rattle.std.proofs.Common.{◌≡◌, Bool, true, false, cond, not, ◌&&◌, ◌||◌, List, [], ◌∷◌, ◌++◌, map, Option, Some, None, is_some, refl, ap, sym, ◌∙◌, append_assoc}
+use Rattle.std.proofs.Common.{◌≡◌, Bool, true, false, cond, not, ◌&&◌, ◌||◌, List, [], ◌∷◌, ◌++◌, map, Some, is_some, refl, ap, sym, ◌∙◌, append_assoc}
 use Rattle.std.specs.Prelude.{find, flat_map}
 use Rattle.std.specs.List.{list_any}
 use Rattle.std.proofs.lemmas.Grind.{flat_map-append}
@@ -8,18 +8,15 @@ use Rattle.chain_types.specs.declared.objects.Object.{Object}
 use Rattle.chain_types.specs.declared.objects.ObjectKey.{ObjectKey}
 use Rattle.answer_types.specs.declared.answers.Held.{Held}
 use Rattle.chain_types.specs.Equal.{digest_eq, key_eq}
-use Rattle.protocol_spec.specs.Chain.Words.{Along, Each, repeats}
+use Rattle.protocol_spec.specs.Chain.Words.{Each, repeats}
 use Rattle.protocol_spec.specs.Chain.Tests.{has_key}
 use Rattle.protocol_spec.specs.Chain.Keys.{object_key}
-use Rattle.protocol_spec.proofs.ListLemmas.{along-push, and-first, and-second, not-true, or-first, or-second}
+use Rattle.protocol_spec.proofs.ListLemmas.{and-first, and-second, not-true, or-first, or-second}
 use Rattle.protocol_spec.specs.Block.Execution.{written_keys}
 use Rattle.protocol_spec.specs.Member.Versions.{Execution, Version, is_executed, opened, versions, written, written_by}
-use Rattle.protocol_spec.specs.Member.Rounds.{Books, clashes, holds_key, ready, round_add, round_among, round_of, writes_new}
+use Rattle.protocol_spec.specs.Member.Rounds.{holds_key, writes_new}
 use Rattle.version_store.proofs.Equality.{key_same, key_self, turn}
-use Rattle.exec_plan.specs.Books.{AreApart, digest_of_held}
-use Rattle.exec_plan.specs.Runs.{IsNext}
 use Rattle.exec_plan.specs.Written.{writes}
-use Rattle.exec_plan.proofs.Readying.{IsReady, is_ready}
 
 -- ---- tests of lists that are joined
 
@@ -89,54 +86,6 @@ still_new opening before more keys new none =
     (ap not (none_held opening before more keys (not-true (list_any (holds_key (versions opening before)) keys) (and-first (not (list_any (holds_key (versions opening before)) keys)) (not (repeats key_eq keys)) new)) none))
     (and-second (not (list_any (holds_key (versions opening before)) keys)) (not (repeats key_eq keys)) new)
 
--- ---- a round
-
-module _ (b : Books) (executed : List Execution) where
-  abbrev Next : List Execution → Execution → Type 0
-  Next = IsNext b.opening
-
-  -- none of these certificates is a member of the round
-  abbrev AreOut : List Execution → List Held → Type 0
-  AreOut round hs = Each (λ (h : Held). is_executed round h.digest ≡ false) hs
-
-  -- one more member, which is none of those that come later
-  out_more : (round : List Execution) (x : Execution) (hs : List Held) → list_any (digest_eq x.digest) (map digest_of_held hs) ≡ false → AreOut round hs → AreOut (round ++ x ∷ []) hs
-  out_more round x [] apart out = tt
-  out_more round x (h ∷ hs) apart out = (
-    executed_join round (x ∷ []) h.digest
-        ∙ both_false (is_executed round h.digest) (is_executed (x ∷ []) h.digest) out.0
-        (ap (λ c. is_some (cond c (Some x) None)) (or-first (digest_eq x.digest h.digest) (list_any (digest_eq x.digest) (map digest_of_held hs)) apart)),
-    out_more round x hs (or-second (digest_eq x.digest h.digest) (list_any (digest_eq x.digest) (map digest_of_held hs)) apart) out.1,
-  )
-
-  -- one more certificate, which may become a member
-  step_follows : (h : Held) (hs : List Held) (round : List Execution) → AreApart (h ∷ hs) → AreOut round (h ∷ hs) → Along Next executed round → (o : Option Execution) → ready b executed h ≡ o
-      → AreOut (round_add round o) hs × Along Next executed (round_add round o)
-  step_follows h hs round apart out along None is = (out.1, along)
-  step_follows h hs round apart out along (Some x) is = joins (is_ready b executed h x is) (clashes round x) refl
-    where
-      joins : IsReady b executed h x → (c : Bool) → clashes round x ≡ c → AreOut (cond c round (round ++ x ∷ [])) hs × Along Next executed (cond c round (round ++ x ∷ []))
-      joins at true clash = (out.1, along)
-      joins at false clash = (
-        out_more round x hs (ap (λ d. list_any (digest_eq d) (map digest_of_held hs)) at.named ∙ or-first (list_any (digest_eq h.digest) (map digest_of_held hs)) (repeats digest_eq (map digest_of_held hs)) apart) out.1,
-        along-push Next executed round x along (
-          executed_join executed round x.digest
-              ∙ both_false (is_executed executed x.digest) (is_executed round x.digest) (ap (is_executed executed) at.named ∙ at.first) (ap (is_executed round) at.named ∙ out.0),
-          still_new b.opening executed round (written_keys x.gave) at.new clash,
-        ),
-      )
-
-  round_follows : (hs : List Held) (round : List Execution) → AreApart hs → AreOut round hs → Along Next executed round → Along Next executed (round_among b executed round hs)
-  round_follows [] round apart out along = along
-  round_follows (h ∷ hs) round apart out along =
-      let step : AreOut (round_add round (ready b executed h)) hs × Along Next executed (round_add round (ready b executed h)) = step_follows h hs round apart out along (ready b executed h) refl in
-      round_follows hs (round_add round (ready b executed h)) (or-second (list_any (digest_eq h.digest) (map digest_of_held hs)) (repeats digest_eq (map digest_of_held hs)) apart) step.0 step.1
-
 pub none_out : (hs : List Held) → Each (λ (h : Held). is_executed [] h.digest ≡ false) hs
 none_out [] = tt
 none_out (h ∷ hs) = (refl, none_out hs)
-
--- the executions of a round can be written one after the other
-pub round_next : (b : Books) (executed : List Execution) → AreApart b.held → Along (IsNext b.opening) executed (round_of b executed)
-unfolding round_of
-round_next b executed apart = round_follows b executed b.held [] apart (none_out b.held) tt

@@ -1,5 +1,5 @@
 -- What more admitted transactions change: nothing for a certificate that may run already.
-use Rattle.std.proofs.Common.{◌≡◌, ℕ, zero, suc, Bool, true, false, cond, not, ◌&&◌, ◌||◌, List, [], ◌∷◌, ◌++◌, map, length, Option, Some, None, is_some, refl, ap, sym, subst, ◌∙◌, append_assoc, append-nil}
+use Rattle.std.proofs.Common.{◌≡◌, ℕ, zero, suc, Bool, true, false, cond, not, ◌||◌, List, [], ◌∷◌, ◌++◌, map, length, Option, Some, None, is_some, refl, ap, sym, subst, ◌∙◌, append_assoc, append-nil}
 use Rattle.std.specs.Prelude.{drop, filter, find, option_map, zip}
 use Rattle.std.specs.List.{list_any}
 use Rattle.digest_core.specs.declared.Digest.{Digest}
@@ -11,14 +11,12 @@ use Rattle.chain_types.specs.Digests.{is_object}
 use Rattle.chain_types.specs.Equal.{digest_eq}
 use Rattle.answer_types.specs.declared.answers.Assigned.{Assigned}
 use Rattle.answer_types.specs.declared.answers.Held.{Held}
-use Rattle.protocol_spec.specs.Chain.Words.{all_some}
 use Rattle.protocol_spec.specs.Chain.Keys.{has_shared_input, is_shared_input, objects_of}
-use Rattle.protocol_spec.specs.Member.Versions.{Execution, is_executed, versions}
 use Rattle.protocol_spec.specs.Member.Admission.{Admission, Admitted, admit, assigned_in, assigned_of, digest_of_admitted, entered, is_admitted, is_dropped, is_free, joined_inputs, passed_mark, take_free, taken, taken_as, taken_next}
-use Rattle.protocol_spec.specs.Member.Rounds.{Wanted, found, present, ready, ready_on, wanted_by, wants_of}
+use Rattle.protocol_spec.specs.Member.Rounds.{wanted_by, wants_of}
 use Rattle.version_store.specs.Stores.{Stored}
 use Rattle.exec_plan.specs.Behind.{is_among}
-use Rattle.exec_plan.specs.Books.{books_of, is_let, ready_in}
+use Rattle.exec_plan.specs.Books.{is_let}
 use Rattle.version_assign.specs.Calls.{Admitting, admitted_since, with_entry, with_mark}
 use Rattle.exec_plan.specs.declared.waiting.Waiting.{Waiting}
 use Rattle.exec_plan.specs.Waits.{Admits, IsWaiting, StoodBefore}
@@ -120,17 +118,6 @@ module _ (before after : Admission) (txs : List Digest) (admits : Admits before 
       go false none d there e = owned h.cert.tx h.cert.origins (assigned_of after h.digest) (assigned_of before h.digest) none
       go true some true there e = ap (λ (assigned : Option (List Assigned)). map (wanted_by assigned) (joined_inputs h.cert)) (assigned_grow h.digest there)
       go true some false there e = absurd (cc)
-
-  -- so what it gives stays
-  pub ready_grow : (s : Stored) (h : Held) → is_let before h ≡ true → ready_in s after h ≡ ready_in s before h
-  unfolding ready present
-  ready_grow s h may =
-      ap (λ m. gives m (wants_of after h)) (let_grow h may ∙ sym may)
-      ∙ ap (λ ws. gives (is_let before h) ws) (wants_grow h may)
-    where
-      gives : Bool → List Wanted → Option Execution
-      gives m ws =
-          cond (not (is_executed s.executed h.digest) && m) (ready_on (books_of s before []) s.executed h (all_some (map (found (versions s.opening s.executed)) ws))) None
 
 -- ---- what an entry and a mark admit
 

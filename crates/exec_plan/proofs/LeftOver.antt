@@ -61,7 +61,7 @@ module _ (s : Stored) (a : Admission) (all : List Held) where
   none_left (p ∷ ps) acc far = ap (λ (o : Option Held). left_after s a all (left_add acc (left_of s a o)) ps) (at_none all p far.0) ∙ none_left ps acc far.1
 
   picks_left : (places : List ℕ) (hs front : List Held) (acc : List Left) → all ≡ front ++ hs → Picks Stays (length front) places hs → left_after s a all acc places ≡ acc ++ left_of_all hs
-  picks_left places [] front acc is picks = none_left places acc (all_far s a all places front is picks) ∙ sym (append-nil acc)
+  picks_left places [] front acc is picks = none_left places acc (all_far all places front is picks) ∙ sym (append-nil acc)
   picks_left [] (h ∷ hs) front acc is picks =
       picks_left [] hs (front ++ h ∷ []) acc (is ∙ sym (append_assoc front (h ∷ []) hs)) (subst (λ n. Picks Stays n [] hs) (sym (longer front h)) picks.1)
       ∙ stays acc h hs picks.0

@@ -9,8 +9,6 @@ pub mod Settling
 pub mod Making
 pub mod Clashing
 pub mod Filing
-pub mod Writers
-pub mod Repeating
 pub mod Layering
 pub mod Linking
 pub mod Carrying

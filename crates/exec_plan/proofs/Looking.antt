@@ -26,10 +26,10 @@ use Rattle.exec_plan.specs.Drafts.{picked}
 use Rattle.exec_plan.specs.Layers.{is_maker_planned, is_planned, is_supplied, joins_layer, layer_of, layers_within, planned_of}
 use Rattle.exec_plan.specs.Makers.{are_made, is_made}
 use Rattle.exec_plan.specs.Past.{as_if, empty_execution}
-use Rattle.exec_plan.specs.Places.{Picks, placed_after}
+use Rattle.exec_plan.specs.Places.{Picks}
 use Rattle.exec_plan.specs.Runs.{with_executions}
-use Rattle.exec_plan.specs.Waits.{Filed, IsBehind, IsFiled, IsWaiting, comes_next, has_settled, is_behind, is_loose, is_unadmitted, was_run}
-use Rattle.exec_plan.proofs.Filing.{after_has, after_keeps, join_first, join_second}
+use Rattle.exec_plan.specs.Waits.{Filed, IsBehind, IsFiled, IsWaiting, comes_next, is_behind, is_loose, is_unadmitted, was_run}
+use Rattle.exec_plan.proofs.Filing.{join_first, join_second}
 use Rattle.exec_plan.proofs.Following.{any_join, executed_join}
 use Rattle.exec_plan.proofs.Layering.{clash, either_true, is_picked, planned_join, true_left, true_right}
 use Rattle.exec_plan.proofs.Joined.{tail_is}
@@ -167,7 +167,7 @@ module _ (s : Stored) (a : Admission) (all : List Held) where
       go false = refl
 
   picks_layer : (places : List ℕ) (hs front : List Held) → all ≡ front ++ hs → Picks Rests (length front) places hs → layer_in places ≡ filter (joins_now s a) hs
-  picks_layer places [] front is picks = none_there places (all_far s a all places front is picks)
+  picks_layer places [] front is picks = none_there places (all_far all places front is picks)
   picks_layer [] (h ∷ hs) front is picks =
       picks_layer [] hs (front ++ h ∷ []) (is ∙ sym (append_assoc front (h ∷ []) hs)) (subst (λ n. Picks Rests n [] hs) (sym (longer front h)) picks.1)
       ∙ sym (rests h hs picks.0)
@@ -194,25 +194,21 @@ module _ (s : Stored) (a : Admission) (all : List Held) where
 
   -- ---- who waits for nothing
 
-  abbrev open_of : Waiting → List ℕ
-  open_of w = placed_after (placed_after [] w.settled.keys) w.next.keys
-
-  open_or_rests : (w : Waiting) → IsWaiting s a all w → (place : ℕ) (h : Held) → slice_get all place ≡ Some h → Has (open_of w) place ⊎ (joins_now s a h ≡ false)
+  open_or_rests : (w : Waiting) → IsWaiting s a all w → (place : ℕ) (h : Held) → slice_get all place ≡ Some h → Has w.next.keys place ⊎ (joins_now s a h ≡ false)
   open_or_rests w filed place h at = go (filed.at place h at)
     where
       and_false : (b : Bool) → (b && false) ≡ false
       and_false true = refl
       and_false false = refl
 
-      go : Filed s a [] w place h → Has (open_of w) place ⊎ (joins_now s a h ≡ false)
+      go : Filed s a [] w place h → Has w.next.keys place ⊎ (joins_now s a h ≡ false)
       go (was_run ran) = inr (ap (λ c. not c && is_let a h && are_made s.executed a h) ran)
       go (is_unadmitted unlet has) = inr (ap (λ c. not (is_executed s.executed h.digest) && c && are_made s.executed a h) unlet ∙ either (not (is_executed s.executed h.digest)) (are_made s.executed a h))
         where
           either : (b c : Bool) → (b && false && c) ≡ false
           either true c = refl
           either false c = refl
-      go (comes_next may has made) = inl (after_has w.next.keys (placed_after [] w.settled.keys) place has)
-      go (has_settled may has made none) = inl (after_keeps w.next.keys (placed_after [] w.settled.keys) place (after_has w.settled.keys [] place has))
+      go (comes_next may has made) = inl has
       go (is_behind may b) =
           inr (ap (λ c. not (is_executed s.executed h.digest) && is_let a h && c) (makes_not s.executed a h b.maker b.makes b.first) ∙ either (not (is_executed s.executed h.digest)) (is_let a h))
         where
@@ -222,7 +218,7 @@ module _ (s : Stored) (a : Admission) (all : List Held) where
           either false c = refl
       go (is_loose has) = absurd has
 
-  pub layer_now : (w : Waiting) (places : List ℕ) → IsWaiting s a all w → IsStrictlySortedBy nat_cmp places → places ≡ open_of w → picked all (layer_places s a all places) ≡ filter (joins_now s a) all
+  pub layer_now : (w : Waiting) (places : List ℕ) → IsWaiting s a all w → IsStrictlySortedBy nat_cmp places → places ≡ w.next.keys → picked all (layer_places s a all places) ≡ filter (joins_now s a) all
   layer_now w places filed sorted same = layer_of_places places sorted (λ i h at. subst (λ ps. Has ps i ⊎ (joins_now s a h ≡ false)) (sym same) (open_or_rests w filed i h at))
 
 -- ---- the loop over a layer
@@ -318,15 +314,14 @@ module _ (s : Stored) (a : Admission) (held : List Held) (txs : List Digest) whe
       go place h at (was_run ran) = was_run (known_more h.digest ∙ true_left (is_executed before.executed h.digest) (list_any (digest_eq h.digest) names) ran)
       go place h at (is_unadmitted unlet has) = is_unadmitted unlet (subst (λ (ls : Lists). Has (listed ls h.digest) place) (sym (still ∙ out)) has)
       go place h at (comes_next may has made) = was_run (run_or_joins place h at may made)
-      go place h at (has_settled may has made none) = was_run (run_or_joins place h at may made)
       go place h at (is_behind may b) = waits place h may b (frees.at b.maker place (subst (λ (ls : Lists). Has (listed ls b.maker) place) (sym same) b.listed))
       go place h at (is_loose has) = absurd has
 
   -- the places of the layer were taken
-  pub layer_taken : AreApart held → (old : Waiting) (taken looked : List ℕ) → IsWaiting before a held old → looked ≡ open_of before a held old → AreTaken held txs taken → AreTaken held more (taken ++ looked)
+  pub layer_taken : AreApart held → (old : Waiting) (taken looked : List ℕ) → IsWaiting before a held old → looked ≡ old.next.keys → AreTaken held txs taken → AreTaken held more (taken ++ looked)
   layer_taken apart old taken looked filed is were place h at named = either (either_true (list_any (digest_eq h.digest) txs) (list_any (digest_eq h.digest) names) (sym (all_named names txs h.digest) ∙ named))
     where
-      opened : Has (open_of before a held old) place ⊎ (joins_now before a h ≡ false) → joins_now before a h ≡ true → Has (taken ++ looked) place
+      opened : Has old.next.keys place ⊎ (joins_now before a h ≡ false) → joins_now before a h ≡ true → Has (taken ++ looked) place
       opened (inl has) joined = join_second taken looked place (subst (λ ps. Has ps place) (sym is) has)
       opened (inr out) joined = absurd (clash joined out)
 
@@ -342,7 +337,7 @@ picked_join held xs ys = filter_map-append (slice_get held) xs ys
 -- ---- what the calls for a layer say
 
 pub layer_found : (s : Stored) (a : Admission) (held : List Held) (w : Waiting) (past : Stored) (looked sliced layer : List ℕ) → past ≡ s → sliced ≡ looked → layer ≡ layer_places past a held sliced → IsWaiting s a held w
-    → IsStrictlySortedBy nat_cmp looked → looked ≡ open_of s a held w → picked held layer ≡ joining s a held
+    → IsStrictlySortedBy nat_cmp looked → looked ≡ w.next.keys → picked held layer ≡ joining s a held
 layer_found s a held w past looked sliced places is same found filed sorted opened =
     ap (picked held) (found ∙ ap (λ (t : Stored). layer_places t a held sliced) is ∙ ap (layer_places s a held) same)
     ∙ layer_now s a held w looked filed sorted opened
@@ -419,7 +414,7 @@ module _ (s : Stored) (a : Admission) (held : List Held) where
   -- ---- behind a plan
 
   pub parks : (txs : List Digest) (planned : List Held) (old new : Waiting) (taken looked all : List ℕ) → Agrees txs planned → IsWaiting (as_if txs s) a held old → AreTaken held txs taken
-      → looked ≡ open_of (as_if txs s) a held old → new.unadmitted.entries ≡ old.unadmitted.entries → new.behind.entries ≡ old.behind.entries → all ≡ taken ++ looked → AreParked s a planned all held new
+      → looked ≡ old.next.keys → new.unadmitted.entries ≡ old.unadmitted.entries → new.behind.entries ≡ old.behind.entries → all ≡ taken ++ looked → AreParked s a planned all held new
   parks txs planned old new taken looked all agrees filed were opened out same is = record { at = λ place h at. subst (λ ps. Parked s a planned ps new place h) (sym is) (go place h at (filed.at place h at)) }
     where
       ran : (place : ℕ) (h : Held) → slice_get held place ≡ Some h → (list_any (digest_eq h.digest) txs ≡ true) ⊎ (is_executed s.executed h.digest ≡ true) → Parked s a planned (taken ++ looked) new place h
@@ -437,9 +432,7 @@ module _ (s : Stored) (a : Admission) (held : List Held) where
       go : (place : ℕ) (h : Held) → slice_get held place ≡ Some h → Filed (as_if txs s) a [] old place h → Parked s a planned (taken ++ looked) new place h
       go place h at (was_run done) = ran place h at (either_true (list_any (digest_eq h.digest) txs) (is_executed s.executed h.digest) (sym (known_is txs s h.digest) ∙ done))
       go place h at (is_unadmitted unlet has) = lacks_admission unlet (subst (λ (ls : Lists). Has (listed ls h.digest) place) (sym out) has)
-      go place h at (comes_next may has made) = was_taken (join_second taken looked place (subst (λ ps. Has ps place) (sym opened) (after_has old.next.keys (placed_after [] old.settled.keys) place has)))
-      go place h at (has_settled may has made none) =
-          was_taken (join_second taken looked place (subst (λ ps. Has ps place) (sym opened) (after_keeps old.next.keys (placed_after [] old.settled.keys) place (after_has old.settled.keys [] place has))))
+      go place h at (comes_next may has made) = was_taken (join_second taken looked place (subst (λ ps. Has ps place) (sym opened) has))
       go place h at (is_behind may c) =
           waits_behind may
           (record {

@@ -1,5 +1,5 @@
 -- What a certificate waits for: it is not ready, and not left, before the transactions that make what it wants are executed.
-use Rattle.std.proofs.Common.{◌≡◌, Bool, true, false, cond, not, ◌&&◌, ◌||◌, List, [], ◌∷◌, ◌++◌, map, Option, Some, None, is_some, inl, inr, refl, ap, sym, ◌∙◌, option_map}
+use Rattle.std.proofs.Common.{◌≡◌, Bool, true, false, cond, not, ◌&&◌, List, [], ◌∷◌, map, Option, Some, None, is_some, inl, inr, refl, ap, sym, ◌∙◌, option_map}
 use Rattle.std.specs.Prelude.{find}
 use Rattle.std.specs.List.{list_all}
 use Rattle.digest_core.specs.declared.Digest.{Digest}
@@ -15,7 +15,6 @@ use Rattle.protocol_spec.specs.Member.Rounds.{Wanted, found, is_maker_done, is_o
 use Rattle.version_store.specs.Stores.{Stored}
 use Rattle.exec_plan.specs.Books.{books_of, is_let, left_in, ready_in}
 use Rattle.exec_plan.specs.Makers.{Makes, are_made, awaited_of, is_made, producer_in, unmade, unmade_by}
-use Rattle.exec_plan.proofs.Following.{executed_join}
 use Rattle.exec_plan.proofs.Settling.{not_made}
 
 alone : {A : Type 0} (o x : Option A) → first_some (o ∷ []) ≡ x → o ≡ x
@@ -103,24 +102,6 @@ module _ (executed : List Execution) (a : Admission) (h : Held) where
       go (Some d) e =
           let waits : Makes d a h × (is_executed executed d ≡ false) = waits_for d e in
           makes_not d waits.0 waits.1
-
--- what was made is made behind more executions
-pub made_later : (before more : List Execution) (a : Admission) (h : Held) → are_made before a h ≡ true → are_made (before ++ more) a h ≡ true
-made_later before more a h made = all_later (wants_of a h) made
-  where
-    done_later : (p : Option Producer) → is_maker_done before p ≡ true → is_maker_done (before ++ more) p ≡ true
-    done_later None done = refl
-    done_later (Some producers.Opening) done = refl
-    done_later (Some (producers.Tx tx)) done = executed_join before more tx ∙ ap (λ (b : Bool). b || is_executed more tx) done
-
-    all_later : (ws : List Wanted) → list_all (is_made before) ws ≡ true → list_all (is_made (before ++ more)) ws ≡ true
-    all_later [] made = refl
-    all_later (w ∷ ws) made = go (is_made before w) refl made (all_later ws)
-      where
-        go : (b : Bool) → is_made before w ≡ b → (b && list_all (is_made before) ws) ≡ true → (list_all (is_made before) ws ≡ true → list_all (is_made (before ++ more)) ws ≡ true)
-            → list_all (is_made (before ++ more)) (w ∷ ws) ≡ true
-        go true is made rest = both (is_made (before ++ more) w) (list_all (is_made (before ++ more)) ws) (done_later w.producer is) (rest made)
-        go false is made rest = absurd (cc)
 
 -- ---- what is not made
 

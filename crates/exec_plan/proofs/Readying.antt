@@ -1,5 +1,5 @@
 -- What is ready behind a list of executions, and when it is not.
-use Rattle.std.proofs.Common.{◌≡◌, Bool, true, false, cond, not, ◌&&◌, ◌||◌, List, [], Option, Some, None, refl, ap, sym, subst, ◌∙◌}
+use Rattle.std.proofs.Common.{◌≡◌, Bool, true, false, cond, not, ◌&&◌, List, Option, Some, None, refl, ap, sym, subst}
 use Rattle.chain_types.specs.declared.objects.Object.{Object}
 use Rattle.answer_types.specs.declared.pieces.Executed.{Executed}
 use Rattle.answer_types.specs.declared.answers.Held.{Held}
@@ -9,11 +9,9 @@ use Rattle.protocol_spec.proofs.ListLemmas.{and-first, not-true}
 use Rattle.protocol_spec.specs.Block.Execution.{execution, written_keys}
 use Rattle.protocol_spec.specs.Member.Versions.{Execution, is_executed, versions}
 use Rattle.protocol_spec.specs.Member.Admission.{Admission}
-use Rattle.protocol_spec.specs.Member.Rounds.{Books, executes_as, may_run, present, ready, ready_as, ready_on, wants_of, writes_new}
-use Rattle.version_store.specs.Stores.{Stored, held_in}
-use Rattle.exec_plan.specs.Books.{books_of, is_let, ready_in}
-use Rattle.exec_plan.specs.Wants.{present_after}
-use Rattle.exec_plan.proofs.Joined.{present_so}
+use Rattle.protocol_spec.specs.Member.Rounds.{Books, executes_as, may_run, present, ready, ready_as, ready_on, writes_new}
+use Rattle.version_store.specs.Stores.{Stored}
+use Rattle.exec_plan.specs.Books.{books_of, ready_in}
 
 -- a certificate that was executed is not ready
 pub executed_rests : (b : Books) (executed : List Execution) (h : Held) → is_executed executed h.digest ≡ true → ready b executed h ≡ None
@@ -55,25 +53,3 @@ is_ready b executed h x e = go (not (is_executed executed h.digest) && may_run b
     go false may p e = absurd (cc)
     go true may None e = absurd (cc)
     go true may (Some objects) e = fitting objects (fits h.cert.tx objects) (not-true (is_executed executed h.digest) (and-first (not (is_executed executed h.digest)) (may_run b h) may)) e
-
--- a certificate that may run is ready where what it wants is there, fits it, and gives what is new
-pub ready_step : (s : Stored) (a : Admission) (h : Held)
-    → ready_in s a h ≡ cond (is_executed s.executed h.digest || not (is_let a h)) None (ready_on (books_of s a []) s.executed h (present_after (held_in s) [] (wants_of a h)))
-unfolding ready
-ready_step s a h =
-    go (is_executed s.executed h.digest) (is_let a h) (present (books_of s a []) s.executed h)
-    ∙ ap (λ (p : Option (List Object)). cond (is_executed s.executed h.digest || not (is_let a h)) None (ready_on (books_of s a []) s.executed h p)) (present_so s a [] h)
-  where
-    go : (e m : Bool) (p : Option (List Object)) → cond (not e && m) (ready_on (books_of s a []) s.executed h p) None ≡ cond (e || not m) None (ready_on (books_of s a []) s.executed h p)
-    go true m p = refl
-    go false true p = refl
-    go false false p = refl
-
--- one that needs its admission is not
-pub unlet_rests : (s : Stored) (a : Admission) (h : Held) → is_let a h ≡ false → ready_in s a h ≡ None
-unlet_rests s a h out = ready_step s a h ∙ go (is_executed s.executed h.digest) (is_let a h) out
-  where
-    go : (e m : Bool) → m ≡ false → cond (e || not m) None (ready_on (books_of s a []) s.executed h (present_after (held_in s) [] (wants_of a h))) ≡ None
-    go true m is = refl
-    go false false is = refl
-    go false true is = absurd (cc)

@@ -2,24 +2,13 @@
 use Rattle.std.specs.Prelude.{ℕ, List, [], ◌∷◌, ◌++◌, Option, Some, None, slice_get}
 use Rattle.answer_types.specs.declared.answers.Held.{Held}
 use Rattle.answer_types.specs.declared.answers.Left.{Left}
-use Rattle.protocol_spec.specs.Member.Versions.{Execution}
 use Rattle.protocol_spec.specs.Member.Admission.{Admission}
-use Rattle.protocol_spec.specs.Member.Rounds.{round_add}
 use Rattle.version_store.specs.Stores.{Stored}
-use Rattle.exec_plan.specs.Books.{left_in, ready_in}
+use Rattle.exec_plan.specs.Books.{left_in}
 
 -- ---- the places of held certificates
 
--- what the certificate at a place gives, where there is one and it is ready
-abbrev pub ready_of : Stored → Admission → Option Held → Option Execution
-ready_of s a None = None
-ready_of s a (Some h) = ready_in s a h
-
--- the round so far, and behind it the certificates at these places that are ready
-abbrev pub round_at : Stored → Admission → List Held → List Execution → List ℕ → List Execution
-round_at s a held round [] = round
-round_at s a held round (place ∷ places) = round_at s a held (round_add round (ready_of s a (slice_get held place))) places
-
+-- the certificate at a place as a run leaves it, where there is one and it is left
 abbrev pub left_of : Stored → Admission → Option Held → Option Left
 left_of s a None = None
 left_of s a (Some h) = left_in s a h

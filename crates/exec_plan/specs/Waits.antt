@@ -1,5 +1,5 @@
 -- Where each held certificate stands.
-use Rattle.std.specs.Prelude.{◌≡◌, ℕ, true, false, List, [], ◌++◌, map, Some, None, slice_get}
+use Rattle.std.specs.Prelude.{◌≡◌, ℕ, true, false, List, [], ◌++◌, map, Some, slice_get}
 use Rattle.digest_core.specs.declared.Digest.{Digest}
 use Rattle.answer_types.specs.declared.answers.Held.{Held}
 use Rattle.protocol_spec.specs.Chain.Words.{Has}
@@ -8,7 +8,7 @@ use Rattle.protocol_spec.specs.Member.Admission.{Admission, Admitted, digest_of_
 use Rattle.version_store.specs.Stores.{Stored}
 use Rattle.exec_plan.specs.declared.waiting.Waiting.{Waiting}
 use Rattle.exec_plan.specs.Behind.{KeepsListed, listed}
-use Rattle.exec_plan.specs.Books.{is_let, ready_in}
+use Rattle.exec_plan.specs.Books.{is_let}
 use Rattle.exec_plan.specs.Makers.{Makes, are_made}
 
 -- the place is kept behind a transaction that is not executed and makes what the certificate wants
@@ -19,13 +19,12 @@ pub record IsBehind (executed : List Execution) (a : Admission) (w : Waiting) (p
   pub first : is_executed executed maker ≡ false
 
 -- A certificate is executed; or it needs its admission, and its place is kept until then; or all that makes what it
--- wants is executed, and the next round looks at it, or it is not ready and stays; or it is behind a transaction that
--- is not executed; or its place is one of those still to be filed.
+-- wants is executed, and the next run looks at it; or it is behind a transaction that is not executed; or its place is
+-- one of those still to be filed.
 pub data Filed (s : Stored) (a : Admission) (loose : List ℕ) (w : Waiting) (place : ℕ) (h : Held) : Type 0 where
   was_run : is_executed s.executed h.digest ≡ true → Filed s a loose w place h
   is_unadmitted : is_let a h ≡ false → Has (listed w.unadmitted.entries h.digest) place → Filed s a loose w place h
   comes_next : is_let a h ≡ true → Has w.next.keys place → are_made s.executed a h ≡ true → Filed s a loose w place h
-  has_settled : is_let a h ≡ true → Has w.settled.keys place → are_made s.executed a h ≡ true → ready_in s a h ≡ None → Filed s a loose w place h
   is_behind : is_let a h ≡ true → IsBehind s.executed a w place h → Filed s a loose w place h
   is_loose : Has loose place → Filed s a loose w place h
 
@@ -40,7 +39,6 @@ IsWaiting s a held w = IsFiled s a [] held w
 -- what is kept somewhere stays there
 pub record KeepsPlaces (old new : Waiting) : Type 0 where
   pub next : (place : ℕ) → Has old.next.keys place → Has new.next.keys place
-  pub settled : (place : ℕ) → Has old.settled.keys place → Has new.settled.keys place
   pub unadmitted : KeepsListed old.unadmitted.entries new.unadmitted.entries
   pub listed : KeepsListed old.behind.entries new.behind.entries
 

@@ -1,13 +1,12 @@
 -- How what a certificate's transaction wants is collected.
-use Rattle.std.specs.Prelude.{List, [], ◌∷◌, ◌++◌, Option, Some, None}
+use Rattle.std.specs.Prelude.{List, [], ◌∷◌, ◌++◌, Option}
 use Rattle.digest_core.specs.declared.Digest.{Digest}
-use Rattle.chain_types.specs.declared.objects.Object.{Object}
 use Rattle.chain_types.specs.declared.transactions.Input.{Input}
 use Rattle.chain_types.specs.declared.transactions.Input.TheVariants as inputs
 use Rattle.answer_types.specs.declared.answers.Assigned.{Assigned}
 use Rattle.chain_types.specs.Digests.{key_of}
 use Rattle.protocol_spec.specs.Member.Versions.{Version}
-use Rattle.protocol_spec.specs.Member.Rounds.{Wanted, assigned_id, found, wanted_as, wanted_version}
+use Rattle.protocol_spec.specs.Member.Rounds.{Wanted, assigned_id, wanted_as, wanted_version}
 use Rattle.exec_plan.specs.declared.inputs.Named.{Named}
 use Rattle.exec_plan.specs.declared.inputs.Named.TheVariants as named
 
@@ -27,12 +26,3 @@ abbrev pub wants_after : Option (List Assigned) → List Wanted → List Named �
 wants_after assigned wants [] origins = wants
 wants_after assigned wants (n ∷ ns) [] = wants
 wants_after assigned wants (n ∷ ns) (o ∷ os) = wants_after assigned (wants ++ want_of assigned n o ∷ []) ns os
-
-abbrev pub object_then : (Object → Option (List Object)) → Option Object → Option (List Object)
-object_then next None = None
-object_then next (Some o) = next o
-
--- the objects so far, and behind them those that are wanted, where all are held
-abbrev pub present_after : List Version → List Object → List Wanted → Option (List Object)
-present_after held objects [] = Some objects
-present_after held objects (w ∷ ws) = object_then (λ o. present_after held (objects ++ o ∷ []) ws) (found held w)

@@ -1,5 +1,5 @@
 -- The versions that the members of a round write.
-use Rattle.std.specs.Prelude.{◌≡◌, Bool, List}
+use Rattle.std.specs.Prelude.{Bool, List}
 use Rattle.std.specs.List.{list_any}
 use Rattle.chain_types.specs.declared.objects.ObjectKey.{ObjectKey}
 use Rattle.protocol_spec.specs.Chain.Tests.{has_key}
@@ -9,7 +9,3 @@ use Rattle.protocol_spec.specs.Member.Versions.{Execution}
 -- a member of the round writes the version
 abbrev pub writes : List Execution → ObjectKey → Bool
 writes round key = list_any (λ (y : Execution). has_key (written_keys y.gave) key) round
-
--- the keys are those that the members write
-abbrev pub IsWrittenBy : List ObjectKey → List Execution → Type 0
-IsWrittenBy keys round = (key : ObjectKey) → has_key keys key ≡ writes round key

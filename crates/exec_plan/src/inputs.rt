@@ -7,7 +7,7 @@ ghost use Rattle.protocol_spec.specs.Chain.Words.{first_of};
 ghost use Rattle.protocol_spec.specs.Member.Admission.{assigned_of};
 ghost use Rattle.protocol_spec.specs.Member.Rounds.{assigned_id, found, is_of_id, missing, producer_of, wanted_as, wants_of};
 ghost use Rattle.exec_plan.specs.Books.{is_let};
-ghost use Rattle.exec_plan.specs.Wants.{named_in, present_after, want_of, wants_after};
+ghost use Rattle.exec_plan.specs.Wants.{named_in, want_of, wants_after};
 ghost use Rattle.version_store.specs.Stores.{held_in};
 
 use answer_types::{Assigned, Held};
@@ -245,26 +245,6 @@ pub(crate) fn found<'a>(store: &'a Store, want: &Want) -> Option<&'a Object>
         Some(maker) => store.found(&want.key(), &maker),
         None => None,
     }
-}
-
-/// All objects that are wanted; none where one is not held.
-pub(crate) fn present(
-    alloc: Global,
-    store: &Store,
-    wants: &[Want],
-) -> Result<Option<Seq<Object>>, OutOfMemory>
-    ensures { IfOk result (λ all. all ≡ present_after (held_in store.now) [] wants.now) }
-{
-    let mut objects = Seq::new(alloc);
-    let mut rest = wants;
-    while let [want, after @ ..] = rest {
-        let Some(object) = found(store, want) else {
-            return Ok(None);
-        };
-        objects.push(*object)?;
-        rest = after;
-    }
-    Ok(Some(objects))
 }
 
 /// The first version that is wanted and is not held.

@@ -13,7 +13,6 @@ ghost use Rattle.exec_plan.specs.Tasks.{is_origin_kept, keep_as, kept_of};
 ghost use Rattle.exec_plan.specs.declared.task.Outcome.TheVariants.{Done};
 
 use crate::task::{Outcome, Task, Want};
-use crate::writing::copy_of;
 use answer_types::Executed;
 use chain_types::Producer;
 use digest_core::Digest;
@@ -44,6 +43,23 @@ fn are_kept(store: &Store, wants: &[Want]) -> bool
         rest = after;
     }
     true
+}
+
+/// A copy of effects.
+fn copy_of(effects: &Effects) -> Result<Effects, OutOfMemory>
+    ensures { IfOk result (λ copy. copy ≡ effects.now) }
+{
+    let written = effects.written.copy()?;
+    let deleted = effects.deleted.copy()?;
+    Ok(Effects {
+        tx: effects.tx,
+        status: effects.status,
+        version: effects.version,
+        gas: effects.gas,
+        created: effects.created,
+        written,
+        deleted,
+    })
 }
 
 /// Whether what a task gave is kept: all that makes what it wants is executed, and all that it writes is new.

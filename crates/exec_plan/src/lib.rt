@@ -1,20 +1,21 @@
-//! The execution of held certificates in rounds, and by a plan of tasks.
+//! The execution of held certificates in rounds, by a plan of tasks.
 //!
-//! [`run`] executes the certificates that a member holds, round after round: a round has those that are
+//! A run executes the certificates that a member holds, round after round: a round has those that are
 //! ready behind the rounds before it, in order of holding, and reads the store as it was before the round.
 //! A certificate with a shared input runs once it is admitted, and reads the version that admission
 //! assigned. [`left`] tells which certificates a run leaves although all that they waited for is executed.
 //! A [`Waiting`] keeps the places of the held certificates that are not executed: behind their own
 //! transaction until that is admitted, and then behind a transaction that makes what they want. A run looks
-//! at a certificate when such a transaction is executed, and once when there is none left.
+//! at those that wait for nothing, and at those that wait for what it plans.
 //!
-//! The same run by a plan: [`plan_ready`] makes a [`Task`] for each certificate whose turn may come, layer after
+//! No round is executed as such. [`plan_ready`] makes a [`Task`] for each certificate whose turn may come, layer after
 //! layer, and an edge for each version that one makes for a later one, and executes nothing. Whoever evaluates the
 //! plan, on one thread or on many, hands its outputs to [`settle`], which keeps those that the rounds execute, writes
 //! them and answers their effects. A task may turn out not to be kept: where one that makes what it wants is not,
 //! where what it wants is lacking or does not fit it, and where it writes a version that is there. [`run_planned`] does
-//! all three on the caller's thread. That what is kept is the rounds, and what is left is what the rounds leave, are
-//! [`plan_keeps_the_rounds`] and [`plan_leaves_the_left`], laws over the definitions.
+//! all three on the caller's thread, [`run_pooled`] on workers in threads of their own. That what is kept is the
+//! rounds, and what is left is what the rounds leave, are [`plan_keeps_the_rounds`] and [`plan_leaves_the_left`], laws
+//! over the definitions. A block is executed by a task, and nowhere else.
 #![tactic(auto)]
 
 mod behind;
@@ -27,19 +28,16 @@ mod makers;
 mod past;
 mod planner;
 mod planning;
-mod readiness;
+mod pooled;
 mod ready;
-mod running;
 mod settled;
-mod single;
 mod task;
 mod waiting;
-mod writing;
 
 pub use leaving::left;
 pub use planning::{layers_are_rounds, plan_keeps_the_rounds, plan_leaves_the_left};
+pub use pooled::run_pooled;
 pub use ready::{Ready, plan_ready};
-pub use running::run;
 pub use settled::{run_planned, settle};
 pub use task::{Carry, Outcome, Slot, Task, Want};
 pub use waiting::Waiting;

@@ -66,7 +66,9 @@ pub fn settle(
     Ok(effects)
 }
 
-/// Runs by a plan, on the caller's thread: the same as [`run`](crate::run), which executes the rounds one after the other.
+/// Executes, on the caller's thread, all held certificates that are ready, and answers their effects in the order of the
+/// rounds (Sui Lutris; rounds are this profile's own). Conditions and errors are those of
+/// [`run_pooled`](crate::run_pooled).
 pub fn run_planned(
     alloc: Global,
     store: &mut Store,

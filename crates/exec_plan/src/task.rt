@@ -4,12 +4,12 @@ ghost use Rattle.std.specs.Prelude.{◌≡◌, ◌++◌, [], IfOk, OnOk, find, m
 ghost use Rattle.std.specs.List.{list_any};
 ghost use Rattle.std.specs.Option.{option_to_list};
 ghost use Rattle.chain_types.specs.Digests.{consumed_keys};
+ghost use Rattle.protocol_spec.specs.Chain.Keys.{object_key};
 ghost use Rattle.exec_plan.specs.Books.{IsSound};
 ghost use Rattle.exec_plan.specs.Drafts.{bare_task, with_give};
 ghost use Rattle.exec_plan.specs.Gathering.{gathered_after, is_lacking};
 ghost use Rattle.exec_plan.specs.Tasks.{carry_as, carry_of, first_carry, is_at, is_not_run, object_of, other_carries, outcome_of, outcome_with};
 
-use crate::single::key_of;
 use answer_types::{Executed, Held};
 use chain_types::{Object, ObjectKey, Producer, Transaction, owned_keys};
 use dag_core::Job;
@@ -229,6 +229,16 @@ impl Task {
                 origin: want.origin,
             }),
         }
+    }
+}
+
+/// The version that an object is.
+fn key_of(object: &Object) -> ObjectKey
+    ensures { result ≡ object_key object.now }
+{
+    ObjectKey {
+        id: object.id,
+        version: object.version,
     }
 }
 

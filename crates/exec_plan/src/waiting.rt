@@ -7,7 +7,6 @@ ghost use Rattle.answer_types.specs.declared.answers.Held.{Held as H};
 ghost use Rattle.protocol_spec.specs.Member.Admission.{Admission as A};
 ghost use Rattle.version_store.specs.Stores.{Stored};
 ghost use Rattle.exec_plan.specs.Behind.{Frees};
-ghost use Rattle.exec_plan.specs.Places.{is_pending, placed_after, settled_after};
 ghost use Rattle.exec_plan.specs.Waits.{Filed, IsFiled, IsWaiting, KeepsPlaces, StoodBefore};
 
 use crate::behind::{add_behind, free_behind};
@@ -24,49 +23,17 @@ use version_store::Store;
 use wire_bcs::{OutOfMemory, Seq};
 
 /// The held certificates that are not executed, by what they wait for: one that names a shared object for
-/// its admission, and each that may run for a transaction that makes what it wants; once there is none, the
-/// next round looks at it, and behind that round it is executed, or stays for ever.
+/// its admission, and each that may run for a transaction that makes what it wants; once there is none, it
+/// waits for nothing, and each run looks at it until it is executed.
 #[derive(Drop)]
 pub struct Waiting {
-    /// The places of certificates that wait for nothing, and that no round looked at.
+    /// The places of certificates that wait for nothing.
     next: BTreeSet<usize>,
-    /// The places of those that a round looked at and left.
-    settled: BTreeSet<usize>,
     /// The places of those that need an admission, each behind its own transaction.
     unadmitted: IndexMap<Digest, Seq<usize>>,
     /// The places of all others, each behind a transaction that is not executed.
     behind: IndexMap<Digest, Seq<usize>>,
     alloc: Global,
-}
-
-/// Whether the certificate at a place is not executed.
-fn is_pending(store: &Store, held: &[Held], place: usize) -> bool
-    ensures { result ≡ is_pending store.now.executed (slice_get held.now place) }
-{
-    match held.get(place) {
-        Some(held) => !store.is_executed(&held.digest),
-        None => false,
-    }
-}
-
-/// The places of a set, in order.
-fn places_of(alloc: Global, set: &BTreeSet<usize>) -> Result<Vec<usize>, OutOfMemory>
-    ensures places { IfOk result (λ places. places.items ≡ set.now.keys) }
-    ensures ordered { IsStrictlySortedBy nat_cmp set.now.keys }
-{
-    Ok(set.iter().copied().collect(alloc)?)
-}
-
-/// Adds places to a set.
-fn add_places(set: &mut BTreeSet<usize>, places: &[usize]) -> Result<(), OutOfMemory>
-    ensures { OnOk result (set.new.keys ≡ placed_after set.old.keys places.now) }
-{
-    let mut rest = places;
-    while let [place, after @ ..] = rest {
-        set.insert(*place)?;
-        rest = after;
-    }
-    Ok(())
 }
 
 impl Waiting {
@@ -77,7 +44,6 @@ impl Waiting {
     {
         Waiting {
             next: BTreeSet::new(alloc),
-            settled: BTreeSet::new(alloc),
             unadmitted: IndexMap::new(alloc),
             behind: IndexMap::new(alloc),
             alloc,
@@ -85,7 +51,7 @@ impl Waiting {
     }
 
     /// Keeps a held certificate's place until its transaction is admitted, behind the first transaction that it
-    /// waits for, or for the next round.
+    /// waits for, or for the next run.
     fn file(
         &mut self,
         past: &Past<'_>,
@@ -195,63 +161,28 @@ impl Waiting {
         Ok(())
     }
 
-    /// The places that the next round looks at, in order.
-    pub(crate) fn next_places(&self, alloc: Global) -> Result<Vec<usize>, OutOfMemory>
+    /// The places of all certificates that wait for nothing, in order.
+    pub(crate) fn open_places(&self, alloc: Global) -> Result<Vec<usize>, OutOfMemory>
         ensures places { IfOk result (λ places. places.items ≡ self.now.next.keys) }
         ensures ordered { IsStrictlySortedBy nat_cmp self.now.next.keys }
     {
-        places_of(alloc, &self.next)
-    }
-
-    /// The places of all certificates that wait for nothing, in order.
-    pub(crate) fn open_places(&self, alloc: Global) -> Result<Vec<usize>, OutOfMemory>
-        ensures places { IfOk result (λ places. places.items ≡ placed_after (placed_after [] self.now.settled.keys) self.now.next.keys) }
-        ensures ordered { IfOk result (λ places. IsStrictlySortedBy nat_cmp places.items) }
-    {
-        let mut all = BTreeSet::new(alloc);
-        add_places(&mut all, places_of(alloc, &self.settled)?.as_slice())?;
-        add_places(&mut all, places_of(alloc, &self.next)?.as_slice())?;
-        places_of(alloc, &all)
+        Ok(self.next.iter().copied().collect(alloc)?)
     }
 
     /// Takes out the places of all certificates that wait for nothing, in order.
     pub(crate) fn take_open(&mut self, alloc: Global) -> Result<Vec<usize>, OutOfMemory>
-        ensures places { IfOk result (λ places. places.items ≡ placed_after (placed_after [] self.old.settled.keys) self.old.next.keys) }
+        ensures places { IfOk result (λ places. places.items ≡ self.old.next.keys) }
         ensures ordered { IfOk result (λ places. IsStrictlySortedBy nat_cmp places.items) }
         ensures unadmitted { OnOk result (self.new.unadmitted.entries ≡ self.old.unadmitted.entries) }
         ensures behind { OnOk result (self.new.behind.entries ≡ self.old.behind.entries) }
     {
         let places = self.open_places(alloc)?;
         self.next = BTreeSet::new(self.alloc);
-        self.settled = BTreeSet::new(self.alloc);
         Ok(places)
-    }
-
-    /// A round looked at these places, and is executed: those that it left stay.
-    pub(crate) fn settle(
-        &mut self,
-        store: &Store,
-        held: &[Held],
-        places: &[usize],
-    ) -> Result<(), OutOfMemory>
-        ensures settled { OnOk result (self.new.settled.keys ≡ settled_after store.now.executed held.now self.old.settled.keys places.now) }
-        ensures unadmitted { self.new.unadmitted.entries ≡ self.old.unadmitted.entries }
-        ensures behind { self.new.behind.entries ≡ self.old.behind.entries }
-    {
-        let mut rest = places;
-        while let [place, after @ ..] = rest {
-            if is_pending(store, held, *place) {
-                self.settled.insert(*place)?;
-            }
-            rest = after;
-        }
-        self.next = BTreeSet::new(self.alloc);
-        Ok(())
     }
 
     /// Takes out the places behind these transactions, which were executed.
     pub(crate) fn free(&mut self, txs: &[Digest]) -> Result<Seq<usize>, OutOfMemory>
-        ensures settled { self.new.settled.keys ≡ self.old.settled.keys }
         ensures unadmitted { self.new.unadmitted.entries ≡ self.old.unadmitted.entries }
         ensures freed { IfOk result (λ freed. Frees self.old.behind.entries self.new.behind.entries freed [] txs.now) }
     {
@@ -261,7 +192,6 @@ impl Waiting {
     /// Takes out the places of these transactions' certificates, which were admitted.
     fn wake(&mut self, txs: &[Digest]) -> Result<Seq<usize>, OutOfMemory>
         ensures next { self.new.next.keys ≡ self.old.next.keys }
-        ensures settled { self.new.settled.keys ≡ self.old.settled.keys }
         ensures behind { self.new.behind.entries ≡ self.old.behind.entries }
         ensures woken { IfOk result (λ woken. Frees self.old.unadmitted.entries self.new.unadmitted.entries woken [] txs.now) }
     {

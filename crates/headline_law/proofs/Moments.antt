@@ -16,9 +16,14 @@ use Rattle.agreement_law.proofs.SetUp.{set-up-apart}
 use Rattle.agreement_law.proofs.Opened.{every-opening, opened-alike}
 use Rattle.agreement_law.proofs.OneList.{built-is-of-thread, one-list}
 use Rattle.agreement_law.proofs.Sums.{are-backed, only-gas, set-up-backed}
-use Rattle.ready_law.proofs.Running.{no-run-leaves-anything}
-use Rattle.amount_law.proofs.Epochs.{gas-was-held}
-use Rattle.amount_law.proofs.Texts.{money-amounts, no-gas-cap, set-up-amounts}
+use Rattle.headline_law.proofs.Finishing.{no-turn-waits, runs-execute-admitted}
+use Rattle.headline_law.proofs.Keeping.{runs-execute-ready}
+use Rattle.headline_law.proofs.Keys.{present-is-ready}
+use Rattle.headline_law.proofs.Running.{no-run-leaves-anything}
+use Rattle.headline_law.proofs.Openings.{gas-was-held}
+use Rattle.headline_law.proofs.ReadAmounts.{money-amounts, no-gas-cap, set-up-amounts}
+use Rattle.headline_law.proofs.Going.{ready-is-executed}
+use Rattle.headline_law.proofs.Reciting.{report-calm}
 use Rattle.headline_law.proofs.Reporting.{read-front}
 use Rattle.headline_law.proofs.Standing.{final-stands}
 use Rattle.headline_law.specs.Headline.{Agree, AreSafe, Holds, IsPromised, Stands}
@@ -48,7 +53,11 @@ module _ (text : List ℕ) (t : Schedule) (read : schedule_of text ≡ Ok t) (tr
         opens = every-opening s front honest apart m seat at;
         builds = built-is-of-thread s front honest apart m seat at;
         runs_on = no-fork s front [] honest_here m seat at;
+        is_ready = present-is-ready s front honest apart m seat at;
+        takes = runs-execute-ready s front honest apart m seat at;
+        executes = runs-execute-admitted s front honest apart m seat at;
         leaves = no-run-leaves-anything s front honest apart m seat at;
+        moves_on = no-turn-waits s front honest apart m seat at;
         gas = only-gas s front honest apart (no-gas-cap text t read trust) m seat at held;
         backed = λ currency other. are-backed s front honest apart currency other (set-up-backed trust t.setup currency other) m seat at held;
       }
@@ -70,7 +79,12 @@ module _ (text : List ℕ) (t : Schedule) (read : schedule_of text ≡ Ok t) (tr
     members = agree;
     final = final-stands (setting_of trust t.setup) front honest (set-up-apart trust t.setup);
     reported = read-front text t read trust front back cut honest;
+    calm = report-calm (setting_of trust t.setup) front honest (set-up-apart trust t.setup);
   }
 
 pub moment_is_promised : (text : List ℕ) (t : Schedule) → schedule_of text ≡ Ok t → (trust : Trust) → (front back : List Event) → t.events ≡ front ++ back → IsPromised (setting_of trust t.setup) front
-moment_is_promised text t read trust front back cut = record { votes = voted-once (setting_of trust t.setup) front; holds = moment_holds text t read trust front back cut }
+moment_is_promised text t read trust front back cut = record {
+  votes = voted-once (setting_of trust t.setup) front;
+  completes = ready-is-executed (setting_of trust t.setup) front;
+  holds = moment_holds text t read trust front back cut;
+}

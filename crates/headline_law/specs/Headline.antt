@@ -1,23 +1,30 @@
 -- The headline, on one page: what holds of every moment of every run in which under a third of the stake is faulty, no
 -- statement is forged and no digests collide, whatever is delivered, lost, repeated, stopped and started again. Source:
 -- Sui Lutris.
-use Rattle.std.specs.Prelude.{◌≡◌, ◌≢◌, ◌<◌, ◌+◌, ◌⊎◌, ℕ, suc, true, List, [], ◌++◌, slice_get, Option, Some, None, Ok}
+use Rattle.std.specs.Prelude.{◌≡◌, ◌≢◌, ◌<◌, ◌+◌, ◌⊎◌, ℕ, suc, true, false, List, [], ◌++◌, slice_get, Option, Some, None, Ok, Err}
 use Rattle.digest_core.specs.declared.Digest.{Digest}
+use Rattle.chain_types.specs.declared.objects.Object.{Object}
 use Rattle.chain_types.specs.declared.objects.ObjectKey.{ObjectKey}
 use Rattle.chain_types.specs.declared.transactions.SignedTx.{SignedTx}
 use Rattle.chain_types.specs.declared.transactions.Transaction.{Transaction}
 use Rattle.chain_types.specs.Digests.{consumed_keys, transaction_digest}
 use Rattle.chain_messages.specs.declared.messages.Certificate.{Certificate}
 use Rattle.journal_core.specs.declared.records.Record.TheVariants as record_as
+use Rattle.answer_types.specs.declared.answers.Held.{Held}
 use Rattle.answer_types.specs.declared.answers.Ran.{Ran}
+use Rattle.answer_types.specs.declared.refusals.TurnRefusal.TheVariants as no_turn
 use Rattle.schedule_text.specs.declared.words.Schedule.{Schedule}
 use Rattle.schedule_text.specs.declared.words.Event.{Event}
 use Rattle.schedule_text.specs.Schedule.{schedule_of}
 use Rattle.protocol_spec.specs.Chain.Words.{Has, IsFront}
 use Rattle.protocol_spec.specs.Chain.Keys.{currency_sum}
 use Rattle.protocol_spec.specs.Chain.Certificates.{accepts_sender}
-use Rattle.protocol_spec.specs.Member.Member.{Member, built, fork_of}
-use Rattle.protocol_spec.specs.Member.Calls.{run_answer}
+use Rattle.protocol_spec.specs.Block.Execution.{execution}
+use Rattle.protocol_spec.specs.Member.Versions.{Execution, is_executed}
+use Rattle.protocol_spec.specs.Member.Admission.{Admitted}
+use Rattle.protocol_spec.specs.Member.Rounds.{executes_as, ready}
+use Rattle.protocol_spec.specs.Member.Member.{Member, books, built, fork_of, with_rounds}
+use Rattle.protocol_spec.specs.Member.Calls.{run_answer, turn_answer}
 use Rattle.world_spec.specs.Setting.{Name, Setting, Trust, setting_of}
 use Rattle.world_spec.specs.World.{Seat, World, is_honest, member_in}
 use Rattle.world_spec.specs.Openings.{opening_at}
@@ -28,6 +35,10 @@ use Rattle.safety_law.specs.Owners.{all_handed}
 use Rattle.agreement_law.specs.Opened.{OpensAsLeft}
 use Rattle.agreement_law.specs.Past.{past_at}
 use Rattle.agreement_law.specs.Sums.{epoch_gas}
+use Rattle.headline_law.specs.Complete.{MayExecute}
+use Rattle.headline_law.specs.Runs.{ready_behind}
+use Rattle.headline_law.specs.Alarms.{IsCalm}
+use Rattle.headline_law.specs.Executing.{ReadyIsExecuted}
 use Rattle.headline_law.specs.Final.{StandsForGood}
 use Rattle.headline_law.specs.Printed.{WasFinal, final_by}
 
@@ -48,8 +59,16 @@ pub record Stands (s : Setting) (w : World) (m : Member) : Type 0 where
   pub builds : IsFront (built m) (past_at s w.sequences (suc m.epoch))
   -- it holds no two certificates that consume one version, so it is not halted
   pub runs_on : fork_of m ≡ None
-  -- a run leaves nothing that waits for nothing
+  -- what it holds and did not execute, whose inputs are there, and that it admitted if it has a shared input, is ready
+  pub is_ready : (h : Held) (objects : List Object) → MayExecute m h objects → is_executed m.executed h.digest ≡ false → ready (books m) m.executed h ≡ Some (executes_as h (execution h.cert.tx objects))
+  -- a run executes all that is ready before it or behind some of its rounds
+  pub takes : (ran : Ran) → run_answer s.rules m ≡ Ok ran → (n : ℕ) (h : Held) (x : Execution) → Has m.held h → ready_behind n m h ≡ Some x → is_executed (with_rounds m).executed h.digest ≡ true
+  -- and all that was admitted
+  pub executes : (ran : Ran) → run_answer s.rules m ≡ Ok ran → (a : Admitted) → Has m.sequence.admission.admitted a → is_executed (with_rounds m).executed a.digest ≡ true
+  -- it leaves nothing that waits for nothing
   pub leaves : (ran : Ran) → run_answer s.rules m ≡ Ok ran → ran.left ≡ []
+  -- and behind it no turn waits for a transaction
+  pub moves_on : (ran : Ran) → run_answer s.rules m ≡ Ok ran → (tx : Digest) → turn_answer s.rules (with_rounds m) ≡ Err (no_turn.Waits tx) → ⊥
   -- of the currency of gas, all that went in an epoch that it left is the gas of the checkpointed transactions
   pub gas : (epoch : ℕ) → epoch < m.epoch
       → currency_sum (opening_at s w.sequences (suc epoch)) 0 + epoch_gas s w.sequences epoch ≡ currency_sum (opening_at s w.sequences epoch) 0
@@ -73,6 +92,9 @@ pub record Holds (s : Setting) (events : List Event) : Type 0 where
   pub final : (epoch : ℕ) (tx effects : Digest) (members : List ℕ) → IsFinal s (world_after s events) epoch tx effects members → StandsForGood s events epoch tx effects
   -- and so does each transaction of which the report says that it is final
   pub reported : (name : Name) (members : List ℕ) → Has (report s events) (final_by name members) → WasFinal s events name members
+  -- no line of the report says that a member met two certificates that consume one version, that a run left something, or
+  -- that a record is bad
+  pub calm : IsCalm s events
 
 -- no member cast votes of one epoch for different transactions that consume one version, over its whole journal
 abbrev pub VotesOnce : Setting → List Event → Type 0
@@ -81,9 +103,11 @@ VotesOnce s events = (m : ℕ) (seat : Seat) → slice_get (world_after s events
     → t.epoch ≡ u.epoch → (transaction_digest t ≡ transaction_digest u → ⊥)
     → (key : ObjectKey) → Has (consumed_keys t) key → Has (consumed_keys u) key → ⊥
 
--- the moment behind these events: the first with no premise, the second under the run assumptions
+-- the moment behind these events: the first two with no premise, the third under the run assumptions
 pub record IsPromised (s : Setting) (events : List Event) : Type 0 where
   pub votes : VotesOnce s events
+  -- a `run` line that could come now executes what is ready, at each member that can run
+  pub completes : ReadyIsExecuted s events
   pub holds : IsHonestRun s events → Holds s events
 
 -- whatever text is read as a schedule, and whatever seals are accepted: each moment of its run

@@ -1,20 +1,45 @@
 //! The headline: what holds of every moment of every honest run of a schedule that a text says; and final transactions:
-//! what a quorum acknowledged stands in a checkpoint of its epoch, with these effects, at every member that leaves it.
+//! what a quorum acknowledged stands in a checkpoint of its epoch, with these effects, at every member that leaves it. What
+//! objects hold is an amount, a number below 2^64, from the set-up on; what a member holds in an epoch is present, versions
+//! form one chain, and what is admitted is ready.
 #![tactic(auto)]
 
 mod epochs;
 mod finality;
+mod money;
+mod presence;
+mod readiness;
 mod reports;
 mod statements;
+mod versions;
 
 ghost use Rattle.headline_law.specs.Headline.{EveryMomentHolds};
 
 pub use epochs::{counted_is_stated, ends_are_whole, nothing_free_waits};
 pub use finality::{final_is_agreed, final_once, final_stands, final_stands_in_schedules};
-pub use reports::{printed_is_final, read_reports_hold, reported_stands};
+pub use money::{
+    amounts_stay_amounts, gas_was_held, money_stays_amounts, openings_hold_amounts,
+    read_currencies_are_backed, read_gas_alone_leaves, read_set_ups_are_amounts,
+    read_set_ups_have_no_gas_cap, threads_keep_amounts,
+};
+pub use presence::{
+    certificates_fit, every_vote_was_cast, owned_inputs_are_present, owned_inputs_fit,
+};
+pub use readiness::{
+    due_is_ready, next_round_takes_all, next_round_takes_due, no_run_leaves_anything,
+    no_turn_waits_behind_a_run, none_is_unfit, nothing_clashes, nothing_is_left,
+    nothing_is_ready_behind_a_run, present_is_ready, runs_are_complete, runs_build_all,
+    runs_execute_admitted, runs_execute_all, runs_execute_ready, shared_inputs_are_present,
+    shared_inputs_fit, versions_are_shared_alike, what_is_ready_is_executed, writes_new_keys,
+};
+pub use reports::{
+    printed_is_final, read_reports_hold, ready_is_always_executed, reported_stands,
+    reports_are_calm,
+};
 pub use statements::{
     every_ack_was_executed, every_end_was_settled, every_statement_was_made, executed_is_admitted,
 };
+pub use versions::{assigned_versions_rise, versions_are_one_chain};
 
 /// Behind each front of the lines of a schedule no member cast votes of one epoch for different transactions on one
 /// version. Up to where under a third of the stake is faulty, no statement is forged and no digests collide: no two

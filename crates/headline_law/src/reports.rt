@@ -1,4 +1,6 @@
-//! What the report says of finality.
+//! What the report says of finality and of runs, and what it never says.
+ghost use Rattle.headline_law.specs.Alarms.{ReportsAreCalm};
+ghost use Rattle.headline_law.specs.Executing.{ReadyIsAlwaysExecuted};
 ghost use Rattle.headline_law.specs.Printed.{PrintedIsFinal, ReadReportsHold, ReportedStands};
 
 /// Where a `final` line of a schedule says that a transaction is final by some members, these acknowledged one effects
@@ -15,4 +17,17 @@ pub fn reported_stands()
 /// And so does each such line of the report of a schedule that a text says, whatever its members are.
 pub fn read_reports_hold()
     ensures { ReadReportsHold }
+{}
+
+/// Under the run assumptions no line of the report says that a member met two certificates that consume one version, that
+/// it is halted, that a run left a version absent or a certificate unfit, or that a record that was read back is bad.
+pub fn reports_are_calm()
+    ensures { ReportsAreCalm }
+{}
+
+/// In every run, whoever is faulty: a `run` line executes all that its member holds and that is ready before the line or
+/// behind some of its rounds, and the report has the effects; but for what writes a key that a certificate held before it
+/// writes in the same round.
+pub fn ready_is_always_executed()
+    ensures { ReadyIsAlwaysExecuted }
 {}

@@ -4,3 +4,5 @@ pub mod Causes
 pub mod Found
 pub mod Making
 pub mod Blamed
+pub mod Verdicts
+pub mod Said

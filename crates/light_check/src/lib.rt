@@ -2,23 +2,29 @@
 //!
 //! A [`Chain`] is a list of checkpoints, each with the seals of members on it. [`check_chain`] tells whether it is
 //! certified, or the first link that is not, with the first cause; [`find`] looks for a transaction in it, and
-//! [`make_chain`] seals checkpoints as members do.
+//! [`make_chain`] seals checkpoints as members do. [`judge`] does it all with bytes, and [`check_source`] with a source of
+//! bytes, of which it writes one line.
 #![tactic(auto)]
 
 mod chain;
 mod chain_wire;
 mod check;
+mod client;
 mod finding;
 mod link;
 mod make;
 mod rivals;
+mod said;
+mod verdict;
 
 pub use chain::{Chain, ChainRefusal, Link};
 pub use chain_wire::{decode_chain, encode_chain};
 pub use check::check_chain;
+pub use client::check_source;
 pub use finding::find;
 pub use make::make_chain;
 pub use rivals::{DoubleVote, blame};
+pub use verdict::{Verdict, judge};
 
 #[cfg(test)]
 mod tests;

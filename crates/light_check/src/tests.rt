@@ -6,12 +6,14 @@ ghost use Rattle.std.specs.Prelude.{IfOk};
 ghost use Rattle.chain_types.specs.Transactions.{transaction};
 
 use crate::{
-    Chain, ChainRefusal, blame, check_chain, decode_chain, encode_chain, find, make_chain,
+    Chain, ChainRefusal, Verdict, blame, check_chain, check_source, decode_chain, encode_chain,
+    find, judge, make_chain,
 };
 use chain_messages::{Certificate, MemberSeal};
 use chain_types::{Address, ObjectId, ObjectKey, ObjectRef, Transaction};
 use checkpoint_core::Checkpoint;
 use digest_core::Digest;
+use outside::{MemSink, MemSource};
 use quorum_core::{Committee, KeyedSeal};
 use std::alloc::Global;
 use std::test::Fail;
@@ -70,6 +72,23 @@ fn add_second(bytes: &mut Vec<u8>) -> Result<(), OutOfMemory> {
     bytes.extend_from_slice([0, 0, 0, 0, 0, 0, 0, 0, 1, 0, 0, 0, 0, 0, 0, 0].as_slice())?;
     bytes.extend_from_slice(FIRST.as_slice())?;
     bytes.extend_from_slice([0, 1].as_slice())?;
+    Ok(())
+}
+
+/// The digest of the second checkpoint.
+const SECOND: [u8; 32] = [
+    166, 87, 255, 163, 18, 188, 85, 157, 152, 250, 182, 154, 108, 227, 217, 0, 181, 43, 49, 22, 33,
+    141, 28, 126, 225, 39, 173, 201, 6, 247, 94, 246,
+];
+
+/// Adds the third: of number 2 and of the next epoch, with one transaction.
+fn add_third(bytes: &mut Vec<u8>) -> Result<(), OutOfMemory> {
+    bytes.extend_from_slice([1, 0, 0, 0, 0, 0, 0, 0, 2, 0, 0, 0, 0, 0, 0, 0].as_slice())?;
+    bytes.extend_from_slice(SECOND.as_slice())?;
+    bytes.push(1)?;
+    bytes.extend_from_slice([0x33; 32].as_slice())?;
+    bytes.extend_from_slice([0x44; 32].as_slice())?;
+    bytes.push(0)?;
     Ok(())
 }
 
@@ -153,6 +172,194 @@ fn members_seal_a_chain(rt: HostRuntime) -> Result<(), Fail> {
     let spelled = made(alloc, bytes.as_slice())?;
     let want = chain_bytes(alloc, 3)?;
     assert_eq!(rt; spelled.as_slice(), want.as_slice());
+    Ok(())
+}
+
+/// The spelling of a chain of three checkpoints, of which the second is the last of its epoch.
+fn three_links(alloc: Global) -> Result<Seq<u8>, Fail> {
+    let mut bytes = Vec::new(alloc);
+    bytes.push(3)?;
+    add_first(&mut bytes)?;
+    add_second(&mut bytes)?;
+    add_third(&mut bytes)?;
+    made(alloc, bytes.as_slice())
+}
+
+#[test]
+fn a_chain_goes_on_in_the_next_epoch(rt: HostRuntime) -> Result<(), Fail> {
+    let alloc = rt.alloc();
+    let bytes = three_links(alloc)?;
+    let chain = decode_chain(alloc, bytes.as_slice())?;
+    assert_eq!(rt; checks(alloc, &chain), Ok(()));
+    let found = find(&chain, &Digest([0x33; 32]));
+    assert_eq!(rt; found, Some((2, Digest([0x44; 32]))));
+    Ok(())
+}
+
+/// A change of a spelling, the bad link and the cause: the bytes from the first place to the second are cut, and at the
+/// third place stands this byte.
+struct Change(usize, usize, usize, u8, u64, u8);
+
+/// Each cause at the first link, at the next one, and at the first one of the next epoch: another number, parent and
+/// epoch, a member that comes twice or is not known, the last of three seals away, and another seal.
+const CHANGES: [Change; 21] = [
+    Change(0, 0, 9, 9, 0, 1),
+    Change(0, 0, 17, 9, 0, 2),
+    Change(0, 0, 1, 9, 0, 3),
+    Change(0, 0, 188, 1, 0, 4),
+    Change(0, 0, 188, 4, 0, 4),
+    Change(188, 224, 115, 2, 0, 5),
+    Change(0, 0, 192, 156, 0, 6),
+    Change(0, 0, 232, 9, 1, 1),
+    Change(0, 0, 240, 9, 1, 2),
+    Change(0, 0, 224, 9, 1, 3),
+    Change(0, 0, 347, 1, 1, 4),
+    Change(0, 0, 347, 4, 1, 4),
+    Change(347, 383, 274, 2, 1, 5),
+    Change(0, 0, 351, 87, 1, 6),
+    Change(0, 0, 391, 9, 2, 1),
+    Change(0, 0, 399, 9, 2, 2),
+    Change(0, 0, 383, 9, 2, 3),
+    Change(0, 0, 570, 1, 2, 4),
+    Change(0, 0, 570, 4, 2, 4),
+    Change(570, 606, 497, 2, 2, 5),
+    Change(0, 0, 574, 63, 2, 6),
+];
+
+/// The spelling with the change.
+fn changed(alloc: Global, bytes: &[u8], change: &Change) -> Result<Vec<u8>, OutOfMemory> {
+    let mut now = Vec::new(alloc);
+    now.extend_from_slice(bytes.get(..change.0).unwrap_or_default())?;
+    now.extend_from_slice(bytes.get(change.1..).unwrap_or_default())?;
+    if let Some(byte) = now.get_mut(change.2) {
+        *byte = change.3;
+    }
+    Ok(now)
+}
+
+/// Whether the change gives a chain whose first bad link and cause are those of the row.
+fn is_bad_as_said(alloc: Global, bytes: &[u8], change: &Change) -> Result<bool, Fail> {
+    let now = changed(alloc, bytes, change)?;
+    let chain = decode_chain(alloc, now.as_slice())?;
+    let bad = ChainRefusal::Bad {
+        place: change.4,
+        cause: change.5,
+    };
+    Ok(checks(alloc, &chain) == Err(bad))
+}
+
+/// The place of the first change that gives another answer.
+fn first_other(alloc: Global, bytes: &[u8]) -> Result<Option<usize>, Fail> {
+    for change in CHANGES.iter() {
+        if !is_bad_as_said(alloc, bytes, change)? {
+            return Ok(Some(change.2));
+        }
+    }
+    Ok(None)
+}
+
+#[test]
+fn each_link_is_bad_for_each_cause(rt: HostRuntime) -> Result<(), Fail> {
+    let alloc = rt.alloc();
+    let bytes = three_links(alloc)?;
+    assert_eq!(rt; first_other(alloc, bytes.as_slice())?, None);
+    Ok(())
+}
+
+/// What a client says of these bytes, who trusts four members with a stake of 1 each and looks for a transaction.
+fn says(alloc: Global, bytes: &[u8], tx: u8) -> Result<Verdict, OutOfMemory> {
+    match Committee::new([1; 4].as_slice()) {
+        Ok(committee) => judge(alloc, bytes, &committee, &sealer(), &Digest([tx; 32])),
+        Err(_) => Err(OutOfMemory),
+    }
+}
+
+#[test]
+fn a_client_says_what_bytes_are(rt: HostRuntime) -> Result<(), Fail> {
+    let alloc = rt.alloc();
+    let whole = chain_bytes(alloc, 3)?;
+    let found = says(alloc, whole.as_slice(), 0x11)?;
+    let missing = says(alloc, whole.as_slice(), 0x12)?;
+    let weak = says(alloc, chain_bytes(alloc, 2)?.as_slice(), 0x11)?;
+    assert_eq!(rt;
+        (found, missing, weak),
+        (
+            Verdict::Certified {
+                links: 2,
+                included: Some(0)
+            },
+            Verdict::Certified {
+                links: 2,
+                included: None
+            },
+            Verdict::Bad { place: 1, cause: 5 }
+        )
+    );
+    Ok(())
+}
+
+#[test]
+fn a_cut_spelling_is_none(rt: HostRuntime) -> Result<(), Fail> {
+    let alloc = rt.alloc();
+    let mut bytes = chain_bytes(alloc, 3)?;
+    let cut = says(alloc, bytes.as_slice().get(..382).unwrap_or_default(), 0x11)?;
+    bytes.push(0)?;
+    let long = says(alloc, bytes.as_slice(), 0x11)?;
+    let none = says(alloc, [].as_slice(), 0x11)?;
+    let empty = says(alloc, [0].as_slice(), 0x11)?;
+    assert_eq!(rt;
+        (cut, long, none, empty),
+        (
+            Verdict::Malformed { at: 351, why: 1 },
+            Verdict::Malformed { at: 383, why: 7 },
+            Verdict::Malformed { at: 0, why: 1 },
+            Verdict::Certified {
+                links: 0,
+                included: None
+            }
+        )
+    );
+    Ok(())
+}
+
+/// The status of the check of what a source holds by who trusts four members with a stake of 1 each and looks for the
+/// transaction of the first checkpoint.
+fn status_of(alloc: Global, source: &mut MemSource, sink: &mut MemSink) -> Result<u8, OutOfMemory> {
+    match Committee::new([1; 4].as_slice()) {
+        Ok(committee) => {
+            let tx = Digest([0x11; 32]);
+            Ok(check_source(alloc, &committee, &sealer(), &tx, source, sink))
+        }
+        Err(_) => Err(OutOfMemory),
+    }
+}
+
+/// The status of the check of these bytes, and whether it writes this line.
+fn writes(alloc: Global, bytes: &[u8], line: &[u8]) -> Result<(u8, bool), OutOfMemory> {
+    let mut source = MemSource::new(alloc, bytes, 100, [].as_slice())?;
+    let mut sink = MemSink::new(alloc, [].as_slice())?;
+    let status = status_of(alloc, &mut source, &mut sink)?;
+    Ok((status, sink.bytes() == line))
+}
+
+#[test]
+fn a_certified_chain_is_called_so_in_a_line(rt: HostRuntime) -> Result<(), Fail> {
+    let alloc = rt.alloc();
+    let bytes = chain_bytes(alloc, 3)?;
+    let line = b"certified 2 included in 0\n";
+    let said = writes(alloc, bytes.as_slice(), line)?;
+    assert_eq!(rt; said, (0, true));
+    Ok(())
+}
+
+#[test]
+fn a_cut_spelling_is_refused_in_a_line(rt: HostRuntime) -> Result<(), Fail> {
+    let alloc = rt.alloc();
+    let bytes = chain_bytes(alloc, 3)?;
+    let cut = bytes.as_slice().get(..382).unwrap_or_default();
+    let line = b"refused malformed at 351 why 1\n";
+    let said = writes(alloc, cut, line)?;
+    assert_eq!(rt; said, (8, true));
     Ok(())
 }
 

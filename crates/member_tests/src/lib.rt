@@ -2,6 +2,10 @@
 #![tactic(auto)]
 
 #[cfg(test)]
+mod desks;
+#[cfg(test)]
+mod pooled;
+#[cfg(test)]
 mod scenario;
 #[cfg(test)]
 mod sequences;

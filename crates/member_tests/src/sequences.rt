@@ -10,6 +10,7 @@ use outside::{Keeper, MemKeeper};
 use quorum_core::KeyedSeal;
 use std::alloc::Global;
 use std::test::Fail;
+use std::thread::Threads;
 use validator_core::Validator;
 use wire_bcs::{OutOfMemory, Seq};
 
@@ -18,7 +19,7 @@ const MARK: [u8; 1] = [2];
 
 /// What the member answers to the entry of this number; `KeepFault` where nothing is kept of it.
 #[tactic(auto, using(crate::proofs::Numbers::keeps_number))]
-fn sees(
+pub(crate) fn sees(
     member: &mut Validator,
     keeper: &mut MemKeeper,
     number: u64,
@@ -63,7 +64,8 @@ fn effects_in(member: &Validator) -> Option<Digest> {
 }
 
 /// Sees the certificate, runs, and sees a mark.
-fn sees_and_runs(
+fn sees_and_runs<R: Threads + Sync>(
+    rt: &R,
     alloc: Global,
 ) -> Result<
     (
@@ -79,20 +81,22 @@ fn sees_and_runs(
     let mut keeper = MemKeeper::new(alloc, 1, [].as_slice())?;
     let mut member = member_of(alloc, &Seq::new(alloc))?;
     let taken = sees(&mut member, &mut keeper, 0, entry.as_slice());
-    let executed = runs(&mut member, &mut keeper);
+    let executed = runs(rt, &mut member, &mut keeper);
     let mark = sees(&mut member, &mut keeper, 1, MARK.as_slice());
-    Ok((
+    let said = (
         let_in(&taken),
         executed,
         completes(&mark),
         effects_in(&member),
         count(&keeper),
-    ))
+    );
+    drop(member);
+    Ok(said)
 }
 
 #[test]
 fn a_mark_builds_a_checkpoint_of_what_is_executed(rt: HostRuntime) -> Result<(), Fail> {
-    let (admitted, executed, built, effects, records) = sees_and_runs(rt.alloc())?;
+    let (admitted, executed, built, effects, records) = sees_and_runs(&rt, rt.alloc())?;
     assert_eq!(rt; admitted, Some(Digest(TX_DIGEST)));
     assert_eq!(rt; (executed, built, records), (Some(1), Some(1), 3));
     assert_eq!(rt; effects, Some(Digest(EFFECTS_DIGEST)));
@@ -104,7 +108,9 @@ fn sees_out_of_order(alloc: Global) -> Result<(Option<SeeRefusal>, u64), Fail> {
     let mut keeper = MemKeeper::new(alloc, 1, [].as_slice())?;
     let mut member = member_of(alloc, &Seq::new(alloc))?;
     let refusal = sees(&mut member, &mut keeper, 1, MARK.as_slice()).err();
-    Ok((refusal, count(&keeper)))
+    let said = (refusal, count(&keeper));
+    drop(member);
+    Ok(said)
 }
 
 #[test]
@@ -129,7 +135,9 @@ fn entries_and_run(alloc: Global) -> Result<Seq<Seq<u8>>, OutOfMemory> {
 fn counts_behind_entries(alloc: Global) -> Result<(u64, u64, u64), Fail> {
     let kept = entries_and_run(alloc)?;
     let member = member_of(alloc, &kept)?;
-    Ok((member.seen(), member.checkpoints(), member.checkpointed()))
+    let said = (member.seen(), member.checkpoints(), member.checkpointed());
+    drop(member);
+    Ok(said)
 }
 
 #[test]

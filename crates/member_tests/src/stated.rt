@@ -1,7 +1,7 @@
 //! What the member states beside its votes: acknowledgements of what it executed, and its End. A seal is that of an
 //! independent SHA-256 over the statement's spelling, so it stands for the statement.
 
-use crate::scenario::{EFFECTS_DIGEST, TX_DIGEST, certified};
+use crate::scenario::{EFFECTS_DIGEST, TX_DIGEST, certified, joined};
 use crate::validators::{hold_and_run, member_of};
 use answer_types::{AckRefusal, EndRefusal};
 use digest_core::Digest;
@@ -50,7 +50,9 @@ fn acknowledges_both(member: &Validator) -> (Option<Digest>, Option<AckRefusal>)
 fn acknowledges_behind_run(alloc: Global) -> Result<(Option<Digest>, Option<AckRefusal>), Fail> {
     let kept = hold_and_run(alloc)?;
     let member = member_of(alloc, &kept)?;
-    Ok(acknowledges_both(&member))
+    let said = acknowledges_both(&member);
+    drop(member);
+    Ok(said)
 }
 
 #[test]
@@ -61,31 +63,59 @@ fn what_was_executed_is_acknowledged(rt: HostRuntime) -> Result<(), Fail> {
     Ok(())
 }
 
-/// The digest of the transaction's effects, where memory sufficed.
-fn digest_at(member: &Validator) -> Option<Option<Digest>> {
-    member.executed_digest(&Digest(TX_DIGEST)).ok()
+/// The records of the certificate, and of its run in the older form, which names the transaction alone.
+fn older_records(alloc: Global) -> Result<Seq<Seq<u8>>, OutOfMemory> {
+    let mut kept = one_record(alloc, [1].as_slice())?;
+    kept.push(joined(alloc, [[4, 1].as_slice(), TX_DIGEST.as_slice()].as_slice())?)?;
+    Ok(kept)
+}
+
+/// What is acknowledged behind those records.
+fn acknowledges_behind_older(alloc: Global) -> Result<(Option<Digest>, Option<AckRefusal>), Fail> {
+    let kept = older_records(alloc)?;
+    let member = member_of(alloc, &kept)?;
+    let said = acknowledges_both(&member);
+    drop(member);
+    Ok(said)
+}
+
+#[test]
+fn the_older_record_of_a_run_starts_the_same(rt: HostRuntime) -> Result<(), Fail> {
+    let (seal, other) = acknowledges_behind_older(rt.alloc())?;
+    assert_eq!(rt; seal, Some(Digest(ACK_SEAL)));
+    assert_eq!(rt; other, Some(AckRefusal::NotExecuted));
+    Ok(())
+}
+
+/// The digest of the transaction's effects.
+fn digest_at(member: &Validator) -> Option<Digest> {
+    member.executed_digest(&Digest(TX_DIGEST))
 }
 
 /// The same behind the records of its run.
-fn digest_behind_run(alloc: Global) -> Result<Option<Option<Digest>>, Fail> {
+fn digest_behind_run(alloc: Global) -> Result<Option<Digest>, Fail> {
     let kept = hold_and_run(alloc)?;
     let member = member_of(alloc, &kept)?;
-    Ok(digest_at(&member))
+    let said = digest_at(&member);
+    drop(member);
+    Ok(said)
 }
 
 /// And where its certificate is held alone.
-fn digest_behind_hold(alloc: Global) -> Result<Option<Option<Digest>>, Fail> {
+fn digest_behind_hold(alloc: Global) -> Result<Option<Digest>, Fail> {
     let kept = one_record(alloc, [1].as_slice())?;
     let member = member_of(alloc, &kept)?;
-    Ok(digest_at(&member))
+    let said = digest_at(&member);
+    drop(member);
+    Ok(said)
 }
 
 #[test]
 fn the_digest_of_effects_is_told(rt: HostRuntime) -> Result<(), Fail> {
     let ran = digest_behind_run(rt.alloc())?;
     let held = digest_behind_hold(rt.alloc())?;
-    assert_eq!(rt; ran, Some(Some(Digest(EFFECTS_DIGEST))));
-    assert_eq!(rt; held, Some(None));
+    assert_eq!(rt; ran, Some(Digest(EFFECTS_DIGEST)));
+    assert_eq!(rt; held, None);
     Ok(())
 }
 
@@ -106,14 +136,18 @@ fn with_close(alloc: Global, tag: &[u8]) -> Result<Seq<Seq<u8>>, OutOfMemory> {
 /// What a member says that has no records.
 fn ends_open(alloc: Global) -> Result<(Option<Digest>, Option<EndRefusal>), Fail> {
     let member = member_of(alloc, &Seq::new(alloc))?;
-    Ok(ends(&member))
+    let said = ends(&member);
+    drop(member);
+    Ok(said)
 }
 
 /// What one says behind these records and a close.
 fn ends_closed(alloc: Global, tag: &[u8]) -> Result<(Option<Digest>, Option<EndRefusal>), Fail> {
     let kept = with_close(alloc, tag)?;
     let member = member_of(alloc, &kept)?;
-    Ok(ends(&member))
+    let said = ends(&member);
+    drop(member);
+    Ok(said)
 }
 
 #[test]

@@ -3,11 +3,13 @@
 
 use crate::scenario::{SENT_DIGEST, TX_DIGEST, certified, coin, joined, ran, signed, with_tx};
 use chain_types::{ObjectId, ObjectKey, object_digest};
+use dag_pool::OpenGate;
 use digest_core::Digest;
 use journal_core::{decode_record, encode_record};
 use quorum_core::{Committee, KeyedSeal};
 use std::alloc::Global;
 use std::test::Fail;
+use std::thread::Threads;
 use validator_core::{Holding, State, ran_record};
 use wire_bcs::{OutOfMemory, Seq};
 
@@ -61,7 +63,9 @@ fn votes_twice(alloc: Global) -> Result<(Option<bool>, Option<bool>, Option<bool
     let mut state = fresh(alloc)?;
     let before = votes(&state, bytes.as_slice());
     let taken = takes(&mut state, record.as_slice());
-    Ok((before, taken, votes(&state, bytes.as_slice())))
+    let said = (before, taken, votes(&state, bytes.as_slice()));
+    drop(state);
+    Ok(said)
 }
 
 #[test]
@@ -78,7 +82,9 @@ fn holds_twice(alloc: Global) -> Result<(Option<Holding>, Option<Holding>), OutO
     let mut state = fresh(alloc)?;
     let before = holds(&state, bytes.as_slice());
     takes(&mut state, record.as_slice());
-    Ok((before, holds(&state, bytes.as_slice())))
+    let said = (before, holds(&state, bytes.as_slice()));
+    drop(state);
+    Ok(said)
 }
 
 #[test]
@@ -98,8 +104,8 @@ fn holding(alloc: Global) -> Result<State, OutOfMemory> {
 }
 
 /// What is to be kept of a run.
-fn runs(state: &mut State) -> Result<Seq<u8>, OutOfMemory> {
-    let ran = state.run()?;
+fn runs<R: Threads + Sync>(rt: &R, state: &mut State) -> Result<Seq<u8>, OutOfMemory> {
+    let ran = state.run(rt, 1, &OpenGate)?;
     match ran_record(state.allocator(), ran.executed.as_slice())? {
         Some(record) => encode_record(state.allocator(), &record),
         None => Ok(Seq::new(state.allocator())),
@@ -107,24 +113,26 @@ fn runs(state: &mut State) -> Result<Seq<u8>, OutOfMemory> {
 }
 
 /// Whether this is to be kept of a run.
-fn keeps(state: &mut State, bytes: &[u8]) -> bool {
-    match runs(state) {
+fn keeps<R: Threads + Sync>(rt: &R, state: &mut State, bytes: &[u8]) -> bool {
+    match runs(rt, state) {
         Ok(record) => record.as_slice() == bytes,
         Err(_) => false,
     }
 }
 
 /// Runs twice: whether the first run is recorded with its effects, and the second not at all.
-fn runs_twice(alloc: Global) -> Result<(bool, bool), OutOfMemory> {
+fn runs_twice<R: Threads + Sync>(rt: &R, alloc: Global) -> Result<(bool, bool), OutOfMemory> {
     let record = ran(alloc)?;
     let mut state = holding(alloc)?;
-    let first = keeps(&mut state, record.as_slice());
-    Ok((first, keeps(&mut state, [].as_slice())))
+    let first = keeps(rt, &mut state, record.as_slice());
+    let said = (first, keeps(rt, &mut state, [].as_slice()));
+    drop(state);
+    Ok(said)
 }
 
 #[test]
 fn a_run_is_recorded_once(rt: HostRuntime) -> Result<(), Fail> {
-    let answers = runs_twice(rt.alloc())?;
+    let answers = runs_twice(&rt, rt.alloc())?;
     assert_eq!(rt; answers, (true, true));
     Ok(())
 }
@@ -135,7 +143,9 @@ fn runs_back(alloc: Global) -> Result<(Option<bool>, u64, Option<bool>), OutOfMe
     let mut state = holding(alloc)?;
     let first = takes(&mut state, record.as_slice());
     let count = state.records();
-    Ok((first, count, takes(&mut state, record.as_slice())))
+    let said = (first, count, takes(&mut state, record.as_slice()));
+    drop(state);
+    Ok(said)
 }
 
 #[test]
@@ -170,7 +180,9 @@ fn runs_back_without_effects(alloc: Global) -> Result<(Option<Digest>, Option<u6
     let record = joined(alloc, [[4, 1].as_slice(), TX_DIGEST.as_slice()].as_slice())?;
     let mut state = holding(alloc)?;
     takes(&mut state, record.as_slice());
-    Ok((sent(&state), living(&state)))
+    let said = (sent(&state), living(&state));
+    drop(state);
+    Ok(said)
 }
 
 #[test]
@@ -186,7 +198,9 @@ fn closes(alloc: Global) -> Result<(Option<bool>, Option<bool>, Option<bool>), O
     let mut state = fresh(alloc)?;
     let first = takes(&mut state, [3].as_slice());
     let voted = takes(&mut state, vote.as_slice());
-    Ok((first, voted, takes(&mut state, [3].as_slice())))
+    let said = (first, voted, takes(&mut state, [3].as_slice()));
+    drop(state);
+    Ok(said)
 }
 
 #[test]

@@ -77,7 +77,9 @@ fn turned(
     let kept = run_and_end(alloc, tag)?;
     let mut keeper = MemKeeper::new(alloc, 1, [].as_slice())?;
     let mut member = member_of(alloc, &kept)?;
-    Ok(behind_turn(&mut member, &mut keeper))
+    let said = behind_turn(&mut member, &mut keeper);
+    drop(member);
+    Ok(said)
 }
 
 #[test]
@@ -101,7 +103,9 @@ fn waits(alloc: Global) -> Result<(Option<Option<Digest>>, Option<TurnRefusal>),
     let kept = entry_and_end(alloc)?;
     let mut keeper = MemKeeper::new(alloc, 1, [].as_slice())?;
     let mut member = member_of(alloc, &kept)?;
-    Ok(turns(&mut member, &mut keeper))
+    let said = turns(&mut member, &mut keeper);
+    drop(member);
+    Ok(said)
 }
 
 #[test]
@@ -120,7 +124,9 @@ fn a_turn_waits_for_what_was_ordered(rt: HostRuntime) -> Result<(), Fail> {
 fn turns_early(alloc: Global) -> Result<(Option<Option<Digest>>, Option<TurnRefusal>), Fail> {
     let mut keeper = MemKeeper::new(alloc, 1, [].as_slice())?;
     let mut member = member_of(alloc, &Seq::new(alloc))?;
-    Ok(turns(&mut member, &mut keeper))
+    let said = turns(&mut member, &mut keeper);
+    drop(member);
+    Ok(said)
 }
 
 #[test]

@@ -6,11 +6,13 @@ ghost use Rattle.std.specs.Prelude.{◌≡◌, IfOk};
 use crate::scenario::{SENT_DIGEST, certified, coin, ran, signed, with_tx};
 use answer_types::StartRefusal;
 use chain_types::{ObjectId, ObjectKey};
+use dag_pool::OpenGate;
 use digest_core::Digest;
 use outside::{Keeper, MemKeeper};
 use quorum_core::{Committee, KeyedSeal};
 use std::alloc::Global;
 use std::test::Fail;
+use std::thread::Threads;
 use validator_core::Validator;
 use wire_bcs::{OutOfMemory, Seq};
 
@@ -58,7 +60,7 @@ fn votes(member: &mut Validator, keeper: &mut MemKeeper, bytes: &[u8]) -> Option
 
 /// Whether the certificate is newly held, where it is held.
 #[tactic(auto, using(crate::proofs::Numbers::keeps_number))]
-fn holds(member: &mut Validator, keeper: &mut MemKeeper, bytes: &[u8]) -> Option<bool>
+pub(crate) fn holds(member: &mut Validator, keeper: &mut MemKeeper, bytes: &[u8]) -> Option<bool>
     requires number { member.old.member ≡ 0 }
     ensures number { member.new.member ≡ 0 }
 {
@@ -70,14 +72,18 @@ fn holds(member: &mut Validator, keeper: &mut MemKeeper, bytes: &[u8]) -> Option
 
 /// How many transactions a run executes.
 #[tactic(auto, using(crate::proofs::Numbers::keeps_number))]
-pub(crate) fn runs(member: &mut Validator, keeper: &mut MemKeeper) -> Option<u64>
+pub(crate) fn runs<R: Threads + Sync>(
+    rt: &R,
+    member: &mut Validator,
+    keeper: &mut MemKeeper,
+) -> Option<u64>
     requires number { member.old.member ≡ 0 }
     ensures number { member.new.member ≡ 0 }
 {
     if keeper.members() == 0 {
         return None;
     }
-    match member.run(keeper) {
+    match member.run(rt, keeper, 2, &OpenGate) {
         Ok(ran) => Some(ran.executed.len()),
         Err(_) => None,
     }
@@ -110,7 +116,9 @@ fn votes_twice(alloc: Global) -> Result<(Option<bool>, Option<bool>, u64), Fail>
     let mut member = member_of(alloc, &Seq::new(alloc))?;
     let first = votes(&mut member, &mut keeper, bytes.as_slice());
     let second = votes(&mut member, &mut keeper, bytes.as_slice());
-    Ok((first, second, count(&keeper)))
+    let said = (first, second, count(&keeper));
+    drop(member);
+    Ok(said)
 }
 
 #[test]
@@ -129,21 +137,24 @@ pub(crate) fn sent_key() -> ObjectKey {
 }
 
 /// Holds the certificate and runs twice: how many transactions that executes, and what the coin is then.
-fn holds_and_runs(
+fn holds_and_runs<R: Threads + Sync>(
+    rt: &R,
     alloc: Global,
 ) -> Result<(Option<bool>, Option<u64>, Option<u64>, Option<Digest>), Fail> {
     let bytes = certified(alloc, [].as_slice())?;
     let mut keeper = MemKeeper::new(alloc, 1, [].as_slice())?;
     let mut member = member_of(alloc, &Seq::new(alloc))?;
     let held = holds(&mut member, &mut keeper, bytes.as_slice());
-    let first = runs(&mut member, &mut keeper);
-    let second = runs(&mut member, &mut keeper);
-    Ok((held, first, second, member.held_digest(&sent_key())))
+    let first = runs(rt, &mut member, &mut keeper);
+    let second = runs(rt, &mut member, &mut keeper);
+    let said = (held, first, second, member.held_digest(&sent_key()));
+    drop(member);
+    Ok(said)
 }
 
 #[test]
 fn what_is_held_runs_once(rt: HostRuntime) -> Result<(), Fail> {
-    let (held, first, second, coin) = holds_and_runs(rt.alloc())?;
+    let (held, first, second, coin) = holds_and_runs(&rt, rt.alloc())?;
     assert_eq!(rt; (held, first, second), (Some(true), Some(1), Some(0)));
     assert_eq!(rt; coin, Some(Digest(SENT_DIGEST)));
     Ok(())
@@ -170,14 +181,18 @@ fn votes_behind(alloc: Global) -> Result<Option<bool>, Fail> {
     let bytes = signed(alloc)?;
     let mut keeper = MemKeeper::new(alloc, 1, [].as_slice())?;
     let mut member = behind_close(alloc)?;
-    Ok(votes(&mut member, &mut keeper, bytes.as_slice()))
+    let said = votes(&mut member, &mut keeper, bytes.as_slice());
+    drop(member);
+    Ok(said)
 }
 
 /// What it answers to a close.
 fn closes_behind(alloc: Global) -> Result<Option<bool>, Fail> {
     let mut keeper = MemKeeper::new(alloc, 1, [].as_slice())?;
     let mut member = behind_close(alloc)?;
-    Ok(closes(&mut member, &mut keeper))
+    let said = closes(&mut member, &mut keeper);
+    drop(member);
+    Ok(said)
 }
 
 #[test]
@@ -208,7 +223,9 @@ fn living(member: &Validator) -> Option<u64> {
 fn behind_run(alloc: Global) -> Result<(Option<Digest>, Option<u64>), Fail> {
     let kept = hold_and_run(alloc)?;
     let member = member_of(alloc, &kept)?;
-    Ok((member.held_digest(&sent_key()), living(&member)))
+    let said = (member.held_digest(&sent_key()), living(&member));
+    drop(member);
+    Ok(said)
 }
 
 #[test]
@@ -224,7 +241,9 @@ fn a_run_is_taken_back(rt: HostRuntime) -> Result<(), Fail> {
 fn counts_behind_run(alloc: Global) -> Result<(u64, u64, u64), Fail> {
     let kept = hold_and_run(alloc)?;
     let member = member_of(alloc, &kept)?;
-    Ok((member.seen(), member.checkpoints(), member.checkpointed()))
+    let said = (member.seen(), member.checkpoints(), member.checkpointed());
+    drop(member);
+    Ok(said)
 }
 
 #[test]
@@ -257,7 +276,9 @@ fn closes_unkept(alloc: Global) -> Result<(Option<bool>, bool), Fail> {
     let mut keeper = MemKeeper::new(alloc, 1, [1].as_slice())?;
     let mut member = member_of(alloc, &Seq::new(alloc))?;
     let answer = closes(&mut member, &mut keeper);
-    Ok((answer, member.is_up()))
+    let said = (answer, member.is_up());
+    drop(member);
+    Ok(said)
 }
 
 #[test]

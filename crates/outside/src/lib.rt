@@ -4,7 +4,7 @@
 //! that count rose in the call. What a value has left, holds or keeps is told by the
 //! implementations in memory ([`MemSource`], [`FreeSource`], [`MemSink`], [`NarrowSink`],
 //! [`MemKeeper`]) and may stay untold by others ([`AlteredKeeper`]); a clause claims nothing of what
-//! is untold.
+//! is untold. [`read_text`] reads a source to its end or past a limit, and [`write_all`] writes bytes whole.
 #![tactic(auto)]
 
 mod altered;
@@ -13,6 +13,7 @@ mod keeper;
 mod narrow;
 mod sink;
 mod source;
+mod streams;
 mod turns;
 
 pub use altered::AlteredKeeper;
@@ -21,4 +22,5 @@ pub use keeper::{Keeper, MemKeeper};
 pub use narrow::NarrowSink;
 pub use sink::{MemSink, Sink};
 pub use source::{FreeSource, MemSource, Source};
+pub use streams::{read_text, write_all};
 pub use turns::Turns;

@@ -1,11 +1,16 @@
-//! The real outside: standard input and standard output, or anything that reads and writes.
+//! The real outside: standard input and standard output, or anything that reads and writes, and files.
 //!
-//! A few lines over std's `Read` and `Write`, with a count of faults that is raised at each error.
+//! A few lines over std's `Read`, `Write` and `File`, with a count of faults that is raised at each error.
 //! This is the trusted edge: what a terminal, a pipe or a file gives or takes is told by no clause.
 #![tactic(auto)]
 
+mod file;
 mod input;
 mod output;
 
+pub use file::FileDisk;
 pub use input::InSource;
 pub use output::OutSink;
+
+#[cfg(test)]
+mod tests;

@@ -27,3 +27,6 @@ pub mod BadRecordsAreNamed
 pub mod RunFourAreSummedUp
 pub mod BytesHaveALimit
 pub mod ALongBlockRuns
+pub mod Met
+pub mod HonestWithACounter
+pub mod HonestThroughTwoEpochs

@@ -1,5 +1,5 @@
 //! Worked runs of the definitions, each from the words of a schedule to the lines of its report, with every
-//! digest computed: the review of the definitions.
+//! digest computed: the review of the definitions. And two whose runs meet all run assumptions.
 #![tactic(auto)]
 
 ghost use Rattle.rows_law.specs.RunSplitIsReported.{SplitIsReported};
@@ -29,6 +29,8 @@ ghost use Rattle.rows_law.specs.BadRecordsAreNamed.{BadRecordsAreNamed};
 ghost use Rattle.rows_law.specs.RunFourAreSummedUp.{FourAreSummedUp};
 ghost use Rattle.rows_law.specs.BytesHaveALimit.{BytesHaveALimit};
 ghost use Rattle.rows_law.specs.ALongBlockRuns.{ALongBlockRuns};
+ghost use Rattle.rows_law.specs.HonestThroughTwoEpochs.{HonestThroughTwoEpochs};
+ghost use Rattle.rows_law.specs.HonestWithACounter.{HonestWithACounter};
 
 /// Three votes make a certificate, and a member executes and shows it.
 pub fn split_is_reported()
@@ -163,4 +165,14 @@ pub fn bytes_have_a_limit()
 /// A block of 128 commands makes 64 counters and freezes each.
 pub fn a_long_block_runs()
     ensures { ALongBlockRuns }
+{}
+
+/// The run assumptions can be met: by a run with an object that everybody may change, a faulty member and a checkpoint.
+pub fn honest_with_a_counter()
+    ensures { HonestWithACounter }
+{}
+
+/// And by one through two epochs, whose second spends what the first made.
+pub fn honest_through_two_epochs()
+    ensures { HonestThroughTwoEpochs }
 {}

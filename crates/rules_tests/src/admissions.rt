@@ -14,7 +14,7 @@ use digest_core::Digest;
 use std::alloc::Global;
 use std::test::Fail;
 use tx_check::check_shape;
-use version_assign::Admission;
+use version_assign::{Admission, Taken};
 use wire_bcs::{OutOfMemory, Seq};
 
 /// The greatest version that an input can name.
@@ -151,25 +151,45 @@ fn note_waiting(said: &mut Seq<u8>, admission: &Admission, tx: &Digest) -> Resul
     Ok(())
 }
 
-/// A certificate's entry: `r` where its transaction is in the sequence, else what was taken, or what it waits for.
+/// Notes what was taken.
+fn note_taken(said: &mut Seq<u8>, taken: &Taken) -> Result<(), OutOfMemory> {
+    note(said, b'a', &taken.admitted)?;
+    note(said, b'd', &taken.dropped)
+}
+
+/// The entry of a certificate under this digest: `r` where it is in the sequence, else what was taken, or what it
+/// waits for.
+fn push_cert(
+    alloc: Global,
+    said: &mut Seq<u8>,
+    admission: &mut Admission,
+    tx: &Digest,
+    cert: &Certificate,
+) -> Result<(), OutOfMemory>
+    requires { length cert.now.origins ≡ length (objects_of cert.now.tx) }
+{
+    if check_shape(alloc, &cert.tx).is_err() {
+        return said.push(b'!');
+    }
+    if admission.is_known(tx) {
+        return said.push(b'r');
+    }
+    let taken = admission.push(tx, cert)?;
+    note_taken(said, &taken)?;
+    note_waiting(said, admission, tx)
+}
+
+/// A certificate's entry.
 fn push(
     alloc: Global,
     said: &mut Seq<u8>,
     admission: &mut Admission,
     entry: Entry,
 ) -> Result<(), OutOfMemory> {
-    let tx = digest(entry.0);
     let cert = certificate(alloc, entry)?;
-    if check_shape(alloc, &cert.tx).is_err() {
-        return said.push(b'!');
-    }
-    if admission.is_known(&tx) {
-        return said.push(b'r');
-    }
-    let taken = admission.push(&tx, &cert)?;
-    note(said, b'a', &taken.admitted)?;
-    note(said, b'd', &taken.dropped)?;
-    note_waiting(said, admission, &tx)
+    let pushed = push_cert(alloc, said, admission, &digest(entry.0), &cert);
+    drop(cert);
+    pushed
 }
 
 /// A mark: what is cut, and what was taken behind it.
@@ -177,8 +197,7 @@ fn mark(said: &mut Seq<u8>, admission: &mut Admission) -> Result<(), OutOfMemory
     let cut = admission.cut()?;
     note(said, b'c', &cut)?;
     let taken = admission.mark()?;
-    note(said, b'a', &taken.admitted)?;
-    note(said, b'd', &taken.dropped)
+    note_taken(said, &taken)
 }
 
 /// What is said of these entries, each ended by a semicolon.
@@ -236,19 +255,30 @@ fn note_admitted(said: &mut Seq<u8>, admission: &Admission) -> Result<(), OutOfM
     note(said, b'u', &admission.uncut()?)
 }
 
-/// What is said of these entries, and of what was admitted behind them, in an epoch with this limit of writers that
-/// opens with the counter of this owner.
+/// What is said of these entries, and of what was admitted behind them.
+fn said_by(
+    alloc: Global,
+    admission: &mut Admission,
+    entries: &[Entry],
+) -> Result<Seq<u8>, OutOfMemory> {
+    let mut said = Seq::new(alloc);
+    follow(alloc, &mut said, admission, entries)?;
+    note_admitted(&mut said, admission)?;
+    Ok(said)
+}
+
+/// The same in an epoch with this limit of writers that opens with the counter of this owner.
 fn said(
     alloc: Global,
     writers: Option<u32>,
     owner: Owner,
     entries: &[Entry],
 ) -> Result<Seq<u8>, OutOfMemory> {
-    let mut said = Seq::new(alloc);
-    let mut admission = Admission::new(alloc, &opening(alloc, owner)?, writers)?;
-    follow(alloc, &mut said, &mut admission, entries)?;
-    note_admitted(&mut said, &admission)?;
-    Ok(said)
+    let opening = opening(alloc, owner)?;
+    let mut admission = Admission::new(alloc, &opening, writers)?;
+    let said = said_by(alloc, &mut admission, entries);
+    drop(admission);
+    said
 }
 
 /// A limit, the counter's owner, entries, and what is to be said of them.

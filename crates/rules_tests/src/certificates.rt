@@ -10,6 +10,7 @@ use chain_types::{Address, Command, Input, ObjectId, ObjectRef, Transaction, tx_
 use digest_core::Digest;
 use quorum_core::{Committee, KeyedSeal, Sealer, Signer};
 use std::alloc::Global;
+use std::process::Abort;
 use std::test::Fail;
 use tx_check::check_shape;
 use wire_bcs::{OutOfMemory, Seq};
@@ -78,17 +79,19 @@ fn check(
     let Ok(committee) = Committee::new([2, 3, 4, 1].as_slice()) else {
         return Err(CertRefusal::OutOfMemory);
     };
-    let Ok(tx) = transaction(alloc, budget) else {
-        return Err(CertRefusal::OutOfMemory);
-    };
     let Ok(origins) = Seq::from_slice(alloc, origins) else {
         return Err(CertRefusal::OutOfMemory);
     };
     let Ok(seals) = Seq::from_slice(alloc, seals) else {
         return Err(CertRefusal::OutOfMemory);
     };
+    let Ok(tx) = transaction(alloc, budget) else {
+        return Err(CertRefusal::OutOfMemory);
+    };
     let cert = Certificate { tx, origins, seals };
-    check_cert(alloc, &cert, &committee, &KeyedSeal::new([9; 32]))
+    let checked = check_cert(alloc, &cert, &committee, &KeyedSeal::new([9; 32]));
+    drop(cert);
+    checked
 }
 
 /// The origins of the votes that are sealed here.
@@ -243,18 +246,28 @@ fn collected(alloc: Global, named: &[(u32, u8)]) -> Result<Certificate, CollectR
     collect(alloc, &tx, &votes, &committee)
 }
 
+/// Tests the certificate that was collected.
+fn expect_cert(rt: &impl Abort, a: Global, cert: &Certificate) -> Result<(), Fail> {
+    assert_eq!(rt; cert.tx.budget, 1100);
+    assert_eq!(rt; cert.origins.as_slice(), voted().as_slice());
+    assert_eq!(rt; cert.seals.as_slice(), [own(a, 1)?, own(a, 2)?].as_slice());
+    Ok(())
+}
+
 #[test]
 fn collects_votes(rt: HostRuntime) -> Result<(), Fail> {
     let a = rt.alloc();
     match collected(a, [(1, 6), (2, 6)].as_slice()) {
         Ok(cert) => {
-            assert_eq!(rt; cert.tx.budget, 1100);
-            assert_eq!(rt; cert.origins.as_slice(), voted().as_slice());
-            assert_eq!(rt; cert.seals.as_slice(), [own(a, 1)?, own(a, 2)?].as_slice());
+            let said = expect_cert(&rt, a, &cert);
+            drop(cert);
+            said
         }
-        Err(_) => assert!(rt; false),
+        Err(_) => {
+            assert!(rt; false);
+            Ok(())
+        }
     }
-    Ok(())
 }
 
 /// Why the votes make no certificate.

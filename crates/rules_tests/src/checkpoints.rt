@@ -9,6 +9,7 @@ use digest_core::Digest;
 use effects_core::{Effects, Status};
 use epoch_turn::{Chain, Due};
 use std::alloc::Global;
+use std::mem::replace;
 use std::test::Fail;
 use version_store::Store;
 use wire_bcs::{OutOfMemory, Seq};
@@ -112,6 +113,14 @@ fn executes(alloc: Global, store: &mut Store, number: u8) -> Result<(), OutOfMem
     store.write(effects, objects, &Seq::new(alloc))
 }
 
+/// Lets the store go for one that opens with nothing.
+fn reopens(alloc: Global, store: &mut Store) -> Result<(), OutOfMemory> {
+    let new = opened(alloc)?;
+    let old = replace(store, new);
+    drop(old);
+    Ok(())
+}
+
 /// Takes a step, and answers the epoch behind it.
 fn takes(
     alloc: Global,
@@ -136,10 +145,11 @@ fn takes(
         End => chain.end()?,
         Execute(number) => executes(alloc, store, number)?,
         Advance => {
-            let _built = chain.advance(epoch, store)?;
+            let built = chain.advance(epoch, store)?;
+            drop(built);
         }
         Turn => {
-            *store = opened(alloc)?;
+            reopens(alloc, store)?;
             chain.turn();
             return epoch.checked_add(1).ok_or(OutOfMemory);
         }
@@ -147,17 +157,32 @@ fn takes(
     Ok(epoch)
 }
 
+/// Takes these steps from epoch 0 on, and answers what the chain does then.
+fn takes_all(
+    alloc: Global,
+    store: &mut Store,
+    chain: &mut Chain,
+    steps: &[Step],
+) -> Result<Answers, OutOfMemory>
+    requires { IsBehind 0 store.old.executed chain.old }
+{
+    let mut epoch = 0;
+    let mut rest = steps;
+    while let [step, others @ ..] = rest {
+        epoch = takes(alloc, store, chain, epoch, *step)?;
+        rest = others;
+    }
+    Ok(answers_of(chain))
+}
+
 /// What a new chain answers behind these steps.
 fn answers_behind(alloc: Global, steps: &[Step]) -> Result<Answers, OutOfMemory> {
     let mut store = opened(alloc)?;
     let mut chain = Chain::new(alloc);
-    let mut epoch = 0;
-    let mut rest = steps;
-    while let [step, others @ ..] = rest {
-        epoch = takes(alloc, &mut store, &mut chain, epoch, *step)?;
-        rest = others;
-    }
-    Ok(answers_of(&chain))
+    let answers = takes_all(alloc, &mut store, &mut chain, steps);
+    drop(chain);
+    drop(store);
+    answers
 }
 
 #[test]

@@ -1,5 +1,6 @@
 //! The origins of a vote. Each case in which there is no vote is a case of conformance.
 
+use crate::stores::opened;
 use chain_types::{
     Address, Content, Input, Object, ObjectId, ObjectRef, Owner, Transaction, object_digest,
 };
@@ -7,6 +8,7 @@ use digest_core::Digest;
 use effects_core::{Effects, Status};
 use lock_table::LockTable;
 use std::alloc::Global;
+use std::process::Abort;
 use std::test::Fail;
 use version_store::Store;
 use vote_rules::decide;
@@ -45,17 +47,6 @@ fn hers() -> Object {
     object(2, Owner::Address(ALICE), 7, 10)
 }
 
-/// A store that opens with these objects, where none stands there twice.
-#[tactic(auto, unfolding(protocol_spec::specs::Member::Versions::versions))]
-fn opened(alloc: Global, objects: &[Object]) -> Result<Option<Store>, OutOfMemory> {
-    let objects = Seq::from_slice(alloc, objects)?;
-    let empty = Store::opening(alloc, &Seq::new(alloc))?;
-    if !empty.are_new(&objects)? {
-        return Ok(None);
-    }
-    Ok(Some(Store::opening(alloc, &objects)?))
-}
-
 fn store_of(alloc: Global, objects: &[Object]) -> Result<Store, Fail> {
     match opened(alloc, objects)? {
         Some(store) => Ok(store),
@@ -82,18 +73,38 @@ fn transaction(
     })
 }
 
+/// The origins of a vote for the transaction.
+fn origins_on(alloc: Global, store: &Store, tx: &Transaction) -> Option<Seq<Option<Digest>>> {
+    let locks = LockTable::new(alloc);
+    let decided = decide(alloc, store, &locks, tx, &THIS_TX);
+    drop(locks);
+    decided.ok()
+}
+
+/// The same on a store that opens with these objects.
+fn origins_over(
+    alloc: Global,
+    objects: &[Object],
+    tx: &Transaction,
+) -> Result<Option<Seq<Option<Digest>>>, Fail> {
+    let store = store_of(alloc, objects)?;
+    let origins = origins_on(alloc, &store, tx);
+    drop(store);
+    Ok(origins)
+}
+
+/// The origins of a vote for a transaction with two objects.
+fn origins_of_two(alloc: Global) -> Result<Option<Seq<Option<Digest>>>, Fail> {
+    let input = Input::Owned(reference(&hers()));
+    let tx = transaction(alloc, reference(&gas()), 5000, input)?;
+    let origins = origins_over(alloc, [gas(), hers()].as_slice(), &tx);
+    drop(tx);
+    origins
+}
+
 #[test]
 fn a_vote_names_an_origin_for_each_object(rt: HostRuntime) -> Result<(), Fail> {
-    let alloc = rt.alloc();
-    let tx = transaction(
-        alloc,
-        reference(&gas()),
-        5000,
-        Input::Owned(reference(&hers())),
-    )?;
-    let store = store_of(alloc, [gas(), hers()].as_slice())?;
-    let locks = LockTable::new(alloc);
-    let Ok(origins) = decide(alloc, &store, &locks, &tx, &THIS_TX) else {
+    let Some(origins) = origins_of_two(rt.alloc())? else {
         return Err(Fail::new("there is a vote"));
     };
     assert_eq!(rt; origins.as_slice(), [None, None].as_slice());
@@ -133,19 +144,36 @@ fn spends_gas(alloc: Global, store: &mut Store) -> Result<bool, OutOfMemory> {
     Ok(true)
 }
 
+/// The origins of a vote for a transaction that spends the next version of the gas coin.
+fn next_origins(alloc: Global, store: &Store) -> Result<Option<Seq<Option<Digest>>>, OutOfMemory> {
+    let input = Input::Pure(Seq::new(alloc));
+    let tx = transaction(alloc, reference(&next_gas()), 2000, input)?;
+    let origins = origins_on(alloc, store, &tx);
+    drop(tx);
+    Ok(origins)
+}
+
+/// The same on the store behind the other transaction, which it is tested to take.
+fn origins_behind(
+    rt: &impl Abort,
+    alloc: Global,
+    store: &mut Store,
+) -> Result<Option<Seq<Option<Digest>>>, OutOfMemory> {
+    assert!(rt; spends_gas(alloc, store)?);
+    next_origins(alloc, store)
+}
+
+/// The same on the store of the gas coin.
+fn origins_of_next(rt: &impl Abort, alloc: Global) -> Result<Option<Seq<Option<Digest>>>, Fail> {
+    let mut store = store_of(alloc, [gas()].as_slice())?;
+    let origins = origins_behind(rt, alloc, &mut store);
+    drop(store);
+    Ok(origins?)
+}
+
 #[test]
 fn an_origin_is_who_made_the_version(rt: HostRuntime) -> Result<(), Fail> {
-    let alloc = rt.alloc();
-    let mut store = store_of(alloc, [gas()].as_slice())?;
-    assert!(rt; spends_gas(alloc, &mut store)?);
-    let tx = transaction(
-        alloc,
-        reference(&next_gas()),
-        2000,
-        Input::Pure(Seq::new(alloc)),
-    )?;
-    let locks = LockTable::new(alloc);
-    let Ok(origins) = decide(alloc, &store, &locks, &tx, &THIS_TX) else {
+    let Some(origins) = origins_of_next(&rt, rt.alloc())? else {
         return Err(Fail::new("there is a vote"));
     };
     assert_eq!(rt; origins.as_slice(), [Some(OTHER_TX)].as_slice());

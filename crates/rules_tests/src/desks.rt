@@ -3,6 +3,7 @@
 ghost use Rattle.std.specs.Prelude.{◌≡◌, IfOk, None, OnOk, false, length, map, not, true};
 ghost use Rattle.std.specs.List.{list_any};
 ghost use Rattle.chain_types.specs.Equal.{digest_eq, id_eq};
+ghost use Rattle.chain_types.specs.Digests.{transaction_digest};
 ghost use Rattle.protocol_spec.specs.Chain.Keys.{objects_of};
 ghost use Rattle.protocol_spec.specs.Chain.Shape.{shape_fault};
 ghost use Rattle.protocol_spec.specs.Chain.Words.{Each, repeats};
@@ -10,6 +11,7 @@ ghost use Rattle.exec_plan.specs.Books.{IsSound, digest_of_held};
 ghost use Rattle.exec_plan.specs.Waits.{IsWaiting};
 ghost use Rattle.version_assign.specs.Calls.{id_of};
 
+use crate::stores::opened;
 use answer_types::{Held, Left};
 use chain_messages::Certificate;
 use chain_types::{Object, Transaction, object_count, tx_digest};
@@ -33,14 +35,11 @@ pub(crate) struct Desk {
 }
 
 /// A store that opens with these objects. That one stands there twice counts as want of memory.
-#[tactic(auto, unfolding(protocol_spec::specs::Member::Versions::versions))]
 fn store_of(alloc: Global, objects: &[Object]) -> Result<Store, OutOfMemory> {
-    let objects = Seq::from_slice(alloc, objects)?;
-    let empty = Store::opening(alloc, &Seq::new(alloc))?;
-    if !empty.are_new(&objects)? {
-        return Err(OutOfMemory);
+    match opened(alloc, objects)? {
+        Some(store) => Ok(store),
+        None => Err(OutOfMemory),
     }
-    Store::opening(alloc, &objects)
 }
 
 /// A desk on which nothing is held, over a store that opens with these objects, of which these are shared.
@@ -53,13 +52,32 @@ pub(crate) fn desk_over(
     ensures sound { IfOk result (λ d. Each IsSound d.held) }
     ensures waits { IfOk result (λ d. IsWaiting d.store d.admission.admission d.held d.waiting) }
 {
-    Ok(Desk {
-        store: store_of(alloc, objects)?,
-        admission: Admission::new(alloc, &Seq::from_slice(alloc, shared)?, None)?,
-        held: Seq::new(alloc),
-        waiting: Waiting::new(alloc),
-        alloc,
-    })
+    let shared = Seq::from_slice(alloc, shared)?;
+    let store = store_of(alloc, objects)?;
+    match Admission::new(alloc, &shared, None) {
+        Ok(admission) => Ok(Desk {
+            store,
+            admission,
+            held: Seq::new(alloc),
+            waiting: Waiting::new(alloc),
+            alloc,
+        }),
+        Err(OutOfMemory) => {
+            drop(store);
+            Err(OutOfMemory)
+        }
+    }
+}
+
+/// The digest of a transaction, whose shape is to be valid.
+fn digest_of(alloc: Global, tx: &Transaction) -> Result<Digest, OutOfMemory>
+    ensures shape { IfOk result (λ digest. shape_fault tx.now ≡ None) }
+    ensures digest { IfOk result (λ digest. digest ≡ transaction_digest tx.now) }
+{
+    if check_shape(alloc, tx).is_err() {
+        return Err(OutOfMemory);
+    }
+    tx_digest(alloc, tx)
 }
 
 /// The certificate of a transaction, whose shape is to be valid, with the origins of its objects.
@@ -70,16 +88,21 @@ pub(crate) fn certified(
 ) -> Result<Held, OutOfMemory>
     ensures { IfOk result IsSound }
 {
-    if check_shape(alloc, &tx).is_err() {
-        return Err(OutOfMemory);
+    let origins = Seq::from_slice(alloc, origins)?;
+    match digest_of(alloc, &tx) {
+        Ok(digest) => Ok(Held {
+            digest,
+            cert: Certificate {
+                tx,
+                origins,
+                seals: Seq::new(alloc),
+            },
+        }),
+        Err(OutOfMemory) => {
+            drop(tx);
+            Err(OutOfMemory)
+        }
     }
-    let digest = tx_digest(alloc, &tx)?;
-    let cert = Certificate {
-        tx,
-        origins: Seq::from_slice(alloc, origins)?,
-        seals: Seq::new(alloc),
-    };
-    Ok(Held { digest, cert })
 }
 
 /// Whether there is one origin for each object.
@@ -197,7 +220,7 @@ impl Desk {
         if !are_apart(self.held.as_slice()) {
             return Err(OutOfMemory);
         }
-        exec_plan::run(
+        exec_plan::run_planned(
             self.alloc,
             &mut self.store,
             &self.admission,

@@ -1,6 +1,6 @@
 //! A store of three objects and two transactions: what is undone, and what the next epoch opens with.
 
-use crate::stores::{coin, id, key, opened};
+use crate::stores::{coin, id, if_taken, key, opened};
 use chain_types::{Object, ObjectId, ObjectKey};
 use digest_core::Digest;
 use effects_core::{Effects, Status};
@@ -66,13 +66,13 @@ fn takes_both(alloc: Global, store: &mut Store) -> Result<bool, OutOfMemory> {
 /// The store behind both transactions.
 fn behind_both(alloc: Global) -> Result<Option<Store>, OutOfMemory> {
     let before = [coin(3, 1, 7), coin(2, 3, 50), coin(1, 1, 500)];
-    let Some(mut store) = opened(alloc, before.as_slice())? else {
-        return Ok(None);
-    };
-    if !takes_both(alloc, &mut store)? {
-        return Ok(None);
+    match opened(alloc, before.as_slice())? {
+        Some(mut store) => {
+            let taken = takes_both(alloc, &mut store);
+            if_taken(store, taken)
+        }
+        None => Ok(None),
     }
-    Ok(Some(store))
 }
 
 /// The version of a live object, 0 where it does not live.
@@ -112,7 +112,9 @@ fn undone(alloc: Global, kept: &[Digest]) -> Result<Option<(u64, [u64; 4])>, Out
     let Some(mut store) = behind_both(alloc)? else {
         return Ok(None);
     };
-    Ok(Some(undo(alloc, &mut store, kept)?))
+    let undone = undo(alloc, &mut store, kept);
+    drop(store);
+    Ok(Some(undone?))
 }
 
 #[test]
@@ -161,7 +163,9 @@ fn turned(alloc: Global) -> Result<Option<bool>, OutOfMemory> {
     let Some(mut store) = behind_both(alloc)? else {
         return Ok(None);
     };
-    Ok(Some(turns(alloc, &mut store)?))
+    let turned = turns(alloc, &mut store);
+    drop(store);
+    Ok(Some(turned?))
 }
 
 #[test]
@@ -198,7 +202,9 @@ fn twice(alloc: Global) -> Result<Option<[u64; 4]>, OutOfMemory> {
     let Some(mut store) = behind_both(alloc)? else {
         return Ok(None);
     };
-    turns_twice(alloc, &mut store)
+    let live = turns_twice(alloc, &mut store);
+    drop(store);
+    live
 }
 
 #[test]
@@ -219,7 +225,9 @@ fn doubled(alloc: Global) -> Result<Option<(u64, bool)>, OutOfMemory> {
     let Some(mut store) = opened(alloc, before.as_slice())? else {
         return Ok(None);
     };
-    Ok(Some(newer_opens(&mut store)?))
+    let opens = newer_opens(&mut store);
+    drop(store);
+    Ok(Some(opens?))
 }
 
 #[test]

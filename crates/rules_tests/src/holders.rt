@@ -5,6 +5,7 @@ use chain_messages::Certificate;
 use chain_types::{Address, Input, ObjectId, ObjectKey, ObjectRef, Transaction};
 use digest_core::Digest;
 use std::alloc::Global;
+use std::process::Abort;
 use std::test::Fail;
 use vote_rules::{Fork, HeldBook};
 use wire_bcs::{OutOfMemory, Seq};
@@ -78,15 +79,32 @@ fn held_at(book: &HeldBook, place: usize) -> Option<Digest> {
     }
 }
 
+/// Tests that what is held is found.
+fn expect_found(rt: &impl Abort, alloc: Global, book: &mut HeldBook) -> Result<(), Fail> {
+    assert!(rt; !book.has(&ONE));
+    assert!(rt; holds(alloc, book, ONE, 5, 6)?);
+    assert!(rt; holds(alloc, book, TWO, 7, 8)?);
+    assert_eq!(rt; gas_of(book, &TWO), Some(reference(7)));
+    assert_eq!(rt; gas_of(book, &THREE), None);
+    Ok(())
+}
+
 #[test]
 fn finds_what_is_held(rt: HostRuntime) -> Result<(), Fail> {
     let alloc = rt.alloc();
     let mut book = HeldBook::new(alloc);
-    assert!(rt; !book.has(&ONE));
-    assert!(rt; holds(alloc, &mut book, ONE, 5, 6)?);
-    assert!(rt; holds(alloc, &mut book, TWO, 7, 8)?);
-    assert_eq!(rt; gas_of(&book, &TWO), Some(reference(7)));
-    assert_eq!(rt; gas_of(&book, &THREE), None);
+    let said = expect_found(&rt, alloc, &mut book);
+    drop(book);
+    said
+}
+
+/// Tests in which order they are held.
+fn expect_order(rt: &impl Abort, alloc: Global, book: &mut HeldBook) -> Result<(), Fail> {
+    assert!(rt; holds(alloc, book, TWO, 5, 6)?);
+    assert!(rt; holds(alloc, book, ONE, 7, 8)?);
+    assert_eq!(rt; book.as_slice().len(), 2);
+    assert_eq!(rt; held_at(book, 1), Some(ONE));
+    assert_eq!(rt; held_at(book, 2), None);
     Ok(())
 }
 
@@ -94,20 +112,15 @@ fn finds_what_is_held(rt: HostRuntime) -> Result<(), Fail> {
 fn keeps_the_order_of_holding(rt: HostRuntime) -> Result<(), Fail> {
     let alloc = rt.alloc();
     let mut book = HeldBook::new(alloc);
-    assert!(rt; holds(alloc, &mut book, TWO, 5, 6)?);
-    assert!(rt; holds(alloc, &mut book, ONE, 7, 8)?);
-    assert_eq!(rt; book.as_slice().len(), 2);
-    assert_eq!(rt; held_at(&book, 1), Some(ONE));
-    assert_eq!(rt; held_at(&book, 2), None);
-    Ok(())
+    let said = expect_order(&rt, alloc, &mut book);
+    drop(book);
+    said
 }
 
-#[test]
-fn the_first_holder_of_a_version_is_met(rt: HostRuntime) -> Result<(), Fail> {
-    let alloc = rt.alloc();
-    let mut book = HeldBook::new(alloc);
-    assert!(rt; holds(alloc, &mut book, ONE, 5, 6)?);
-    assert!(rt; holds(alloc, &mut book, TWO, 7, 6)?);
+/// Tests whom versions meet.
+fn expect_met(rt: &impl Abort, alloc: Global, book: &mut HeldBook) -> Result<(), Fail> {
+    assert!(rt; holds(alloc, book, ONE, 5, 6)?);
+    assert!(rt; holds(alloc, book, TWO, 7, 6)?);
     let keys = [key(4), key(6), key(7)];
     assert_eq!(rt; book.fork_with(keys.as_slice()), Some((key(6), ONE)));
     assert_eq!(rt; book.fork_with(&keys[2..]), Some((key(7), TWO)));
@@ -116,13 +129,20 @@ fn the_first_holder_of_a_version_is_met(rt: HostRuntime) -> Result<(), Fail> {
 }
 
 #[test]
-fn the_first_fork_stays(rt: HostRuntime) -> Result<(), Fail> {
+fn the_first_holder_of_a_version_is_met(rt: HostRuntime) -> Result<(), Fail> {
     let alloc = rt.alloc();
     let mut book = HeldBook::new(alloc);
-    assert!(rt; holds(alloc, &mut book, ONE, 5, 6)?);
+    let said = expect_met(&rt, alloc, &mut book);
+    drop(book);
+    said
+}
+
+/// Tests which fork is told.
+fn expect_fork(rt: &impl Abort, alloc: Global, book: &mut HeldBook) -> Result<(), Fail> {
+    assert!(rt; holds(alloc, book, ONE, 5, 6)?);
     assert_eq!(rt; book.fork(), None);
-    assert!(rt; holds(alloc, &mut book, TWO, 7, 6)?);
-    assert!(rt; holds(alloc, &mut book, THREE, 7, 8)?);
+    assert!(rt; holds(alloc, book, TWO, 7, 6)?);
+    assert!(rt; holds(alloc, book, THREE, 7, 8)?);
     let fork = Fork {
         key: key(6),
         first: ONE,
@@ -130,4 +150,13 @@ fn the_first_fork_stays(rt: HostRuntime) -> Result<(), Fail> {
     };
     assert_eq!(rt; book.fork(), Some(fork));
     Ok(())
+}
+
+#[test]
+fn the_first_fork_stays(rt: HostRuntime) -> Result<(), Fail> {
+    let alloc = rt.alloc();
+    let mut book = HeldBook::new(alloc);
+    let said = expect_fork(&rt, alloc, &mut book);
+    drop(book);
+    said
 }

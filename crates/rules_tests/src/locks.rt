@@ -1,6 +1,8 @@
 use chain_types::{ObjectId, ObjectKey};
 use digest_core::Digest;
 use lock_table::{LockRefusal, LockTable};
+use std::alloc::Global;
+use std::process::Abort;
 use std::test::Fail;
 use wire_bcs::Seq;
 
@@ -16,10 +18,8 @@ const ONE: Digest = Digest([1; 32]);
 
 const TWO: Digest = Digest([2; 32]);
 
-#[test]
-fn locks_for_one_transaction(rt: HostRuntime) -> Result<(), Fail> {
-    let alloc = rt.alloc();
-    let mut table = LockTable::new(alloc);
+/// Tests that one transaction has the locks.
+fn expect_one(rt: &impl Abort, alloc: Global, table: &mut LockTable) -> Result<(), Fail> {
     assert_eq!(rt; table.locked_by(&key(1, 5)), None);
     let keys = Seq::from_slice(alloc, [key(1, 5), key(2, 5)].as_slice())?;
     assert_eq!(rt; table.lock_all(&keys, &ONE), Ok(()));
@@ -37,9 +37,16 @@ fn locks_for_one_transaction(rt: HostRuntime) -> Result<(), Fail> {
 }
 
 #[test]
-fn locks_all_or_none(rt: HostRuntime) -> Result<(), Fail> {
+fn locks_for_one_transaction(rt: HostRuntime) -> Result<(), Fail> {
     let alloc = rt.alloc();
     let mut table = LockTable::new(alloc);
+    let said = expect_one(&rt, alloc, &mut table);
+    drop(table);
+    said
+}
+
+/// Tests that all are locked or none.
+fn expect_none(rt: &impl Abort, alloc: Global, table: &mut LockTable) -> Result<(), Fail> {
     let held = Seq::from_slice(alloc, [key(1, 5), key(2, 5)].as_slice())?;
     assert_eq!(rt; table.lock_all(&held, &ONE), Ok(()));
     let wanted = Seq::from_slice(alloc, [key(3, 5), key(2, 5), key(1, 5)].as_slice())?;
@@ -55,4 +62,13 @@ fn locks_all_or_none(rt: HostRuntime) -> Result<(), Fail> {
     assert_eq!(rt; table.lock_all(&other, &TWO), Ok(()));
     assert_eq!(rt; table.locked_by(&key(2, 6)), Some(TWO));
     Ok(())
+}
+
+#[test]
+fn locks_all_or_none(rt: HostRuntime) -> Result<(), Fail> {
+    let alloc = rt.alloc();
+    let mut table = LockTable::new(alloc);
+    let said = expect_none(&rt, alloc, &mut table);
+    drop(table);
+    said
 }

@@ -1,6 +1,6 @@
 //! Runs over a store of one coin, of transactions in which alice sends it to herself.
 
-ghost use Rattle.std.specs.Prelude.{◌≤◌, IfOk};
+ghost use Rattle.std.specs.Prelude.{◌≤◌, IfOk, OnOk};
 ghost use Rattle.protocol_spec.specs.Chain.Words.{Each};
 ghost use Rattle.exec_plan.specs.Books.{IsSound};
 ghost use Rattle.exec_plan.specs.Waits.{IsWaiting};
@@ -101,8 +101,17 @@ fn run_twice(desk: &mut Desk, all: Seq<Held>) -> Result<(u64, u64, u64), OutOfMe
 fn runs(alloc: Global, objects: &[Object], all: Seq<Held>) -> Result<(u64, u64, u64), OutOfMemory>
     requires { Each IsSound all }
 {
-    let mut desk = desk_over(alloc, objects, &[])?;
-    run_twice(&mut desk, all)
+    match desk_over(alloc, objects, &[]) {
+        Ok(mut desk) => {
+            let ran = run_twice(&mut desk, all);
+            drop(desk);
+            ran
+        }
+        Err(OutOfMemory) => {
+            drop(all);
+            Err(OutOfMemory)
+        }
+    }
 }
 
 /// One certificate, which spends the coin.
@@ -123,18 +132,55 @@ fn what_is_ready_runs_once(rt: HostRuntime) -> Result<(), Fail> {
     Ok(())
 }
 
-/// A chain of three certificates, the last one first.
+/// The digest of the transaction that spends the coin after so many transactions.
+fn digest_after(alloc: Global, spent: u64) -> Result<Digest, OutOfMemory>
+    requires { spent ≤ 9 }
+{
+    let held = spending(alloc, spent, 2000, None)?;
+    let digest = held.digest;
+    drop(held);
+    Ok(digest)
+}
+
+/// Adds its certificate.
+fn add_spending(
+    alloc: Global,
+    all: &mut Seq<Held>,
+    spent: u64,
+    origin: Option<Digest>,
+) -> Result<(), OutOfMemory>
+    requires spent { spent ≤ 9 }
+    requires all { Each IsSound all.old }
+    ensures { OnOk result (Each IsSound all.new) }
+{
+    let held = spending(alloc, spent, 2000, origin)?;
+    all.push(held)
+}
+
+/// Adds a chain of three certificates, the last one first.
+fn add_chain(alloc: Global, all: &mut Seq<Held>) -> Result<(), OutOfMemory>
+    requires { Each IsSound all.old }
+    ensures { OnOk result (Each IsSound all.new) }
+{
+    let first = digest_after(alloc, 0)?;
+    let second = digest_after(alloc, 1)?;
+    add_spending(alloc, all, 2, Some(second))?;
+    add_spending(alloc, all, 1, Some(first))?;
+    add_spending(alloc, all, 0, None)
+}
+
+/// The certificates of that chain.
 fn chain_backwards(alloc: Global) -> Result<Seq<Held>, OutOfMemory>
     ensures { IfOk result (Each IsSound) }
 {
-    let first = spending(alloc, 0, 2000, None)?;
-    let second = spending(alloc, 1, 2000, Some(first.digest))?;
-    let third = spending(alloc, 2, 2000, Some(second.digest))?;
     let mut all = Seq::new(alloc);
-    all.push(third)?;
-    all.push(second)?;
-    all.push(first)?;
-    Ok(all)
+    match add_chain(alloc, &mut all) {
+        Ok(()) => Ok(all),
+        Err(OutOfMemory) => {
+            drop(all);
+            Err(OutOfMemory)
+        }
+    }
 }
 
 #[test]

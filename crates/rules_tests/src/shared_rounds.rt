@@ -2,7 +2,7 @@
 //! rules: a version is one above the greatest of those that are read, a round follows the order of holding, and an
 //! input is the version that admission assigned.
 
-ghost use Rattle.std.specs.Prelude.{IfOk};
+ghost use Rattle.std.specs.Prelude.{IfOk, OnOk};
 ghost use Rattle.protocol_spec.specs.Chain.Words.{Each};
 ghost use Rattle.exec_plan.specs.Books.{IsSound};
 ghost use Rattle.exec_plan.specs.Waits.{IsWaiting};
@@ -254,7 +254,9 @@ fn perform(
         sequence,
         later,
     };
-    play(alloc, &mut desk, &row)
+    let played = play(alloc, &mut desk, &row);
+    drop(desk);
+    played
 }
 
 #[test]
@@ -328,23 +330,45 @@ fn an_admitted_one_waits_for_its_writer(rt: HostRuntime) -> Result<(), Fail> {
     Ok(())
 }
 
+/// The digest of a transaction.
+fn digest_of(alloc: Global, who: Who) -> Result<Digest, OutOfMemory> {
+    let held = certificate(alloc, who)?;
+    let digest = held.digest;
+    drop(held);
+    Ok(digest)
+}
+
+/// The certificate that names no shared object is admitted under this digest.
+fn enter_plain(alloc: Global, desk: &mut Desk, tx: &Digest) -> Result<(), OutOfMemory>
+    requires sound { Each IsSound desk.old.held }
+    requires waits { IsWaiting desk.old.store desk.old.admission.admission desk.old.held desk.old.waiting }
+    ensures sound { OnOk result (Each IsSound desk.new.held) }
+    ensures waits { OnOk result (IsWaiting desk.new.store desk.new.admission.admission desk.new.held desk.new.waiting) }
+{
+    let plain = certificate(alloc, Who::Plain)?;
+    let entered = desk.enter(tx, &plain.cert);
+    drop(plain);
+    entered
+}
+
 /// Another certificate is admitted under a transaction's digest, which assigns nothing to it: what a run executes,
 /// and what is left.
 fn play_unassigned(alloc: Global, desk: &mut Desk) -> Result<(u64, u64), OutOfMemory>
     requires sound { Each IsSound desk.old.held }
     requires waits { IsWaiting desk.old.store desk.old.admission.admission desk.old.held desk.old.waiting }
 {
-    let first = certificate(alloc, Who::First)?;
-    let plain = certificate(alloc, Who::Plain)?;
-    desk.enter(&first.digest, &plain.cert)?;
-    desk.hold(first)?;
+    let first = digest_of(alloc, Who::First)?;
+    enter_plain(alloc, desk, &first)?;
+    desk.hold(certificate(alloc, Who::First)?)?;
     let executed = all_digits(desk.run()?.as_slice());
     Ok((executed, left_digits(desk.left()?.as_slice())))
 }
 
 fn unassigned(alloc: Global) -> Result<(u64, u64), OutOfMemory> {
     let mut desk = open_desk(alloc)?;
-    play_unassigned(alloc, &mut desk)
+    let played = play_unassigned(alloc, &mut desk);
+    drop(desk);
+    played
 }
 
 #[test]

@@ -6,6 +6,7 @@ use chain_types::{
 };
 use digest_core::Digest;
 use std::alloc::Global;
+use std::process::Abort;
 use std::test::Fail;
 use version_store::Store;
 use vote_rules::VoteBook;
@@ -67,7 +68,10 @@ fn decided(
 ) -> Result<Option<DecideRefusal>, OutOfMemory> {
     let store = store(alloc)?;
     let tx = spending(alloc);
-    Ok(book.decide(alloc, &store, &tx, digest).err())
+    let refusal = book.decide(alloc, &store, &tx, digest).err();
+    drop(tx);
+    drop(store);
+    Ok(refusal)
 }
 
 /// A book with a vote for the transaction ONE: it consumes the coin, and names two origins.
@@ -75,8 +79,13 @@ fn voted(alloc: Global) -> Result<VoteBook, OutOfMemory> {
     let keys = Seq::from_slice(alloc, [coin_key()].as_slice())?;
     let origins = Seq::from_slice(alloc, [None, Some(TWO)].as_slice())?;
     let mut book = VoteBook::new(alloc);
-    book.cast(ONE, keys, origins)?;
-    Ok(book)
+    match book.cast(ONE, keys, origins) {
+        Ok(()) => Ok(book),
+        Err(OutOfMemory) => {
+            drop(book);
+            Err(OutOfMemory)
+        }
+    }
 }
 
 /// Whether a vote was given that names these origins.
@@ -87,11 +96,17 @@ fn names(book: &VoteBook, tx: &Digest, origins: &[Option<Digest>]) -> bool {
     }
 }
 
+/// Tests which origins the votes name.
+fn expect_origins(rt: &impl Abort, book: &VoteBook) {
+    assert!(rt; names(book, &ONE, [None, Some(TWO)].as_slice()));
+    assert!(rt; book.origins(&TWO).is_none());
+}
+
 #[test]
 fn a_vote_says_its_origins(rt: HostRuntime) -> Result<(), Fail> {
     let book = voted(rt.alloc())?;
-    assert!(rt; names(&book, &ONE, [None, Some(TWO)].as_slice()));
-    assert!(rt; book.origins(&TWO).is_none());
+    expect_origins(&rt, &book);
+    drop(book);
     Ok(())
 }
 
@@ -99,7 +114,21 @@ fn a_vote_says_its_origins(rt: HostRuntime) -> Result<(), Fail> {
 fn what_nobody_voted_for_is_free(rt: HostRuntime) -> Result<(), Fail> {
     let alloc = rt.alloc();
     let book = VoteBook::new(alloc);
-    assert_eq!(rt; decided(alloc, &book, &ONE)?, None);
+    let refusal = decided(alloc, &book, &ONE);
+    drop(book);
+    assert_eq!(rt; refusal?, None);
+    Ok(())
+}
+
+/// Tests whom the lock hinders.
+fn expect_locked(rt: &impl Abort, alloc: Global, book: &VoteBook) -> Result<(), Fail> {
+    let locked = DecideRefusal::Locked {
+        key: coin_key(),
+        by: ONE,
+    };
+    assert_eq!(rt; decided(alloc, book, &TWO)?, Some(locked));
+    // Its own lock is none for the transaction.
+    assert_eq!(rt; decided(alloc, book, &ONE)?, None);
     Ok(())
 }
 
@@ -107,12 +136,7 @@ fn what_nobody_voted_for_is_free(rt: HostRuntime) -> Result<(), Fail> {
 fn a_version_is_locked_by_the_vote(rt: HostRuntime) -> Result<(), Fail> {
     let alloc = rt.alloc();
     let book = voted(alloc)?;
-    let locked = DecideRefusal::Locked {
-        key: coin_key(),
-        by: ONE,
-    };
-    assert_eq!(rt; decided(alloc, &book, &TWO)?, Some(locked));
-    // Its own lock is none for the transaction.
-    assert_eq!(rt; decided(alloc, &book, &ONE)?, None);
-    Ok(())
+    let said = expect_locked(&rt, alloc, &book);
+    drop(book);
+    said
 }

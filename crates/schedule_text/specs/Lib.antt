@@ -8,4 +8,3 @@ pub mod Left
 pub mod Lines
 pub mod Refs
 pub mod Schedule
-pub mod Forms

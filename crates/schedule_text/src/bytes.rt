@@ -105,10 +105,11 @@ pub(crate) fn number_of(word: &[u8]) -> Option<u64>
     value_of(word)
 }
 
-/// The number that the word spells, where it is in the range.
+/// The number that the word spells in decimal digits with no zero in front, where it is in the range. Takes no memory.
 #[tactic(auto, unfolding(crate::specs::Bytes::number_in))]
-pub(crate) fn number_in(low: u64, high: u64, word: &[u8]) -> Option<u64>
+pub fn number_in(low: u64, high: u64, word: &[u8]) -> Option<u64>
     ensures value { result ≡ number_in low high word.now }
+    ensures least { IfSome result (λ n. low ≤ n) }
     ensures bound { IfSome result (λ n. n ≤ high) }
 {
     number_of(word).filter(|number| low <= *number && *number <= high)

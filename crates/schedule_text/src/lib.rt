@@ -7,7 +7,6 @@
 mod bytes;
 mod cause;
 mod commands;
-mod forms;
 mod inputs;
 mod lines;
 mod names;
@@ -17,8 +16,8 @@ mod refs;
 mod statement;
 mod words;
 
+pub use bytes::number_in;
 pub use cause::Cause;
-pub use forms::{Forms, read_schedule_within};
 pub use reader::read_schedule;
 pub use statement::Statement;
 pub use words::{

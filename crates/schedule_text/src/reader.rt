@@ -18,9 +18,9 @@ use crate::words::{Schedule, ScheduleRefusal};
 use std::alloc::Global;
 
 /// The bytes of a schedule, at most.
-pub(crate) const LONGEST_TEXT: usize = 16_777_216;
+const LONGEST_TEXT: usize = 16_777_216;
 
-pub(crate) fn is_skipped(line: &[u8]) -> bool
+fn is_skipped(line: &[u8]) -> bool
     ensures { result ≡ is_skipped line.now }
 {
     match line {
@@ -35,7 +35,7 @@ fn is_printable(byte: u8) -> bool
     matches!(byte, b' '..=b'~')
 }
 
-pub(crate) fn are_printable(line: &[u8]) -> bool
+fn are_printable(line: &[u8]) -> bool
     ensures { result ≡ list_all is_printable line.now }
 {
     line.iter().all(|byte| is_printable(*byte))

@@ -1,6 +1,6 @@
 //! Lists whose rows are found by a digest or by a name, without a scan.
 
-ghost use Rattle.std.specs.Prelude.{◌≡◌, ℕ, List, [], ◌∷◌, ◌++◌, OnOk, OnErr, bytes_eq, find, length, option_copied, position};
+ghost use Rattle.std.specs.Prelude.{◌≡◌, ℕ, List, [], ◌∷◌, ◌++◌, OnOk, OnErr, bytes_eq, find, length, option_copied, position, slice_get};
 ghost use Rattle.tables.specs.Tables.{same_digest};
 
 use crate::NameMap;
@@ -46,6 +46,13 @@ impl<T: Named + Drop> NamedTable<T> {
             table: Table::new(alloc),
             names: NameMap::new(alloc),
         }
+    }
+
+    /// The row at this place, counted from 0; none exactly where there are fewer. Takes no memory.
+    pub fn row(&self, place: usize) -> Option<&T>
+        ensures { option_copied result ≡ slice_get self.now place }
+    {
+        row_at(self.table.rows(), place)
     }
 
     /// The number of rows. Takes no memory.

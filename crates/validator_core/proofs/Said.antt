@@ -31,30 +31,6 @@ either_way : {A : Type 0} (b : Bool) (x : A) → cond b x x ≡ x
 either_way true x = refl
 either_way false x = refl
 
--- ---- the digest of what was executed
-
--- a look-up gave these effects, and this is their digest
-pub digest_known : (m : Member) (tx : Digest) (e : Effects) (d : Digest) → Some e ≡ option_map (λ (x : Execution). x.gave.effects) (execution_of m.executed tx) → d ≡ digest_of_effects e → Some d ≡ executed_digest tx m
-digest_known m tx e d found is = by (execution_of m.executed tx) found
-  where
-    by : (o : Option Execution) → Some e ≡ option_map (λ (x : Execution). x.gave.effects) o → Some d ≡ option_map effects_digest_at o
-    by None h = absurd (cc)
-    by (Some x) h = let same : e ≡ x.gave.effects = cc in ap Some is ∙ ap (λ (y : Effects). Some (digest_of_effects y)) same
-
-pub digest_unknown : (m : Member) (tx : Digest) → None ≡ option_map (λ (x : Execution). x.gave.effects) (execution_of m.executed tx) → None ≡ executed_digest tx m
-digest_unknown m tx found = by (execution_of m.executed tx) found
-  where
-    by : (o : Option Execution) → None ≡ option_map (λ (x : Execution). x.gave.effects) o → None ≡ option_map effects_digest_at o
-    by None h = refl
-    by (Some x) h = absurd (cc)
-
-pub was_executed : (m : Member) (tx : Digest) (e : Effects) → Some e ≡ option_map (λ (x : Execution). x.gave.effects) (execution_of m.executed tx) → is_executed m.executed tx ≡ true
-was_executed m tx e found = by (execution_of m.executed tx) found
-  where
-    by : (o : Option Execution) → Some e ≡ option_map (λ (x : Execution). x.gave.effects) o → is_some o ≡ true
-    by None h = absurd (cc)
-    by (Some x) h = refl
-
 -- ---- an acknowledgement
 
 pub acknowledges : (m : Member) (tx d : Digest) → Some d ≡ executed_digest tx m → acknowledged m tx (execution_of m.executed tx) ≡ Ok (statement.Ack m.epoch tx d)
@@ -71,16 +47,21 @@ lacks m tx is = by (execution_of m.executed tx) is
     by None h = refl
     by (Some x) h = absurd (cc)
 
-pub wants : (m : Member) (tx : Digest) → is_executed m.executed tx ≡ true → is_ok (acknowledged m tx (execution_of m.executed tx)) ≡ true
-wants m tx is = by (execution_of m.executed tx) is
-  where
-    by : (o : Option Execution) → is_some o ≡ true → is_ok (acknowledged m tx o) ≡ true
-    by None h = absurd (cc)
-    by (Some x) h = refl
-
 pub ack_short : (epoch : ℕ) (tx effects : Digest) → statement_codec.short (statement.Ack epoch tx effects)
 unfolding statement_codec digest
 ack_short epoch tx effects = (tt, (tt, tt))
+
+pub ack_goes : (said : Result Statement AckRefusal) (statement : Statement) → Ok statement ≡ said → is_ok said ≡ true
+ack_goes said statement is = ap (λ (a : Result Statement AckRefusal). is_ok a) (sym is)
+
+ack_as : (accepts : Signing) (member : ℕ) (said : Result Statement AckRefusal) (refusal : AckRefusal) → (refusal ≡ no_ack.OutOfMemory → ⊥) → said ≡ Err refusal → Acks accepts member said (Err refusal)
+ack_as accepts member said no_ack.Down able h = h
+ack_as accepts member said (no_ack.Halted first second) able h = h
+ack_as accepts member said no_ack.NotExecuted able h = h
+ack_as accepts member said no_ack.OutOfMemory able h = absurd (able refl)
+
+pub ack_refused : (accepts : Signing) (member : ℕ) (said : Result Statement AckRefusal) (refusal : AckRefusal) → (refusal ≡ no_ack.OutOfMemory → ⊥) → Err refusal ≡ said → Acks accepts member said (Err refusal)
+ack_refused accepts member said refusal able is = ack_as accepts member said refusal able (sym is)
 
 -- ---- an End
 

@@ -1,5 +1,5 @@
 -- The member behind an answer.
-use Rattle.std.proofs.Common.{◌≡◌, ℕ, true, false, cond, List, Option, Some, None, refl, ap, sym, ◌∙◌, subst}
+use Rattle.std.proofs.Common.{◌≡◌, ℕ, true, false, cond, List, Option, Some, None, is_some, refl, ap, sym, ◌∙◌, subst}
 use Rattle.std.specs.Prelude.{Bool, not, Result, Ok, Err}
 use Rattle.wire_bcs.specs.declared.fault.WireFault.{WireFault}
 use Rattle.digest_core.specs.declared.Digest.{Digest}
@@ -72,6 +72,10 @@ pub vote_due_at : (accepts : Signing) (old : Seat) (bytes : List ℕ) (before no
 unfolding due vote_answer
 vote_due_at accepts old bytes before now e up h =
     subst (λ (x : Option Record). Journaled before now old.member x e) (ap (λ (b : Bool). cond b (due (rules_of_seat old accepts) old.state (votes bytes)) None) (sym up)) h
+
+pub vote_owed_at : (accepts : Signing) (old : Seat) (bytes : List ℕ) → old.up ≡ true → is_some (due (sealed_as accepts) old.state (votes bytes)) ≡ true → is_some (due_at (rules_of_seat old accepts) old (votes bytes)) ≡ true
+unfolding due vote_answer
+vote_owed_at accepts old bytes up h = ap (λ (b : Bool). is_some (cond b (due (rules_of_seat old accepts) old.state (votes bytes)) None)) up ∙ h
 
 -- ---- certificates
 

@@ -1,11 +1,12 @@
 -- What each call of a member answers, against the definition; want of memory and a fault of the keeper say
 -- nothing here.
-use Rattle.std.specs.Prelude.{◌≡◌, ℕ, Bool, true, List, Result, Ok, Err, is_ok, if◌then◌else◌}
+use Rattle.std.specs.Prelude.{◌≡◌, ℕ, Bool, true, List, [], Option, Result, Ok, Err, is_ok, if◌then◌else◌}
 use Rattle.digest_core.specs.declared.Digest.{Digest}
 use Rattle.quorum_core.specs.declared.signer.Signer.{Signer}
 use Rattle.quorum_core.specs.declared.signer.Signer.TheVariants as signers
 use Rattle.chain_messages.specs.declared.messages.Sealed.{Sealed}
 use Rattle.chain_messages.specs.declared.messages.Statement.{Statement}
+use Rattle.chain_messages.specs.declared.messages.Statement.TheVariants as statement
 use Rattle.chain_messages.specs.Messages as messages
 use Rattle.protocol_spec.specs.Chain.Certificates.{Rules}
 use Rattle.answer_types.specs.declared.answers.Voted.{Voted as Sent}
@@ -42,6 +43,13 @@ vote_said r seat bytes = if seat.up then vote_answer r seat.state bytes else Err
 pub record IsSealedBy (accepts : Signer → List ℕ → Digest → Bool) (member : ℕ) (s : Sealed) : Type 0 where
   pub by : s.member ≡ member
   pub accepted : accepts (signers.Member member) (messages.statement.spell s.statement) s.seal ≡ true
+
+-- the origins that a vote's statement names
+abbrev pub origins_in : Statement → List (Option Digest)
+origins_in (statement.Vote epoch tx origins) = origins
+origins_in (statement.End epoch) = []
+origins_in (statement.Checkpoint epoch number digest) = []
+origins_in (statement.Ack epoch tx effects) = []
 
 abbrev pub Votes : (Signer → List ℕ → Digest → Bool) → ℕ → Result Voted VoteRefusal → Result Sent VoteRefusal → Type 0
 Votes accepts member said (Ok v) = (said ≡ Ok (record { statement = v.sealed.statement; fresh = v.fresh })) × IsSealedBy accepts member v.sealed
@@ -147,12 +155,6 @@ close_ended (Err refusal) = answered
 
 abbrev pub ack_said : Rules → Seat → Digest → Result Statement AckRefusal
 ack_said r seat tx = if seat.up then ack_answer r seat.state tx else Err no_ack.Down
-
--- the statement alone; memory may be wanted where there is one, and else not
-abbrev pub AcksAs : Result Statement AckRefusal → Result Statement AckRefusal → Type 0
-AcksAs said (Ok statement) = said ≡ Ok statement
-AcksAs said (Err no_ack.OutOfMemory) = is_ok said ≡ true
-AcksAs said (Err refusal) = said ≡ Err refusal
 
 -- the statement under the member's seal
 abbrev pub Acks : (Signer → List ℕ → Digest → Bool) → ℕ → Result Statement AckRefusal → Result Sealed AckRefusal → Type 0

@@ -10,3 +10,4 @@ pub mod Calls
 pub mod Taking
 pub mod Starts
 pub mod Renewals
+pub mod Opened

@@ -1,11 +1,12 @@
 //! The calls that a member answers, over its state.
 
-ghost use Rattle.std.specs.Prelude.{◌≡◌, ◌<◌, ◌≤◌, IfOk, IsErrOf, OnOk, false, is_some, length, nat_le, true};
+ghost use Rattle.std.specs.Prelude.{◌≡◌, ◌<◌, ◌≤◌, IfOk, IsErrOf, None, OnOk, false, is_some, length, nat_le, true};
 ghost use Rattle.chain_types.specs.Transactions.{transaction};
 ghost use Rattle.chain_types.specs.Digests.{transaction_digest};
 ghost use Rattle.chain_messages.specs.declared.messages.Statement.TheVariants as statements;
 ghost use Rattle.outside.specs.Causes.{Rose};
 ghost use Rattle.journal_core.specs.declared.records.Record.TheVariants as record_as;
+ghost use Rattle.protocol_spec.specs.Member.Member.{fork_of};
 ghost use Rattle.protocol_spec.specs.Member.Calls.{called, due, hold_answer, holds, record_limit, vote_answer, votes};
 ghost use Rattle.answer_types.specs.declared.refusals.HoldRefusal.TheVariants as no_hold;
 ghost use Rattle.answer_types.specs.declared.refusals.VoteRefusal.TheVariants as no_vote;
@@ -16,7 +17,7 @@ ghost use Rattle.validator_core.specs.Steps.{voted};
 ghost use Rattle.journal_core.specs.Records as journals;
 ghost use Rattle.validator_core.specs.Taking.{MayTake, taken};
 ghost use Rattle.validator_core.specs.declared.keeping.Unkept.TheVariants as unkept;
-ghost use Rattle.validator_core.specs.Calls.{Holds, IsSealedBy, Votes, hold_ended, vote_ended};
+ghost use Rattle.validator_core.specs.Calls.{Holds, IsSealedBy, Votes, hold_ended, origins_in, vote_ended};
 ghost use Rattle.validator_core.specs.Seats.{Appended, Becomes, Journaled, has_fallen};
 
 use crate::keeping::{Unkept, append};
@@ -149,6 +150,9 @@ pub(crate) fn vote<D: Keeper, S: Sealer>(
     ensures width { D.width keeper.new ≡ D.width keeper.old }
     ensures later { D.failed keeper.old ≤ D.failed keeper.new }
     ensures fault { IsErrOf result no_vote.KeepFault → Rose (D.failed keeper.old) (D.failed keeper.new) }
+    ensures owed { IsErrOf result no_vote.KeepFault → is_some (due (sealed_as (S.accepts sealer.now)) state.old.member (votes bytes.now)) ≡ true }
+    ensures able { IsErrOf result no_vote.OutOfMemory → fork_of state.old.member ≡ None }
+    ensures few { IfOk result (λ v. length (origins_in v.sealed.statement) ≤ 257) }
     ensures limit { state.new.writers ≡ state.old.writers }
 {
     let (tx, decision) = state.vote(sealer, bytes)?;

@@ -15,11 +15,13 @@ use crate::telling::tell;
 use answer_types::{Held, Left};
 use chain_types::Object;
 use checkpoint_core::Checkpoint;
+use dag_pool::Gate;
 use digest_core::Digest;
 use effects_core::Effects;
 use epoch_turn::{Chain, EndCount};
 use exec_plan::Waiting;
 use std::alloc::Global;
+use std::thread::Threads;
 use version_assign::Admission;
 use version_store::Store;
 use vote_rules::HeldBook;
@@ -125,8 +127,8 @@ impl Course {
         self.chain.advance(self.epoch, &self.store)
     }
 
-    /// Executes all held certificates that are ready, round after round (Sui Lutris), and answers their effects in
-    /// order.
+    /// Executes on the caller's thread all held certificates that are ready, round after round (Sui Lutris), and answers
+    /// their effects in order.
     fn execute(&mut self) -> Result<Seq<Effects>, OutOfMemory>
         requires { IsSound self.old }
         ensures unbuilt { OnOk result (IsUnbuilt self.new) }
@@ -136,7 +138,7 @@ impl Course {
         ensures stays { Stays self.old self.new }
         ensures seen { self.new.seen ≡ self.old.seen }
     {
-        exec_plan::run(
+        exec_plan::run_planned(
             self.alloc,
             &mut self.store,
             &self.admission,
@@ -145,7 +147,36 @@ impl Course {
         )
     }
 
-    /// Runs, and builds the checkpoints that the run completes: the effects of what was executed, and these.
+    /// The same by 1 to 16 workers in threads. The gate is told of each execution.
+    fn execute_pooled<R: Threads + Sync, G: Gate + Sync>(
+        &mut self,
+        rt: &R,
+        workers: u32,
+        gate: &G,
+    ) -> Result<Seq<Effects>, OutOfMemory>
+        requires workers { (0 < workers) × (workers ≤ 16) }
+        requires sound { IsSound self.old }
+        ensures unbuilt { OnOk result (IsUnbuilt self.new) }
+        ensures value { OnOk result (coursed self.new ≡ ran (coursed self.old)) }
+        ensures effects { IfOk result (λ effects. effects ≡ map effects_of (rounds (books_of self.old.store self.old.admission.admission self.old.held) self.old.store.executed)) }
+        ensures built { self.new.chain.built ≡ self.old.chain.built }
+        ensures stays { Stays self.old self.new }
+        ensures seen { self.new.seen ≡ self.old.seen }
+    {
+        exec_plan::run_pooled(
+            rt,
+            self.alloc,
+            &mut self.store,
+            &self.admission,
+            &mut self.waiting,
+            self.held.as_slice(),
+            workers,
+            gate,
+        )
+    }
+
+    /// Runs on the caller's thread, and builds the checkpoints that the run completes: the effects of what was executed,
+    /// and these.
     pub(crate) fn run(&mut self) -> Result<(Seq<Effects>, Seq<Checkpoint>), OutOfMemory>
         requires { IsSound self.old }
         ensures sound { OnOk result (IsSound self.new) }
@@ -156,6 +187,27 @@ impl Course {
         ensures seen { self.new.seen ≡ self.old.seen }
     {
         let effects = self.execute()?;
+        let built = self.advance()?;
+        Ok((effects, built))
+    }
+
+    /// The same by 1 to 16 workers in threads. The gate is told of each execution.
+    pub(crate) fn run_pooled<R: Threads + Sync, G: Gate + Sync>(
+        &mut self,
+        rt: &R,
+        workers: u32,
+        gate: &G,
+    ) -> Result<(Seq<Effects>, Seq<Checkpoint>), OutOfMemory>
+        requires workers { (0 < workers) × (workers ≤ 16) }
+        requires sound { IsSound self.old }
+        ensures sound { OnOk result (IsSound self.new) }
+        ensures value { OnOk result (coursed self.new ≡ ran (coursed self.old)) }
+        ensures effects { IfOk result (λ r. r.0 ≡ map effects_of (rounds (books_of self.old.store self.old.admission.admission self.old.held) self.old.store.executed)) }
+        ensures built { IfOk result (λ r. r.1 ≡ newly_built (coursed self.old) (coursed self.new)) }
+        ensures stays { Stays self.old self.new }
+        ensures seen { self.new.seen ≡ self.old.seen }
+    {
+        let effects = self.execute_pooled(rt, workers, gate)?;
         let built = self.advance()?;
         Ok((effects, built))
     }

@@ -15,9 +15,11 @@ ghost use Rattle.validator_core.specs.Seats.{Appended, AppendedWhere, Becomes, J
 use crate::keeping::{Unkept, append};
 use crate::{State, ran_record};
 use answer_types::{CloseRefusal, Ran, RunRefusal};
+use dag_pool::Gate;
 use effects_core::Effects;
 use journal_core::Record;
 use outside::Keeper;
+use std::thread::Threads;
 use wire_bcs::OutOfMemory;
 
 /// Appends the record of a run that executed transactions with these effects, and counts it; a run that executed
@@ -52,12 +54,16 @@ fn keep_run<D: Keeper>(
 
 /// Lets a member that is up execute what it holds: the record of a run is appended before the call answers.
 #[tactic(auto, using(crate::proofs::Running::run_goes, crate::proofs::Running::run_refused, crate::proofs::Running::run_stays))]
-pub(crate) fn run<D: Keeper>(
+pub(crate) fn run<R: Threads + Sync, D: Keeper, G: Gate + Sync>(
+    rt: &R,
     state: &mut State,
     keeper: &mut D,
     member: u32,
+    workers: u32,
+    gate: &G,
 ) -> Result<Ran, RunRefusal>
     requires known { member < D.width keeper.old }
+    requires workers { (0 < workers) × (workers ≤ 16) }
     ensures answer { Runs (run_answer bare state.old.member) result }
     ensures state { Becomes (called bare state.old.member runs) state.new.member (run_ended result) }
     ensures kept { Journaled (D.lists keeper.old) (D.lists keeper.new) member (due bare state.old.member runs) (run_ended result) }
@@ -70,7 +76,7 @@ pub(crate) fn run<D: Keeper>(
         Ok(()) => {}
         Err(refusal) => return Err(refusal),
     }
-    let Ok(ran) = state.run() else {
+    let Ok(ran) = state.run(rt, workers, gate) else {
         return Err(RunRefusal::OutOfMemory);
     };
     keep_run(state, keeper, member, ran.executed.as_slice())?;

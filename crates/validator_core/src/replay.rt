@@ -176,7 +176,7 @@ impl State {
         self.check_run().is_ok()
     }
 
-    /// Runs once more: the items of the record of the run.
+    /// Runs once more, on the caller's thread: the items of the record of the run.
     fn rerun(&mut self) -> Result<Seq<RanItem>, OutOfMemory>
         ensures state { OnOk result (self.new.member ≡ with_rounds self.old.member) }
         ensures items { IfOk result (λ items. items ≡ ran_items self.old.member) }

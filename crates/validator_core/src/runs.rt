@@ -1,6 +1,6 @@
 //! Runs and the close of an epoch, and the records of runs.
 
-ghost use Rattle.std.specs.Prelude.{◌≡◌, [], IfOk, IfSome, OnOk, false, nat_le, true};
+ghost use Rattle.std.specs.Prelude.{◌≡◌, ◌<◌, ◌≤◌, [], IfOk, IfSome, OnOk, false, nat_le, true};
 ghost use Rattle.journal_core.specs.Records as journals;
 ghost use Rattle.protocol_spec.specs.Chain.Words.{unless_refused};
 ghost use Rattle.protocol_spec.specs.Member.Calls.{ran_as, ran_items, ran_record, record_limit};
@@ -11,9 +11,11 @@ ghost use Rattle.validator_core.specs.Steps.{item_of, items_after, items_of};
 
 use crate::state::State;
 use answer_types::{CloseRefusal, Ran, RunRefusal};
+use dag_pool::Gate;
 use effects_core::{Effects, effects_digest};
 use journal_core::{RanItem, Record};
 use std::alloc::Global;
+use std::thread::Threads;
 use wire_bcs::{OutOfMemory, Seq};
 
 /// How long a list is at least that cannot be spelled.
@@ -72,15 +74,22 @@ pub fn ran_record(alloc: Global, effects: &[Effects]) -> Result<Option<Record>, 
 }
 
 impl State {
-    /// Runs: executes all held certificates that are ready, round after round, and tells what is left (Sui Lutris).
-    /// The items of the record that is due are those of the effects. Where memory is refused the state is not to be used.
-    pub fn run(&mut self) -> Result<Ran, OutOfMemory>
+    /// Runs, by 1 to 16 workers in threads: executes all held certificates that are ready, round after round, and tells
+    /// what is left (Sui Lutris). The gate is told of each execution. The items of the record that is due are those of the
+    /// effects. Where memory is refused the state is not to be used.
+    pub fn run<R: Threads + Sync, G: Gate + Sync>(
+        &mut self,
+        rt: &R,
+        workers: u32,
+        gate: &G,
+    ) -> Result<Ran, OutOfMemory>
+        requires workers { (0 < workers) × (workers ≤ 16) }
         ensures state { OnOk result (self.new.member ≡ with_rounds self.old.member) }
         ensures ran { IfOk result (λ ran. ran ≡ ran_as self.old.member (rounds (books self.old.member) self.old.member.executed) (with_rounds self.old.member)) }
         ensures items { IfOk result (λ ran. items_of ran.executed ≡ ran_items self.old.member) }
         ensures limit { self.new.writers ≡ self.old.writers }
     {
-        let (executed, built) = self.execute()?;
+        let (executed, built) = self.execute_pooled(rt, workers, gate)?;
         Ok(Ran {
             executed,
             left: self.left()?,

@@ -1,6 +1,6 @@
 //! The state, and the records that it takes.
 
-ghost use Rattle.std.specs.Prelude.{◌≡◌, ◌≤◌, IfOk, IfSome, OnOk, None, false, true, find, is_some, option_copied, option_map, nat_le, length, map, slice_get};
+ghost use Rattle.std.specs.Prelude.{◌≡◌, ◌<◌, ◌≤◌, IfOk, IfSome, OnOk, None, false, true, find, is_some, option_copied, option_map, nat_le, length, map, slice_get};
 ghost use Rattle.checkpoint_core.specs.Checkpoints.{transactions_in};
 ghost use Rattle.chain_types.specs.Digests.{consumed_keys, transaction_digest};
 ghost use Rattle.quorum_core.specs.Committee.{is_among};
@@ -19,6 +19,7 @@ ghost use Rattle.scene_spec.specs.Starts.{AreApart};
 ghost use Rattle.scene_spec.specs.Terms.{rules_for};
 ghost use Rattle.validator_core.specs.Entries.{MayArrive, behind_entry, what_as};
 ghost use Rattle.validator_core.specs.Limits.{Accepting, terms_at};
+ghost use Rattle.validator_core.specs.Opened.{opening_objects};
 ghost use Rattle.validator_core.specs.Sound.{unordered};
 ghost use Rattle.validator_core.specs.Steps.{closing, counted, holding, items_of, turning, voted};
 ghost use Rattle.vote_rules.specs.Decide.{Decides};
@@ -31,11 +32,13 @@ use crate::ordered::{first_unordered, ordered_on};
 use answer_types::{Held, Left, Seen};
 use chain_types::{DecideRefusal, Object, ObjectKey, Transaction};
 use checkpoint_core::Checkpoint;
+use dag_pool::Gate;
 use digest_core::Digest;
 use effects_core::Effects;
 use quorum_core::Committee;
 use std::alloc::Global;
 use std::marker::Model;
+use std::thread::Threads;
 use vote_rules::{Fork, VoteBook};
 use wire_bcs::{OutOfMemory, Seq};
 
@@ -213,6 +216,13 @@ impl State {
         self.course.store.live_list()
     }
 
+    /// The objects with which the present epoch opened, by ascending id.
+    pub(crate) fn opening_list(&self) -> Result<Seq<Object>, OutOfMemory>
+        ensures { IfOk result (λ objects. objects ≡ opening_objects self.now.member) }
+    {
+        self.course.store.opening_list()
+    }
+
     /// The origins that the vote for this transaction named, where one was given. Takes no memory.
     pub(crate) fn given(&self, tx: &Digest) -> Option<&Seq<Option<Digest>>>
         ensures few { IfSome result (λ o. length o.now ≤ 257) }
@@ -321,9 +331,9 @@ impl State {
         }
     }
 
-    /// Executes all held certificates that are ready, round after round (Sui Lutris), and answers their effects in
-    /// order, and the checkpoints that are complete by it; the record of it is to be counted. The items of that record
-    /// are those of the effects. Where memory is refused the state is not to be used.
+    /// Executes on the caller's thread all held certificates that are ready, round after round (Sui Lutris), and answers
+    /// their effects in order, and the checkpoints that are complete by it; the record of it is to be counted. The items of
+    /// that record are those of the effects. Where memory is refused the state is not to be used.
     #[tactic(auto, unfolding(protocol_spec::specs::Member::Member::built), using(crate::proofs::Named::ran_named))]
     pub fn execute(&mut self) -> Result<(Seq<Effects>, Seq<Checkpoint>), OutOfMemory>
         ensures state { OnOk result (self.new.member ≡ with_rounds self.old.member) }
@@ -333,6 +343,31 @@ impl State {
         ensures limit { self.new.writers ≡ self.old.writers }
     {
         match self.course.run() {
+            Ok(done) => Ok(done),
+            Err(OutOfMemory) => {
+                self.course.forget();
+                self.ordered = 0;
+                Err(OutOfMemory)
+            }
+        }
+    }
+
+    /// The same by 1 to 16 workers in threads. The gate is told of each execution.
+    #[tactic(auto, unfolding(protocol_spec::specs::Member::Member::built), using(crate::proofs::Named::ran_named))]
+    pub fn execute_pooled<R: Threads + Sync, G: Gate + Sync>(
+        &mut self,
+        rt: &R,
+        workers: u32,
+        gate: &G,
+    ) -> Result<(Seq<Effects>, Seq<Checkpoint>), OutOfMemory>
+        requires workers { (0 < workers) × (workers ≤ 16) }
+        ensures state { OnOk result (self.new.member ≡ with_rounds self.old.member) }
+        ensures effects { IfOk result (λ r. r.0 ≡ map effects_of (rounds (books self.old.member) self.old.member.executed)) }
+        ensures items { IfOk result (λ r. items_of r.0 ≡ ran_items self.old.member) }
+        ensures built { IfOk result (λ r. r.1 ≡ newly_built self.old.member (with_rounds self.old.member)) }
+        ensures limit { self.new.writers ≡ self.old.writers }
+    {
+        match self.course.run_pooled(rt, workers, gate) {
             Ok(done) => Ok(done),
             Err(OutOfMemory) => {
                 self.course.forget();

@@ -1,34 +1,22 @@
 //! What a member states beside its votes: that it executed a transaction, and that it ended its epoch.
 
-ghost use Rattle.std.specs.Prelude.{◌≡◌, IfOk, IsErrOf, OnErr, true};
+ghost use Rattle.std.specs.Prelude.{◌≡◌, IfOk, IsErrOf};
+ghost use Rattle.answer_types.specs.declared.refusals.AckRefusal.TheVariants as no_ack;
 ghost use Rattle.answer_types.specs.declared.refusals.EndRefusal.TheVariants as no_end;
 ghost use Rattle.chain_messages.specs.Messages.{statement as statement_codec};
-ghost use Rattle.effects_core.specs.Effects.{digest_of_effects};
 ghost use Rattle.protocol_spec.specs.Chain.Words.{first_some, unless_refused};
 ghost use Rattle.protocol_spec.specs.Member.Calls.{ack_answer, end_answer, end_cases};
-ghost use Rattle.protocol_spec.specs.Member.Versions.{is_executed};
 ghost use Rattle.validator_core.specs.Answers.{bare};
-ghost use Rattle.validator_core.specs.Calls.{Acks, AcksAs, Ends, IsSealedBy};
+ghost use Rattle.validator_core.specs.Calls.{Acks, Ends, IsSealedBy};
 ghost use Rattle.world_spec.specs.Step.{executed_digest};
 
 use crate::State;
 use answer_types::{AckRefusal, EndRefusal};
 use chain_messages::{Sealed, Statement, encode_statement};
 use digest_core::Digest;
-use effects_core::{Effects, effects_digest};
 use quorum_core::{Sealer, Signer};
 use std::alloc::Global;
 use wire_bcs::OutOfMemory;
-
-/// The digest of effects. A list of 2^31 objects, more than a transaction can write, counts as want of memory.
-fn digest_of(alloc: Global, effects: &Effects) -> Result<Digest, OutOfMemory>
-    ensures { IfOk result (λ digest. digest ≡ digest_of_effects effects.now) }
-{
-    if !effects.is_short() {
-        return Err(OutOfMemory);
-    }
-    effects_digest(alloc, effects)
-}
 
 /// The statement of this member under its seal.
 pub(crate) fn seal_statement<S: Sealer>(
@@ -52,35 +40,30 @@ pub(crate) fn seal_statement<S: Sealer>(
 
 impl State {
     /// The digest of the effects of a transaction that the member executed in the epoch; none exactly where it executed
-    /// none. One look-up by the transaction; time grows with what the transaction wrote and deleted.
-    #[tactic(auto, using(crate::proofs::Said::digest_known, crate::proofs::Said::digest_unknown))]
-    pub(crate) fn executed_digest(&self, tx: &Digest) -> Result<Option<Digest>, OutOfMemory>
-        ensures value { IfOk result (λ d. d ≡ executed_digest tx.now self.now.member) }
-        ensures want { OnErr result (is_executed self.now.member.executed tx.now ≡ true) }
+    /// none. One look-up by the transaction. Takes no memory.
+    pub(crate) fn executed_digest(&self, tx: &Digest) -> Option<Digest>
+        ensures { result ≡ executed_digest tx.now self.now.member }
     {
-        match self.course.store.executed(tx) {
-            Some(effects) => Ok(Some(digest_of(self.alloc, effects)?)),
-            None => Ok(None),
-        }
+        self.course.store.executed_digest(tx)
     }
 
-    /// The acknowledgement of a transaction. Order of the refusals: `Halted`, `NotExecuted`.
-    #[tactic(auto, unfolding(protocol_spec::specs::Member::Calls::ack_answer), using(crate::proofs::Said::ack_short, crate::proofs::Said::acknowledges, crate::proofs::Said::lacks, crate::proofs::Said::wants))]
+    /// The acknowledgement of a transaction. Order of the refusals: `Halted`, `NotExecuted`. Takes no memory.
+    #[tactic(auto, unfolding(protocol_spec::specs::Member::Calls::ack_answer), using(crate::proofs::Said::ack_short, crate::proofs::Said::acknowledges, crate::proofs::Said::lacks))]
     fn acknowledgement(&self, tx: &Digest) -> Result<Statement, AckRefusal>
-        ensures answer { AcksAs (ack_answer bare self.now.member tx.now) result }
+        ensures answer { result ≡ ack_answer bare self.now.member tx.now }
         ensures short { IfOk result statement_codec.short }
+        ensures never { IsErrOf result no_ack.OutOfMemory → ⊥ }
     {
         if let Some((first, second)) = self.fork() {
             return Err(AckRefusal::Halted { first, second });
         }
         match self.executed_digest(tx) {
-            Ok(Some(effects)) => Ok(Statement::Ack {
+            Some(effects) => Ok(Statement::Ack {
                 epoch: self.epoch(),
                 tx: *tx,
                 effects,
             }),
-            Ok(None) => Err(AckRefusal::NotExecuted),
-            Err(OutOfMemory) => Err(AckRefusal::OutOfMemory),
+            None => Err(AckRefusal::NotExecuted),
         }
     }
 }
@@ -124,6 +107,7 @@ pub(crate) fn end<S: Sealer>(state: &State, sealer: &S, member: u32) -> Result<S
 }
 
 /// Asks a member that is up to acknowledge what it executed.
+#[tactic(auto, using(crate::proofs::Said::ack_goes, crate::proofs::Said::ack_refused))]
 pub(crate) fn ack<S: Sealer>(
     state: &State,
     sealer: &S,
@@ -132,7 +116,10 @@ pub(crate) fn ack<S: Sealer>(
 ) -> Result<Sealed, AckRefusal>
     ensures { Acks (S.accepts sealer.now) member (ack_answer bare state.now.member tx.now) result }
 {
-    let statement = state.acknowledgement(tx)?;
+    let statement = match state.acknowledgement(tx) {
+        Ok(statement) => statement,
+        Err(refusal) => return Err(refusal),
+    };
     match seal_statement(state.allocator(), sealer, member, statement) {
         Ok(sealed) => Ok(sealed),
         Err(OutOfMemory) => Err(AckRefusal::OutOfMemory),

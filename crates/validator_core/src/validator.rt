@@ -1,9 +1,9 @@
 //! The member.
 
-ghost use Rattle.std.specs.Prelude.{◌≡◌, ◌<◌, ◌≤◌, ◌^◌, [], IfOk, IsErrOf, OnErr, length, option_map, slice_get, true};
+ghost use Rattle.std.specs.Prelude.{◌≡◌, ◌<◌, ◌≤◌, ◌^◌, [], IfOk, IsErrOf, None, is_some, length, option_map, slice_get, true};
 ghost use Rattle.outside.specs.Causes.{Rose};
 ghost use Rattle.chain_types.specs.Digests.{digest_of_object};
-ghost use Rattle.protocol_spec.specs.Member.Versions.{Version, is_executed, version_at, versions as versions_of};
+ghost use Rattle.protocol_spec.specs.Member.Versions.{Version, version_at, versions as versions_of};
 ghost use Rattle.protocol_spec.specs.Member.Member.{Fork, built as built_by, fork_of, live_objects};
 ghost use Rattle.protocol_spec.specs.Member.Calls.{closes, holds, runs, sees, turns, votes};
 ghost use Rattle.answer_types.specs.declared.refusals.HoldRefusal.TheVariants as no_hold;
@@ -12,11 +12,12 @@ ghost use Rattle.answer_types.specs.declared.refusals.CloseRefusal.TheVariants a
 ghost use Rattle.answer_types.specs.declared.refusals.RunRefusal.TheVariants as no_run;
 ghost use Rattle.answer_types.specs.declared.refusals.SeeRefusal.TheVariants as no_see;
 ghost use Rattle.answer_types.specs.declared.refusals.TurnRefusal.TheVariants as no_turn;
-ghost use Rattle.validator_core.specs.Calls.{Acks, Closes, Ends, Holds, Runs, Sees, Turns, Votes, ack_said, close_ended, close_said, end_said, hold_ended, hold_said, run_ended, run_said, see_ended, see_said, turn_ended, turn_said, vote_ended, vote_said};
+ghost use Rattle.validator_core.specs.Calls.{Acks, Closes, Ends, Holds, Runs, Sees, Turns, Votes, ack_said, close_ended, close_said, end_said, hold_ended, hold_said, origins_in, run_ended, run_said, see_ended, see_said, turn_ended, turn_said, vote_ended, vote_said};
 ghost use Rattle.scene_spec.specs.Terms.{rules_for};
 ghost use Rattle.checkpoint_core.specs.Checkpoints.{transactions_in};
 ghost use Rattle.scene_spec.specs.Starts.{AreApart, started};
 ghost use Rattle.validator_core.specs.Starts.{Starts};
+ghost use Rattle.validator_core.specs.Opened.{opening_objects};
 ghost use Rattle.validator_core.specs.Seats.{Behaves, Fell, Journaled};
 ghost use Rattle.scene_spec.specs.Seats.{bare_rules, due_at, rules_of_seat};
 ghost use Rattle.world_spec.specs.Step.{executed_digest};
@@ -30,11 +31,13 @@ use answer_types::{
 use chain_messages::Sealed;
 use chain_types::{Object, ObjectKey, object_digest};
 use checkpoint_core::Checkpoint;
+use dag_pool::Gate;
 use digest_core::Digest;
 use outside::Keeper;
 use quorum_core::{Committee, Sealer};
 use std::alloc::Global;
 use std::marker::Model;
+use std::thread::Threads;
 use wire_bcs::{OutOfMemory, Seq};
 
 /// A member of a committee. Contracts see its number, the committee's terms, whether it is up, and its state.
@@ -164,11 +167,19 @@ impl Validator {
         self.state.live_list()
     }
 
+    /// The objects with which the present epoch opened, by ascending id. Time grows with the number of held versions.
+    pub fn opening_list(&self) -> Result<Seq<Object>, OutOfMemory>
+        ensures { IfOk result (λ objects. objects ≡ opening_objects self.now.state) }
+    {
+        self.state.opening_list()
+    }
+
     /// Asks the member for its vote for the transaction that the bytes spell (Sui Lutris). Order of the
     /// refusals: `Down`, `Halted`, `Full`, `Malformed`, `WrongEpoch`; then the vote that was given before comes
     /// again; `Closed`, `Invalid`, `Unsealed`, the cases of the vote rule, `KeepFault`. A fresh vote's record is
-    /// appended before the vote is given. Behind `KeepFault` and want of memory the member is down.
-    #[tactic(auto, using(crate::proofs::Settling::vote_settles, crate::proofs::Settling::vote_at, crate::proofs::Settling::vote_due_at, crate::proofs::Settling::down_keeps))]
+    /// appended before the vote is given; `KeepFault` comes only where one is due, want of memory only where the member
+    /// is up and met no fork. Behind both the member is down.
+    #[tactic(auto, using(crate::proofs::Settling::vote_settles, crate::proofs::Settling::vote_at, crate::proofs::Settling::vote_due_at, crate::proofs::Settling::vote_owed_at, crate::proofs::Settling::down_keeps))]
     pub fn vote<D: Keeper, S: Sealer>(
         &mut self,
         keeper: &mut D,
@@ -182,6 +193,9 @@ impl Validator {
         ensures width { D.width keeper.new ≡ D.width keeper.old }
         ensures later { D.failed keeper.old ≤ D.failed keeper.new }
         ensures fault { IsErrOf result no_vote.KeepFault → Rose (D.failed keeper.old) (D.failed keeper.new) }
+        ensures owed { IsErrOf result no_vote.KeepFault → is_some (due_at (rules_of_seat self.old (S.accepts sealer.now)) self.old (votes bytes.now)) ≡ true }
+        ensures able { IsErrOf result no_vote.OutOfMemory → (self.old.up ≡ true) × (fork_of self.old.state ≡ None) }
+        ensures few { IfOk result (λ v. length (origins_in v.sealed.statement) ≤ 257) }
     {
         if !self.up {
             return Err(VoteRefusal::Down);
@@ -265,11 +279,19 @@ impl Validator {
 
     /// Lets the member execute what it holds, round after round (Sui Lutris): answers the effects in order, and the
     /// certificates that it left although all that they waited for is executed, and the checkpoints that the run
-    /// completes. Order of the refusals: `Down`, `Halted`, `Full`, `KeepFault`. The record of a run that executed
+    /// completes. The certificates are executed by 1 to 16 workers in threads, and the gate is told of each execution;
+    /// what they come to is the same for any number of workers, whatever the order of their steps. Order of the refusals: `Down`, `Halted`, `Full`, `KeepFault`. The record of a run that executed
     /// something is appended before the call answers. Behind `KeepFault` and want of memory the member is down.
     #[tactic(auto, using(crate::proofs::Running::run_settles, crate::proofs::Running::run_at, crate::proofs::Running::run_due_at, crate::proofs::Settling::down_keeps))]
-    pub fn run<D: Keeper>(&mut self, keeper: &mut D) -> Result<Ran, RunRefusal>
+    pub fn run<R: Threads + Sync, D: Keeper, G: Gate + Sync>(
+        &mut self,
+        rt: &R,
+        keeper: &mut D,
+        workers: u32,
+        gate: &G,
+    ) -> Result<Ran, RunRefusal>
         requires known { self.old.member < D.width keeper.old }
+        requires workers { (0 < workers) × (workers ≤ 16) }
         ensures answer { Runs (run_said (bare_rules self.old) self.old) result }
         ensures state { Behaves (bare_rules self.old) runs self.old self.new (run_ended result) }
         ensures kept { Journaled (D.lists keeper.old) (D.lists keeper.new) self.old.member (due_at (bare_rules self.old) self.old runs) (run_ended result) }
@@ -280,7 +302,7 @@ impl Validator {
         if !self.up {
             return Err(RunRefusal::Down);
         }
-        let answer = epoch_calls::run(&mut self.state, keeper, self.member);
+        let answer = epoch_calls::run(rt, &mut self.state, keeper, self.member, workers, gate);
         self.up = !epoch_calls::run_fell(&answer);
         answer
     }
@@ -323,18 +345,16 @@ impl Validator {
     }
 
     /// The digest of the effects of a transaction that the member executed in its present epoch; none exactly where it
-    /// executed none. One look-up by the transaction, and time that grows with what it wrote and deleted.
-    pub fn executed_digest(&self, tx: &Digest) -> Result<Option<Digest>, OutOfMemory>
-        ensures value { IfOk result (λ digest. digest ≡ executed_digest tx.now self.now.state) }
-        ensures want { OnErr result (is_executed self.now.state.executed tx.now ≡ true) }
+    /// executed none. One look-up by the transaction. Takes no memory.
+    pub fn executed_digest(&self, tx: &Digest) -> Option<Digest>
+        ensures { result ≡ executed_digest tx.now self.now.state }
     {
         self.state.executed_digest(tx)
     }
 
     /// Asks the member to acknowledge a transaction that it executed in its epoch, with the digest of its effects
     /// (finality of Sui Lutris). Order of the refusals: `Down`, `Halted`, `NotExecuted`; memory is wanted for an
-    /// acknowledgement alone. Nothing is kept and nothing changes. One look-up by the transaction, and time that grows
-    /// with what it wrote and deleted.
+    /// acknowledgement alone. Nothing is kept and nothing changes. One look-up by the transaction.
     #[tactic(auto, using(crate::proofs::Said::ack_at))]
     pub fn ack<S: Sealer>(&self, sealer: &S, tx: &Digest) -> Result<Sealed, AckRefusal>
         ensures answer { Acks (S.accepts sealer.now) self.now.member (ack_said (rules_of_seat self.now (S.accepts sealer.now)) self.now tx.now) result }

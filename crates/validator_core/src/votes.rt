@@ -64,6 +64,7 @@ impl State {
     pub(crate) fn check_vote(&self) -> Result<(), VoteRefusal>
         ensures value { result ≡ unless_refused (vote_stopped self.now.member) tt }
         ensures room { IfOk result (λ _. nat_le record_limit self.now.member.records ≡ false) }
+        ensures calm { IfOk result (λ _. fork_of self.now.member ≡ None) }
         ensures never { IsErrOf result no_vote.KeepFault → ⊥ }
     {
         if let Some((first, second)) = self.fork() {
@@ -160,6 +161,7 @@ impl State {
         ensures free { IfOk result (λ v. IsFree self.now.member v.0 v.1) }
         ensures short { IfOk result (λ v. transaction.short v.0) }
         ensures room { IfOk result (λ _. nat_le record_limit self.now.member.records ≡ false) }
+        ensures calm { IfOk result (λ _. fork_of self.now.member ≡ None) }
         ensures never { IsErrOf result no_vote.KeepFault → ⊥ }
         ensures able { IsErrOf result no_vote.OutOfMemory → fork_of self.now.member ≡ None }
     {

@@ -7,6 +7,7 @@ use Rattle.digest_core.specs.declared.Digest.{Digest}
 use Rattle.chain_types.specs.declared.objects.Object.{Object}
 use Rattle.chain_types.specs.Equal.{digest_eq}
 use Rattle.effects_core.specs.declared.effects.Effects.{Effects}
+use Rattle.effects_core.specs.Effects.{digest_of_effects}
 use Rattle.protocol_spec.specs.Member.Versions.{Execution, execution_of}
 use Rattle.version_store.specs.declared.maps.Ran.{Ran}
 use Rattle.version_store.specs.Stores.{Stored, with_execution}
@@ -58,6 +59,14 @@ lookup_ran (e ∷ es) objects tx =
         → option_map (λ (r : Ran). r.effects) (cond b (Some e.1) (lookup (digest_eq tx) es)) ≡ known_as (cond b (Some (ran_as e.0 e.1 (take e.1.written objects))) (execution_of (executions es (drop e.1.written objects)) tx))
     by true more = refl
     by false more = more
+
+-- the digest that stands beside what is kept is that of the execution
+pub digest_found : (o : Option Ran) (x : Option Execution) → option_map (λ (r : Ran). r.effects) o ≡ known_as x
+    → option_map (λ (r : Ran). digest_of_effects r.effects) o ≡ option_map (λ (y : Execution). digest_of_effects y.gave.effects) x
+digest_found None None h = refl
+digest_found (Some r) (Some x) h = cc
+digest_found None (Some x) h = absurd (cc)
+digest_found (Some r) None h = absurd (cc)
 
 pub some_mapped : {A B : Type 0} → (f : A → B) (o : Option A) → is_some (option_map f o) ≡ is_some o
 some_mapped f None = refl

@@ -15,3 +15,4 @@ mod Ascending
 mod Turned
 mod Opened
 pub mod Openings
+mod OpeningLists

@@ -8,3 +8,4 @@ pub mod Live
 pub mod Fresh
 pub mod Makers
 pub mod Changed
+pub mod Openings

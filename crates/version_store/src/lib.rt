@@ -18,6 +18,7 @@ mod fresh;
 mod live;
 mod maps;
 mod revert;
+mod stated;
 mod store;
 mod turn;
 

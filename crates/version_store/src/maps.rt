@@ -7,9 +7,9 @@ ghost use Rattle.chain_types.specs.Equal.{id_eq};
 ghost use Rattle.version_store.specs.Steps.{newer_of, with_all_newer, with_consumer, with_consumers, with_newer, with_versions};
 ghost use Rattle.version_store.specs.Changes.{Adds, HasRoom, Holds, IsEmpty, SameEntries};
 
+use crate::stated::Stated;
 use chain_types::{Object, ObjectId, ObjectKey, Producer};
 use digest_core::Digest;
-use effects_core::Effects;
 use indexmap::{IndexMap, IndexSet};
 use std::alloc::Global;
 use tables::insert_in_room;
@@ -26,7 +26,7 @@ pub(crate) struct Kept {
 #[derive(Debug, Drop)]
 pub(crate) struct Ran {
     pub(crate) consumed: Seq<ObjectKey>,
-    pub(crate) effects: Effects,
+    pub(crate) effects: Stated,
     pub(crate) written: usize,
 }
 
@@ -183,18 +183,19 @@ impl Maps {
     }
 
     /// Adds an execution; there is room.
-    pub(crate) fn add(&mut self, effects: Effects, objects: &[Object], consumed: Seq<ObjectKey>)
+    pub(crate) fn add(&mut self, effects: Stated, objects: &[Object], consumed: Seq<ObjectKey>)
         requires { HasRoom self.old (length objects.now) (length consumed) (length effects.deleted) }
         ensures { Adds self.old self.new effects objects.now consumed }
     {
-        self.hold(objects, Producer::Tx(effects.tx));
-        add_ids(&mut self.deleted, effects.deleted.as_slice());
-        add_consumers(&mut self.consumers, consumed.as_slice(), effects.tx);
+        let tx = effects.effects().tx;
+        self.hold(objects, Producer::Tx(tx));
+        add_ids(&mut self.deleted, effects.effects().deleted.as_slice());
+        add_consumers(&mut self.consumers, consumed.as_slice(), tx);
         let ran = Ran {
             consumed,
             effects,
             written: objects.len(),
         };
-        insert_in_room(&mut self.executed, ran.effects.tx, ran);
+        insert_in_room(&mut self.executed, tx, ran);
     }
 }

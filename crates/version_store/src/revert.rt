@@ -101,7 +101,7 @@ fn deleted_staying(
     let mut deleted = IndexSet::new(alloc);
     for (tx, ran) in executed.iter() {
         if kept.contains(tx) {
-            let ids = ran.effects.deleted.as_slice();
+            let ids = ran.effects.effects().deleted.as_slice();
             deleted.reserve(ids.len())?;
             add_ids(&mut deleted, ids);
         }

@@ -1,11 +1,13 @@
 //! The store, and what it answers.
 
 ghost use Rattle.std.specs.Prelude.{◌≡◌, [], IfOk, OnErr, OnOk, false, true, is_some, option_copied, option_map};
+ghost use Rattle.effects_core.specs.Effects.{digest_of_effects};
 ghost use Rattle.protocol_spec.specs.Member.Versions.{Execution, Version, consumer_of, execution_of, is_executed, live, newest, object_in, version_at};
 ghost use Rattle.version_store.specs.Stores.{are_new, executed_as, held_in, with_execution};
 
 use crate::base::{at_version, behind, front_of};
 use crate::maps::{Maps, newer};
+use crate::stated::Stated;
 use chain_types::{Object, ObjectId, ObjectKey, Producer};
 use digest_core::Digest;
 use effects_core::Effects;
@@ -62,10 +64,9 @@ impl Store {
     }
 
     /// Adds an executed transaction: its effects, the objects that it wrote, and the versions that it consumed.
-    /// The transaction is new, and so is each written version. A refusal changes nothing.
-    pub fn write(
+    fn write_stated(
         &mut self,
-        effects: Effects,
+        effects: Stated,
         objects: Seq<Object>,
         consumed: &Seq<ObjectKey>,
     ) -> Result<(), OutOfMemory>
@@ -78,10 +79,28 @@ impl Store {
         self.maps.make_room(
             objects.as_slice().len(),
             consumed.as_slice().len(),
-            effects.deleted.as_slice().len(),
+            effects.effects().deleted.as_slice().len(),
         )?;
         self.maps.add(effects, objects.as_slice(), consumed);
         Ok(())
+    }
+
+    /// Adds an executed transaction: its effects, the objects that it wrote, and the versions that it consumed.
+    /// The transaction is new, and so is each written version. A list of 2^31 objects in the effects counts as want of
+    /// memory. A refusal changes nothing.
+    pub fn write(
+        &mut self,
+        effects: Effects,
+        objects: Seq<Object>,
+        consumed: &Seq<ObjectKey>,
+    ) -> Result<(), OutOfMemory>
+        requires first { is_executed self.old.executed effects.tx ≡ false }
+        requires new { are_new (held_in self.old) objects ≡ true }
+        ensures ok { OnOk result (self.new ≡ with_execution self.old (executed_as effects objects consumed.now)) }
+        ensures err { OnErr result (self.new ≡ self.old) }
+    {
+        let stated = Stated::new(self.alloc, effects)?;
+        self.write_stated(stated, objects, consumed)
     }
 
     /// The object of this version; none exactly where the version is not held. Takes no memory.
@@ -151,7 +170,17 @@ impl Store {
         ensures { option_map (λ (e : _). e.now) result ≡ option_map (λ (x : Execution). x.gave.effects) (execution_of self.now.executed tx.now) }
     {
         match self.maps.executed.get(tx) {
-            Some(ran) => Some(&ran.effects),
+            Some(ran) => Some(ran.effects.effects()),
+            None => None,
+        }
+    }
+
+    /// The digest of what an executed transaction did; none exactly where it was not executed. Takes no memory.
+    pub fn executed_digest(&self, tx: &Digest) -> Option<Digest>
+        ensures { result ≡ option_map (λ (x : Execution). digest_of_effects x.gave.effects) (execution_of self.now.executed tx.now) }
+    {
+        match self.maps.executed.get(tx) {
+            Some(ran) => Some(ran.effects.digest()),
             None => None,
         }
     }

@@ -1,4 +1,4 @@
-//! Tests of the base and of the types: worked bytes and digests, and the faults of spellings.
+//! Tests of what is read and written: worked bytes and digests, the faults of spellings, and the words of schedules and reports.
 #![tactic(auto)]
 
 #[cfg(test)]
@@ -7,6 +7,8 @@ mod checkpoints;
 mod digests;
 #[cfg(test)]
 mod effects;
+#[cfg(test)]
+mod generated;
 #[cfg(test)]
 mod items;
 #[cfg(test)]
@@ -18,6 +20,10 @@ mod quorums;
 #[cfg(test)]
 mod records;
 #[cfg(test)]
+mod reports;
+#[cfg(test)]
 mod rows;
+#[cfg(test)]
+mod schedules;
 #[cfg(test)]
 mod transactions;

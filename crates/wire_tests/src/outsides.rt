@@ -1,79 +1,218 @@
+ghost use Rattle.std.specs.Prelude.{◌≡◌, ◌<◌, length};
+
 use outside::{
     AlteredKeeper, FreeSource, Keeper, MemKeeper, MemSink, MemSource, NarrowSink, OutFault, Sink,
     Source,
 };
+use std::alloc::Global;
 use std::test::Fail;
+
+/// What the second of two members is answered to two records.
+fn appends(keeper: &mut MemKeeper) -> (Result<(), OutFault>, Result<(), OutFault>)
+    requires two { length keeper.old.lists ≡ 2 }
+    ensures two { length keeper.new.lists ≡ 2 }
+{
+    let first = keeper.append(1, b"one".as_slice());
+    let second = keeper.append(1, b"two".as_slice());
+    (first, second)
+}
+
+/// The members, the faults and the records of each of the two.
+fn counts(keeper: &MemKeeper) -> (u32, u64, u64, u64)
+    requires two { length keeper.now.lists ≡ 2 }
+{
+    (
+        keeper.members(),
+        keeper.faults(),
+        keeper.count(0),
+        keeper.count(1),
+    )
+}
+
+/// Whether the second member's first record is read so.
+fn has_first(keeper: &mut MemKeeper, want: &[u8]) -> bool
+    requires two { length keeper.old.lists ≡ 2 }
+{
+    if keeper.count(1) == 0 {
+        return false;
+    }
+    match keeper.read(1, 0) {
+        Ok(record) => record.as_slice() == want,
+        Err(_) => false,
+    }
+}
+
+/// What is answered, what is counted, and whether the first record is read.
+type Kept = (
+    (Result<(), OutFault>, Result<(), OutFault>),
+    (u32, u64, u64, u64),
+    bool,
+);
+
+fn keeps(alloc: Global) -> Result<Kept, Fail> {
+    let mut keeper = MemKeeper::new(alloc, 2, &[2])?;
+    let answers = appends(&mut keeper);
+    let counted = counts(&keeper);
+    let read = has_first(&mut keeper, b"one".as_slice());
+    drop(keeper);
+    Ok((answers, counted, read))
+}
 
 #[test]
 fn keeps_records(rt: HostRuntime) -> Result<(), Fail> {
-    let mut keeper = MemKeeper::new(rt.alloc(), 2, [2].as_slice())?;
-    assert_eq!(rt; keeper.append(1, b"one".as_slice()), Ok(()));
-    assert_eq!(rt; keeper.append(1, b"two".as_slice()), Err(OutFault::Failed));
-    assert_eq!(rt; (keeper.members(), keeper.faults()), (2, 1));
-    assert_eq!(rt; (keeper.count(0), keeper.count(1)), (0, 1));
-    if keeper.count(1) > 0 {
-        match keeper.read(1, 0) {
-            Ok(record) => assert_eq!(rt; record.as_slice(), b"one".as_slice()),
-            Err(_) => assert!(rt; false),
-        }
-    }
+    let answers = (Ok(()), Err(OutFault::Failed));
+    assert_eq!(rt; keeps(rt.alloc())?, (answers, (2, 1, 0, 1), true));
     Ok(())
+}
+
+/// What a sink answers to three writes.
+fn writes<S: Sink>(
+    sink: &mut S,
+    first: &[u8],
+    second: &[u8],
+    third: &[u8],
+) -> (
+    Result<usize, OutFault>,
+    Result<usize, OutFault>,
+    Result<usize, OutFault>,
+)
+    requires first { 0 < length first.now }
+    requires second { 0 < length second.now }
+    requires third { 0 < length third.now }
+{
+    let first = sink.write(first);
+    let second = sink.write(second);
+    (first, second, sink.write(third))
 }
 
 #[test]
 fn takes_bytes(rt: HostRuntime) -> Result<(), Fail> {
-    let mut sink = MemSink::new(rt.alloc(), [2].as_slice())?;
-    assert_eq!(rt; sink.write(b"ab".as_slice()), Ok(2));
-    assert_eq!(rt; sink.write(b"cd".as_slice()), Err(OutFault::Failed));
-    assert_eq!(rt; sink.write(b"e".as_slice()), Ok(1));
+    let mut sink = MemSink::new(rt.alloc(), &[2])?;
+    let answers = writes(
+        &mut sink,
+        b"ab".as_slice(),
+        b"cd".as_slice(),
+        b"e".as_slice(),
+    );
+    assert_eq!(rt; answers, (Ok(2), Err(OutFault::Failed), Ok(1)));
     assert_eq!(rt; sink.bytes(), b"abe".as_slice());
     Ok(())
 }
 
+/// How much a source gives three times, where it does not fail.
+fn draws<S: Source>(
+    source: &mut S,
+    buffer: &mut [u8; 4],
+) -> (Option<usize>, Option<usize>, Option<usize>) {
+    let first = source.read(buffer.as_mut_slice()).ok();
+    let second = source.read(buffer.as_mut_slice()).ok();
+    (first, second, source.read(buffer.as_mut_slice()).ok())
+}
+
+/// A source of five bytes that gives three at most and fails at the second call.
+fn draws_pieces(alloc: Global) -> Result<(bool, Option<usize>), Fail> {
+    let mut buffer = [0; 4];
+    let mut source = MemSource::new(alloc, b"abcde".as_slice(), 3, &[2])?;
+    let drawn = draws(&mut source, &mut buffer);
+    let told = drawn == (Some(3), None, Some(2)) && &buffer[..2] == b"de".as_slice();
+    Ok((told, source.read(buffer.as_mut_slice()).ok()))
+}
+
+/// A source that gives as many as there is room for.
+fn draws_freely(alloc: Global) -> Result<(Option<usize>, Option<usize>, Option<usize>), Fail> {
+    let mut buffer = [0; 4];
+    let mut source = FreeSource::new(alloc, b"abcde".as_slice())?;
+    Ok(draws(&mut source, &mut buffer))
+}
+
 #[test]
 fn gives_bytes(rt: HostRuntime) -> Result<(), Fail> {
-    let mut buffer = [0; 4];
-    let mut source = MemSource::new(rt.alloc(), b"abcde".as_slice(), 3, [2].as_slice())?;
-    assert_eq!(rt; source.read(buffer.as_mut_slice()), Ok(3));
-    assert!(rt; source.read(buffer.as_mut_slice()).is_err());
-    assert_eq!(rt; source.read(buffer.as_mut_slice()), Ok(2));
-    assert_eq!(rt; buffer[..2], *b"de".as_slice());
-    assert_eq!(rt; source.read(buffer.as_mut_slice()), Ok(0));
-    let mut source = FreeSource::new(rt.alloc(), b"abcde".as_slice())?;
-    assert_eq!(rt; source.read(buffer.as_mut_slice()), Ok(4));
-    assert_eq!(rt; source.read(buffer.as_mut_slice()), Ok(1));
-    assert_eq!(rt; source.read(buffer.as_mut_slice()), Ok(0));
+    assert_eq!(rt; draws_pieces(rt.alloc())?, (true, Some(0)));
+    assert_eq!(rt; draws_freely(rt.alloc())?, (Some(4), Some(1), Some(0)));
     Ok(())
+}
+
+/// Whether a sink that takes nothing stays empty.
+fn takes_none(alloc: Global) -> Result<bool, Fail> {
+    let mut sink = NarrowSink::new(alloc, 0, &[])?;
+    let answer = sink.write(b"abc".as_slice());
+    Ok(answer == Ok(0) && sink.bytes() == b"".as_slice())
 }
 
 #[test]
 fn takes_fronts_alone(rt: HostRuntime) -> Result<(), Fail> {
-    let mut sink = NarrowSink::new(rt.alloc(), 2, [2].as_slice())?;
-    assert_eq!(rt; sink.write(b"abc".as_slice()), Ok(2));
-    assert_eq!(rt; sink.write(b"c".as_slice()), Err(OutFault::Failed));
-    assert_eq!(rt; sink.write(b"c".as_slice()), Ok(1));
+    let mut sink = NarrowSink::new(rt.alloc(), 2, &[2])?;
+    let answers = writes(
+        &mut sink,
+        b"abc".as_slice(),
+        b"c".as_slice(),
+        b"c".as_slice(),
+    );
+    assert_eq!(rt; answers, (Ok(2), Err(OutFault::Failed), Ok(1)));
     assert_eq!(rt; sink.bytes(), b"abc".as_slice());
-    let mut sink = NarrowSink::new(rt.alloc(), 0, &[])?;
-    assert_eq!(rt; sink.write(b"abc".as_slice()), Ok(0));
-    assert_eq!(rt; sink.bytes(), b"".as_slice());
+    assert!(rt; takes_none(rt.alloc())?);
     Ok(())
+}
+
+/// What the one member of a keeper is answered to two records.
+fn appends_alone(keeper: &mut AlteredKeeper) -> (Result<(), OutFault>, Result<(), OutFault>)
+    requires one { length keeper.old.inner.lists ≡ 1 }
+    ensures one { length keeper.new.inner.lists ≡ 1 }
+{
+    let first = keeper.append(0, b"one".as_slice());
+    let second = keeper.append(0, b"two".as_slice());
+    (first, second)
+}
+
+/// Whether its record at the place is read so.
+fn has_at(keeper: &mut AlteredKeeper, place: u64, want: &[u8]) -> bool
+    requires one { length keeper.old.inner.lists ≡ 1 }
+    ensures one { length keeper.new.inner.lists ≡ 1 }
+{
+    if place >= keeper.count(0) {
+        return false;
+    }
+    match keeper.read(0, place) {
+        Ok(record) => record.as_slice() == want,
+        Err(_) => false,
+    }
+}
+
+/// The members of the keeper, and the records of the one.
+fn counts_alone(keeper: &AlteredKeeper) -> (u32, u64)
+    requires one { length keeper.now.inner.lists ≡ 1 }
+{
+    (keeper.members(), keeper.count(0))
+}
+
+/// What is answered, what is counted, and whether each record is read.
+type Altered = (
+    (Result<(), OutFault>, Result<(), OutFault>),
+    (u32, u64),
+    (bool, bool),
+);
+
+fn alters(keeper: &mut AlteredKeeper) -> Altered
+    requires one { length keeper.old.inner.lists ≡ 1 }
+{
+    let answers = appends_alone(keeper);
+    let counted = counts_alone(keeper);
+    let first = has_at(keeper, 0, b"one".as_slice());
+    let second = has_at(keeper, 1, b"x".as_slice());
+    (answers, counted, (first, second))
+}
+
+fn keeps_altered(alloc: Global) -> Result<Altered, Fail> {
+    let inner = MemKeeper::new(alloc, 1, &[])?;
+    let mut keeper = AlteredKeeper::new(inner, 0, 1, b"x".as_slice())?;
+    let said = alters(&mut keeper);
+    drop(keeper);
+    Ok(said)
 }
 
 #[test]
 fn gives_other_bytes_at_its_place(rt: HostRuntime) -> Result<(), Fail> {
-    let inner = MemKeeper::new(rt.alloc(), 1, &[])?;
-    let mut keeper = AlteredKeeper::new(inner, 0, 1, b"x".as_slice())?;
-    assert_eq!(rt; keeper.append(0, b"one".as_slice()), Ok(()));
-    assert_eq!(rt; keeper.append(0, b"two".as_slice()), Ok(()));
-    assert_eq!(rt; (keeper.members(), keeper.count(0)), (1, 2));
-    if keeper.count(0) > 1 {
-        match (keeper.read(0, 0), keeper.read(0, 1)) {
-            (Ok(first), Ok(second)) => {
-                assert_eq!(rt; first.as_slice(), b"one".as_slice());
-                assert_eq!(rt; second.as_slice(), b"x".as_slice());
-            }
-            _ => assert!(rt; false),
-        }
-    }
+    let said = keeps_altered(rt.alloc())?;
+    assert_eq!(rt; said, ((Ok(()), Ok(())), (1, 2), (true, true)));
     Ok(())
 }

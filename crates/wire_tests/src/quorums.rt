@@ -1,38 +1,28 @@
-use crate::rows::first_wrong;
+use crate::rows::{Refused, first_wrong, reads};
 use digest_core::Digest;
 use quorum_core::{Committee, CommitteeRefusal, KeyedSeal, Sealer, Signer};
 use std::test::Fail;
-use wire_bcs::{decode, encode};
+
+const USER_BYTES: &[&[u8]] = &[&[1], &[9; 32]];
+
+const NO_SIGNERS: &[Refused] = &[
+    (0, &[], 0, 1),
+    (1, &[], 1, 1),
+    (32, &[], 1, 1),
+    (33, &[0], 33, 7),
+    (0, &[0, 2, 1], 1, 1),
+    (0, &[0, 2, 1, 0, 0, 0], 5, 7),
+    (0, &[2], 0, 6),
+    (0, &[0x81, 0], 0, 3),
+    (0, &[0xff, 0xff, 0xff, 0xff, 0x10], 0, 4),
+];
 
 #[test]
 fn reads_signers(rt: HostRuntime) -> Result<(), Fail> {
-    let alloc = rt.alloc();
-    let member = [0, 2, 1, 0, 0];
-    assert_eq!(rt; decode(alloc, member.as_slice()), Ok(Signer::Member(258)));
-    let bytes = encode(alloc, &Signer::Member(258))?;
-    assert_eq!(rt; bytes.as_slice(), member.as_slice());
-    let mut user = Vec::from_slice(alloc, [1].as_slice())?;
-    user.extend_from_slice([9; 32].as_slice())?;
+    assert!(rt; reads(rt.alloc(), &[&[0, 2, 1, 0, 0]], &Signer::Member(258)));
     let signer = Signer::User(Digest([9; 32]));
-    assert_eq!(rt; decode(alloc, user.as_slice()), Ok(signer));
-    let bytes = encode(alloc, &signer)?;
-    assert_eq!(rt; bytes.as_slice(), user.as_slice());
-    let wrong = first_wrong::<Signer>(
-        alloc,
-        user.as_slice(),
-        [
-            (0, [].as_slice(), 0, 1),
-            (1, [].as_slice(), 1, 1),
-            (32, [].as_slice(), 1, 1),
-            (33, [0].as_slice(), 33, 7),
-            (0, [0, 2, 1].as_slice(), 1, 1),
-            (0, [0, 2, 1, 0, 0, 0].as_slice(), 5, 7),
-            (0, [2].as_slice(), 0, 6),
-            (0, [0x81, 0].as_slice(), 0, 3),
-            (0, [0xff, 0xff, 0xff, 0xff, 0x10].as_slice(), 0, 4),
-        ]
-        .as_slice(),
-    )?;
+    assert!(rt; reads(rt.alloc(), USER_BYTES, &signer));
+    let wrong = first_wrong::<Signer>(rt.alloc(), USER_BYTES, NO_SIGNERS)?;
     assert_eq!(rt; wrong, None);
     Ok(())
 }
@@ -63,21 +53,28 @@ fn refuses_committees(rt: HostRuntime) {
     );
 }
 
+/// What the committee says of its members.
+fn weighs(committee: &Committee) -> bool {
+    committee.len() == 3
+        && committee.stake(2) == Some(4)
+        && committee.stake(3) == None
+        && committee.total() == 6
+        && committee.weight(&[0, 2]) == 5
+        && committee.is_quorum(5)
+        && !committee.is_quorum(4)
+}
+
+/// Whether a copy of it says the same.
+fn weighs_copied(stakes: &[u32]) -> bool {
+    match Committee::new(stakes) {
+        Ok(first) => weighs(&first.copy()),
+        Err(_) => false,
+    }
+}
+
 #[test]
 fn weighs_members(rt: HostRuntime) {
-    match Committee::new([1, 1, 4].as_slice()) {
-        Ok(first) => {
-            let committee = first.copy();
-            assert_eq!(rt; committee.len(), 3);
-            assert_eq!(rt; committee.stake(2), Some(4));
-            assert_eq!(rt; committee.stake(3), None);
-            assert_eq!(rt; committee.total(), 6);
-            assert_eq!(rt; committee.weight([0, 2].as_slice()), 5);
-            assert!(rt; committee.is_quorum(5));
-            assert!(rt; !committee.is_quorum(4));
-        }
-        Err(_) => assert!(rt; false),
-    }
+    assert!(rt; weighs_copied(&[1, 1, 4]));
 }
 
 #[test]

@@ -11,7 +11,6 @@ pub mod Texts
 pub mod Lines
 pub mod Voting
 pub mod Restarts
-pub mod Stating
 pub mod Steps
 pub mod Stays
 pub mod Seeing
@@ -26,4 +25,5 @@ pub mod Leaving
 pub mod Saying
 pub mod Acking
 pub mod OrderedEnds
+pub mod Asked
 mod First

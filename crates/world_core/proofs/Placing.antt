@@ -1,5 +1,5 @@
 -- Each member at its place.
-use Rattle.std.proofs.Common.{◌≡◌, ℕ, zero, suc, ◌+◌, ◌<◌, ◌≤◌, List, [], ◌∷◌, ◌++◌, append_assoc, add-one, length, get_or, set, Option, Some, None, refl, sym, ap, ◌∙◌, subst, arith, length-set}
+use Rattle.std.proofs.Common.{◌≡◌, true, false, cond, ℕ, zero, suc, ◌+◌, ◌<◌, ◌≤◌, List, [], ◌∷◌, ◌++◌, append_assoc, add-one, length, get_or, set, Option, Some, None, refl, sym, ap, ◌∙◌, subst, arith, length-set}
 use Rattle.std.specs.Prelude.{Bool, slice_get, option_map}
 use Rattle.std.proofs.lemmas.Option.{slice_get_read}
 use Rattle.chain_types.specs.declared.objects.Object.{Object}
@@ -10,7 +10,7 @@ use Rattle.world_spec.specs.World.{Reached, finds_down, stops, answers}
 use Rattle.scene_spec.specs.Seats.{Seat}
 use Rattle.scene_spec.specs.Terms.{Terms}
 use Rattle.scene_spec.specs.Posts.{Post, changed_at, new_posts, post_behind, seat_at, seat_behind, standing_with}
-use Rattle.world_core.specs.Crews.{ArePlaced, IsPlaced, IsPlacedPost, honest_flags}
+use Rattle.world_core.specs.Crews.{ArePlaced, IsPlaced, IsPlacedPost, honest_at, honest_flags}
 
 -- ---- one member changes
 
@@ -36,6 +36,14 @@ placed_in terms posts n m old count low is placed = subst (IsPlacedPost terms m)
 -- a member that stands at a number is placed there
 pub placed_at : (terms : Terms) (posts : List Post) (m : ℕ) (p : Post) (o : Option Seat) → ArePlaced terms posts → Some p ≡ slice_get posts m → o ≡ p.standing → IsPlaced terms m o
 placed_at terms posts m p o all at is = subst (IsPlaced terms m) (sym is) (subst (IsPlacedPost terms m) (sym at) (all m))
+
+-- and so is one that is honest
+pub honest_placed : (terms : Terms) (posts : List Post) (m : ℕ) (p : Post) (o : Option Seat) → ArePlaced terms posts → Some p ≡ slice_get posts m → o ≡ honest_at (Some p) → IsPlaced terms m o
+honest_placed terms posts m p o all at is = subst (IsPlaced terms m) (sym is) (by p.honest (subst (IsPlacedPost terms m) (sym at) (all m)))
+  where
+    by : (honest : Bool) → IsPlaced terms m p.standing → IsPlaced terms m (cond honest p.standing None)
+    by true placed = placed
+    by false placed = tt
 
 pub whole_with : (terms : Terms) (flags : List Bool) (posts : List Post) (n m : ℕ) (old p : Post) → n ≡ length posts → m < n → old ≡ get_or posts m old → AreWhole terms flags posts → IsPlaced terms m p.standing → p.honest ≡ old.honest
     → AreWhole terms flags (set posts m p)

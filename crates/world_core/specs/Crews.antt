@@ -1,5 +1,5 @@
 -- The members of a committee as they stand. Source: this profile.
-use Rattle.std.specs.Prelude.{◌≡◌, ℕ, Bool, List, Option, Some, None, Result, Ok, Err, map, slice_get, if◌then◌else◌}
+use Rattle.std.specs.Prelude.{◌≡◌, ℕ, Bool, false, List, Option, Some, None, Result, Ok, Err, map, slice_get, if◌then◌else◌}
 use Rattle.chain_types.specs.declared.objects.Object.{Object}
 use Rattle.protocol_spec.specs.Member.Member.{live_objects}
 use Rattle.scene_spec.specs.Terms.{Terms}
@@ -33,6 +33,11 @@ honest_flags posts = map (λ (p : Post). p.honest) posts
 abbrev pub honest_at : Option Post → Option Seat
 honest_at None = None
 honest_at (Some p) = if p.honest then p.standing else None
+
+-- whether it is honest, up or not
+abbrev pub honest_post : Option Post → Bool
+honest_post None = false
+honest_post (Some p) = p.honest
 
 -- the epoch of a member that stands
 abbrev pub epoch_of : Option Seat → ℕ

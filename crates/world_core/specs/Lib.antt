@@ -13,3 +13,5 @@ pub mod Sums
 pub mod Sees
 pub mod Epochs
 pub mod Ends
+pub mod Replays
+pub mod Looks

@@ -68,18 +68,18 @@ fn say_ack<S: Sealer>(
 
 /// What a faulty member acknowledges: the digest that the lowest-numbered honest member has that is up and executed the
 /// transaction, else zeros.
-fn false_ack(seats: &Seats, made: &MadeTx, spoiled: bool) -> Result<Statement, OutOfMemory>
-    ensures { IfOk result (λ statement. statement ≡ false_ack_by seats.now.posts (made_as made.now) spoiled) }
+fn false_ack(seats: &Seats, made: &MadeTx, spoiled: bool) -> Statement
+    ensures { result ≡ false_ack_by seats.now.posts (made_as made.now) spoiled }
 {
-    let digest = match seats.executed_digest(&made.digest)? {
+    let digest = match seats.executed_digest(&made.digest) {
         Some(digest) => digest,
         None => Digest([0; 32]),
     };
-    Ok(Statement::Ack {
+    Statement::Ack {
         epoch: made.signed.tx.epoch,
         tx: made.digest,
         effects: spoiled_if(spoiled, &digest),
-    })
+    }
 }
 
 /// The line for an acknowledgement.
@@ -127,7 +127,7 @@ impl World {
             )?;
             return ack_line(self.alloc, member, tx, text);
         }
-        let statement = false_ack(&self.seats, made, spoiled)?;
+        let statement = false_ack(&self.seats, made, spoiled);
         self.said.say(member, statement)?;
         ack_line(self.alloc, member, tx, AckText::Said)
     }

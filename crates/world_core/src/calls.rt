@@ -1,6 +1,6 @@
 //! Lines that hand a call to a member.
 
-ghost use Rattle.std.specs.Prelude.{◌≡◌, ◌≤◌, ◌∷◌, ◌++◌, [], IfOk, IsErrOf, OnOk, length, map, option_map, true};
+ghost use Rattle.std.specs.Prelude.{◌≡◌, ◌<◌, ◌≤◌, ◌∷◌, ◌++◌, [], IfOk, IsErrOf, OnOk, length, map, option_map, true};
 ghost use Rattle.chain_messages.specs.Messages as codecs;
 ghost use Rattle.chain_types.specs.Transactions as tx_codecs;
 ghost use Rattle.outside.specs.Causes.{Rose};
@@ -33,6 +33,7 @@ use quorum_core::Sealer;
 use report_text::{Line, RunText, SendText, VoteText};
 use schedule_text::Event;
 use std::alloc::Global;
+use std::thread::Threads;
 use wire_bcs::{OutOfMemory, Seq};
 use world_lines::{SaidBook, hold_text, run_lines, vote_text};
 use world_names::{Directory, MakesSeals};
@@ -59,7 +60,8 @@ fn tell_vote(
 
 /// Asks a member for its vote for the transaction that the bytes spell.
 #[tactic(auto, using(crate::proofs::Texts::vote_down, crate::proofs::Texts::vote_stopped, crate::proofs::Texts::vote_said, crate::proofs::Texts::down_states, crate::proofs::Texts::stopped_states, crate::proofs::Texts::vote_states))]
-fn ask<D: Keeper, S: Sealer>(
+fn ask<R: Threads + Sync, D: Keeper, S: Sealer>(
+    rt: &R,
     seats: &mut Seats,
     said: &mut SaidBook,
     directory: &Directory,
@@ -78,7 +80,7 @@ fn ask<D: Keeper, S: Sealer>(
     ensures later { D.failed keeper.old ≤ D.failed keeper.new }
     ensures fault { IsErrOf result fault.KeepFault → Rose (D.failed keeper.old) (D.failed keeper.new) }
 {
-    let reply = match seats.vote(directory.allocator(), keeper, sealer, member, bytes) {
+    let reply = match seats.vote(rt, directory.allocator(), keeper, sealer, member, bytes) {
         Ok(reply) => reply,
         Err(fault) => return Err(fault),
     };
@@ -94,7 +96,8 @@ fn ask<D: Keeper, S: Sealer>(
 
 /// Hands the certificate that the bytes spell to a member.
 #[tactic(auto, using(crate::proofs::Texts::hold_down, crate::proofs::Texts::hold_stopped, crate::proofs::Texts::hold_said))]
-fn hand<D: Keeper, S: Sealer>(
+fn hand<R: Threads + Sync, D: Keeper, S: Sealer>(
+    rt: &R,
     seats: &mut Seats,
     directory: &Directory,
     keeper: &mut D,
@@ -111,7 +114,7 @@ fn hand<D: Keeper, S: Sealer>(
     ensures later { D.failed keeper.old ≤ D.failed keeper.new }
     ensures fault { IsErrOf result fault.KeepFault → Rose (D.failed keeper.old) (D.failed keeper.new) }
 {
-    let reply = match seats.hold(directory.allocator(), keeper, sealer, member, bytes) {
+    let reply = match seats.hold(rt, directory.allocator(), keeper, sealer, member, bytes) {
         Ok(reply) => reply,
         Err(fault) => return Err(fault),
     };
@@ -137,8 +140,7 @@ fn run_line(alloc: Global, member: u32, text: RunText) -> Result<Seq<Line>, Seat
     }
 }
 
-/// A member states a checkpoint that it built. One of 2^31 transactions, more than any has, counts as want of memory.
-#[tactic(auto, using(crate::proofs::Stating::checkpoint_short))]
+/// A member states a checkpoint that it built. One that cannot be spelled counts as want of memory.
 fn say_checkpoint(
     alloc: Global,
     said: &mut SaidBook,
@@ -147,7 +149,7 @@ fn say_checkpoint(
 ) -> Result<(), OutOfMemory>
     ensures { OnOk result (said.new ≡ said.old ++ said_by member (checkpoint_statement checkpoint.now) ∷ []) }
 {
-    if checkpoint.items.len() >= 1 << 31 {
+    if !checkpoint.is_short() {
         return Err(OutOfMemory);
     }
     let digest = checkpoint_digest(alloc, checkpoint)?;
@@ -195,17 +197,27 @@ fn tell_run(
     Ok(lines)
 }
 
-/// Lets a member run what it holds.
+/// So many workers, but 1 to 16. A run line that is read has no other number.
+fn workers_of(number: u32) -> u32
+    ensures { (0 < result) × (result ≤ 16) }
+{
+    number.clamp(1, 16)
+}
+
+/// Lets a member run what it holds, by 1 to 16 workers.
 #[tactic(auto, using(crate::proofs::Texts::run_down, crate::proofs::Texts::run_stopped, crate::proofs::Texts::run_said, crate::proofs::Texts::down_states, crate::proofs::Texts::stopped_states, crate::proofs::Texts::run_states))]
-fn run<D: Keeper, S: Sealer>(
+fn run<R: Threads + Sync, D: Keeper, S: Sealer>(
+    rt: &R,
     seats: &mut Seats,
     said: &mut SaidBook,
     directory: &Directory,
     keeper: &mut D,
     sealer: &S,
     member: u32,
+    workers: u32,
 ) -> Result<Seq<Line>, SeatFault>
     requires known { length seats.old.posts ≤ D.width keeper.old }
+    requires workers { (0 < workers) × (workers ≤ 16) }
     ensures lines { IfOk result (λ lines. lines ≡ run_lines_by directory.now (rules_for seats.old.terms (S.accepts sealer.now)) member (reached_in (rules_for seats.old.terms (S.accepts sealer.now)) seats.old.posts member runs)) }
     ensures said { OnOk result (said.new ≡ said.old ++ map (said_by member) (stated_in (rules_for seats.old.terms (S.accepts sealer.now)) runs (reached_in (rules_for seats.old.terms (S.accepts sealer.now)) seats.old.posts member runs))) }
     ensures posts { OnOk result (seats.new.posts ≡ posts_behind (rules_for seats.old.terms (S.accepts sealer.now)) seats.old.posts member runs) }
@@ -216,7 +228,7 @@ fn run<D: Keeper, S: Sealer>(
     ensures fault { IsErrOf result fault.KeepFault → Rose (D.failed keeper.old) (D.failed keeper.new) }
 {
     let alloc = directory.allocator();
-    let reply = match seats.run(alloc, keeper, sealer, member) {
+    let reply = match seats.run(rt, alloc, keeper, sealer, member, workers) {
         Ok(reply) => reply,
         Err(fault) => return Err(fault),
     };
@@ -268,8 +280,9 @@ impl World {
 
     /// Asks a member for its vote for the transaction that the bytes spell.
     #[tactic(auto, using(crate::proofs::Texts::vote_text_is))]
-    fn ask<D: Keeper, S: MakesSeals>(
+    fn ask<R: Threads + Sync, D: Keeper, S: MakesSeals>(
         &mut self,
+        rt: &R,
         keeper: &mut D,
         sealer: &S,
         member: u32,
@@ -284,6 +297,7 @@ impl World {
         ensures fault { IsErrOf result fault.KeepFault → Rose (D.failed keeper.old) (D.failed keeper.new) }
     {
         ask(
+            rt,
             &mut self.seats,
             &mut self.said,
             &self.directory,
@@ -296,8 +310,9 @@ impl World {
 
     /// Hands the certificate that the bytes spell to a member.
     #[tactic(auto, using(crate::proofs::Texts::hold_text_is, crate::proofs::Texts::hold_states))]
-    fn hand<D: Keeper, S: MakesSeals>(
+    fn hand<R: Threads + Sync, D: Keeper, S: MakesSeals>(
         &mut self,
+        rt: &R,
         keeper: &mut D,
         sealer: &S,
         member: u32,
@@ -312,6 +327,7 @@ impl World {
         ensures fault { IsErrOf result fault.KeepFault → Rose (D.failed keeper.old) (D.failed keeper.new) }
     {
         hand(
+            rt,
             &mut self.seats,
             &self.directory,
             keeper,
@@ -323,8 +339,9 @@ impl World {
 
     /// The line `vote`: asks a member for its vote for the transaction of this name.
     #[tactic(auto, unfolding(scene_spec::specs::Steps::steps_to, scene_spec::specs::Steps::lines_in, scene_spec::specs::Steps::work_of), using(crate::proofs::Lines::vote_none_world, crate::proofs::Lines::vote_none_lines, crate::proofs::Lines::vote_none_kept, crate::proofs::Lines::vote_some_world, crate::proofs::Lines::vote_some_lines, crate::proofs::Lines::vote_some_kept, crate::proofs::Lines::vote_cut))]
-    fn vote<D: Keeper, S: MakesSeals>(
+    fn vote<R: Threads + Sync, D: Keeper, S: MakesSeals>(
         &mut self,
+        rt: &R,
         keeper: &mut D,
         sealer: &S,
         member: u32,
@@ -355,7 +372,7 @@ impl World {
                 },
             );
         };
-        let text = match self.ask(keeper, sealer, member, bytes.as_slice()) {
+        let text = match self.ask(rt, keeper, sealer, member, bytes.as_slice()) {
             Ok(text) => text,
             Err(fault) => return Err(fault),
         };
@@ -371,8 +388,9 @@ impl World {
 
     /// The line `send`: hands the certificate that was formed last for this name to a member.
     #[tactic(auto, unfolding(scene_spec::specs::Steps::steps_to, scene_spec::specs::Steps::lines_in, scene_spec::specs::Steps::work_of), using(crate::proofs::Lines::send_none_world, crate::proofs::Lines::send_none_lines, crate::proofs::Lines::send_none_kept, crate::proofs::Lines::send_some_world, crate::proofs::Lines::send_some_lines, crate::proofs::Lines::send_some_kept, crate::proofs::Lines::send_cut))]
-    fn send<D: Keeper, S: MakesSeals>(
+    fn send<R: Threads + Sync, D: Keeper, S: MakesSeals>(
         &mut self,
+        rt: &R,
         keeper: &mut D,
         sealer: &S,
         member: u32,
@@ -403,7 +421,7 @@ impl World {
                 },
             );
         };
-        let text = match self.hand(keeper, sealer, member, bytes.as_slice()) {
+        let text = match self.hand(rt, keeper, sealer, member, bytes.as_slice()) {
             Ok(text) => text,
             Err(fault) => return Err(fault),
         };
@@ -417,10 +435,11 @@ impl World {
         )
     }
 
-    /// The line `run`: lets a member run what it holds.
+    /// The line `run`: lets a member run what it holds, by so many workers.
     #[tactic(auto, unfolding(scene_spec::specs::Steps::steps_to, scene_spec::specs::Steps::lines_in, scene_spec::specs::Steps::work_of), using(crate::proofs::Texts::run_lines_is, crate::proofs::Lines::left_as))]
-    fn run<D: Keeper, S: MakesSeals>(
+    fn run<R: Threads + Sync, D: Keeper, S: MakesSeals>(
         &mut self,
+        rt: &R,
         keeper: &mut D,
         sealer: &S,
         member: u32,
@@ -435,19 +454,22 @@ impl World {
         ensures fault { IsErrOf result fault.KeepFault → Rose (D.failed keeper.old) (D.failed keeper.new) }
     {
         run(
+            rt,
             &mut self.seats,
             &mut self.said,
             &self.directory,
             keeper,
             sealer,
             member,
+            workers_of(workers),
         )
     }
 
     /// The line `raw .. vote`: asks a member for its vote for what the bytes spell.
     #[tactic(auto, unfolding(scene_spec::specs::Steps::steps_to, scene_spec::specs::Steps::lines_in, scene_spec::specs::Steps::work_of), using(crate::proofs::Lines::left_as, crate::proofs::Lines::left_on))]
-    fn raw_vote<D: Keeper, S: MakesSeals>(
+    fn raw_vote<R: Threads + Sync, D: Keeper, S: MakesSeals>(
         &mut self,
+        rt: &R,
         keeper: &mut D,
         sealer: &S,
         member: u32,
@@ -462,7 +484,7 @@ impl World {
         ensures fault { IsErrOf result fault.KeepFault → Rose (D.failed keeper.old) (D.failed keeper.new) }
     {
         let alloc = self.alloc;
-        let text = match self.ask(keeper, sealer, member, bytes.as_slice()) {
+        let text = match self.ask(rt, keeper, sealer, member, bytes.as_slice()) {
             Ok(text) => text,
             Err(fault) => return Err(fault),
         };
@@ -472,8 +494,9 @@ impl World {
 
     /// The line `raw .. hold`: hands the bytes to a member as a certificate.
     #[tactic(auto, unfolding(scene_spec::specs::Steps::steps_to, scene_spec::specs::Steps::lines_in, scene_spec::specs::Steps::work_of), using(crate::proofs::Lines::left_as, crate::proofs::Lines::left_on))]
-    fn raw_hold<D: Keeper, S: MakesSeals>(
+    fn raw_hold<R: Threads + Sync, D: Keeper, S: MakesSeals>(
         &mut self,
+        rt: &R,
         keeper: &mut D,
         sealer: &S,
         member: u32,
@@ -488,7 +511,7 @@ impl World {
         ensures fault { IsErrOf result fault.KeepFault → Rose (D.failed keeper.old) (D.failed keeper.new) }
     {
         let alloc = self.alloc;
-        let text = match self.hand(keeper, sealer, member, bytes.as_slice()) {
+        let text = match self.hand(rt, keeper, sealer, member, bytes.as_slice()) {
             Ok(text) => text,
             Err(fault) => return Err(fault),
         };
@@ -497,8 +520,9 @@ impl World {
     }
 
     /// Runs a line that hands a call to a member.
-    pub(crate) fn run_call<D: Keeper, S: MakesSeals>(
+    pub(crate) fn run_call<R: Threads + Sync, D: Keeper, S: MakesSeals>(
         &mut self,
+        rt: &R,
         keeper: &mut D,
         sealer: &S,
         event: &Event,
@@ -513,13 +537,13 @@ impl World {
         ensures fault { IsErrOf result fault.KeepFault → Rose (D.failed keeper.old) (D.failed keeper.new) }
     {
         match event {
-            Event::Vote { member, tx } => self.vote(keeper, sealer, *member, tx),
-            Event::Send { member, tx } => self.send(keeper, sealer, *member, tx),
-            Event::Run { member, workers } => self.run(keeper, sealer, *member, *workers),
-            Event::Close(member) => self.close(keeper, sealer, *member),
-            Event::Turn(member) => self.turn(keeper, sealer, *member),
-            Event::RawVote { member, bytes } => self.raw_vote(keeper, sealer, *member, bytes),
-            Event::RawHold { member, bytes } => self.raw_hold(keeper, sealer, *member, bytes),
+            Event::Vote { member, tx } => self.vote(rt, keeper, sealer, *member, tx),
+            Event::Send { member, tx } => self.send(rt, keeper, sealer, *member, tx),
+            Event::Run { member, workers } => self.run(rt, keeper, sealer, *member, *workers),
+            Event::Close(member) => self.close(rt, keeper, sealer, *member),
+            Event::Turn(member) => self.turn(rt, keeper, sealer, *member),
+            Event::RawVote { member, bytes } => self.raw_vote(rt, keeper, sealer, *member, bytes),
+            Event::RawHold { member, bytes } => self.raw_hold(rt, keeper, sealer, *member, bytes),
             Event::Tx { .. }
             | Event::Fvote { .. }
             | Event::Cert { .. }

@@ -21,13 +21,15 @@ use crate::{Reply, SeatFault, Seats};
 use outside::Keeper;
 use quorum_core::Sealer;
 use report_text::{CloseText, Line};
+use std::thread::Threads;
 use wire_bcs::{OutOfMemory, Seq};
 use world_lines::close_text;
 use world_names::{Directory, MakesSeals};
 
 /// Closes the epoch of a member.
 #[tactic(auto, using(crate::proofs::Closing::close_down, crate::proofs::Closing::close_stopped, crate::proofs::Closing::close_said))]
-fn close<D: Keeper, S: Sealer>(
+fn close<R: Threads + Sync, D: Keeper, S: Sealer>(
+    rt: &R,
     seats: &mut Seats,
     directory: &Directory,
     keeper: &mut D,
@@ -43,7 +45,7 @@ fn close<D: Keeper, S: Sealer>(
     ensures later { D.failed keeper.old ≤ D.failed keeper.new }
     ensures fault { IsErrOf result fault.KeepFault → Rose (D.failed keeper.old) (D.failed keeper.new) }
 {
-    let reply = match seats.close(directory.allocator(), keeper, sealer, member) {
+    let reply = match seats.close(rt, directory.allocator(), keeper, sealer, member) {
         Ok(reply) => reply,
         Err(fault) => return Err(fault),
     };
@@ -60,8 +62,9 @@ fn close<D: Keeper, S: Sealer>(
 impl World {
     /// Closes the epoch of a member.
     #[tactic(auto, using(crate::proofs::Closing::close_states, crate::proofs::Closing::close_text_is))]
-    fn shut<D: Keeper, S: MakesSeals>(
+    fn shut<R: Threads + Sync, D: Keeper, S: MakesSeals>(
         &mut self,
+        rt: &R,
         keeper: &mut D,
         sealer: &S,
         member: u32,
@@ -74,13 +77,14 @@ impl World {
         ensures later { D.failed keeper.old ≤ D.failed keeper.new }
         ensures fault { IsErrOf result fault.KeepFault → Rose (D.failed keeper.old) (D.failed keeper.new) }
     {
-        close(&mut self.seats, &self.directory, keeper, sealer, member)
+        close(rt, &mut self.seats, &self.directory, keeper, sealer, member)
     }
 
     /// The line `close`: closes the epoch of a member.
     #[tactic(auto, unfolding(scene_spec::specs::Steps::steps_to, scene_spec::specs::Steps::lines_in, scene_spec::specs::Steps::work_of), using(crate::proofs::Lines::left_as, crate::proofs::Lines::left_on))]
-    pub(crate) fn close<D: Keeper, S: MakesSeals>(
+    pub(crate) fn close<R: Threads + Sync, D: Keeper, S: MakesSeals>(
         &mut self,
+        rt: &R,
         keeper: &mut D,
         sealer: &S,
         member: u32,
@@ -94,7 +98,7 @@ impl World {
         ensures fault { IsErrOf result fault.KeepFault → Rose (D.failed keeper.old) (D.failed keeper.new) }
     {
         let alloc = self.alloc;
-        let text = match self.shut(keeper, sealer, member) {
+        let text = match self.shut(rt, keeper, sealer, member) {
             Ok(text) => text,
             Err(fault) => return Err(fault),
         };

@@ -14,6 +14,7 @@ use answer_types::{CloseRefusal, SeeRefusal, Seen, TurnRefusal};
 use digest_core::Digest;
 use outside::Keeper;
 use quorum_core::Sealer;
+use std::thread::Threads;
 use validator_core::Validator;
 use wire_bcs::Seq;
 
@@ -31,8 +32,9 @@ impl Asks for SeeRequest<'_> {
 
     ghost says = { λ q r _ _ before given. SaysSee r q.number q.bytes.now before given };
 
-    fn ask<D: Keeper, S: Sealer>(
+    fn ask<R: Threads + Sync, D: Keeper, S: Sealer>(
         &self,
+        _rt: &R,
         validator: &mut Validator,
         keeper: &mut D,
         sealer: &S,
@@ -96,8 +98,9 @@ impl Asks for CloseRequest {
 
     ghost says = { λ _ r _ _ before given. SaysClose r before given };
 
-    fn ask<D: Keeper, S: Sealer>(
+    fn ask<R: Threads + Sync, D: Keeper, S: Sealer>(
         &self,
+        _rt: &R,
         validator: &mut Validator,
         keeper: &mut D,
         _sealer: &S,
@@ -151,8 +154,9 @@ impl Asks for TurnRequest {
 
     ghost says = { λ _ r _ _ before given. SaysTurn r before given };
 
-    fn ask<D: Keeper, S: Sealer>(
+    fn ask<R: Threads + Sync, D: Keeper, S: Sealer>(
         &self,
+        _rt: &R,
         validator: &mut Validator,
         keeper: &mut D,
         _sealer: &S,

@@ -5,6 +5,7 @@
 //! the terms and the opening, what is known under names, what was ordered, said and formed, and the members as they
 //! stand. Each step is the definition's step of that scene, with its lines, and the keeper's lists grow by the
 //! records that the line leaves.
+//! [`World::replay`] starts a member from records that were kept before, beside the world.
 //! [`World::sums`] tells what a member has built and holds, in numbers.
 //! Each name, vote and version is found by a map, so a line costs time in proportion to its own words.
 //!
@@ -20,9 +21,11 @@ mod certs;
 mod closes;
 mod ends;
 mod epoch_requests;
+mod looks;
 mod opening;
 mod orders;
 mod quiet;
+mod replay;
 mod reply;
 mod requests;
 mod restart;
@@ -38,6 +41,7 @@ mod turns;
 mod votes;
 mod world;
 
+pub use replay::Replayed;
 pub use reply::{Reply, RestartFault, SeatFault};
 pub use seats::Seats;
 pub use sums::Sums;

@@ -1,6 +1,7 @@
 //! Requests to a member that is up.
 
 ghost use Rattle.std.specs.Prelude.{◌≡◌, ◌<◌, ◌≤◌, ℕ, IfOk, IsErrOf, OnOk, true};
+ghost use Rattle.std.specs.Thread.{IsSync};
 ghost use Rattle.outside.specs.Causes.{Rose};
 ghost use Rattle.protocol_spec.specs.Chain.Certificates.{Rules};
 ghost use Rattle.protocol_spec.specs.Member.Member.{Member};
@@ -11,8 +12,10 @@ ghost use Rattle.world_core.specs.declared.reply.SeatFault.TheVariants as faults
 ghost use Rattle.world_core.specs.Replies.{Accepting, Leaves, SaysHold, SaysRun, SaysVote, hold_fault, run_fault, vote_fault};
 
 use crate::reply::SeatFault;
+use dag_pool::{Gate, OpenGate};
 use outside::Keeper;
 use quorum_core::Sealer;
+use std::thread::Threads;
 use validator_core::{HoldRefusal, Ran, RunRefusal, Validator, VoteRefusal, Voted};
 
 /// A request to a member.
@@ -25,15 +28,17 @@ pub(crate) trait Asks {
     /// What a member of this number answers, under these rules and accepted seals, in the state before the call.
     ghost says: { Self → Rules → Accepting → ℕ → Member → Self.Answer → Type 0 };
 
-    /// Asks a member that is up.
-    fn ask<D: Keeper, S: Sealer>(
+    /// Asks a member that is up, which may start threads.
+    fn ask<R: Threads + Sync, D: Keeper, S: Sealer>(
         &self,
+        rt: &R,
         validator: &mut Validator,
         keeper: &mut D,
         sealer: &S,
     ) -> Result<Self::Answer, SeatFault>
         requires known { validator.old.member < D.width keeper.old }
         requires up { validator.old.up ≡ true }
+        requires sync { IsSync R.row }
         ensures answer { IfOk result (says self.now (rules_of_seat validator.old (S.accepts sealer.now)) (S.accepts sealer.now) validator.old.member validator.old.state) }
         ensures state { OnOk result (validator.new ≡ seat_behind (rules_of_seat validator.old (S.accepts sealer.now)) (call self.now) validator.old) }
         ensures kept { Leaves (D.lists keeper.old) (D.lists keeper.new) validator.old.member (due (rules_of_seat validator.old (S.accepts sealer.now)) validator.old.state (call self.now)) result }
@@ -61,8 +66,9 @@ impl Asks for VoteRequest<'_> {
 
     ghost says = { λ q r accepts m before given. SaysVote r accepts m q.bytes.now before given };
 
-    fn ask<D: Keeper, S: Sealer>(
+    fn ask<R: Threads + Sync, D: Keeper, S: Sealer>(
         &self,
+        _rt: &R,
         validator: &mut Validator,
         keeper: &mut D,
         sealer: &S,
@@ -78,8 +84,9 @@ impl Asks for HoldRequest<'_> {
 
     ghost says = { λ q r accepts m before given. SaysHold r q.bytes.now before given };
 
-    fn ask<D: Keeper, S: Sealer>(
+    fn ask<R: Threads + Sync, D: Keeper, S: Sealer>(
         &self,
+        _rt: &R,
         validator: &mut Validator,
         keeper: &mut D,
         sealer: &S,
@@ -183,9 +190,13 @@ fn ask_hold<D: Keeper, S: Sealer>(
     }
 }
 
-/// A request to run what the member holds.
-#[derive(Clone, Copy)]
-pub(crate) struct RunRequest;
+/// A request to run what the member holds, by 1 to 16 workers.
+#[derive(Drop)]
+pub(crate) struct RunRequest {
+    pub(crate) workers: u32,
+    pub(crate) gate: OpenGate,
+    ghost some: { (0 < workers) × (workers ≤ 16) },
+}
 
 #[tactic(auto, using(validator_core::proofs::Running::run_answer_alike, validator_core::proofs::Running::run_due_alike, validator_core::proofs::Running::run_called_alike))]
 impl Asks for RunRequest {
@@ -195,13 +206,14 @@ impl Asks for RunRequest {
 
     ghost says = { λ _ r _ _ before given. SaysRun r before given };
 
-    fn ask<D: Keeper, S: Sealer>(
+    fn ask<R: Threads + Sync, D: Keeper, S: Sealer>(
         &self,
+        rt: &R,
         validator: &mut Validator,
         keeper: &mut D,
         _sealer: &S,
     ) -> Result<Result<Ran, RunRefusal>, SeatFault> {
-        ask_run(validator, keeper)
+        ask_run(rt, validator, keeper, self.workers, &self.gate)
     }
 }
 
@@ -218,11 +230,15 @@ fn run_fault(answer: &Result<Ran, RunRefusal>) -> Option<SeatFault>
 }
 
 /// Lets a member that is up run what it holds.
-fn ask_run<D: Keeper>(
+fn ask_run<R: Threads + Sync, D: Keeper, G: Gate + Sync>(
+    rt: &R,
     validator: &mut Validator,
     keeper: &mut D,
+    workers: u32,
+    gate: &G,
 ) -> Result<Result<Ran, RunRefusal>, SeatFault>
     requires known { validator.old.member < D.width keeper.old }
+    requires workers { (0 < workers) × (workers ≤ 16) }
     requires up { validator.old.up ≡ true }
     ensures answer { IfOk result (SaysRun (bare_rules validator.old) validator.old.state) }
     ensures state { OnOk result (validator.new ≡ seat_behind (bare_rules validator.old) runs validator.old) }
@@ -231,7 +247,7 @@ fn ask_run<D: Keeper>(
     ensures later { D.failed keeper.old ≤ D.failed keeper.new }
     ensures fault { IsErrOf result faults.KeepFault → Rose (D.failed keeper.old) (D.failed keeper.new) }
 {
-    let answer = validator.run(keeper);
+    let answer = validator.run(rt, keeper, workers, gate);
     match run_fault(&answer) {
         Some(fault) => Err(fault),
         None => Ok(answer),

@@ -21,8 +21,8 @@ use outside::Keeper;
 use quorum_core::Sealer;
 use std::alloc::Global;
 use std::marker::Model;
+use std::thread::Threads;
 use validator_core::Validator;
-use wire_bcs::OutOfMemory;
 
 /// A member: whether it is honest, the member where it is up, and an armed stop, which keeps the next record or
 /// loses it. Contracts see the definition's post.
@@ -72,6 +72,13 @@ impl Seat {
         self.validator = None;
     }
 
+    /// Whether the member is honest. Takes no memory.
+    pub(crate) fn is_honest(&self) -> bool
+        ensures { result ≡ self.now.honest }
+    {
+        self.honest
+    }
+
     /// The member, where it is up. Takes no memory.
     pub(crate) fn standing(&self) -> Option<&Validator>
         ensures { option_copied result ≡ self.now.standing }
@@ -104,22 +111,23 @@ impl Seat {
     }
 
     /// The digest of the effects that the member has of a transaction, where it is honest, up and executed it in its
-    /// present epoch.
-    pub(crate) fn executed_digest(&self, tx: &Digest) -> Result<Option<Digest>, OutOfMemory>
-        ensures { IfOk result (λ digest. digest ≡ (if self.now.honest then option_and_then (λ (seat : TheSeat). executed_digest tx.now seat.state) self.now.standing else None)) }
+    /// present epoch. Takes no memory.
+    pub(crate) fn executed_digest(&self, tx: &Digest) -> Option<Digest>
+        ensures { result ≡ (if self.now.honest then option_and_then (λ (seat : TheSeat). executed_digest tx.now seat.state) self.now.standing else None) }
     {
         if !self.honest {
-            return Ok(None);
+            return None;
         }
         match &self.validator {
             Some(validator) => validator.executed_digest(tx),
-            None => Ok(None),
+            None => None,
         }
     }
 
     /// Asks the member, of this number in its committee. Behind a refusal it is down.
-    pub(crate) fn call<D: Keeper, S: Sealer, Q: Asks>(
+    pub(crate) fn call<R: Threads + Sync, D: Keeper, S: Sealer, Q: Asks>(
         &mut self,
+        rt: &R,
         alloc: Global,
         keeper: &mut D,
         sealer: &S,
@@ -141,7 +149,7 @@ impl Seat {
             return Ok(Reply::Down);
         };
         match meet(
-            alloc, validator, keeper, sealer, member, self.armed, request,
+            rt, alloc, validator, keeper, sealer, member, self.armed, request,
         ) {
             Ok(Some(answer)) => Ok(Reply::Answered(answer)),
             Ok(None) => {

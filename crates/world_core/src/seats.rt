@@ -1,17 +1,18 @@
 //! The members of a committee.
 
-ghost use Rattle.std.specs.Prelude.{◌≡◌, ◌≤◌, ℕ, [], IfOk, IsErrOf, OnErr, OnOk, option_copied, option_map, length, slice_get, true};
+ghost use Rattle.std.specs.Prelude.{◌≡◌, ◌<◌, ◌≤◌, ◌^◌, ℕ, [], IfOk, IsErrOf, OnErr, OnOk, option_copied, option_map, length, slice_get, true};
 ghost use Rattle.outside.specs.Causes.{Rose};
 ghost use Rattle.outside.specs.Lists.{KeepsJournals};
 ghost use Rattle.scene_spec.specs.Terms.{rules_for};
 ghost use Rattle.protocol_spec.specs.Member.Calls.{ack_answer, closes, end_answer, holds, runs, sees, turns, votes};
-ghost use Rattle.scene_spec.specs.Starts.{AreApart};
+ghost use Rattle.scene_spec.specs.Starts.{AreApart, started};
 ghost use Rattle.scene_spec.specs.Posts.{armed_at, new_posts, posts_behind, reached_in, record_left};
 ghost use Rattle.scene_spec.specs.Steps.{held_in, says_in, seat_state, standing_at};
 ghost use Rattle.world_core.specs.declared.reply.SeatFault.TheVariants as faults;
 ghost use Rattle.world_core.specs.declared.reply.RestartFault.TheVariants as restart_faults;
-ghost use Rattle.world_core.specs.Crews.{IsPlaced, PostsAfter, epoch_of, fallen_at, honest_at, honest_flags, shown_of};
+ghost use Rattle.world_core.specs.Crews.{IsPlaced, PostsAfter, epoch_of, fallen_at, honest_at, honest_flags, honest_post, shown_of};
 ghost use Rattle.world_core.specs.Replies.{Leaves, Replies, SaysClose, SaysHold, SaysRun, SaysSee, SaysTurn, SaysVote};
+ghost use Rattle.validator_core.specs.Starts.{Starts};
 ghost use Rattle.world_lines.specs.Answers.{stated_as};
 ghost use Rattle.world_spec.specs.Step.{executed_digest};
 ghost use Rattle.world_core.specs.SeatRestarts.{HasBadRecord, Restarted};
@@ -26,11 +27,13 @@ use crate::terms::Terms;
 use answer_types::{AckRefusal, EndRefusal, SeeRefusal, Seen, TurnRefusal};
 use chain_messages::Sealed;
 use chain_types::{Object, ObjectKey};
+use dag_pool::OpenGate;
 use digest_core::Digest;
 use outside::{Keeper, OutFault};
 use quorum_core::{Committee, Sealer};
 use std::alloc::Global;
 use std::marker::Model;
+use std::thread::Threads;
 use validator_core::{
     CloseRefusal, HoldRefusal, Ran, RunRefusal, StartRefusal, Validator, VoteRefusal, Voted,
 };
@@ -145,8 +148,9 @@ impl Seats {
     }
 
     /// Asks a member.
-    fn call<D: Keeper, S: Sealer, Q: Asks>(
+    fn call<R: Threads + Sync, D: Keeper, S: Sealer, Q: Asks>(
         &mut self,
+        rt: &R,
         alloc: Global,
         keeper: &mut D,
         sealer: &S,
@@ -167,7 +171,7 @@ impl Seats {
             return Ok(Reply::Down);
         }
         let seat = &mut self.seats[member as usize];
-        seat.call(alloc, keeper, sealer, &self.terms, member, request)
+        seat.call(rt, alloc, keeper, sealer, &self.terms, member, request)
     }
 
     /// Asks a member for its vote for the transaction that the bytes spell (Sui Lutris). `Down`: the member is
@@ -175,8 +179,9 @@ impl Seats {
     /// kept where the stop keeps. Else it answered, and its record stands. Behind a refusal the member is down, and
     /// its record stands or does not; the other members stay.
     #[tactic(auto, using(crate::proofs::Calling::on_ok, crate::proofs::Calling::on_err))]
-    pub fn vote<D: Keeper, S: Sealer>(
+    pub fn vote<R: Threads + Sync, D: Keeper, S: Sealer>(
         &mut self,
+        rt: &R,
         alloc: Global,
         keeper: &mut D,
         sealer: &S,
@@ -194,13 +199,14 @@ impl Seats {
         ensures later { D.failed keeper.old ≤ D.failed keeper.new }
         ensures fault { IsErrOf result faults.KeepFault → Rose (D.failed keeper.old) (D.failed keeper.new) }
     {
-        self.call(alloc, keeper, sealer, member, &VoteRequest { bytes })
+        self.call(rt, alloc, keeper, sealer, member, &VoteRequest { bytes })
     }
 
     /// Hands a certificate to a member (Sui Lutris). Replies and refusals are those of [`Seats::vote`].
     #[tactic(auto, using(crate::proofs::Calling::on_ok, crate::proofs::Calling::on_err))]
-    pub fn hold<D: Keeper, S: Sealer>(
+    pub fn hold<R: Threads + Sync, D: Keeper, S: Sealer>(
         &mut self,
+        rt: &R,
         alloc: Global,
         keeper: &mut D,
         sealer: &S,
@@ -218,20 +224,23 @@ impl Seats {
         ensures later { D.failed keeper.old ≤ D.failed keeper.new }
         ensures fault { IsErrOf result faults.KeepFault → Rose (D.failed keeper.old) (D.failed keeper.new) }
     {
-        self.call(alloc, keeper, sealer, member, &HoldRequest { bytes })
+        self.call(rt, alloc, keeper, sealer, member, &HoldRequest { bytes })
     }
 
-    /// Lets a member run what it holds, on the caller's thread (Sui Lutris). The seals play no part in it. Replies and
+    /// Lets a member run what it holds, by 1 to 16 workers (Sui Lutris). The seals play no part in it. Replies and
     /// refusals are those of [`Seats::vote`].
     #[tactic(auto, using(crate::proofs::Calling::on_ok, crate::proofs::Calling::on_err))]
-    pub fn run<D: Keeper, S: Sealer>(
+    pub fn run<R: Threads + Sync, D: Keeper, S: Sealer>(
         &mut self,
+        rt: &R,
         alloc: Global,
         keeper: &mut D,
         sealer: &S,
         member: u32,
+        workers: u32,
     ) -> Result<Reply<Result<Ran, RunRefusal>>, SeatFault>
         requires known { length self.old.posts ≤ D.width keeper.old }
+        requires workers { (0 < workers) × (workers ≤ 16) }
         ensures answer { IfOk result (Replies (SaysRun (rules_for self.old.terms (S.accepts sealer.now))) (reached_in (rules_for self.old.terms (S.accepts sealer.now)) self.old.posts member runs)) }
         ensures posts { OnOk result (self.new.posts ≡ posts_behind (rules_for self.old.terms (S.accepts sealer.now)) self.old.posts member runs) }
         ensures fallen { OnErr result (self.new.posts ≡ fallen_at self.old.posts member) }
@@ -242,14 +251,19 @@ impl Seats {
         ensures later { D.failed keeper.old ≤ D.failed keeper.new }
         ensures fault { IsErrOf result faults.KeepFault → Rose (D.failed keeper.old) (D.failed keeper.new) }
     {
-        self.call(alloc, keeper, sealer, member, &RunRequest)
+        let request = RunRequest {
+            workers,
+            gate: OpenGate,
+        };
+        self.call(rt, alloc, keeper, sealer, member, &request)
     }
 
     /// Hands a member the entry of this number of its sequence (Sui Lutris). Replies and refusals are those of
     /// [`Seats::vote`].
     #[tactic(auto, using(crate::proofs::Calling::on_ok, crate::proofs::Calling::on_err))]
-    pub fn see<D: Keeper, S: Sealer>(
+    pub fn see<R: Threads + Sync, D: Keeper, S: Sealer>(
         &mut self,
+        rt: &R,
         alloc: Global,
         keeper: &mut D,
         sealer: &S,
@@ -268,14 +282,22 @@ impl Seats {
         ensures later { D.failed keeper.old ≤ D.failed keeper.new }
         ensures fault { IsErrOf result faults.KeepFault → Rose (D.failed keeper.old) (D.failed keeper.new) }
     {
-        self.call(alloc, keeper, sealer, member, &SeeRequest { number, bytes })
+        self.call(
+            rt,
+            alloc,
+            keeper,
+            sealer,
+            member,
+            &SeeRequest { number, bytes },
+        )
     }
 
     /// Closes the epoch of a member (epoch change of Sui Lutris). The seals play no part in it. Replies and refusals are
     /// those of [`Seats::vote`].
     #[tactic(auto, using(crate::proofs::Calling::on_ok, crate::proofs::Calling::on_err))]
-    pub fn close<D: Keeper, S: Sealer>(
+    pub fn close<R: Threads + Sync, D: Keeper, S: Sealer>(
         &mut self,
+        rt: &R,
         alloc: Global,
         keeper: &mut D,
         sealer: &S,
@@ -292,14 +314,15 @@ impl Seats {
         ensures later { D.failed keeper.old ≤ D.failed keeper.new }
         ensures fault { IsErrOf result faults.KeepFault → Rose (D.failed keeper.old) (D.failed keeper.new) }
     {
-        self.call(alloc, keeper, sealer, member, &CloseRequest)
+        self.call(rt, alloc, keeper, sealer, member, &CloseRequest)
     }
 
     /// Turns a member to the next epoch (epoch change of Sui Lutris). The seals play no part in it. Replies and refusals
     /// are those of [`Seats::vote`].
     #[tactic(auto, using(crate::proofs::Calling::on_ok, crate::proofs::Calling::on_err))]
-    pub fn turn<D: Keeper, S: Sealer>(
+    pub fn turn<R: Threads + Sync, D: Keeper, S: Sealer>(
         &mut self,
+        rt: &R,
         alloc: Global,
         keeper: &mut D,
         sealer: &S,
@@ -316,7 +339,7 @@ impl Seats {
         ensures later { D.failed keeper.old ≤ D.failed keeper.new }
         ensures fault { IsErrOf result faults.KeepFault → Rose (D.failed keeper.old) (D.failed keeper.new) }
     {
-        self.call(alloc, keeper, sealer, member, &TurnRequest)
+        self.call(rt, alloc, keeper, sealer, member, &TurnRequest)
     }
 
     /// The epoch of a member that is up; 0 where it is down or not there. Takes no memory.
@@ -366,9 +389,9 @@ impl Seats {
     }
 
     /// The digest of the effects that the lowest-numbered honest member has of a transaction that is up and executed it
-    /// in its present epoch; none where none did.
-    pub fn executed_digest(&self, tx: &Digest) -> Result<Option<Digest>, OutOfMemory>
-        ensures { IfOk result (λ digest. digest ≡ says_in (executed_digest tx.now) self.now.posts) }
+    /// in its present epoch; none where none did. Takes no memory.
+    pub fn executed_digest(&self, tx: &Digest) -> Option<Digest>
+        ensures { result ≡ says_in (executed_digest tx.now) self.now.posts }
     {
         executed_in(self.seats.as_slice(), tx)
     }
@@ -417,6 +440,23 @@ impl Seats {
         }
     }
 
+    /// Starts a member of this committee from these records, in an epoch 0 that opens with these objects. The members
+    /// stay as they are; refusals are those of [`Validator::start`].
+    pub(crate) fn start_one<S: Sealer>(
+        &self,
+        alloc: Global,
+        member: u32,
+        opening: &Seq<Object>,
+        kept: &Seq<Seq<u8>>,
+        sealer: &S,
+    ) -> Result<Validator, StartRefusal>
+        requires apart { AreApart opening.now }
+        requires count { length kept.now < 2 ^ 64 }
+        ensures { Starts (started (rules_for self.now.terms (S.accepts sealer.now)) opening.now kept.now) member self.now.terms result }
+    {
+        self.terms.start(alloc, member, opening, kept, sealer)
+    }
+
     /// A member that is up; none where it is down or not there. Takes no memory.
     #[tactic(auto, using(crate::proofs::Placing::placed_at))]
     pub fn standing(&self, member: u32) -> Option<&Validator>
@@ -430,12 +470,24 @@ impl Seats {
     }
 
     /// A member that is honest and up; none where it is faulty, down or not there. Takes no memory.
+    #[tactic(auto, using(crate::proofs::Placing::honest_placed))]
     pub fn honest(&self, member: u32) -> Option<&Validator>
-        ensures { option_copied result ≡ honest_at (slice_get self.now.posts member) }
+        ensures value { option_copied result ≡ honest_at (slice_get self.now.posts member) }
+        ensures placed { IsPlaced self.now.terms member (option_copied result) }
     {
         match self.seats.get(member as usize) {
             Some(seat) => seat.honest(),
             None => None,
+        }
+    }
+
+    /// Whether the member is honest, up or not; false where it is not there. Takes no memory.
+    pub fn is_honest(&self, member: u32) -> bool
+        ensures { result ≡ honest_post (slice_get self.now.posts member) }
+    {
+        match self.seats.get(member as usize) {
+            Some(seat) => seat.is_honest(),
+            None => false,
         }
     }
 
@@ -481,15 +533,15 @@ fn digest_in(seats: &[Seat], key: &ObjectKey) -> Option<Digest>
 
 /// The digest of the effects that the first honest member has of a transaction that is up and executed it.
 #[tactic(auto, using(crate::proofs::Saying::says_next, crate::proofs::Saying::says_here))]
-fn executed_in(seats: &[Seat], tx: &Digest) -> Result<Option<Digest>, OutOfMemory>
-    ensures { IfOk result (λ digest. digest ≡ says_in (executed_digest tx.now) seats.now) }
+fn executed_in(seats: &[Seat], tx: &Digest) -> Option<Digest>
+    ensures { result ≡ says_in (executed_digest tx.now) seats.now }
 {
     let mut rest = seats;
     while let [seat, after @ ..] = rest {
-        if let Some(digest) = seat.executed_digest(tx)? {
-            return Ok(Some(digest));
+        if let Some(digest) = seat.executed_digest(tx) {
+            return Some(digest);
         }
         rest = after;
     }
-    Ok(None)
+    None
 }

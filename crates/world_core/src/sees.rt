@@ -31,6 +31,7 @@ use outside::Keeper;
 use quorum_core::{Committee, Sealer};
 use report_text::{EntryText, Line, SeeText};
 use std::alloc::Global;
+use std::thread::Threads;
 use validator_core::Validator;
 use wire_bcs::{OutOfMemory, Seq};
 use world_lines::{OrderBook, SaidBook, add_entry_lines, tx_text};
@@ -81,7 +82,8 @@ fn add_last(lines: &mut Seq<Line>, line: Line) -> Result<bool, SeatFault>
 
 /// Hands a member the entry of this number, adds its lines, and tells whether the line goes on behind it.
 #[tactic(auto, using(crate::proofs::SeeTexts::see_down, crate::proofs::SeeTexts::down_ends, crate::proofs::SeeTexts::see_stopped, crate::proofs::SeeTexts::stopped_ends, crate::proofs::SeeTexts::see_said, crate::proofs::SeeTexts::said_goes, crate::proofs::SeeTexts::see_states, crate::proofs::Texts::down_states, crate::proofs::Texts::stopped_states))]
-fn see<D: Keeper, S: Sealer>(
+fn see<R: Threads + Sync, D: Keeper, S: Sealer>(
+    rt: &R,
     seats: &mut Seats,
     said: &mut SaidBook,
     directory: &Directory,
@@ -104,7 +106,7 @@ fn see<D: Keeper, S: Sealer>(
     ensures fault { IsErrOf result fault.KeepFault → Rose (D.failed keeper.old) (D.failed keeper.new) }
 {
     let alloc = directory.allocator();
-    let reply = match seats.see(alloc, keeper, sealer, member, number, bytes) {
+    let reply = match seats.see(rt, alloc, keeper, sealer, member, number, bytes) {
         Ok(reply) => reply,
         Err(fault) => return Err(fault),
     };
@@ -155,8 +157,9 @@ fn next_entry<'a>(seats: &Seats, order: &'a OrderBook, member: u32) -> Option<(u
 impl World {
     /// Hands a member its next entry, where it is up and there is one: adds its lines, and tells whether the line goes
     /// on behind it.
-    fn see_next<D: Keeper, S: MakesSeals>(
+    fn see_next<R: Threads + Sync, D: Keeper, S: MakesSeals>(
         &mut self,
+        rt: &R,
         keeper: &mut D,
         sealer: &S,
         lines: &mut Seq<Line>,
@@ -176,6 +179,7 @@ impl World {
             return Ok(false);
         };
         see(
+            rt,
             &mut self.seats,
             &mut self.said,
             &self.directory,
@@ -191,8 +195,9 @@ impl World {
     /// Hands a member so many entries, one after the other, up to the first behind which nothing goes on: adds their
     /// lines.
     #[tactic(auto, using(crate::proofs::Seeing::seen_none, crate::proofs::Seeing::seen_one, crate::proofs::Seeing::last_scene, crate::proofs::Seeing::last_lines, crate::proofs::Seeing::last_kept, crate::proofs::Seeing::seen_cut, crate::proofs::Seeing::all_scene, crate::proofs::Seeing::all_lines, crate::proofs::Seeing::all_kept))]
-    fn see_all<D: Keeper, S: MakesSeals>(
+    fn see_all<R: Threads + Sync, D: Keeper, S: MakesSeals>(
         &mut self,
+        rt: &R,
         keeper: &mut D,
         sealer: &S,
         lines: &mut Seq<Line>,
@@ -209,7 +214,7 @@ impl World {
     {
         let mut left = count;
         while left > 0 {
-            let goes = match self.see_next(keeper, sealer, lines, member) {
+            let goes = match self.see_next(rt, keeper, sealer, lines, member) {
                 Ok(goes) => goes,
                 Err(fault) => return Err(fault),
             };
@@ -254,8 +259,9 @@ impl World {
 
     /// The line `see`: hands a member the next entries of its sequence, so many at most.
     #[tactic(auto, unfolding(scene_spec::specs::Steps::steps_to, scene_spec::specs::Steps::lines_in, scene_spec::specs::Steps::work_of), using(crate::proofs::SeeLines::down_world, crate::proofs::SeeLines::down_lines, crate::proofs::SeeLines::down_kept, crate::proofs::SeeLines::halted_world, crate::proofs::SeeLines::halted_lines, crate::proofs::SeeLines::halted_kept, crate::proofs::SeeLines::taken_world, crate::proofs::SeeLines::taken_kept, crate::proofs::SeeLines::taken_cut, crate::proofs::SeeLines::nothing_lines, crate::proofs::SeeLines::taken_lines))]
-    pub(crate) fn see<D: Keeper, S: MakesSeals>(
+    pub(crate) fn see<R: Threads + Sync, D: Keeper, S: MakesSeals>(
         &mut self,
+        rt: &R,
         keeper: &mut D,
         sealer: &S,
         member: u32,
@@ -281,7 +287,7 @@ impl World {
         }
         let count = (entries as u64).min(self.entries_left(validator));
         let mut lines = Seq::new(alloc);
-        match self.see_all(keeper, sealer, &mut lines, member, count) {
+        match self.see_all(rt, keeper, sealer, &mut lines, member, count) {
             Ok(()) => {}
             Err(fault) => return Err(fault),
         }

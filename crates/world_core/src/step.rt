@@ -16,16 +16,19 @@ use crate::world::{World, WorldFault};
 use outside::Keeper;
 use report_text::Line;
 use schedule_text::Event;
+use std::thread::Threads;
 use wire_bcs::{OutOfMemory, Seq};
 use world_names::MakesSeals;
 
 impl World {
-    /// Runs one line, and answers the lines that the report has for it. Each record that it leaves is appended before
-    /// the call that leaves it answers. `KeepFault`: the keeper failed, and its count of faults rose. `BadRecord`: the
-    /// member of a `restart` line does not start from its records. Behind a fault nothing is said of the world.
+    /// Runs one line, and answers the lines that the report has for it. A member's run goes by the line's workers, in
+    /// threads. Each record that it leaves is appended before the call that leaves it answers. `KeepFault`: the keeper
+    /// failed, and its count of faults rose. `BadRecord`: the member of a `restart` line does not start from its records.
+    /// Behind a fault nothing is said of the world.
     #[tactic(auto, unfolding(scene_spec::specs::Steps::work_of), using(crate::proofs::Steps::fault_left, crate::proofs::Leaving::quiet_leaves, crate::proofs::Stays::restart_stays))]
-    pub fn step<D: Keeper, S: MakesSeals>(
+    pub fn step<R: Threads + Sync, D: Keeper, S: MakesSeals>(
         &mut self,
+        rt: &R,
         keeper: &mut D,
         sealer: &S,
         event: &Event,
@@ -45,7 +48,9 @@ impl World {
         self.can_keep();
         match event {
             Event::Restart(member) => self.restart(keeper, sealer, *member),
-            Event::See { member, entries } => match self.see(keeper, sealer, *member, *entries) {
+            Event::See { member, entries } => match self.see(
+                rt, keeper, sealer, *member, *entries,
+            ) {
                 Ok(lines) => Ok(lines),
                 Err(SeatFault::KeepFault) => Err(WorldFault::KeepFault),
                 Err(SeatFault::OutOfMemory) => Err(WorldFault::OutOfMemory),
@@ -56,7 +61,7 @@ impl World {
             | Event::Close(_)
             | Event::Turn(_)
             | Event::RawVote { .. }
-            | Event::RawHold { .. } => match self.run_call(keeper, sealer, event) {
+            | Event::RawHold { .. } => match self.run_call(rt, keeper, sealer, event) {
                 Ok(lines) => Ok(lines),
                 Err(SeatFault::KeepFault) => Err(WorldFault::KeepFault),
                 Err(SeatFault::OutOfMemory) => Err(WorldFault::OutOfMemory),

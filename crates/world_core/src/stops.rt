@@ -15,6 +15,7 @@ use crate::requests::Asks;
 use outside::{Keeper, MemKeeper, OutFault};
 use quorum_core::Sealer;
 use std::alloc::Global;
+use std::thread::Threads;
 use validator_core::Validator;
 use wire_bcs::{OutOfMemory, Seq};
 
@@ -34,7 +35,8 @@ fn first_record(paper: &mut MemKeeper, member: u32) -> Result<Option<Seq<u8>>, O
 
 /// Asks a member that is up and keeps no record: the answer, and the spelling of the record that is due.
 #[tactic(auto, using(crate::proofs::Replying::paper_due))]
-fn ask_on_paper<S: Sealer, Q: Asks>(
+fn ask_on_paper<R: Threads + Sync, S: Sealer, Q: Asks>(
+    rt: &R,
     alloc: Global,
     validator: &mut Validator,
     sealer: &S,
@@ -49,7 +51,7 @@ fn ask_on_paper<S: Sealer, Q: Asks>(
     ensures due { IfOk result (λ given. given.1 ≡ spelled_due (due (rules_of_seat validator.old (S.accepts sealer.now)) validator.old.state (Q.call request.now))) }
 {
     let mut paper = MemKeeper::new(alloc, member + 1, [].as_slice())?;
-    let answer = match request.ask(validator, &mut paper, sealer) {
+    let answer = match request.ask(rt, validator, &mut paper, sealer) {
         Ok(answer) => answer,
         Err(_) => return Err(OutOfMemory),
     };
@@ -92,7 +94,8 @@ fn stop<D: Keeper>(keeper: &mut D, member: u32, kept: bool, bytes: &[u8]) -> Res
 /// Asks a member that is up and has an armed stop, which keeps the record or loses it: its answer; none where
 /// it stops.
 #[tactic(auto, using(crate::proofs::Replying::met_idle, crate::proofs::Replying::met_stop, crate::proofs::Replying::left_idle, crate::proofs::Replying::left_stop, crate::proofs::Replying::left_same))]
-fn ask_armed<D: Keeper, S: Sealer, Q: Asks>(
+fn ask_armed<R: Threads + Sync, D: Keeper, S: Sealer, Q: Asks>(
+    rt: &R,
     alloc: Global,
     validator: &mut Validator,
     keeper: &mut D,
@@ -112,7 +115,7 @@ fn ask_armed<D: Keeper, S: Sealer, Q: Asks>(
     ensures later { D.failed keeper.old ≤ D.failed keeper.new }
     ensures fault { IsErrOf result faults.KeepFault → Rose (D.failed keeper.old) (D.failed keeper.new) }
 {
-    let (answer, due) = match ask_on_paper(alloc, validator, sealer, member, request) {
+    let (answer, due) = match ask_on_paper(rt, alloc, validator, sealer, member, request) {
         Ok(given) => given,
         Err(OutOfMemory) => return Err(SeatFault::OutOfMemory),
     };
@@ -126,7 +129,8 @@ fn ask_armed<D: Keeper, S: Sealer, Q: Asks>(
 }
 
 /// Asks a member that is up: its answer; none where it stops at an armed stop.
-pub(crate) fn meet<D: Keeper, S: Sealer, Q: Asks>(
+pub(crate) fn meet<R: Threads + Sync, D: Keeper, S: Sealer, Q: Asks>(
+    rt: &R,
     alloc: Global,
     validator: &mut Validator,
     keeper: &mut D,
@@ -147,10 +151,10 @@ pub(crate) fn meet<D: Keeper, S: Sealer, Q: Asks>(
     ensures fault { IsErrOf result faults.KeepFault → Rose (D.failed keeper.old) (D.failed keeper.new) }
 {
     let Some(kept) = armed else {
-        return match request.ask(validator, keeper, sealer) {
+        return match request.ask(rt, validator, keeper, sealer) {
             Ok(answer) => Ok(Some(answer)),
             Err(fault) => Err(fault),
         };
     };
-    ask_armed(alloc, validator, keeper, sealer, member, kept, request)
+    ask_armed(rt, alloc, validator, keeper, sealer, member, kept, request)
 }

@@ -22,6 +22,7 @@ use outside::Keeper;
 use quorum_core::Sealer;
 use report_text::{Line, TurnText};
 use std::alloc::Global;
+use std::thread::Threads;
 use wire_bcs::{OutOfMemory, Seq};
 use world_lines::turn_lines;
 use world_names::{Directory, MakesSeals};
@@ -37,7 +38,8 @@ fn turn_line(alloc: Global, member: u32, text: TurnText) -> Result<Seq<Line>, Se
 
 /// Turns a member to the next epoch.
 #[tactic(auto, using(crate::proofs::Turning::turn_down, crate::proofs::Turning::turn_stopped, crate::proofs::Turning::turn_said))]
-fn turn<D: Keeper, S: Sealer>(
+fn turn<R: Threads + Sync, D: Keeper, S: Sealer>(
+    rt: &R,
     seats: &mut Seats,
     directory: &Directory,
     keeper: &mut D,
@@ -55,7 +57,7 @@ fn turn<D: Keeper, S: Sealer>(
 {
     let alloc = directory.allocator();
     let epoch = seats.epoch(member);
-    let reply = match seats.turn(alloc, keeper, sealer, member) {
+    let reply = match seats.turn(rt, alloc, keeper, sealer, member) {
         Ok(reply) => reply,
         Err(fault) => return Err(fault),
     };
@@ -72,8 +74,9 @@ fn turn<D: Keeper, S: Sealer>(
 impl World {
     /// The line `turn`: turns a member to the next epoch.
     #[tactic(auto, unfolding(scene_spec::specs::Steps::steps_to, scene_spec::specs::Steps::lines_in, scene_spec::specs::Steps::work_of), using(crate::proofs::Turning::turn_states, crate::proofs::Turning::turn_lines_is, crate::proofs::Lines::left_as))]
-    pub(crate) fn turn<D: Keeper, S: MakesSeals>(
+    pub(crate) fn turn<R: Threads + Sync, D: Keeper, S: MakesSeals>(
         &mut self,
+        rt: &R,
         keeper: &mut D,
         sealer: &S,
         member: u32,
@@ -86,6 +89,6 @@ impl World {
         ensures later { D.failed keeper.old ≤ D.failed keeper.new }
         ensures fault { IsErrOf result fault.KeepFault → Rose (D.failed keeper.old) (D.failed keeper.new) }
     {
-        turn(&mut self.seats, &self.directory, keeper, sealer, member)
+        turn(rt, &mut self.seats, &self.directory, keeper, sealer, member)
     }
 }

@@ -102,4 +102,12 @@ impl CertBook {
         let place = self.places.get(name).copied();
         cert_at(self.rows.as_slice(), place)
     }
+
+    /// The certificate at a place, counted from 0 in the order of forming; none exactly where none stands there. Takes no
+    /// memory.
+    pub fn at(&self, place: usize) -> Option<&Certificate>
+        ensures { option_copied result ≡ option_map cert_in (slice_get self.now place) }
+    {
+        cert_at(self.rows.as_slice(), Some(place))
+    }
 }

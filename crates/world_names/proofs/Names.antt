@@ -1,7 +1,8 @@
 -- Names, by the rows that were found.
 use Rattle.std.proofs.Common.{◌≡◌, ◌∙◌, ap, sym, refl, ℕ, List, [], ◌∷◌, ◌++◌, length, Option, Some, None, option_map, map}
-use Rattle.std.specs.Prelude.{position, find, bytes_eq, decimal}
+use Rattle.std.specs.Prelude.{position, find, bytes_eq, decimal, slice_get}
 use Rattle.std.proofs.lemmas.List.{length-map}
+use Rattle.std.proofs.lemmas.Option.{slice_get-map}
 use Rattle.digest_core.specs.declared.Digest.{Digest}
 use Rattle.chain_types.specs.declared.objects.Address.{Address}
 use Rattle.chain_types.specs.declared.objects.Object.{Object}
@@ -34,6 +35,12 @@ module _ (things : List ThingRow) (users : List UserRow) (txs : List MadeTx) (dr
 
   pub tx_named : (tx : Digest) (o : Option MadeTx) → o ≡ find (λ (r : MadeTx). digest_eq tx r.digest) txs → name_or (option_map made_name (option_map made_as o)) ≡ tx_name (world_with k) tx
   tx_named tx o is = ap (λ x. name_or (option_map made_name (option_map made_as x))) is ∙ sym (ap (λ x. name_or (option_map made_name x)) (tx_found tx))
+
+  pub made_with : (tx : Digest) (o : Option MadeTx) → o ≡ find (λ (r : MadeTx). digest_eq tx r.digest) txs → option_map made_as o ≡ find (λ (t : Made). digest_eq t.digest tx) k.txs
+  made_with tx o is = ap (option_map made_as) is ∙ sym (tx_found tx)
+
+  pub made_placed : (place : ℕ) (o : Option MadeTx) → o ≡ slice_get txs place → option_map made_as o ≡ slice_get k.txs place
+  made_placed place o is = ap (option_map made_as) is ∙ sym (slice_get-map made_as txs place) ∙ ap (λ (ts : List Made). slice_get ts place) txs_are
 
   pub made_found : (name : Name) (o : Option MadeTx) → o ≡ find (λ (r : MadeTx). bytes_eq name r.name) txs → option_map made_as o ≡ made_named (world_with k) name
   made_found name o is =

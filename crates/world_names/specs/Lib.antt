@@ -6,3 +6,4 @@ pub mod Shown
 pub mod Pushed
 pub mod Short
 pub mod MakeAnswers
+pub mod Looks

@@ -15,6 +15,7 @@ mod commands;
 mod directory;
 mod inputs;
 mod line;
+mod looks;
 mod making;
 mod making_law;
 mod names_law;

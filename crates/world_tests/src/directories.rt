@@ -1,12 +1,12 @@
 //! A directory of a coin and a counter, and one transaction.
 
-use crate::named::{coin_line, counter_line, text};
+use crate::named::{set_up, text};
 use chain_types::{
     Address, Argument, Command, Content, Object, ObjectId, ObjectKey, ObjectRef, Owner, SignedTx,
     Transaction,
 };
 use digest_core::{Digest, address_of, created_id, genesis_id};
-use schedule_text::{CommandWord, InputWord, ObjWord, RefWord, Setup};
+use schedule_text::{CommandWord, InputWord, ObjWord, RefWord};
 use std::alloc::Global;
 use std::test::Fail;
 use wire_bcs::{OutOfMemory, Seq};
@@ -14,14 +14,6 @@ use world_names::{Directory, MadeTx, TxLine};
 
 /// The digest of the transaction t.
 const TX: Digest = Digest([9; 32]);
-
-/// The coin c of ann, and the counter n.
-fn set_up(alloc: Global) -> Result<Directory, OutOfMemory> {
-    let mut lines = Seq::new(alloc);
-    lines.push(coin_line(alloc)?)?;
-    lines.push(counter_line(alloc)?)?;
-    Directory::new(alloc, lines.as_slice())
-}
 
 /// A command that splits the gas coin in two.
 fn split(alloc: Global) -> Result<Seq<Command>, OutOfMemory> {
@@ -66,9 +58,15 @@ fn made(alloc: Global) -> Result<MadeTx, OutOfMemory> {
 
 /// The input word `a:eve`.
 fn eve(alloc: Global) -> Result<Seq<InputWord>, OutOfMemory> {
+    let word = InputWord::Address(text(alloc, b"eve".as_slice())?);
     let mut inputs = Seq::new(alloc);
-    inputs.push(InputWord::Address(text(alloc, b"eve".as_slice())?))?;
-    Ok(inputs)
+    match inputs.push(word) {
+        Ok(()) => Ok(inputs),
+        Err(OutOfMemory) => {
+            drop(inputs);
+            Err(OutOfMemory)
+        }
+    }
 }
 
 /// The word `c@1`.
@@ -107,21 +105,37 @@ fn add_by(
 ) -> Result<(), OutOfMemory> {
     let made = made(alloc)?;
     let commands = Seq::new(alloc);
-    directory.add_made(&line(gas, inputs, &commands), made)
+    let added = directory.add_made(&line(gas, inputs, &commands), made);
+    drop(commands);
+    added
+}
+
+/// Adds the transaction t by the line with this gas and eve's address.
+fn add_with(alloc: Global, directory: &mut Directory, gas: &RefWord) -> Result<(), OutOfMemory> {
+    let inputs = eve(alloc)?;
+    let added = add_by(alloc, directory, gas, &inputs);
+    drop(inputs);
+    added
 }
 
 /// Adds the transaction t by its line.
 fn add(alloc: Global, directory: &mut Directory) -> Result<(), OutOfMemory> {
     let gas = coin_word(alloc)?;
-    let inputs = eve(alloc)?;
-    add_by(alloc, directory, &gas, &inputs)
+    let added = add_with(alloc, directory, &gas);
+    drop(gas);
+    added
 }
 
 /// The directory behind the line `tx t bob 0 c@1 5000 a:eve split(..)`.
 fn behind(alloc: Global) -> Result<Directory, OutOfMemory> {
     let mut directory = set_up(alloc)?;
-    add(alloc, &mut directory)?;
-    Ok(directory)
+    match add(alloc, &mut directory) {
+        Ok(()) => Ok(directory),
+        Err(OutOfMemory) => {
+            drop(directory);
+            Err(OutOfMemory)
+        }
+    }
 }
 
 /// The set-up's object of this number.
@@ -187,7 +201,9 @@ impl SetUp {
 /// What the set-up says.
 fn set_up_said(alloc: Global) -> Result<SetUp, OutOfMemory> {
     let directory = set_up(alloc)?;
-    SetUp::of(&directory)
+    let said = SetUp::of(&directory);
+    drop(directory);
+    said
 }
 
 #[test]
@@ -303,7 +319,9 @@ impl Said {
 /// What is said behind the line.
 fn said_behind(alloc: Global) -> Result<Said, OutOfMemory> {
     let directory = behind(alloc)?;
-    Said::of(&directory)
+    let said = Said::of(&directory);
+    drop(directory);
+    said
 }
 
 #[test]

@@ -7,6 +7,7 @@ use crate::common::sealer;
 use chain_messages::{Entry, Sealed, Statement, encode_statement};
 use quorum_core::{Committee, Sealer, Signer};
 use std::alloc::Global;
+use std::process::Abort;
 use std::test::Fail;
 use wire_bcs::{OutOfMemory, Seq};
 use world_lines::OrderBook;
@@ -38,7 +39,9 @@ fn order(
         return Ok(None);
     };
     let entry = self::end(alloc, end.0, end.1, end.2)?;
-    book.push(&entry)?;
+    let pushed = book.push(&entry);
+    drop(entry);
+    pushed?;
     Ok(Some(book.has_ended(&committee, &sealer())?))
 }
 
@@ -55,9 +58,8 @@ fn told(
     Ok(told)
 }
 
-#[test]
-fn an_epoch_ends_behind_the_ends_of_three_of_four(rt: HostRuntime) -> Result<(), Fail> {
-    let mut book = OrderBook::new(rt.alloc());
+/// Tests what is told as the epoch ends.
+fn expect_end(rt: &impl Abort, alloc: Global, book: &mut OrderBook) -> Result<(), Fail> {
     // A seal of another member, an End of another epoch, a repeat and a stranger count nothing.
     let ends = [
         (0, 0, 0),
@@ -69,7 +71,7 @@ fn an_epoch_ends_behind_the_ends_of_three_of_four(rt: HostRuntime) -> Result<(),
         (3, 3, 0),
         (2, 2, 0),
     ];
-    let told = told(rt.alloc(), &mut book, ends.as_slice())?;
+    let told = told(alloc, book, ends.as_slice())?;
     let wanted = [
         Some(false),
         Some(false),
@@ -85,24 +87,32 @@ fn an_epoch_ends_behind_the_ends_of_three_of_four(rt: HostRuntime) -> Result<(),
 }
 
 #[test]
-fn an_epoch_that_opens_has_not_ended(rt: HostRuntime) -> Result<(), Fail> {
+fn an_epoch_ends_behind_the_ends_of_three_of_four(rt: HostRuntime) -> Result<(), Fail> {
     let alloc = rt.alloc();
     let mut book = OrderBook::new(alloc);
-    told(
-        alloc,
-        &mut book,
-        [(0, 0, 0), (1, 1, 0), (2, 2, 0)].as_slice(),
-    )?;
+    let said = expect_end(&rt, alloc, &mut book);
+    drop(book);
+    said
+}
+
+/// Tests what is told as the next epoch opens.
+fn expect_opening(rt: &impl Abort, alloc: Global, book: &mut OrderBook) -> Result<(), Fail> {
+    told(alloc, book, [(0, 0, 0), (1, 1, 0), (2, 2, 0)].as_slice())?;
     book.rise()?;
-    let next = told(
-        alloc,
-        &mut book,
-        [(3, 3, 0), (3, 3, 1), (0, 0, 1)].as_slice(),
-    )?;
+    let next = told(alloc, book, [(3, 3, 0), (3, 3, 1), (0, 0, 1)].as_slice())?;
     assert_eq!(rt;
         next.as_slice(),
         [Some(false), Some(false), Some(false)].as_slice()
     );
     assert_eq!(rt; (book.epoch(), book.len(), book.count(0)), (1, 3, 3));
     Ok(())
+}
+
+#[test]
+fn an_epoch_that_opens_has_not_ended(rt: HostRuntime) -> Result<(), Fail> {
+    let alloc = rt.alloc();
+    let mut book = OrderBook::new(alloc);
+    let said = expect_opening(&rt, alloc, &mut book);
+    drop(book);
+    said
 }

@@ -1,5 +1,6 @@
 //! Lines over a directory with one coin, as they are printed.
 
+use crate::named::{add_coin, directory_of};
 use answer_types::{
     AckRefusal, CloseRefusal, EndRefusal, HoldRefusal, Left, Ran, RunRefusal, SeeRefusal, Seen,
     SeenWhat, TurnRefusal, VoteRefusal,
@@ -9,8 +10,7 @@ use checkpoint_core::{Checkpoint, Item};
 use digest_core::{Digest, genesis_id};
 use effects_core::{Effects, Status};
 use quorum_core::Committee;
-use report_text::{CertText, FinalText, Line, print_line};
-use schedule_text::Setup;
+use report_text::{AckText, EndText, Line, VoteText, print_line};
 use std::alloc::Global;
 use std::test::Fail;
 use wire_bcs::{OutOfMemory, Seq};
@@ -20,20 +20,11 @@ use world_lines::{
 };
 use world_names::Directory;
 
-/// The line of the coin c of ann.
-fn coin_line(alloc: Global) -> Result<Setup, OutOfMemory> {
-    Ok(Setup::Coin {
-        name: Seq::from_slice(alloc, b"c".as_slice())?,
-        owner: Seq::from_slice(alloc, b"ann".as_slice())?,
-        balance: 500,
-    })
-}
-
-/// The directory of that line.
+/// The directory of the coin c of ann.
 fn set_up(alloc: Global) -> Result<Directory, OutOfMemory> {
     let mut lines = Seq::new(alloc);
-    lines.push(coin_line(alloc)?)?;
-    Directory::new(alloc, lines.as_slice())
+    let added = add_coin(alloc, &mut lines);
+    directory_of(alloc, lines, added)
 }
 
 fn coin_key(version: u64) -> ObjectKey {
@@ -46,8 +37,13 @@ fn coin_key(version: u64) -> ObjectKey {
 /// A list of one line.
 fn one(alloc: Global, line: Line) -> Result<Seq<Line>, OutOfMemory> {
     let mut lines = Seq::new(alloc);
-    lines.push(line)?;
-    Ok(lines)
+    match lines.push(line) {
+        Ok(()) => Ok(lines),
+        Err(OutOfMemory) => {
+            drop(lines);
+            Err(OutOfMemory)
+        }
+    }
 }
 
 /// The text of the lines.
@@ -135,9 +131,17 @@ enum Said {
     NoTurn(TurnRefusal),
 }
 
-/// The lines of a refusal of a vote.
+/// The text of a refusal of a vote.
+fn no_vote_text(directory: &Directory, refusal: VoteRefusal) -> Result<VoteText, OutOfMemory> {
+    let answer = Err(refusal);
+    let text = vote_text(directory, &answer);
+    drop(answer);
+    text
+}
+
+/// Its lines.
 fn vote_lines(directory: &Directory, refusal: VoteRefusal) -> Result<Seq<Line>, OutOfMemory> {
-    let text = vote_text(directory, &Err(refusal))?;
+    let text = no_vote_text(directory, refusal)?;
     one(directory.allocator(), Line::RawVote { member: 0, text })
 }
 
@@ -153,12 +157,17 @@ fn hold_lines(
 /// The lines of a run that executed one transaction, left one and built one checkpoint.
 fn ran_lines(directory: &Directory) -> Result<Seq<Line>, OutOfMemory> {
     let answer = Ok(ran(directory.allocator())?);
-    run_lines(directory, 2, &answer)
+    let lines = run_lines(directory, 2, &answer);
+    drop(answer);
+    lines
 }
 
 /// The lines of a run that did not come to be.
 fn no_run_lines(directory: &Directory, refusal: RunRefusal) -> Result<Seq<Line>, OutOfMemory> {
-    run_lines(directory, 2, &Err(refusal))
+    let answer = Err(refusal);
+    let lines = run_lines(directory, 2, &answer);
+    drop(answer);
+    lines
 }
 
 /// What a member made of the entry that ended the epoch.
@@ -173,22 +182,47 @@ fn seen(alloc: Global) -> Result<Seen, OutOfMemory> {
     })
 }
 
-/// The lines of an answer to the entry 4, in a committee of four with one stake each.
+/// Adds the lines of an answer to the entry 4, in a committee of four with one stake each.
+fn add_lines(
+    directory: &Directory,
+    lines: &mut Seq<Line>,
+    answer: &Result<Seen, SeeRefusal>,
+) -> Result<(), OutOfMemory> {
+    if let Ok(committee) = Committee::new([1, 1, 1, 1].as_slice()) {
+        add_entry_lines(directory, &committee, lines, 0, 4, answer)?;
+    }
+    Ok(())
+}
+
+/// These lines.
 fn entry_lines(
     directory: &Directory,
     answer: &Result<Seen, SeeRefusal>,
 ) -> Result<Seq<Line>, OutOfMemory> {
     let mut lines = Seq::new(directory.allocator());
-    if let Ok(committee) = Committee::new([1, 1, 1, 1].as_slice()) {
-        add_entry_lines(directory, &committee, &mut lines, 0, 4, answer)?;
+    match add_lines(directory, &mut lines, answer) {
+        Ok(()) => Ok(lines),
+        Err(OutOfMemory) => {
+            drop(lines);
+            Err(OutOfMemory)
+        }
     }
-    Ok(lines)
 }
 
 /// The lines of the entry that ended the epoch.
 fn seen_lines(directory: &Directory) -> Result<Seq<Line>, OutOfMemory> {
     let answer = Ok(seen(directory.allocator())?);
-    entry_lines(directory, &answer)
+    let lines = entry_lines(directory, &answer);
+    drop(answer);
+    lines
+}
+
+/// The lines of an entry that was refused.
+fn not_seen_lines(directory: &Directory, refusal: SeeRefusal) -> Result<Seq<Line>, OutOfMemory> {
+    let answer = Err(refusal);
+    let lines = entry_lines(directory, &answer);
+    drop(answer);
+    lines
 }
 
 /// The lines of an answer to `close`.
@@ -200,16 +234,32 @@ fn close_lines(
     one(directory.allocator(), Line::Close { member: 0, text })
 }
 
-/// The lines of a refusal of an End.
+/// The text of a refusal of an End.
+fn no_end_text(directory: &Directory, refusal: EndRefusal) -> Result<EndText, OutOfMemory> {
+    let answer = Err(refusal);
+    let text = end_text(directory, &answer);
+    drop(answer);
+    text
+}
+
+/// Its lines.
 fn end_lines(directory: &Directory, refusal: EndRefusal) -> Result<Seq<Line>, OutOfMemory> {
-    let text = end_text(directory, &Err(refusal))?;
+    let text = no_end_text(directory, refusal)?;
     one(directory.allocator(), Line::End { member: 0, text })
 }
 
-/// The lines of a refusal to acknowledge.
+/// The text of a refusal to acknowledge.
+fn no_ack_text(directory: &Directory, refusal: AckRefusal) -> Result<AckText, OutOfMemory> {
+    let answer = Err(refusal);
+    let text = ack_text(directory, &answer);
+    drop(answer);
+    text
+}
+
+/// Its lines.
 fn ack_lines(directory: &Directory, refusal: AckRefusal) -> Result<Seq<Line>, OutOfMemory> {
     let tx = Seq::from_slice(directory.allocator(), b"t".as_slice())?;
-    let text = ack_text(directory, &Err(refusal))?;
+    let text = no_ack_text(directory, refusal)?;
     one(
         directory.allocator(),
         Line::Ack {
@@ -224,7 +274,17 @@ fn ack_lines(directory: &Directory, refusal: AckRefusal) -> Result<Seq<Line>, Ou
 fn turned_lines(directory: &Directory) -> Result<Seq<Line>, OutOfMemory> {
     let reverted = [Digest([9; 32])];
     let answer = Ok(Seq::from_slice(directory.allocator(), reverted.as_slice())?);
-    turn_lines(directory, 2, 3, &answer)
+    let lines = turn_lines(directory, 2, 3, &answer);
+    drop(answer);
+    lines
+}
+
+/// The lines of a turn that was refused.
+fn no_turn_lines(directory: &Directory, refusal: TurnRefusal) -> Result<Seq<Line>, OutOfMemory> {
+    let answer = Err(refusal);
+    let lines = turn_lines(directory, 2, 3, &answer);
+    drop(answer);
+    lines
 }
 
 /// The lines of what is said.
@@ -236,25 +296,29 @@ fn lines_in(directory: &Directory, said: Said) -> Result<Seq<Line>, OutOfMemory>
         Said::NoRun(refusal) => no_run_lines(directory, refusal),
         Said::Shown(object) => shown_lines(directory, 0, 1, [object].as_slice()),
         Said::Seen => seen_lines(directory),
-        Said::NotSeen(refusal) => entry_lines(directory, &Err(refusal)),
+        Said::NotSeen(refusal) => not_seen_lines(directory, refusal),
         Said::Close(answer) => close_lines(directory, &answer),
         Said::NoEnd(refusal) => end_lines(directory, refusal),
         Said::NoAck(refusal) => ack_lines(directory, refusal),
         Said::Turned => turned_lines(directory),
-        Said::NoTurn(refusal) => turn_lines(directory, 2, 3, &Err(refusal)),
+        Said::NoTurn(refusal) => no_turn_lines(directory, refusal),
     }
 }
 
 /// The lines of what is said over the directory.
 fn lines_of(alloc: Global, said: Said) -> Result<Seq<Line>, OutOfMemory> {
     let directory = set_up(alloc)?;
-    lines_in(&directory, said)
+    let lines = lines_in(&directory, said);
+    drop(directory);
+    lines
 }
 
 /// The text of what is said.
 fn text_of(alloc: Global, said: Said) -> Result<Seq<u8>, OutOfMemory> {
     let lines = lines_of(alloc, said)?;
-    printed(alloc, &lines)
+    let text = printed(alloc, &lines);
+    drop(lines);
+    text
 }
 
 #[test]
@@ -321,22 +385,19 @@ fn shows_objects(rt: HostRuntime) -> Result<(), Fail> {
     Ok(())
 }
 
-/// The lines of a certificate with this ending.
-fn cert_lines(alloc: Global, text: CertText) -> Result<Seq<Line>, OutOfMemory> {
-    let tx = Seq::from_slice(alloc, b"t".as_slice())?;
-    one(alloc, Line::Cert { tx, text })
-}
-
 /// The lines of what collecting the votes of the members 0 and 2 gave.
 fn collected_lines(alloc: Global, collected: Collected) -> Result<Seq<Line>, OutOfMemory> {
+    let tx = Seq::from_slice(alloc, b"t".as_slice())?;
     let text = cert_text(alloc, [0, 2].as_slice(), &collected)?;
-    cert_lines(alloc, text)
+    one(alloc, Line::Cert { tx, text })
 }
 
 /// The text for what collecting the votes of the members 0 and 2 gave.
 fn collected(alloc: Global, collected: Collected) -> Result<Seq<u8>, OutOfMemory> {
     let lines = collected_lines(alloc, collected)?;
-    printed(alloc, &lines)
+    let text = printed(alloc, &lines);
+    drop(lines);
+    text
 }
 
 #[test]
@@ -402,22 +463,19 @@ fn says_why_it_does_not_turn(rt: HostRuntime) -> Result<(), Fail> {
     Ok(())
 }
 
-/// The lines of what is final with this ending.
-fn final_lines(alloc: Global, text: FinalText) -> Result<Seq<Line>, OutOfMemory> {
-    let tx = Seq::from_slice(alloc, b"t".as_slice())?;
-    one(alloc, Line::Final { tx, text })
-}
-
 /// The lines of what collecting the acknowledgements of the members 0 and 2 gave.
 fn acks_lines(alloc: Global, collected: Collected) -> Result<Seq<Line>, OutOfMemory> {
+    let tx = Seq::from_slice(alloc, b"t".as_slice())?;
     let text = final_text(alloc, [0, 2].as_slice(), &collected)?;
-    final_lines(alloc, text)
+    one(alloc, Line::Final { tx, text })
 }
 
 /// The text for what collecting the acknowledgements of the members 0 and 2 gave.
 fn acks_collected(alloc: Global, collected: Collected) -> Result<Seq<u8>, OutOfMemory> {
     let lines = acks_lines(alloc, collected)?;
-    printed(alloc, &lines)
+    let text = printed(alloc, &lines);
+    drop(lines);
+    text
 }
 
 #[test]

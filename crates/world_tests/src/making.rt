@@ -4,11 +4,11 @@
 ghost use Rattle.std.specs.Prelude.{◌≡◌, Some, None, if◌then◌else◌};
 ghost use Rattle.chain_types.specs.Equal.{key_eq};
 
-use crate::named::{coin_line, counter_line, text};
+use crate::named::{set_up, text};
 use chain_types::{ObjectId, ObjectKey};
 use digest_core::{Digest, genesis_id};
 use quorum_core::KeyedSeal;
-use schedule_text::{ArgWord, CommandWord, InputWord, ObjWord, RefWord, Setup};
+use schedule_text::{ArgWord, CommandWord, InputWord, ObjWord, RefWord};
 use std::alloc::Global;
 use std::test::Fail;
 use wire_bcs::{OutOfMemory, Seq};
@@ -68,14 +68,6 @@ fn coin_held() -> OneHeld {
     }
 }
 
-/// The coin c and the counter n.
-fn set_up(alloc: Global) -> Result<Directory, OutOfMemory> {
-    let mut lines = Seq::new(alloc);
-    lines.push(coin_line(alloc)?)?;
-    lines.push(counter_line(alloc)?)?;
-    Directory::new(alloc, lines.as_slice())
-}
-
 /// The coin c at version 1.
 fn coin_word(alloc: Global, spoiled: bool) -> Result<RefWord, OutOfMemory> {
     Ok(RefWord {
@@ -108,7 +100,11 @@ fn line<'a>(
 fn made_by(alloc: Global, directory: &Directory, line: &TxLine<'_>) -> Option<(Digest, Digest)> {
     let sealer = KeyedSeal::new([7; 32]);
     match make(alloc, directory, &coin_held(), &sealer, line) {
-        Ok(made) => Some((made.digest, made.signed.seal)),
+        Ok(made) => {
+            let said = (made.digest, made.signed.seal);
+            drop(made);
+            Some(said)
+        }
         Err(_) => None,
     }
 }
@@ -123,7 +119,9 @@ fn made_in(
 ) -> Result<Option<(Digest, Digest)>, OutOfMemory> {
     let gas = coin_word(alloc, false)?;
     let line = line(spoiled, &gas, inputs, commands);
-    Ok(made_by(alloc, directory, &line))
+    let made = made_by(alloc, directory, &line);
+    drop(gas);
+    Ok(made)
 }
 
 /// Those behind the set-up.
@@ -134,7 +132,9 @@ fn made(
     commands: &Seq<CommandWord>,
 ) -> Result<Option<(Digest, Digest)>, OutOfMemory> {
     let directory = set_up(alloc)?;
-    made_in(alloc, &directory, spoiled, inputs, commands)
+    let made = made_in(alloc, &directory, spoiled, inputs, commands);
+    drop(directory);
+    made
 }
 
 /// The digest alone.
@@ -145,13 +145,11 @@ fn digest_of(made: Option<(Digest, Digest)>) -> Option<Digest> {
     }
 }
 
-/// The words `258 a:eve b:09`.
-fn pure_words(alloc: Global) -> Result<Seq<InputWord>, OutOfMemory> {
-    let mut words = Seq::new(alloc);
+/// Adds the words `258 a:eve b:09`.
+fn add_pure(alloc: Global, words: &mut Seq<InputWord>) -> Result<(), OutOfMemory> {
     words.push(InputWord::Number(258))?;
     words.push(InputWord::Address(text(alloc, b"eve".as_slice())?))?;
-    words.push(InputWord::Bytes(text(alloc, [9].as_slice())?))?;
-    Ok(words)
+    words.push(InputWord::Bytes(text(alloc, [9].as_slice())?))
 }
 
 /// The created object u.2 at version 4.
@@ -175,20 +173,34 @@ fn counter_word(alloc: Global) -> Result<InputWord, OutOfMemory> {
     })
 }
 
-/// Those and the objects: the coin with a spoiled digest, u.2 and the counter.
-fn input_words(alloc: Global) -> Result<Seq<InputWord>, OutOfMemory> {
-    let mut words = pure_words(alloc)?;
+/// Adds those and the objects: the coin with a spoiled digest, u.2 and the counter.
+fn add_inputs(alloc: Global, words: &mut Seq<InputWord>) -> Result<(), OutOfMemory> {
+    add_pure(alloc, words)?;
     words.push(InputWord::Owned(coin_word(alloc, true)?))?;
     words.push(InputWord::Immutable(created_word(alloc)?))?;
-    words.push(counter_word(alloc)?)?;
-    Ok(words)
+    words.push(counter_word(alloc)?)
+}
+
+/// All of these words.
+fn input_words(alloc: Global) -> Result<Seq<InputWord>, OutOfMemory> {
+    let mut words = Seq::new(alloc);
+    match add_inputs(alloc, &mut words) {
+        Ok(()) => Ok(words),
+        Err(OutOfMemory) => {
+            drop(words);
+            Err(OutOfMemory)
+        }
+    }
 }
 
 /// The digest of the transaction with those.
 fn with_inputs(alloc: Global) -> Result<Option<Digest>, OutOfMemory> {
     let inputs = input_words(alloc)?;
     let commands = Seq::new(alloc);
-    Ok(digest_of(made(alloc, false, &inputs, &commands)?))
+    let made = made(alloc, false, &inputs, &commands);
+    drop(commands);
+    drop(inputs);
+    Ok(digest_of(made?))
 }
 
 #[test]
@@ -203,21 +215,19 @@ fn args(alloc: Global, words: &[ArgWord]) -> Result<Seq<ArgWord>, OutOfMemory> {
     Seq::from_slice(alloc, words)
 }
 
-/// `split(gas,i0)`, `merge(gas,i0)`, `transfer(r0,i1)`.
-fn coin_commands(alloc: Global) -> Result<Seq<CommandWord>, OutOfMemory> {
+/// Adds `split(gas,i0)`, `merge(gas,i0)`, `transfer(r0,i1)`.
+fn add_coins(alloc: Global, words: &mut Seq<CommandWord>) -> Result<(), OutOfMemory> {
     let pair = [ArgWord::Gas, ArgWord::Input(0)];
     let sent = [ArgWord::Result(0), ArgWord::Input(1)];
-    let mut words = Seq::new(alloc);
     words.push(CommandWord::Split(args(alloc, pair.as_slice())?))?;
     words.push(CommandWord::Merge(args(alloc, pair.as_slice())?))?;
-    words.push(CommandWord::Transfer(args(alloc, sent.as_slice())?))?;
-    Ok(words)
+    words.push(CommandWord::Transfer(args(alloc, sent.as_slice())?))
 }
 
-/// Those, and a list of keys and a call of native 12 with the argument `r1.2`.
-fn command_words(alloc: Global) -> Result<Seq<CommandWord>, OutOfMemory> {
+/// Adds those, and a list of keys and a call of native 12 with the argument `r1.2`.
+fn add_commands(alloc: Global, words: &mut Seq<CommandWord>) -> Result<(), OutOfMemory> {
     let one = [ArgWord::Nested(1, 2)];
-    let mut words = coin_commands(alloc)?;
+    add_coins(alloc, words)?;
     words.push(CommandWord::MakeVec {
         kind: 4,
         values: args(alloc, one.as_slice())?,
@@ -225,15 +235,29 @@ fn command_words(alloc: Global) -> Result<Seq<CommandWord>, OutOfMemory> {
     words.push(CommandWord::Call {
         native: 12,
         args: args(alloc, one.as_slice())?,
-    })?;
-    Ok(words)
+    })
+}
+
+/// All of these commands.
+fn command_words(alloc: Global) -> Result<Seq<CommandWord>, OutOfMemory> {
+    let mut words = Seq::new(alloc);
+    match add_commands(alloc, &mut words) {
+        Ok(()) => Ok(words),
+        Err(OutOfMemory) => {
+            drop(words);
+            Err(OutOfMemory)
+        }
+    }
 }
 
 /// The digest of the transaction with those.
 fn with_commands(alloc: Global) -> Result<Option<Digest>, OutOfMemory> {
-    let inputs = Seq::new(alloc);
     let commands = command_words(alloc)?;
-    Ok(digest_of(made(alloc, false, &inputs, &commands)?))
+    let inputs = Seq::new(alloc);
+    let made = made(alloc, false, &inputs, &commands);
+    drop(inputs);
+    drop(commands);
+    Ok(digest_of(made?))
 }
 
 #[test]
@@ -247,7 +271,10 @@ fn makes_commands(rt: HostRuntime) -> Result<(), Fail> {
 fn empty(alloc: Global, spoiled: bool) -> Result<Option<(Digest, Digest)>, OutOfMemory> {
     let inputs = Seq::new(alloc);
     let commands = Seq::new(alloc);
-    made(alloc, spoiled, &inputs, &commands)
+    let made = made(alloc, spoiled, &inputs, &commands);
+    drop(commands);
+    drop(inputs);
+    made
 }
 
 /// Ann's seal with the last bit of its first byte turned.

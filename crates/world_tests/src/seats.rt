@@ -8,9 +8,11 @@ use digest_core::Digest;
 use outside::{Keeper, MemKeeper};
 use quorum_core::Committee;
 use std::alloc::Global;
+use std::process::Abort;
 use std::test::Fail;
+use std::thread::Threads;
 use validator_core::{HoldRefusal, VoteRefusal};
-use wire_bcs::Seq;
+use wire_bcs::{OutOfMemory, Seq};
 use world_core::{Reply, RestartFault, Seats, Terms};
 use world_names::HeldDigests;
 
@@ -36,9 +38,19 @@ fn keeper(alloc: Global) -> Result<MemKeeper, Fail>
     Ok(MemKeeper::new(alloc, 2, [].as_slice())?)
 }
 
-#[test]
-fn knows_its_members(rt: HostRuntime) -> Result<(), Fail> {
-    let seats = seats(rt.alloc())?;
+/// The epoch that a member shows, where it shows one.
+fn shown(seats: &Seats, member: u32) -> Result<Option<u64>, OutOfMemory> {
+    match seats.show(member)? {
+        Some((epoch, objects)) => {
+            drop(objects);
+            Ok(Some(epoch))
+        }
+        None => Ok(None),
+    }
+}
+
+/// Tests what the seats know of their members.
+fn expect_members(rt: &impl Abort, seats: &Seats) {
     assert_eq!(rt; seats.len(), 2);
     assert_eq!(rt; seats.flags(), [true, false].as_slice());
     assert_eq!(rt; seats.committee().total(), 2);
@@ -47,8 +59,15 @@ fn knows_its_members(rt: HostRuntime) -> Result<(), Fail> {
         version: 1,
     };
     assert_eq!(rt; seats.held_digest(&key), None);
-    assert!(rt; matches!(seats.show(1), Ok(Some((0, _)))));
-    assert!(rt; matches!(seats.show(2), Ok(None)));
+    assert_eq!(rt; shown(seats, 1), Ok(Some(0)));
+    assert_eq!(rt; shown(seats, 2), Ok(None));
+}
+
+#[test]
+fn knows_its_members(rt: HostRuntime) -> Result<(), Fail> {
+    let seats = seats(rt.alloc())?;
+    expect_members(&rt, &seats);
+    drop(seats);
     Ok(())
 }
 
@@ -60,45 +79,131 @@ fn tells_who_is_honest(rt: HostRuntime) -> Result<(), Fail> {
         seats.honest(1).is_some(),
         seats.honest(2).is_some(),
     );
+    drop(seats);
     assert_eq!(rt; honest, (true, false, false));
     Ok(())
+}
+
+/// Whether nothing is no transaction that member 0 votes for.
+fn votes_not<R: Threads + Sync>(
+    rt: &R,
+    alloc: Global,
+    seats: &mut Seats,
+    keeper: &mut MemKeeper,
+) -> bool
+    requires posts { length seats.old.posts ≡ 2 }
+    requires lists { length keeper.old.lists ≡ 2 }
+    ensures posts { length seats.new.posts ≡ 2 }
+    ensures lists { length keeper.new.lists ≡ 2 }
+{
+    let reply = seats.vote(rt, alloc, keeper, &sealer(), 0, b"".as_slice());
+    let malformed = matches!(reply, Ok(Reply::Answered(Err(VoteRefusal::Malformed(_)))));
+    drop(reply);
+    malformed
+}
+
+/// Whether nothing is no certificate that it holds.
+fn holds_not<R: Threads + Sync>(
+    rt: &R,
+    alloc: Global,
+    seats: &mut Seats,
+    keeper: &mut MemKeeper,
+) -> bool
+    requires posts { length seats.old.posts ≡ 2 }
+    requires lists { length keeper.old.lists ≡ 2 }
+    ensures lists { length keeper.new.lists ≡ 2 }
+{
+    let reply = seats.hold(rt, alloc, keeper, &sealer(), 0, b"".as_slice());
+    let malformed = matches!(reply, Ok(Reply::Answered(Err(HoldRefusal::Malformed(_)))));
+    drop(reply);
+    malformed
+}
+
+/// Tests that it answers, and keeps nothing.
+fn expect_passed<R: Abort + Threads + Sync>(
+    rt: &R,
+    alloc: Global,
+    seats: &mut Seats,
+    keeper: &mut MemKeeper,
+)
+    requires posts { length seats.old.posts ≡ 2 }
+    requires lists { length keeper.old.lists ≡ 2 }
+{
+    seats.arm(0, true);
+    assert!(rt; votes_not(rt, alloc, seats, keeper));
+    assert!(rt; holds_not(rt, alloc, seats, keeper));
+    assert_eq!(rt; keeper.count(0), 0);
 }
 
 #[test]
 fn a_call_without_a_record_passes_a_stop(rt: HostRuntime) -> Result<(), Fail> {
     let alloc = rt.alloc();
-    let mut seats = seats(alloc)?;
     let mut keeper = keeper(alloc)?;
-    seats.arm(0, true);
-    let reply = seats.vote(alloc, &mut keeper, &sealer(), 0, b"".as_slice());
-    assert!(rt; matches!(reply, Ok(Reply::Answered(Err(VoteRefusal::Malformed(_))))));
-    let reply = seats.hold(alloc, &mut keeper, &sealer(), 0, b"".as_slice());
-    assert!(rt; matches!(reply, Ok(Reply::Answered(Err(HoldRefusal::Malformed(_))))));
-    assert_eq!(rt; keeper.count(0), 0);
+    let mut seats = seats(alloc)?;
+    expect_passed(&rt, alloc, &mut seats, &mut keeper);
+    drop(seats);
     Ok(())
+}
+
+/// Whether member 2 is down as it is to run.
+fn is_down<R: Threads + Sync>(
+    rt: &R,
+    alloc: Global,
+    seats: &mut Seats,
+    keeper: &mut MemKeeper,
+) -> bool
+    requires posts { length seats.old.posts ≡ 2 }
+    requires lists { length keeper.old.lists ≡ 2 }
+{
+    let reply = seats.run(rt, alloc, keeper, &sealer(), 2, 1);
+    let down = matches!(reply, Ok(Reply::Down));
+    drop(reply);
+    down
 }
 
 #[test]
 fn a_member_that_is_not_there_is_down(rt: HostRuntime) -> Result<(), Fail> {
     let alloc = rt.alloc();
-    let mut seats = seats(alloc)?;
     let mut keeper = keeper(alloc)?;
-    let reply = seats.run(alloc, &mut keeper, &sealer(), 2);
-    assert!(rt; matches!(reply, Ok(Reply::Down)));
+    let mut seats = seats(alloc)?;
+    let down = is_down(&rt, alloc, &mut seats, &mut keeper);
+    drop(seats);
+    assert!(rt; down);
     Ok(())
+}
+
+/// Member 1 starts again over an opening with no object.
+fn restarts(alloc: Global, seats: &mut Seats, keeper: &mut MemKeeper) -> Result<u64, RestartFault>
+    requires posts { length seats.old.posts ≡ 2 }
+    requires lists { length keeper.old.lists ≡ 2 }
+    ensures posts { length seats.new.posts ≡ 2 }
+    ensures lists { length keeper.new.lists ≡ 2 }
+{
+    let opening = Seq::new(alloc);
+    let restarted = seats.restart(alloc, keeper, &sealer(), &opening, 1);
+    drop(opening);
+    restarted
+}
+
+/// Tests from which records it starts.
+fn expect_restarts(rt: &impl Abort, alloc: Global, seats: &mut Seats, keeper: &mut MemKeeper)
+    requires posts { length seats.old.posts ≡ 2 }
+    requires lists { length keeper.old.lists ≡ 2 }
+{
+    let none = restarts(alloc, seats, keeper);
+    assert_eq!(rt; none, Ok(0));
+    if keeper.members() == 2 && keeper.append(1, [255].as_slice()).is_ok() {
+        let bad = restarts(alloc, seats, keeper);
+        assert_eq!(rt; bad, Err(RestartFault::BadRecord { place: 0 }));
+    }
 }
 
 #[test]
 fn restarts_from_records(rt: HostRuntime) -> Result<(), Fail> {
     let alloc = rt.alloc();
-    let mut seats = seats(alloc)?;
     let mut keeper = keeper(alloc)?;
-    let opening = Seq::new(alloc);
-    let none = seats.restart(alloc, &mut keeper, &sealer(), &opening, 1);
-    assert_eq!(rt; none, Ok(0));
-    if keeper.members() == 2 && keeper.append(1, [255].as_slice()).is_ok() {
-        let bad = seats.restart(alloc, &mut keeper, &sealer(), &opening, 1);
-        assert_eq!(rt; bad, Err(RestartFault::BadRecord { place: 0 }));
-    }
+    let mut seats = seats(alloc)?;
+    expect_restarts(&rt, alloc, &mut seats, &mut keeper);
+    drop(seats);
     Ok(())
 }

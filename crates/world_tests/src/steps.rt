@@ -6,6 +6,7 @@ use report_text::{Line, print_line};
 use schedule_text::{Event, Schedule, Setup, read_schedule};
 use std::alloc::Global;
 use std::test::Fail;
+use std::thread::Threads;
 use wire_bcs::{OutOfMemory, Seq};
 use world_core::{World, WorldFault, WorldRefusal};
 
@@ -25,11 +26,16 @@ pub(crate) fn opened(alloc: Global, setup: &Seq<Setup>) -> Result<World, WorldRe
 }
 
 /// Runs a line of a form that is run, where the keeper has a list for each member.
-fn step(world: &mut World, keeper: &mut MemKeeper, event: &Event) -> Result<Seq<Line>, WorldFault> {
+fn step<R: Threads + Sync>(
+    rt: &R,
+    world: &mut World,
+    keeper: &mut MemKeeper,
+    event: &Event,
+) -> Result<Seq<Line>, WorldFault> {
     if world.members() > keeper.members() {
         return Err(WorldFault::OutOfMemory);
     }
-    world.step(keeper, &sealer(), event)
+    world.step(rt, keeper, &sealer(), event)
 }
 
 /// Adds the text of the lines.
@@ -41,34 +47,39 @@ fn print_lines(lines: &Seq<Line>, text: &mut Seq<u8>) -> Result<(), OutOfMemory>
 }
 
 /// Runs a line, and adds the text of what the report has for it.
-fn take(
+fn take<R: Threads + Sync>(
+    rt: &R,
     world: &mut World,
     keeper: &mut MemKeeper,
     event: &Event,
     text: &mut Seq<u8>,
 ) -> Result<(), WorldFault> {
-    let lines = step(world, keeper, event)?;
-    match print_lines(&lines, text) {
+    let lines = step(rt, world, keeper, event)?;
+    let printed = print_lines(&lines, text);
+    drop(lines);
+    match printed {
         Ok(()) => Ok(()),
         Err(OutOfMemory) => Err(WorldFault::OutOfMemory),
     }
 }
 
 /// Runs the lines in order up to the first fault, and adds their text.
-pub(crate) fn run(
+pub(crate) fn run<R: Threads + Sync>(
+    rt: &R,
     world: &mut World,
     keeper: &mut MemKeeper,
     events: &Seq<Event>,
     text: &mut Seq<u8>,
 ) -> Result<(), WorldFault> {
     for event in events.as_slice() {
-        take(world, keeper, event, text)?;
+        take(rt, world, keeper, event, text)?;
     }
     Ok(())
 }
 
 /// Runs a schedule in its world.
-fn run_schedule(
+fn run_schedule<R: Threads + Sync>(
+    rt: &R,
     alloc: Global,
     schedule: &Schedule,
     keeper: &mut MemKeeper,
@@ -77,18 +88,25 @@ fn run_schedule(
     let Ok(mut world) = opened(alloc, &schedule.setup) else {
         return Err(WorldFault::OutOfMemory);
     };
-    run(&mut world, keeper, &schedule.events, text)
+    let ran = run(rt, &mut world, keeper, &schedule.events, text);
+    drop(world);
+    ran
 }
 
 /// Runs the schedule that the words are.
-fn run_text(
+fn run_text<R: Threads + Sync>(
+    rt: &R,
     alloc: Global,
     words: &str,
     keeper: &mut MemKeeper,
     text: &mut Seq<u8>,
 ) -> Result<(), WorldFault> {
     match read_schedule(alloc, words.as_bytes()) {
-        Ok(schedule) => run_schedule(alloc, &schedule, keeper, text),
+        Ok(schedule) => {
+            let ran = run_schedule(rt, alloc, &schedule, keeper, text);
+            drop(schedule);
+            ran
+        }
         Err(_) => Err(WorldFault::OutOfMemory),
     }
 }
@@ -102,7 +120,7 @@ fn keeper(alloc: Global, failing: u64) -> Result<MemKeeper, OutOfMemory> {
 fn a_transfer_has_these_lines(rt: HostRuntime) -> Result<(), Fail> {
     let mut keeper = keeper(rt.alloc(), 0)?;
     let mut text = Seq::new(rt.alloc());
-    let ended = run_text(rt.alloc(), TRANSFER, &mut keeper, &mut text);
+    let ended = run_text(&rt, rt.alloc(), TRANSFER, &mut keeper, &mut text);
     assert_eq!(rt; ended, Ok(()));
     let wanted = "tx t1: made\nvote 0 t1: voted -\ncert t1: formed by 0\nsend 0 t1: held\n\
 run 0: executed 1\n  t1 done v2 gas 1100\nshow 0: epoch 0 objects 1\n  g0 v2 bob coin 0 8900\n";
@@ -114,7 +132,7 @@ run 0: executed 1\n  t1 done v2 gas 1100\nshow 0: epoch 0 objects 1\n  g0 v2 bob
 fn a_member_starts_again(rt: HostRuntime) -> Result<(), Fail> {
     let mut keeper = keeper(rt.alloc(), 0)?;
     let mut text = Seq::new(rt.alloc());
-    let ended = run_text(rt.alloc(), RESTART, &mut keeper, &mut text);
+    let ended = run_text(&rt, rt.alloc(), RESTART, &mut keeper, &mut text);
     assert_eq!(rt; ended, Ok(()));
     let wanted = "tx t1: made\nstop 0: armed kept\nvote 0 t1: stopped\nshow 0: down\n\
 restart 0: records 1\nvote 0 t1: again -\n";
@@ -126,7 +144,7 @@ restart 0: records 1\nvote 0 t1: again -\n";
 fn a_record_that_is_not_kept_ends_the_run(rt: HostRuntime) -> Result<(), Fail> {
     let mut keeper = keeper(rt.alloc(), 1)?;
     let mut text = Seq::new(rt.alloc());
-    let ended = run_text(rt.alloc(), TRANSFER, &mut keeper, &mut text);
+    let ended = run_text(&rt, rt.alloc(), TRANSFER, &mut keeper, &mut text);
     assert_eq!(rt; ended, Err(WorldFault::KeepFault));
     assert_eq!(rt; text.as_slice(), "tx t1: made\n".as_bytes());
     assert_eq!(rt; keeper.faults(), 1);
@@ -147,7 +165,7 @@ fn a_bad_record_ends_the_run(rt: HostRuntime) -> Result<(), Fail> {
     let mut keeper = spoiled(rt.alloc())?;
     let mut text = Seq::new(rt.alloc());
     let words = "member 1 honest\nrestart 0\n";
-    let ended = run_text(rt.alloc(), words, &mut keeper, &mut text);
+    let ended = run_text(&rt, rt.alloc(), words, &mut keeper, &mut text);
     let bad = WorldFault::BadRecord {
         member: 0,
         place: 0,

@@ -6,6 +6,7 @@ use schedule_text::{Event, Schedule, read_schedule};
 use std::alloc::Global;
 use std::process::Abort;
 use std::test::Fail;
+use std::thread::Threads;
 use wire_bcs::{OutOfMemory, Seq};
 use world_core::{Sums, World, WorldFault};
 
@@ -26,7 +27,8 @@ const RESTARTED: &str = "member 1 honest\ncoin g0 alice 10000\n\
 tx t1 alice 0 g0@1 2000 a:bob transfer(gas,i0)\nstop 0 kept\nvote 0 t1\nrestart 0\n";
 
 /// The sums of a member behind these lines.
-fn sums_after(
+fn sums_after<R: Threads + Sync>(
+    rt: &R,
     alloc: Global,
     world: &mut World,
     keeper: &mut MemKeeper,
@@ -34,7 +36,7 @@ fn sums_after(
     member: u32,
 ) -> Result<Option<Sums>, WorldFault> {
     let mut report = Seq::new(alloc);
-    run(world, keeper, events, &mut report)?;
+    run(rt, world, keeper, events, &mut report)?;
     match world.sums(member) {
         Ok(sums) => Ok(sums),
         Err(OutOfMemory) => Err(WorldFault::OutOfMemory),
@@ -42,7 +44,8 @@ fn sums_after(
 }
 
 /// The same in the world of a schedule.
-fn sums_in(
+fn sums_in<R: Threads + Sync>(
+    rt: &R,
     alloc: Global,
     schedule: &Schedule,
     keeper: &mut MemKeeper,
@@ -51,32 +54,39 @@ fn sums_in(
     let Ok(mut world) = opened(alloc, &schedule.setup) else {
         return Err(WorldFault::OutOfMemory);
     };
-    sums_after(alloc, &mut world, keeper, &schedule.events, member)
+    let sums = sums_after(rt, alloc, &mut world, keeper, &schedule.events, member);
+    drop(world);
+    sums
 }
 
 /// The same of the schedule that a text is.
-fn sums_behind(
+fn sums_behind<R: Threads + Sync>(
+    rt: &R,
     alloc: Global,
     text: &str,
     keeper: &mut MemKeeper,
     member: u32,
 ) -> Result<Option<Sums>, WorldFault> {
     match read_schedule(alloc, text.as_bytes()) {
-        Ok(schedule) => sums_in(alloc, &schedule, keeper, member),
+        Ok(schedule) => {
+            let sums = sums_in(rt, alloc, &schedule, keeper, member);
+            drop(schedule);
+            sums
+        }
         Err(_) => Err(WorldFault::OutOfMemory),
     }
 }
 
 /// Tests the sums of a member behind the lines of a text.
-fn expect_sums(
-    rt: &impl Abort,
+fn expect_sums<R: Abort + Threads + Sync>(
+    rt: &R,
     alloc: Global,
     text: &str,
     member: u32,
     wanted: Option<Sums>,
 ) -> Result<(), Fail> {
     let mut keeper = MemKeeper::new(alloc, 64, [].as_slice())?;
-    let sums = sums_behind(alloc, text, &mut keeper, member);
+    let sums = sums_behind(rt, alloc, text, &mut keeper, member);
     assert_eq!(rt; sums, Ok(wanted), "of {member} behind {text}");
     Ok(())
 }

@@ -6,7 +6,7 @@ use Rattle.scene_spec.specs.Worlds.{Shows}
 use Rattle.world_core.specs.Trusts.{trust_by}
 use Rattle.committee_core.specs.Journals.{AreAtLeast}
 use Rattle.committee_core.specs.Report.{setting_in}
-use Rattle.committee_core.proofs.Behind.{bad-here, behind-next, behind-none, cut-here, whole-run}
+use Rattle.committee_core.proofs.Behind.{bad-here, behind-next, behind-none, cut-here, whole-run, whole-shown}
 use Rattle.committee_core.proofs.run.run_events.Goals as goal
 
 pub loop-event-init : goal.loop-event-init
@@ -66,4 +66,11 @@ returns-clause-ok g c =
     let trust = trust_by (g.S.MakesSeals.made c.args.sealer.now) (g.S.Sealer.accepts c.args.sealer.now) in
     let done : length c.args.schedule.now.events ≤ c.loop-event.event-index = grind arith in
     whole-run trust c.args.schedule.now (g.D.Keeper.lists c.args.keeper.now) (g.K.Sink.held c.args.sink.now) c.loop-event.event-index c.loop-event.world
+    (g.D.Keeper.lists c.loop-event.keeper) (g.K.Sink.held c.loop-event.sink) done c.loop-event.invariant.behind
+
+pub returns-clause-shows : goal.returns-clause-shows
+returns-clause-shows g c =
+    let trust = trust_by (g.S.MakesSeals.made c.args.sealer.now) (g.S.Sealer.accepts c.args.sealer.now) in
+    let done : length c.args.schedule.now.events ≤ c.loop-event.event-index = grind arith in
+    whole-shown trust c.args.schedule.now (g.D.Keeper.lists c.args.keeper.now) (g.K.Sink.held c.args.sink.now) c.loop-event.event-index c.loop-event.world
     (g.D.Keeper.lists c.loop-event.keeper) (g.K.Sink.held c.loop-event.sink) done c.loop-event.invariant.behind

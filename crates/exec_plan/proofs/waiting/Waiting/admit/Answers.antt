@@ -9,4 +9,4 @@ file_each-requires c =
     subst (λ (s : Stored). IsFiled s c.args.admission.now.admission c.as_slice.result.now c.args.held.now c.wake.new.self) (sym c.of.ensures)
     (subst (λ (places : List ℕ). IsFiled c.args.store.now c.args.admission.now.admission places c.args.held.now c.wake.new.self) (sym c.as_slice.ensures.value)
     (woken c.args.store.now c.args.admission.now.admission c.args.txs.now c.args.held.now c.args.self.now c.wake.new.self c.in_ok-woken.woken c.requires c.in_ok-woken.ensures.next
-    c.in_ok-woken.ensures.settled c.in_ok-woken.ensures.behind c.in_ok-woken.ensures.woken))
+    c.in_ok-woken.ensures.behind c.in_ok-woken.ensures.woken))

@@ -15,7 +15,6 @@ returns-in-Some-clause-filed c =
 pub returns-in_ok-insert-in-None-clause-kept : goal.returns-in_ok-insert-in-None-clause-kept
 returns-in_ok-insert-in-None-clause-kept c = record {
   next = λ p has. subst (λ ks. Has ks p) (sym c.in_ok-insert-in-None.ensures.keys) (placed_keeps c.args.self.now.next.keys c.args.place p has);
-  settled = λ p has. has;
   unadmitted = λ tx p has. has;
   listed = λ tx p has. has;
 }

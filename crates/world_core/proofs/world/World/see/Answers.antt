@@ -3,9 +3,16 @@ use Rattle.std.specs.Prelude.{min, slice_get}
 use Rattle.scene_spec.specs.Scene.{Scene}
 use Rattle.scene_spec.specs.Steps.{standing_at, steps_to, work_of}
 use Rattle.world_core.specs.Trusts.{trust_by}
-use Rattle.world_core.proofs.SeeLines.{halted_kept, halted_world, taken_kept}
+use Rattle.world_core.proofs.SeeLines.{down_kept, halted_kept, halted_world, taken_kept}
 use Rattle.world_core.proofs.Sound.{on_ok}
 use Rattle.world_core.proofs.world.World.see.Goals as goal
+
+pub returns-in_default-clause-kept : goal.returns-in_default-clause-kept
+unfolding work_of
+returns-in_default-clause-kept g c =
+    down_kept (trust_by (g.S.MakesSeals.made c.args.sealer.now) (g.S.Sealer.accepts c.args.sealer.now)) c.args.self.now c.args.member c.args.entries
+    (c.in_default.ensures.value ∙ ap (λ (x : Scene). standing_at (slice_get x.posts c.args.member)) c.self.view_is)
+    (g.D.Keeper.lists c.args.keeper.now) c.see_line.result
 
 pub returns-in-Some-fork-clause-world : goal.returns-in-Some-fork-clause-world
 unfolding steps_to work_of

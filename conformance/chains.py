@@ -1,0 +1,124 @@
+#!/usr/bin/env python3
+"""Writes the cases of `check`: chains of checkpoints as bytes, with the line that the program must write.
+
+Written from docs/FORMATS.md and the rules alone, apart from the program:
+    chains.py          writes the cases
+    chains.py --check  says which of them are not as it would write them, one line each
+"""
+import hashlib
+import os
+import sys
+
+HERE = os.path.dirname(os.path.abspath(__file__))
+SECRET = b"\x5a" * 32
+TX = b"\x11" * 32
+EFFECTS = b"\x22" * 32
+ZERO = bytes(32)
+
+
+def number(value, width):
+    return value.to_bytes(width, "little")
+
+
+def sequence(items):
+    """A list of at most 127 spelled items."""
+    return bytes([len(items)]) + b"".join(items)
+
+
+def checkpoint(epoch, place, parent, items=(), last=False):
+    listed = sequence([tx + effects for tx, effects in items])
+    return number(epoch, 8) + number(place, 8) + parent + listed + bytes([last])
+
+
+def digest(spelled):
+    return hashlib.sha256(b"\x43" + spelled).digest()
+
+
+def seal(member, epoch, place, of):
+    """The seal of a member over the statement that a checkpoint of this number and digest is its epoch's."""
+    statement = b"\x02" + number(epoch, 8) + number(place, 8) + of
+    return hashlib.sha256(b"\x53" + SECRET + b"\x00" + number(member, 4) + statement).digest()
+
+
+def sealed(members, epoch, place, of):
+    return sequence([number(member, 4) + seal(member, epoch, place, of) for member in members])
+
+
+def link(epoch, place, parent, items=(), last=False, members=(0, 1, 2), seals=None):
+    """A link, and the digest of its checkpoint."""
+    spelled = checkpoint(epoch, place, parent, items, last)
+    of = digest(spelled)
+    return spelled + (sealed(members, epoch, place, of) if seals is None else seals), of
+
+
+def chain(links):
+    return sequence([spelled for spelled, _ in links])
+
+
+FIRST = link(0, 0, ZERO, [(TX, EFFECTS)])
+LAST = link(0, 1, FIRST[1], last=True)
+NEXT = link(1, 2, LAST[1], [(ZERO, EFFECTS)])
+WHOLE = [FIRST, LAST, NEXT]
+OTHER = digest(b"other")
+
+
+def bad(place, cause, links, why):
+    return chain(links), f"refused link {place} cause {cause}", 8, why
+
+
+def cases():
+    """Each case by its name: the bytes, the line, the status, and a sentence on what it shows."""
+    two = chain([FIRST, LAST])
+    yield "included", two, "certified 2 included in 0", 0, "A chain of two checkpoints, of which the first lists the transaction."
+    yield "empty-chain", b"\x00", "certified 0 not included", 0, "An empty chain is certified, and lists nothing."
+    yield "over-an-epoch", chain(WHOLE), "certified 3 included in 0", 0, "Behind a last checkpoint the next epoch goes on, with numbers that go on too."
+    yield "not-included", chain([link(0, 0, ZERO, [(OTHER, EFFECTS)])]), "certified 1 not included", 0, "The checkpoint lists another transaction."
+    again = link(0, 1, FIRST[1], [(TX, EFFECTS)])
+    yield "first-of-two", chain([FIRST, again]), "certified 2 included in 0", 0, "Where two checkpoints list it, the first is named."
+    yield "all-members", chain([link(0, 0, ZERO, members=(0, 1, 2, 3))]), "certified 1 not included", 0, "More seals than a quorum are as good."
+    yield "no-bytes", b"", "refused malformed at 0 why 1", 8, "No bytes at all are no chain."
+    yield "cut", two[:-1], f"refused malformed at {len(two) - 32} why 1", 8, "One byte of the last seal is missing."
+    yield "one-byte-more", two + b"\x00", f"refused malformed at {len(two)} why 7", 8, "One byte stands behind the chain."
+    yield "last-is-no-bool", two[:-len(sealed((0, 1, 2), 0, 1, LAST[1])) - 1] + b"\x02" + two[-len(sealed((0, 1, 2), 0, 1, LAST[1])):], f"refused malformed at {len(two) - 109 - 1} why 2", 8, "Whether a checkpoint is its epoch's last is 0 or 1."
+    numbers = ("first", "after-another", "after-last")
+    fronts, parents, epochs = ([], [FIRST], [FIRST, LAST]), (ZERO, FIRST[1], LAST[1]), (0, 0, 1)
+    for place, (where, front, parent, epoch) in enumerate(zip(numbers, fronts, parents, epochs)):
+        def made(name, cause, one, why, where=where, front=front, place=place):
+            return f"{name}-{where}", *bad(place, cause, [*front, one], why)
+        yield made("number", 1, link(epoch, place + 1, parent), "A checkpoint's number is its place in the chain.")
+        yield made("parent", 2, link(epoch, place, OTHER), "A checkpoint names the digest of the one before it; the first one names zeros.")
+        yield made("epoch", 3, link(epoch + 1, place, parent), "An epoch begins behind a last checkpoint, and nowhere else.")
+        yield made("order", 4, link(epoch, place, parent, members=(0, 2, 1)), "Members stand in ascending order, each once.")
+        yield made("unknown", 4, link(epoch, place, parent, members=(0, 1, 4)), "Each is a member of the committee.")
+        yield made("stake", 5, link(epoch, place, parent, members=(0, 1)), "Two of four equal stakes are no quorum.")
+        yield made("seal", 6, link(epoch, place, parent, seals=sealed((0, 1, 2), epoch, place, OTHER)), "A seal over another digest is not accepted.")
+    yield "epoch-stays-after-last", *bad(2, 3, [FIRST, LAST, link(0, 2, LAST[1])], "Behind a last checkpoint the epoch is the next one.")
+    yield "number-before-parent", *bad(0, 1, [link(0, 1, OTHER)], "Where number and parent are both wrong, the number is named.")
+    yield "stake-before-seal", *bad(0, 5, [link(0, 0, ZERO, seals=sealed((0, 1), 0, 0, OTHER))], "Where the stake is short and a seal is wrong, the stake is named.")
+    yield "first-bad-link", *bad(0, 6, [link(0, 0, ZERO, seals=sealed((0, 1, 2), 1, 0, OTHER)), link(0, 5, OTHER)], "The first bad link is named.")
+
+
+def main(words):
+    wrong = 0
+    for name, given, line, status, why in cases():
+        files = {
+            "schedule": given,
+            "report": line.encode() + b"\n",
+            "status": f"{status}\n".encode(),
+            "args": f"check\n1,1,1,1\n{TX.hex()}\n".encode(),
+            "about": f"{why}\nrules: check.{'certified' if status == 0 else 'malformed' if 'malformed' in line else 'link'}\n".encode(),
+        }
+        for ending, text in files.items():
+            path = f"{HERE}/check/{name}.{ending}"
+            if "--check" in words:
+                if not os.path.exists(path) or open(path, "rb").read() != text:
+                    wrong += 1
+                    print(f"check/{name}.{ending} is not as chains.py writes it")
+            else:
+                with open(path, "wb") as it:
+                    it.write(text)
+    return wrong > 0
+
+
+if __name__ == "__main__":
+    sys.exit(main(sys.argv[1:]))

@@ -1,0 +1,37 @@
+//! What a follower makes of the checkpoints that honest members have built.
+ghost use Rattle.blame_law.specs.Followed.{CanBeFollowedInSchedules, FollowedInSchedules, FollowersOpenAlike, FollowersStandAtOpenings, HonestCheckpointsAreFollowed, HonestCheckpointsCanBeFollowed, HonestCheckpointsWantOnlyMemory, LookedUpIsHanded, OnlyMemoryInSchedules, OpenedAlikeInSchedules, StandInSchedules};
+
+/// Under the run assumptions a follower that opened with the objects of the set-up applies the checkpoints that a member
+/// has built, each handed in with the transactions of the run that have its items' digests; so it refuses one for want of
+/// memory alone. And each item has such a transaction.
+pub fn honest_checkpoints_are_followed()
+    ensures applied { HonestCheckpointsAreFollowed }
+    ensures memory { HonestCheckpointsWantOnlyMemory }
+    ensures known { HonestCheckpointsCanBeFollowed }
+{}
+
+/// And so it is in every run of every schedule.
+pub fn honest_checkpoints_are_followed_in_schedules()
+    ensures applied { FollowedInSchedules }
+    ensures memory { OnlyMemoryInSchedules }
+    ensures known { CanBeFollowedInSchedules }
+{}
+
+/// Behind the last checkpoint of an epoch its live objects, by ascending id, are those with which the next epoch opens, and
+/// so those with which every member opened it.
+pub fn followers_open_alike()
+    ensures stands { FollowersStandAtOpenings }
+    ensures alike { FollowersOpenAlike }
+{}
+
+/// And so it is in every run of every schedule.
+pub fn followers_open_alike_in_schedules()
+    ensures stands { StandInSchedules }
+    ensures alike { OpenedAlikeInSchedules }
+{}
+
+/// Whoever looks each item's transaction up by digest, among those that the lines of the run made, hands in transactions
+/// of the run.
+pub fn looked_up_is_handed()
+    ensures { LookedUpIsHanded }
+{}

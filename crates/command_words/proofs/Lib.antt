@@ -1,0 +1,2 @@
+pub mod ListWords
+pub mod CheckWords

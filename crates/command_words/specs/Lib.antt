@@ -1,0 +1,3 @@
+pub mod ListWords
+pub mod CheckWords
+pub mod Words

@@ -1,0 +1,5 @@
+use Rattle.committee_core.proofs.Voting.{tx_short}
+use Rattle.committee_core.proofs.desk.signed_digest.Goals as goal
+
+pub tx_digest-requires : goal.tx_digest-requires
+tx_digest-requires c = tx_short c.in-Ok.signed c.in-Ok.ensures.short

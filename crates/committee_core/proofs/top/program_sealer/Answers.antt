@@ -1,5 +1,0 @@
-use Rattle.committee_core.proofs.Whole.{program_seals}
-use Rattle.committee_core.proofs.top.program_sealer.Goals as goal
-
-pub returns : goal.returns
-returns c = program_seals c.new.result.secret c.new.ensures

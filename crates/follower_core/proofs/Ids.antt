@@ -1,0 +1,121 @@
+-- Ids that are written twice, that a transaction names, and that it creates.
+use Rattle.std.proofs.Common.{◌≡◌, Bool, true, false, cond, ◌&&◌, ◌||◌, not, List, [], ◌∷◌, ◌++◌, Option, Some, None, is_some, map, refl, ap, sym, ◌∙◌}
+use Rattle.std.specs.Prelude.{filter, filter_map}
+use Rattle.std.specs.List.{list_any}
+use Rattle.indexmap.specs.IndexSet.{insert_key}
+use Rattle.chain_types.specs.declared.objects.Object.{Object}
+use Rattle.chain_types.specs.declared.objects.ObjectId.{ObjectId}
+use Rattle.chain_types.specs.declared.transactions.Input.{Input}
+use Rattle.chain_types.specs.declared.transactions.Input.TheVariants as inputs
+use Rattle.chain_types.specs.declared.transactions.Transaction.{Transaction}
+use Rattle.chain_types.specs.Digests.{is_object}
+use Rattle.chain_types.specs.Equal.{id_eq}
+use Rattle.answer_types.specs.declared.pieces.Executed.{Executed}
+use Rattle.protocol_spec.specs.Chain.Keys.{named_id, named_ids}
+use Rattle.protocol_spec.specs.Chain.Tests.{has_id}
+use Rattle.protocol_spec.specs.Chain.Words.{repeats}
+use Rattle.follower_core.specs.Courses.{Course, creates_held, is_bad, is_held, written_ids}
+use Rattle.follower_core.specs.Steps.{creates_in, named_after, repeats_after}
+use Rattle.follower_core.proofs.Equality.{id_same, id_turn}
+
+-- ---- truth values
+
+or_none : (a : Bool) → (a || false) ≡ a
+or_none true = refl
+or_none false = refl
+
+or_assoc : (a b c : Bool) → ((a || b) || c) ≡ (a || (b || c))
+or_assoc true b c = refl
+or_assoc false b c = refl
+
+pub no_fault : {A : Type 0} → (o : Option A) → is_some o ≡ false → o ≡ None
+no_fault None h = refl
+no_fault (Some x) h = absurd (cc)
+
+-- ---- lists of ids
+
+any_join : (test : ObjectId → Bool) (xs ys : List ObjectId) → list_any test (xs ++ ys) ≡ (list_any test xs || list_any test ys)
+any_join test [] ys = refl
+any_join test (x ∷ xs) ys = ap (λ b. test x || b) (any_join test xs ys) ∙ sym (or_assoc (test x) (list_any test xs) (list_any test ys))
+
+has_behind : (ids : List ObjectId) (i id : ObjectId) → has_id (ids ++ i ∷ []) id ≡ (has_id ids id || id_eq id i)
+has_behind ids i id = any_join (id_eq id) ids (i ∷ []) ∙ ap (λ b. has_id ids id || b) (or_none (id_eq id i))
+
+-- ---- an id that is written twice
+
+-- an earlier id, among the objects that are left
+later_seen : List ObjectId → List Object → Bool
+later_seen seen os = list_any (λ (o : Object). has_id seen o.id) os
+
+ids_of : List Object → List ObjectId
+ids_of os = map (λ (o : Object). o.id) os
+
+swapped : (a b c d : Bool) → ((a || b) || (c || d)) ≡ ((a || c) || (b || d))
+swapped true b c d = refl
+swapped false true true d = refl
+swapped false true false d = refl
+swapped false false true d = refl
+swapped false false false d = refl
+
+seen_more : (seen : List ObjectId) (id : ObjectId) (os : List Object) → later_seen (seen ++ id ∷ []) os ≡ (later_seen seen os || list_any (id_eq id) (ids_of os))
+unfolding later_seen ids_of
+seen_more seen id [] = refl
+seen_more seen id (o ∷ os) =
+    ap (λ b. b || later_seen (seen ++ id ∷ []) os) (has_behind seen id o.id ∙ ap (λ b. has_id seen o.id || b) (id_turn o.id id))
+    ∙ ap (λ b. (has_id seen o.id || id_eq id o.id) || b) (seen_more seen id os)
+    ∙ swapped (has_id seen o.id) (id_eq id o.id) (later_seen seen os) (list_any (id_eq id) (ids_of os))
+
+after_is : (seen : List ObjectId) (os : List Object) → repeats_after seen os ≡ (later_seen seen os || repeats id_eq (ids_of os))
+unfolding later_seen ids_of
+after_is seen [] = refl
+after_is seen (o ∷ os) = by (has_id seen o.id) (after_is (seen ++ o.id ∷ []) os ∙ ap (λ b. b || repeats id_eq (ids_of os)) (seen_more seen o.id os) ∙ or_assoc (later_seen seen os) (list_any (id_eq o.id) (ids_of os)) (repeats id_eq (ids_of os)))
+  where
+    by : (b : Bool) → repeats_after (seen ++ o.id ∷ []) os ≡ (later_seen seen os || (list_any (id_eq o.id) (ids_of os) || repeats id_eq (ids_of os)))
+        → cond b true (repeats_after (seen ++ o.id ∷ []) os) ≡ ((b || later_seen seen os) || (list_any (id_eq o.id) (ids_of os) || repeats id_eq (ids_of os)))
+    by true more = refl
+    by false more = more
+
+none_seen : (os : List Object) → later_seen [] os ≡ false
+unfolding later_seen
+none_seen [] = refl
+none_seen (o ∷ os) = none_seen os
+
+-- seen from the front, an id comes twice where one does
+pub repeats_whole : (os : List Object) → repeats_after [] os ≡ repeats id_eq (map (λ (o : Object). o.id) os)
+unfolding ids_of
+repeats_whole os = after_is [] os ∙ ap (λ b. b || repeats id_eq (ids_of os)) (none_seen os)
+
+-- ---- the ids that are named
+
+insert_has : (ids : List ObjectId) (i id : ObjectId) → has_id (insert_key id_eq ids i) id ≡ (has_id ids id || id_eq id i)
+insert_has ids i id = by (list_any (id_eq i) ids) refl
+  where
+    absorb : (a b : Bool) → (b ≡ true → a ≡ true) → a ≡ (a || b)
+    absorb true b f = refl
+    absorb false false f = refl
+    absorb false true f = f refl
+
+    by : (b : Bool) → list_any (id_eq i) ids ≡ b → has_id (cond b ids (ids ++ i ∷ [])) id ≡ (has_id ids id || id_eq id i)
+    by true there = absorb (has_id ids id) (id_eq id i) (λ same. ap (λ (x : ObjectId). has_id ids x) (id_same id i same) ∙ there)
+    by false there = has_behind ids i id
+
+named_has : (is : List Input) (ids : List ObjectId) (id : ObjectId) → has_id (named_after ids is) id ≡ (has_id ids id || has_id (filter_map named_id (filter is_object is)) id)
+named_has [] ids id = sym (or_none (has_id ids id))
+named_has (inputs.Pure bytes ∷ is) ids id = named_has is ids id
+named_has (inputs.Owned r ∷ is) ids id = named_has is (insert_key id_eq ids r.id) id ∙ ap (λ b. b || has_id (filter_map named_id (filter is_object is)) id) (insert_has ids r.id id) ∙ or_assoc (has_id ids id) (id_eq id r.id) (has_id (filter_map named_id (filter is_object is)) id)
+named_has (inputs.Immutable r ∷ is) ids id = named_has is (insert_key id_eq ids r.id) id ∙ ap (λ b. b || has_id (filter_map named_id (filter is_object is)) id) (insert_has ids r.id id) ∙ or_assoc (has_id ids id) (id_eq id r.id) (has_id (filter_map named_id (filter is_object is)) id)
+named_has (inputs.Shared i initial mutable ∷ is) ids id = named_has is (insert_key id_eq ids i) id ∙ ap (λ b. b || has_id (filter_map named_id (filter is_object is)) id) (insert_has ids i id) ∙ or_assoc (has_id ids id) (id_eq id i) (has_id (filter_map named_id (filter is_object is)) id)
+
+all_named : (t : Transaction) (id : ObjectId) → has_id (named_after (t.gas.id ∷ []) t.inputs) id ≡ has_id (named_ids t) id
+all_named t id = named_has t.inputs (t.gas.id ∷ []) id ∙ ap (λ b. b || has_id (filter_map named_id (filter is_object t.inputs)) id) (or_none (id_eq id t.gas.id))
+
+-- ---- what is created
+
+each_creates : (m : Course) (t : Transaction) (os : List Object) → list_any (creates_in m (named_after (t.gas.id ∷ []) t.inputs)) os ≡ list_any (creates_held m t) os
+each_creates m t [] = refl
+each_creates m t (o ∷ os) =
+    ap (λ b. (not b && is_held m o.id) || list_any (creates_in m (named_after (t.gas.id ∷ []) t.inputs)) os) (all_named t o.id)
+    ∙ ap (λ b. creates_held m t o || b) (each_creates m t os)
+
+pub creates_whole : (m : Course) (t : Transaction) (x : Executed) → repeats id_eq (written_ids x) ≡ false → list_any (creates_in m (named_after (t.gas.id ∷ []) t.inputs)) x.objects ≡ is_bad m t (Some x)
+creates_whole m t x once = each_creates m t x.objects ∙ ap (λ b. b || list_any (creates_held m t) x.objects) (sym once)

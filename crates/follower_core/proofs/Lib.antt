@@ -1,0 +1,14 @@
+mod Equality
+mod Objects
+mod Changing
+mod Settling
+mod Ledgers
+mod Inputs
+mod Ids
+mod Places
+mod Walking
+mod Answering
+mod Counting
+mod Calls
+mod Following
+mod Caught

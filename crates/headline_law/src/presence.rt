@@ -1,0 +1,27 @@
+//! What the voters of a certificate saw is there for every member that executed what made it: no held certificate misses
+//! an owned or immutable input whose origin was executed.
+ghost use Rattle.headline_law.specs.Cast.{EveryVoteWasCast};
+ghost use Rattle.headline_law.specs.Present.{CertificatesFit, OwnedInputsArePresent, OwnedInputsFit};
+
+/// Each vote that stands in a journal was cast behind some front of the run, in a state in which no case refused it, and
+/// names the origins that the rule gives there.
+pub fn every_vote_was_cast()
+    ensures { EveryVoteWasCast }
+{}
+
+/// Under the run assumptions, each owned or immutable input of a held certificate is present at every member that
+/// executed its origin.
+pub fn owned_inputs_are_present()
+    ensures { OwnedInputsArePresent }
+{}
+
+/// And the version that is found for it is what the input says: its id, version and digest, and its owner is the sender,
+/// or it is immutable.
+pub fn owned_inputs_fit()
+    ensures { OwnedInputsFit }
+{}
+
+/// So a held certificate without shared inputs, all of whose inputs are present, fits its transaction: it is not unfit.
+pub fn certificates_fit()
+    ensures { CertificatesFit }
+{}

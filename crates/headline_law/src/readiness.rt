@@ -1,0 +1,118 @@
+//! Which held certificates are ready, under the run assumptions: all whose inputs are there, and all whose origins and
+//! assigned writers were executed, shared inputs included. So no run leaves anything, and each executes all that was
+//! admitted.
+ghost use Rattle.headline_law.specs.Complete.{DueIsReady, NextRoundTakesAll, NextRoundTakesDue, NothingClashes, PresentIsReady, WritesNewKeys};
+ghost use Rattle.headline_law.specs.Ready.{NoneIsUnfit, SharedInputsArePresent, SharedInputsFit};
+ghost use Rattle.headline_law.specs.Runs.{NoRunLeavesAnything, NoTurnWaitsBehindARun, NothingIsLeft, NothingIsReadyBehindARun, RunsAreComplete, RunsBuildAll, RunsExecuteAdmitted, RunsExecuteAll, RunsExecuteReady, WhatIsReadyIsExecuted};
+ghost use Rattle.headline_law.specs.Shared.{VersionsAreSharedAlike};
+
+/// Under the run assumptions, all versions of one object in an epoch are shared since the same version, or none is, at
+/// all members.
+pub fn versions_are_shared_alike()
+    ensures { VersionsAreSharedAlike }
+{}
+
+/// The version that admission assigned to a shared input is there, at each member that executed its writer.
+pub fn shared_inputs_are_present()
+    ensures { SharedInputsArePresent }
+{}
+
+/// What is found for a shared input of a held certificate has its id, and is shared since the version that it says.
+pub fn shared_inputs_fit()
+    ensures { SharedInputsFit }
+{}
+
+/// No held certificate is unfit: where all that it wants is there, and it is admitted if it has a shared input, the
+/// objects fit its transaction.
+pub fn none_is_unfit()
+    ensures { NoneIsUnfit }
+{}
+
+/// Of a held certificate that was not executed, whose inputs are present, and that is admitted if it has a shared input,
+/// no written key is there already, and none is written twice.
+pub fn writes_new_keys()
+    ensures { WritesNewKeys }
+{}
+
+/// So it is ready: a certified transaction waits for its inputs and its place in the sequence, and for nothing else.
+pub fn present_is_ready()
+    ensures { PresentIsReady }
+{}
+
+/// A held certificate that was not executed, although all its origins and assigned writers were, has all its inputs, and
+/// is ready.
+pub fn due_is_ready()
+    ensures { DueIsReady }
+{}
+
+/// No two certificates that have their inputs and their admission write one key, whether they were executed or not, so
+/// that none waits for another's round.
+pub fn nothing_clashes()
+    ensures { NothingClashes }
+{}
+
+/// What is ready is executed by the next round.
+pub fn next_round_takes_all()
+    ensures { NextRoundTakesAll }
+{}
+
+/// So is what is due: a transaction is executed one round behind the last of those that it comes from.
+pub fn next_round_takes_due()
+    ensures { NextRoundTakesDue }
+{}
+
+/// Behind the rounds of a run nothing is ready, whatever is held and was executed.
+pub fn nothing_is_ready_behind_a_run()
+    ensures { NothingIsReadyBehindARun }
+{}
+
+/// What is ready before a run, or behind some of its rounds, is executed by it, whatever is held and was executed: but for
+/// what writes a key that a certificate held before it writes in the same round.
+pub fn what_is_ready_is_executed()
+    ensures { WhatIsReadyIsExecuted }
+{}
+
+/// So a member that is not halted, and has room for a record, answers a run with all that is ready then or behind some of
+/// its rounds, and has executed it: with no assumption on the run of the world.
+pub fn runs_are_complete()
+    ensures { RunsAreComplete }
+{}
+
+/// Under the run assumptions nothing is kept out of its round: a run executes all that is ready before it, or behind some
+/// of its rounds.
+pub fn runs_execute_ready()
+    ensures { RunsExecuteReady }
+{}
+
+/// Under the run assumptions, a member at which nothing is ready has nothing left.
+pub fn nothing_is_left()
+    ensures { NothingIsLeft }
+{}
+
+/// So no run leaves anything, at any member and moment: no answer of a run says that a version is absent, or that a
+/// certificate is unfit.
+pub fn no_run_leaves_anything()
+    ensures { NoRunLeavesAnything }
+{}
+
+/// A run executes every held certificate whose origins and assigned writers are executed by it, if it is admitted or has
+/// no shared input; so no certified transaction is stuck.
+pub fn runs_execute_all()
+    ensures { RunsExecuteAll }
+{}
+
+/// So a run executes all that the member admitted: whoever sees his transaction admitted has its effects behind the next
+/// run of any honest member that has seen as much of the sequence.
+pub fn runs_execute_admitted()
+    ensures { RunsExecuteAdmitted }
+{}
+
+/// And it builds the checkpoint of every cut that the member has seen.
+pub fn runs_build_all()
+    ensures { RunsBuildAll }
+{}
+
+/// So no turn is refused behind a run for a certificate that waits: of what a member admitted nothing keeps it in its epoch.
+pub fn no_turn_waits_behind_a_run()
+    ensures { NoTurnWaitsBehindARun }
+{}

@@ -1,0 +1,76 @@
+//! `inspect chain M MEMBERS` reads a schedule from standard input, runs it without a report, and writes the bytes of the
+//! chain of what member M built, under seals of MEMBERS: `committee check` reads them. `inspect digests` writes the digests
+//! of what lines made, and of what the lowest-numbered member has that is honest and up. `inspect blame` writes who sealed
+//! two votes of which an honest member casts at most one.
+//!
+//! [`inspect_core::inspect`] is the program over any source, sink and keeper; its clauses are what is promised. `main` hands
+//! it the real standard streams and a keeper in memory, ends with its status, and says on standard error what a status
+//! other than 0, 3 and 8 means.
+#![tactic(auto)]
+
+use inspect_core::{fresh_keeper, inspect};
+use outside::{Sink, Source};
+use outside_std::{InSource, OutSink};
+use std::alloc::{AllocError, Global};
+use std::env;
+use std::io::{self, BufWriter};
+use std::process::ExitCode;
+use std::thread::Threads;
+
+/// The words behind the program's name.
+fn words_of(rt: &HostRuntime) -> io::Result<Vec<String>> {
+    let mut words = Vec::new(rt.alloc());
+    for word in env::args(rt)?.skip(1) {
+        words.push(word)?;
+    }
+    Ok(words)
+}
+
+/// What standard error says of a status.
+fn message(status: u8) -> Option<&'static str> {
+    match status {
+        2 => Some("usage: inspect chain M MEMBERS | digests | blame"),
+        4 => Some("read fault"),
+        5 => Some("write fault"),
+        6 => Some("keep fault"),
+        7 => Some("want of memory"),
+        _ => None,
+    }
+}
+
+/// Runs the words with the records in memory.
+fn in_memory<R: Threads + Sync, S: Source, K: Sink>(
+    threads: &R,
+    rt: &HostRuntime,
+    words: &[String],
+    source: &mut S,
+    sink: &mut K,
+) -> u8 {
+    let Ok(mut keeper) = fresh_keeper(rt.alloc(), &[]) else {
+        return 7;
+    };
+    inspect(threads, rt.alloc(), words, source, sink, &mut keeper)
+}
+
+/// Runs the words over the standard streams, with threads of `threads`. Bytes that were taken and could not be handed on
+/// are a write fault.
+fn status_of<R: Threads + Sync>(threads: &R, rt: &HostRuntime) -> u8 {
+    let Ok(words) = words_of(rt) else {
+        return 7;
+    };
+    let Ok(writer) = BufWriter::new(rt.alloc(), io::writer(rt)) else {
+        return 7;
+    };
+    let mut source = InSource::new(rt.reader());
+    let mut sink = OutSink::new(writer);
+    let status = in_memory(threads, rt, words.as_slice(), &mut source, &mut sink);
+    if sink.finish() { status } else { 5 }
+}
+
+fn main(rt: HostRuntime) -> ExitCode {
+    let status = status_of(&rt, &rt);
+    if let Some(text) = message(status) {
+        let _ = eprintln!(rt; "{text}");
+    }
+    ExitCode::from(status)
+}

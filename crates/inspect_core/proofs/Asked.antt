@@ -1,0 +1,167 @@
+-- What is said of a world, and how a question ends.
+use Rattle.std.proofs.Common.{◌≡◌, ◌⊎◌, inl, inr, ℕ, zero, suc, Bool, true, false, List, [], ◌∷◌, ◌++◌, map, Option, Some, None, Result, Ok, Err, if◌then◌else◌, refl, sym, ap, subst, ◌∙◌, append-nil}
+use Rattle.std.specs.Prelude.{option_and_then, option_map, slice_get}
+use Rattle.std.specs.Io.KnownBytes.{Appends, Keeps}
+use Rattle.outside.specs.Lists.{Journals, KeepsJournals, journal_of}
+use Rattle.outside.specs.Streams.{AppendsFront, ReadsText}
+use Rattle.schedule_text.specs.declared.words.Event.{Event}
+use Rattle.schedule_text.specs.declared.words.Schedule.{Schedule}
+use Rattle.schedule_text.specs.Schedule.{Refused, longest_text, schedule_of}
+use Rattle.protocol_spec.specs.Member.Member.{Member}
+use Rattle.world_spec.specs.Names.{cert_in, tx_name}
+use Rattle.world_spec.specs.Setting.{Setting, Trust}
+use Rattle.world_spec.specs.World as worlds
+use Rattle.world_spec.specs.World.{World, member_in}
+use Rattle.world_spec.specs.Run.{world_after}
+use Rattle.scene_spec.specs.Seats.{Seat}
+use Rattle.scene_spec.specs.Posts.{Post, seat_at}
+use Rattle.scene_spec.specs.Terms.{terms_of}
+use Rattle.scene_spec.specs.Scene.{Scene}
+use Rattle.scene_spec.specs.Known.{Known, names_of}
+use Rattle.scene_spec.specs.Worlds.{Shows, posts_from}
+use Rattle.world_core.specs.Crews.{honest_at}
+use Rattle.light_check.specs.Certified.{Accepting}
+use Rattle.committee_core.specs.Headline.{IsRefused, program_trust}
+use Rattle.committee_core.specs.Journals.{KeepsFronts, KeepsRun, ReadsBack}
+use Rattle.committee_core.specs.Report.{refusal_text, setting_in}
+use Rattle.committee_core.specs.Ways.{RunsSilently, TextCut}
+use Rattle.inspect_core.specs.declared.questions.Question.{Question}
+use Rattle.inspect_core.specs.declared.questions.Question.TheVariants as question
+use Rattle.inspect_core.specs.Chain.{SaysChain, nobody, sealed, unsealed}
+use Rattle.inspect_core.specs.Digests.{SaysDigests, alone, standing}
+use Rattle.inspect_core.specs.Ends.{CutsText, KeepsSome, OfText, RunsAndSays, Says, SaysBehind, SaysOf, SaysSome, Writing}
+use Rattle.inspect_core.specs.Sight.{Sight, events_in, sight_in, sight_of}
+use Rattle.inspect_core.specs.Standing.{States, state_of}
+use Rattle.inspect_core.proofs.Statuses.{IsFault, IsSaid, said_or_fault}
+
+-- ---- the members as the code sees them are those of the world
+
+state_same : (s : Setting) (n : ℕ) (seats : List worlds.Seat) (m : ℕ) → option_map (λ (seat : Seat). seat.state) (honest_at (slice_get (posts_from s n seats) m)) ≡ option_and_then (state_of s) (slice_get seats m)
+state_same s n [] m = refl
+state_same s n (seat ∷ seats) zero = go seat.honest seat.up
+  where
+    go : (honest up : Bool) → option_map (λ (x : Seat). x.state) (if honest then (if up then Some (seat_at (terms_of s.rules) n (member_in s seat)) else None) else None)
+        ≡ (if honest then (if up then Some (member_in s seat) else None) else None)
+    go false up = refl
+    go true false = refl
+    go true true = refl
+state_same s n (seat ∷ seats) (suc m) = state_same s (suc n) seats m
+
+-- and so is all that the questions look at
+sight_same : (s : Setting) (w : World) (sc : Scene) (events : List Event) → Shows program_trust s w sc → sight_in sc events ≡ sight_of s w events
+sight_same s w sc events shows = ap (λ (x : Scene). sight_in x events) shows.scene ∙ (λ i. record {
+  states = λ m. state_same s 0 w.seats m i;
+  rules = sym shows.rules i;
+  known = names_of s w;
+  names = tx_name w;
+  formed = map cert_in w.certs;
+  events = events;
+})
+
+-- ---- statuses
+
+chain_said : (accepts : Accepting) (states : States) (m : ℕ) (members : List ℕ) (status : ℕ) (text : List ℕ) → SaysChain accepts states m members status text → IsSaid status
+chain_said accepts states m members status text (sealed is) = inl is.done
+chain_said accepts states m members status text (nobody is) = inr is.refused
+chain_said accepts states m members status text (unsealed is) = inr is.refused
+
+digests_said : (k : Known) (states : States) (status : ℕ) (text : List ℕ) → SaysDigests k states status text → IsSaid status
+digests_said k states status text (standing is) = inl is.done
+digests_said k states status text (alone is) = inl is.done
+
+pub is_said : (q : Question) (x : Sight) (status : ℕ) (text : List ℕ) → Says q x status text → IsSaid status
+is_said (question.Chain m members) x status text says = chain_said program_trust.accepts x.states m members status text says
+is_said question.Digests x status text says = digests_said x.known x.states status text says
+is_said question.Blame x status text says = inl says.done
+
+-- ---- one answer
+
+pub answer_known : (status given : ℕ) → IsSaid given → (status ≡ given) ⊎ (status ≡ 5) ⊎ (status ≡ 7) → (status ≡ 0) ⊎ (status ≡ 5) ⊎ (status ≡ 7) ⊎ (status ≡ 8)
+answer_known status given (inl nil) (inl is) = inl (is ∙ nil)
+answer_known status given (inr eight) (inl is) = inr (inr (inr (is ∙ eight)))
+answer_known status given said (inr (inl five)) = inr (inl five)
+answer_known status given said (inr (inr seven)) = inr (inr (inl seven))
+
+is_given : (status given : ℕ) → (status ≡ given) ⊎ (status ≡ 5) ⊎ (status ≡ 7) → IsSaid status → status ≡ given
+is_given status given (inl is) said = is
+is_given status given (inr fault) said = said_or_fault status said fault
+
+pub answer_written : (q : Question) (x : Sight) (status given : ℕ) (text : List ℕ) (Written : Writing) → Says q x given text → (status ≡ given) ⊎ (status ≡ 5) ⊎ (status ≡ 7)
+    → (status ≡ given → Written text) → IsSaid status → SaysOf q x status Written
+answer_written q x status given text Written says known written said =
+    let is : status ≡ given = is_given status given known said in
+    (text, subst (λ (n : ℕ). Says q x n text) (sym is) says, written is)
+
+-- ---- the whole
+
+fronts_of_run : (trust : Trust) (s : Schedule) (kept kept' : Option Journals) → KeepsRun trust s kept kept' → KeepsFronts trust s kept kept'
+fronts_of_run trust s None kept' all = tt
+fronts_of_run trust s (Some old) kept' (lists, is, all) = (lists, is, λ m. ([], sym (all m) ∙ sym (append-nil (journal_of lists m))))
+
+said_behind : (q : Question) (text : List ℕ) (status : ℕ) (Written : Writing) (kept kept' : Option Journals) (sc : Scene) → (runs : RunsSilently program_trust text kept kept' sc)
+    → SaysOf q (sight_in sc (events_in (schedule_of text))) status Written → SaysBehind q runs.schedule kept status Written
+said_behind q text status Written kept kept' sc runs said = λ reads.
+    subst (λ (x : Sight). SaysOf q x status Written)
+    (ap (λ (r : Result Schedule Refused). sight_in sc (events_in r)) runs.is
+    ∙ sight_same (setting_in program_trust runs.schedule) (world_after (setting_in program_trust runs.schedule) runs.schedule.events) sc runs.schedule.events (runs.shows reads)) said
+
+pub ran_said : (q : Question) (text : List ℕ) (status : ℕ) (Written : Writing) (kept kept' : Option Journals) (sc : Scene) → RunsSilently program_trust text kept kept' sc
+    → SaysOf q (sight_in sc (events_in (schedule_of text))) status Written → RunsAndSays q text status Written kept kept'
+ran_said q text status Written kept kept' sc runs said = record {
+  schedule = runs.schedule;
+  is = runs.is;
+  journals = runs.journals;
+  says = said_behind q text status Written kept kept' sc runs said;
+}
+
+pub ran_cut : (q : Question) (text : List ℕ) (held held' : Option (List ℕ)) (kept kept' : Option Journals) (sc : Scene) → RunsSilently program_trust text kept kept' sc
+    → Keeps held held' ⊎ ((status : ℕ) × SaysOf q (sight_in sc (events_in (schedule_of text))) status (AppendsFront held held')) → CutsText q text held held' kept kept'
+ran_cut q text held held' kept kept' sc runs cut = record {
+  journals = subst (λ (r : Result Schedule Refused). KeepsSome r kept kept') (sym runs.is) (fronts_of_run program_trust runs.schedule kept kept' runs.journals);
+  written = go cut;
+}
+  where
+    go : Keeps held held' ⊎ ((status : ℕ) × SaysOf q (sight_in sc (events_in (schedule_of text))) status (AppendsFront held held')) → Keeps held held' ⊎ SaysSome q (schedule_of text) kept (AppendsFront held held')
+    go (inl keeps) = inl keeps
+    go (inr (status, said)) = inr (subst (λ (r : Result Schedule Refused). SaysSome q r kept (AppendsFront held held')) (sym runs.is)
+        (status, said_behind q text status (AppendsFront held held') kept kept' sc runs said))
+
+-- ---- what did not run
+
+untold_fronts : (trust : Trust) (s : Schedule) (kept kept' : Option Journals) → kept ≡ None → KeepsFronts trust s kept kept'
+untold_fronts trust s None kept' untold = tt
+untold_fronts trust s (Some lists) kept' untold = absurd (cc)
+
+some_kept : (r : Result Schedule Refused) (kept kept' : Option Journals) → TextCut program_trust r None None kept kept' → KeepsSome r kept kept'
+some_kept (Ok s) kept kept' (inl front) = front.journals
+some_kept (Ok s) kept kept' (inr bad) = untold_fronts program_trust s kept kept' bad.untold
+some_kept (Err f) kept kept' cut = cut.1
+
+-- nothing was written of a run that was cut
+pub cut_silently : (q : Question) (text : List ℕ) (held : Option (List ℕ)) (kept kept' : Option Journals) → Keeps held held → TextCut program_trust (schedule_of text) None None kept kept' → CutsText q text held held kept kept'
+cut_silently q text held kept kept' keeps cut = record { journals = some_kept (schedule_of text) kept kept' cut; written = inl keeps }
+
+refused_kept : (r : Result Schedule Refused) (f : Refused) (kept kept' : Option Journals) → r ≡ Err f → TextCut program_trust r None None kept kept' → KeepsJournals kept kept'
+refused_kept (Ok s) f kept kept' is cut = absurd (cc)
+refused_kept (Err g) f kept kept' is cut = cut.1
+
+-- a text that is no schedule
+pub refused_whole : (text : List ℕ) (f : Refused) (held held' : Option (List ℕ)) (kept kept' : Option Journals) → schedule_of text ≡ Err f → TextCut program_trust (schedule_of text) None None kept kept'
+    → Appends held held' (refusal_text f) → (r : Refused) × (schedule_of text ≡ Err r) × Appends held held' (refusal_text r) × KeepsJournals kept kept'
+refused_whole text f held held' kept kept' is cut written = (f, is, written, refused_kept (schedule_of text) f kept kept' is cut)
+
+pub refused_cut : (q : Question) (text : List ℕ) (f : Refused) (held held' : Option (List ℕ)) (kept kept' : Option Journals) → schedule_of text ≡ Err f → TextCut program_trust (schedule_of text) None None kept kept'
+    → AppendsFront held held' (refusal_text f) → CutsText q text held held' kept kept'
+refused_cut q text f held held' kept kept' is cut written = record {
+  journals = some_kept (schedule_of text) kept kept' cut;
+  written = inr (subst (λ (r : Result Schedule Refused). SaysSome q r kept (AppendsFront held held')) (sym is) written);
+}
+
+-- ---- what was read
+
+pub of_text : (Is : List ℕ → Type 0) (left left' : Option (List ℕ)) (text : List ℕ) → ReadsText longest_text left left' text → Is text → OfText Is left left'
+of_text Is left left' text read so = record { text = text; read = read; so = so }
+
+pub read_refused : (left left' held held' : Option (List ℕ)) (kept kept' : Option Journals) (text : List ℕ) → ReadsText longest_text left left' text
+    → (r : Refused) × (schedule_of text ≡ Err r) × Appends held held' (refusal_text r) × KeepsJournals kept kept' → IsRefused left left' held held' kept kept'
+read_refused left left' held held' kept kept' text read (r, is, written, stays) = record { text = text; refused = r; read = read; is = is; written = written; stays = stays }

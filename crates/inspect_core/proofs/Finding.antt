@@ -1,0 +1,126 @@
+-- The certificates that were found, with one more.
+use Rattle.std.proofs.Common.{◌≡◌, ◌∙◌, ℕ, zero, suc, ◌+◌, Bool, true, false, ◌||◌, cond, List, [], ◌∷◌, ◌++◌, fold, map, drop, Option, Some, None, option_map, is_some, slice_get, Result, Ok, Err, refl, sym, ap, subst, add-one}
+use Rattle.std.specs.Prelude.{bytes_eq}
+use Rattle.std.specs.List.{flat_map, list_any}
+use Rattle.std.specs.Map.{lookup}
+use Rattle.wire_bcs.specs.Place.{Stop}
+use Rattle.wire_bcs.specs.Whole.{whole}
+use Rattle.chain_messages.specs.Messages as messages
+use Rattle.chain_messages.specs.declared.messages.Certificate.{Certificate}
+use Rattle.schedule_text.specs.declared.words.Event.{Event}
+use Rattle.protocol_spec.specs.Chain.Certificates.{Rules, read_as, read_certificate}
+use Rattle.protocol_spec.specs.Chain.Words.{Each}
+use Rattle.world_spec.specs.Assumptions.{read_list}
+use Rattle.world_spec.specs.Names.{cert_in}
+use Rattle.world_spec.specs.World.{Formed}
+use Rattle.tables.specs.Named.{Named, named, with_name}
+use Rattle.inspect_core.specs.Certified.{handed_over, is_there, is_valid, spelled_by, with_new, with_valid}
+use Rattle.inspect_core.specs.Found.{AreFound, IsSound}
+
+-- ---- no names, no certificates
+
+pub none_found : (stakes : List ℕ) → AreFound stakes [] []
+none_found stakes = record { sound = tt; names = λ c. refl }
+
+-- ---- one certificate
+
+pub kept_invalid : (r : Rules) (certs : List Certificate) (c : Certificate) → false ≡ is_valid r c → certs ≡ with_valid r certs c
+kept_invalid r certs c bad = ap (λ b. cond b (with_new certs c) certs) bad
+
+pub kept_there : (r : Rules) (stakes : List ℕ) (certs : List Certificate) (spelled : Named (Unit {0})) (c : Certificate) → AreFound stakes certs spelled → true ≡ is_valid r c
+    → true ≡ is_some (named spelled (messages.certificate.spell c)) → certs ≡ with_valid r certs c
+kept_there r stakes certs spelled c found good there =
+    ap (λ b. cond b certs (certs ++ c ∷ [])) (there ∙ found.names c) ∙ ap (λ b. cond b (with_new certs c) certs) good
+
+pub one_added : (r : Rules) (stakes : List ℕ) (certs : List Certificate) (spelled : Named (Unit {0})) (c : Certificate) → AreFound stakes certs spelled → true ≡ is_valid r c
+    → false ≡ is_some (named spelled (messages.certificate.spell c)) → certs ++ c ∷ [] ≡ with_valid r certs c
+one_added r stakes certs spelled c found good apart =
+    ap (λ b. cond b certs (certs ++ c ∷ [])) (apart ∙ found.names c) ∙ ap (λ b. cond b (with_new certs c) certs) good
+
+each_more : {A : Type 0} (P : A → Type 0) (xs : List A) (x : A) → Each P xs → P x → Each P (xs ++ x ∷ [])
+each_more P [] x all one = (one, tt)
+each_more P (y ∷ xs) x all one = (all.0, each_more P xs x all.1 one)
+
+or_none : (b : Bool) → (b || false) ≡ b
+or_none true = refl
+or_none false = refl
+
+named_more : (test : List ℕ → Bool) (spelled : Named (Unit {0})) (bytes : List ℕ) → is_some (lookup test (spelled ++ (bytes, tt) ∷ [])) ≡ (is_some (lookup test spelled) || test bytes)
+named_more test [] bytes = go (test bytes)
+  where
+    go : (b : Bool) → (let o : Option (Unit {0}) = cond b (Some tt) None in is_some o) ≡ b
+    go true = refl
+    go false = refl
+named_more test (e ∷ es) bytes = go (test e.0) (named_more test es bytes)
+  where
+    go : (b : Bool) → is_some (lookup test (es ++ (bytes, tt) ∷ [])) ≡ (is_some (lookup test es) || test bytes) → is_some (cond b (Some e.1) (lookup test (es ++ (bytes, tt) ∷ []))) ≡ (is_some (cond b (Some e.1) (lookup test es)) || test bytes)
+    go true more = refl
+    go false more = more
+
+any_more : {A : Type 0} (test : A → Bool) (xs : List A) (x : A) → list_any test (xs ++ x ∷ []) ≡ (list_any test xs || test x)
+any_more test [] x = or_none (test x)
+any_more test (y ∷ xs) x = go (test y) (any_more test xs x)
+  where
+    go : (b : Bool) → list_any test (xs ++ x ∷ []) ≡ (list_any test xs || test x) → (b || list_any test (xs ++ x ∷ [])) ≡ ((b || list_any test xs) || test x)
+    go true more = refl
+    go false more = more
+
+pub found_more : (stakes : List ℕ) (certs : List Certificate) (spelled : Named (Unit {0})) (c : Certificate) → AreFound stakes certs spelled → IsSound stakes c
+    → false ≡ is_some (named spelled (messages.certificate.spell c)) → AreFound stakes (certs ++ c ∷ []) (with_name spelled (messages.certificate.spell c) tt)
+found_more stakes certs spelled c found sound apart =
+    subst (λ b. AreFound stakes (certs ++ c ∷ []) (cond b spelled (spelled ++ (messages.certificate.spell c, tt) ∷ []))) apart (record {
+      sound = each_more (IsSound stakes) certs c found.sound sound;
+      names = λ d.
+          named_more (bytes_eq (messages.certificate.spell d)) spelled (messages.certificate.spell c)
+          ∙ ap (λ b. b || bytes_eq (messages.certificate.spell d) (messages.certificate.spell c)) (found.names d)
+          ∙ sym (any_more (λ x. bytes_eq (messages.certificate.spell d) (messages.certificate.spell x)) certs c);
+    })
+
+-- the same of lists that are equal to these
+pub found_pushed : (stakes : List ℕ) (certs certs' : List Certificate) (spelled spelled' : Named (Unit {0})) (c copy : Certificate) (bytes again : List ℕ) → AreFound stakes certs spelled → IsSound stakes c
+    → copy ≡ c → bytes ≡ messages.certificate.spell c → again ≡ messages.certificate.spell c → false ≡ is_some (named spelled bytes) → spelled' ≡ with_name spelled again tt
+    → certs' ≡ certs ++ copy ∷ [] → AreFound stakes certs' spelled'
+found_pushed stakes certs certs' spelled spelled' c copy bytes again found sound same spells spells_again apart named_so pushed =
+    subst (λ (xs : List Certificate). AreFound stakes xs spelled') (sym (pushed ∙ ap (λ (x : Certificate). certs ++ x ∷ []) same))
+    (subst (λ (names : Named (Unit {0})). AreFound stakes (certs ++ c ∷ []) names) (sym (named_so ∙ ap (λ (b : List ℕ). with_name spelled b tt) spells_again))
+    (found_more stakes certs spelled c found sound (apart ∙ ap (λ (b : List ℕ). is_some (named spelled b)) spells)))
+
+-- ---- bytes
+
+pub spelled_one : (r : Rules) (certs : List Certificate) (bytes : List ℕ) (c : Certificate) → whole messages.certificate bytes ≡ Ok c → with_valid r certs c ≡ fold (with_valid r) certs (spelled_by (Some bytes))
+unfolding read_certificate
+spelled_one r certs bytes c is = sym (ap (λ x. fold (with_valid r) certs (read_list (read_as x))) is)
+
+pub spelled_none : (r : Rules) (certs : List Certificate) (bytes : List ℕ) (s : Stop) → whole messages.certificate bytes ≡ Err s → certs ≡ fold (with_valid r) certs (spelled_by (Some bytes))
+unfolding read_certificate
+spelled_none r certs bytes s is = sym (ap (λ x. fold (with_valid r) certs (read_list (read_as x))) is)
+
+-- ---- lines
+
+fold_more : {A B : Type 0} (f : B → A → B) (xs ys : List A) (b : B) → fold f b (xs ++ ys) ≡ fold f (fold f b xs) ys
+fold_more f [] ys b = refl
+fold_more f (x ∷ xs) ys b = fold_more f xs ys (f b x)
+
+pub handed_on : (r : Rules) (certs : List Certificate) (e : Event) (events : List Event)
+    → fold (with_valid r) (fold (with_valid r) certs (handed_over e)) (flat_map handed_over events) ≡ fold (with_valid r) certs (flat_map handed_over (e ∷ events))
+handed_on r certs e events = sym (fold_more (with_valid r) (handed_over e) (flat_map handed_over events) certs)
+
+-- the certificate that was formed at a place, and those behind it
+formed_at : (formed : List Formed) (n : ℕ) (c : Certificate) → option_map cert_in (slice_get formed n) ≡ Some c → map cert_in (drop n formed) ≡ c ∷ map cert_in (drop (suc n) formed)
+formed_at [] n c at = absurd (cc)
+formed_at (f ∷ formed) zero c at = let same : f.cert ≡ c = cc (at) in ap (λ (x : Certificate). x ∷ map cert_in formed) same
+formed_at (f ∷ formed) (suc n) c at = formed_at formed n c at
+
+formed_past : (formed : List Formed) (n : ℕ) → option_map cert_in (slice_get formed n) ≡ None → map cert_in (drop n formed) ≡ []
+formed_past [] zero at = refl
+formed_past [] (suc n) at = refl
+formed_past (f ∷ formed) zero at = absurd (cc)
+formed_past (f ∷ formed) (suc n) at = formed_past formed n at
+
+pub one_formed : (r : Rules) (certs : List Certificate) (formed : List Formed) (n : ℕ) (c : Certificate) → option_map cert_in (slice_get formed n) ≡ Some c
+    → fold (with_valid r) (with_valid r certs c) (map cert_in (drop (n + 1) formed)) ≡ fold (with_valid r) certs (map cert_in (drop n formed))
+one_formed r certs formed n c at =
+    ap (λ (k : ℕ). fold (with_valid r) (with_valid r certs c) (map cert_in (drop k formed))) (add-one n) ∙ sym (ap (fold (with_valid r) certs) (formed_at formed n c at))
+
+pub all_formed : (r : Rules) (certs : List Certificate) (formed : List Formed) (n : ℕ) → option_map cert_in (slice_get formed n) ≡ None → certs ≡ fold (with_valid r) certs (map cert_in (drop n formed))
+all_formed r certs formed n at = sym (ap (fold (with_valid r) certs) (formed_past formed n at))

@@ -1,0 +1,65 @@
+-- The certificates of a run that are held against each other. Source: Sui Lutris (which certificates are valid); which of them and in
+-- which order is this profile's own.
+use Rattle.std.specs.Prelude.{ℕ, Bool, not, bytes_eq, List, [], ◌∷◌, ◌++◌, fold, is_some, Option, Some, None, if◌then◌else◌}
+use Rattle.std.specs.List.{flat_map, list_any}
+use Rattle.chain_messages.specs.Messages as messages
+use Rattle.chain_messages.specs.declared.messages.Certificate.{Certificate}
+use Rattle.schedule_text.specs.declared.words.Event.{Event}
+use Rattle.schedule_text.specs.declared.words.Event.TheVariants as event
+use Rattle.protocol_spec.specs.Chain.Certificates.{Rules, cert_refusal, read_certificate}
+use Rattle.world_spec.specs.Assumptions.{read_list}
+
+-- the bytes that a line hands to a member as a certificate
+abbrev pub held_bytes : Event → Option (List ℕ)
+held_bytes (event.Tx name sender spoiled epoch gas budget inputs commands) = None
+held_bytes (event.Vote m tx) = None
+held_bytes (event.Fvote m tx origins) = None
+held_bytes (event.Cert tx members) = None
+held_bytes (event.Send m tx) = None
+held_bytes (event.Order tx) = None
+held_bytes (event.OrderEnd m) = None
+held_bytes event.OrderCommit = None
+held_bytes (event.See m entries) = None
+held_bytes (event.Run m workers) = None
+held_bytes (event.Close m) = None
+held_bytes (event.End m) = None
+held_bytes (event.Turn m) = None
+held_bytes (event.Show m) = None
+held_bytes (event.Stop m kept) = None
+held_bytes (event.Restart m) = None
+held_bytes (event.RawVote m bytes) = None
+held_bytes (event.RawHold m bytes) = Some bytes
+held_bytes (event.Ack m tx spoiled) = None
+held_bytes (event.Final tx members) = None
+
+-- the certificate that they spell, if they spell one
+abbrev pub spelled_by : Option (List ℕ) → List Certificate
+spelled_by None = []
+spelled_by (Some bytes) = read_list (read_certificate bytes)
+
+abbrev pub handed_over : Event → List Certificate
+handed_over e = spelled_by (held_bytes e)
+
+abbrev pub is_valid : Rules → Certificate → Bool
+is_valid r c = not (is_some (cert_refusal r c))
+
+-- certificates are equal where they are spelled alike
+abbrev pub is_there : List Certificate → Certificate → Bool
+is_there found c = list_any (λ d. bytes_eq (messages.certificate.spell c) (messages.certificate.spell d)) found
+
+-- one more, unless an equal one is there
+abbrev pub with_new : List Certificate → Certificate → List Certificate
+with_new found c = if is_there found c then found else found ++ c ∷ []
+
+-- one more, unless it is not valid, or an equal one is there
+abbrev pub with_valid : Rules → List Certificate → Certificate → List Certificate
+with_valid r found c = if is_valid r c then with_new found c else found
+
+-- the valid ones, each once: those that `cert` lines formed, and then those that lines hand over as bytes
+abbrev pub certified : Rules → List Certificate → List Event → List Certificate
+certified r formed events = fold (with_valid r) [] (formed ++ flat_map handed_over events)
+
+-- what is said of each of these with each behind it
+abbrev pub of_pairs : (Certificate → Certificate → List ℕ) → List Certificate → List ℕ
+of_pairs says [] = []
+of_pairs says (c ∷ cs) = flat_map (says c) cs ++ of_pairs says cs

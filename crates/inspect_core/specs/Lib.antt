@@ -1,0 +1,10 @@
+pub mod Words
+pub mod Standing
+pub mod Chain
+pub mod Digests
+pub mod Certified
+pub mod Blame
+pub mod Uses
+pub mod Found
+pub mod Sight
+pub mod Ends

@@ -1,0 +1,88 @@
+use crate::FileDisk;
+use disk_log::{Disk, DiskLog, LogRefusal};
+use outside::{Failed, Keeper};
+use std::test::Fail;
+use std::{fs, io};
+
+const FOLDER: &str = "file_disk_test";
+
+const PATH: &str = "file_disk_test/bytes";
+
+const LOGS: &str = "file_disk_test_logs";
+
+const JOURNAL: &str = "file_disk_test_logs/journal";
+
+/// Writes three bytes, and reads the last two: what was read, or none where a call failed.
+fn two_of_three(disk: &mut FileDisk) -> Option<[u8; 2]> {
+    let mut back = [0; 2];
+    if disk.size() != 0 || disk.write_at(0, [7, 8, 9].as_slice()).is_err() {
+        return None;
+    }
+    if disk.sync().is_err() || disk.size() != 3 {
+        return None;
+    }
+    match disk.read_at(1, back.as_mut_slice()) {
+        Ok(()) => Some(back),
+        Err(Failed) => None,
+    }
+}
+
+/// Appends a record of two bytes to the log of a file: the answer, or none where there is no log.
+fn appended(rt: &HostRuntime, member: u32) -> io::Result<Option<Result<(), LogRefusal>>> {
+    let disk = FileDisk::open(rt, JOURNAL)?;
+    match DiskLog::open(rt.alloc(), disk, 2) {
+        Ok(log) => Ok(appended_to(log, member)),
+        Err(_refused) => Ok(None),
+    }
+}
+
+/// Appends the record where there is such a member.
+fn appended_to(log: DiskLog<FileDisk>, member: u32) -> Option<Result<(), LogRefusal>> {
+    let mut log = log;
+    let answer = if member < log.members() {
+        Some(log.append_record(member, [7, 8].as_slice()))
+    } else {
+        None
+    };
+    let _disk = log.into_disk();
+    answer
+}
+
+#[test]
+fn a_file_keeps_what_is_written(rt: HostRuntime) -> Result<(), Fail> {
+    let _ = fs::remove_dir_all(&rt, FOLDER);
+    fs::create_dir(&rt, FOLDER)?;
+    let mut disk = FileDisk::open(&rt, PATH)?;
+    assert_eq!(rt; two_of_three(&mut disk), Some([8, 9]));
+    assert_eq!(rt; disk.faults(), 0);
+    assert!(rt; FileDisk::open(&rt, PATH).is_err());
+    drop(disk);
+    let disk = FileDisk::open(&rt, PATH)?;
+    assert_eq!(rt; disk.size(), 3);
+    drop(disk);
+    fs::remove_dir_all(&rt, FOLDER)?;
+    Ok(())
+}
+
+#[test]
+fn a_journal_is_opened_again(rt: HostRuntime) -> Result<(), Fail> {
+    let _ = fs::remove_dir_all(&rt, LOGS);
+    fs::create_dir(&rt, LOGS)?;
+    assert_eq!(rt; appended(&rt, 1)?, Some(Ok(())));
+    assert_eq!(rt; appended(&rt, 0)?, Some(Ok(())));
+    let bytes = fs::read(&rt, JOURNAL)?;
+    let both = [
+        1, 2, 0, 0, 0, 1, 0, 0, 0, 7, 8, 1, 2, 0, 0, 0, 0, 0, 0, 0, 7, 8, 0,
+    ];
+    assert_eq!(rt; bytes.as_slice(), both.as_slice());
+    fs::remove_dir_all(&rt, LOGS)?;
+    Ok(())
+}
+
+#[test]
+fn what_is_no_plain_file(rt: HostRuntime) -> Result<(), Fail> {
+    assert!(rt; FileDisk::open(&rt, ".").is_err());
+    assert!(rt; FileDisk::open(&rt, "/dev/null").is_err());
+    assert!(rt; FileDisk::open(&rt, "no_such_folder/journal").is_err());
+    Ok(())
+}

@@ -1,5 +1,0 @@
-use Rattle.ready_law.proofs.Whole.{certificates-fit}
-use Rattle.ready_law.proofs.presence.certificates_fit.Goals as goal
-
-pub returns : goal.returns
-returns c = certificates-fit

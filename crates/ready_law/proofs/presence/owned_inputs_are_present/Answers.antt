@@ -1,5 +1,0 @@
-use Rattle.ready_law.proofs.Present.{owned-present}
-use Rattle.ready_law.proofs.presence.owned_inputs_are_present.Goals as goal
-
-pub returns : goal.returns
-returns c = owned-present

@@ -1,5 +1,0 @@
-use Rattle.ready_law.proofs.Fitting.{owned-fit}
-use Rattle.ready_law.proofs.presence.owned_inputs_fit.Goals as goal
-
-pub returns : goal.returns
-returns c = owned-fit

@@ -1,5 +1,0 @@
-use Rattle.ready_law.proofs.Due.{due-is-ready}
-use Rattle.ready_law.proofs.readiness.due_is_ready.Goals as goal
-
-pub returns : goal.returns
-returns c = due-is-ready

@@ -1,5 +1,0 @@
-use Rattle.ready_law.proofs.Due.{next-round-takes-all}
-use Rattle.ready_law.proofs.readiness.next_round_takes_all.Goals as goal
-
-pub returns : goal.returns
-returns c = next-round-takes-all

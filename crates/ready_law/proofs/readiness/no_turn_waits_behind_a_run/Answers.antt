@@ -1,5 +1,0 @@
-use Rattle.ready_law.proofs.Finishing.{no-turn-waits}
-use Rattle.ready_law.proofs.readiness.no_turn_waits_behind_a_run.Goals as goal
-
-pub returns : goal.returns
-returns c = no-turn-waits

@@ -1,5 +1,0 @@
-use Rattle.ready_law.proofs.Ready.{none-unfit}
-use Rattle.ready_law.proofs.readiness.none_is_unfit.Goals as goal
-
-pub returns : goal.returns
-returns c = none-unfit

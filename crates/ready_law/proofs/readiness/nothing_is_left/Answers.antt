@@ -1,5 +1,0 @@
-use Rattle.ready_law.proofs.Due.{nothing-is-left}
-use Rattle.ready_law.proofs.readiness.nothing_is_left.Goals as goal
-
-pub returns : goal.returns
-returns c = nothing-is-left

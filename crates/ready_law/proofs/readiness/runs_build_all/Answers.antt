@@ -1,5 +1,0 @@
-use Rattle.ready_law.proofs.Finishing.{runs-build-all}
-use Rattle.ready_law.proofs.readiness.runs_build_all.Goals as goal
-
-pub returns : goal.returns
-returns c = runs-build-all

@@ -1,5 +1,0 @@
-use Rattle.ready_law.proofs.Ready.{shared-fit}
-use Rattle.ready_law.proofs.readiness.shared_inputs_fit.Goals as goal
-
-pub returns : goal.returns
-returns c = shared-fit

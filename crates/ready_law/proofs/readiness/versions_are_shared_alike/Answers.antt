@@ -1,5 +1,0 @@
-use Rattle.ready_law.proofs.Alike.{share-alike}
-use Rattle.ready_law.proofs.readiness.versions_are_shared_alike.Goals as goal
-
-pub returns : goal.returns
-returns c = share-alike

@@ -1,5 +1,0 @@
-use Rattle.ready_law.proofs.Moments.{versions-are-one-chain}
-use Rattle.ready_law.proofs.versions.versions_are_one_chain.Goals as goal
-
-pub returns : goal.returns
-returns c = versions-are-one-chain

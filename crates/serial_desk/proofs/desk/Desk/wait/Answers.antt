@@ -1,5 +1,0 @@
-use Rattle.serial_desk.proofs.Calls.{holds_later}
-use Rattle.serial_desk.proofs.desk.Desk.wait.Goals as goal
-
-pub returns-then-take : goal.returns-then-take
-returns-then-take g c = record { holds = holds_later c.args.self.now c.args.pass.now c.loop.pass c.take.new.pass c.loop.invariant.3 c.if-take.ensures.taken }

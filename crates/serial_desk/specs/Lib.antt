@@ -1,7 +1,0 @@
-pub mod Counts
-pub mod Histories
-pub mod Views
-pub mod Rule
-pub mod Steps
-pub mod Kept
-pub mod Passes

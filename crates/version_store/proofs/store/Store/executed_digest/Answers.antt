@@ -1,0 +1,21 @@
+use Rattle.std.proofs.Common.{◌∙◌, Some, ap, drop, map, option_map}
+use Rattle.effects_core.specs.Effects.{digest_of_effects}
+use Rattle.protocol_spec.specs.Member.Versions.{execution_of}
+use Rattle.version_store.specs.Kept.{kept_object}
+use Rattle.version_store.specs.Stores.{Stored}
+use Rattle.version_store.specs.declared.maps.Ran.{Ran}
+use Rattle.version_store.proofs.Executions.{digest_found, known_as, lookup_ran}
+use Rattle.version_store.proofs.store.Store.executed_digest.Goals as goal
+
+pub returns-in-Some : goal.returns-in-Some
+returns-in-Some c =
+    ap Some c.digest.ensures
+    ∙ ap (option_map (λ (r : Ran). digest_of_effects r.effects)) c.in-Some.ensures.value
+    ∙ digest_found _ _ (lookup_ran c.self.inside.maps.executed.entries (drop c.self.inside.opened (map kept_object c.self.inside.maps.versions.entries)) c.args.tx.now
+    ∙ ap (λ (s : Stored). known_as (execution_of s.executed c.args.tx.now)) c.self.view_is)
+
+pub returns-in-None : goal.returns-in-None
+returns-in-None c =
+    ap (option_map (λ (r : Ran). digest_of_effects r.effects)) c.in-None.ensures.value
+    ∙ digest_found _ _ (lookup_ran c.self.inside.maps.executed.entries (drop c.self.inside.opened (map kept_object c.self.inside.maps.versions.entries)) c.args.tx.now
+    ∙ ap (λ (s : Stored). known_as (execution_of s.executed c.args.tx.now)) c.self.view_is)

@@ -1,0 +1,10 @@
+pub mod Counts
+pub mod Fronts
+pub mod Fitting
+pub mod Moves
+pub mod Calls
+pub mod Answering
+pub mod Benches
+pub mod Dealing
+pub mod Answered
+pub mod Asking

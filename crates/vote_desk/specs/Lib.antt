@@ -1,0 +1,11 @@
+pub mod Counts
+pub mod Histories
+pub mod Views
+pub mod Rule
+pub mod Steps
+pub mod Kept
+pub mod Passes
+pub mod Votes
+pub mod Desks
+pub mod Dealt
+pub mod Callers

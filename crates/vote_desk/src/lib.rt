@@ -1,0 +1,38 @@
+//! A member that callers on any threads ask for votes, one at a time, and the one history of their calls.
+//!
+//! A [`Desk`] keeps a validator, its keeper and its sealer. A caller goes by a [`DeskPass`]; `vote` waits for its turn, lets
+//! the member answer, and leaves one [`DeskEntry`] in the history: the bytes, the reply and the keeper's count of faults.
+//! Each reply is the member's answer behind the calls before it, with faults of the keeper and want of memory in their
+//! places; `close` gives the history and the member in its last state.
+//!
+//! Beneath stands the desk of any object. A [`SerialDesk`] keeps a [`Clerk`], which answers one request at a time, in the one
+//! slot of a table, behind the one word of that table. Callers go by a [`Pass`] each. A call waits until the slot is home,
+//! takes it, lets the clerk answer, adds one entry to the history and gives the slot back. The desk rule holds between any two
+//! steps, whatever the order in which threads make them: there is one history, in which each call is one that the clerk may
+//! make in the state that the calls before it left, each pass has seen a front of it, and each place of it stands in exactly
+//! one pass. `open` and `call` take memory, and `call` alone waits. That callers run beside each other is not claimed.
+#![tactic(auto)]
+
+mod bench;
+mod callers;
+mod clerk;
+mod crew;
+mod desk;
+mod entry;
+mod kept;
+mod law;
+mod serial;
+mod standing;
+mod sure;
+#[cfg(test)]
+mod tests;
+mod view;
+
+pub use callers::{answers_to_callers, ask_by_callers};
+pub use clerk::Clerk;
+pub use desk::{Desk, DeskPass, DeskRefusal};
+pub use entry::DeskEntry;
+pub use serial::{Pass, SerialDesk};
+pub use standing::Standing;
+pub use sure::SureKeeper;
+pub use view::View;

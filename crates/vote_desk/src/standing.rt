@@ -1,0 +1,14 @@
+//! What contracts see behind a vote desk. It exists for contracts alone: no value of it is made.
+
+use validator_core::Validator;
+use wire_bcs::Seq;
+
+/// The member, the sealer over which its answers are meant, the keeper's count of faults and, where they are told, the
+/// keeper's lists.
+#[derive(Drop)]
+pub struct Standing<S> {
+    pub validator: Validator,
+    pub sealer: S,
+    pub faults: u64,
+    pub lists: Option<Seq<Seq<Seq<u8>>>>,
+}

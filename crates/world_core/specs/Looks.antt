@@ -1,0 +1,35 @@
+-- What others ask of a world. Source: this profile.
+use Rattle.std.specs.Prelude.{ℕ, Option, Result, option_and_then, option_map, slice_get}
+use Rattle.answer_types.specs.declared.refusals.VoteRefusal.{VoteRefusal}
+use Rattle.chain_types.specs.declared.transactions.SignedTx.{SignedTx}
+use Rattle.chain_types.specs.declared.transactions.Transaction.{Transaction}
+use Rattle.checkpoint_core.specs.declared.checkpoints.Checkpoint.{Checkpoint}
+use Rattle.digest_core.specs.declared.Digest.{Digest}
+use Rattle.protocol_spec.specs.Member.Calls.{Voted}
+use Rattle.protocol_spec.specs.Member.Member.{built}
+use Rattle.report_text.specs.declared.lines.Line.{Line}
+use Rattle.report_text.specs.declared.lines.Line.TheVariants as line
+use Rattle.scene_spec.specs.Known.{Known, setting_with, world_with}
+use Rattle.scene_spec.specs.Posts.{Post}
+use Rattle.scene_spec.specs.Seats.{Seat}
+use Rattle.world_core.specs.Crews.{honest_at}
+use Rattle.world_names.specs.Looks.{made_at, made_of}
+use Rattle.world_spec.specs.Names.{tx_name}
+use Rattle.world_spec.specs.Report.{vote_answered}
+use Rattle.world_spec.specs.World.{Made}
+
+-- the checkpoint of this number, counted from 0 over all epochs, that a member built which is honest and up
+abbrev pub checkpoint_at : Option Post → ℕ → Option Checkpoint
+checkpoint_at post number = option_and_then (λ (seat : Seat). slice_get (built seat.state) number) (honest_at post)
+
+-- the transaction of this digest that a line made
+abbrev pub transaction_of : Known → Digest → Option Transaction
+transaction_of k tx = option_map (λ (t : Made). t.signed.tx) (made_of k tx)
+
+-- the signed transaction of the line at this place, counted from 0 among the lines that made one
+abbrev pub signed_at : Known → ℕ → Option SignedTx
+signed_at k place = option_map (λ (t : Made). t.signed) (made_at k place)
+
+-- the line of a vote with this answer; the transaction goes by the name of the first line that made it
+abbrev pub vote_line_by : Known → ℕ → Digest → Result Voted VoteRefusal → Line
+vote_line_by k m tx answer = line.Vote m (tx_name (world_with k) tx) (vote_answered (setting_with k) (world_with k) answer)
