@@ -7,6 +7,7 @@ use Rattle.effects_core.specs.declared.effects.Effects.{Effects}
 use Rattle.chain_messages.specs.declared.messages.Entry.{Entry}
 use Rattle.answer_types.specs.declared.answers.Held.{Held}
 use Rattle.schedule_text.specs.declared.words.Event.{Event}
+use Rattle.protocol_spec.proofs.ListLemmas.{each_has, front_then}
 use Rattle.protocol_spec.specs.Chain.Words.{Has, Each, IsFront}
 use Rattle.protocol_spec.specs.Member.Sequence.{Cut, Sequence}
 use Rattle.protocol_spec.specs.Member.Sequential.{map_of, fold_all}
@@ -16,10 +17,8 @@ use Rattle.world_spec.specs.World.{Seat, new_world, member_in, entries_at}
 use Rattle.world_spec.specs.Openings.{txs_in, sequence_of, opening_at}
 use Rattle.world_spec.specs.Run.{world_after}
 use Rattle.world_spec.specs.Assumptions.{IsHonestRun, delivered, all_delivered}
-use Rattle.safety_law.proofs.Once.{each-has}
 use Rattle.safety_law.proofs.Forks.{all-front}
 use Rattle.agreement_law.specs.Agreed.{IsTaken, IsHeldAsGiven, IsEarlier}
-use Rattle.agreement_law.proofs.Growth.{front-then}
 use Rattle.agreement_law.proofs.Prefixes.{earlier-front, more-taken, follows, alike}
 use Rattle.agreement_law.proofs.Supply.{every-held}
 use Rattle.agreement_law.proofs.Executing.{executions-explained}
@@ -59,7 +58,7 @@ module _ (s : Setting) (events : List Event) (honest : IsHonestRun s events) (di
     every-checkpoint cuts front built =
         let gives = checkpoints-of-fold s events n seat at honest distinct cuts front built in
         record {
-          first = front-then cuts m.sequence.cuts (sequence_of s qs m.epoch (opening_at s qs m.epoch)).cuts front earlier.cuts;
+          first = front_then cuts m.sequence.cuts (sequence_of s qs m.epoch (opening_at s qs m.epoch)).cuts front earlier.cuts;
           effects = thread cuts ∙ gives.effects;
           items = ap (λ (es : List (Option Effects)). map item_with (zip (flat_map admitted_in cuts) es)) (thread cuts) ∙ gives.items;
         }
@@ -91,8 +90,8 @@ module _ (s : Setting) (front back : List Event) (honest : IsHonestRun s (front 
 
     held-alike : (h k : Held) → Has p.held h → Has q.held k → h.digest ≡ k.digest → (h.cert.tx ≡ k.cert.tx) × (h.cert.origins ≡ k.cert.origins)
     held-alike h k there also e = given-alike s all honest p.epoch q.epoch h.digest k.digest h.cert k.cert
-        (given-later p.epoch h (each-has (IsHeldAsGiven s.rules (all_delivered s front) p.epoch) p.held h (every-held s front m a at) there))
-        (each-has (IsHeldAsGiven s.rules (all_delivered s all) q.epoch) q.held k (every-held s all n b by) also) e
+        (given-later p.epoch h (each_has (IsHeldAsGiven s.rules (all_delivered s front) p.epoch) p.held h (every-held s front m a at) there))
+        (each_has (IsHeldAsGiven s.rules (all_delivered s all) q.epoch) q.held k (every-held s all n b by) also) e
 
     fronts : IsEarlier p.sequence q.sequence ⊎ IsEarlier q.sequence p.sequence → IsFront p.sequence.admission.admitted q.sequence.admission.admitted ⊎ IsFront q.sequence.admission.admitted p.sequence.admission.admitted
     fronts (inl f) = inl f.admitted

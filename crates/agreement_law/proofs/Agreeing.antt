@@ -1,10 +1,9 @@
 -- A transaction gives the same wherever it is executed.
 use Rattle.std.proofs.Common.{inl, inr, refl, sym, subst, ap, ◌∙◌, append_assoc, append-nil}
 use Rattle.std.proofs.lemmas.Bool.{eqb-true}
-use Rattle.std.specs.Prelude.{◌≡◌, ◌⊎◌, ℕ, Bool, true, false, cond, ◌==◌, List, [], ◌∷◌, ◌++◌, map, find, flat_map, zip, slice_get, Option, Some, None, option_map}
+use Rattle.std.specs.Prelude.{◌≡◌, ◌⊎◌, ℕ, true, false, ◌==◌, List, [], ◌∷◌, ◌++◌, map, find, flat_map, zip, slice_get, Option, Some, None, option_map}
 use Rattle.std.specs.List.{list_any}
 use Rattle.digest_core.specs.declared.Digest.{Digest}
-use Rattle.chain_types.specs.declared.objects.ObjectId.{ObjectId}
 use Rattle.chain_types.specs.declared.objects.ObjectKey.{ObjectKey}
 use Rattle.chain_types.specs.declared.objects.Object.{Object}
 use Rattle.chain_types.specs.declared.objects.Producer.{Producer}
@@ -14,10 +13,12 @@ use Rattle.answer_types.specs.declared.pieces.Executed.{Executed}
 use Rattle.answer_types.specs.declared.answers.Held.{Held}
 use Rattle.schedule_text.specs.declared.words.Event.{Event}
 use Rattle.chain_types.specs.Equal.{id_eq, key_eq}
+use Rattle.protocol_spec.proofs.Equality.{id_same, digest_same}
 use Rattle.protocol_spec.specs.Chain.Words.{Has, Along, IsFront, all_some, repeats}
 use Rattle.protocol_spec.specs.Chain.Tests.{producer_eq}
 use Rattle.protocol_spec.specs.Chain.Keys.{object_key, objects_of}
-use Rattle.protocol_spec.proofs.ListLemmas.{find-test, and-first, and-second, or-first, or-second}
+use Rattle.protocol_spec.proofs.ListLemmas.{find-test, and-first, and-second, find_back, has_map, has_mapped, find_has, has_parts, has_left, find_front}
+use Rattle.protocol_spec.proofs.Truth.{or_false_left, or_false_right}
 use Rattle.protocol_spec.specs.Block.Execution.{execution}
 use Rattle.protocol_spec.specs.Member.Versions.{Execution, Version, opened, written, written_by, versions, object_in}
 use Rattle.protocol_spec.specs.Member.Admission.{Admission, assigned_of}
@@ -26,83 +27,43 @@ use Rattle.protocol_spec.specs.Member.Member.{books}
 use Rattle.world_spec.specs.Setting.{Setting}
 use Rattle.world_spec.specs.World.{Seat, member_in}
 use Rattle.world_spec.specs.Run.{world_after}
-use Rattle.safety_law.proofs.Backed.{has-either}
-use Rattle.safety_law.proofs.Once.{equal, has-key, has-left}
+use Rattle.safety_law.proofs.Once.{has-key}
 use Rattle.agreement_law.specs.Agreed.{IsEarlier}
 use Rattle.agreement_law.specs.Explained.{IsExplained}
 use Rattle.agreement_law.specs.Alike.{AreHeldAlike}
 use Rattle.agreement_law.proofs.Prefixes.{one-sequence}
-use Rattle.agreement_law.proofs.Executing.{find-more, some-parts, wants-same, executions-explained}
+use Rattle.agreement_law.proofs.Executing.{some-parts, wants-same, executions-explained}
+use Rattle.sequence_law.proofs.Live.{has-flat}
 
 -- ---- elements
-
-find-has : {A : Type 0} (test : A → Bool) (xs : List A) (x : A) → find test xs ≡ Some x → Has xs x
-find-has test [] x e = absurd (cc)
-find-has {A = A} test (y ∷ ys) x e = go (test y) e (find-has test ys x)
-  where
-    go : (b : Bool) → cond b (Some y) (find test ys) ≡ Some x → (find test ys ≡ Some x → Has ys x) → Has (y ∷ ys) x
-    go true e rest = inl (same e)
-      where
-        same : Some y ≡ Some x → y ≡ x
-        same e = cc
-    go false e rest = inr (rest e)
-
-find-skip : {A : Type 0} (test : A → Bool) (xs ys : List A) → find test xs ≡ None → find test (xs ++ ys) ≡ find test ys
-find-skip test [] ys e = refl
-find-skip test (x ∷ xs) ys e = go (test x) e (find-skip test xs ys)
-  where
-    go : (b : Bool) → cond b (Some x) (find test xs) ≡ None → (find test xs ≡ None → find test (xs ++ ys) ≡ find test ys) → cond b (Some x) (find test (xs ++ ys)) ≡ find test ys
-    go true e rest = absurd (cc)
-    go false e rest = rest e
-
-has-mapped : {A B : Type 0} (f : A → B) (xs : List A) (y : B) → Has (map f xs) y → (x : A) × Has xs x × (f x ≡ y)
-has-mapped f [] y h = absurd h
-has-mapped f (x ∷ xs) y (inl e) = (x, inl refl, e)
-has-mapped f (x ∷ xs) y (inr h) = let r = has-mapped f xs y h in (r.0, inr r.1, r.2)
-
-pub map-has : {A B : Type 0} (f : A → B) (xs : List A) (x : A) → Has xs x → Has (map f xs) (f x)
-map-has f [] x h = absurd h
-map-has f (y ∷ xs) x (inl e) = inl (ap f e)
-map-has f (y ∷ xs) x (inr h) = inr (map-has f xs x h)
-
-has-flat : {A B : Type 0} (f : A → List B) (xs : List A) (y : B) → Has (flat_map f xs) y → (x : A) × Has xs x × Has (f x) y
-has-flat f [] y h = absurd h
-has-flat {A = A} f (x ∷ xs) y h = go (has-either (f x) (flat_map f xs) y h) (has-flat f xs y)
-  where
-    go : Has (f x) y ⊎ Has (flat_map f xs) y → (Has (flat_map f xs) y → (z : A) × Has xs z × Has (f z) y) → (z : A) × Has (x ∷ xs) z × Has (f z) y
-    go (inl h) rest = (x, inl refl, h)
-    go (inr h) rest = let r = rest h in (r.0, inr r.1, r.2)
 
 -- an element of a list of which P holds along, with those before it
 along-at : {A : Type 0} (P : List A → A → Type 0) (before xs : List A) (x : A) → Along P before xs → Has xs x → (front : List A) × (P front x × ((z : A) → Has front z → Has (before ++ xs) z))
 along-at P before [] x along h = absurd h
-along-at P before (y ∷ ys) x along (inl e) = (before, (subst (P before) e along.0, has-left before (y ∷ ys)))
+along-at P before (y ∷ ys) x along (inl e) = (before, (subst (P before) e along.0, has_left before (y ∷ ys)))
 along-at {A = A} P before (y ∷ ys) x along (inr h) =
     let r = along-at P (before ++ y ∷ []) ys x along.1 h in
     (r.0, (r.1.0, λ z k. subst (λ (zs : List A). Has zs z) (append_assoc before (y ∷ []) ys) (r.1.1 z k)))
 
 -- ---- keys
 
-pub id-same : (a b : ObjectId) → id_eq a b ≡ true → a ≡ b
-id-same a b e = ap (λ (d : Digest). let id : ObjectId = record { 0 = d } in id) (equal a.0 b.0 e)
-
 -- of objects with different keys two with one key are one
 pub one-key : (os : List Object) (a b : Object) → repeats key_eq (map object_key os) ≡ false → Has os a → Has os b → object_key a ≡ object_key b → a ≡ b
 one-key [] a b once h k e = absurd h
 one-key (o ∷ os) a b once (inl p) (inl q) e = sym p ∙ q
 one-key (o ∷ os) a b once (inl p) (inr k) e =
-    let there = has-key (map object_key os) (object_key o) (subst (Has (map object_key os)) (sym (ap object_key p ∙ e)) (map-has object_key os b k)) in
-    let none = or-first (list_any (key_eq (object_key o)) (map object_key os)) (repeats key_eq (map object_key os)) once in
+    let there = has-key (map object_key os) (object_key o) (subst (Has (map object_key os)) (sym (ap object_key p ∙ e)) (has_map object_key os b k)) in
+    let none = or_false_left (list_any (key_eq (object_key o)) (map object_key os)) (repeats key_eq (map object_key os)) once in
     absurd (cc)
 one-key (o ∷ os) a b once (inr h) (inl q) e =
-    let there = has-key (map object_key os) (object_key o) (subst (Has (map object_key os)) (sym (ap object_key q ∙ sym e)) (map-has object_key os a h)) in
-    let none = or-first (list_any (key_eq (object_key o)) (map object_key os)) (repeats key_eq (map object_key os)) once in
+    let there = has-key (map object_key os) (object_key o) (subst (Has (map object_key os)) (sym (ap object_key q ∙ sym e)) (has_map object_key os a h)) in
+    let none = or_false_left (list_any (key_eq (object_key o)) (map object_key os)) (repeats key_eq (map object_key os)) once in
     absurd (cc)
-one-key (o ∷ os) a b once (inr h) (inr k) e = one-key os a b (or-second (list_any (key_eq (object_key o)) (map object_key os)) (repeats key_eq (map object_key os)) once) h k e
+one-key (o ∷ os) a b once (inr h) (inr k) e = one-key os a b (or_false_right (list_any (key_eq (object_key o)) (map object_key os)) (repeats key_eq (map object_key os)) once) h k e
 
 pub both-key : (a b : Object) (key : ObjectKey) → key_eq (object_key a) key ≡ true → key_eq (object_key b) key ≡ true → object_key a ≡ object_key b
 both-key a b key e f =
-    let i : a.id ≡ b.id = id-same a.id key.id (and-first (id_eq a.id key.id) (a.version == key.version) e) ∙ sym (id-same b.id key.id (and-first (id_eq b.id key.id) (b.version == key.version) f)) in
+    let i : a.id ≡ b.id = id_same a.id key.id (and-first (id_eq a.id key.id) (a.version == key.version) e) ∙ sym (id_same b.id key.id (and-first (id_eq b.id key.id) (b.version == key.version) f)) in
     let v : a.version ≡ b.version = eqb-true a.version key.version (and-second (id_eq a.id key.id) (a.version == key.version) e) ∙ sym (eqb-true b.version key.version (and-second (id_eq b.id key.id) (b.version == key.version) f)) in
     cc
 
@@ -124,11 +85,11 @@ unfolding versions
 among-opening opening executed key v e = go (find (is_wanted key (Some producers.Opening)) (map opened opening)) refl
   where
     go : (f : Option Version) → find (is_wanted key (Some producers.Opening)) (map opened opening) ≡ f → f ≡ Some v
-    go (Some u) h = sym (find-more (is_wanted key (Some producers.Opening)) (map opened opening) (flat_map written_by executed) u h) ∙ e
+    go (Some u) h = sym (find_front (is_wanted key (Some producers.Opening)) (map opened opening) (flat_map written_by executed) u h) ∙ e
     go None h =
-        let f = sym (find-skip (is_wanted key (Some producers.Opening)) (map opened opening) (flat_map written_by executed) h) ∙ e in
-        let x = has-flat written_by executed v (find-has (is_wanted key (Some producers.Opening)) (flat_map written_by executed) v f) in
-        let o = has-mapped (written x.0.digest) x.0.gave.objects v x.2 in
+        let f = sym (find_back (is_wanted key (Some producers.Opening)) (map opened opening) (flat_map written_by executed) h) ∙ e in
+        let x = has-flat written_by executed v (find_has (is_wanted key (Some producers.Opening)) (flat_map written_by executed) v f) in
+        let o = has_mapped (written x.0.digest) x.0.gave.objects v x.2 in
         absurd (written-not v x.0.digest o.0 o.2 (and-second (key_eq (object_key v.object) key) (producer_eq v.producer producers.Opening) (find-test (is_wanted key (Some producers.Opening)) (flat_map written_by executed) v f)))
 
 -- a version that a transaction made is written by its execution
@@ -140,20 +101,20 @@ pub record IsFrom (executed : List Execution) (tx : Digest) (o : Object) : Type 
 
 pub among-written : (opening : List Object) (executed : List Execution) (key : ObjectKey) (tx : Digest) (v : Version) → find (is_wanted key (Some (producers.Tx tx))) (versions opening executed) ≡ Some v → IsFrom executed tx v.object
 unfolding versions
-among-written opening executed key tx v e = go (has-either (map opened opening) (flat_map written_by executed) v (find-has (is_wanted key (Some (producers.Tx tx))) (map opened opening ++ flat_map written_by executed) v e))
+among-written opening executed key tx v e = go (has_parts (map opened opening) (flat_map written_by executed) v (find_has (is_wanted key (Some (producers.Tx tx))) (map opened opening ++ flat_map written_by executed) v e))
   where
     made : producer_eq v.producer (producers.Tx tx) ≡ true
     made = and-second (key_eq (object_key v.object) key) (producer_eq v.producer (producers.Tx tx)) (find-test (is_wanted key (Some (producers.Tx tx))) (map opened opening ++ flat_map written_by executed) v e)
 
     go : Has (map opened opening) v ⊎ Has (flat_map written_by executed) v → IsFrom executed tx v.object
-    go (inl h) = let o = has-mapped opened opening v h in absurd (opened-not tx v o.0 o.2 made)
+    go (inl h) = let o = has_mapped opened opening v h in absurd (opened-not tx v o.0 o.2 made)
     go (inr h) =
         let x = has-flat written_by executed v h in
-        let o = has-mapped (written x.0.digest) x.0.gave.objects v x.2 in
+        let o = has_mapped (written x.0.digest) x.0.gave.objects v x.2 in
         record {
           by = x.0;
           there = x.1;
-          named = equal x.0.digest tx (subst (λ (u : Version). producer_eq u.producer (producers.Tx tx) ≡ true) (sym o.2) made);
+          named = digest_same x.0.digest tx (subst (λ (u : Version). producer_eq u.producer (producers.Tx tx) ≡ true) (sym o.2) made);
           written = subst (Has x.0.gave.objects) (ap object_in o.2) o.1;
         }
 
@@ -238,7 +199,7 @@ module _ (opening : List Object) (p q : Books) (at_p : p.opening ≡ opening) (a
         ap (λ (z : Execution). z.gave) one.is ∙ ap (λ (t : Transaction). execution t one.inputs) same.0 ∙ ap (execution two.of.cert.tx) os ∙ sym (ap (λ (z : Execution). z.gave) two.is)
 
   next-agrees : (before : List Execution) (x : Execution) → Agrees before → IsExplained p before x → Agrees (before ++ x ∷ [])
-  next-agrees before x agrees one z h y k e = go (has-either before (x ∷ []) z h)
+  next-agrees before x agrees one z h y k e = go (has_parts before (x ∷ []) z h)
     where
       go : Has before z ⊎ Has (x ∷ []) z → z.gave ≡ y.gave
       go (inl h) = agrees z h y k e

@@ -18,15 +18,16 @@ use Rattle.world_spec.specs.Assumptions.{IsHonestRun}
 use Rattle.sequence_law.specs.Orderly.{Step, gave, IsOrderly, AreOrderly, AreApart}
 use Rattle.sequence_law.proofs.Standing.{stands-after}
 use Rattle.sequence_law.proofs.Touched.{written-version, above}
-use Rattle.sequence_law.proofs.Reading.{fits-inputs, after_steps, after-push, IsGoneOver, given-once, finds-next, over-next, thread-is}
+use Rattle.sequence_law.proofs.Reading.{after_steps, after-push, IsGoneOver, given-once, finds-next, over-next, thread-is}
 use Rattle.agreement_law.specs.Steps.{step_of}
 use Rattle.agreement_law.specs.Orderly.{IsExecutedFront}
 use Rattle.agreement_law.proofs.Ordered.{steps-orderly}
 use Rattle.agreement_law.proofs.Known.{opens-apart}
 use Rattle.agreement_law.specs.Chains.{standing, IsLink}
+use Rattle.block_law.proofs.Written.{fits-first}
 
 -- each object is there for an input
-input-of : (t : Transaction) (is : List Input) (os : List Object) (o : Object) → fit_inputs t is os ≡ true → Has os o → (i : Input) × Has (zip is os) (i, o)
+pub input-of : (t : Transaction) (is : List Input) (os : List Object) (o : Object) → fit_inputs t is os ≡ true → Has os o → (i : Input) × Has (zip is os) (i, o)
 input-of t is [] o e h = absurd h
 input-of t [] (p ∷ os) o e h = absurd (cc)
 input-of t (i ∷ is) (p ∷ os) o e (inl q) = (i, inl (ap (λ (z : Object). (i, z)) q))
@@ -39,7 +40,7 @@ module _ (opening : List Object) (distinct : AreApart opening) where
   module _ (before : List Step) (over : IsGoneOver opening before) (x : Step) (next : IsOrderly opening before x) where
     reads : (o : Object) → Has x.inputs o → get (standing opening before) o.id ≡ Some o
     reads o h =
-        let i = input-of x.tx (objects_of x.tx) x.inputs o (fits-inputs x.tx x.inputs next.fit) h in
+        let i = input-of x.tx (objects_of x.tx) x.inputs o (fits-first x.tx x.inputs next.fit) h in
         subst (λ (m : Objects). get m o.id ≡ Some o) (sym (standing-is before over)) (finds-next opening distinct before over x next i.0 o i.1)
 
     rises : (o p : Object) → Has x.inputs o → Has (gave x).objects p → o.version < p.version

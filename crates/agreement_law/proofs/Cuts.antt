@@ -3,48 +3,41 @@ use Rattle.std.proofs.Common.{refl, sym, subst, ap, ◌∙◌, append_assoc, app
 use Rattle.std.specs.Prelude.{◌≡◌, ℕ, zero, suc, Bool, true, false, cond, List, [], ◌∷◌, ◌++◌, drop, fold, find, flat_map, length, Option, Some, None}
 use Rattle.chain_types.specs.declared.objects.Object.{Object}
 use Rattle.answer_types.specs.declared.answers.Held.{Held}
+use Rattle.protocol_spec.proofs.ListLemmas.{drop_all, flat_append}
 use Rattle.protocol_spec.specs.Chain.Words.{IsFront}
 use Rattle.protocol_spec.specs.Chain.Certificates.{Rules}
 use Rattle.protocol_spec.specs.Member.Admission.{Admitted, Admission, is_free, taken_as, taken, is_dropped, taken_next, take_free, entered, passed_mark, admit, since_mark}
 use Rattle.agreement_law.specs.Checkpointed.{admitted_in}
 use Rattle.protocol_spec.specs.Member.Sequence.{Cut, Sequence, What, takes, commits, counts, ignores, nothing_seen, what_of, cut_of, last_cut, counted_as, ends_with_member, with_what, with_entry, saw, seen}
 
-pub flat-append : {A B : Type 0} (f : A → List B) (xs ys : List A) → flat_map f (xs ++ ys) ≡ flat_map f xs ++ flat_map f ys
-flat-append f [] ys = refl
-flat-append f (x ∷ xs) ys = ap (λ zs. f x ++ zs) (flat-append f xs ys) ∙ sym (append_assoc (f x) (flat_map f xs) (flat_map f ys))
-
-cut-txs : (all : List Admitted) → flat_map admitted_in (cut_of all) ≡ all
+pub cut-txs : (all : List Admitted) → flat_map admitted_in (cut_of all) ≡ all
 cut-txs [] = refl
 cut-txs (a ∷ more) = append-nil (a ∷ more)
 
 -- ---- admission only appends, and keeps the mark
 
-abbrev Goes : Admission → Admission → Type 0
-Goes a b = IsFront a.admitted b.admitted × (b.marked ≡ a.marked)
+abbrev GoesOn : Admission → Admission → Type 0
+GoesOn a b = IsFront a.admitted b.admitted × (b.marked ≡ a.marked)
 
-goes-same : (a : Admission) → Goes a a
+goes-same : (a : Admission) → GoesOn a a
 goes-same a = (([], sym (append-nil a.admitted)), refl)
 
-goes-then : (a b c : Admission) → Goes a b → Goes b c → Goes a c
+goes-then : (a b c : Admission) → GoesOn a b → GoesOn b c → GoesOn a c
 goes-then a b c ((more, e), m) ((rest, h), k) = ((more ++ rest, h ∙ ap (λ zs. zs ++ rest) e ∙ append_assoc a.admitted more rest), k ∙ m)
 
-goes-taken_as : (opening : List Object) (b : Bool) (a : Admission) (h : Held) → Goes a (taken_as b opening a h)
+goes-taken_as : (opening : List Object) (b : Bool) (a : Admission) (h : Held) → GoesOn a (taken_as b opening a h)
 goes-taken_as opening true a h = (([], sym (append-nil a.admitted)), refl)
 goes-taken_as opening false a h = ((admit opening a.admitted h ∷ [], refl), refl)
 
-goes-next : (opening : List Object) (next : Admission → Admission) → ((a : Admission) → Goes a (next a)) → (a : Admission) (h : Option Held) → Goes a (taken_next next opening a h)
+goes-next : (opening : List Object) (next : Admission → Admission) → ((a : Admission) → GoesOn a (next a)) → (a : Admission) (h : Option Held) → GoesOn a (taken_next next opening a h)
 goes-next opening next goes a None = goes-same a
 goes-next opening next goes a (Some h) = goes-then a (taken opening a h) (next (taken opening a h)) (goes-taken_as opening (is_dropped opening a.admitted h.cert) a h) (goes (taken opening a h))
 
-goes-free : (writers : Option ℕ) (opening : List Object) (n : ℕ) (a : Admission) → Goes a (take_free writers opening n a)
+goes-free : (writers : Option ℕ) (opening : List Object) (n : ℕ) (a : Admission) → GoesOn a (take_free writers opening n a)
 goes-free writers opening zero a = goes-same a
 goes-free writers opening (suc n) a = goes-next opening (take_free writers opening n) (goes-free writers opening n) a (find (is_free writers a) a.pending)
 
 -- ---- the cuts, and what was admitted since the last mark, are what was admitted
-
-drop-all : {A : Type 0} (xs ys : List A) → drop (length xs) (xs ++ ys) ≡ ys
-drop-all [] ys = refl
-drop-all (x ∷ xs) ys = drop-all xs ys
 
 -- what a mark leaves behind it stays behind it
 drop-more : {A : Type 0} (n : ℕ) (xs front ys : List A) → front ++ drop n xs ≡ xs → length front ≡ n → front ++ drop n (xs ++ ys) ≡ xs ++ ys
@@ -52,7 +45,7 @@ drop-more {A = A} n xs front ys e k =
     subst (λ (m : ℕ). front ++ drop m (xs ++ ys) ≡ xs ++ ys) k
     (subst (λ (zs : List A). front ++ drop (length front) (zs ++ ys) ≡ zs ++ ys) e
     (ap (λ (zs : List A). front ++ drop (length front) zs) (append_assoc front (drop n xs) ys)
-    ∙ ap (λ (zs : List A). front ++ zs) (drop-all front (drop n xs ++ ys)) ∙ sym (append_assoc front (drop n xs) ys)))
+    ∙ ap (λ (zs : List A). front ++ zs) (drop_all front (drop n xs ++ ys)) ∙ sym (append_assoc front (drop n xs) ys)))
 
 -- the cut transactions are those admitted before the mark; where the epoch has ended, all of them
 record IsCutUp (q : Sequence) : Type 0 where
@@ -63,7 +56,7 @@ record IsCut (q : Sequence) : Type 0 where
   front : IsFront (flat_map admitted_in q.cuts) q.admission.admitted
   upto : q.ended ≡ false → IsCutUp q
 
-grown-cut : (q : Sequence) (b : Admission) → Goes q.admission b → IsCut q → IsCut (record q { admission = b })
+grown-cut : (q : Sequence) (b : Admission) → GoesOn q.admission b → IsCut q → IsCut (record q { admission = b })
 grown-cut q b ((more, e), m) cut = record {
   front = (cut.front.0 ++ more, e ∙ ap (λ (zs : List Admitted). zs ++ more) cut.front.1 ∙ append_assoc (flat_map admitted_in q.cuts) cut.front.0 more);
   upto = λ open_yet.
@@ -78,9 +71,9 @@ grown-cut q b ((more, e), m) cut = record {
 
 -- the cuts with those since the last mark
 cuts-with : (q : Sequence) → IsCutUp q → (c : List Cut) → flat_map admitted_in c ≡ since_mark q.admission → flat_map admitted_in (q.cuts ++ c) ≡ q.admission.admitted
-cuts-with q up c e = flat-append admitted_in q.cuts c ∙ ap (λ (zs : List Admitted). flat_map admitted_in q.cuts ++ zs) e ∙ up.joined
+cuts-with q up c e = flat_append admitted_in q.cuts c ∙ ap (λ (zs : List Admitted). flat_map admitted_in q.cuts ++ zs) e ∙ up.joined
 
-marked-cut : (q : Sequence) (b : Admission) → Goes (record q.admission { marked = length q.admission.admitted }) b → IsCutUp q → IsCut (record q { admission = b; cuts = q.cuts ++ cut_of (since_mark q.admission) })
+marked-cut : (q : Sequence) (b : Admission) → GoesOn (record q.admission { marked = length q.admission.admitted }) b → IsCutUp q → IsCut (record q { admission = b; cuts = q.cuts ++ cut_of (since_mark q.admission) })
 marked-cut q b ((more, e), m) up =
     let all = cuts-with q up (cut_of (since_mark q.admission)) (cut-txs (since_mark q.admission)) in
     record {
@@ -90,7 +83,7 @@ marked-cut q b ((more, e), m) up =
         joined = ap (λ (zs : List Admitted). zs ++ drop b.marked b.admitted) all
             ∙ ap (λ (n : ℕ). q.admission.admitted ++ drop n b.admitted) m
             ∙ ap (λ (zs : List Admitted). q.admission.admitted ++ drop (length q.admission.admitted) zs) e
-            ∙ ap (λ (zs : List Admitted). q.admission.admitted ++ zs) (drop-all q.admission.admitted more) ∙ sym e;
+            ∙ ap (λ (zs : List Admitted). q.admission.admitted ++ zs) (drop_all q.admission.admitted more) ∙ sym e;
       };
     }
 

@@ -1,5 +1,5 @@
 -- An execution creates no more than its commands can draw.
-use Rattle.std.proofs.Common.{refl, subst, ap, arith}
+use Rattle.std.proofs.Common.{refl, subst, arith}
 use Rattle.std.specs.Prelude.{◌≡◌, ◌≤◌, ◌+◌, ◌-◌, ℕ, suc, sum, sum_by, Bool, true, false, cond, not, nat_lt, nat_le, List, [], ◌∷◌, map, length, slice_get, Option, Some, None, option_map, Result, Ok, Err}
 use Rattle.std.specs.List.{list_any}
 use Rattle.digest_core.specs.declared.Digest.{Digest}
@@ -16,6 +16,7 @@ use Rattle.answer_types.specs.declared.pieces.Given.{Given}
 use Rattle.answer_types.specs.declared.pieces.Gave.{Gave}
 use Rattle.answer_types.specs.declared.pieces.Gave.TheVariants as gave
 use Rattle.chain_types.specs.Digests.{transaction_digest}
+use Rattle.protocol_spec.proofs.ListLemmas.{map_length, each_at}
 use Rattle.protocol_spec.specs.Chain.Words.{Each, first_some, refused_or}
 use Rattle.protocol_spec.specs.Chain.Keys.{version_of}
 use Rattle.protocol_spec.specs.Block.Natives.{currency_of, amount_of, holding, parameters_of, amount_limit, number_at, item_at, items_at, names_vault, may_be_shared, Site, gives, owned_by_all, abort_if, other_currency, joined, coin_mint, coin_burn, counter_add, counter_require, vault_deposit, vault_withdraw, share, counter_add_limited, natives, gave_at, native_gives}
@@ -23,7 +24,6 @@ use Rattle.protocol_spec.specs.Block.Block.{Block}
 use Rattle.protocol_spec.specs.Block.Commands.{Fault, cause, Need, paired, number_in, item_in, items_in, split_block, split, merge_cases, merge_block, merge, address_in, transfer_block, vector_block, given_all, called_block, called, site, performed, taken_cause, command_step}
 use Rattle.protocol_spec.specs.Block.Execution.{Failure, commands_next, commands_from, is_unused, checked_end, first_block, outcome, execution, executed_by}
 use Rattle.world_spec.specs.Names.{draws_of, draws}
-use Rattle.safety_law.proofs.InWorld.{each-get}
 use Rattle.block_law.proofs.Slots.{spend-made}
 use Rattle.block_law.proofs.Steps.{done, ok-same, unless-ok}
 
@@ -131,13 +131,9 @@ native-most native s args = go (slice_get (natives s args) native) refl
   where
     go : (g : Option Gave) → slice_get (natives s args) native ≡ g → MakesMost (most s) (gave_at g)
     go None e = tt
-    go (Some g) e = each-get (MakesMost (most s)) (natives s args) native g (all-most s args) e
+    go (Some g) e = each_at (MakesMost (most s)) (natives s args) native g (all-most s args) e
 
 -- ---- a command
-
-length-map : {A B : Type 0} (f : A → B) (xs : List A) → length (map f xs) ≡ length xs
-length-map f [] = refl
-length-map f (x ∷ xs) = ap suc (length-map f xs)
 
 module _ (t : Transaction) (tx : Digest) (version c : ℕ) (b after : Block) where
   abbrev Most : ℕ → Type 0
@@ -166,7 +162,7 @@ module _ (t : Transaction) (tx : Digest) (version c : ℕ) (b after : Block) whe
   called-most needs (gave.Done results changed left made) low e = same-made (called_block c b needs results changed left made) 2 e low
 
   performed-most : (x : Command) → performed t tx version c b x ≡ Ok after → Most (draws_of x)
-  performed-most (command.Split coin amounts) e = subst Most (length-map (number_in b) amounts) (split-most coin (item_in b coin) (map (number_in b) amounts) e)
+  performed-most (command.Split coin amounts) e = subst Most (map_length (number_in b) amounts) (split-most coin (item_in b coin) (map (number_in b) amounts) e)
   performed-most (command.Merge target sources) e = merge-most target (item_in b target) sources e
   performed-most (command.Transfer values to) e = let made = spend-made values b in same-made (transfer_block b values (address_in b to)) 0 e (omega (arith, made))
   performed-most (command.MakeVec k values) e = let made = spend-made values b in same-made (vector_block c b k values) 0 e (omega (arith, made))

@@ -9,9 +9,10 @@ use Rattle.chain_types.specs.Digests.{consumed_keys}
 use Rattle.answer_types.specs.declared.pieces.Executed.{Executed}
 use Rattle.answer_types.specs.declared.answers.Held.{Held}
 use Rattle.schedule_text.specs.declared.words.Event.{Event}
+use Rattle.protocol_spec.proofs.Equality.{digest_same}
 use Rattle.protocol_spec.specs.Chain.Words.{Has, all_some}
 use Rattle.protocol_spec.specs.Chain.Keys.{objects_of, fits}
-use Rattle.protocol_spec.proofs.ListLemmas.{find-test}
+use Rattle.protocol_spec.proofs.ListLemmas.{find-test, each_has, find_has}
 use Rattle.protocol_spec.specs.Block.Execution.{execution}
 use Rattle.protocol_spec.specs.Member.Versions.{Execution, execution_of, is_executed, versions}
 use Rattle.protocol_spec.specs.Member.Admission.{Admitted, Admission, assigned_of}
@@ -21,8 +22,6 @@ use Rattle.world_spec.specs.Setting.{Setting}
 use Rattle.world_spec.specs.World.{Seat, list_or_none, member_in}
 use Rattle.world_spec.specs.Run.{world_after}
 use Rattle.world_spec.specs.Assumptions.{IsHonestRun, all_delivered}
-use Rattle.safety_law.proofs.Once.{each-has, equal}
-use Rattle.safety_law.proofs.Kept.{find-has}
 use Rattle.sequence_law.specs.Admitted.{held_again}
 use Rattle.agreement_law.specs.Agreed.{IsGiven, IsHeldAsGiven, IsAdmittedAsGiven}
 use Rattle.agreement_law.specs.Explained.{IsExplained}
@@ -32,7 +31,7 @@ use Rattle.agreement_law.specs.Steps.{step_of, IsStepOf}
 use Rattle.agreement_law.proofs.Lists.{along-split}
 use Rattle.agreement_law.proofs.SameSteps.{given-alike, executions-same}
 
-same-wants : (a : Admission) (h k : Held) → h.digest ≡ k.digest → h.cert.tx ≡ k.cert.tx → h.cert.origins ≡ k.cert.origins → wants_of a h ≡ wants_of a k
+pub same-wants : (a : Admission) (h k : Held) → h.digest ≡ k.digest → h.cert.tx ≡ k.cert.tx → h.cert.origins ≡ k.cert.origins → wants_of a h ≡ wants_of a k
 unfolding wants_of
 same-wants a h k d t o =
     ap (λ (tx : Digest). map (wanted_by (assigned_of a tx)) (zip (objects_of h.cert.tx) h.cert.origins)) d
@@ -49,19 +48,19 @@ same-execution h k g d t =
     ∙ ap (λ (x : Transaction). let y : Execution = record { digest = k.digest; consumed = consumed_keys x; gave = g } in y) t
 
 -- the execution of a transaction, where it was executed
-execution-there : (executed : List Execution) (tx : Digest) → is_executed executed tx ≡ true → (x : Execution) × Has executed x × (x.digest ≡ tx)
+pub execution-there : (executed : List Execution) (tx : Digest) → is_executed executed tx ≡ true → (x : Execution) × Has executed x × (x.digest ≡ tx)
 execution-there executed tx e = go (execution_of executed tx) refl e
   where
     go : (f : Option Execution) → execution_of executed tx ≡ f → is_some f ≡ true → (x : Execution) × Has executed x × (x.digest ≡ tx)
     go None h e = absurd (cc)
-    go (Some x) h e = (x, find-has (λ (y : Execution). digest_eq y.digest tx) executed x h, equal x.digest tx (find-test (λ (y : Execution). digest_eq y.digest tx) executed x h))
+    go (Some x) h e = (x, find_has (λ (y : Execution). digest_eq y.digest tx) executed x h, digest_same x.digest tx (find-test (λ (y : Execution). digest_eq y.digest tx) executed x h))
 
 module _ (s : Setting) (events : List Event) (honest : IsHonestRun s events) (n : ℕ) (seat : Seat) (at : slice_get (world_after s events).seats n ≡ Some seat) where
   abbrev pub here : Member
   here = member_in s seat
 
   pub admitted-given : (a : Admitted) → Has here.sequence.admission.admitted a → IsGiven s.rules (all_delivered s events) here.epoch a.digest a.cert
-  admitted-given a h = each-has (IsAdmittedAsGiven s.rules (all_delivered s events) here.epoch) here.sequence.admission.admitted a (every-admission s events n seat at).given h
+  admitted-given a h = each_has (IsAdmittedAsGiven s.rules (all_delivered s events) here.epoch) here.sequence.admission.admitted a (every-admission s events n seat at).given h
 
   -- executions of one transaction give the same
   pub one-gave : (x y : Execution) → Has here.executed x → Has here.executed y → x.digest ≡ y.digest → x.gave ≡ y.gave
@@ -71,7 +70,7 @@ module _ (s : Setting) (events : List Event) (honest : IsHonestRun s events) (n 
   from-explained a h x there same it =
       let digest : it.of.digest ≡ a.digest = sym (ap (λ (z : Execution). z.digest) it.is) ∙ same in
       let alike = given-alike s events honest here.epoch here.epoch it.of.digest a.digest it.of.cert a.cert
-      (each-has (IsHeldAsGiven s.rules (all_delivered s events) here.epoch) here.held it.of (every-held s events n seat at) it.is_held) (admitted-given a h) digest in
+      (each_has (IsHeldAsGiven s.rules (all_delivered s events) here.epoch) here.held it.of (every-held s events n seat at) it.is_held) (admitted-given a h) digest in
       let objects = same-present (books here) here.executed it.of (held_again a) it.inputs digest alike.0 alike.1 it.were_there in
       let inputs : (step_of here a).inputs ≡ it.inputs = ap list_or_none objects in
       record {

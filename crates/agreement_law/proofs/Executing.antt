@@ -1,10 +1,9 @@
 -- Each execution of a member is explained by what it held and executed before.
-use Rattle.std.proofs.Common.{inl, inr, refl, sym, subst, ap, ◌∙◌, append_assoc, append-nil}
-use Rattle.std.specs.Prelude.{◌≡◌, ℕ, zero, suc, Bool, true, false, cond, not, ◌&&◌, ◌||◌, List, [], ◌∷◌, ◌++◌, map, filter, find, flat_map, zip, length, slice_get, Option, Some, None, option_map, is_some}
+use Rattle.std.proofs.Common.{inl, inr, refl, sym, subst, ap, ◌∙◌}
+use Rattle.std.specs.Prelude.{◌≡◌, ℕ, zero, suc, Bool, true, false, cond, not, ◌&&◌, ◌||◌, List, [], ◌∷◌, ◌++◌, map, find, flat_map, zip, length, slice_get, Option, Some, None, option_map, is_some}
 use Rattle.std.specs.List.{list_any}
 use Rattle.digest_core.specs.declared.Digest.{Digest}
 use Rattle.chain_types.specs.declared.objects.Object.{Object}
-use Rattle.chain_types.specs.declared.transactions.Input.{Input}
 use Rattle.chain_types.specs.declared.transactions.Input.TheVariants as inputs
 use Rattle.chain_types.specs.declared.transactions.Transaction.{Transaction}
 use Rattle.journal_core.specs.declared.records.Record.{Record}
@@ -13,13 +12,13 @@ use Rattle.answer_types.specs.declared.answers.Assigned.{Assigned}
 use Rattle.answer_types.specs.declared.answers.Held.{Held}
 use Rattle.schedule_text.specs.declared.words.Event.{Event}
 use Rattle.chain_types.specs.Equal.{digest_eq, key_eq}
-use Rattle.chain_types.specs.Digests.{is_object}
+use Rattle.protocol_spec.proofs.Executions.{versions_more, same_wants}
 use Rattle.protocol_spec.specs.Chain.Words.{Has, Along, IsFront, all_some, onto_some, where_true, repeats}
-use Rattle.protocol_spec.specs.Chain.Keys.{objects_of, is_shared_input, has_shared_input, fits}
+use Rattle.protocol_spec.specs.Chain.Keys.{objects_of, has_shared_input, fits}
 use Rattle.protocol_spec.specs.Chain.Certificates.{Rules}
-use Rattle.protocol_spec.proofs.ListLemmas.{along-push, and-second, not-true}
+use Rattle.protocol_spec.proofs.ListLemmas.{along-push, and-second, not-true, find_front, any_front, along_join, has_left, front_whole}
 use Rattle.protocol_spec.specs.Block.Execution.{execution, written_keys}
-use Rattle.protocol_spec.specs.Member.Versions.{Execution, Version, opened, written_by, versions, object_in, is_executed}
+use Rattle.protocol_spec.specs.Member.Versions.{Execution, Version, written_by, versions, object_in, is_executed}
 use Rattle.protocol_spec.specs.Member.Admission.{Admitted, Admission, is_admitted, joined_inputs, assigned_in, assigned_of}
 use Rattle.protocol_spec.specs.Member.Sequence.{What, takes, commits, counts, ignores, what_of}
 use Rattle.protocol_spec.specs.Member.Rounds.{Books, Wanted, wanted_by, wants_of, is_wanted, found, present, may_run, holds_key, writes_new, executes_as, ready_as, ready_on, ready, clashes, round_add, round_among, round_of, rounds_within, rounds}
@@ -29,38 +28,15 @@ use Rattle.world_spec.specs.Setting.{Setting}
 use Rattle.world_spec.specs.World.{Seat, member_in}
 use Rattle.world_spec.specs.Run.{world_after}
 use Rattle.safety_law.proofs.InWorld.{in_world}
-use Rattle.safety_law.proofs.Once.{has-left}
 use Rattle.safety_law.proofs.Apart.{state-push}
 use Rattle.agreement_law.specs.Explained.{IsExplained}
-use Rattle.agreement_law.proofs.Growth.{front-all}
 use Rattle.agreement_law.proofs.Prefixes.{earlier-saw}
 
 -- ---- lists
 
-along-append : {A : Type 0} (P : List A → A → Type 0) (before xs ys : List A) → Along P before xs → Along P (before ++ xs) ys → Along P before (xs ++ ys)
-along-append P before [] ys one two = subst (λ zs. Along P zs ys) (append-nil before) two
-along-append P before (x ∷ xs) ys one two = (one.0, along-append P (before ++ x ∷ []) xs ys one.1 (subst (λ zs. Along P zs ys) (sym (append_assoc before (x ∷ []) xs)) two))
-
 along-map : {A : Type 0} (P Q : List A → A → Type 0) → ((before : List A) (x : A) → P before x → Q before x) → (before xs : List A) → Along P before xs → Along Q before xs
 along-map P Q h before [] along = tt
 along-map P Q h before (x ∷ xs) along = (h before x along.0, along-map P Q h (before ++ x ∷ []) xs along.1)
-
--- what is found in a front is found in the whole
-pub find-more : {A : Type 0} (test : A → Bool) (xs ys : List A) (x : A) → find test xs ≡ Some x → find test (xs ++ ys) ≡ Some x
-find-more test [] ys x e = absurd (cc)
-find-more test (z ∷ xs) ys x e = go (test z) e (find-more test xs ys x)
-  where
-    go : (b : Bool) → cond b (Some z) (find test xs) ≡ Some x → (find test xs ≡ Some x → find test (xs ++ ys) ≡ Some x) → cond b (Some z) (find test (xs ++ ys)) ≡ Some x
-    go true e rest = e
-    go false e rest = rest e
-
-any-more : {A : Type 0} (test : A → Bool) (xs ys : List A) → list_any test xs ≡ true → list_any test (xs ++ ys) ≡ true
-any-more test [] ys e = absurd (cc)
-any-more test (z ∷ xs) ys e = go (test z) e (any-more test xs ys)
-  where
-    go : (b : Bool) → (b || list_any test xs) ≡ true → (list_any test xs ≡ true → list_any test (xs ++ ys) ≡ true) → (b || list_any test (xs ++ ys)) ≡ true
-    go true e rest = refl
-    go false e rest = rest e
 
 any-found : {A : Type 0} (test : A → Bool) (xs : List A) → list_any test xs ≡ true → (x : A) × (find test xs ≡ Some x)
 any-found test [] e = absurd (cc)
@@ -70,22 +46,14 @@ any-found {A = A} test (z ∷ xs) e = go (test z) e (any-found test xs)
     go true e rest = (z, refl)
     go false e rest = rest e
 
-flat-append : {A B : Type 0} (f : A → List B) (xs ys : List A) → flat_map f (xs ++ ys) ≡ flat_map f xs ++ flat_map f ys
-flat-append f [] ys = refl
-flat-append f (x ∷ xs) ys = ap (λ zs. f x ++ zs) (flat-append f xs ys) ∙ sym (append_assoc (f x) (flat_map f xs) (flat_map f ys))
-
 -- ---- more executions
 
-versions-more : (opening : List Object) (before more : List Execution) → versions opening (before ++ more) ≡ versions opening before ++ flat_map written_by more
-unfolding versions
-versions-more opening before more = ap (λ vs. map opened opening ++ vs) (flat-append written_by before more) ∙ sym (append_assoc (map opened opening) (flat_map written_by before) (flat_map written_by more))
-
-found-more : (held more : List Version) (w : Wanted) (o : Object) → found held w ≡ Some o → found (held ++ more) w ≡ Some o
+pub found-more : (held more : List Version) (w : Wanted) (o : Object) → found held w ≡ Some o → found (held ++ more) w ≡ Some o
 found-more held more w o e = go (find (is_wanted w.key w.producer) held) refl e
   where
     go : (f : Option Version) → find (is_wanted w.key w.producer) held ≡ f → option_map object_in f ≡ Some o → found (held ++ more) w ≡ Some o
     go None h e = absurd (cc)
-    go (Some v) h e = ap (option_map object_in) (find-more (is_wanted w.key w.producer) held more v h) ∙ e
+    go (Some v) h e = ap (option_map object_in) (find_front (is_wanted w.key w.producer) held more v h) ∙ e
 
 -- the parts of a list of values that are all there
 pub some-parts : {A : Type 0} (f : Option A) (fs : List (Option A)) (os : List A) → all_some (f ∷ fs) ≡ Some os → (o : A) × (rest : List A) × (f ≡ Some o) × (all_some fs ≡ Some rest) × (Some (o ∷ rest) ≡ Some os)
@@ -103,7 +71,7 @@ some-join {A = A} (Some p) fs o rest e k = ap (onto_some p) k ∙ same e
     same : Some p ≡ Some o → Some (p ∷ rest) ≡ Some (o ∷ rest)
     same e = cc
 
-all-found : (held more : List Version) (ws : List Wanted) (os : List Object) → all_some (map (found held) ws) ≡ Some os → all_some (map (found (held ++ more)) ws) ≡ Some os
+pub all-found : (held more : List Version) (ws : List Wanted) (os : List Object) → all_some (map (found held) ws) ≡ Some os → all_some (map (found (held ++ more)) ws) ≡ Some os
 all-found held more [] os e = e
 all-found held more (w ∷ ws) os e =
     let parts = some-parts (found held w) (map (found held) ws) os e in
@@ -111,18 +79,9 @@ all-found held more (w ∷ ws) os e =
 
 -- ---- more admitted
 
-same-wants : (is : List Input) (os : List (Option Digest)) (a b : Option (List Assigned)) → list_any is_shared_input is ≡ false → map (wanted_by a) (zip (filter is_object is) os) ≡ map (wanted_by b) (zip (filter is_object is) os)
-same-wants [] os a b none = refl
-same-wants (inputs.Pure bytes ∷ is) os a b none = same-wants is os a b none
-same-wants (inputs.Owned r ∷ is) [] a b none = refl
-same-wants (inputs.Owned r ∷ is) (o ∷ os) a b none = ap (λ ws. wanted_by a (inputs.Owned r, o) ∷ ws) (same-wants is os a b none)
-same-wants (inputs.Immutable r ∷ is) [] a b none = refl
-same-wants (inputs.Immutable r ∷ is) (o ∷ os) a b none = ap (λ ws. wanted_by a (inputs.Immutable r, o) ∷ ws) (same-wants is os a b none)
-same-wants (inputs.Shared id initial mutable ∷ is) os a b none = absurd (cc)
-
 same-owned : (t : Transaction) (os : List (Option Digest)) (a b : Option (List Assigned)) → has_shared_input t ≡ false → map (wanted_by a) (zip (objects_of t) os) ≡ map (wanted_by b) (zip (objects_of t) os)
 same-owned t [] a b none = refl
-same-owned t (o ∷ os) a b none = ap (λ ws. wanted_by a (inputs.Owned t.gas, o) ∷ ws) (same-wants t.inputs os a b none)
+same-owned t (o ∷ os) a b none = ap (λ ws. wanted_by a (inputs.Owned t.gas, o) ∷ ws) (same_wants t.inputs os a b none)
 
 -- what is assigned to an admitted transaction stays
 same-assigned : (a b : Admission) (tx : Digest) → IsFront a.admitted b.admitted → is_admitted a.admitted tx ≡ true → assigned_of b tx ≡ assigned_of a tx
@@ -130,7 +89,7 @@ unfolding assigned_of
 same-assigned a b tx (rest, e) there =
     let x = any-found (λ (y : Admitted). digest_eq y.digest tx) a.admitted there in
     ap (λ (admitted : List Admitted). option_map assigned_in (find (λ (y : Admitted). digest_eq y.digest tx) admitted)) e
-    ∙ ap (option_map assigned_in) (find-more (λ (y : Admitted). digest_eq y.digest tx) a.admitted rest x.0 x.1 ∙ sym x.1)
+    ∙ ap (option_map assigned_in) (find_front (λ (y : Admitted). digest_eq y.digest tx) a.admitted rest x.0 x.1 ∙ sym x.1)
 
 abbrev pub May : Admission → Held → Type 0
 May a h = (not (has_shared_input h.cert.tx) || is_admitted a.admitted h.digest) ≡ true
@@ -149,7 +108,7 @@ may-more a b h (rest, q) may = go (not (has_shared_input h.cert.tx)) (is_admitte
   where
     go : (s d : Bool) → is_admitted a.admitted h.digest ≡ d → (s || d) ≡ true → (s || is_admitted b.admitted h.digest) ≡ true
     go true d there e = refl
-    go false true there e = subst (λ (admitted : List Admitted). is_admitted admitted h.digest ≡ true) (sym q) (any-more (λ (y : Admitted). digest_eq y.digest h.digest) a.admitted rest there)
+    go false true there e = subst (λ (admitted : List Admitted). is_admitted admitted h.digest ≡ true) (sym q) (any_front (λ (y : Admitted). digest_eq y.digest h.digest) a.admitted rest there)
     go false false there e = absurd (cc)
 
 -- ---- an explanation stays
@@ -164,7 +123,7 @@ explained-more b before more x it = record {
   fit = it.fit;
   is = it.is;
   once = it.once;
-  were_there = subst (λ (held : List Version). all_some (map (found held) (wants_of b.admission it.of)) ≡ Some it.inputs) (sym (versions-more b.opening before more)) (all-found (versions b.opening before) (flat_map written_by more) (wants_of b.admission it.of) it.inputs it.were_there);
+  were_there = subst (λ (held : List Version). all_some (map (found held) (wants_of b.admission it.of)) ≡ Some it.inputs) (sym (versions_more b.opening before more)) (all-found (versions b.opening before) (flat_map written_by more) (wants_of b.admission it.of) it.inputs it.were_there);
 }
 
 explained-books : (opening : List Object) (held longer : List Held) (a b : Admission) → ((h : Held) → Has held h → Has longer h) → IsFront a.admitted b.admitted → (before : List Execution) (x : Execution)
@@ -236,11 +195,11 @@ module _ (b : Books) where
 
   within-explained : (n : ℕ) (executed : List Execution) → Along Explained executed (rounds_within n b executed)
   within-explained zero executed = tt
-  within-explained (suc n) executed = along-append Explained executed (round_of b executed) (rounds_within n b (executed ++ round_of b executed)) (round-explained executed) (within-explained n (executed ++ round_of b executed))
+  within-explained (suc n) executed = along_join Explained executed (round_of b executed) (rounds_within n b (executed ++ round_of b executed)) (round-explained executed) (within-explained n (executed ++ round_of b executed))
 
   run-explained : (executed : List Execution) → Along Explained [] executed → Along Explained [] (executed ++ rounds b executed)
   unfolding rounds
-  run-explained executed along = along-append Explained [] executed (rounds_within (length b.held) b executed) along (within-explained (length b.held) executed)
+  run-explained executed along = along_join Explained [] executed (rounds_within (length b.held) b executed) along (within-explained (length b.held) executed)
 
 -- ---- every record keeps it
 
@@ -252,7 +211,7 @@ still-held held (takes k) h there = go (is_some (held_of held k.digest))
   where
     go : (b : Bool) → Has (cond b held (held ++ k ∷ [])) h
     go true = there
-    go false = has-left held (k ∷ []) h there
+    go false = has_left held (k ∷ []) h there
 still-held held commits h there = there
 still-held held (counts m) h there = there
 still-held held (ignores cause) h there = there
@@ -261,7 +220,7 @@ pub explained-after : (r : Rules) (m : Member) (x : Record) → AllExplained m �
 unfolding after
 explained-after r m (record_as.Vote tx origins) all = all
 explained-after r m (record_as.Hold c) all = along-map (IsExplained (books m)) (IsExplained (books (after r m (record_as.Hold c))))
-    (λ before y it. explained-books m.opening m.held (after r m (record_as.Hold c)).held m.sequence.admission m.sequence.admission (λ h there. has-left m.held _ h there) (front-all m.sequence.admission.admitted) before y it) [] m.executed all
+    (λ before y it. explained-books m.opening m.held (after r m (record_as.Hold c)).held m.sequence.admission m.sequence.admission (λ h there. has_left m.held _ h there) (front_whole m.sequence.admission.admitted) before y it) [] m.executed all
 explained-after r m (record_as.See bytes) all = along-map (IsExplained (books m)) (IsExplained (books (after r m (record_as.See bytes))))
     (λ before y it. explained-books m.opening m.held (after r m (record_as.See bytes)).held m.sequence.admission (after r m (record_as.See bytes)).sequence.admission (λ h there. still-held m.held (what_of r m.epoch m.sequence bytes) h there) (earlier-saw r m.opening m.epoch m.sequence bytes).admitted before y it) [] m.executed all
 explained-after r m record_as.Close all = all

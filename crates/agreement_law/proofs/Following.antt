@@ -1,35 +1,26 @@
 -- Orderly steps are transactions that may run one after the other on one thread's map.
 use Rattle.std.proofs.Common.{inl, inr, refl, sym, subst, ap, ◌∙◌, append_assoc, append-nil}
-use Rattle.std.specs.Prelude.{◌≡◌, true, List, [], ◌∷◌, ◌++◌, map, fold, Some, None, Result, Ok, Err}
+use Rattle.std.specs.Prelude.{◌≡◌, true, List, [], ◌∷◌, ◌++◌, map, fold, Some, None}
 use Rattle.std.specs.FinMap.{get}
 use Rattle.chain_types.specs.declared.objects.ObjectId.{ObjectId}
 use Rattle.digest_core.specs.declared.Digest.{Digest}
 use Rattle.chain_types.specs.declared.objects.Object.{Object}
 use Rattle.chain_types.specs.declared.transactions.Transaction.{Transaction}
-use Rattle.chain_types.specs.Digests.{transaction_digest}
+use Rattle.protocol_spec.proofs.Executions.{effects_tx}
+use Rattle.protocol_spec.proofs.ListLemmas.{has_mapped}
 use Rattle.protocol_spec.specs.Chain.Words.{Has, Each, Along, numbers_below}
 use Rattle.protocol_spec.specs.Chain.Keys.{fits}
 use Rattle.protocol_spec.specs.Chain.Shape.{shape_fault}
-use Rattle.protocol_spec.specs.Block.Block.{Block}
-use Rattle.protocol_spec.specs.Block.Execution.{Failure, outcome, execution, executed_by}
 use Rattle.protocol_spec.specs.Member.Sequential.{Objects, map_of, read_by, Folded, fold_one, fold_all}
+use Rattle.block_law.proofs.Written.{below}
 use Rattle.block_law.specs.Names.{drawn_id, drawn_ids}
 use Rattle.block_law.specs.Keeping.{GasIsAmount}
 use Rattle.sequence_law.specs.Kept.{MayFollow, Follow, opened_with}
 use Rattle.agreement_law.specs.Opened.{GasHolds}
 use Rattle.sequence_law.specs.Orderly.{Step, gave, tx_of, id_of, IsKnown, IsOrderly, AreOrderly, AreApart, ReadsSame}
 use Rattle.sequence_law.proofs.Standing.{stays-after, none-opening}
-use Rattle.sequence_law.proofs.Touched.{has-mapped, below}
 use Rattle.sequence_law.proofs.Reading.{given_ids, no-id, after_steps, after-push, known-more, WroteKnown, IsGoneOver, over-next, thread-is, chain-reads}
-use Rattle.agreement_law.proofs.Lists.{each-all}
-
-effects-tx : (t : Transaction) (objects : List Object) → (execution t objects).effects.tx ≡ transaction_digest t
-unfolding execution
-effects-tx t objects = go (outcome t (transaction_digest t) objects)
-  where
-    go : (r : Result Block Failure) → (executed_by t (transaction_digest t) objects r).effects.tx ≡ transaction_digest t
-    go (Ok b) = refl
-    go (Err failure) = refl
+use Rattle.safety_law.proofs.Totals.{each-all}
 
 -- one more transaction
 fold-push : (f : Folded) (txs : List Transaction) (t : Transaction) → fold fold_one f (txs ++ t ∷ []) ≡ fold_one (fold fold_one f txs) t
@@ -66,7 +57,7 @@ module _ (opening : List Object) (distinct : AreApart opening) where
   none-known before over id unknown = not-there id before [] over.known unknown (none-opening opening id (no-id (map id_of opening) id opened))
     where
       opened : (i : ObjectId) → Has (map id_of opening) i → i ≡ id → ⊥
-      opened i h e = let o = has-mapped id_of opening i h in unknown (inl (o.0, o.1, o.2 ∙ e))
+      opened i h e = let o = has_mapped id_of opening i h in unknown (inl (o.0, o.1, o.2 ∙ e))
 
   module _ (before : List Step) (over : IsGoneOver opening before) (x : Step) (next : IsOrderly opening before x) (shape : shape_fault x.tx ≡ None) where
     map-is : (fold_all (map_of opening) (map tx_of before)).map ≡ after_steps opening before
@@ -74,9 +65,9 @@ module _ (opening : List Object) (distinct : AreApart opening) where
 
     new-ids : Each (λ (id : ObjectId). get (fold_all (map_of opening) (map tx_of before)).map id ≡ None) (drawn_ids (gave x).effects.tx (gave x).effects.created)
     new-ids = each-all (λ (id : ObjectId). get (fold_all (map_of opening) (map tx_of before)).map id ≡ None) (drawn_ids (gave x).effects.tx (gave x).effects.created) (λ id h.
-        let k = has-mapped (drawn_id (gave x).effects.tx) (numbers_below (gave x).effects.created) id h in
+        let k = has_mapped (drawn_id (gave x).effects.tx) (numbers_below (gave x).effects.created) id h in
         subst (λ (m : Objects). get m id ≡ None) (sym map-is)
-        (none-known before over id (next.fresh id (k.0, below (gave x).effects.created k.0 k.1, ap (λ (d : Digest). drawn_id d k.0) (sym (effects-tx x.tx x.inputs)) ∙ k.2))))
+        (none-known before over id (next.fresh id (k.0, below (gave x).effects.created k.0 k.1, ap (λ (d : Digest). drawn_id d k.0) (sym (effects_tx x.tx x.inputs)) ∙ k.2))))
 
     may-follow : GasIsAmount x.inputs → ReadsSame opening before x → (objects : List Object) → read_by (fold_all (map_of opening) (map tx_of before)).map x.tx ≡ Some objects → fits x.tx objects ≡ true → MayFollow (fold_all (map_of opening) (map tx_of before)).map x.tx objects
     may-follow held reads objects read fit = subst (MayFollow (fold_all (map_of opening) (map tx_of before)).map x.tx) (same (sym reads ∙ read)) (record { may = record { shape = shape; fit = next.fit; held = held; apart = next.once }; new = new-ids })

@@ -1,5 +1,5 @@
 -- The world's sequences only grow.
-use Rattle.std.proofs.Common.{refl, sym, subst, ◌∙◌, append-nil, append_assoc}
+use Rattle.std.proofs.Common.{refl, sym, subst, ◌∙◌}
 use Rattle.std.specs.Prelude.{◌≡◌, ℕ, zero, suc, min, Bool, true, false, cond, List, [], ◌∷◌, ◌++◌, slice_get, slice_set, Option, Some, None}
 use Rattle.chain_types.specs.Transactions as transactions
 use Rattle.chain_messages.specs.Messages as messages
@@ -9,6 +9,7 @@ use Rattle.chain_messages.specs.declared.messages.Entry.TheVariants as entry
 use Rattle.chain_messages.specs.declared.messages.Statement.TheVariants as statement
 use Rattle.schedule_text.specs.declared.words.Event.{Event}
 use Rattle.schedule_text.specs.declared.words.Event.TheVariants as event
+use Rattle.protocol_spec.proofs.ListLemmas.{front_then, front_whole}
 use Rattle.protocol_spec.specs.Chain.Words.{IsFront}
 use Rattle.protocol_spec.specs.Member.Calls.{Call, votes, holds, runs, closes, ends, turns, acks}
 use Rattle.world_spec.specs.Setting.{Name, Setting}
@@ -21,33 +22,27 @@ use Rattle.world_spec.specs.Step.{happens, says, voted_on, fvoted, formed, forme
 abbrev pub Grown : List (List Entry) → List (List Entry) → Type 0
 Grown old new = (epoch : ℕ) → IsFront (entries_at old epoch) (entries_at new epoch)
 
-pub front-all : {A : Type 0} (xs : List A) → IsFront xs xs
-front-all xs = ([], sym (append-nil xs))
-
 pub front-push : {A : Type 0} (xs : List A) (x : A) → IsFront xs (xs ++ x ∷ [])
 front-push xs x = (x ∷ [], refl)
 
 pub grown-same : (old : List (List Entry)) → Grown old old
-grown-same old epoch = front-all (entries_at old epoch)
+grown-same old epoch = front_whole (entries_at old epoch)
 
 grown-set : (old : List (List Entry)) (n : ℕ) (e : Entry) → Grown old (slice_set old n (entries_at old n ++ e ∷ []))
-grown-set [] n e epoch = front-all (entries_at [] epoch)
+grown-set [] n e epoch = front_whole (entries_at [] epoch)
 grown-set (q ∷ old) zero e zero = front-push q e
-grown-set (q ∷ old) zero e (suc epoch) = front-all (entries_at old epoch)
-grown-set (q ∷ old) (suc n) e zero = front-all q
+grown-set (q ∷ old) zero e (suc epoch) = front_whole (entries_at old epoch)
+grown-set (q ∷ old) (suc n) e zero = front_whole q
 grown-set (q ∷ old) (suc n) e (suc epoch) = grown-set old n e epoch
 
 grown-new : (old : List (List Entry)) → Grown old (old ++ [] ∷ [])
-grown-new [] zero = front-all []
-grown-new [] (suc epoch) = front-all []
-grown-new (q ∷ old) zero = front-all q
+grown-new [] zero = front_whole []
+grown-new [] (suc epoch) = front_whole []
+grown-new (q ∷ old) zero = front_whole q
 grown-new (q ∷ old) (suc epoch) = grown-new old epoch
 
-pub front-then : {A : Type 0} (xs ys zs : List A) → IsFront xs ys → IsFront ys zs → IsFront xs zs
-front-then xs ys zs (more, e) (rest, h) = (more ++ rest, rw (h, e) (append_assoc xs more rest))
-
 grown-then : (old mid new : List (List Entry)) → Grown old mid → Grown mid new → Grown old new
-grown-then old mid new one two epoch = front-then (entries_at old epoch) (entries_at mid epoch) (entries_at new epoch) (one epoch) (two epoch)
+grown-then old mid new one two epoch = front_then (entries_at old epoch) (entries_at mid epoch) (entries_at new epoch) (one epoch) (two epoch)
 
 -- ---- calls leave the sequences alone
 

@@ -9,6 +9,7 @@ use Rattle.chain_messages.specs.declared.messages.Entry.{Entry}
 use Rattle.journal_core.specs.declared.records.Record.{Record}
 use Rattle.schedule_text.specs.declared.words.Event.{Event}
 use Rattle.schedule_text.specs.declared.words.Event.TheVariants as event
+use Rattle.protocol_spec.proofs.ListLemmas.{each_as, each_at}
 use Rattle.protocol_spec.specs.Chain.Words.{Each}
 use Rattle.protocol_spec.specs.Member.Member.{Member, state}
 use Rattle.protocol_spec.specs.Member.Calls.{Call, votes, holds, sees, runs, closes, ends, turns, acks, due}
@@ -18,7 +19,7 @@ use Rattle.world_spec.specs.Names.{made_named, cert_named}
 use Rattle.world_spec.specs.Step.{happens, entries_left}
 use Rattle.world_spec.specs.Run.{run, world_after}
 use Rattle.world_spec.specs.Assumptions.{vote_call, send_call, ack_call, calls_of}
-use Rattle.safety_law.proofs.InWorld.{each-set, each-get, kept-line, new-seats, stopped-due, answered-due}
+use Rattle.safety_law.proofs.InWorld.{each-set, kept-line, new-seats, stopped-due, answered-due}
 use Rattle.agreement_law.proofs.Growth.{Grown, grows-line, called_if-same}
 
 -- a call with an entry has the bytes of the next one of the member's epoch
@@ -31,10 +32,6 @@ Comes sequences m closes = Unit {0}
 Comes sequences m ends = Unit {0}
 Comes sequences m turns = Unit {0}
 Comes sequences m (acks tx) = Unit {0}
-
-pub each-map : {A : Type 0} (P Q : A → Type 0) (xs : List A) → ((x : A) → P x → Q x) → Each P xs → Each Q xs
-each-map P Q [] h each = tt
-each-map P Q (x ∷ xs) h each = (h x each.0, each-map P Q xs h each.1)
 
 module _ (s : Setting) (P : List (List Entry) → List Record → Type 0)
     (more : (old new : List (List Entry)) (records : List Record) → Grown old new → P old records → P new records)
@@ -65,9 +62,9 @@ module _ (s : Setting) (P : List (List Entry) → List Record → Type 0)
     kept-behind : (r : Reached) → reached_seat s call seat ≡ r → With sequences w.seats → With sequences (behind s w m call seat r).seats
     kept-behind finds_down e all = all
     kept-behind (stops kept x) e all = each-set (λ (y : Seat). P sequences y.records) w.seats m (stopped_seat seat kept x) all
-        (kept-stop kept x (stopped-due s (Keeps sequences) (P sequences) (λ records call x g d p. g records x d p) seat call kept x e) (each-get (λ (y : Seat). P sequences y.records) w.seats m seat all at))
+        (kept-stop kept x (stopped-due s (Keeps sequences) (P sequences) (λ records call x g d p. g records x d p) seat call kept x e) (each_at (λ (y : Seat). P sequences y.records) w.seats m seat all at))
     kept-behind (answers before x) e all = each-set (λ (y : Seat). P sequences y.records) w.seats m (record seat { records = appended seat.records x }) all
-        (kept-answer x (answered-due s (Keeps sequences) (P sequences) (λ records call x g d p. g records x d p) seat call before x e) (each-get (λ (y : Seat). P sequences y.records) w.seats m seat all at))
+        (kept-answer x (answered-due s (Keeps sequences) (P sequences) (λ records call x g d p. g records x d p) seat call before x e) (each_at (λ (y : Seat). P sequences y.records) w.seats m seat all at))
 
     kept-called : With sequences w.seats → With sequences (called_in s w m call).seats
     unfolding called_in
@@ -92,7 +89,7 @@ module _ (s : Setting) (P : List (List Entry) → List Record → Type 0)
   -- ---- the other lines
 
   other : (w : World) (e : Event) → Each (Keeps w.sequences) (calls_of s w e) → AllSeats w → AllSeats (happens s w e)
-  other w e keeps all = each-map (λ (seat : Seat). P w.sequences seat.records) (λ (seat : Seat). P (happens s w e).sequences seat.records) (happens s w e).seats
+  other w e keeps all = each_as (λ (seat : Seat). P w.sequences seat.records) (λ (seat : Seat). P (happens s w e).sequences seat.records) (happens s w e).seats
       (λ seat p. more w.sequences (happens s w e).sequences seat.records (grows-line s w e) p)
       (kept-line s (Keeps w.sequences) (P w.sequences) (λ records call x g d p. g records x d p) w e keeps all)
 
@@ -140,5 +137,5 @@ module _ (s : Setting) (P : List (List Entry) → List Record → Type 0)
 
   pub in_sequences : P ([] ∷ []) [] → (events : List Event) (m : ℕ) (seat : Seat) → slice_get (world_after s events).seats m ≡ Some seat → P (world_after s events).sequences seat.records
   unfolding world_after new_world
-  in_sequences none events m seat e = each-get (λ (y : Seat). P (run s events (new_world s)).sequences y.records) (run s events (new_world s)).seats m seat
+  in_sequences none events m seat e = each_at (λ (y : Seat). P (run s events (new_world s)).sequences y.records) (run s events (new_world s)).seats m seat
       (kept-run events (new_world s) (new-seats s (Keeps ([] ∷ [])) (P ([] ∷ [])) (λ records call x g d p. g records x d p) s.honest none)) e

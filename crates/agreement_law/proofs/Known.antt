@@ -9,6 +9,8 @@ use Rattle.journal_core.specs.declared.records.Record.{Record}
 use Rattle.journal_core.specs.declared.records.Record.TheVariants as record_as
 use Rattle.answer_types.specs.declared.answers.Held.{Held}
 use Rattle.schedule_text.specs.declared.words.Event.{Event}
+use Rattle.protocol_spec.proofs.ListLemmas.{each_has, find_has, has_parts}
+use Rattle.protocol_spec.proofs.Truth.{some_same}
 use Rattle.protocol_spec.specs.Chain.Words.{Has, Along, all_some}
 use Rattle.protocol_spec.specs.Chain.Keys.{objects_of}
 use Rattle.protocol_spec.specs.Member.Versions.{Execution, Version, versions, live_list}
@@ -22,8 +24,6 @@ use Rattle.world_spec.specs.Names.{draws}
 use Rattle.world_spec.specs.Run.{world_after}
 use Rattle.world_spec.specs.Assumptions.{IsHonestRun, all_delivered, all_transactions, created}
 use Rattle.safety_law.proofs.InWorld.{in_world_given}
-use Rattle.safety_law.proofs.Once.{each-has}
-use Rattle.safety_law.proofs.Kept.{find-has}
 use Rattle.safety_law.proofs.Apart.{state-push}
 use Rattle.agreement_law.specs.Agreed.{IsHeldAsGiven}
 use Rattle.agreement_law.specs.Explained.{IsExplained}
@@ -31,24 +31,24 @@ use Rattle.agreement_law.proofs.Supply.{Delivers, delivers-run, Stocked, after-s
 use Rattle.agreement_law.proofs.Executing.{AllExplained, explained-after, none-explained, some-parts}
 use Rattle.agreement_law.proofs.Same.{of-run}
 use Rattle.sequence_law.specs.Orderly.{Step, IsOpening, AreApart}
-use Rattle.sequence_law.proofs.Touched.{has-parts, IsTouched}
+use Rattle.sequence_law.proofs.Touched.{IsTouched}
 use Rattle.sequence_law.proofs.Reading.{given-touched, object-given}
 use Rattle.agreement_law.specs.Orderly.{OpensApart}
-use Rattle.agreement_law.proofs.Lists.{some-same, has-second}
 use Rattle.agreement_law.proofs.Drawn.{created-most}
 use Rattle.agreement_law.proofs.Wants.{found-as}
 use Rattle.agreement_law.proofs.Lives.{IsThere, live-apart, live-there, version-there, kept-has}
+use Rattle.block_law.proofs.Written.{second}
 
 -- an object that all are wanted and there is one of the versions
-each-found : (vs : List Version) (ws : List Wanted) (os : List Object) → all_some (map (found vs) ws) ≡ Some os → (o : Object) → Has os o → (v : Version) × Has vs v × (v.object ≡ o)
-each-found vs [] os e o h = absurd (subst (λ (zs : List Object). Has zs o) (sym (some-same [] os e)) h)
+pub each-found : (vs : List Version) (ws : List Wanted) (os : List Object) → all_some (map (found vs) ws) ≡ Some os → (o : Object) → Has os o → (v : Version) × Has vs v × (v.object ≡ o)
+each-found vs [] os e o h = absurd (subst (λ (zs : List Object). Has zs o) (sym (some_same [] os e)) h)
 each-found vs (w ∷ ws) os e o h = go (some-parts (found vs w) (map (found vs) ws) os e) (each-found vs ws)
   where
     there : (q : Object) → found vs w ≡ Some q → (v : Version) × Has vs v × (v.object ≡ q)
-    there q at = let f = found-as vs w q at in (f.0, find-has (is_wanted w.key w.producer) vs f.0 f.1, f.2)
+    there q at = let f = found-as vs w q at in (f.0, find_has (is_wanted w.key w.producer) vs f.0 f.1, f.2)
 
     go : (q : Object) × (rest : List Object) × (found vs w ≡ Some q) × (all_some (map (found vs) ws) ≡ Some rest) × (Some (q ∷ rest) ≡ Some os) → ((rest : List Object) → all_some (map (found vs) ws) ≡ Some rest → (o : Object) → Has rest o → (v : Version) × Has vs v × (v.object ≡ o)) → (v : Version) × Has vs v × (v.object ≡ o)
-    go (q, rest, at, all, same) back = pick (subst (λ (zs : List Object). Has zs o) (sym (some-same (q ∷ rest) os same)) h)
+    go (q, rest, at, all, same) back = pick (subst (λ (zs : List Object). Has zs o) (sym (some_same (q ∷ rest) os same)) h)
       where
         pick : Has (q ∷ rest) o → (v : Version) × Has vs v × (v.object ≡ o)
         pick (inl e) = let t = there q at in (t.0, t.1, t.2 ∙ e)
@@ -89,7 +89,7 @@ module _ (s : Setting) (total : List Transaction) where
         y = record { tx = it.of.cert.tx; inputs = it.inputs }
 
         go : IsTouched y o.id → IsOld (suc m.epoch) o.id
-        go (inl r) = subst (IsOld (suc m.epoch)) r.same (input-old before wrote it.of it.inputs it.were_there r.old (has-second (objects_of it.of.cert.tx) it.inputs r.of r.old r.named))
+        go (inl r) = subst (IsOld (suc m.epoch)) r.same (input-old before wrote it.of it.inputs it.were_there r.old (second (objects_of it.of.cert.tx) it.inputs r.of r.old r.named))
         go (inr (n, less, e)) =
             let t = given it.of it.is_held in
             let most = created-most it.of.cert.tx it.inputs in
@@ -101,7 +101,7 @@ module _ (s : Setting) (total : List Transaction) where
     all-old (x ∷ xs) before wrote along = subst WroteOld (append_assoc before (x ∷ []) xs) (all-old xs (before ++ x ∷ []) next along.1)
       where
         next : WroteOld (before ++ x ∷ [])
-        next z h = pick (has-parts before (x ∷ []) z h)
+        next z h = pick (has_parts before (x ∷ []) z h)
           where
             pick : Has before z ⊎ Has (x ∷ []) z → AreOld (suc m.epoch) z.gave.objects
             pick (inl k) = wrote z k
@@ -122,7 +122,7 @@ module _ (s : Setting) (events : List Event) where
 
   held-of : (m : Member) → Stocked s.rules (all_delivered s events) m → (h : Held) → Has m.held h → Has all h.cert.tx × (h.cert.tx.epoch ≡ m.epoch)
   held-of m stocked h k =
-      let g = each-has (IsHeldAsGiven s.rules (all_delivered s events) m.epoch) m.held h stocked.in_hand k in
+      let g = each_has (IsHeldAsGiven s.rules (all_delivered s events) m.epoch) m.held h stocked.in_hand k in
       (of-run s events h.cert g.comes, g.epoch_is)
 
   kept-old : (m : Member) → IsGrounded m → AreOld s all (suc m.epoch) (live_list m.opening (kept m))

@@ -1,11 +1,9 @@
 -- Lemmas on lists.
 use Rattle.std.proofs.Common.{inl, inr, refl, sym, subst, ap, ◌∙◌, append_assoc, append-nil}
-use Rattle.std.specs.Prelude.{◌≡◌, Bool, true, false, cond, ◌&&◌, ◌||◌, List, [], ◌∷◌, ◌++◌, map, zip, find, Option, Some, None}
+use Rattle.std.specs.Prelude.{◌≡◌, Bool, true, false, cond, ◌&&◌, ◌||◌, List, [], ◌∷◌, ◌++◌, map, find, Option, Some, None}
 use Rattle.std.specs.List.{list_any, list_all}
+use Rattle.protocol_spec.proofs.Truth.{some_same}
 use Rattle.protocol_spec.specs.Chain.Words.{Has, Each, Along, first_some, first_of, where_true, last_where}
-
-pub some-same : {A : Type 0} (x y : A) → Some x ≡ Some y → x ≡ y
-some-same x y e = cc
 
 -- ---- elements
 
@@ -17,21 +15,6 @@ has-split {A = A} (y ∷ ys) x (inr h) = let r = has-split ys x h in (y ∷ r.0,
 pub has-middle : {A : Type 0} (front : List A) (x : A) (back : List A) → Has (front ++ (x ∷ back)) x
 has-middle [] x back = inl refl
 has-middle (y ∷ front) x back = inr (has-middle front x back)
-
-pub map-has : {A B : Type 0} (f : A → B) (xs : List A) (x : A) → Has xs x → Has (map f xs) (f x)
-map-has f [] x h = absurd h
-map-has f (y ∷ xs) x (inl e) = inl (ap f e)
-map-has f (y ∷ xs) x (inr h) = inr (map-has f xs x h)
-
-pub has-second : {A B : Type 0} (xs : List A) (ys : List B) (x : A) (y : B) → Has (zip xs ys) (x, y) → Has ys y
-has-second [] ys x y h = absurd h
-has-second (a ∷ xs) [] x y h = absurd h
-has-second {A = A} {B = B} (a ∷ xs) (b ∷ ys) x y (inl e) = inl (ap (λ (z : A × B). z.1) e)
-has-second (a ∷ xs) (b ∷ ys) x y (inr h) = inr (has-second xs ys x y h)
-
-pub each-all : {A : Type 0} (P : A → Type 0) (xs : List A) → ((x : A) → Has xs x → P x) → Each P xs
-each-all P [] all = tt
-each-all P (x ∷ xs) all = (all x (inl refl), each-all P xs (λ y h. all y (inr h)))
 
 pub each-mapped : {A B : Type 0} (P : B → Type 0) (f : A → B) (xs : List A) → Each (λ (x : A). P (f x)) xs → Each P (map f xs)
 each-mapped P f [] each = tt
@@ -52,23 +35,6 @@ along-front P before [] back along = tt
 along-front P before (x ∷ front) back along = (along.0, along-front P (before ++ x ∷ []) front back along.1)
 
 -- ---- what a test finds
-
-pub any-has : {A : Type 0} (test : A → Bool) (xs : List A) → list_any test xs ≡ true → (x : A) × Has xs x × (test x ≡ true)
-any-has test [] e = absurd (cc)
-any-has {A = A} test (y ∷ ys) e = go (test y) refl e (any-has test ys)
-  where
-    go : (b : Bool) → test y ≡ b → (b || list_any test ys) ≡ true → (list_any test ys ≡ true → (x : A) × Has ys x × (test x ≡ true)) → (x : A) × Has (y ∷ ys) x × (test x ≡ true)
-    go true t e rest = (y, inl refl, t)
-    go false t e rest = let r = rest e in (r.0, inr r.1, r.2)
-
-pub has-any : {A : Type 0} (test : A → Bool) (xs : List A) (x : A) → Has xs x → test x ≡ true → list_any test xs ≡ true
-has-any test [] x h t = absurd h
-has-any {A = A} test (y ∷ ys) x (inl e) t = subst (λ (b : Bool). (b || list_any test ys) ≡ true) (sym (ap test e ∙ t)) refl
-has-any test (y ∷ ys) x (inr h) t = go (test y) (has-any test ys x h t)
-  where
-    go : (b : Bool) → list_any test ys ≡ true → (b || list_any test ys) ≡ true
-    go true e = refl
-    go false e = e
 
 pub all-has : {A : Type 0} (test : A → Bool) (xs : List A) (x : A) → list_all test xs ≡ true → Has xs x → test x ≡ true
 all-has test [] x e h = absurd h
@@ -113,5 +79,5 @@ last-split {A = A} test (x ∷ xs) y e = go (last_where test xs) refl (test x) r
         → (last_where test xs ≡ Some y → (front : List A) × (back : List A) × (xs ≡ front ++ (y ∷ back)) × Each (λ (z : A). test z ≡ false) back)
         → (front : List A) × (back : List A) × (x ∷ xs ≡ front ++ (y ∷ back)) × Each (λ (z : A). test z ≡ false) back
     go (Some z) h b t e rest = let r = rest (h ∙ e) in (x ∷ r.0, r.1, ap (λ (zs : List A). x ∷ zs) r.2, r.3)
-    go None h true t e rest = ([], xs, ap (λ (z : A). z ∷ xs) (some-same x y e), last-none test xs h)
+    go None h true t e rest = ([], xs, ap (λ (z : A). z ∷ xs) (some_same x y e), last-none test xs h)
     go None h false t e rest = absurd (cc)

@@ -10,13 +10,15 @@ use Rattle.std.specs.declared.cmp.Ordering.TheVariants.{Less, Equal, Greater}
 use Rattle.chain_types.specs.declared.objects.ObjectId.{ObjectId}
 use Rattle.chain_types.specs.declared.objects.Object.{Object}
 use Rattle.chain_types.specs.Equal.{id_eq}
+use Rattle.protocol_spec.proofs.Equality.{id_same, ids_unique}
+use Rattle.protocol_spec.proofs.ListLemmas.{has_parts, has_mapped}
+use Rattle.protocol_spec.proofs.Truth.{some_same}
 use Rattle.protocol_spec.specs.Chain.Words.{Has, Each, repeats}
 use Rattle.protocol_spec.specs.Member.Versions.{Execution, Version, opened, written, written_by, versions, object_in, is_id, is_deleted, newer, newest, live, id_cmp, with_live, live_list}
-use Rattle.block_law.proofs.Counts.{id_same}
+use Rattle.sequence_law.proofs.Live.{has-flat}
+use Rattle.sequence_law.proofs.Reading.{has-kept}
 use Rattle.sequence_law.specs.Orderly.{id_of, AreApart}
-use Rattle.sequence_law.proofs.Standing.{ids-total, ids-unique}
-use Rattle.sequence_law.proofs.Touched.{has-parts, has-mapped}
-use Rattle.agreement_law.proofs.Lists.{some-same}
+use Rattle.sequence_law.proofs.Standing.{ids-total}
 
 abbrev Entry : Type 0
 Entry = ObjectId × Object
@@ -34,7 +36,7 @@ module _ (Q : Object → Type 0) where
     where
       go : (r : Ordering) → id_cmp o.id e.0 ≡ r → Each (IsUnder Q) (put id_cmp o.id o es) → Each (IsUnder Q) (by_order r ((o.id, o) ∷ e ∷ es) ((e.0, o) ∷ es) (e ∷ put id_cmp o.id o es))
       go Less h rest = ((refl, q), each)
-      go Equal h rest = ((sym (ids-unique o.id e.0 h), q), each.1)
+      go Equal h rest = ((sym (ids_unique o.id e.0 h), q), each.1)
       go Greater h rest = (each.0, rest)
 
   all-under : (os : List (Option Object)) → ((o : Object) → Has os (Some o) → Q o) → (es : List Entry) → Each (IsUnder Q) es → Each (IsUnder Q) (fold with_live es os)
@@ -52,7 +54,7 @@ all-sorted [] es h = h
 all-sorted (None ∷ os) es h = all-sorted os es h
 all-sorted (Some o ∷ os) es h = all-sorted os (put id_cmp o.id o es) (is_sorted-put id_cmp ids-total o.id o es h)
 
-less-tied : (r : Ordering) → is_eq r ≡ true → T (is_lt r) → ⊥
+pub less-tied : (r : Ordering) → is_eq r ≡ true → T (is_lt r) → ⊥
 less-tied Less e h = absurd (cc)
 less-tied Equal e h = h
 less-tied Greater e h = h
@@ -90,28 +92,19 @@ live-apart opening executed =
     let os = map (λ (v : Version). live opening executed v.object.id) (versions opening executed) in
     sorted-apart (fold with_live [] os) (all-under (λ (o : Object). Unit {0}) os (λ o h. tt) [] tt) (all-sorted os [] tt)
 
-has-filter : {A : Type 0} (test : A → Bool) (xs : List A) (x : A) → Has (filter test xs) x → Has xs x
-has-filter test [] x h = absurd h
-has-filter {A = A} test (y ∷ xs) x h = go (test y) h (has-filter test xs x)
-  where
-    go : (b : Bool) → Has (cond b (y ∷ filter test xs) (filter test xs)) x → (Has (filter test xs) x → Has xs x) → Has (y ∷ xs) x
-    go true (inl e) rest = inl e
-    go true (inr h) rest = inr (rest h)
-    go false h rest = inr (rest h)
-
 pub kept-has : (test : Execution → Bool) (xs : List Execution) (x : Execution) → Has (filter test xs) x → Has xs x
-kept-has = has-filter
+kept-has = has-kept
 
-newest-from : (ps : List Object) (b : Option Object) (o : Object) → fold newer b ps ≡ Some o → (b ≡ Some o) ⊎ Has ps o
+pub newest-from : (ps : List Object) (b : Option Object) (o : Object) → fold newer b ps ≡ Some o → (b ≡ Some o) ⊎ Has ps o
 newest-from [] b o e = inl e
 newest-from (p ∷ ps) b o e = go (newest-from ps (newer b p) o e)
   where
     either : (b : Option Object) → newer b p ≡ Some o → (b ≡ Some o) ⊎ Has (p ∷ ps) o
-    either None q = inr (inl (some-same p o q))
+    either None q = inr (inl (some_same p o q))
     either (Some x) q = pick (nat_lt x.version p.version) q
       where
         pick : (t : Bool) → cond t (Some p) (Some x) ≡ Some o → (Some x ≡ Some o) ⊎ Has (p ∷ ps) o
-        pick true q = inr (inl (some-same p o q))
+        pick true q = inr (inl (some_same p o q))
         pick false q = inl q
 
     go : (newer b p ≡ Some o) ⊎ Has ps o → (b ≡ Some o) ⊎ Has (p ∷ ps) o
@@ -122,23 +115,15 @@ newest-from (p ∷ ps) b o e = go (newest-from ps (newer b p) o e)
 abbrev pub IsThere : List Object → List Execution → Object → Type 0
 IsThere opening executed o = Has opening o ⊎ ((x : Execution) × Has executed x × Has x.gave.objects o)
 
-pub has-flat : {A B : Type 0} (f : A → List B) (xs : List A) (y : B) → Has (flat_map f xs) y → (x : A) × Has xs x × Has (f x) y
-has-flat f [] y h = absurd h
-has-flat {A = A} f (x ∷ xs) y h = go (has-parts (f x) (flat_map f xs) y h) (has-flat f xs y)
-  where
-    go : Has (f x) y ⊎ Has (flat_map f xs) y → (Has (flat_map f xs) y → (z : A) × Has xs z × Has (f z) y) → (z : A) × Has (x ∷ xs) z × Has (f z) y
-    go (inl h) rest = (x, inl refl, h)
-    go (inr h) rest = let r = rest h in (r.0, inr r.1, r.2)
-
 pub version-there : (opening : List Object) (executed : List Execution) (v : Version) → Has (versions opening executed) v → IsThere opening executed v.object
 unfolding versions
-version-there opening executed v h = go (has-parts (map opened opening) (flat_map written_by executed) v h)
+version-there opening executed v h = go (has_parts (map opened opening) (flat_map written_by executed) v h)
   where
     go : Has (map opened opening) v ⊎ Has (flat_map written_by executed) v → IsThere opening executed v.object
-    go (inl h) = let o = has-mapped opened opening v h in inl (subst (Has opening) (ap object_in o.2) o.1)
+    go (inl h) = let o = has_mapped opened opening v h in inl (subst (Has opening) (ap object_in o.2) o.1)
     go (inr h) =
         let x = has-flat written_by executed v h in
-        let o = has-mapped (written x.0.digest) x.0.gave.objects v x.2 in
+        let o = has_mapped (written x.0.digest) x.0.gave.objects v x.2 in
         inr (x.0, x.1, subst (Has x.0.gave.objects) (ap object_in o.2) o.1)
 
 alive-there : (opening : List Object) (executed : List Execution) (id : ObjectId) (o : Object) → live opening executed id ≡ Some o → IsThere opening executed o
@@ -150,8 +135,8 @@ alive-there opening executed id o e = go (is_deleted executed id) e
 
     among : Has candidates o → IsThere opening executed o
     among h =
-        let v = has-mapped object_in (filter (is_id id) (versions opening executed)) o h in
-        subst (IsThere opening executed) v.2 (version-there opening executed v.0 (has-filter (is_id id) (versions opening executed) v.0 v.1))
+        let v = has_mapped object_in (filter (is_id id) (versions opening executed)) o h in
+        subst (IsThere opening executed) v.2 (version-there opening executed v.0 (has-kept (is_id id) (versions opening executed) v.0 v.1))
 
     newest-there : (None ≡ Some o) ⊎ Has candidates o → IsThere opening executed o
     newest-there (inl q) = absurd (cc)
@@ -164,7 +149,7 @@ alive-there opening executed id o e = go (is_deleted executed id) e
 pub live-there : (opening : List Object) (executed : List Execution) (o : Object) → Has (live_list opening executed) o → IsThere opening executed o
 unfolding live_list
 live-there opening executed o h =
-    objects-under (IsThere opening executed) (fold with_live [] os) (all-under (IsThere opening executed) os (λ p k. from p (has-mapped (λ (v : Version). live opening executed v.object.id) (versions opening executed) (Some p) k)) [] tt) o h
+    objects-under (IsThere opening executed) (fold with_live [] os) (all-under (IsThere opening executed) os (λ p k. from p (has_mapped (λ (v : Version). live opening executed v.object.id) (versions opening executed) (Some p) k)) [] tt) o h
   where
     os : List (Option Object)
     os = map (λ (v : Version). live opening executed v.object.id) (versions opening executed)

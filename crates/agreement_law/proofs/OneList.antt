@@ -12,6 +12,7 @@ use Rattle.checkpoint_core.specs.declared.checkpoints.Checkpoint.{Checkpoint}
 use Rattle.chain_messages.specs.declared.messages.Entry.{Entry}
 use Rattle.answer_types.specs.declared.answers.Held.{Held}
 use Rattle.schedule_text.specs.declared.words.Event.{Event}
+use Rattle.protocol_spec.proofs.ListLemmas.{front_whole, front_then, flat_append}
 use Rattle.protocol_spec.specs.Chain.Words.{Each, IsFront, last_of}
 use Rattle.protocol_spec.specs.Chain.Keys.{fits}
 use Rattle.protocol_spec.specs.Block.Execution.{execution}
@@ -28,13 +29,12 @@ use Rattle.world_spec.specs.Run.{world_after}
 use Rattle.world_spec.specs.Assumptions.{IsHonestRun}
 use Rattle.block_law.proofs.Steps.{map-append}
 use Rattle.safety_law.proofs.Fronts.{honest-front}
-use Rattle.agreement_law.proofs.Growth.{front-all, front-push, front-then}
+use Rattle.agreement_law.proofs.Growth.{front-push}
 use Rattle.agreement_law.proofs.Prefixes.{either-front, more-taken, follows, earlier-front}
 use Rattle.agreement_law.specs.Agreed.{IsEarlier}
 use Rattle.sequence_law.specs.Orderly.{AreApart}
 use Rattle.agreement_law.specs.Thread.{item_with}
 use Rattle.agreement_law.specs.Checkpointed.{admitted_in}
-use Rattle.agreement_law.proofs.Cuts.{flat-append}
 use Rattle.agreement_law.proofs.Checkpointed.{checkpoints-of-fold}
 use Rattle.agreement_law.specs.Past.{items_of_thread, checkpoints_with, checkpoints_of_thread, past_at}
 use Rattle.agreement_law.specs.Opened.{OpensAsLeft}
@@ -106,8 +106,8 @@ module _ (opening : List Object) where
   items-more cuts rest =
       let es = thread-more (map_of opening) (flat_map txs_in cuts) (flat_map txs_in rest) in (
         map item_with (zip (flat_map admitted_in rest) es.0),
-        ap (λ (ts : List Transaction). map item_with (zip (flat_map admitted_in (cuts ++ rest)) (fold_all (map_of opening) ts).effects)) (flat-append txs_in cuts rest)
-            ∙ ap (λ (txs : List Admitted). map item_with (zip txs (fold_all (map_of opening) (flat_map txs_in cuts ++ flat_map txs_in rest)).effects)) (flat-append admitted_in cuts rest)
+        ap (λ (ts : List Transaction). map item_with (zip (flat_map admitted_in (cuts ++ rest)) (fold_all (map_of opening) ts).effects)) (flat_append txs_in cuts rest)
+            ∙ ap (λ (txs : List Admitted). map item_with (zip txs (fold_all (map_of opening) (flat_map txs_in cuts ++ flat_map txs_in rest)).effects)) (flat_append admitted_in cuts rest)
             ∙ ap (λ (fs : List (Option Effects)). map item_with (zip (flat_map admitted_in cuts ++ flat_map admitted_in rest) fs)) es.1
             ∙ ap (map item_with) (zip-append (flat_map admitted_in cuts) (flat_map admitted_in rest) (effects_of cuts) es.0 (effects-length cuts))
             ∙ map-append item_with (zip (flat_map admitted_in cuts) (effects_of cuts)) (zip (flat_map admitted_in rest) es.0),
@@ -120,10 +120,10 @@ module _ (epoch : ℕ) where
   put before c items = before ++ record { epoch = epoch; number = length before; parent = digest_before (last_of before); items = items; last = c.last } ∷ []
 
   with-grows : (cuts : List Cut) (items : List Item) (before : List Checkpoint) → IsFront before (checkpoints_with epoch items before cuts)
-  with-grows [] items before = front-all before
+  with-grows [] items before = front_whole before
   with-grows (c ∷ cuts) items before =
       let next : List Checkpoint = put before c (take (length c.txs) items) in
-      front-then before next (checkpoints_with epoch (drop (length c.txs) items) next cuts)
+      front_then before next (checkpoints_with epoch (drop (length c.txs) items) next cuts)
       (front-push before (record { epoch = epoch; number = length before; parent = digest_before (last_of before); items = take (length c.txs) items; last = c.last }))
       (with-grows cuts (drop (length c.txs) items) next)
 
@@ -153,12 +153,12 @@ module _ (epoch : ℕ) where
 
 past-grows : (s : Setting) (sequences : List (List Entry)) (more epoch later : ℕ) → later ≡ more + epoch → IsFront (past_at s sequences epoch) (past_at s sequences later)
 unfolding past_at
-past-grows s sequences zero epoch later e = subst (λ (n : ℕ). IsFront (past_at s sequences epoch) (past_at s sequences n)) (same later e) (front-all (past_at s sequences epoch))
+past-grows s sequences zero epoch later e = subst (λ (n : ℕ). IsFront (past_at s sequences epoch) (past_at s sequences n)) (same later e) (front_whole (past_at s sequences epoch))
   where
     same : (n : ℕ) → n ≡ zero + epoch → epoch ≡ n
     same n q = omega (arith, q)
 past-grows s sequences (suc more) epoch later e = subst (λ (n : ℕ). IsFront (past_at s sequences epoch) (past_at s sequences n)) (next later e)
-    (front-then (past_at s sequences epoch) (past_at s sequences before) (checkpoints_of_thread before (opening_at s sequences before) cuts (past_at s sequences before))
+    (front_then (past_at s sequences epoch) (past_at s sequences before) (checkpoints_of_thread before (opening_at s sequences before) cuts (past_at s sequences before))
     (past-grows s sequences more epoch before refl) (with-grows before cuts (items_of_thread (opening_at s sequences before) cuts) (past_at s sequences before)))
   where
     before : ℕ
@@ -207,7 +207,7 @@ module _ (s : Setting) (front back : List Event) (honest : IsHonestRun s (front 
   unfolding built past_at
   built-first n seat at = subst (λ (cs : List Checkpoint). IsFront cs (past_at s qs (suc m.epoch))) (sym same)
       (thread-front m.epoch (opening_at s qs m.epoch) to.cuts (sequence_of s qs m.epoch (opening_at s qs m.epoch)).cuts (past_at s qs m.epoch)
-      (front-then to.cuts m.sequence.cuts (sequence_of s qs m.epoch (opening_at s qs m.epoch)).cuts to.front earlier.cuts))
+      (front_then to.cuts m.sequence.cuts (sequence_of s qs m.epoch (opening_at s qs m.epoch)).cuts to.front earlier.cuts))
     where
       m : Member
       m = member_in s seat
@@ -245,7 +245,7 @@ one-list s front back honest distinct m n a b at by =
     let q : ℕ = (member_in s b).epoch in
     let later : q + suc p ≡ p + suc q = omega arith in
     let one : IsFront (built (member_in s a)) (past_at s all (q + suc p)) =
-    front-then (built (member_in s a)) (past_at s all (suc p)) (past_at s all (q + suc p)) (built-first s front back honest distinct m a at) (past-grows s all q (suc p) (q + suc p) refl) in
+    front_then (built (member_in s a)) (past_at s all (suc p)) (past_at s all (q + suc p)) (built-first s front back honest distinct m a at) (past-grows s all q (suc p) (q + suc p) refl) in
     let two : IsFront (built (member_in s b)) (past_at s all (q + suc p)) =
-    front-then (built (member_in s b)) (past_at s all (suc q)) (past_at s all (q + suc p)) (built-is-of-thread s (front ++ back) honest distinct n b by) (past-grows s all p (suc q) (q + suc p) later) in
+    front_then (built (member_in s b)) (past_at s all (suc q)) (past_at s all (q + suc p)) (built-is-of-thread s (front ++ back) honest distinct n b by) (past-grows s all p (suc q) (q + suc p) later) in
     either-front (built (member_in s a)) (built (member_in s b)) one.0 two.0 (sym one.1 ∙ two.1)

@@ -7,6 +7,7 @@ use Rattle.journal_core.specs.declared.records.Record.{Record}
 use Rattle.journal_core.specs.declared.records.Record.TheVariants as record_as
 use Rattle.schedule_text.specs.declared.words.Event.{Event}
 use Rattle.schedule_text.specs.declared.words.Event.TheVariants as event
+use Rattle.protocol_spec.proofs.ListLemmas.{each_join, each_at, front_then, each_as}
 use Rattle.protocol_spec.specs.Chain.Words.{Each}
 use Rattle.protocol_spec.specs.Member.Member.{Member, after, state}
 use Rattle.protocol_spec.specs.Member.Calls.{Call, turns, due}
@@ -17,12 +18,11 @@ use Rattle.world_spec.specs.Step.{happens, entries_left}
 use Rattle.world_spec.specs.Openings.{opening_at}
 use Rattle.world_spec.specs.Run.{run, world_after}
 use Rattle.world_spec.specs.Assumptions.{vote_call, send_call, call_list, see_calls, ack_call, calls_of, IsHonestRun}
-use Rattle.safety_law.proofs.InWorld.{each-get, kept-line, new-seats}
+use Rattle.safety_law.proofs.InWorld.{kept-line, new-seats}
 use Rattle.safety_law.proofs.Apart.{state-push}
 use Rattle.safety_law.proofs.Grown.{world-append}
 use Rattle.safety_law.proofs.Fronts.{honest-front}
-use Rattle.agreement_law.proofs.Growth.{Grown, grown-same, front-then, grows-line}
-use Rattle.agreement_law.proofs.InSequences.{each-map}
+use Rattle.agreement_law.proofs.Growth.{Grown, grown-same, grows-line}
 use Rattle.agreement_law.proofs.Appends.{a_turn, appended_as, appended_by, due-appends}
 use Rattle.sequence_law.specs.Orderly.{AreApart}
 use Rattle.agreement_law.specs.Past.{past_at}
@@ -39,31 +39,27 @@ NoTurn call = appended_by call ≡ Some a_turn → ⊥
 no-turn-see : (number : ℕ) (e : Entry) → NoTurn (numbered_call number e)
 no-turn-see number e q = absurd (cc)
 
-no-turn-next : (number : ℕ) (e : Option Entry) → Each NoTurn (call_list (option_map (numbered_call number) e))
+pub no-turn-next : (number : ℕ) (e : Option Entry) → Each NoTurn (call_list (option_map (numbered_call number) e))
 no-turn-next number None = tt
 no-turn-next number (Some e) = (no-turn-see number e, tt)
 
-no-turn-at : (s : Setting) (w : World) (seat : Option Seat) → Each NoTurn (call_list (option_and_then (next_call_of w) (option_and_then (state_of s) seat)))
+pub no-turn-at : (s : Setting) (w : World) (seat : Option Seat) → Each NoTurn (call_list (option_and_then (next_call_of w) (option_and_then (state_of s) seat)))
 no-turn-at s w None = tt
 no-turn-at s w (Some seat) = no-turn-next (member_in s seat).sequence.number (next_entry w (member_in s seat))
 
-each-join : {A : Type 0} (P : A → Type 0) (xs ys : List A) → Each P xs → Each P ys → Each P (xs ++ ys)
-each-join P [] ys one other = other
-each-join P (x ∷ xs) ys one other = (one.0, each-join P xs ys one.1 other)
-
-no-turn-sees : (s : Setting) (n : ℕ) (w : World) (m : ℕ) → Each NoTurn (see_calls s n w m)
+pub no-turn-sees : (s : Setting) (n : ℕ) (w : World) (m : ℕ) → Each NoTurn (see_calls s n w m)
 no-turn-sees s zero w m = tt
-no-turn-sees s (suc n) w m = each-join NoTurn (call_list (next_call s w m)) (see_calls s n (called_if s w m (next_call s w m)) m) (no-turn-at s w (slice_get w.seats m)) (no-turn-sees s n (called_if s w m (next_call s w m)) m)
+no-turn-sees s (suc n) w m = each_join NoTurn (call_list (next_call s w m)) (see_calls s n (called_if s w m (next_call s w m)) m) (no-turn-at s w (slice_get w.seats m)) (no-turn-sees s n (called_if s w m (next_call s w m)) m)
 
-no-turn-voted : (t : Option Made) → Each NoTurn (vote_call t)
+pub no-turn-voted : (t : Option Made) → Each NoTurn (vote_call t)
 no-turn-voted None = tt
 no-turn-voted (Some t) = (λ q. absurd (cc), tt)
 
-no-turn-sent : (c : Option Certificate) → Each NoTurn (send_call c)
+pub no-turn-sent : (c : Option Certificate) → Each NoTurn (send_call c)
 no-turn-sent None = tt
 no-turn-sent (Some c) = (λ q. absurd (cc), tt)
 
-no-turn-acked : (t : Option Made) → Each NoTurn (ack_call t)
+pub no-turn-acked : (t : Option Made) → Each NoTurn (ack_call t)
 no-turn-acked None = tt
 no-turn-acked (Some t) = (λ q. absurd (cc), tt)
 
@@ -109,7 +105,7 @@ module _ (s : Setting) where
   -- ---- a line
 
   grown-left : (w : World) (e : Event) → AllLeft w.sequences (happens s w e).seats → WorldLeft (happens s w e)
-  grown-left w e all = each-map (λ (seat : Seat). Left w.sequences seat.records) (λ (seat : Seat). Left (happens s w e).sequences seat.records)
+  grown-left w e all = each_as (λ (seat : Seat). Left w.sequences seat.records) (λ (seat : Seat). Left (happens s w e).sequences seat.records)
       (happens s w e).seats (λ seat left. more-left s w.sequences (happens s w e).sequences (grows-line s w e) (state s.rules s.opening seat.records) left) all
 
   other-left : (w : World) (e : Event) → Each NoTurn (calls_of s w e) → WorldLeft w → WorldLeft (happens s w e)
@@ -164,14 +160,14 @@ module _ (s : Setting) where
 
   pub every-opening : (events : List Event) → IsHonestRun s events → AreApart s.opening → (m : ℕ) (seat : Seat) → slice_get (world_after s events).seats m ≡ Some seat → OpensAsLeft s (world_after s events).sequences (member_in s seat)
   every-opening events honest distinct m seat at =
-      each-get (λ (y : Seat). Left (world_after s events).sequences y.records) (world_after s events).seats m seat (run-left events [] honest distinct new-left) at
+      each_at (λ (y : Seat). Left (world_after s events).sequences y.records) (world_after s events).seats m seat (run-left events [] honest distinct new-left) at
 
   -- ---- at two moments
 
   grows-run : (events : List Event) (w : World) → Grown w.sequences (run s events w).sequences
   grows-run [] w epoch = grown-same w.sequences epoch
   grows-run (e ∷ events) w epoch =
-      front-then (entries_at w.sequences epoch) (entries_at (happens s w e).sequences epoch) (entries_at (run s events (happens s w e)).sequences epoch) (grows-line s w e epoch) (grows-run events (happens s w e) epoch)
+      front_then (entries_at w.sequences epoch) (entries_at (happens s w e).sequences epoch) (entries_at (run s events (happens s w e)).sequences epoch) (grows-line s w e epoch) (grows-run events (happens s w e) epoch)
 
   pub grows-after : (front back : List Event) → Grown (world_after s front).sequences (world_after s (front ++ back)).sequences
   grows-after front back = subst (λ (v : World). Grown (world_after s front).sequences v.sequences) (sym (world-append s front back)) (grows-run back (world_after s front))

@@ -1,5 +1,5 @@
 -- Admission and the cuts only grow, and a member has seen a front of its epoch's sequence.
-use Rattle.std.proofs.Common.{inl, inr, refl, sym, subst, ap, ◌∙◌, append_assoc, arith}
+use Rattle.std.proofs.Common.{inl, inr, refl, sym, subst, ap, ◌∙◌, append_assoc}
 use Rattle.std.specs.Prelude.{◌≡◌, ◌⊎◌, ℕ, zero, suc, ◌+◌, Bool, true, false, cond, not, ◌==◌, List, [], ◌∷◌, ◌++◌, map, fold, find, length, slice_get, Option, Some, None}
 use Rattle.chain_types.specs.declared.objects.Object.{Object}
 use Rattle.chain_messages.specs.Messages as messages
@@ -10,6 +10,7 @@ use Rattle.answer_types.specs.declared.answers.Held.{Held}
 use Rattle.answer_types.specs.declared.refusals.SeeRefusal.{SeeRefusal}
 use Rattle.answer_types.specs.declared.refusals.SeeRefusal.TheVariants as no_see
 use Rattle.schedule_text.specs.declared.words.Event.{Event}
+use Rattle.protocol_spec.proofs.ListLemmas.{push_length, front_whole, front_then}
 use Rattle.protocol_spec.specs.Chain.Words.{IsFront, first_some, where_true}
 use Rattle.protocol_spec.specs.Chain.Certificates.{Rules}
 use Rattle.protocol_spec.specs.Member.Admission.{Admission, is_free, taken_as, taken, is_dropped, taken_next, take_free, entered, passed_mark, admit, since_mark}
@@ -22,7 +23,7 @@ use Rattle.world_spec.specs.Run.{world_after}
 use Rattle.safety_law.proofs.Apart.{state-push}
 use Rattle.agreement_law.specs.Agreed.{IsTaken, IsEarlier}
 use Rattle.agreement_law.proofs.Appends.{due-appends}
-use Rattle.agreement_law.proofs.Growth.{Grown, front-all, front-push, front-then}
+use Rattle.agreement_law.proofs.Growth.{Grown, front-push}
 use Rattle.agreement_law.proofs.InSequences.{Comes, in_sequences}
 
 -- ---- lists
@@ -52,10 +53,6 @@ next-of [] (x ∷ rest) e h = (rest, ap (λ (z : _). z ∷ rest) (same x e h))
     same x e h = cc
 next-of (x ∷ front) rest e h = next-of front rest e h
 
-length-push : {A : Type 0} (xs : List A) (x : A) → length (xs ++ x ∷ []) ≡ length xs + 1
-length-push [] x = refl
-length-push (y ∷ ys) x = let e = length-push ys x in omega (arith, e)
-
 fold-map-push : {A B C : Type 0} (f : C → B → C) (g : A → B) (c : C) (xs : List A) (x : A) → fold f c (map g (xs ++ x ∷ [])) ≡ f (fold f c (map g xs)) (g x)
 fold-map-push f g c [] x = refl
 fold-map-push f g c (y ∷ ys) x = fold-map-push f g (f c (g y)) ys x
@@ -67,16 +64,16 @@ fold-map-append f g c (x ∷ xs) ys = fold-map-append f g (f c (g x)) xs ys
 -- ---- what only grows
 
 grows-taken_as : (opening : List Object) (b : Bool) (a : Admission) (h : Held) → IsFront a.admitted (taken_as b opening a h).admitted
-grows-taken_as opening true a h = front-all a.admitted
+grows-taken_as opening true a h = front_whole a.admitted
 grows-taken_as opening false a h = front-push a.admitted (admit opening a.admitted h)
 
 grows-next : (opening : List Object) (next : Admission → Admission) → ((a : Admission) → IsFront a.admitted (next a).admitted) → (a : Admission) (h : Option Held) → IsFront a.admitted (taken_next next opening a h).admitted
-grows-next opening next grows a None = front-all a.admitted
-grows-next opening next grows a (Some h) = front-then a.admitted (taken opening a h).admitted (next (taken opening a h)).admitted
+grows-next opening next grows a None = front_whole a.admitted
+grows-next opening next grows a (Some h) = front_then a.admitted (taken opening a h).admitted (next (taken opening a h)).admitted
     (grows-taken_as opening (is_dropped opening a.admitted h.cert) a h) (grows (taken opening a h))
 
 grows-free : (writers : Option ℕ) (opening : List Object) (n : ℕ) (a : Admission) → IsFront a.admitted (take_free writers opening n a).admitted
-grows-free writers opening zero a = front-all a.admitted
+grows-free writers opening zero a = front_whole a.admitted
 grows-free writers opening (suc n) a = grows-next opening (take_free writers opening n) (grows-free writers opening n) a (find (is_free writers a) a.pending)
 
 grows-entered : (writers : Option ℕ) (opening : List Object) (a : Admission) (h : Held) → IsFront a.admitted (entered writers opening a h).admitted
@@ -88,14 +85,14 @@ unfolding passed_mark
 grows-mark writers opening a = grows-free writers opening (length a.pending) (record a { marked = length a.admitted })
 
 pub earlier-same : (q : Sequence) → IsEarlier q q
-earlier-same q = record { admitted = front-all q.admission.admitted; cuts = front-all q.cuts }
+earlier-same q = record { admitted = front_whole q.admission.admitted; cuts = front_whole q.cuts }
 
 earlier-counted : (b : Bool) (q : Sequence) (m : ℕ) → IsEarlier q (counted_as b q m)
-earlier-counted true q m = record { admitted = front-all q.admission.admitted; cuts = front-push q.cuts (last_cut (since_mark q.admission)) }
-earlier-counted false q m = record { admitted = front-all q.admission.admitted; cuts = front-all q.cuts }
+earlier-counted true q m = record { admitted = front_whole q.admission.admitted; cuts = front-push q.cuts (last_cut (since_mark q.admission)) }
+earlier-counted false q m = record { admitted = front_whole q.admission.admitted; cuts = front_whole q.cuts }
 
 earlier-what : (r : Rules) (opening : List Object) (q : Sequence) (what : What) → IsEarlier q (with_what r opening q what)
-earlier-what r opening q (takes h) = record { admitted = grows-entered r.writers opening q.admission h; cuts = front-all q.cuts }
+earlier-what r opening q (takes h) = record { admitted = grows-entered r.writers opening q.admission h; cuts = front_whole q.cuts }
 earlier-what r opening q commits = record { admitted = grows-mark r.writers opening q.admission; cuts = (cut_of (since_mark q.admission), refl) }
 earlier-what r opening q (counts m) = earlier-counted (ends_with_member r q m) q m
 earlier-what r opening q (ignores cause) = earlier-same q
@@ -110,8 +107,8 @@ earlier-saw r opening epoch q bytes = go q.ended (earlier-what r opening q (what
 
 pub earlier-then : (q p o : Sequence) → IsEarlier q p → IsEarlier p o → IsEarlier q o
 earlier-then q p o one two = record {
-  admitted = front-then q.admission.admitted p.admission.admitted o.admission.admitted one.admitted two.admitted;
-  cuts = front-then q.cuts p.cuts o.cuts one.cuts two.cuts;
+  admitted = front_then q.admission.admitted p.admission.admitted o.admission.admitted one.admitted two.admitted;
+  cuts = front_then q.cuts p.cuts o.cuts one.cuts two.cuts;
 }
 
 earlier-fold : (r : Rules) (opening : List Object) (epoch : ℕ) (entries : List Entry) (q : Sequence) → IsEarlier q (fold (saw r opening epoch) q (map messages.entry.spell entries))
@@ -201,7 +198,7 @@ module _ (r : Rules) (sequences : List (List Entry)) where
       record {
         front = taken.front ++ e ∷ [];
         is_front = (rest.0, taken.is_front.1 ∙ (ap (λ (xs : List Entry). taken.front ++ xs) rest.1 ∙ sym (append_assoc taken.front (e ∷ []) rest.0)));
-        number = length-push taken.front e ∙ (ap (λ (n : ℕ). n + 1) taken.number ∙ sym (number-saw r m.opening m.epoch m.sequence bytes going));
+        number = push_length taken.front e ∙ (ap (λ (n : ℕ). n + 1) taken.number ∙ sym (number-saw r m.opening m.epoch m.sequence bytes going));
         gives = ap (λ (q : Sequence). saw r m.opening m.epoch q bytes) taken.gives ∙ (ap (saw r m.opening m.epoch (seen r m.opening m.epoch (map messages.entry.spell taken.front))) spelled ∙ sym (seen-push r m.opening m.epoch taken.front e));
       }
 
@@ -240,7 +237,7 @@ module _ (r : Rules) (sequences : List (List Entry)) where
 pub more-taken : (r : Rules) (old new : List (List Entry)) (m : Member) → Grown old new → IsTaken r (entries_at old m.epoch) m → IsTaken r (entries_at new m.epoch) m
 more-taken r old new m grown taken = record {
   front = taken.front;
-  is_front = front-then taken.front (entries_at old m.epoch) (entries_at new m.epoch) taken.is_front (grown m.epoch);
+  is_front = front_then taken.front (entries_at old m.epoch) (entries_at new m.epoch) taken.is_front (grown m.epoch);
   number = taken.number;
   gives = taken.gives;
 }

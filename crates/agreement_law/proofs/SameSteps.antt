@@ -5,13 +5,13 @@ use Rattle.chain_types.specs.Digests.{transaction_digest}
 use Rattle.chain_messages.specs.declared.messages.Certificate.{Certificate}
 use Rattle.digest_core.specs.declared.Digest.{Digest}
 use Rattle.schedule_text.specs.declared.words.Event.{Event}
+use Rattle.protocol_spec.proofs.ListLemmas.{each_has}
 use Rattle.protocol_spec.specs.Chain.Words.{Has}
 use Rattle.protocol_spec.specs.Member.Versions.{Execution}
 use Rattle.world_spec.specs.Setting.{Setting}
 use Rattle.world_spec.specs.World.{Seat, member_in}
 use Rattle.world_spec.specs.Run.{world_after}
 use Rattle.world_spec.specs.Assumptions.{IsHonestRun, all_delivered}
-use Rattle.safety_law.proofs.Once.{each-has}
 use Rattle.agreement_law.specs.Agreed.{IsGiven, IsHeldAsGiven}
 use Rattle.agreement_law.proofs.Supply.{every-held}
 use Rattle.agreement_law.proofs.Same.{of-run}
@@ -39,5 +39,5 @@ module _ (s : Setting) (events : List Event) (honest : IsHonestRun s events) whe
       → (x y : Execution) → Has (member_in s a).executed x → Has (member_in s b).executed y → x.digest ≡ y.digest → x.gave ≡ y.gave
   executions-same m n a b at by epoch opening = executions-agree s events m n a b at by epoch opening (λ h k there also e.
       given-alike (member_in s a).epoch (member_in s b).epoch h.digest k.digest h.cert k.cert
-      (each-has (IsHeldAsGiven s.rules (all_delivered s events) (member_in s a).epoch) (member_in s a).held h (every-held s events m a at) there)
-      (each-has (IsHeldAsGiven s.rules (all_delivered s events) (member_in s b).epoch) (member_in s b).held k (every-held s events n b by) also) e)
+      (each_has (IsHeldAsGiven s.rules (all_delivered s events) (member_in s a).epoch) (member_in s a).held h (every-held s events m a at) there)
+      (each_has (IsHeldAsGiven s.rules (all_delivered s events) (member_in s b).epoch) (member_in s b).held k (every-held s events n b by) also) e)

@@ -14,6 +14,9 @@ use Rattle.chain_types.specs.Digests.{key_of}
 use Rattle.chain_messages.specs.declared.messages.Certificate.{Certificate}
 use Rattle.answer_types.specs.declared.pieces.Executed.{Executed}
 use Rattle.answer_types.specs.declared.answers.Assigned.{Assigned}
+use Rattle.protocol_spec.proofs.Equality.{digest_same}
+use Rattle.protocol_spec.proofs.ListLemmas.{has_left, has_parts, has_mapped}
+use Rattle.protocol_spec.proofs.Truth.{some_same}
 use Rattle.protocol_spec.specs.Chain.Words.{Has, Each, Along, all_some, first_some, first_of, where_true, last_where}
 use Rattle.protocol_spec.specs.Chain.Keys.{objects_of}
 use Rattle.protocol_spec.specs.Member.Versions.{Execution, versions}
@@ -21,16 +24,17 @@ use Rattle.protocol_spec.specs.Member.Admission.{Admitted, Standing, is_admitted
 use Rattle.protocol_spec.specs.Member.Rounds.{Wanted, wanted_by, wanted_version, wants_of, found, present, producer_of, executes_as}
 use Rattle.protocol_spec.specs.Member.Votes.{shared_key}
 use Rattle.protocol_spec.specs.Member.Member.{Member}
-use Rattle.safety_law.proofs.Once.{equal, has-left}
+use Rattle.sequence_law.proofs.Live.{any-has, has-any}
 use Rattle.sequence_law.specs.Admitted.{held_again, is_origin_in, IsInOrder}
 use Rattle.block_law.proofs.Steps.{map-append}
+use Rattle.block_law.proofs.Written.{second}
 use Rattle.agreement_law.proofs.Agreeing.{IsFrom}
 use Rattle.sequence_law.specs.Orderly.{Step, gave, MutatesNot, IsLeftAlone, IsWritten, IsSource}
-use Rattle.sequence_law.proofs.Touched.{has-parts, has-mapped}
 use Rattle.sequence_law.proofs.Reading.{has-zip}
 use Rattle.agreement_law.specs.Steps.{step_of, IsStepOf}
-use Rattle.agreement_law.proofs.Lists.{some-same, has-split, has-middle, has-second, each-all, each-mapped, along-split, any-has, has-any, all-has, first-says, last-none, last-split}
+use Rattle.agreement_law.proofs.Lists.{has-split, has-middle, each-mapped, along-split, all-has, first-says, last-none, last-split}
 use Rattle.agreement_law.proofs.Wants.{nobody, from-opening, from-writer, wanted-at, assigned-is, shared-wanted}
+use Rattle.safety_law.proofs.Totals.{each-all}
 
 -- ---- where a shared object begins
 
@@ -46,7 +50,7 @@ begun-at opening id st (inputs.Shared x initial mutable) d e = go (id_eq x id) e
 
     go : (b : Bool) → where_true b (begins opening x initial d) ≡ Some st → st.1 ≡ producer_of d
     go false e = absurd (cc)
-    go true e = ap (λ (z : Standing). z.1) (sym (some-same (begins opening x initial d) st e)) ∙ stands d
+    go true e = ap (λ (z : Standing). z.1) (sym (some_same (begins opening x initial d) st e)) ∙ stands d
 
 -- a certificate that names the origin of a shared object
 record IsNamer (certs : List Certificate) (origin : Digest) : Type 0 where
@@ -62,7 +66,7 @@ begun-by opening id certs st e =
   where
     go : (c : Certificate) → Has certs c → (i : Input) (d : Option Digest) → Has (zip (objects_of c.tx) c.origins) (i, d) → st.1 ≡ producer_of d → (st.1 ≡ producers.Opening) ⊎ ((origin : Digest) × (st.1 ≡ producers.Tx origin) × IsNamer certs origin)
     go c h i None k e = inl e
-    go c h i (Some origin) k e = inr (origin, e, record { cert = c; among = h; names = has-second (objects_of c.tx) c.origins i (Some origin) k })
+    go c h i (Some origin) k e = inr (origin, e, record { cert = c; among = h; names = second (objects_of c.tx) c.origins i (Some origin) k })
 
 -- what each of its objects was found for
 module _ (m : Member) (before back : List Admitted) (a : Admitted) (split : m.sequence.admission.admitted ≡ before ++ (a ∷ back))
@@ -97,7 +101,7 @@ module _ (m : Member) (agree : (x y : Execution) → Has m.executed x → Has m.
   by-admitted tx there o from i alone =
       let b = any-has (λ (x : Admitted). digest_eq x.digest tx) before there in
       let r = has-split before b.0 b.1 in
-      written-by b.0 r.0 r.1 r.2 o (subst (λ (d : Digest). IsFrom m.executed d o) (sym (equal b.0.digest tx b.2)) from) i
+      written-by b.0 r.0 r.1 r.2 o (subst (λ (d : Digest). IsFrom m.executed d o) (sym (digest_same b.0.digest tx b.2)) from) i
       (alone r.1 (λ z h. subst (λ (zs : List Admitted). Has zs z) (sym r.2) (behind r.0 b.0 r.1 z h)))
     where
       behind : (p : List Admitted) (b : Admitted) (q : List Admitted) (z : Admitted) → Has q z → Has (p ++ (b ∷ q)) z
@@ -111,13 +115,13 @@ module _ (m : Member) (agree : (x y : Execution) → Has m.executed x → Has m.
   earlier-origin b h tx k =
       let r = along-split (IsInOrder m.opening) [] before b ordered h in
       let x = any-has (λ (y : Admitted). digest_eq y.digest tx) r.0 (all-has (is_origin_in r.0) b.cert.origins (Some tx) r.3.origins k) in
-      has-any (λ (y : Admitted). digest_eq y.digest tx) before x.0 (subst (λ (zs : List Admitted). Has zs x.0) (sym r.2) (has-left r.0 (b ∷ r.1) x.0 x.1)) x.2
+      has-any (λ (y : Admitted). digest_eq y.digest tx) before x.0 (subst (λ (zs : List Admitted). Has zs x.0) (sym r.2) (has_left r.0 (b ∷ r.1) x.0 x.1)) x.2
 
   -- ---- a version that the certificate names
 
   named-source : (i : Input) (key : ObjectKey) (d : Option Digest) (o : Object) → ((ys : List Step) → IsLeftAlone i ys) → Has (zip (objects_of a.cert.tx) a.cert.origins) (i, d) → found (versions m.opening m.executed) (wanted_version key d) ≡ Some o → IsSource m.opening earlier i o
   named-source i key None o alone h e = inl (record { opened = from-opening m.opening m.executed key o e; alone = alone earlier })
-  named-source i key (Some tx) o alone h e = inr (by-admitted tx (own-origin tx (has-second (objects_of a.cert.tx) a.cert.origins i (Some tx) h)) o (from-writer m.opening m.executed key tx o e) i (λ q inside. alone (map (step_of m) q)))
+  named-source i key (Some tx) o alone h e = inr (by-admitted tx (own-origin tx (second (objects_of a.cert.tx) a.cert.origins i (Some tx) h)) o (from-writer m.opening m.executed key tx o e) i (λ q inside. alone (map (step_of m) q)))
 
   -- ---- a version that was assigned
 
@@ -128,11 +132,11 @@ module _ (m : Member) (agree : (x y : Execution) → Has m.executed x → Has m.
   certs = map cert_of before ++ a.cert ∷ []
 
   namer-admitted : (origin : Digest) → IsNamer certs origin → is_admitted before origin ≡ true
-  namer-admitted origin it = go (has-parts (map cert_of before) (a.cert ∷ []) it.cert it.among)
+  namer-admitted origin it = go (has_parts (map cert_of before) (a.cert ∷ []) it.cert it.among)
     where
       go : Has (map cert_of before) it.cert ⊎ Has (a.cert ∷ []) it.cert → is_admitted before origin ≡ true
       go (inl h) =
-          let b = has-mapped cert_of before it.cert h in
+          let b = has_mapped cert_of before it.cert h in
           earlier-origin b.0 b.1 origin (subst (λ (c : Certificate). Has c.origins (Some origin)) (sym b.2) it.names)
       go (inr (inl e)) = own-origin origin (subst (λ (c : Certificate). Has c.origins (Some origin)) (sym e) it.names)
       go (inr (inr h)) = absurd h

@@ -1,9 +1,9 @@
 -- Sums of each currency along the epochs.
 use Rattle.std.proofs.Common.{refl, sym, subst, ap, ◌∙◌, arith, append-nil}
 use Rattle.std.proofs.lemmas.Bool.{ne_eqb}
-use Rattle.std.specs.Prelude.{◌≡◌, ◌≢◌, ◌<◌, ◌+◌, ℕ, zero, suc, Bool, true, false, cond, ◌==◌, List, [], ◌∷◌, ◌++◌, map, fold, length, slice_get, Some}
+use Rattle.std.specs.Prelude.{◌≡◌, ◌≢◌, ◌<◌, ◌+◌, ℕ, zero, suc, Bool, true, false, cond, ◌==◌, List, [], ◌∷◌, ◌++◌, map, fold, slice_get, Some}
 use Rattle.std.specs.List.{list_any}
-use Rattle.std.specs.FinMap.{empty, entries, values, len-empty, len-entries, get-empty}
+use Rattle.std.specs.FinMap.{empty, values, get-empty}
 use Rattle.chain_types.specs.declared.objects.ObjectId.{ObjectId}
 use Rattle.chain_types.specs.declared.objects.Object.{Object}
 use Rattle.chain_types.specs.declared.objects.Content.{Content}
@@ -28,6 +28,7 @@ use Rattle.block_law.proofs.Keeping.{sum-weight}
 use Rattle.sequence_law.specs.Kept.{held_in, supplied_in, gas_of}
 use Rattle.sequence_law.proofs.Moving.{map_weight, ids_at, change-weight}
 use Rattle.sequence_law.proofs.Following.{stay_backed, gas_goes, caps_stay}
+use Rattle.sequence_law.proofs.LiveMap.{entries-empty}
 use Rattle.sequence_law.specs.Orderly.{id_of, AreApart}
 use Rattle.agreement_law.specs.Opened.{GasHoldsIn, IsOver, IsPast}
 use Rattle.agreement_law.specs.Sums.{GasHeldBefore, NamesOther, epoch_gas}
@@ -38,13 +39,6 @@ use Rattle.agreement_law.proofs.Opened.{every-opening}
 none-at : (f : Content → ℕ) (ids : List ObjectId) → ids_at f empty ids ≡ 0
 none-at f [] = refl
 none-at f (id ∷ ids) = let here = ap (option_weight f) (get-empty id_cmp id) in let rest = none-at f ids in omega (arith, here, rest)
-
-none-long : {A : Type 0} (xs : List A) → length xs ≡ 0 → xs ≡ []
-none-long [] e = refl
-none-long (x ∷ xs) e = absurd (cc)
-
-entries-empty : entries (empty {X = Object} {R = id_cmp}) ≡ []
-entries-empty = none-long (entries (empty {X = Object} {R = id_cmp})) (sym (len-entries (empty {X = Object} {R = id_cmp})) ∙ len-empty id_cmp Object)
 
 empty-weight : (f : Content → ℕ) → map_weight f (empty {X = Object} {R = id_cmp}) ≡ 0
 empty-weight f = ap (λ (es : List (ObjectId × Object)). objects_weight f (map (λ (e : ObjectId × Object). e.1) es)) entries-empty

@@ -1,5 +1,5 @@
 -- What members hold and admit was given to them.
-use Rattle.std.proofs.Common.{inl, inr, refl, sym, subst}
+use Rattle.std.proofs.Common.{refl, sym, subst}
 use Rattle.std.proofs.lemmas.Bool.{eqb-true}
 use Rattle.std.specs.Prelude.{◌≡◌, ℕ, zero, suc, Bool, true, false, cond, not, ◌==◌, nat_le, List, [], ◌∷◌, ◌++◌, find, flat_map, length, map, slice_get, Option, Some, None, option_map, is_some, Result, Ok, Err}
 use Rattle.wire_bcs.specs.declared.fault.WireFault.{WireFault}
@@ -20,7 +20,7 @@ use Rattle.answer_types.specs.declared.refusals.HoldRefusal.TheVariants as no_ho
 use Rattle.schedule_text.specs.declared.words.Event.{Event}
 use Rattle.protocol_spec.specs.Chain.Words.{Has, Each, Along, first_some, where_true, unless_refused, refused_or}
 use Rattle.protocol_spec.specs.Chain.Certificates.{Rules, read_certificate, read_entry, cert_refusal}
-use Rattle.protocol_spec.proofs.ListLemmas.{find-each, filter-each, each-push}
+use Rattle.protocol_spec.proofs.ListLemmas.{find-each, filter-each, each_join, has_right, each_push, has_left}
 use Rattle.protocol_spec.specs.Member.Admission.{Admission, is_known, is_free, not_of, taken_as, taken, is_dropped, taken_next, take_free, entered, passed_mark, admit}
 use Rattle.protocol_spec.specs.Member.Sequence.{Sequence, What, takes, commits, counts, ignores, ignored_or, end_cases, what_stated, what_read, what_of, counted_as, ends_with_member, with_what, with_entry, saw, held_as}
 use Rattle.protocol_spec.specs.Member.Checkpoints.{held_of}
@@ -32,8 +32,8 @@ use Rattle.world_spec.specs.Step.{happens}
 use Rattle.world_spec.specs.Run.{world_after}
 use Rattle.world_spec.specs.Assumptions.{calls_of, read_list, entry_certificates, certificates_read, delivered, all_of, all_delivered}
 use Rattle.safety_law.proofs.InWorld.{in_world_given}
-use Rattle.safety_law.proofs.Once.{has-left}
 use Rattle.safety_law.proofs.Apart.{state-push}
+use Rattle.safety_law.proofs.Totals.{each-all}
 use Rattle.sequence_law.specs.Admitted.{IsInOrder}
 use Rattle.sequence_law.proofs.Tidy.{tidy-seen}
 use Rattle.chain_messages.specs.Messages as messages
@@ -43,18 +43,6 @@ use Rattle.agreement_law.proofs.Prefixes.{IsSee, due-see, follows}
 
 -- ---- what the calls of a run deliver
 
-pub has-right : {A : Type 0} (xs ys : List A) (y : A) → Has ys y → Has (xs ++ ys) y
-has-right [] ys y h = h
-has-right (x ∷ xs) ys y h = inr (has-right xs ys y h)
-
-each-append : {A : Type 0} (P : A → Type 0) (xs ys : List A) → Each P xs → Each P ys → Each P (xs ++ ys)
-each-append P [] ys one two = two
-each-append P (x ∷ xs) ys one two = (one.0, each-append P xs ys one.1 two)
-
-each-from : {A : Type 0} (P : A → Type 0) (xs : List A) → ((x : A) → Has xs x → P x) → Each P xs
-each-from P [] h = tt
-each-from P (x ∷ xs) h = (h x (inl refl), each-from P xs (λ y k. h y (inr k)))
-
 -- each certificate that is read from the call was delivered
 abbrev pub Delivers : Rules → List Certificate → Call → Type 0
 Delivers r total call = Each (Has total) (certificates_read r call)
@@ -62,16 +50,16 @@ Delivers r total call = Each (Has total) (certificates_read r call)
 delivers-calls : (r : Rules) (total : List Certificate) (calls : List Call) → ((c : Certificate) → Has (flat_map (certificates_read r) calls) c → Has total c) → Each (Delivers r total) calls
 delivers-calls r total [] h = tt
 delivers-calls r total (call ∷ calls) h = (
-  each-from (Has total) (certificates_read r call) (λ c k. h c (has-left (certificates_read r call) (flat_map (certificates_read r) calls) c k)),
-  delivers-calls r total calls (λ c k. h c (has-right (certificates_read r call) (flat_map (certificates_read r) calls) c k)),
+  each-all (Has total) (certificates_read r call) (λ c k. h c (has_left (certificates_read r call) (flat_map (certificates_read r) calls) c k)),
+  delivers-calls r total calls (λ c k. h c (has_right (certificates_read r call) (flat_map (certificates_read r) calls) c k)),
 )
 
 pub delivers-run : (s : Setting) (total : List Certificate) (events : List Event) (w : World) → ((c : Certificate) → Has (all_of delivered s events w) c → Has total c) → Each (Delivers s.rules total) (all_of calls_of s events w)
 unfolding delivered
 delivers-run s total [] w h = tt
-delivers-run s total (e ∷ events) w h = each-append (Delivers s.rules total) (calls_of s w e) (all_of calls_of s events (happens s w e))
-    (delivers-calls s.rules total (calls_of s w e) (λ c k. h c (has-left (delivered s w e) (all_of delivered s events (happens s w e)) c k)))
-    (delivers-run s total events (happens s w e) (λ c k. h c (has-right (delivered s w e) (all_of delivered s events (happens s w e)) c k)))
+delivers-run s total (e ∷ events) w h = each_join (Delivers s.rules total) (calls_of s w e) (all_of calls_of s events (happens s w e))
+    (delivers-calls s.rules total (calls_of s w e) (λ c k. h c (has_left (delivered s w e) (all_of delivered s events (happens s w e)) c k)))
+    (delivers-run s total events (happens s w e) (λ c k. h c (has_right (delivered s w e) (all_of delivered s events (happens s w e)) c k)))
 
 -- ---- what a call gives
 
@@ -163,7 +151,7 @@ module _ (r : Rules) (total : List Certificate) where
     unfolding admit
     supplied-taken_as true a h supplied given = record { admitted = supplied.admitted; pending = filter-each (Given epoch) (Given epoch) (not_of h) a.pending (λ x t p. p) supplied.pending }
     supplied-taken_as false a h supplied given = record {
-      admitted = each-push (IsAdmittedAsGiven r total epoch) a.admitted (admit opening a.admitted h) supplied.admitted given;
+      admitted = each_push (IsAdmittedAsGiven r total epoch) a.admitted (admit opening a.admitted h) supplied.admitted given;
       pending = filter-each (Given epoch) (Given epoch) (not_of h) a.pending (λ x t p. p) supplied.pending;
     }
 
@@ -178,7 +166,7 @@ module _ (r : Rules) (total : List Certificate) where
     supplied-entered : (a : Admission) (h : Held) → IsSupplied epoch a → Given epoch h → IsSupplied epoch (entered r.writers opening a h)
     unfolding entered
     supplied-entered a h supplied given = supplied-free (length (a.pending ++ h ∷ [])) (record a { pending = a.pending ++ h ∷ [] })
-        (record { admitted = supplied.admitted; pending = each-push (Given epoch) a.pending h supplied.pending given })
+        (record { admitted = supplied.admitted; pending = each_push (Given epoch) a.pending h supplied.pending given })
 
     supplied-mark : (a : Admission) → IsSupplied epoch a → IsSupplied epoch (passed_mark r.writers opening a)
     unfolding passed_mark
@@ -207,7 +195,7 @@ module _ (r : Rules) (total : List Certificate) where
       where
         go : (b : Bool) → Each (Given epoch) (cond b held (held ++ h ∷ []))
         go true = each
-        go false = each-push (Given epoch) held h each (given h refl)
+        go false = each_push (Given epoch) held h each (given h refl)
     held-given held commits each given = each
     held-given held (counts m) each given = each
     held-given held (ignores cause) each given = each
@@ -241,7 +229,7 @@ module _ (r : Rules) (total : List Certificate) where
   pub after-stocked : (m : Member) (call : Call) (x : Record) → Delivers r total call → due r m call ≡ Some x → Stocked m → Stocked (after r m x)
   unfolding after
   after-stocked m call (record_as.Vote tx origins) k d stocked = record { in_hand = stocked.in_hand; supplied = stocked.supplied }
-  after-stocked m call (record_as.Hold c) k d stocked = record { in_hand = each-push (Given m.epoch) m.held (held_as c) stocked.in_hand (hold-given m c call k d); supplied = stocked.supplied }
+  after-stocked m call (record_as.Hold c) k d stocked = record { in_hand = each_push (Given m.epoch) m.held (held_as c) stocked.in_hand (hold-given m c call k d); supplied = stocked.supplied }
   after-stocked m call (record_as.See bytes) k d stocked = call-stocked m bytes call k (due-see r m bytes call d) stocked
   after-stocked m call record_as.Close k d stocked = record { in_hand = stocked.in_hand; supplied = stocked.supplied }
   after-stocked m call (record_as.Ran txs) k d stocked = record { in_hand = stocked.in_hand; supplied = stocked.supplied }

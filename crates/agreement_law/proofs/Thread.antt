@@ -7,8 +7,9 @@ use Rattle.effects_core.specs.declared.effects.Effects.{Effects}
 use Rattle.answer_types.specs.declared.pieces.Executed.{Executed}
 use Rattle.checkpoint_core.specs.declared.checkpoints.Item.{Item}
 use Rattle.schedule_text.specs.declared.words.Event.{Event}
+use Rattle.protocol_spec.proofs.Equality.{digest_same}
 use Rattle.protocol_spec.specs.Chain.Words.{Has}
-use Rattle.protocol_spec.proofs.ListLemmas.{find-test}
+use Rattle.protocol_spec.proofs.ListLemmas.{find-test, each_has, find_has}
 use Rattle.protocol_spec.specs.Member.Versions.{Execution, execution_of, is_executed}
 use Rattle.protocol_spec.specs.Member.Admission.{Admitted}
 use Rattle.protocol_spec.specs.Member.Checkpoints.{effects_digest_of, item_of}
@@ -19,8 +20,6 @@ use Rattle.world_spec.specs.Setting.{Setting}
 use Rattle.world_spec.specs.World.{Seat, member_in}
 use Rattle.world_spec.specs.Run.{world_after}
 use Rattle.world_spec.specs.Assumptions.{IsHonestRun}
-use Rattle.safety_law.proofs.Once.{each-has, equal}
-use Rattle.safety_law.proofs.Kept.{find-has}
 use Rattle.sequence_law.specs.Admitted.{held_again}
 use Rattle.sequence_law.specs.Orderly.{gave, tx_of, effects_in}
 use Rattle.sequence_law.proofs.Reading.{chain-reads}
@@ -34,7 +33,7 @@ pub map-twice : {A B C : Type 0} (f : A → B) (g : B → C) (xs : List A) → m
 map-twice f g [] = refl
 map-twice f g (x ∷ xs) = ap (λ zs. g (f x) ∷ zs) (map-twice f g xs)
 
-map-same : {A B : Type 0} (f g : A → B) (xs : List A) → ((x : A) → Has xs x → f x ≡ g x) → map f xs ≡ map g xs
+pub map-same : {A B : Type 0} (f g : A → B) (xs : List A) → ((x : A) → Has xs x → f x ≡ g x) → map f xs ≡ map g xs
 map-same f g [] same = refl
 map-same f g (x ∷ xs) same = ap (λ z. z ∷ map f xs) (same x (inl refl)) ∙ ap (λ zs. g x ∷ zs) (map-same f g xs (λ y h. same y (inr h)))
 
@@ -58,8 +57,8 @@ module _ (s : Setting) (events : List Event) (honest : IsHonestRun s events) (n 
       go None h e = absurd (cc)
       go (Some x) h e =
           ap (λ (g : Executed). Some g.effects) (one-gave s events honest n seat at (executes_as (held_again a) (gave (step_of (member_in s seat) a))) x step.executed
-          (find-has (λ (y : Execution). digest_eq y.digest a.digest) (member_in s seat).executed x h)
-          (sym (equal x.digest a.digest (find-test (λ (y : Execution). digest_eq y.digest a.digest) (member_in s seat).executed x h))))
+          (find_has (λ (y : Execution). digest_eq y.digest a.digest) (member_in s seat).executed x h)
+          (sym (digest_same x.digest a.digest (find-test (λ (y : Execution). digest_eq y.digest a.digest) (member_in s seat).executed x h))))
 
   pub effects-of-fold : OpensApart s events (member_in s seat) → (front : List Admitted) → IsExecutedFront (member_in s seat) front → GivesOneThread (member_in s seat) front
   effects-of-fold opens front it = record { effects = all; items = ap (λ (es : List (Option Effects)). map item_with (zip front es)) all ∙ items-with (member_in s seat) front }
@@ -72,4 +71,4 @@ module _ (s : Setting) (events : List Event) (honest : IsHonestRun s events) (n 
           ap (λ (txs : List Transaction). (fold_all (map_of (member_in s seat).opening) txs).effects) (sym (map-twice (step_of (member_in s seat)) tx_of front))
           ∙ thread ∙ map-twice (step_of (member_in s seat)) effects_in front
           ∙ map-same (λ (a : Admitted). effects_in (step_of (member_in s seat) a)) (effects_at (member_in s seat)) front (λ a h.
-          own-effects a (front-step s events honest n seat at opens front it a h) (each-has (λ (x : Admitted). is_executed (member_in s seat).executed x.digest ≡ true) front a it.executed h))
+          own-effects a (front-step s events honest n seat at opens front it a h) (each_has (λ (x : Admitted). is_executed (member_in s seat).executed x.digest ≡ true) front a it.executed h))

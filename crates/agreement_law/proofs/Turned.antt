@@ -6,16 +6,18 @@ use Rattle.std.specs.FinMap.{values}
 use Rattle.std.specs.List.{list_all}
 use Rattle.chain_types.specs.declared.objects.Object.{Object}
 use Rattle.chain_types.specs.declared.transactions.Transaction.{Transaction}
-use Rattle.chain_messages.specs.declared.messages.Certificate.{Certificate}
 use Rattle.chain_messages.specs.declared.messages.Entry.{Entry}
 use Rattle.journal_core.specs.declared.records.Record.{Record}
 use Rattle.journal_core.specs.declared.records.Record.TheVariants as record_as
 use Rattle.answer_types.specs.declared.refusals.TurnRefusal.{TurnRefusal}
 use Rattle.answer_types.specs.declared.refusals.TurnRefusal.TheVariants as no_turn
 use Rattle.schedule_text.specs.declared.words.Event.{Event}
+use Rattle.protocol_spec.proofs.Checked.{valid_shape}
+use Rattle.protocol_spec.proofs.ListLemmas.{flat_has, has_left, has_mapped}
+use Rattle.protocol_spec.proofs.Truth.{where_not_true}
 use Rattle.protocol_spec.specs.Chain.Words.{Has, Each, IsFront, first_some, unless_refused}
 use Rattle.protocol_spec.specs.Chain.Shape.{shape_fault}
-use Rattle.protocol_spec.specs.Chain.Certificates.{Rules, cert_cases, cert_refusal}
+use Rattle.protocol_spec.specs.Chain.Certificates.{Rules}
 use Rattle.protocol_spec.specs.Member.Admission.{Admitted}
 use Rattle.protocol_spec.specs.Member.Sequence.{Sequence}
 use Rattle.protocol_spec.specs.Member.Checkpoints.{is_done}
@@ -27,19 +29,17 @@ use Rattle.world_spec.specs.World.{Seat, member_in, entries_at}
 use Rattle.world_spec.specs.Openings.{checkpointed, sequence_of, opening_at}
 use Rattle.world_spec.specs.Run.{world_after}
 use Rattle.world_spec.specs.Assumptions.{IsHonestRun}
-use Rattle.safety_law.proofs.Apart.{none-each, none-map, none-of, accepted}
-use Rattle.safety_law.proofs.Once.{has-left}
+use Rattle.safety_law.proofs.Apart.{none-each, none-of}
+use Rattle.safety_law.proofs.Totals.{each-all}
 use Rattle.agreement_law.specs.Agreed.{IsTaken}
 use Rattle.agreement_law.proofs.Prefixes.{follows}
 use Rattle.sequence_law.specs.Kept.{Follow, opened_with}
 use Rattle.sequence_law.specs.Orderly.{Step, tx_of, effects_in, AreApart}
-use Rattle.sequence_law.proofs.Touched.{has-mapped}
-use Rattle.sequence_law.proofs.Reading.{has-right, chain-reads}
+use Rattle.sequence_law.proofs.Reading.{chain-reads}
 use Rattle.agreement_law.specs.Steps.{step_of}
 use Rattle.agreement_law.specs.Orderly.{IsExecutedFront, OpensApart}
 use Rattle.agreement_law.specs.Thread.{transaction_of}
 use Rattle.agreement_law.specs.Checkpointed.{admitted_in, IsBuilt}
-use Rattle.agreement_law.proofs.Lists.{each-all}
 use Rattle.agreement_law.proofs.Executed.{admitted-given}
 use Rattle.agreement_law.proofs.Ordered.{steps-orderly}
 use Rattle.agreement_law.proofs.Known.{opens-apart}
@@ -58,15 +58,6 @@ pub has-all : {A : Type 0} (test : A → Bool) (xs : List A) → ((x : A) → Ha
 has-all test [] each = refl
 has-all test (x ∷ xs) each = rw (each x (inl refl)) (has-all test xs (λ y h. each y (inr h)))
 
-pub flat-has : {A B : Type 0} (f : A → List B) (xs : List A) (x : A) (y : B) → Has xs x → Has (f x) y → Has (flat_map f xs) y
-flat-has f [] x y h k = absurd h
-flat-has f (z ∷ xs) x y (inl e) k = has-left (f z) (flat_map f xs) y (subst (λ w. Has (f w) y) (sym e) k)
-flat-has f (z ∷ xs) x y (inr h) k = has-right (f z) (flat_map f xs) y (flat-has f xs x y h k)
-
-valid-shape : (r : Rules) (c : Certificate) → cert_refusal r c ≡ None → shape_fault c.tx ≡ None
-unfolding cert_refusal
-valid-shape r c e = none-map _ (shape_fault c.tx) (none-each (cert_cases r c) e).0
-
 -- ---- when a member turns
 
 pub record CanTurn (m : Member) : Type 0 where
@@ -77,8 +68,8 @@ turn-free : (m : Member) → first_some (turn_cases m) ≡ None → CanTurn m
 turn-free m e =
     let none = none-each (turn_cases m) e in
     record {
-      ended = accepted m.sequence.ended no_turn.NotEnded none.1.1.0;
-      done = λ a h. accepted (is_done m.held m.executed a) (no_turn.Waits a.digest) (none-of (not_done m) m.sequence.admission.admitted a none.1.1.1.0 h);
+      ended = where_not_true m.sequence.ended no_turn.NotEnded none.1.1.0;
+      done = λ a h. where_not_true (is_done m.held m.executed a) (no_turn.Waits a.digest) (none-of (not_done m) m.sequence.admission.admitted a none.1.1.1.0 h);
     }
 
 pub turn-due : (r : Rules) (m : Member) (x : Record) → due r m turns ≡ Some x → (record_as.Turn ≡ x) × CanTurn m
@@ -94,7 +85,7 @@ turn-due r m x e = go (first_some (turn_cases m)) refl e
 
 all-built : (m : Member) → CanTurn m → IsFront (flat_map admitted_in m.sequence.cuts) m.sequence.admission.admitted → Each (IsBuilt m) m.sequence.cuts
 all-built m can (rest, front) = each-all (IsBuilt m) m.sequence.cuts (λ c h. has-all (is_done m.held m.executed) c.txs (λ a k.
-    can.done a (subst (λ (zs : List Admitted). Has zs a) (sym front) (has-left (flat_map admitted_in m.sequence.cuts) rest a (flat-has admitted_in m.sequence.cuts c a h k)))))
+    can.done a (subst (λ (zs : List Admitted). Has zs a) (sym front) (has_left (flat_map admitted_in m.sequence.cuts) rest a (flat_has admitted_in m.sequence.cuts c a h k)))))
 
 -- ---- what it opens the next epoch with
 
@@ -153,9 +144,9 @@ module _ (s : Setting) (events : List Event) (n : ℕ) (seat : Seat) (at : slice
 
   shapes : IsExecutedFront m front → (x : Step) → Has (map (step_of m) front) x → shape_fault x.tx ≡ None
   shapes it x h =
-      let a = has-mapped (step_of m) front x h in
-      let there = subst (λ (zs : List Admitted). Has zs a.0) (sym it.is_front.1) (has-left front it.is_front.0 a.0 a.1) in
-      subst (λ (y : Step). shape_fault y.tx ≡ None) a.2 (valid-shape s.rules a.0.cert (admitted-given s events honest n seat at a.0 there).valid)
+      let a = has_mapped (step_of m) front x h in
+      let there = subst (λ (zs : List Admitted). Has zs a.0) (sym it.is_front.1) (has_left front it.is_front.0 a.0 a.1) in
+      subst (λ (y : Step). shape_fault y.tx ≡ None) a.2 (valid_shape s.rules a.0.cert (admitted-given s events honest n seat at a.0 there).valid)
 
   txs-are : map tx_of (map (step_of m) front) ≡ checkpointed m.sequence
   txs-are = map-twice (step_of m) tx_of front ∙ sym (txs-cut m.sequence.cuts)

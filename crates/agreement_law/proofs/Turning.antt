@@ -6,6 +6,8 @@ use Rattle.digest_core.specs.declared.Digest.{Digest}
 use Rattle.chain_types.specs.declared.transactions.Transaction.{Transaction}
 use Rattle.chain_types.specs.Equal.{digest_eq}
 use Rattle.schedule_text.specs.declared.words.Event.{Event}
+use Rattle.protocol_spec.proofs.Equality.{digest_same}
+use Rattle.protocol_spec.proofs.ListLemmas.{has_mapped, has_map}
 use Rattle.protocol_spec.specs.Chain.Words.{Has, Each}
 use Rattle.protocol_spec.specs.Member.Versions.{Execution}
 use Rattle.protocol_spec.specs.Member.Admission.{Admitted}
@@ -18,18 +20,17 @@ use Rattle.world_spec.specs.Setting.{Setting}
 use Rattle.world_spec.specs.World.{Seat, member_in}
 use Rattle.world_spec.specs.Run.{world_after}
 use Rattle.world_spec.specs.Assumptions.{IsHonestRun}
-use Rattle.safety_law.proofs.Once.{equal, digest-same}
+use Rattle.safety_law.proofs.Once.{digest-same}
+use Rattle.sequence_law.proofs.Live.{any-has, has-any}
 use Rattle.sequence_law.specs.Admitted.{held_again}
 use Rattle.block_law.proofs.Steps.{map-append}
 use Rattle.sequence_law.specs.Orderly.{Step, gave, tx_of, AreApart}
 use Rattle.sequence_law.specs.Leaving.{IsOfSteps}
-use Rattle.sequence_law.proofs.Touched.{has-mapped}
 use Rattle.sequence_law.proofs.LiveMap.{live-list-is-map}
 use Rattle.agreement_law.specs.Steps.{step_of, IsStepOf}
 use Rattle.agreement_law.specs.Orderly.{IsExecutedFront, OpensApart}
 use Rattle.agreement_law.specs.Thread.{transaction_of}
 use Rattle.agreement_law.specs.Checkpointed.{admitted_in, IsBuilt}
-use Rattle.agreement_law.proofs.Lists.{map-has, any-has, has-any}
 use Rattle.agreement_law.proofs.Executed.{one-gave}
 use Rattle.agreement_law.proofs.Ordered.{front-step, steps-orderly}
 use Rattle.agreement_law.proofs.Thread.{map-twice}
@@ -41,13 +42,13 @@ cut-digests [] = refl
 cut-digests (c ∷ cuts) = ap (λ (ds : List Digest). map (λ (a : Admitted). a.digest) c.txs ++ ds) (cut-digests cuts) ∙ sym (map-append (λ (a : Admitted). a.digest) c.txs (flat_map admitted_in cuts))
 
 is-cut : (cuts : List Cut) (a : Admitted) → Has (flat_map admitted_in cuts) a → is_cut cuts a.digest ≡ true
-is-cut cuts a h = has-any (digest_eq a.digest) (cut_digests cuts) a.digest (subst (λ (ds : List Digest). Has ds a.digest) (sym (cut-digests cuts)) (map-has (λ (x : Admitted). x.digest) (flat_map admitted_in cuts) a h)) (digest-same a.digest)
+is-cut cuts a h = has-any (digest_eq a.digest) (cut_digests cuts) a.digest (subst (λ (ds : List Digest). Has ds a.digest) (sym (cut-digests cuts)) (has_map (λ (x : Admitted). x.digest) (flat_map admitted_in cuts) a h)) (digest-same a.digest)
 
 cut-is : (cuts : List Cut) (tx : Digest) → is_cut cuts tx ≡ true → (a : Admitted) × Has (flat_map admitted_in cuts) a × (a.digest ≡ tx)
 cut-is cuts tx e =
     let d = any-has (digest_eq tx) (cut_digests cuts) e in
-    let a = has-mapped (λ (x : Admitted). x.digest) (flat_map admitted_in cuts) d.0 (subst (λ (ds : List Digest). Has ds d.0) (cut-digests cuts) d.1) in
-    (a.0, a.1, a.2 ∙ sym (equal tx d.0 d.2))
+    let a = has_mapped (λ (x : Admitted). x.digest) (flat_map admitted_in cuts) d.0 (subst (λ (ds : List Digest). Has ds d.0) (cut-digests cuts) d.1) in
+    (a.0, a.1, a.2 ∙ sym (digest_same tx d.0 d.2))
 
 passed : (test : Execution → Bool) (xs : List Execution) (x : Execution) → Has (filter test xs) x → Has xs x × (test x ≡ true)
 passed test [] x h = absurd h
@@ -85,7 +86,7 @@ module _ (s : Setting) (events : List Event) (n : ℕ) (seat : Seat) (at : slice
 
       whole : (x : Step) → Has (map (step_of m) front) x → (e : Execution) × Has (kept m) e × (e.gave ≡ gave x)
       whole x h =
-          let a = has-mapped (step_of m) front x h in (
+          let a = has_mapped (step_of m) front x h in (
             executes_as (held_again a.0) (gave (step_of m a.0)),
             passes (λ (y : Execution). is_cut m.sequence.cuts y.digest) m.executed (executes_as (held_again a.0) (gave (step_of m a.0))) (step a.0 a.1).executed (is-cut m.sequence.cuts a.0 a.1),
             ap gave a.2,
@@ -95,7 +96,7 @@ module _ (s : Setting) (events : List Event) (n : ℕ) (seat : Seat) (at : slice
       only e h =
           let p = passed (λ (y : Execution). is_cut m.sequence.cuts y.digest) m.executed e h in
           let a = cut-is m.sequence.cuts e.digest p.1 in
-          (step_of m a.0, map-has (step_of m) front a.0 a.1, one-gave s events honest n seat at e (executes_as (held_again a.0) (gave (step_of m a.0))) p.0 (step a.0 a.1).executed (sym a.2))
+          (step_of m a.0, has_map (step_of m) front a.0 a.1, one-gave s events honest n seat at e (executes_as (held_again a.0) (gave (step_of m a.0))) p.0 (step a.0 a.1).executed (sym a.2))
 
   pub turns-to-fold : Each (IsBuilt m) m.sequence.cuts → (turned m).opening ≡ values (fold_all (map_of m.opening) (map transaction_of front)).map
   turns-to-fold built =

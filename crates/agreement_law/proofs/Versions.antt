@@ -26,14 +26,15 @@ use Rattle.world_spec.specs.Assumptions.{IsHonestRun}
 use Rattle.sequence_law.specs.Admitted.{held_again, IsInOrder}
 use Rattle.agreement_law.proofs.Supply.{every-admission}
 use Rattle.sequence_law.specs.Orderly.{gave}
-use Rattle.sequence_law.proofs.Reading.{has-zip, fits-inputs}
+use Rattle.sequence_law.proofs.Reading.{has-zip}
 use Rattle.agreement_law.specs.Steps.{step_of, IsStepOf}
 use Rattle.agreement_law.proofs.Lists.{along-split}
 use Rattle.agreement_law.proofs.Executed.{one-gave, executed-step}
 use Rattle.agreement_law.proofs.Wants.{nobody, version-found, shared-wanted}
 use Rattle.agreement_law.proofs.Sources.{wanted-of}
+use Rattle.block_law.proofs.Written.{fits-first}
 
-effects-version : (t : Transaction) (objects : List Object) → (execution t objects).effects.version ≡ version_of objects
+pub effects-version : (t : Transaction) (objects : List Object) → (execution t objects).effects.version ≡ version_of objects
 unfolding execution
 effects-version t objects = go (outcome t (transaction_digest t) objects)
   where
@@ -42,7 +43,7 @@ effects-version t objects = go (outcome t (transaction_digest t) objects)
     go (Err failure) = refl
 
 -- objects that have the versions of their inputs, one by one
-each-version : (t : Transaction) (taken : Input → ℕ) (is : List Input) (os : List Object) → fit_inputs t is os ≡ true → ((i : Input) (o : Object) → Has (zip is os) (i, o) → o.version ≡ taken i) → map (λ (o : Object). o.version) os ≡ map taken is
+pub each-version : (t : Transaction) (taken : Input → ℕ) (is : List Input) (os : List Object) → fit_inputs t is os ≡ true → ((i : Input) (o : Object) → Has (zip is os) (i, o) → o.version ≡ taken i) → map (λ (o : Object). o.version) os ≡ map taken is
 each-version t taken [] [] fit same = refl
 each-version t taken [] (o ∷ os) fit same = absurd (cc)
 each-version t taken (i ∷ is) [] fit same = absurd (cc)
@@ -68,7 +69,7 @@ module _ (m : Member) (before back : List Admitted) (a : Admitted) (split : m.se
   admitted-version : version_of (step_of m a).inputs ≡ a.version
   unfolding admit
   admitted-version =
-      ap lamport_version (each-version a.cert.tx (taken_version m.opening before a.cert) (objects_of a.cert.tx) (step_of m a).inputs (fits-inputs a.cert.tx (step_of m a).inputs step.fit) taken-at)
+      ap lamport_version (each-version a.cert.tx (taken_version m.opening before a.cert) (objects_of a.cert.tx) (step_of m a).inputs (fits-first a.cert.tx (step_of m a).inputs step.fit) taken-at)
       ∙ sym (ap (λ (x : Admitted). x.version) next.versions)
 
 module _ (s : Setting) (events : List Event) (honest : IsHonestRun s events) (n : ℕ) (seat : Seat) (at : slice_get (world_after s events).seats n ≡ Some seat) where

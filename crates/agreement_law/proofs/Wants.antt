@@ -13,21 +13,21 @@ use Rattle.chain_types.specs.declared.transactions.Input.TheVariants as inputs
 use Rattle.chain_types.specs.Equal.{id_eq, key_eq, digest_eq}
 use Rattle.chain_messages.specs.declared.messages.Certificate.{Certificate}
 use Rattle.answer_types.specs.declared.answers.Assigned.{Assigned}
+use Rattle.protocol_spec.proofs.Equality.{id_same}
 use Rattle.protocol_spec.specs.Chain.Words.{Has, all_some}
 use Rattle.protocol_spec.specs.Chain.Tests.{producer_eq}
 use Rattle.protocol_spec.specs.Chain.Keys.{object_key, objects_of}
-use Rattle.protocol_spec.proofs.ListLemmas.{find-test, and-first, and-second}
+use Rattle.protocol_spec.proofs.ListLemmas.{find-test, and-first, and-second, find_has, has_mapped}
+use Rattle.protocol_spec.proofs.Truth.{some_same}
 use Rattle.protocol_spec.specs.Member.Versions.{Execution, Version, opened, versions, object_in}
 use Rattle.protocol_spec.specs.Member.Admission.{Admitted, Admission, assigned_in, assigned_of, assigned_to, assignment, assignments, current, admit}
 use Rattle.protocol_spec.specs.Member.Rounds.{Wanted, wanted_by, wanted_as, is_of_id, is_wanted, found}
 use Rattle.safety_law.proofs.Once.{digest-same}
-use Rattle.safety_law.proofs.Kept.{find-has}
 use Rattle.sequence_law.specs.Admitted.{IsInOrder}
-use Rattle.block_law.proofs.Counts.{id_same, id_refl}
+use Rattle.block_law.proofs.Counts.{id_refl}
 use Rattle.agreement_law.proofs.Executing.{some-parts}
 use Rattle.agreement_law.proofs.Agreeing.{IsFrom, never-found, among-opening, among-written}
-use Rattle.sequence_law.proofs.Touched.{has-mapped}
-use Rattle.agreement_law.proofs.Lists.{some-same, find-past}
+use Rattle.agreement_law.proofs.Lists.{find-past}
 
 -- ---- where a found version comes from
 
@@ -36,7 +36,7 @@ found-as vs w o e = go (find (is_wanted w.key w.producer) vs) refl e
   where
     go : (f : Option Version) → find (is_wanted w.key w.producer) vs ≡ f → option_map object_in f ≡ Some o → (v : Version) × (find (is_wanted w.key w.producer) vs ≡ Some v) × (v.object ≡ o)
     go None h e = absurd (cc)
-    go (Some v) h e = (v, h, some-same v.object o e)
+    go (Some v) h e = (v, h, some_same v.object o e)
 
 pub nobody : (vs : List Version) (key : ObjectKey) (o : Object) → found vs (record { key = key; producer = None }) ≡ Some o → ⊥
 nobody vs key o e =
@@ -47,8 +47,8 @@ nobody vs key o e =
 pub from-opening : (opening : List Object) (executed : List Execution) (key : ObjectKey) (o : Object) → found (versions opening executed) (record { key = key; producer = Some producers.Opening }) ≡ Some o → Has opening o
 from-opening opening executed key o e =
     let f = found-as (versions opening executed) (record { key = key; producer = Some producers.Opening }) o e in
-    let h = find-has (is_wanted key (Some producers.Opening)) (map opened opening) f.0 (among-opening opening executed key f.0 f.1) in
-    let p = has-mapped opened opening f.0 h in
+    let h = find_has (is_wanted key (Some producers.Opening)) (map opened opening) f.0 (among-opening opening executed key f.0 f.1) in
+    let p = has_mapped opened opening f.0 h in
     subst (Has opening) (ap (λ (v : Version). v.object) p.2 ∙ f.2) p.1
 
 pub from-writer : (opening : List Object) (executed : List Execution) (key : ObjectKey) (tx : Digest) (o : Object) → found (versions opening executed) (record { key = key; producer = Some (producers.Tx tx) }) ≡ Some o → IsFrom executed tx o

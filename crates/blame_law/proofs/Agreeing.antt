@@ -12,6 +12,7 @@ use Rattle.checkpoint_core.specs.Links.{wanted_number}
 use Rattle.quorum_core.specs.Committee.{is_among, is_quorum, weight}
 use Rattle.schedule_text.specs.declared.words.Event.{Event}
 use Rattle.schedule_text.specs.declared.words.Setup.{Setup}
+use Rattle.protocol_spec.proofs.ListLemmas.{each_has, has_mapped}
 use Rattle.protocol_spec.specs.Chain.Words.{Each, Has, IsFront, last_of}
 use Rattle.protocol_spec.specs.Member.Sequence.{Cut}
 use Rattle.protocol_spec.specs.Member.Checkpoints.{digest_before}
@@ -22,13 +23,13 @@ use Rattle.world_spec.specs.World.{Seat, checkpoint_statement, honest_seat, is_h
 use Rattle.world_spec.specs.Run.{world_after}
 use Rattle.world_spec.specs.Assumptions.{FewFaulty, IsHonestRun, IsStated, is_faulty_in}
 use Rattle.safety_law.proofs.Meeting.{two_meet}
-use Rattle.safety_law.proofs.Once.{each-has}
-use Rattle.safety_law.proofs.Totals.{has-mapped}
+use Rattle.safety_law.proofs.Owner.{honest-after}
+use Rattle.safety_law.proofs.Sound.{get-has}
 use Rattle.sequence_law.specs.Orderly.{AreApart}
 use Rattle.agreement_law.specs.Past.{checkpoints_with, items_of_thread, past_at}
 use Rattle.agreement_law.proofs.OneList.{built-is-of-thread, one-list}
 use Rattle.agreement_law.proofs.SetUp.{set-up-apart}
-use Rattle.headline_law.proofs.Standing.{among-has, honest-after}
+use Rattle.headline_law.proofs.Standing.{among-has}
 use Rattle.light_check.specs.declared.chain.Link.{Link}
 use Rattle.light_check.specs.Certified.{Accepting, IsAccepted, IsCertified, IsCertifiedBehind, members_in, stated, tip_of}
 use Rattle.blame_law.specs.Checked.{AgreesWith, IsBuiltIn, IsHonestChain, IsUnforgedLink}
@@ -49,7 +50,7 @@ module _ (s : Setting) (events : List Event) (few : FewFaulty s) where
       sealed m faulty (x, h, e) = record { seal = x; among = h; honest = subst (λ (n : ℕ). is_honest (world_after s events) n ≡ true) (sym e) (honest-after s events m faulty) }
 
       go : (m : ℕ) × (m < length s.rules.stakes) × (is_among (members_in l) m ≡ true) × (is_among (members_in l) m ≡ true) × (is_faulty_in s.honest m ≡ false) → IsHonestSealer l
-      go (m, low, one, two, faulty) = sealed m faulty (has-mapped (λ (x : MemberSeal). x.member) l.seals m (among-has (members_in l) m one))
+      go (m, low, one, two, faulty) = sealed m faulty (has_mapped (λ (x : MemberSeal). x.member) l.seals m (among-has (members_in l) m one))
 
   -- it has built the checkpoint
   module _ (links : List Link) (chain : IsHonestChain s (world_after s events) links) (l : Link) (there : Has links l) where
@@ -76,9 +77,9 @@ module _ (s : Setting) (events : List Event) (few : FewFaulty s) where
       where
         go : IsHonestSealer l → IsBuiltIn s (world_after s events) l.checkpoint
         go h = built-by h.seal.member h.honest
-            (each-has (λ (x : MemberSeal). IsStated s (world_after s events) x.member (checkpoint_statement l.checkpoint) x.seal) l.seals h.seal
-            (each-has (IsUnforgedLink s (world_after s events)) links l chain.no_forgery there) h.among
-            h.honest (each-has (IsAccepted s.rules.accepts (stated l.checkpoint)) l.seals h.seal sealed h.among))
+            (each_has (λ (x : MemberSeal). IsStated s (world_after s events) x.member (checkpoint_statement l.checkpoint) x.seal) l.seals h.seal
+            (each_has (IsUnforgedLink s (world_after s events)) links l chain.no_forgery there) h.among
+            h.honest (each_has (IsAccepted s.rules.accepts (stated l.checkpoint)) l.seals h.seal sealed h.among))
 
   each-link : (before : Option Checkpoint) (links : List Link) → IsCertifiedBehind s.rules.stakes s.rules.accepts before links → (l : Link) → Has links l
       → (is_quorum s.rules.stakes (weight s.rules.stakes (members_in l)) ≡ true) × Each (IsAccepted s.rules.accepts (stated l.checkpoint)) l.seals
@@ -122,11 +123,6 @@ get-front : {A : Type 0} (xs more : List A) (i : ℕ) (y : A) → slice_get xs i
 get-front [] more i y e = absurd (cc)
 get-front (x ∷ xs) more zero y e = e
 get-front (x ∷ xs) more (suc i) y e = get-front xs more i y e
-
-get-has : {A : Type 0} (xs : List A) (i : ℕ) (y : A) → slice_get xs i ≡ Some y → Has xs y
-get-has [] i y e = absurd (cc)
-get-has (x ∷ xs) zero y e = inl (cc)
-get-has (x ∷ xs) (suc i) y e = inr (get-has xs i y e)
 
 has-get : {A : Type 0} (xs : List A) (y : A) → Has xs y → (i : ℕ) × (slice_get xs i ≡ Some y)
 has-get [] y h = absurd h

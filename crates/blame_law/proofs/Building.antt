@@ -25,7 +25,7 @@ use Rattle.answer_types.specs.declared.refusals.AckRefusal.TheVariants as no_ack
 use Rattle.schedule_text.specs.declared.words.Event.{Event}
 use Rattle.protocol_spec.specs.Chain.Words.{Has, IsFront, first_some, refused_or, unless_refused, where_true}
 use Rattle.protocol_spec.specs.Chain.Certificates.{Rules, read_signed}
-use Rattle.protocol_spec.proofs.ListLemmas.{and-first, and-second}
+use Rattle.protocol_spec.proofs.ListLemmas.{and-first, and-second, has_mapped, find_front, front_whole}
 use Rattle.protocol_spec.specs.Member.Versions.{Execution, execution_of}
 use Rattle.protocol_spec.specs.Member.Votes.{Cast, vote_origins}
 use Rattle.protocol_spec.specs.Member.Admission.{Admitted}
@@ -39,12 +39,9 @@ use Rattle.world_spec.specs.World.{Seat, answered_statement, appended, built_sta
 use Rattle.world_spec.specs.Run.{world_after}
 use Rattle.safety_law.proofs.Apart.{state-push}
 use Rattle.safety_law.proofs.Backed.{backed}
-use Rattle.safety_law.proofs.Once.{has-left}
-use Rattle.safety_law.proofs.Totals.{has-mapped}
-use Rattle.agreement_law.proofs.Executing.{find-more}
-use Rattle.agreement_law.proofs.Growth.{front-all}
 use Rattle.agreement_law.proofs.Prefixes.{earlier-saw}
 use Rattle.headline_law.proofs.Along.{chained-more}
+use Rattle.headline_law.proofs.Standing.{front-has}
 
 -- ---- more held, executed and cut
 
@@ -62,7 +59,7 @@ finds-same : {A : Type 0} (same : Digest → A → Bool) (xs : List A) → Finds
 finds-same same xs tx x e = e
 
 finds-push : {A : Type 0} (same : Digest → A → Bool) (xs ys : List A) → FindsMore same xs (xs ++ ys)
-finds-push same xs ys tx x e = find-more (same tx) xs ys x e
+finds-push same xs ys tx x e = find_front (same tx) xs ys x e
 
 module _ (epoch : ℕ) (held held' : List Held) (executed executed' : List Execution) (more_held : FindsMore same_held held held') (more_executed : FindsMore same_execution executed executed') where
   -- the execution that a done transaction has
@@ -139,13 +136,13 @@ module _ (r : Rules) (m : Member) where
   -- what a member has built is a front of what it has built behind one more record
   pub built-after : (x : Record) → IsFront (built m) (built (after r m x))
   unfolding built after
-  built-after (record_as.Vote tx origins) = front-all (built m)
-  built-after (record_as.Hold c) = front-cuts (m.held ++ held_as c ∷ []) m.executed (finds-push same_held m.held (held_as c ∷ [])) (finds-same same_execution m.executed) m.sequence.cuts (front-all m.sequence.cuts)
+  built-after (record_as.Vote tx origins) = front_whole (built m)
+  built-after (record_as.Hold c) = front-cuts (m.held ++ held_as c ∷ []) m.executed (finds-push same_held m.held (held_as c ∷ [])) (finds-same same_execution m.executed) m.sequence.cuts (front_whole m.sequence.cuts)
   built-after (record_as.See bytes) = front-cuts (held_with m.held (what_of r m.epoch m.sequence bytes)) m.executed (finds-taken m.held (what_of r m.epoch m.sequence bytes)) (finds-same same_execution m.executed) (saw r m.opening m.epoch m.sequence bytes).cuts (earlier-saw r m.opening m.epoch m.sequence bytes).cuts
-  built-after record_as.Close = front-all (built m)
-  built-after (record_as.Ran txs) = front-cuts m.held (m.executed ++ rounds (books m) m.executed) (finds-same same_held m.held) (finds-push same_execution m.executed (rounds (books m) m.executed)) m.sequence.cuts (front-all m.sequence.cuts)
-  built-after record_as.Turn = front-all (built m)
-  built-after (record_as.Ran2 items) = front-cuts m.held (m.executed ++ rounds (books m) m.executed) (finds-same same_held m.held) (finds-push same_execution m.executed (rounds (books m) m.executed)) m.sequence.cuts (front-all m.sequence.cuts)
+  built-after record_as.Close = front_whole (built m)
+  built-after (record_as.Ran txs) = front-cuts m.held (m.executed ++ rounds (books m) m.executed) (finds-same same_held m.held) (finds-push same_execution m.executed (rounds (books m) m.executed)) m.sequence.cuts (front_whole m.sequence.cuts)
+  built-after record_as.Turn = front_whole (built m)
+  built-after (record_as.Ran2 items) = front-cuts m.held (m.executed ++ rounds (books m) m.executed) (finds-same same_held m.held) (finds-push same_execution m.executed (rounds (books m) m.executed)) m.sequence.cuts (front_whole m.sequence.cuts)
 
 -- ---- each stated checkpoint is built
 
@@ -153,9 +150,6 @@ drop-has : {A : Type 0} (n : ℕ) (xs : List A) (x : A) → Has (drop n xs) x �
 drop-has zero xs x h = h
 drop-has (suc n) [] x h = h
 drop-has (suc n) (y ∷ xs) x h = inr (drop-has n xs x h)
-
-pub front-has : {A : Type 0} (xs ys : List A) (x : A) → IsFront xs ys → Has xs x → Has ys x
-front-has {A} xs ys x (more, e) h = subst (λ (zs : List A). Has zs x) (sym e) (has-left xs more x h)
 
 -- the kind of a statement
 abbrev is_of_checkpoint : Statement → Bool
@@ -232,7 +226,7 @@ module _ (st : Statement) (m : Member) where
 
   -- what was newly built is built
   new-built : (old : Member) → Has (map checkpoint_statement (newly_built old m)) st → Never
-  new-built old h is = go (has-mapped checkpoint_statement (newly_built old m) st h)
+  new-built old h is = go (has_mapped checkpoint_statement (newly_built old m) st h)
     where
       go : (c : Checkpoint) × Has (newly_built old m) c × (checkpoint_statement c ≡ st) → IsStatedOf m st
       go (c, k, e) = (c, drop-has (length (built old)) (built m) c k, e)

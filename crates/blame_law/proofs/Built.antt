@@ -12,6 +12,7 @@ use Rattle.chain_messages.specs.Messages as messages
 use Rattle.checkpoint_core.specs.declared.checkpoints.Checkpoint.{Checkpoint}
 use Rattle.answer_types.specs.declared.answers.Held.{Held}
 use Rattle.schedule_text.specs.declared.words.Event.{Event}
+use Rattle.protocol_spec.proofs.ListLemmas.{each_front, each_join, each_has, has_left, has_right, has_parts, flat_has}
 use Rattle.protocol_spec.specs.Chain.Words.{Each, Has, IsFront}
 use Rattle.protocol_spec.specs.Member.Versions.{Execution}
 use Rattle.protocol_spec.specs.Member.Admission.{Admitted}
@@ -24,28 +25,25 @@ use Rattle.world_spec.specs.World.{Seat, member_in}
 use Rattle.world_spec.specs.Run.{world_after}
 use Rattle.world_spec.specs.Assumptions.{IsHonestRun, all_delivered}
 use Rattle.block_law.proofs.Steps.{map-append}
-use Rattle.safety_law.proofs.Forks.{each-join}
-use Rattle.safety_law.proofs.Once.{each-has, has-left}
 use Rattle.sequence_law.specs.Orderly.{AreApart}
-use Rattle.sequence_law.proofs.Reading.{after_steps, has-right}
-use Rattle.sequence_law.proofs.Touched.{has-parts}
+use Rattle.sequence_law.proofs.Reading.{after_steps}
 use Rattle.agreement_law.specs.Checkpointed.{IsBuilt, admitted_in}
 use Rattle.agreement_law.specs.Steps.{step_of}
 use Rattle.agreement_law.specs.Thread.{transaction_of}
 use Rattle.agreement_law.proofs.Checkpointed.{all-cut}
-use Rattle.agreement_law.proofs.Lists.{each-all}
 use Rattle.agreement_law.proofs.Prefixes.{follows}
-use Rattle.agreement_law.proofs.Thread.{map-twice}
-use Rattle.agreement_law.proofs.Turned.{CanTurn, flat-has, has-all}
+use Rattle.agreement_law.proofs.Thread.{map-twice, map-same}
+use Rattle.agreement_law.proofs.Turned.{CanTurn, has-all}
 use Rattle.headline_law.proofs.Along.{past-before}
 use Rattle.follower_core.specs.Courses.{Course}
 use Rattle.follower_core.specs.Followed.{Handed}
 use Rattle.follower_core.specs.Following.{AreApplied, State, behind_handed, opened, turned}
 use Rattle.blame_law.specs.Followed.{IsHandedFrom, checkpoint_in, tx_listed}
-use Rattle.blame_law.proofs.Cutting.{IsDone, applied-append, behind-append, chained-handed, handed_of, map-same, walk, walk-all, with_handed}
+use Rattle.blame_law.proofs.Cutting.{IsDone, applied-append, behind-append, chained-handed, handed_of, walk, walk-all, with_handed}
 use Rattle.blame_law.proofs.Flags.{HasLast, IsFlagged, IsNotLast, seen-flag}
 use Rattle.blame_law.proofs.Linking.{IsState, IsTip}
 use Rattle.blame_law.proofs.Members.{digest-is, has-item, in-run, may-stand, opens}
+use Rattle.safety_law.proofs.Totals.{each-all}
 
 -- ---- the cuts whose checkpoints a member has built (as in agreement_law's proof of OneListOfCheckpoints)
 
@@ -72,10 +70,6 @@ module _ (epoch : ℕ) (held : List Held) (executed : List Execution) where
             ∙ sym (cond-true (list_all (is_done held executed) c.txs) (chained epoch held executed next rest.cuts) before e);
       }
       go false e rest = record { cuts = []; front = (c ∷ cs, refl); done = tt; is = ap (λ (b : Bool). cond b (chained epoch held executed next cs) before) e }
-
-each-front : {A : Type 0} (P : A → Type 0) (xs ys : List A) → Each P (xs ++ ys) → Each P xs
-each-front P [] ys each = tt
-each-front P (x ∷ xs) ys each = (each.0, each-front P xs ys each.1)
 
 -- the front of a list with one more is a front of the list, or all
 front-or-all : {A : Type 0} (xs rest ys : List A) (y : A) → xs ++ rest ≡ ys ++ y ∷ [] → IsFront xs ys ⊎ (xs ≡ ys ++ y ∷ [])
@@ -124,8 +118,8 @@ module _ (txs : List Transaction) (m : Member) where
       → Each (IsHandedFrom txs) (handed_of m before cs)
   all-handed [] before digests known = tt
   all-handed (c ∷ cs) before digests known = (
-    one-handed before c (λ a h. digests a (has-left c.txs (flat_map admitted_in cs) a h)) (λ a h. known a (has-left c.txs (flat_map admitted_in cs) a h)),
-    all-handed cs (before ++ checkpoint_behind m.epoch m.executed before c ∷ []) (λ a h. digests a (has-right c.txs (flat_map admitted_in cs) a h)) (λ a h. known a (has-right c.txs (flat_map admitted_in cs) a h)),
+    one-handed before c (λ a h. digests a (has_left c.txs (flat_map admitted_in cs) a h)) (λ a h. known a (has_left c.txs (flat_map admitted_in cs) a h)),
+    all-handed cs (before ++ checkpoint_behind m.epoch m.executed before c ∷ []) (λ a h. digests a (has_right c.txs (flat_map admitted_in cs) a h)) (λ a h. known a (has_right c.txs (flat_map admitted_in cs) a h)),
   )
 
 -- ---- a follower behind the checkpoints of the epochs before
@@ -191,12 +185,12 @@ module _ (s : Setting) (events : List Event) (n : ℕ) (seat : Seat) (at : slice
         ended it = part (front-or-all cuts first.0 it.before it.cut (sym first.1 ∙ it.are))
           where
             part : IsFront cuts it.before ⊎ (cuts ≡ it.before ++ it.cut ∷ []) → AreApplied begun (handed_of m m.past cuts)
-            part (inl f) = going (each-front IsNotLast cuts f.0 (subst (Each IsNotLast) f.1 it.others))
+            part (inl f) = going (each_front IsNotLast cuts f.0 (subst (Each IsNotLast) f.1 it.others))
             part (inr e) = (ending (record { before = it.before; cut = it.cut; are = e; others = it.others; last = it.last })).applied
 
         go : (b : Bool) → m.sequence.ended ≡ b → AreApplied begun (handed_of m m.past cuts)
         go true e = ended (flagged.ended e)
-        go false e = going (each-front IsNotLast cuts first.0 (subst (Each IsNotLast) first.1 (flagged.going e)))
+        go false e = going (each_front IsNotLast cuts first.0 (subst (Each IsNotLast) first.1 (flagged.going e)))
 
     abbrev handed_now : List Handed
     handed_now = opening_is.past.handed ++ handed_of m m.past cuts
@@ -208,7 +202,7 @@ module _ (s : Setting) (events : List Event) (n : ℕ) (seat : Seat) (at : slice
     are-followed all e = record {
       handed = handed_now;
       are = handed-are ∙ e;
-      each = each-join (IsHandedFrom txs) opening_is.past.handed (handed_of m m.past cuts) opening_is.past.each
+      each = each_join (IsHandedFrom txs) opening_is.past.handed (handed_of m m.past cuts) opening_is.past.each
           (all-handed txs m cuts m.past (digest-is s events n seat at run_is distinct cuts first done) (in-run s events n seat at run_is distinct cuts first done txs within));
       applied = applied-append opening_is.past.handed (handed_of m m.past cuts) (opened s.opening) opening_is.past.applied cuts-applied;
     }
@@ -256,19 +250,19 @@ module _ (s : Setting) (events : List Event) (n : ℕ) (seat : Seat) (at : slice
   turn-built can =
       let front = all-cut s events n seat at in
       each-all (IsBuilt member) member.sequence.cuts (λ c h. has-all (is_done member.held member.executed) c.txs (λ a k.
-      can.done a (subst (λ (bs : List Admitted). Has bs a) (sym front.1) (has-left (flat_map admitted_in member.sequence.cuts) front.0 a (flat-has admitted_in member.sequence.cuts c a h k)))))
+      can.done a (subst (λ (bs : List Admitted). Has bs a) (sym front.1) (has_left (flat_map admitted_in member.sequence.cuts) front.0 a (flat_has admitted_in member.sequence.cuts c a h k)))))
 
   flags : IsFlagged member.sequence
   flags = let taken = follows s events n seat at in subst IsFlagged (sym taken.gives) (seen-flag s.rules member.opening member.epoch (map messages.entry.spell taken.front))
 
   none-last : (cs : List Cut) (d : Cut) → Each IsNotLast cs → Has cs d → d.last ≡ true → ⊥
-  none-last cs d others h last = let no = each-has IsNotLast cs d others h in cc
+  none-last cs d others h last = let no = each_has IsNotLast cs d others h in cc
 
   -- where it has built the last one, the epoch has ended, and it has
   pub last-built : (c : Checkpoint) → Has (built (member_in s seat)) c → c.last ≡ true → c.epoch ≡ (member_in s seat).epoch
       → ((member_in s seat).sequence.ended ≡ true) × Each (IsBuilt (member_in s seat)) (member_in s seat).sequence.cuts
   unfolding built
-  last-built c h last epoch = where_from (has-parts member.past (map checkpoint_in (handed_of member member.past to.cuts)) c (subst (λ (cs : List Checkpoint). Has cs c) (to.is ∙ chained-handed member to.cuts member.past to.done) h))
+  last-built c h last epoch = where_from (has_parts member.past (map checkpoint_in (handed_of member member.past to.cuts)) c (subst (λ (cs : List Checkpoint). Has cs c) (to.is ∙ chained-handed member to.cuts member.past to.done) h))
     where
       to : AreDone member.epoch member.held member.executed member.past member.sequence.cuts
       to = are-done member.epoch member.held member.executed member.sequence.cuts member.past
@@ -277,12 +271,12 @@ module _ (s : Setting) (events : List Event) (n : ℕ) (seat : Seat) (at : slice
       with_cut d there is = go member.sequence.ended refl
         where
           part : (it : HasLast member.sequence.cuts) → member.sequence.ended ≡ true → IsFront to.cuts it.before ⊎ (to.cuts ≡ it.before ++ it.cut ∷ []) → HasEnded
-          part it e (inl f) = absurd (none-last to.cuts d (each-front IsNotLast to.cuts f.0 (subst (Each IsNotLast) f.1 it.others)) there is)
+          part it e (inl f) = absurd (none-last to.cuts d (each_front IsNotLast to.cuts f.0 (subst (Each IsNotLast) f.1 it.others)) there is)
           part it e (inr q) = (e, subst (Each (IsBuilt member)) (q ∙ sym it.are) to.done)
 
           go : (b : Bool) → member.sequence.ended ≡ b → HasEnded
           go true e = let it = flags.ended e in part it e (front-or-all to.cuts to.front.0 it.before it.cut (sym to.front.1 ∙ it.are))
-          go false e = absurd (none-last to.cuts d (each-front IsNotLast to.cuts to.front.0 (subst (Each IsNotLast) to.front.1 (flags.going e))) there is)
+          go false e = absurd (none-last to.cuts d (each_front IsNotLast to.cuts to.front.0 (subst (Each IsNotLast) to.front.1 (flags.going e))) there is)
 
       where_from : Has member.past c ⊎ Has (map checkpoint_in (handed_of member member.past to.cuts)) c → HasEnded
       where_from (inl k) = absurd (let less = past-before s.rules s.opening seat.records c k in omega (arith, less, epoch))

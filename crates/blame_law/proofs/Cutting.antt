@@ -1,5 +1,5 @@
 -- The checkpoints of a member's cuts at a follower: each is applied.
-use Rattle.std.proofs.Common.{inl, inr, refl, sym, subst, ap, ◌∙◌, append_assoc, append-nil}
+use Rattle.std.proofs.Common.{refl, sym, subst, ap, ◌∙◌, append_assoc, append-nil}
 use Rattle.std.proofs.lemmas.Bool.{cond-true}
 use Rattle.std.specs.Prelude.{◌≡◌, Bool, true, false, List, [], ◌∷◌, ◌++◌, map, flat_map, None}
 use Rattle.std.specs.List.{list_all}
@@ -7,20 +7,20 @@ use Rattle.chain_types.specs.declared.objects.Object.{Object}
 use Rattle.chain_types.specs.declared.transactions.Transaction.{Transaction}
 use Rattle.checkpoint_core.specs.declared.checkpoints.Checkpoint.{Checkpoint}
 use Rattle.checkpoint_core.specs.declared.checkpoints.Item.{Item}
+use Rattle.protocol_spec.proofs.ListLemmas.{has_left, has_right}
 use Rattle.protocol_spec.specs.Chain.Words.{Along, Each, Has}
 use Rattle.protocol_spec.specs.Member.Admission.{Admitted}
 use Rattle.protocol_spec.specs.Member.Sequence.{Cut}
 use Rattle.protocol_spec.specs.Member.Checkpoints.{chained, checkpoint_behind, is_done, item_of}
 use Rattle.protocol_spec.specs.Member.Member.{Member}
 use Rattle.block_law.proofs.Steps.{map-append}
-use Rattle.safety_law.proofs.Once.{has-left}
 use Rattle.sequence_law.specs.Orderly.{AreApart, Step, tx_of}
-use Rattle.sequence_law.proofs.Reading.{along-back, has-right}
+use Rattle.sequence_law.proofs.Reading.{along-back}
 use Rattle.agreement_law.specs.Checkpointed.{IsBuilt, admitted_in}
 use Rattle.agreement_law.specs.Steps.{step_of}
 use Rattle.agreement_law.specs.Thread.{transaction_of}
 use Rattle.agreement_law.proofs.Lists.{along-front}
-use Rattle.agreement_law.proofs.Thread.{map-twice}
+use Rattle.agreement_law.proofs.Thread.{map-twice, map-same}
 use Rattle.follower_core.specs.Followed.{Handed}
 use Rattle.follower_core.specs.Following.{AreApplied, State, behind_checkpoint, behind_handed, refusal_of}
 use Rattle.blame_law.specs.Followed.{checkpoint_in}
@@ -28,10 +28,6 @@ use Rattle.blame_law.proofs.Flags.{HasLast, IsNotLast}
 use Rattle.blame_law.proofs.Linking.{IsState, IsTurned, checkpoint_with, goes-on, not-refused, turns}
 use Rattle.blame_law.proofs.Placing.{item_in}
 use Rattle.blame_law.proofs.Stepping.{MayStand}
-
-pub map-same : {A B : Type 0} (f g : A → B) (xs : List A) → ((x : A) → Has xs x → f x ≡ g x) → map f xs ≡ map g xs
-map-same f g [] same = refl
-map-same {B = B} f g (x ∷ xs) same = ap (λ (z : B). z ∷ map f xs) (same x (inl refl)) ∙ ap (λ (zs : List B). g x ∷ zs) (map-same f g xs (λ y h. same y (inr h)))
 
 -- ---- lists of what is handed in
 
@@ -143,9 +139,9 @@ module _ (m : Member) where
         let split = subst (Along (MayStand opening) steps) (steps-split c cs) may in
         let here = along-front (MayStand opening) steps (steps_of c.txs) (all_steps cs) split in
         let later = along-back opening (MayStand opening) steps (steps_of c.txs) (all_steps cs) split in
-        let own = λ (a : Admitted) (h : Has c.txs a). items a (has-left c.txs (flat_map admitted_in cs) a h) in
+        let own = λ (a : Admitted) (h : Has c.txs a). items a (has_left c.txs (flat_map admitted_in cs) a h) in
         let next = before ++ next_behind before c ∷ [] in
-        let rest = walk cs (behind_checkpoint s (next_behind before c) (map transaction_of c.txs)) (steps ++ steps_of c.txs) next others.1 (λ a h. items a (has-right c.txs (flat_map admitted_in cs) a h))
+        let rest = walk cs (behind_checkpoint s (next_behind before c) (map transaction_of c.txs)) (steps ++ steps_of c.txs) next others.1 (λ a h. items a (has_right c.txs (flat_map admitted_in cs) a h))
         (cut-goes-on s steps before is c own here others.0) later in
         record {
           applied = (cut-applied s steps before is c own here false others.0, rest.applied);
@@ -173,8 +169,8 @@ module _ (m : Member) where
     done-push cs c s steps before others last items is may =
         let split = subst (Along (MayStand opening) steps) (steps-push cs c) may in
         let has = λ (a : Admitted) (h : Has (flat_map admitted_in cs ++ c.txs) a). items a (subst (λ (bs : List Admitted). Has bs a) (sym (flat-push cs c)) h) in
-        let first = walk cs s steps before others (λ a h. has a (has-left (flat_map admitted_in cs) c.txs a h)) is (along-front (MayStand opening) steps (all_steps cs) (steps_of c.txs) split) in
-        let own = λ (a : Admitted) (h : Has c.txs a). has a (has-right (flat_map admitted_in cs) c.txs a h) in
+        let first = walk cs s steps before others (λ a h. has a (has_left (flat_map admitted_in cs) c.txs a h)) is (along-front (MayStand opening) steps (all_steps cs) (steps_of c.txs) split) in
+        let own = λ (a : Admitted) (h : Has c.txs a). has a (has_right (flat_map admitted_in cs) c.txs a h) in
         let here = along-back opening (MayStand opening) steps (all_steps cs) (steps_of c.txs) split in
         let then : State = behind_handed s (handed_of before cs) in
         let whole : List Checkpoint = with_handed before cs in

@@ -2,11 +2,11 @@
 use Rattle.std.proofs.Common.{refl}
 use Rattle.std.specs.Prelude.{◌≡◌, ℕ, Bool, true, false, cond, List, [], ◌∷◌, ◌++◌, fold}
 use Rattle.chain_types.specs.declared.objects.Object.{Object}
+use Rattle.protocol_spec.proofs.ListLemmas.{each_join}
 use Rattle.protocol_spec.specs.Chain.Words.{Each}
 use Rattle.protocol_spec.specs.Chain.Certificates.{Rules}
 use Rattle.protocol_spec.specs.Member.Admission.{Admitted, since_mark}
 use Rattle.protocol_spec.specs.Member.Sequence.{Cut, Sequence, What, takes, commits, counts, ignores, nothing_seen, what_of, cut_of, last_cut, counted_as, ends_with_member, with_what, with_entry, saw, seen}
-use Rattle.safety_law.proofs.Forks.{each-join}
 
 abbrev pub IsNotLast : Cut → Type 0
 IsNotLast c = c.last ≡ false
@@ -34,7 +34,7 @@ module _ (r : Rules) (opening : List Object) (epoch : ℕ) where
 
   what-flag : (q : Sequence) (what : What) → q.ended ≡ false → IsFlagged q → IsFlagged (with_what r opening q what)
   what-flag q (takes h) open_yet is = record { going = is.going; ended = is.ended }
-  what-flag q commits open_yet is = record { going = λ e. each-join IsNotLast q.cuts (cut_of (since_mark q.admission)) (is.going open_yet) (cut-flag (since_mark q.admission)); ended = λ e. absurd (cc) }
+  what-flag q commits open_yet is = record { going = λ e. each_join IsNotLast q.cuts (cut_of (since_mark q.admission)) (is.going open_yet) (cut-flag (since_mark q.admission)); ended = λ e. absurd (cc) }
   what-flag q (counts m) open_yet is = counted-flag (ends_with_member r q m) q m open_yet is
   what-flag q (ignores cause) open_yet is = is
 

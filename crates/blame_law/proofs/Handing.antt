@@ -12,6 +12,8 @@ use Rattle.checkpoint_core.specs.declared.checkpoints.Checkpoint.{Checkpoint}
 use Rattle.checkpoint_core.specs.Links.{link_answer}
 use Rattle.schedule_text.specs.declared.words.Event.{Event}
 use Rattle.schedule_text.specs.declared.words.Setup.{Setup}
+use Rattle.protocol_spec.proofs.ListLemmas.{has_map}
+use Rattle.protocol_spec.proofs.Truth.{where_not_true}
 use Rattle.protocol_spec.specs.Chain.Words.{Each, Has, IsFront, last_of, where_true}
 use Rattle.protocol_spec.specs.Member.Member.{Member, built}
 use Rattle.world_spec.specs.Setting.{Setting, Trust, setting_of}
@@ -19,11 +21,11 @@ use Rattle.world_spec.specs.World.{Seat, member_in, new_world}
 use Rattle.world_spec.specs.Openings.{opening_at}
 use Rattle.world_spec.specs.Run.{world_after}
 use Rattle.world_spec.specs.Assumptions.{IsHonestRun, TransactionsApart, all_delivered, all_transactions, delivered}
-use Rattle.safety_law.proofs.Apart.{accepted, none-each}
+use Rattle.safety_law.proofs.Apart.{none-each}
 use Rattle.safety_law.proofs.Forks.{all-front}
 use Rattle.safety_law.proofs.Fronts.{honest-front}
 use Rattle.sequence_law.specs.Orderly.{AreApart}
-use Rattle.agreement_law.proofs.Lists.{has-middle, map-has}
+use Rattle.agreement_law.proofs.Lists.{has-middle}
 use Rattle.agreement_law.proofs.Ended.{more-left}
 use Rattle.agreement_law.proofs.Opened.{every-opening, grows-after}
 use Rattle.agreement_law.proofs.Prefixes.{either-front}
@@ -35,10 +37,10 @@ use Rattle.follower_core.specs.Courses.{first_bad}
 use Rattle.follower_core.specs.Followed.{Handed}
 use Rattle.follower_core.specs.Following.{AreApplied, State, behind_checkpoint, behind_handed, is_memory, link_refusal, opened, refusal_before, refusal_of}
 use Rattle.blame_law.specs.Followed.{AreHanded, CanBeFollowed, IsFollowed, IsHandedFrom, IsInRun, IsOpenedAlike, OnlyMemoryIsWanting, StandsAtOpenings, checkpoint_in, tx_listed}
-use Rattle.blame_law.proofs.Building.{front-has}
 use Rattle.blame_law.proofs.Built.{AreFollowed, built-followed}
 use Rattle.blame_law.proofs.Cutting.{applied-back, applied-front}
 use Rattle.blame_law.proofs.Past.{IsEnd, at-opening, end-of}
+use Rattle.headline_law.proofs.Standing.{front-has}
 
 -- ---- one transaction for each digest
 
@@ -83,7 +85,7 @@ epoch-is s c ts e =
     let early = (none-each (refusal_before s.tip c ts ∷ first_bad s.course 0 c.items ts ∷ []) e).0 in
     let other = (none-each (where_true (not s.tip.up) refused.Down ∷ link_refusal (link_answer s.tip.before c) ∷ where_true (not (c.epoch == s.tip.epoch)) (refused.Epoch c.epoch s.tip.epoch)
     ∷ where_true (not (length ts == length c.items)) (refused.Count (length ts) (length c.items)) ∷ []) early).1.1.0 in
-    (Decides-eqb c.epoch s.tip.epoch).0 (accepted (c.epoch == s.tip.epoch) (refused.Epoch c.epoch s.tip.epoch) other)
+    (Decides-eqb c.epoch s.tip.epoch).0 (where_not_true (c.epoch == s.tip.epoch) (refused.Epoch c.epoch s.tip.epoch) other)
 
 epoch-grows : (s : State) (c : Checkpoint) (ts : List Transaction) → s.tip.epoch ≤ (behind_checkpoint s c ts).tip.epoch
 epoch-grows s c ts = go c.last
@@ -235,7 +237,7 @@ module _ (s : Setting) (events : List Event) (run_is : IsHonestRun s events) (di
           go (inr f) = inr (front-same txs run_is.transactions end.followed.handed handed (subst (λ (cs : List Checkpoint). IsFront cs (map checkpoint_in handed)) (sym end.followed.are) f) end.followed.each are.each)
 
       below : (h : Handed) → Has end.followed.handed h → h.checkpoint.epoch ≤ c.epoch
-      below h there = end.below h.checkpoint (subst (λ (cs : List Checkpoint). Has cs h.checkpoint) end.followed.are (map-has checkpoint_in end.followed.handed h there))
+      below h there = end.below h.checkpoint (subst (λ (cs : List Checkpoint). Has cs h.checkpoint) end.followed.are (has_map checkpoint_in end.followed.handed h there))
 
       same : handed ≡ end.followed.handed
       same = same-whole (opened s.opening) c.epoch end.followed.handed end.followed.applied end.tip below handed (followed handed are) c refl ends last meet

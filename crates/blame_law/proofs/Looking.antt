@@ -9,22 +9,21 @@ use Rattle.chain_types.specs.Digests.{transaction_digest}
 use Rattle.checkpoint_core.specs.declared.checkpoints.Checkpoint.{Checkpoint}
 use Rattle.checkpoint_core.specs.declared.checkpoints.Item.{Item}
 use Rattle.schedule_text.specs.declared.words.Event.{Event}
+use Rattle.protocol_spec.proofs.Equality.{digest_same}
 use Rattle.protocol_spec.specs.Chain.Words.{Each, Has}
-use Rattle.protocol_spec.proofs.ListLemmas.{find-test}
+use Rattle.protocol_spec.proofs.ListLemmas.{find-test, find_has, has_left, has_map}
 use Rattle.world_spec.specs.Setting.{Setting}
 use Rattle.world_spec.specs.World.{Made}
 use Rattle.world_spec.specs.Run.{world_after}
 use Rattle.world_spec.specs.Assumptions.{all_transactions}
-use Rattle.safety_law.proofs.Kept.{find-has}
-use Rattle.safety_law.proofs.Once.{equal, has-left}
-use Rattle.safety_law.proofs.Totals.{has-map, sound-after}
+use Rattle.safety_law.proofs.Totals.{sound-after}
 use Rattle.blame_law.specs.Followed.{IsHandedFrom, tx_listed, made_as}
 
 module _ (s : Setting) (events : List Event) where
   -- a made transaction is one of the run
   pub made-is-of-run : (t : Made) → Has (world_after s events).txs t → Has (all_transactions s events) t.signed.tx
   unfolding all_transactions
-  made-is-of-run t h = has-left (map (λ (x : Made). x.signed.tx) (world_after s events).txs) _ t.signed.tx (has-map (λ (x : Made). x.signed.tx) (world_after s events).txs t h)
+  made-is-of-run t h = has_left (map (λ (x : Made). x.signed.tx) (world_after s events).txs) _ t.signed.tx (has_map (λ (x : Made). x.signed.tx) (world_after s events).txs t h)
 
   record IsOfRun (d : Digest) (t : Transaction) : Type 0 where
     digest : transaction_digest t ≡ d
@@ -36,10 +35,10 @@ module _ (s : Setting) (events : List Event) where
       go : (o : Option Made) → find (λ (x : Made). digest_eq x.digest d) (world_after s events).txs ≡ o → option_map (λ (x : Made). x.signed.tx) o ≡ Some t → IsOfRun d t
       go None h q = absurd (cc)
       go (Some x) h q =
-          let there = find-has (λ (y : Made). digest_eq y.digest d) (world_after s events).txs x h in
+          let there = find_has (λ (y : Made). digest_eq y.digest d) (world_after s events).txs x h in
           let same : x.signed.tx ≡ t = cc in
           subst (IsOfRun d) same (record {
-            digest = sym ((sound-after s events).made x there) ∙ equal x.digest d (find-test (λ (y : Made). digest_eq y.digest d) (world_after s events).txs x h);
+            digest = sym ((sound-after s events).made x there) ∙ digest_same x.digest d (find-test (λ (y : Made). digest_eq y.digest d) (world_after s events).txs x h);
             known = made-is-of-run x there;
           })
 

@@ -3,20 +3,19 @@ use Rattle.std.proofs.Common.{inl, inr, refl, sym, subst, ap, ◌∙◌}
 use Rattle.std.specs.Prelude.{◌≡◌, ◌⊎◌, Bool, true, false, cond, ◌&&◌, T, List, [], ◌∷◌, map, fold, Option, Some, None}
 use Rattle.std.specs.FinMap.{empty, entries, entries_sorted, get, get-empty, get-entries, get-insert, get-remove, same_map, values}
 use Rattle.std.specs.FinMap.Entries.{below_all, find, is_sorted}
-use Rattle.std.specs.Ordering.{eq_by_cmp, is_eq, is_lt}
-use Rattle.std.specs.declared.cmp.Ordering.{Ordering}
-use Rattle.std.specs.declared.cmp.Ordering.TheVariants.{Less, Equal, Greater}
-use Rattle.std.specs.Cmp.{eq_by_cmp_equiv}
+use Rattle.std.specs.Ordering.{eq_by_cmp, is_lt}
 use Rattle.chain_types.specs.declared.objects.Object.{Object}
 use Rattle.chain_types.specs.declared.objects.ObjectId.{ObjectId}
 use Rattle.chain_types.specs.Equal.{id_eq}
+use Rattle.protocol_spec.proofs.Equality.{id_same, ids_unique}
 use Rattle.protocol_spec.specs.Chain.Words.{Each, Has}
 use Rattle.protocol_spec.specs.Member.Versions.{id_cmp}
 use Rattle.protocol_spec.specs.Member.Sequential.{Objects, map_after, map_of, with_object, without_id}
-use Rattle.block_law.proofs.Counts.{id_refl, id_same}
+use Rattle.block_law.proofs.Counts.{id_refl}
 use Rattle.sequence_law.specs.Orderly.{Step, gave}
-use Rattle.sequence_law.proofs.Standing.{elsewhere, here, ids-total, ids-unique}
+use Rattle.sequence_law.proofs.Standing.{elsewhere, here, ids-total, ids-tie, ids-same}
 use Rattle.sequence_law.proofs.Reading.{after_steps}
+use Rattle.agreement_law.proofs.Lives.{less-tied}
 
 -- each object stands under its own id
 abbrev pub IsOwn : Objects → Type 0
@@ -26,14 +25,6 @@ IsOwn m = (id : ObjectId) (o : Object) → get m id ≡ Some o → o.id ≡ id
 
 same : (o p : Object) → Some o ≡ Some p → o ≡ p
 same o p e = cc
-
-is-equal : (r : Ordering) → is_eq r ≡ true → r ≡ Equal
-is-equal Less e = absurd (cc)
-is-equal Equal e = refl
-is-equal Greater e = absurd (cc)
-
-tied : (a b : ObjectId) → eq_by_cmp id_cmp a b ≡ true → a ≡ b
-tied a b e = ids-unique a b (is-equal (id_cmp a b) e)
 
 own-empty : IsOwn empty
 own-empty id o e = absurd (let none = get-empty id_cmp id in clash (sym none ∙ e))
@@ -45,7 +36,7 @@ own-with : (m : Objects) (p : Object) → IsOwn m → IsOwn (with_object m p)
 own-with m p own id o e = go (eq_by_cmp id_cmp id p.id) refl (sym (get-insert ids-total m p.id p id) ∙ e)
   where
     go : (b : Bool) → eq_by_cmp id_cmp id p.id ≡ b → cond b (Some p) (get m id) ≡ Some o → o.id ≡ id
-    go true t q = ap (λ (x : Object). x.id) (sym (same p o q)) ∙ sym (tied id p.id t)
+    go true t q = ap (λ (x : Object). x.id) (sym (same p o q)) ∙ sym (ids-tie id p.id t)
     go false t q = own id o q
 
 own-without : (m : Objects) (k : ObjectId) → IsOwn m → IsOwn (without_id m k)
@@ -93,25 +84,17 @@ below k [] e p h = absurd h
 below k (f ∷ es) e p (inl q) = subst (λ (g : Entry). T (is_lt (id_cmp k g.0))) q (first (is_lt (id_cmp k f.0)) (below_all id_cmp k es) p)
 below k (f ∷ es) e p (inr h) = below k es e (second (is_lt (id_cmp k f.0)) (below_all id_cmp k es) p) h
 
-itself : (a : ObjectId) → eq_by_cmp id_cmp a a ≡ true
-itself a = (eq_by_cmp_equiv ids-total).refl a
-
-no-less : (r : Ordering) → is_eq r ≡ true → T (is_lt r) → ⊥
-no-less Less e p = cc
-no-less Equal e p = p
-no-less Greater e p = p
-
 -- each entry is found at its key
 found : (es : List Entry) → T (is_sorted id_cmp es) → (e : Entry) → Has es e → find id_cmp e.0 es ≡ Some e.1
 found [] sorted e h = absurd h
-found (f ∷ es) sorted e (inl q) = subst (λ (g : Entry). find id_cmp g.0 (f ∷ es) ≡ Some g.1) q (rw (itself f.0) refl)
+found (f ∷ es) sorted e (inl q) = subst (λ (g : Entry). find id_cmp g.0 (f ∷ es) ≡ Some g.1) q (rw (ids-same f.0) refl)
 found (f ∷ es) sorted e (inr h) = go (eq_by_cmp id_cmp e.0 f.0) refl (found es (second (below_all id_cmp f.0 es) (is_sorted id_cmp es) sorted) e h)
   where
     less : T (is_lt (id_cmp f.0 e.0))
     less = below f.0 es e (first (below_all id_cmp f.0 es) (is_sorted id_cmp es) sorted) h
 
     go : (b : Bool) → eq_by_cmp id_cmp e.0 f.0 ≡ b → find id_cmp e.0 es ≡ Some e.1 → cond b (Some f.1) (find id_cmp e.0 es) ≡ Some e.1
-    go true t rest = absurd (no-less (id_cmp f.0 e.0) (ap (eq_by_cmp id_cmp f.0) (tied e.0 f.0 t) ∙ itself f.0) less)
+    go true t rest = absurd (less-tied (id_cmp f.0 e.0) (ap (eq_by_cmp id_cmp f.0) (ids-tie e.0 f.0 t) ∙ ids-same f.0) less)
     go false t rest = rest
 
 abbrev object_of : Entry → Object
@@ -175,4 +158,4 @@ module _ (m : Objects) (own : IsOwn m) where
 
   pub map-again : map_of (values m) ≡ m
   unfolding map_of
-  map-again = same_map ids-total ids-unique (fold with_object empty (values m)) m (λ id. comes-in id (values m) empty all-stand (get-empty id_cmp id) (comes id (get m id) refl))
+  map-again = same_map ids-total ids_unique (fold with_object empty (values m)) m (λ id. comes-in id (values m) empty all-stand (get-empty id_cmp id) (comes id (get m id) refl))

@@ -11,10 +11,11 @@ use Rattle.effects_core.specs.Effects.{digest_of_effects}
 use Rattle.checkpoint_core.specs.declared.checkpoints.Item.{Item}
 use Rattle.answer_types.specs.declared.pieces.Executed.{Executed}
 use Rattle.schedule_text.specs.declared.words.Event.{Event}
+use Rattle.protocol_spec.proofs.Checked.{valid_shape}
+use Rattle.protocol_spec.proofs.Equality.{digest_same}
 use Rattle.protocol_spec.specs.Chain.Words.{Along, Each, Has, IsFront}
 use Rattle.protocol_spec.specs.Chain.Shape.{shape_fault}
-use Rattle.protocol_spec.specs.Chain.Certificates.{Rules, cert_cases, cert_refusal}
-use Rattle.protocol_spec.proofs.ListLemmas.{find-test}
+use Rattle.protocol_spec.proofs.ListLemmas.{find-test, find_has, each_has, has_left, has_mapped}
 use Rattle.protocol_spec.specs.Member.Versions.{Execution, execution_of, is_executed}
 use Rattle.protocol_spec.specs.Member.Admission.{Admitted}
 use Rattle.protocol_spec.specs.Member.Sequence.{Cut}
@@ -26,13 +27,11 @@ use Rattle.world_spec.specs.World.{Seat, member_in}
 use Rattle.world_spec.specs.Run.{world_after}
 use Rattle.world_spec.specs.Assumptions.{IsHonestRun, all_delivered}
 use Rattle.block_law.proofs.Steps.{map-append}
-use Rattle.safety_law.proofs.Apart.{none-each, none-map}
-use Rattle.safety_law.proofs.Kept.{find-has}
-use Rattle.safety_law.proofs.Once.{digest-same, each-has, equal, has-left}
+use Rattle.safety_law.proofs.Once.{digest-same}
+use Rattle.sequence_law.proofs.Live.{has-any}
 use Rattle.sequence_law.specs.Admitted.{IsInOrder, held_again}
 use Rattle.sequence_law.specs.Orderly.{AreApart, AreOrderly, IsOrderly, ReadsSame, Step, gave}
 use Rattle.sequence_law.proofs.Reading.{IsGoneOver, chain-reads, goes-over}
-use Rattle.sequence_law.proofs.Touched.{has-mapped}
 use Rattle.agreement_law.specs.Agreed.{IsGiven}
 use Rattle.agreement_law.specs.Checkpointed.{IsBuilt, admitted_in}
 use Rattle.agreement_law.specs.Orderly.{IsExecutedFront, OpensApart}
@@ -40,7 +39,7 @@ use Rattle.agreement_law.specs.Steps.{step_of}
 use Rattle.agreement_law.proofs.Checkpointed.{built-front}
 use Rattle.agreement_law.proofs.Executed.{admitted-given, one-gave}
 use Rattle.agreement_law.proofs.Known.{opens-apart}
-use Rattle.agreement_law.proofs.Lists.{along-front, has-any}
+use Rattle.agreement_law.proofs.Lists.{along-front}
 use Rattle.agreement_law.proofs.Ordered.{front-step, steps-orderly}
 use Rattle.agreement_law.proofs.Supply.{every-admission}
 use Rattle.blame_law.proofs.Placing.{item_in}
@@ -57,10 +56,6 @@ along-four opening (x ∷ xs) before orderly reads shapes new = (
   record { orderly = orderly.0; reads = reads.0; shape = shapes x (inl refl); new = new.0 },
   along-four opening xs (before ++ x ∷ []) orderly.1 reads.1 (λ y h. shapes y (inr h)) new.1,
 )
-
-valid-shape : (r : Rules) (c : Certificate) → cert_refusal r c ≡ None → shape_fault c.tx ≡ None
-unfolding cert_refusal
-valid-shape r c e = none-map _ (shape_fault c.tx) (none-each (cert_cases r c) e).0
 
 -- admitted transactions are new, and so are their steps (sequence_law: AdmittedInOrder)
 module _ (m : Member) (opening : List Object) where
@@ -89,8 +84,8 @@ module _ (m : Member) (opening : List Object) where
 
       new : IsNew (map (step_of m) before) (step_of m a)
       new y h e =
-          let b = has-mapped (step_of m) before y h in
-          clash b.0 b.1 (digests b.0 (has-left before (a ∷ xs) b.0 b.1) ∙ ap digest_in b.2 ∙ e ∙ sym (digests a (middle before a xs)))
+          let b = has_mapped (step_of m) before y h in
+          clash b.0 b.1 (digests b.0 (has_left before (a ∷ xs) b.0 b.1) ∙ ap digest_in b.2 ∙ e ∙ sym (digests a (middle before a xs)))
 
 -- ---- at a member
 
@@ -112,7 +107,7 @@ module _ (s : Setting) (events : List Event) (n : ℕ) (seat : Seat) (at : slice
     it = built-front s events n seat at cuts first done
 
     there : (a : Admitted) → Has front a → Has m.sequence.admission.admitted a
-    there a h = subst (λ (bs : List Admitted). Has bs a) (sym it.is_front.1) (has-left front it.is_front.0 a h)
+    there a h = subst (λ (bs : List Admitted). Has bs a) (sym it.is_front.1) (has_left front it.is_front.0 a h)
 
     given : (a : Admitted) → Has front a → IsGiven s.rules (all_delivered s events) m.epoch a.digest a.cert
     given a h = admitted-given s events run_is n seat at a (there a h)
@@ -134,8 +129,8 @@ module _ (s : Setting) (events : List Event) (n : ℕ) (seat : Seat) (at : slice
     -- valid certificates alone are admitted, so each shape is valid (agreement_law: EveryAdmission)
     shapes : (x : Step) → Has steps x → shape_fault x.tx ≡ None
     shapes x h =
-        let a = has-mapped (step_of m) front x h in
-        subst (λ (y : Step). shape_fault y.tx ≡ None) a.2 (valid-shape s.rules a.0.cert (given a.0 a.1).valid)
+        let a = has_mapped (step_of m) front x h in
+        subst (λ (y : Step). shape_fault y.tx ≡ None) a.2 (valid_shape s.rules a.0.cert (given a.0 a.1).valid)
 
     new : Along IsNew [] steps
     new = along-new m m.opening front [] digest-is
@@ -147,7 +142,7 @@ module _ (s : Setting) (events : List Event) (n : ℕ) (seat : Seat) (at : slice
 
     -- the member has the item of the step (agreement_law: ExecutedIsStep, and one execution for each digest)
     pub has-item : (a : Admitted) → Has (flat_map admitted_in cuts) a → item_of (member_in s seat).executed a ≡ item_in (step_of (member_in s seat) a)
-    has-item a h = go (execution_of m.executed a.digest) refl (each-has (λ (x : Admitted). is_executed m.executed x.digest ≡ true) front a it.executed h)
+    has-item a h = go (execution_of m.executed a.digest) refl (each_has (λ (x : Admitted). is_executed m.executed x.digest ≡ true) front a it.executed h)
       where
         as_item : Digest → Digest → Item
         as_item tx effects = record { tx = tx; effects = effects }
@@ -158,5 +153,5 @@ module _ (s : Setting) (events : List Event) (n : ℕ) (seat : Seat) (at : slice
             ap (λ (d : Digest). as_item d (digest_of_effects x.gave.effects)) (digest-is a h)
             ∙ ap (λ (g : Executed). as_item (transaction_digest a.cert.tx) (digest_of_effects g.effects))
             (sym (one-gave s events run_is n seat at (executes_as (held_again a) (gave (step_of m a))) x (front-step s events run_is n seat at opens front it a h).executed
-            (find-has (λ (y : Execution). digest_eq y.digest a.digest) m.executed x e)
-            (sym (equal x.digest a.digest (find-test (λ (y : Execution). digest_eq y.digest a.digest) m.executed x e)))))
+            (find_has (λ (y : Execution). digest_eq y.digest a.digest) m.executed x e)
+            (sym (digest_same x.digest a.digest (find-test (λ (y : Execution). digest_eq y.digest a.digest) m.executed x e)))))

@@ -10,34 +10,32 @@ use Rattle.chain_types.specs.declared.objects.ObjectId.{ObjectId}
 use Rattle.chain_types.specs.Equal.{digest_eq, id_eq}
 use Rattle.chain_types.specs.Digests.{transaction_digest}
 use Rattle.answer_types.specs.declared.pieces.Executed.{Executed}
+use Rattle.protocol_spec.proofs.Equality.{digest_same}
+use Rattle.protocol_spec.proofs.ListLemmas.{has_mapped, has_parts, has_right}
+use Rattle.protocol_spec.proofs.Truth.{or_false_left, or_false_right}
 use Rattle.protocol_spec.specs.Chain.Words.{Has, Along, repeats}
 use Rattle.protocol_spec.specs.Chain.Tests.{has_digest, has_id}
 use Rattle.protocol_spec.specs.Chain.Keys.{named_ids, objects_of}
 use Rattle.protocol_spec.specs.Chain.Shape.{shape_fault}
-use Rattle.protocol_spec.proofs.ListLemmas.{or-first, or-second}
 use Rattle.protocol_spec.specs.Member.Sequential.{Folded, Objects, fold_all, map_after, map_of, read_by}
-use Rattle.block_law.proofs.Counts.{digest_same}
 use Rattle.block_law.proofs.Effects.{objects-ids}
 use Rattle.block_law.proofs.Steps.{map-append}
+use Rattle.block_law.proofs.Written.{second}
 use Rattle.sequence_law.specs.Orderly.{AreApart, IsKnown, IsOrderly, ReadsSame, Step, gave, id_of, tx_of}
 use Rattle.sequence_law.proofs.Standing.{any-parts, none-opening, stays-after}
-use Rattle.sequence_law.proofs.Touched.{IsReplaced, IsTouched, has-mapped, has-parts, touched-object}
-use Rattle.sequence_law.proofs.Reading.{IsGoneOver, WroteKnown, after-push, after_steps, along-back, given-once, given_ids, has-id, has-mapped-id, has-right, known-more, no-id, over-next, thread-is}
-use Rattle.agreement_law.proofs.Lists.{has-second}
+use Rattle.sequence_law.proofs.Touched.{IsReplaced, IsTouched, touched-object}
+use Rattle.sequence_law.proofs.Reading.{IsGoneOver, WroteKnown, after-push, after_steps, along-back, given-once, given_ids, has-id, has-mapped-id, known-more, no-id, over-next, thread-is}
 use Rattle.follower_core.specs.Courses.{Course, behind, behind_given, creates_held, given, given_on, is_bad, is_held, is_stuck, written_ids}
+use Rattle.headline_law.proofs.Dropping.{any-none}
 
 -- ---- lists
-
-pub none-any : {A : Type 0} (test : A → Bool) (xs : List A) → ((x : A) → Has xs x → test x ≡ false) → list_any test xs ≡ false
-none-any test [] none = refl
-none-any test (x ∷ xs) none = rw (none x (inl refl)) (none-any test xs (λ y h. none y (inr h)))
 
 -- where no id of a list comes twice, none of its front does
 repeats-front : (xs ys : List ObjectId) → repeats id_eq (xs ++ ys) ≡ false → repeats id_eq xs ≡ false
 repeats-front [] ys e = refl
 repeats-front (x ∷ xs) ys e =
-    rw (any-parts x xs ys (or-first (list_any (id_eq x) (xs ++ ys)) (repeats id_eq (xs ++ ys)) e)).0
-    (repeats-front xs ys (or-second (list_any (id_eq x) (xs ++ ys)) (repeats id_eq (xs ++ ys)) e))
+    rw (any-parts x xs ys (or_false_left (list_any (id_eq x) (xs ++ ys)) (repeats id_eq (xs ++ ys)) e)).0
+    (repeats-front xs ys (or_false_right (list_any (id_eq x) (xs ++ ys)) (repeats id_eq (xs ++ ys)) e))
 
 -- an id among those that were inserted was there, or is one of the new ones
 has-inserted : (xs ks : List ObjectId) (id : ObjectId) → Has (insert_all id_eq ks xs) id → Has ks id ⊎ Has xs id
@@ -51,7 +49,7 @@ has-inserted (x ∷ xs) ks id h = go (has-inserted xs (insert_key id_eq ks x) id
 
     one : (b : Bool) → Has (cond b ks (ks ++ x ∷ [])) id → Has ks id ⊎ Has (x ∷ xs) id
     one true k = inl k
-    one false k = parts (has-parts ks (x ∷ []) id k)
+    one false k = parts (has_parts ks (x ∷ []) id k)
 
     go : Has (insert_key id_eq ks x) id ⊎ Has xs id → Has ks id ⊎ Has (x ∷ xs) id
     go (inl k) = one (list_any (id_eq x) ks) k
@@ -98,7 +96,7 @@ module _ (opening : List Object) where
     none-known before over id unknown = not-there id before [] over.known unknown (none-opening opening id (no-id (map id_of opening) id opened))
       where
         opened : (i : ObjectId) → Has (map id_of opening) i → i ≡ id → ⊥
-        opened i h e = let o = has-mapped id_of opening i h in unknown (inl (o.0, o.1, o.2 ∙ e))
+        opened i h e = let o = has_mapped id_of opening i h in unknown (inl (o.0, o.1, o.2 ∙ e))
 
     module _ (before : List Step) (over : IsGoneOver opening before) (x : Step) (may : MayStand before x) (m : Course) (is : IsBehind m before) where
       map-is : (fold_all (map_of opening) (map tx_of before)).map ≡ after_steps opening before
@@ -122,7 +120,7 @@ module _ (opening : List Object) where
       -- touches is what it names and may write, and what it draws)
       named : (id : ObjectId) → IsReplaced x id → has_id (named_ids x.tx) id ≡ true
       named id it = has-id (named_ids x.tx) id (subst (λ (ids : List ObjectId). Has ids id) (objects-ids x.tx x.inputs may.orderly.fit)
-          (subst (Has (map id_of x.inputs)) it.same (has-mapped-id x.inputs it.old (has-second (objects_of x.tx) x.inputs it.of it.old it.named))))
+          (subst (Has (map id_of x.inputs)) it.same (has-mapped-id x.inputs it.old (second (objects_of x.tx) x.inputs it.of it.old it.named))))
 
       unknown : (id : ObjectId) → has_id (named_ids x.tx) id ≡ false → IsTouched x id → IsKnown opening before id → ⊥
       unknown id e (inl it) known = let n = named id it in cc
@@ -140,16 +138,16 @@ module _ (opening : List Object) where
       written-once = repeats-front (map id_of (gave x).objects) (gave x).effects.deleted (given-once opening x may.orderly.fit may.orderly.once)
 
       not-bad : is_bad m x.tx (Some (gave x)) ≡ false
-      not-bad = rw written-once (none-any (creates_held m x.tx) (gave x).objects creates-new)
+      not-bad = rw written-once (any-none (creates_held m x.tx) (gave x).objects creates-new)
 
       not-ran : has_digest m.ran (transaction_digest x.tx) ≡ false
-      not-ran = ap (λ (ds : List Digest). has_digest ds (digest_in x)) is.ran ∙ none-any (digest_eq (digest_in x)) (map digest_in before) other
+      not-ran = ap (λ (ds : List Digest). has_digest ds (digest_in x)) is.ran ∙ any-none (digest_eq (digest_in x)) (map digest_in before) other
         where
           other : (d : Digest) → Has (map digest_in before) d → digest_eq (digest_in x) d ≡ false
           other d h = go (digest_eq (digest_in x) d) refl
             where
               y : (y : Step) × Has before y × (digest_in y ≡ d)
-              y = has-mapped digest_in before d h
+              y = has_mapped digest_in before d h
 
               go : (b : Bool) → digest_eq (digest_in x) d ≡ b → b ≡ false
               go true e = absurd (may.new y.0 y.1 (y.2 ∙ sym (digest_same (digest_in x) d e)))
@@ -169,7 +167,7 @@ module _ (opening : List Object) where
 
       gone-known : (id : ObjectId) → Has m.gone id ⊎ Has (gave x).effects.deleted id → IsKnown opening (before ++ x ∷ []) id
       gone-known id (inl h) = known-more opening before (x ∷ []) id (is.gone id h)
-      gone-known id (inr h) = wrote id (has-right (map id_of (gave x).objects) (gave x).effects.deleted id h)
+      gone-known id (inr h) = wrote id (has_right (map id_of (gave x).objects) (gave x).effects.deleted id h)
 
       pub behind-is : IsBehind (behind m x.tx) (before ++ x ∷ [])
       behind-is = subst (λ (g : Option Executed). IsBehind (behind_given m x.tx g) (before ++ x ∷ [])) (sym gives) (record {

@@ -1,17 +1,16 @@
 -- What contents of each kind hold, and what they hold with another amount.
 use Rattle.std.proofs.Common.{refl, ap, sym, subst}
-use Rattle.std.specs.Prelude.{◌≡◌, ◌+◌, ℕ, Bool, true, false, cond, not, ◌==◌, List, [], ◌∷◌, fold, sum_by}
+use Rattle.std.specs.Prelude.{◌≡◌, ◌+◌, ℕ, Bool, true, false, cond, ◌==◌, List, [], ◌∷◌, fold, sum_by}
 use Rattle.std.specs.List.{list_any}
-use Rattle.std.proofs.lemmas.Bool.{eqb-true}
 use native.Mathlib.Omega.{arith}
 use Rattle.chain_types.specs.declared.objects.Kind.TheVariants as kind
 use Rattle.chain_types.specs.declared.objects.Content.{Content}
 use Rattle.chain_types.specs.declared.objects.Content.TheVariants as content
 use Rattle.answer_types.specs.declared.pieces.Item.{Item}
+use Rattle.protocol_spec.proofs.Truth.{or_false_left, or_false_right}
 use Rattle.protocol_spec.specs.Chain.Words.{Each}
 use Rattle.protocol_spec.specs.Chain.Tests.{kind_eq}
 use Rattle.protocol_spec.specs.Chain.Keys.{money_of}
-use Rattle.protocol_spec.proofs.ListLemmas.{or-first, or-second}
 use Rattle.protocol_spec.specs.Block.Natives.{kind_of, currency_of, amount_of, with_amount}
 use Rattle.block_law.specs.Money.{supply_of, caps_of}
 use Rattle.block_law.proofs.Slots.{items_weight}
@@ -120,23 +119,12 @@ amount i = amount_of i.content
 abbrev pub IsPurseItem : Item → Type 0
 IsPurseItem i = IsPurse i.content
 
-pub same-currency : (a b : ℕ) → not (a == b) ≡ false → a ≡ b
-same-currency a b e = go (a == b) refl e
-  where
-    go : (x : Bool) → (a == b) ≡ x → not x ≡ false → a ≡ b
-    go true h e = eqb-true a b h
-    go false h e = absurd (cc)
-
 abbrev pub IsOf : ℕ → Item → Type 0
 IsOf currency i = currency_of i.content ≡ currency
 
 pub each-false : {A : Type 0} (test : A → Bool) (xs : List A) → list_any test xs ≡ false → Each (λ (x : A). test x ≡ false) xs
 each-false test [] e = tt
-each-false test (x ∷ xs) e = (or-first (test x) (list_any test xs) e, each-false test xs (or-second (test x) (list_any test xs) e))
-
-pub each-map : {A : Type 0} (P Q : A → Type 0) (xs : List A) → ((x : A) → P x → Q x) → Each P xs → Each Q xs
-each-map P Q [] h each = tt
-each-map P Q (x ∷ xs) h each = (h x each.0, each-map P Q xs h each.1)
+each-false test (x ∷ xs) e = (or_false_left (test x) (list_any test xs) e, each-false test xs (or_false_right (test x) (list_any test xs) e))
 
 pub coins-money : (c currency : ℕ) (items : List Item) → Each IsPurseItem items → Each (IsOf currency) items → items_weight (money c) items ≡ part (currency == c) (sum_by amount items)
 coins-money c currency [] each same = sym (part-zero (currency == c))

@@ -13,6 +13,8 @@ use Rattle.chain_types.specs.declared.transactions.Command.{Command}
 use Rattle.chain_types.specs.declared.transactions.Command.TheVariants as command
 use Rattle.chain_types.specs.declared.transactions.Transaction.{Transaction}
 use Rattle.answer_types.specs.declared.pieces.Item.{Item}
+use Rattle.protocol_spec.proofs.ListLemmas.{all_none}
+use Rattle.protocol_spec.proofs.Truth.{map_none, where_false}
 use Rattle.protocol_spec.specs.Chain.Words.{where_true, refused_or}
 use Rattle.protocol_spec.specs.Chain.Keys.{version_of}
 use Rattle.protocol_spec.specs.Block.Natives.{parameters_of, amount_of}
@@ -22,7 +24,7 @@ use Rattle.protocol_spec.specs.Block.Execution.{Failure, item_of, gas_item, inpu
 use Rattle.block_law.specs.Names.{drawn_ids}
 use Rattle.block_law.proofs.Counts.{times}
 use Rattle.block_law.proofs.Slots.{block_weight, Every}
-use Rattle.block_law.proofs.Reading.{all-none, where-false, all-read}
+use Rattle.block_law.proofs.Reading.{all-read}
 use Rattle.block_law.proofs.Amounts.{money, supply, caps, amount-same}
 use Rattle.block_law.proofs.Kept.{Like, Turned, Good, Stands}
 use Rattle.block_law.proofs.Steps.{counts, IsStep, ok-same, split-step, merge-step, transfer-step, vector-step}
@@ -33,10 +35,6 @@ use Rattle.block_law.proofs.Natives.{call-step}
 pub refused-ok : {A E : Type 0} (r : Option E) (rest : Result A E) (y : A) → refused_or r rest ≡ Ok y → (r ≡ None) × (rest ≡ Ok y)
 refused-ok None rest y e = (refl, e)
 refused-ok (Some refusal) rest y e = absurd (cc)
-
-pub map-none : {A B : Type 0} (f : A → B) (o : Option A) → option_map f o ≡ None → o ≡ None
-map-none f None e = refl
-map-none f (Some x) e = absurd (cc)
 
 not-false : (x : Bool) → not x ≡ false → x ≡ true
 not-false true e = refl
@@ -54,8 +52,8 @@ module _ (t : Transaction) (tx : Digest) (version c : ℕ) (first : List Slot) (
   unfolding command_step
   step-is x after e =
       let r = refused-ok (option_map cause (taken_cause t b x)) (performed t tx version c b x) after e in
-      let n = all-none (where_true (wrong_count x) 11 ∷ arguments_cause t b x [] (needs_of x) ∷ []) (map-none cause (taken_cause t b x) r.0) in
-      performed-step x after (where-false (wrong_count x) 11 n.0) n.1.0 r.1
+      let n = all_none (where_true (wrong_count x) 11 ∷ arguments_cause t b x [] (needs_of x) ∷ []) (map_none cause (taken_cause t b x) r.0) in
+      performed-step x after (where_false (wrong_count x) 11 n.0) n.1.0 r.1
 
 -- ---- all commands
 

@@ -1,29 +1,20 @@
 -- How often an id stands in a list; a list without repeats has each at most once.
-use Rattle.std.proofs.Common.{refl, ap, sym, subst}
+use Rattle.std.proofs.Common.{refl, ap, subst}
 use Rattle.std.proofs.lemmas.Slice.Eq.{bytes_eq-Decides}
 use Rattle.std.specs.Prelude.{◌≡◌, ◌≤◌, ◌+◌, ℕ, Bool, true, false, ◌||◌, List, [], ◌∷◌, ◌++◌}
 use Rattle.std.specs.List.{list_any}
 use native.Mathlib.Omega.{arith}
-use Rattle.digest_core.specs.declared.Digest.{Digest}
 use Rattle.chain_types.specs.declared.objects.ObjectId.{ObjectId}
-use Rattle.chain_types.specs.Equal.{digest_eq, id_eq}
+use Rattle.chain_types.specs.Equal.{id_eq}
+use Rattle.protocol_spec.proofs.Equality.{id_same, id_back}
+use Rattle.protocol_spec.proofs.Truth.{or_false_left, or_false_right}
 use Rattle.protocol_spec.specs.Chain.Words.{repeats}
-use Rattle.protocol_spec.proofs.ListLemmas.{or-first, or-second}
-
-pub digest_same : (a b : Digest) → digest_eq a b ≡ true → a ≡ b
-digest_same a b h = ap (λ (x : List ℕ). let d : Digest = record { 0 = x } in d) ((bytes_eq-Decides a.0 b.0).0 h)
-
-pub id_same : (a b : ObjectId) → id_eq a b ≡ true → a ≡ b
-id_same a b h = ap (λ (x : Digest). let d : ObjectId = record { 0 = x } in d) (digest_same a.0 b.0 h)
 
 pub id_refl : (a : ObjectId) → id_eq a a ≡ true
 id_refl a = (bytes_eq-Decides a.0.0 a.0.0).1 refl
 
 pub id_equal : (a b : ObjectId) → a ≡ b → id_eq a b ≡ true
 id_equal a b e = subst (λ x. id_eq a x ≡ true) e (id_refl a)
-
-pub id_back : (a b : ObjectId) → id_eq a b ≡ true → id_eq b a ≡ true
-id_back a b h = id_equal b a (sym (id_same a b h))
 
 abbrev pub hit : Bool → ℕ
 hit true = 1
@@ -39,10 +30,10 @@ times-append x (y ∷ xs) ys = let rest = times-append x xs ys in omega (arith, 
 
 pub none-times : (x : ObjectId) (ys : List ObjectId) → list_any (id_eq x) ys ≡ false → times x ys ≡ 0
 none-times x [] e = refl
-none-times x (y ∷ ys) e = go (id_eq y x) refl (none-times x ys (or-second (id_eq x y) (list_any (id_eq x) ys) e))
+none-times x (y ∷ ys) e = go (id_eq y x) refl (none-times x ys (or_false_right (id_eq x y) (list_any (id_eq x) ys) e))
   where
     go : (b : Bool) → id_eq y x ≡ b → times x ys ≡ 0 → hit b + times x ys ≡ 0
-    go true h rest = absurd (let h' = id_back y x h in let f = or-first (id_eq x y) (list_any (id_eq x) ys) e in cc)
+    go true h rest = absurd (let h' = id_back y x h in let f = or_false_left (id_eq x y) (list_any (id_eq x) ys) e in cc)
     go false h rest = omega arith
 
 pub times-none : (x : ObjectId) (ys : List ObjectId) → times x ys ≡ 0 → list_any (id_eq x) ys ≡ false
@@ -60,10 +51,10 @@ times-none x (y ∷ ys) e = go (id_eq x y) refl (times-none x ys (counted (id_eq
 -- without repeats each id stands there at most once
 pub once-each : (xs : List ObjectId) → repeats id_eq xs ≡ false → (x : ObjectId) → times x xs ≤ 1
 once-each [] e x = omega arith
-once-each (y ∷ ys) e x = go (id_eq y x) refl (once-each ys (or-second (list_any (id_eq y) ys) (repeats id_eq ys) e) x)
+once-each (y ∷ ys) e x = go (id_eq y x) refl (once-each ys (or_false_right (list_any (id_eq y) ys) (repeats id_eq ys) e) x)
   where
     go : (b : Bool) → id_eq y x ≡ b → times x ys ≤ 1 → hit b + times x ys ≤ 1
-    go true h rest = let none = subst (λ z. times z ys ≡ 0) (id_same y x h) (none-times y ys (or-first (list_any (id_eq y) ys) (repeats id_eq ys) e)) in omega (arith, none)
+    go true h rest = let none = subst (λ z. times z ys ≡ 0) (id_same y x h) (none-times y ys (or_false_left (list_any (id_eq y) ys) (repeats id_eq ys) e)) in omega (arith, none)
     go false h rest = omega (arith, rest)
 
 -- and the other way round

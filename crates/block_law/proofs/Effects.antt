@@ -15,6 +15,7 @@ use Rattle.answer_types.specs.declared.pieces.Item.{Item}
 use Rattle.answer_types.specs.declared.pieces.Placed.{Placed}
 use Rattle.chain_types.specs.Equal.{digest_eq, id_eq}
 use Rattle.chain_types.specs.Digests.{transaction_digest, digest_of_object}
+use Rattle.protocol_spec.proofs.Equality.{id_same}
 use Rattle.protocol_spec.specs.Chain.Words.{Each, numbers_below, repeats}
 use Rattle.protocol_spec.specs.Chain.Tests.{has_id}
 use Rattle.protocol_spec.specs.Chain.Keys.{fits, fits_input, fit_inputs, pays_gas, version_of, version_limit, objects_of, named_id, named_ids, is_owned_by, is_immutable, is_shared_since}
@@ -23,7 +24,7 @@ use Rattle.protocol_spec.specs.Block.Block.{Place, gas, input, result, Value, pu
 use Rattle.protocol_spec.specs.Block.Commands.{is_read_only, piece_of}
 use Rattle.protocol_spec.specs.Block.Execution.{Failure, item_of, gas_item, input_slots, first_slots, outcome, object_at, left_in, now_in, after_block, written_inputs, written_places, created_objects, with_rest_first, done_objects, is_none_left, deleted_id, deleted_ids, same_object, less_cost_first, failed_objects, written_of, execution, executed_by}
 use Rattle.block_law.specs.Names.{drawn_id, drawn_ids, touched_ids, effect_ids}
-use Rattle.block_law.proofs.Counts.{hit, times, times-append, id_same, once-each, each-once, none-times, times-none}
+use Rattle.block_law.proofs.Counts.{hit, times, times-append, once-each, each-once, none-times, times-none}
 use Rattle.block_law.proofs.Slots.{Every, value-every}
 use Rattle.block_law.proofs.Kept.{Turned, Good, is_result}
 use Rattle.block_law.proofs.Steps.{map-append}
@@ -163,7 +164,7 @@ written-ids (o ∷ os) = ap (λ ids. o.id ∷ ids) (written-ids os)
 
 -- ---- the named ids are those of the objects
 
-first-of-four : (a b c d : Bool) → (a && b && c && d) ≡ true → a ≡ true
+pub first-of-four : (a b c d : Bool) → (a && b && c && d) ≡ true → a ≡ true
 first-of-four a b c d e = and-first a b (and-first (a && b) c (and-first (a && b && c) d e))
 
 both-ids : (a b : ObjectId) (xs ys : List ObjectId) → id_eq a b ≡ true → xs ≡ ys → (a ∷ xs) ≡ (b ∷ ys)

@@ -1,12 +1,13 @@
 -- What each place of a block holds, against what it held first: an input keeps its id, the gas coin is a coin or has
 -- left, and what may only be read stays as it was.
-use Rattle.std.proofs.Common.{refl, ap, ◌∙◌, inl, inr}
+use Rattle.std.proofs.Common.{refl, ap, ◌∙◌}
 use Rattle.std.specs.Prelude.{◌≡◌, ℕ, ◌+◌, Bool, true, false, not, cond, List, [], ◌∷◌, ◌++◌, map, slice_get, Option, Some, None}
 use Rattle.std.specs.List.{enumerate_from}
 use Rattle.chain_types.specs.declared.transactions.Command.{Command}
 use Rattle.chain_types.specs.declared.transactions.Transaction.{Transaction}
 use Rattle.answer_types.specs.declared.pieces.Item.{Item}
 use Rattle.answer_types.specs.declared.pieces.Placed.{Placed}
+use Rattle.protocol_spec.proofs.ListLemmas.{has_left}
 use Rattle.protocol_spec.specs.Chain.Words.{Each, Has}
 use Rattle.protocol_spec.specs.Block.Natives.{kind_of, with_amount, holding}
 use Rattle.protocol_spec.specs.Chain.Tests.{kind_eq}
@@ -89,19 +90,10 @@ good-spent t c first placed (result d k) kept moves = tt
 
 -- ---- more objects leave the block
 
-pub has-front : {A : Type 0} (xs ys : List A) (x : A) → Has xs x → Has (xs ++ ys) x
-has-front [] ys x has = absurd has
-has-front (y ∷ xs) ys x (inl e) = inl e
-has-front (y ∷ xs) ys x (inr rest) = inr (has-front xs ys x rest)
-
-pub has-back : {A : Type 0} (xs ys : List A) (x : A) → Has ys x → Has (xs ++ ys) x
-has-back [] ys x has = has
-has-back (y ∷ xs) ys x has = inr (has-back xs ys x has)
-
 went-grows : (placed more : List Placed) (first : Option Value) → Went placed first → Went (placed ++ more) first
 went-grows placed more None went = went
 went-grows placed more (Some (pure bytes)) went = went
-went-grows placed more (Some (object before)) went = (went.0, (has-front placed more went.0 went.1.0, went.1.1))
+went-grows placed more (Some (object before)) went = (went.0, (has_left placed more went.0 went.1.0, went.1.1))
 went-grows placed more (Some (vector k before)) went = went
 
 good-grows : (t : Transaction) (first : List Slot) (placed more : List Placed) (p : Place) (v : Option Value) → Good t first placed p v → Good t first (placed ++ more) p v

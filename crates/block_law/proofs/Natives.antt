@@ -20,6 +20,8 @@ use Rattle.answer_types.specs.declared.pieces.Item.{Item}
 use Rattle.answer_types.specs.declared.pieces.Placed.{Placed}
 use Rattle.answer_types.specs.declared.pieces.Gave.{Gave}
 use Rattle.answer_types.specs.declared.pieces.Gave.TheVariants as gave
+use Rattle.protocol_spec.proofs.ListLemmas.{each_as, append_nil}
+use Rattle.protocol_spec.proofs.Truth.{equal_numbers}
 use Rattle.protocol_spec.specs.Chain.Words.{Each}
 use Rattle.protocol_spec.specs.Chain.Tests.{kind_eq}
 use Rattle.protocol_spec.specs.Chain.Keys.{money_of}
@@ -31,9 +33,9 @@ use Rattle.block_law.specs.Names.{drawn_id, drawn_ids}
 use Rattle.block_law.proofs.Counts.{hit, times}
 use Rattle.block_law.proofs.Slots.{items_weight, values_weight, slots_weight, placed_weight, items-append, slots-append, placed-append, objects-weight, put-weight, Every, put-every, value-every, Lies, spend-weight, spend-other, spend-every}
 use Rattle.block_law.proofs.Reading.{IsRead, AllRead, covers-last, apart-from, is-object, is-changed}
-use Rattle.block_law.proofs.Amounts.{cond-part, part, part-plus, part-zero, IsPurse, coin-purse, vault-purse, IsCap, cap-is, IsPlain, counter-plain, IsPurseItem, IsOf, same-currency, each-false, each-map, coins-money, coins-supply, coins-caps, amount}
+use Rattle.block_law.proofs.Amounts.{cond-part, part, part-plus, part-zero, IsPurse, coin-purse, vault-purse, IsCap, cap-is, IsPlain, counter-plain, IsPurseItem, IsOf, each-false, coins-money, coins-supply, coins-caps, amount}
 use Rattle.block_law.proofs.Kept.{Good, good-holding, good-spent, every-grows, good-vector, Stands, put-stands, stands-results, every-results, results-weight, objects-sorted}
-use Rattle.block_law.proofs.Steps.{Balanced, IsStep, drawn-next, drawn-same, ok-same, place-apart, append-nil, spend-stands}
+use Rattle.block_law.proofs.Steps.{Balanced, IsStep, drawn-next, drawn-same, ok-same, place-apart, spend-stands}
 
 -- ---- what is balanced
 
@@ -235,7 +237,7 @@ module _ (t : Transaction) (tx : Digest) (version c : ℕ) (first : List Slot) (
   }
 
   spent-good : (args : List Argument) → Each (λ (a : Argument). stays_in_place t cmd (place_of a) ≡ false) args → Every (Good t first b.placed) (spend_all args b).slots
-  spent-good args moves = spend-every (Good t first b.placed) args b (each-map (λ (a : Argument). stays_in_place t cmd (place_of a) ≡ false) (λ (a : Argument). Good t first b.placed (place_of a) None) args (λ a m. good-spent t cmd first b.placed (place_of a) kept m) moves) each
+  spent-good args moves = spend-every (Good t first b.placed) args b (each_as (λ (a : Argument). stays_in_place t cmd (place_of a) ≡ false) (λ (a : Argument). Good t first b.placed (place_of a) None) args (λ a m. good-spent t cmd first b.placed (place_of a) kept m) moves) each
 
   unchanged : (needs : List (Argument × Need)) (args : List Argument) (values : List Value) (results : List Item) (left : Option Placed) (made : ℕ) → Spends t b cmd needs args values → Balanced tx b.made made (values_items values) (results ++ left_items left) → IsStep t tx first b (called_block c b needs results None left made)
   unchanged needs args values results left made s balanced =
@@ -340,7 +342,7 @@ module _ (t : Transaction) (tx : Digest) (version c : ℕ) (first : List Slot) (
       (changed (x, by_mut kind.Cap) ((y, by_value (Some kind.Coin)) ∷ []) (y ∷ []) (object k.item ∷ []) [] f.item new None b.made
       (record { spends = refl; lies = (k.there, (tt, tt)); moves = (k.moves, tt) })
       (change-apart x y kind.Cap f (amount f.item - amount k.item) (k.apart x refl))
-      (balanced-burn s f.item k.item (cap-is f.item.content f.fitting) (coin-purse k.item.content k.fitting) (same-currency (currency_of f.item.content) (currency_of k.item.content) one.0) (ltb-false (amount f.item) (amount k.item) second.0)))
+      (balanced-burn s f.item k.item (cap-is f.item.content f.fitting) (coin-purse k.item.content k.fitting) (equal_numbers (currency_of f.item.content) (currency_of k.item.content) one.0) (ltb-false (amount f.item) (amount k.item) second.0)))
     where
       needs : List (Argument × Need)
       needs = (x, by_mut kind.Cap) ∷ (y, by_value (Some kind.Coin)) ∷ []
@@ -367,7 +369,7 @@ module _ (t : Transaction) (tx : Digest) (version c : ℕ) (first : List Slot) (
       (changed (x, by_mut kind.Vault) ((y, by_value (Some kind.Coin)) ∷ []) (y ∷ []) (object k.item ∷ []) [] f.item new None b.made
       (record { spends = refl; lies = (k.there, (tt, tt)); moves = (k.moves, tt) })
       (change-apart x y kind.Vault f (amount f.item + amount k.item) (k.apart x refl))
-      (balanced-deposit s f.item k.item (vault-purse f.item.content f.fitting) (coin-purse k.item.content k.fitting) (same-currency (currency_of f.item.content) (currency_of k.item.content) one.0)))
+      (balanced-deposit s f.item k.item (vault-purse f.item.content f.fitting) (coin-purse k.item.content k.fitting) (equal_numbers (currency_of f.item.content) (currency_of k.item.content) one.0)))
     where
       needs : List (Argument × Need)
       needs = (x, by_mut kind.Vault) ∷ (y, by_value (Some kind.Coin)) ∷ []
@@ -498,8 +500,8 @@ module _ (t : Transaction) (tx : Digest) (version c : ℕ) (first : List Slot) (
   joined-done x (i ∷ others) after there moves purses ends = subst (IsStep t tx first b) (ok-same Fault (called_block c b needs (new ∷ []) None None b.made) after second)
       (unchanged needs (x ∷ []) (vector kind.Coin (i ∷ others) ∷ []) (new ∷ []) None b.made
       (record { spends = refl; lies = (there, (tt, tt)); moves = (moves, tt) })
-      (subst (λ (ins : List Item). Balanced tx b.made b.made ins (new ∷ [])) (sym (append-nil (i ∷ others)))
-      (balanced-join s i others purses.0 purses.1 (each-map (λ (j : Item). other_currency i j ≡ false) (IsOf (currency_of i.content)) others (λ j d. sym (same-currency (currency_of i.content) (currency_of j.content) d)) (each-false (other_currency i) others one.0)))))
+      (subst (λ (ins : List Item). Balanced tx b.made b.made ins (new ∷ [])) (sym (append_nil (i ∷ others)))
+      (balanced-join s i others purses.0 purses.1 (each_as (λ (j : Item). other_currency i j ≡ false) (IsOf (currency_of i.content)) others (λ j d. sym (equal_numbers (currency_of i.content) (currency_of j.content) d)) (each-false (other_currency i) others one.0)))))
     where
       needs : List (Argument × Need)
       needs = (x, coins) ∷ []
@@ -521,7 +523,7 @@ module _ (t : Transaction) (tx : Digest) (version c : ℕ) (first : List Slot) (
 
   join-step : (x : Argument) (after : Block) → AllRead t b cmd [] ((x, coins) ∷ []) → Gives ((x, coins) ∷ []) (joined s (items_given (Some (given_as coins (value_in (place_of x) b.slots))))) after → IsStep t tx first b after
   join-step x after read gave = joined-done x o.0 after there read.0.moves
-      (each-map (λ (i : Item). kind_eq (kind_of i.content) kind.Coin ≡ true) IsPurseItem o.0 (λ i e. coin-purse i.content e) (good-vector t first b.placed (place_of x) kind.Coin o.0 (value-every (Good t first b.placed) (place_of x) (vector kind.Coin o.0) b.slots each there)))
+      (each_as (λ (i : Item). kind_eq (kind_of i.content) kind.Coin ≡ true) IsPurseItem o.0 (λ i e. coin-purse i.content e) (good-vector t first b.placed (place_of x) kind.Coin o.0 (value-every (Good t first b.placed) (place_of x) (vector kind.Coin o.0) b.slots each there)))
       (subst (λ (v : Option Value). called c b ((x, coins) ∷ []) (joined s (items_given (Some (given_as coins v)))) ≡ Ok after) there gave)
     where
       o : (is : List Item) × (read.0.value ≡ vector kind.Coin is)

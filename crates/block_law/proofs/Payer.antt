@@ -25,6 +25,8 @@ use Rattle.answer_types.specs.declared.pieces.Placed.{Placed}
 use Rattle.answer_types.specs.declared.pieces.Gave.{Gave}
 use Rattle.answer_types.specs.declared.pieces.Gave.TheVariants as gave
 use Rattle.answer_types.specs.declared.pieces.Mode.{Mode}
+use Rattle.protocol_spec.proofs.ListLemmas.{all_none, each_as, has_left, has_right, append_nil, has_map}
+use Rattle.protocol_spec.proofs.Truth.{where_false, map_none}
 use Rattle.protocol_spec.specs.Chain.Words.{Each, Has, first_some, where_true}
 use Rattle.protocol_spec.specs.Chain.Tests.{kind_eq}
 use Rattle.protocol_spec.specs.Chain.Keys.{version_of}
@@ -33,11 +35,11 @@ use Rattle.protocol_spec.specs.Block.Block.{Place, gas, input, result, Value, pu
 use Rattle.protocol_spec.specs.Block.Commands.{Fault, cause, Need, number, address, by_value, by_mut, by_ref, coins, need_of, paired, all_by, needs_of, place_of, is_right_kind, is_transfer, takes_value, stays_in_place, wrong_count, arguments_cause, taken_cause, piece_of, item_in, items_in, number_in, spend, spend_all, split, split_block, withheld, sum_of, merge_cases, merge_block, merge, placed_at, address_in, transfer_block, vector_block, given_all, spend_taken, put_changed, placed_list, called_block, called, site, performed, command_step}
 use Rattle.protocol_spec.specs.Block.Execution.{Failure, gas_item, input_slots, first_block, commands_from, commands_next, is_unused, checked_end, outcome}
 use Rattle.block_law.proofs.Slots.{Every, put-every, value-every, every-append, Lies, spend-placed, spend-every}
-use Rattle.block_law.proofs.Reading.{all-none, where-false, IsRead, AllRead, all-read, is-changed, Takes, takes}
-use Rattle.block_law.proofs.Amounts.{amount, each-map}
-use Rattle.block_law.proofs.Kept.{has-front, has-back, result_slot}
-use Rattle.block_law.proofs.Steps.{ok-same, unless-ok, append-nil, has-map}
-use Rattle.block_law.proofs.Blocks.{refused-ok, map-none}
+use Rattle.block_law.proofs.Reading.{IsRead, AllRead, all-read, is-changed, Takes, takes}
+use Rattle.block_law.proofs.Amounts.{amount}
+use Rattle.block_law.proofs.Kept.{result_slot}
+use Rattle.block_law.proofs.Steps.{ok-same, unless-ok}
+use Rattle.block_law.proofs.Blocks.{refused-ok}
 
 -- ---- the coin that pays gas
 
@@ -67,7 +69,7 @@ module _ (t : Transaction) (id : ObjectId) where
   Pays placed (result c k) v = Unit {0}
 
   pays-grows : (placed more : List Placed) (p : Place) (v : Option Value) → Pays placed p v → Pays (placed ++ more) p v
-  pays-grows placed more gas None pays = (pays.0, (has-front placed more pays.0 pays.1.0, pays.1.1))
+  pays-grows placed more gas None pays = (pays.0, (has_left placed more pays.0 pays.1.0, pays.1.1))
   pays-grows placed more gas (Some (pure bytes)) pays = pays
   pays-grows placed more gas (Some (object i)) pays = pays
   pays-grows placed more gas (Some (vector k is)) pays = pays
@@ -106,7 +108,7 @@ module _ (t : Transaction) (id : ObjectId) where
 
   module _ (tx : Digest) (version c : ℕ) (b : Block) (each : Every (Pays b.placed) b.slots) where
     spent-all : (cmd : Command) (args : List Argument) → is_transfer cmd ≡ false → Each (λ (a : Argument). stays_in_place t cmd (place_of a) ≡ false) args → Every (Pays b.placed) (spend_all args b).slots
-    spent-all cmd args kept moves = spend-every (Pays b.placed) args b (each-map (λ (a : Argument). stays_in_place t cmd (place_of a) ≡ false) (λ (a : Argument). Pays b.placed (place_of a) None) args (λ a m. spent-pays cmd b.placed (place_of a) kept m) moves) each
+    spent-all cmd args kept moves = spend-every (Pays b.placed) args b (each_as (λ (a : Argument). stays_in_place t cmd (place_of a) ≡ false) (λ (a : Argument). Pays b.placed (place_of a) None) args (λ a m. spent-pays cmd b.placed (place_of a) kept m) moves) each
 
     -- Split takes from the coin
     less : (a : Argument) (i : Item) (n : ℕ) → IsPayer t id i → amount i - n + withheld t a < amount_limit
@@ -150,7 +152,7 @@ module _ (t : Transaction) (id : ObjectId) where
         there = read.0.there ∙ ap Some o.1.0
 
         rest : AllRead t b cmd (target ∷ []) (all_by (by_value (Some kind.Coin)) sources ++ [])
-        rest = subst (AllRead t b cmd (target ∷ [])) (sym (append-nil (all_by (by_value (Some kind.Coin)) sources))) read.1
+        rest = subst (AllRead t b cmd (target ∷ [])) (sym (append_nil (all_by (by_value (Some kind.Coin)) sources))) read.1
 
         k : Takes t b cmd sources
         k = takes t b cmd (Some kind.Coin) (target ∷ []) sources [] rest
@@ -163,8 +165,8 @@ module _ (t : Transaction) (id : ObjectId) where
 
         low : total + withheld t target < amount_limit
         low =
-            let none = all-none (merge_cases t target o.0 (items_in b sources)) merged.0 in
-            let below = leb-false amount_limit (amount_of o.0.content + withheld t target + sum_of (items_in b sources)) (where-false (nat_le amount_limit (amount_of o.0.content + withheld t target + sum_of (items_in b sources))) (cause 9) none.1.0) in
+            let none = all_none (merge_cases t target o.0 (items_in b sources)) merged.0 in
+            let below = leb-false amount_limit (amount_of o.0.content + withheld t target + sum_of (items_in b sources)) (where_false (nat_le amount_limit (amount_of o.0.content + withheld t target + sum_of (items_in b sources))) (cause 9) none.1.0) in
             omega (arith, below)
 
         done : Every (Pays (merge_block b target o.0 sources).placed) (merge_block b target o.0 sources).slots
@@ -200,12 +202,12 @@ module _ (t : Transaction) (id : ObjectId) where
         grown = every-pays-grows b.placed new b.slots each
 
         leaves : (i : Item) → Has k.items i → (p : Placed) × (Has (b.placed ++ new) p × (p.item ≡ i))
-        leaves i has = (placed_at (owner.Address who) i, (has-back b.placed new (placed_at (owner.Address who) i) (has-map (placed_at (owner.Address who)) (items_in b values) i (subst (λ is. Has is i) (sym k.found) has)), refl))
+        leaves i has = (placed_at (owner.Address who) i, (has_right b.placed new (placed_at (owner.Address who) i) (has_map (placed_at (owner.Address who)) (items_in b values) i (subst (λ is. Has is i) (sym k.found) has)), refl))
 
     vector-pays : (cmd : Command) (k : Kind) (values : List Argument) → is_transfer cmd ≡ false → AllRead t b cmd [] (all_by (by_value (Some k)) values) → Every (Pays (vector_block c b k values).placed) (vector_block c b k values).slots
     vector-pays cmd k values kept read = subst (λ placed. Every (Pays placed) (vector_block c b k values).slots) (sym (spend-placed values b))
         (with-results b.placed (spend_all values b).slots c (vector k (items_in b values) ∷ [])
-        (spent-all cmd values kept (takes t b cmd (Some k) [] values [] (subst (AllRead t b cmd []) (sym (append-nil (all_by (by_value (Some k)) values))) read)).moves))
+        (spent-all cmd values kept (takes t b cmd (Some k) [] values [] (subst (AllRead t b cmd []) (sym (append_nil (all_by (by_value (Some k)) values))) read)).moves))
 
     -- ---- no native takes the gas coin
 
@@ -300,7 +302,7 @@ module _ (t : Transaction) (id : ObjectId) where
     unfolding command_step
     step-pays x after e =
         let r = refused-ok (option_map cause (taken_cause t b x)) (performed t tx version c b x) after e in
-        let n = all-none (where_true (wrong_count x) 11 ∷ arguments_cause t b x [] (needs_of x) ∷ []) (map-none cause (taken_cause t b x) r.0) in
+        let n = all_none (where_true (wrong_count x) 11 ∷ arguments_cause t b x [] (needs_of x) ∷ []) (map_none cause (taken_cause t b x) r.0) in
         performed-pays x after n.1.0 r.1
 
   -- ---- all commands

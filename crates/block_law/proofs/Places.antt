@@ -10,26 +10,21 @@ use Rattle.chain_types.specs.declared.transactions.Input.TheVariants as inputs
 use Rattle.chain_types.specs.declared.transactions.Transaction.{Transaction}
 use Rattle.chain_types.specs.Digests.{transaction_digest, is_object}
 use Rattle.answer_types.specs.declared.pieces.Item.{Item}
-use Rattle.protocol_spec.specs.Chain.Words.{Has, Each}
+use Rattle.protocol_spec.proofs.ListLemmas.{each_has, has_left, has_map}
+use Rattle.protocol_spec.specs.Chain.Words.{Has}
 use Rattle.protocol_spec.specs.Chain.Keys.{objects_of, version_of}
 use Rattle.protocol_spec.specs.Block.Block.{Place, gas, input, result, Value, pure, object, vector, Slot, Block, place_eq, slot_value, value_in}
 use Rattle.protocol_spec.specs.Block.Commands.{is_common, is_read_only, piece_of}
 use Rattle.protocol_spec.specs.Block.Execution.{Failure, first_slots, outcome, object_at, now_in, after_block, written_inputs, written_places, created_objects, with_rest, with_rest_first, done_objects, same_object, less_cost, less_cost_first, failed_objects, execution, executed_by}
 use Rattle.block_law.proofs.Slots.{place-same, Every}
-use Rattle.block_law.proofs.Kept.{Turned, Good, Stands, has-front}
-use Rattle.block_law.proofs.Steps.{has-map}
+use Rattle.block_law.proofs.Kept.{Turned, Good, Stands}
 use Rattle.block_law.proofs.Blocks.{done-is}
 use Rattle.block_law.proofs.Effects.{IsOrigin, origins, good-id}
 use Rattle.block_law.specs.Shared.{IsWrittenAgain}
 
 -- ---- lists
 
-pub each-at : {A : Type 0} (P : A → Type 0) (xs : List A) (x : A) → Each P xs → Has xs x → P x
-each-at P [] x each h = absurd h
-each-at P (y ∷ ys) x each (inl e) = subst P e each.0
-each-at P (y ∷ ys) x each (inr h) = each-at P ys x each.1 h
-
-has-chosen : {A B : Type 0} (f : A → Option B) (xs : List A) (x : A) (y : B) → Has xs x → f x ≡ Some y → Has (filter_map f xs) y
+pub has-chosen : {A B : Type 0} (f : A → Option B) (xs : List A) (x : A) (y : B) → Has xs x → f x ≡ Some y → Has (filter_map f xs) y
 has-chosen f [] x y h e = absurd h
 has-chosen {A = A} {B = B} f (z ∷ zs) x y h e = go (f z) refl h (λ k. has-chosen f zs x y k e)
   where
@@ -162,7 +157,7 @@ module _ (t : Transaction) (first : List Slot) (b : Block) (n : ℕ) (id : Objec
 -- ---- so it is written
 
 again-front : (xs ys : List Object) (version : ℕ) (o : Object) → IsWrittenAgain xs version o → IsWrittenAgain (xs ++ ys) version o
-again-front xs ys version o it = record { now = it.now; written = has-front xs ys it.now it.written; id = it.id; version_is = it.version_is; owner_is = it.owner_is }
+again-front xs ys version o it = record { now = it.now; written = has_left xs ys it.now it.written; id = it.id; version_is = it.version_is; owner_is = it.owner_is }
 
 -- the gas coin keeps all but its content
 again-rest : (t : Transaction) (xs : List Object) (version : ℕ) (o : Object) → IsWrittenAgain xs version o → IsWrittenAgain (with_rest_first t xs) version o
@@ -188,7 +183,7 @@ module _ (t : Transaction) (objects : List Object) (id : ObjectId) (initial : �
   done-again : (b : Block) → outcome t (transaction_digest t) objects ≡ Ok b → IsWrittenAgain (done_objects t (transaction_digest t) objects b) (version_of objects) o
   done-again b e =
       let kept = (done-is t (transaction_digest t) objects b e).kept in
-      let s = still t (first_slots t objects) b lie.number id initial o lie.at (each-at (IsOrigin (first_slots t objects)) (written_places t objects) place (origins t objects) lie.among) kept.good kept.stands in
+      let s = still t (first_slots t objects) b lie.number id initial o lie.at (each_has (IsOrigin (first_slots t objects)) (written_places t objects) place (origins t objects) lie.among) kept.good kept.stands in
       let left : after_block (version_of objects) b (input lie.number) o ≡ Some (object_at (version_of objects) o.owner s.now) = ap (λ (v : Option Value). now_in (version_of objects) b.placed o (piece_of v)) s.there in
       again-front (with_rest_first t (filter_map (λ (x : Place × Object). after_block (version_of objects) b x.0 x.1) (written_places t objects))) (created_objects (transaction_digest t) (version_of objects) b) (version_of objects) o
       (again-rest t (filter_map (λ (x : Place × Object). after_block (version_of objects) b x.0 x.1) (written_places t objects)) (version_of objects) o (record {
@@ -202,7 +197,7 @@ module _ (t : Transaction) (objects : List Object) (id : ObjectId) (initial : �
   failed-again : IsWrittenAgain (failed_objects t objects) (version_of objects) o
   failed-again = again-cost t (map (λ (x : Place × Object). same_object (version_of objects) x.1) (written_places t objects)) (version_of objects) o (record {
     now = same_object (version_of objects) o;
-    written = has-map (λ (x : Place × Object). same_object (version_of objects) x.1) (written_places t objects) place lie.among;
+    written = has_map (λ (x : Place × Object). same_object (version_of objects) x.1) (written_places t objects) place lie.among;
     id = refl;
     version_is = refl;
     owner_is = refl;

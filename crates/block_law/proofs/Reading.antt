@@ -7,24 +7,16 @@ use Rattle.chain_types.specs.declared.transactions.Argument.{Argument}
 use Rattle.chain_types.specs.declared.transactions.Command.{Command}
 use Rattle.chain_types.specs.declared.transactions.Transaction.{Transaction}
 use Rattle.answer_types.specs.declared.pieces.Item.{Item}
-use Rattle.protocol_spec.specs.Chain.Words.{Each, first_some, where_true}
+use Rattle.protocol_spec.proofs.ListLemmas.{all_none}
+use Rattle.protocol_spec.proofs.Truth.{where_false, or_false_left}
+use Rattle.protocol_spec.specs.Chain.Words.{Each, where_true}
 use Rattle.protocol_spec.specs.Chain.Tests.{kind_eq}
-use Rattle.protocol_spec.proofs.ListLemmas.{or-first}
 use Rattle.protocol_spec.specs.Block.Natives.{kind_of}
 use Rattle.protocol_spec.specs.Block.Block.{Value, pure, object, vector, Block, place_eq, value_in}
 use Rattle.protocol_spec.specs.Block.Commands.{Need, by_value, by_mut, all_by, place_of, has_no_result, is_right_kind, takes_value, changes_value, stays_in_place, is_frozen_place, is_pure, is_aliased, value_cases, value_cause, argument_cause, arguments_cause, items_in}
 use Rattle.block_law.proofs.Slots.{Others, Lies}
 
 -- ---- no case applies
-
-pub all-none : {A : Type 0} (cases : List (Option A)) → first_some cases ≡ None → Each (λ (x : Option A). x ≡ None) cases
-all-none [] e = tt
-all-none (Some x ∷ cases) e = absurd (cc)
-all-none (None ∷ cases) e = (refl, all-none cases e)
-
-pub where-false : {A : Type 0} (b : Bool) (x : A) → where_true b x ≡ None → b ≡ false
-where-false true x e = absurd (cc)
-where-false false x e = refl
 
 -- ---- one argument
 
@@ -37,19 +29,19 @@ pub record IsRead (t : Transaction) (b : Block) (c : Command) (earlier : List Ar
   pub apart : is_aliased earlier a value ≡ false
 
 pub argument-read : (t : Transaction) (b : Block) (c : Command) (earlier : List Argument) (a : Argument) (need : Need) → argument_cause t b c earlier a need ≡ None → IsRead t b c earlier a need
-argument-read t b c earlier a need e = go (value_in (place_of a) b.slots) refl (all-none (where_true (has_no_result b a) 2 ∷ value_cause t c earlier a need (value_in (place_of a) b.slots) ∷ []) e).1.0
+argument-read t b c earlier a need e = go (value_in (place_of a) b.slots) refl (all_none (where_true (has_no_result b a) 2 ∷ value_cause t c earlier a need (value_in (place_of a) b.slots) ∷ []) e).1.0
   where
     go : (v : Option Value) → value_in (place_of a) b.slots ≡ v → value_cause t c earlier a need v ≡ None → IsRead t b c earlier a need
     go None h e = absurd (cc)
     go (Some value) h e =
-        let n = all-none (value_cases t c earlier a need value) e in
+        let n = all_none (value_cases t c earlier a need value) e in
         record {
           value = value;
           there = h;
-          fitting = not-false (is_right_kind need value) (where-false (not (is_right_kind need value)) 4 n.1.0);
-          moves = where-false (takes_value need && stays_in_place t c (place_of a)) 5 n.1.1.0;
-          thaws = where-false (changes_value need && is_frozen_place t (place_of a)) 6 n.1.1.1.0;
-          apart = where-false (is_aliased earlier a value) 7 n.1.1.1.1.0;
+          fitting = not-false (is_right_kind need value) (where_false (not (is_right_kind need value)) 4 n.1.0);
+          moves = where_false (takes_value need && stays_in_place t c (place_of a)) 5 n.1.1.0;
+          thaws = where_false (changes_value need && is_frozen_place t (place_of a)) 6 n.1.1.1.0;
+          apart = where_false (is_aliased earlier a value) 7 n.1.1.1.1.0;
         }
       where
         not-false : (x : Bool) → not x ≡ false → x ≡ true
@@ -65,7 +57,7 @@ AllRead t b c earlier (x ∷ rest) = IsRead t b c earlier x.0 x.1 × AllRead t b
 pub all-read : (t : Transaction) (b : Block) (c : Command) (earlier : List Argument) (needs : List (Argument × Need)) → arguments_cause t b c earlier needs ≡ None → AllRead t b c earlier needs
 all-read t b c earlier [] e = tt
 all-read t b c earlier (x ∷ rest) e =
-    let n = all-none (argument_cause t b c earlier x.0 x.1 ∷ arguments_cause t b c (earlier ++ x.0 ∷ []) rest ∷ []) e in
+    let n = all_none (argument_cause t b c earlier x.0 x.1 ∷ arguments_cause t b c (earlier ++ x.0 ∷ []) rest ∷ []) e in
     (argument-read t b c earlier x.0 x.1 n.0, all-read t b c (earlier ++ x.0 ∷ []) rest n.1.0)
 
 -- ---- places are apart
@@ -75,7 +67,7 @@ abbrev pub Covers : Argument → List Argument → Type 0
 Covers a earlier = (test : Argument → Bool) → list_any test earlier ≡ false → test a ≡ false
 
 any-split : (test : Argument → Bool) (xs : List Argument) (y : Argument) → list_any test (xs ++ y ∷ []) ≡ false → (list_any test xs ≡ false) × (test y ≡ false)
-any-split test [] y e = (refl, or-first (test y) false e)
+any-split test [] y e = (refl, or_false_left (test y) false e)
 any-split test (x ∷ xs) y e = go (test x) e (any-split test xs y)
   where
     go : (b : Bool) → (b || list_any test (xs ++ y ∷ [])) ≡ false → (list_any test (xs ++ y ∷ []) ≡ false → (list_any test xs ≡ false) × (test y ≡ false)) → ((b || list_any test xs) ≡ false) × (test y ≡ false)

@@ -18,6 +18,8 @@ use Rattle.chain_types.specs.declared.transactions.Transaction.{Transaction}
 use Rattle.chain_types.specs.Equal.{id_eq}
 use Rattle.answer_types.specs.declared.pieces.Item.{Item}
 use Rattle.answer_types.specs.declared.pieces.Placed.{Placed}
+use Rattle.protocol_spec.proofs.ListLemmas.{append_nil, has_map, all_none, each_as, has_right}
+use Rattle.protocol_spec.proofs.Truth.{where_false, equal_numbers}
 use Rattle.protocol_spec.specs.Chain.Words.{Each, Has, numbers_below, first_some, unless_refused}
 use Rattle.protocol_spec.specs.Chain.Tests.{kind_eq}
 use Rattle.protocol_spec.specs.Block.Natives.{kind_of, currency_of, holding, Site, new_item}
@@ -26,9 +28,9 @@ use Rattle.protocol_spec.specs.Block.Commands.{Fault, cause, number, address, by
 use Rattle.block_law.specs.Names.{drawn_id, drawn_ids}
 use Rattle.block_law.proofs.Counts.{hit, times, times-append}
 use Rattle.block_law.proofs.Slots.{place-same, items_weight, values_weight, placed_weight, block_weight, slots-append, placed-append, objects-weight, put-weight, Every, put-every, value-every, Others, Lies, spend-weight, spend-placed, spend-made, spend-other, spend-every}
-use Rattle.block_law.proofs.Reading.{all-none, where-false, AllRead, covers-last, is-changed, Takes, takes, takes-others, takes-each}
-use Rattle.block_law.proofs.Amounts.{cond-part, part, part-plus, part-zero, sum-cons, money, supply, caps, coin-purse, IsPurseItem, IsOf, same-currency, each-false, each-map, coins-money, coins-supply, coins-caps, amount}
-use Rattle.block_law.proofs.Kept.{Like, Turned, Went, IsSorted, Good, good-holding, good-spent, every-grows, has-back, Stands, put-stands, stands-results, every-results, results-weight}
+use Rattle.block_law.proofs.Reading.{AllRead, covers-last, is-changed, Takes, takes, takes-others, takes-each}
+use Rattle.block_law.proofs.Amounts.{cond-part, part, part-plus, part-zero, sum-cons, money, supply, caps, coin-purse, IsPurseItem, IsOf, each-false, coins-money, coins-supply, coins-caps, amount}
+use Rattle.block_law.proofs.Kept.{Like, Turned, Went, IsSorted, Good, good-holding, good-spent, every-grows, Stands, put-stands, stands-results, every-results, results-weight}
 
 -- ---- what went in and what came out
 
@@ -86,10 +88,6 @@ place-apart p q e = go (place_eq q p) refl
     go true h = let same : place_eq p q ≡ true = subst (λ z. place_eq z q ≡ true) (place-same q p h) (subst (λ z. place_eq q z ≡ true) (sym (place-same q p h)) h) in absurd (cc)
     go false h = refl
 
-pub append-nil : {A : Type 0} (xs : List A) → xs ++ [] ≡ xs
-append-nil [] = refl
-append-nil (x ∷ xs) = ap (λ ys. x ∷ ys) (append-nil xs)
-
 pub others-back : (p : Place) (args : List Argument) → Others p args → Each (λ (a : Argument). place_eq (place_of a) p ≡ false) args
 others-back p [] others = tt
 others-back p (a ∷ args) others = (place-apart p (place_of a) others.0, others-back p args others.1)
@@ -135,11 +133,6 @@ spend-stands places (a ∷ args) b stands = spend-stands places args (spend a b)
 pub placed-map : (w : Item → ℕ) (who : Owner) (items : List Item) → placed_weight w (map (placed_at who) items) ≡ items_weight w items
 placed-map w who [] = refl
 placed-map w who (i ∷ items) = let rest = placed-map w who items in omega (arith, rest)
-
-pub has-map : {A B : Type 0} (f : A → B) (xs : List A) (x : A) → Has xs x → Has (map f xs) (f x)
-has-map f [] x has = absurd has
-has-map f (y ∷ xs) x (inl e) = inl (ap f e)
-has-map f (y ∷ xs) x (inr has) = inr (has-map f xs x has)
 
 pub coins-sorted : (s : Site) (currency from : ℕ) (amounts : List ℕ) → Each IsSorted (map (numbered_coin s currency) (enumerate_from from amounts))
 coins-sorted s currency from [] = tt
@@ -252,7 +245,7 @@ module _ (t : Transaction) (tx : Digest) (version c : ℕ) (first : List Slot) (
     };
     good = subst (λ placed. Every (Good t first placed) (put_in (place_of target) (Some (object held)) spent.slots)) (sym (spend-placed sources b))
         (put-every (Good t first b.placed) (place_of target) (Some (object held)) spent.slots
-        (spend-every (Good t first b.placed) sources b (each-map (λ (a : Argument). stays_in_place t cmd (place_of a) ≡ false) (λ (a : Argument). Good t first b.placed (place_of a) None) sources (λ a moves. good-spent t cmd first b.placed (place_of a) kept moves) k.moves) each)
+        (spend-every (Good t first b.placed) sources b (each_as (λ (a : Argument). stays_in_place t cmd (place_of a) ≡ false) (λ (a : Argument). Good t first b.placed (place_of a) None) sources (λ a moves. good-spent t cmd first b.placed (place_of a) kept moves) k.moves) each)
         (good-holding t first b.placed (place_of target) item total thawed (value-every (Good t first b.placed) (place_of target) (object item) b.slots each there)));
     stands = λ places stand. put-stands places (place_of target) (Some (object held)) spent.slots (spend-stands places sources b stand);
   }
@@ -280,7 +273,7 @@ module _ (t : Transaction) (tx : Digest) (version c : ℕ) (first : List Slot) (
       there = read.0.there ∙ ap Some o.1.0
 
       rest : AllRead t b cmd (target ∷ []) (all_by (by_value (Some kind.Coin)) sources ++ [])
-      rest = subst (AllRead t b cmd (target ∷ [])) (sym (append-nil (all_by (by_value (Some kind.Coin)) sources))) read.1
+      rest = subst (AllRead t b cmd (target ∷ [])) (sym (append_nil (all_by (by_value (Some kind.Coin)) sources))) read.1
 
       k : Takes t b cmd sources
       k = takes t b cmd (Some kind.Coin) (target ∷ []) sources [] rest
@@ -296,8 +289,8 @@ module _ (t : Transaction) (tx : Digest) (version c : ℕ) (first : List Slot) (
 
       same : Each (IsOf (currency_of o.0.content)) k.items
       same = subst (Each (IsOf (currency_of o.0.content))) k.found
-          (each-map (λ (i : Item). differs i ≡ false) (IsOf (currency_of o.0.content)) (items_in b sources) (λ i d. same-currency (currency_of i.content) (currency_of o.0.content) d)
-          (each-false differs (items_in b sources) (where-false (list_any differs (items_in b sources)) (cause 10) (all-none (merge_cases t target o.0 (items_in b sources)) done_is.0).0)))
+          (each_as (λ (i : Item). differs i ≡ false) (IsOf (currency_of o.0.content)) (items_in b sources) (λ i d. equal_numbers (currency_of i.content) (currency_of o.0.content) d)
+          (each-false differs (items_in b sources) (where_false (list_any differs (items_in b sources)) (cause 10) (all_none (merge_cases t target o.0 (items_in b sources)) done_is.0).0)))
 
   -- ---- Transfer: the values leave the block
 
@@ -350,7 +343,7 @@ module _ (t : Transaction) (tx : Digest) (version c : ℕ) (first : List Slot) (
       new = map (placed_at (owner.Address who)) (items_in b values)
 
       leaves : (i : Item) → Has k.items i → (p : Placed) × (Has (b.placed ++ new) p × (p.item ≡ i))
-      leaves i has = (placed_at (owner.Address who) i, (has-back b.placed new (placed_at (owner.Address who) i) (has-map (placed_at (owner.Address who)) (items_in b values) i (subst (λ is. Has is i) (sym k.found) has)), refl))
+      leaves i has = (placed_at (owner.Address who) i, (has_right b.placed new (placed_at (owner.Address who) i) (has_map (placed_at (owner.Address who)) (items_in b values) i (subst (λ is. Has is i) (sym k.found) has)), refl))
 
   -- ---- MakeVec: the values lie in a vector
 
@@ -372,13 +365,13 @@ module _ (t : Transaction) (tx : Digest) (version c : ℕ) (first : List Slot) (
       drew = λ x. let made = drawn-same tx x spent.made b.made (spend-made values b) in omega (arith, made);
     };
     good = subst (λ placed. Every (Good t first placed) (spent.slots ++ result_slots c (vector k (items_in b values) ∷ []))) (sym (spend-placed values b))
-        (every-results t first b.placed spent.slots c (vector k (items_in b values) ∷ []) (takes-each (λ (i : Item). kind_eq (kind_of i.content) k ≡ true) t b cmd k [] values [] (subst (AllRead t b cmd []) (sym (append-nil (all_by (by_value (Some k)) values))) read) (λ i e. e), tt)
-        (spend-every (Good t first b.placed) values b (each-map (λ (a : Argument). stays_in_place t cmd (place_of a) ≡ false) (λ (a : Argument). Good t first b.placed (place_of a) None) values (λ a moves. good-spent t cmd first b.placed (place_of a) kept moves) takes_them.moves) each));
+        (every-results t first b.placed spent.slots c (vector k (items_in b values) ∷ []) (takes-each (λ (i : Item). kind_eq (kind_of i.content) k ≡ true) t b cmd k [] values [] (subst (AllRead t b cmd []) (sym (append_nil (all_by (by_value (Some k)) values))) read) (λ i e. e), tt)
+        (spend-every (Good t first b.placed) values b (each_as (λ (a : Argument). stays_in_place t cmd (place_of a) ≡ false) (λ (a : Argument). Good t first b.placed (place_of a) None) values (λ a moves. good-spent t cmd first b.placed (place_of a) kept moves) takes_them.moves) each));
     stands = λ places stand. stands-results places spent.slots c (vector k (items_in b values) ∷ []) (spend-stands places values b stand);
   }
     where
       takes_them : Takes t b cmd values
-      takes_them = takes t b cmd (Some k) [] values [] (subst (AllRead t b cmd []) (sym (append-nil (all_by (by_value (Some k)) values))) read)
+      takes_them = takes t b cmd (Some k) [] values [] (subst (AllRead t b cmd []) (sym (append_nil (all_by (by_value (Some k)) values))) read)
 
       spent : Block
       spent = spend_all values b

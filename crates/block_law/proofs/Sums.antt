@@ -15,13 +15,14 @@ use Rattle.chain_types.specs.declared.transactions.Transaction.{Transaction}
 use Rattle.chain_types.specs.Equal.{id_eq}
 use Rattle.answer_types.specs.declared.pieces.Item.{Item}
 use Rattle.answer_types.specs.declared.pieces.Placed.{Placed}
+use Rattle.protocol_spec.proofs.Equality.{id_same}
+use Rattle.protocol_spec.proofs.Truth.{or_false_left, or_false_right}
 use Rattle.protocol_spec.specs.Chain.Words.{Each, numbers_below}
-use Rattle.protocol_spec.proofs.ListLemmas.{or-first, or-second}
 use Rattle.protocol_spec.specs.Block.Block.{Place, gas, input, result, Value, pure, object, vector, Slot, Block, value_in}
 use Rattle.protocol_spec.specs.Block.Commands.{is_common, is_read_only, piece_of}
 use Rattle.protocol_spec.specs.Block.Execution.{is_unused, is_left, item_of, input_slots, first_slots, first_block, object_at, left_in, now_in, after_block, written_inputs, written_places, created_objects}
 use Rattle.block_law.specs.Names.{drawn_id, drawn_ids}
-use Rattle.block_law.proofs.Counts.{hit, times, times-append, id_same, id_equal, id_refl}
+use Rattle.block_law.proofs.Counts.{hit, times, times-append, id_equal, id_refl}
 use Rattle.block_law.proofs.Slots.{value_weight, slots_weight, placed_weight, block_weight, Every, value-every}
 use Rattle.block_law.proofs.Kept.{Turned, Good, is_result, Stands}
 use Rattle.block_law.proofs.Steps.{counts}
@@ -78,7 +79,7 @@ module _ (w : Item → ℕ) where
   -- results that are used up weigh nothing
   results-none : (slots : List Slot) → Each (λ (s : Slot). is_result s.place ≡ true) slots → list_any is_unused slots ≡ false → slots_weight w slots ≡ 0
   results-none [] results used = refl
-  results-none (s ∷ slots) results used = go s.place s.value results.0 (or-first (is_unused s) (list_any is_unused slots) used) (results-none slots results.1 (or-second (is_unused s) (list_any is_unused slots) used))
+  results-none (s ∷ slots) results used = go s.place s.value results.0 (or_false_left (is_unused s) (list_any is_unused slots) used) (results-none slots results.1 (or_false_right (is_unused s) (list_any is_unused slots) used))
     where
       go : (p : Place) (v : Option Value) → is_result p ≡ true → is_left p v ≡ false → slots_weight w slots ≡ 0 → value_weight w v + slots_weight w slots ≡ 0
       go p None ends used rest = omega (arith, rest)
@@ -141,7 +142,7 @@ module _ (w : Item → ℕ) where
     behind = behind-next whole n s slots at.stands.0 at.behind;
     stands = at.stands.1;
     good = at.good.1;
-    used = or-second (is_unused s) (list_any is_unused slots) at.used;
+    used = or_false_right (is_unused s) (list_any is_unused slots) at.used;
   }
 
   at-pure : (t : Transaction) (first whole : List Slot) (placed : List Placed) (n : ℕ) (is : List Input) (bytes : List ℕ) (firsts : List Slot) (s : Slot) (slots : List Slot) → At t first whole placed n is (slot_at n (pure bytes) ∷ firsts) (s ∷ slots) → value_weight w s.value ≡ 0
@@ -198,7 +199,7 @@ module _ (w : Item → ℕ) where
             behind = λ m above. rw stands.0 refl;
             stands = stands.1;
             good = good.1;
-            used = or-second (is_unused s) (list_any is_unused slots) used;
+            used = or_false_right (is_unused s) (list_any is_unused slots) used;
           }) in
           omega (arith, same, rest)
 

@@ -1,7 +1,6 @@
 -- A written object is shared as the object that it replaces, and a new one since the version of the transaction.
 use Rattle.std.proofs.Common.{inl, inr, refl, ap, sym, subst, ◌∙◌, arith}
-use Rattle.std.proofs.lemmas.Bool.{eqb-true, eqb-false}
-use Rattle.std.specs.Prelude.{◌≡◌, ◌⊎◌, ◌≤◌, ◌<◌, ◌+◌, ℕ, zero, suc, Bool, true, false, cond, ◌&&◌, ◌==◌, List, [], ◌∷◌, ◌++◌, map, zip, filter, filter_map, find, slice_get, option_map, Option, Some, None, Result, Ok, Err, nat_lt}
+use Rattle.std.specs.Prelude.{◌≡◌, ◌⊎◌, ◌≤◌, ◌<◌, ◌+◌, ℕ, zero, suc, true, false, ◌&&◌, ◌==◌, List, [], ◌∷◌, ◌++◌, map, zip, filter, filter_map, find, slice_get, option_map, Option, Some, None, Result, Ok, Err, nat_lt}
 use Rattle.std.specs.List.{cons_option}
 use Rattle.digest_core.specs.declared.Digest.{Digest}
 use Rattle.chain_types.specs.declared.objects.ObjectId.{ObjectId}
@@ -15,32 +14,22 @@ use Rattle.chain_types.specs.Equal.{digest_eq, id_eq}
 use Rattle.chain_types.specs.Digests.{transaction_digest, digest_of_object, is_object}
 use Rattle.answer_types.specs.declared.pieces.Item.{Item}
 use Rattle.answer_types.specs.declared.pieces.Placed.{Placed}
+use Rattle.protocol_spec.proofs.Equality.{id_same}
 use Rattle.protocol_spec.specs.Chain.Words.{Has, numbers_below, repeats}
 use Rattle.protocol_spec.specs.Chain.Keys.{objects_of, named_ids, version_of, version_limit, is_owned_by, fits_input, fit_inputs, pays_gas, fits}
-use Rattle.protocol_spec.proofs.ListLemmas.{find-test, and-first, and-second}
+use Rattle.protocol_spec.proofs.ListLemmas.{find-test, and-first, and-second, is_below, has_parts, has_mapped, find_has, has_map, each_has}
 use Rattle.protocol_spec.specs.Block.Block.{Place, input, Block, value_in}
 use Rattle.protocol_spec.specs.Block.Commands.{piece_of}
 use Rattle.protocol_spec.specs.Block.Execution.{Failure, first_slots, outcome, object_at, left_in, now_in, after_block, is_written, written_inputs, written_places, created_objects, with_rest_first, same_object, less_cost_first, execution, executed_by}
 use Rattle.block_law.specs.Names.{drawn_id, drawn_ids, touched_ids}
-use Rattle.block_law.proofs.Counts.{hit, times, times-append, id_same, id_refl, once-each}
-use Rattle.block_law.proofs.Kept.{has-front, has-back}
-use Rattle.block_law.proofs.Steps.{has-map}
+use Rattle.block_law.proofs.Counts.{hit, times, times-append, id_refl, once-each}
 use Rattle.block_law.proofs.Blocks.{done-is}
 use Rattle.block_law.proofs.Effects.{id_of, IsOrigin, origins, left-id, after-id, objects-ids}
 use Rattle.block_law.specs.Shared.{shared_since, IsAsNamed, IsSharedFrom, IsNew}
-use Rattle.block_law.proofs.Places.{each-at, at-index, From, from-next, from-here, still}
+use Rattle.block_law.proofs.Places.{at-index, From, from-next, from-here, still}
 use Rattle.block_law.proofs.Tracked.{IsDrawn, Left, HasLeft, ends-tracked}
 
 -- ---- lists
-
-has-parts : {A : Type 0} (xs ys : List A) (y : A) → Has (xs ++ ys) y → Has xs y ⊎ Has ys y
-has-parts [] ys y h = inr h
-has-parts (x ∷ xs) ys y (inl e) = inl (inl e)
-has-parts (x ∷ xs) ys y (inr h) = go (has-parts xs ys y h)
-  where
-    go : Has xs y ⊎ Has ys y → Has (x ∷ xs) y ⊎ Has ys y
-    go (inl h) = inl (inr h)
-    go (inr h) = inr h
 
 pub chosen-from : {A B : Type 0} (f : A → Option B) (xs : List A) (y : B) → Has (filter_map f xs) y → (x : A) × Has xs x × (f x ≡ Some y)
 chosen-from f [] y h = absurd h
@@ -51,44 +40,20 @@ chosen-from {A = A} {B = B} f (x ∷ xs) y h = go (f x) refl h (chosen-from f xs
     go (Some z) e (inl q) rest = (x, inl refl, e ∙ ap Some q)
     go (Some z) e (inr h) rest = let r = rest h in (r.0, inr r.1, r.2)
 
-mapped-from : {A B : Type 0} (f : A → B) (xs : List A) (y : B) → Has (map f xs) y → (x : A) × Has xs x × (f x ≡ y)
-mapped-from f [] y h = absurd h
-mapped-from f (x ∷ xs) y (inl e) = (x, inl refl, e)
-mapped-from f (x ∷ xs) y (inr h) = let r = mapped-from f xs y h in (r.0, inr r.1, r.2)
-
-found-has : {A : Type 0} (test : A → Bool) (xs : List A) (x : A) → find test xs ≡ Some x → Has xs x
-found-has test [] x e = absurd (cc)
-found-has {A = A} test (y ∷ ys) x e = go (test y) e (found-has test ys x)
-  where
-    same : (y : A) → Some y ≡ Some x → y ≡ x
-    same y e = cc
-
-    go : (b : Bool) → cond b (Some y) (find test ys) ≡ Some x → (find test ys ≡ Some x → Has ys x) → Has (y ∷ ys) x
-    go true e rest = inl (same y e)
-    go false e rest = inr (rest e)
-
-second : {A B : Type 0} (xs : List A) (ys : List B) (x : A) (y : B) → Has (zip xs ys) (x, y) → Has ys y
+pub second : {A B : Type 0} (xs : List A) (ys : List B) (x : A) (y : B) → Has (zip xs ys) (x, y) → Has ys y
 second [] ys x y h = absurd h
 second (a ∷ xs) [] x y h = absurd h
 second {A = A} {B = B} (a ∷ xs) (b ∷ ys) x y (inl e) = inl (ap (λ (z : A × B). z.1) e)
 second (a ∷ xs) (b ∷ ys) x y (inr h) = inr (second xs ys x y h)
 
-below : (k n : ℕ) → Has (numbers_below k) n → n < k
+pub below : (k n : ℕ) → Has (numbers_below k) n → n < k
 below zero n h = absurd h
-below (suc k) n h = go (has-parts (numbers_below k) (k ∷ []) n h) (below k n)
+below (suc k) n h = go (has_parts (numbers_below k) (k ∷ []) n h) (below k n)
   where
     go : Has (numbers_below k) n ⊎ Has (k ∷ []) n → (Has (numbers_below k) n → n < k) → n < suc k
     go (inl h) rest = let less = rest h in omega (arith, less)
     go (inr (inl e)) rest = omega (arith, e)
     go (inr (inr h)) rest = absurd h
-
-is-below : (k n : ℕ) → n < k → Has (numbers_below k) n
-is-below zero n less = absurd (omega (arith, less))
-is-below (suc k) n less = go (k == n) refl (is-below k n)
-  where
-    go : (b : Bool) → (k == n) ≡ b → (n < k → Has (numbers_below k) n) → Has (numbers_below (suc k)) n
-    go true e rest = has-back (numbers_below k) (k ∷ []) n (inl (eqb-true k n e))
-    go false e rest = let apart = eqb-false k n e in has-front (numbers_below k) (k ∷ []) n (rest (omega (arith, less, apart)))
 
 -- ---- no named id is drawn
 
@@ -107,11 +72,11 @@ not-both xs ys y apart h k =
 
 -- ---- the objects that lie in written places
 
-fits-first : (t : Transaction) (objects : List Object) → fits t objects ≡ true → fit_inputs t (objects_of t) objects ≡ true
+pub fits-first : (t : Transaction) (objects : List Object) → fits t objects ≡ true → fit_inputs t (objects_of t) objects ≡ true
 unfolding fits
 fits-first t objects fit = and-first (fit_inputs t (objects_of t) objects) (pays_gas t objects) (and-first (fit_inputs t (objects_of t) objects && pays_gas t objects) (nat_lt (version_of objects) version_limit) fit)
 
-fit-at : (t : Transaction) (is : List Input) (os : List Object) (i : Input) (o : Object) → fit_inputs t is os ≡ true → Has (zip is os) (i, o) → fits_input t i o ≡ true
+pub fit-at : (t : Transaction) (is : List Input) (os : List Object) (i : Input) (o : Object) → fit_inputs t is os ≡ true → Has (zip is os) (i, o) → fits_input t i o ≡ true
 fit-at t [] os i o fit h = absurd h
 fit-at t (j ∷ is) [] i o fit h = absurd h
 fit-at t (j ∷ is) (p ∷ os) i o fit (inl e) = subst (λ (z : Input × Object). fits_input t z.0 z.1 ≡ true) e (and-first (fits_input t j p) (fit_inputs t is os) fit)
@@ -183,7 +148,7 @@ module _ (t : Transaction) (objects : List Object) (fit : fits t objects ≡ tru
   gone-input x n place (inputs.Shared id k true) at may named there gone = absurd (stays (subst (λ (p : Place). IsOrigin (first_slots t objects) (p, x.1)) place origin) (subst (λ (p : Place). piece_of (value_in p b.slots) ≡ None) place gone))
     where
       origin : IsOrigin (first_slots t objects) x
-      origin = each-at (IsOrigin (first_slots t objects)) (written_places t objects) x (origins t objects) there
+      origin = each_has (IsOrigin (first_slots t objects)) (written_places t objects) x (origins t objects) there
 
       stays : IsOrigin (first_slots t objects) (input n, x.1) → piece_of (value_in (input n) b.slots) ≡ None → ⊥
       stays origin none =
@@ -214,8 +179,8 @@ module _ (t : Transaction) (objects : List Object) (fit : fits t objects ≡ tru
     never-drawn : (i : Input) (o : Object) → Has (zip (objects_of t) objects) (i, o) → IsDrawn (transaction_digest t) (version_of objects) b.made o.id → ⊥
     never-drawn i o named drawn =
         not-both (named_ids t) (drawn_ids (transaction_digest t) b.made) o.id apart
-        (subst (λ (ids : List ObjectId). Has ids o.id) (objects-ids t objects fit) (has-map id_of objects o (second (objects_of t) objects i o named)))
-        (subst (Has (drawn_ids (transaction_digest t) b.made)) drawn.2 (has-map (drawn_id (transaction_digest t)) (numbers_below b.made) drawn.0 (is-below b.made drawn.0 drawn.1)))
+        (subst (λ (ids : List ObjectId). Has ids o.id) (objects-ids t objects fit) (has_map id_of objects o (second (objects_of t) objects i o named)))
+        (subst (Has (drawn_ids (transaction_digest t) b.made)) drawn.2 (has_map (drawn_id (transaction_digest t)) (numbers_below b.made) drawn.0 (is_below b.made drawn.0 drawn.1)))
 
     left-share : (x : Place × Object) (i : Input) → Has (zip (objects_of t) objects) (i, x.1) → shared_since x.1.owner ≡ None → (id : ObjectId) → id ≡ x.1.id → (who : Owner) → Left (transaction_digest t) (version_of objects) b.made id who → shared_since x.1.owner ≡ shared_since who
     left-share x i named none id same (owner.Address a) l = none
@@ -232,7 +197,7 @@ module _ (t : Transaction) (objects : List Object) (fit : fits t objects ≡ tru
         go None h e = absurd (cc)
         go (Some p) h e =
             left-share x i named none p.item.id (id_same p.item.id x.1.id (find-test (λ (r : Placed). id_eq r.item.id x.1.id) b.placed p h)) p.owner
-            (each-at (HasLeft (transaction_digest t) (version_of objects) b.made) b.placed p (ends-tracked t (transaction_digest t) objects b done).placed (found-has (λ (r : Placed). id_eq r.item.id x.1.id) b.placed p h))
+            (each_has (HasLeft (transaction_digest t) (version_of objects) b.made) b.placed p (ends-tracked t (transaction_digest t) objects b done).placed (find_has (λ (r : Placed). id_eq r.item.id x.1.id) b.placed p h))
             ∙ ap (λ (y : Object). shared_since y.owner) (same p e)
 
     after-share : (x : Place × Object) → IsPlaced x → (q : Object) → after_block (version_of objects) b x.0 x.1 ≡ Some q → shared_since x.1.owner ≡ shared_since q.owner
@@ -253,7 +218,7 @@ module _ (t : Transaction) (objects : List Object) (fit : fits t objects ≡ tru
           of = it.0;
           before = from.0.1;
           named = it.1;
-          id = sym (after-id t (first_slots t objects) (version_of objects) b from.0 q (each-at (IsOrigin (first_slots t objects)) (written_places t objects) from.0 (origins t objects) from.1) (done-is t (transaction_digest t) objects b done).kept.good from.2);
+          id = sym (after-id t (first_slots t objects) (version_of objects) b from.0 q (each_has (IsOrigin (first_slots t objects)) (written_places t objects) from.0 (origins t objects) from.1) (done-is t (transaction_digest t) objects b done).kept.good from.2);
           share = after-share from.0 it q from.2;
         }
 
@@ -274,7 +239,7 @@ module _ (t : Transaction) (objects : List Object) (fit : fits t objects ≡ tru
         go : (f : Option Placed) → find (λ (r : Placed). id_eq r.item.id id) b.placed ≡ f → option_map (λ (r : Placed). object_at (version_of objects) r.owner r.item) f ≡ Some p → IsSharedFrom (version_of objects) p.owner
         go None h e = absurd (cc)
         go (Some r) h e = subst (λ (y : Object). IsSharedFrom (version_of objects) y.owner) (same r e)
-            (from-left r.item.id r.owner (each-at (HasLeft (transaction_digest t) (version_of objects) b.made) b.placed r (ends-tracked t (transaction_digest t) objects b done).placed (found-has (λ (z : Placed). id_eq z.item.id id) b.placed r h)))
+            (from-left r.item.id r.owner (each_has (HasLeft (transaction_digest t) (version_of objects) b.made) b.placed r (ends-tracked t (transaction_digest t) objects b done).placed (find_has (λ (z : Placed). id_eq z.item.id id) b.placed r h)))
 
     created-new : (p : Object) → Has (created_objects (transaction_digest t) (version_of objects) b) p → IsDrawnIn p
     created-new p h =
@@ -308,7 +273,7 @@ named-at t (coin ∷ os) x (inr k) = let it = of-input t.inputs 0 t.inputs os x 
 
 failed-named : (t : Transaction) (objects : List Object) (q : Object) → Has (map (λ (x : Place × Object). same_object (version_of objects) x.1) (written_places t objects)) q → IsAsNamed t objects q
 failed-named t objects q h =
-    let from = mapped-from (λ (x : Place × Object). same_object (version_of objects) x.1) (written_places t objects) q h in
+    let from = has_mapped (λ (x : Place × Object). same_object (version_of objects) x.1) (written_places t objects) q h in
     let it = named-at t objects from.0 from.1 in
     record { of = it.0; before = from.0.1; named = it.1; id = ap (λ (y : Object). y.id) from.2; share = ap (λ (y : Object). shared_since y.owner) from.2 }
 
@@ -319,7 +284,7 @@ module _ (t : Transaction) (objects : List Object) (fit : fits t objects ≡ tru
   IsNewIn r = (n : ℕ) × (n < (executed_by t (transaction_digest t) objects r).effects.created) × (drawn_id (transaction_digest t) n ≡ p.id) × IsSharedFrom (version_of objects) p.owner
 
   by-outcome : (r : Result Block Failure) → outcome t (transaction_digest t) objects ≡ r → repeats id_eq (touched_ids t (executed_by t (transaction_digest t) objects r).effects) ≡ false → Has (executed_by t (transaction_digest t) objects r).objects p → IsAsNamed t objects p ⊎ IsNewIn r
-  by-outcome (Ok b) done apart h = go (has-parts (with_rest_first t (filter_map (λ (x : Place × Object). after_block (version_of objects) b x.0 x.1) (written_places t objects))) (created_objects (transaction_digest t) (version_of objects) b) p h)
+  by-outcome (Ok b) done apart h = go (has_parts (with_rest_first t (filter_map (λ (x : Place × Object). after_block (version_of objects) b x.0 x.1) (written_places t objects))) (created_objects (transaction_digest t) (version_of objects) b) p h)
     where
       go : Has (with_rest_first t (filter_map (λ (x : Place × Object). after_block (version_of objects) b x.0 x.1) (written_places t objects))) p ⊎ Has (created_objects (transaction_digest t) (version_of objects) b) p → IsAsNamed t objects p ⊎ IsNewIn (Ok b)
       go (inl k) =

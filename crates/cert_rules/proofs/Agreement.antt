@@ -1,11 +1,9 @@
 -- Votes that agree, and the certificate that they make.
 use Rattle.std.proofs.Common.{◌≡◌, ℕ, List, [], ◌∷◌, length, Option, Some, None, Bool, true, false, refl, ap, sym, ◌∙◌, subst}
-use Rattle.std.specs.Prelude.{◌==◌, ◌&&◌, not, map, option_map, Ok}
+use Rattle.std.specs.Prelude.{◌==◌, not, map, option_map, Ok}
 use Rattle.std.proofs.lemmas.Bool.{eq-eqb}
-use Rattle.std.proofs.lemmas.Slice.Eq.{bytes_eq-Decides}
 use Rattle.digest_core.specs.declared.Digest.{Digest}
 use Rattle.quorum_core.specs.Committee.{is_quorum, is_roll, total_of, weight}
-use Rattle.chain_types.specs.Equal.{digest_eq}
 use Rattle.chain_types.specs.Digests.{transaction_digest}
 use Rattle.chain_types.specs.declared.refusals.CertRefusal.TheVariants as refused
 use Rattle.chain_types.specs.declared.transactions.Transaction.{Transaction}
@@ -14,35 +12,17 @@ use Rattle.chain_messages.specs.declared.messages.Statement.TheVariants as state
 use Rattle.chain_messages.specs.declared.messages.Sealed.{Sealed}
 use Rattle.chain_messages.specs.declared.messages.MemberSeal.{MemberSeal}
 use Rattle.chain_messages.specs.declared.messages.Certificate.{Certificate}
+use Rattle.protocol_spec.proofs.Equality.{origins_same}
 use Rattle.protocol_spec.specs.Chain.Words.{Each, first_of, first_some, unless_refused, where_true}
 use Rattle.protocol_spec.specs.Chain.Keys.{objects_of}
 use Rattle.protocol_spec.specs.Chain.Shape.{shape_fault}
-use Rattle.protocol_spec.specs.Chain.Tests.{origin_eq, origins_eq}
+use Rattle.protocol_spec.specs.Chain.Tests.{origins_eq}
 use Rattle.protocol_spec.specs.Chain.Certificates.{Rules, accepts_statement, bad_seal, cert_refusal, members_of, vote_of}
 use Rattle.cert_rules.specs.declared.votes.CollectRefusal.{CollectRefusal}
 use Rattle.cert_rules.specs.declared.votes.CollectRefusal.TheVariants as refusal
 use Rattle.cert_rules.specs.Collect.{AreSound, IsVoteFor, certificate_of, differs_from, first_differing, seal_of, too_short, voted_origins, voters}
 
 -- ---- origins
-
-digest_same : (a b : Digest) → digest_eq a b ≡ true → a ≡ b
-digest_same a b e = ap (λ (bytes : List ℕ). let d : Digest = record { 0 = bytes } in d) ((bytes_eq-Decides a.0 b.0).0 e)
-
-origin_same : (a b : Option Digest) → origin_eq a b ≡ true → a ≡ b
-origin_same None None e = refl
-origin_same (Some a) (Some b) e = ap Some (digest_same a b e)
-origin_same None (Some b) e = absurd (cc)
-origin_same (Some a) None e = absurd (cc)
-
-origins_same : (xs ys : List (Option Digest)) → origins_eq xs ys ≡ true → xs ≡ ys
-origins_same [] [] e = refl
-origins_same (x ∷ xs) (y ∷ ys) e = go (origin_eq x y) refl e (origins_same xs ys)
-  where
-    go : (b : Bool) → origin_eq x y ≡ b → (b && origins_eq xs ys) ≡ true → (origins_eq xs ys ≡ true → xs ≡ ys) → x ∷ xs ≡ y ∷ ys
-    go true is h more = ap (λ z. z ∷ xs) (origin_same x y is) ∙ ap (λ zs. y ∷ zs) (more h)
-    go false is h more = absurd (cc)
-origins_same [] (y ∷ ys) e = absurd (cc)
-origins_same (x ∷ xs) [] e = absurd (cc)
 
 -- ---- votes that agree are one statement
 

@@ -1,6 +1,6 @@
 -- The first reason of all, from the first of each part.
 use Rattle.std.proofs.Common.{◌≡◌, ℕ, suc, true, false, ◌≤◌, List, [], ◌∷◌, length, Option, Some, None, refl, ap, sym, ◌∙◌, subst, arith}
-use Rattle.std.specs.Prelude.{Bool, not, cond, ◌==◌, Result, Ok, Err, IfSome, filter, option_map}
+use Rattle.std.specs.Prelude.{Bool, not, cond, ◌==◌, Result, Ok, Err, filter, option_map}
 use Rattle.std.proofs.lemmas.Bool.{eqb-true}
 use Rattle.digest_core.specs.declared.Digest.{Digest}
 use Rattle.wire_bcs.specs.Digests.{digest}
@@ -13,6 +13,7 @@ use Rattle.quorum_core.specs.Committee.{is_quorum, is_roll, total_of, weight}
 use Rattle.chain_types.specs.Digests.{is_object}
 use Rattle.chain_types.specs.declared.transactions.Input.{Input}
 use Rattle.chain_types.specs.declared.transactions.Transaction.{Transaction}
+use Rattle.protocol_spec.proofs.Checked.{origin_short}
 use Rattle.protocol_spec.specs.Chain.Keys.{objects_of}
 use Rattle.protocol_spec.specs.Chain.Shape.{shape_fault}
 use Rattle.protocol_spec.specs.Chain.Words.{first_of, first_some, unless_refused, where_true}
@@ -106,11 +107,6 @@ few_objects t few = let kept = few_kept t.inputs in omega arith
 
 pub same_few : (c : Certificate) → length c.tx.inputs ≤ 256 → true ≡ (length c.origins == length (objects_of c.tx)) → length c.origins ≤ 257
 same_few c few e = let objects = few_objects c.tx few in let same = eqb-true (length c.origins) (length (objects_of c.tx)) (sym e) in omega arith
-
-origin_short : (o : Option Digest) → IfSome o digest.short
-unfolding digest
-origin_short None = tt
-origin_short (Some d) = tt
 
 -- a vote with few origins may be spelled
 pub vote_short : (epoch : ℕ) (tx : Digest) (origins : List (Option Digest)) → length origins ≤ 257 → messages.statement.short (statement.Vote epoch tx origins)

@@ -26,10 +26,10 @@ use Rattle.committee_core.specs.Agreement.{AllAgree, Differs, IsFirstDifference,
 
 -- ---- lists
 
-clash : {A : Type 0} {x : A} → None ≡ Some x → ⊥
+pub clash : {A : Type 0} {x : A} → None ≡ Some x → ⊥
 clash e = absurd (cc)
 
-no_post : {A : Type 0} (xs : List A) (m : ℕ) → length xs ≤ m → slice_get xs m ≡ None
+pub no_post : {A : Type 0} (xs : List A) (m : ℕ) → length xs ≤ m → slice_get xs m ≡ None
 no_post [] m most = refl
 no_post (x ∷ xs) zero most = absurd (omega (arith, most))
 no_post (x ∷ xs) (suc m) most = no_post xs m (omega (arith, most))

@@ -1,11 +1,11 @@
 -- What is written and kept behind a front of the events.
-use Rattle.std.proofs.Common.{◌≡◌, ◌≤◌, ◌<◌, ◌+◌, inl, inr, ℕ, zero, suc, Bool, List, [], ◌∷◌, ◌++◌, map, length, take, drop, get_or, Option, Some, None, slice_get, refl, sym, ap, ◌∙◌, subst, append_assoc, append-nil, take-append-drop}
+use Rattle.std.proofs.Common.{◌≡◌, ◌≤◌, ◌<◌, ◌+◌, inl, inr, ℕ, List, [], ◌∷◌, ◌++◌, map, length, take, drop, get_or, Option, Some, None, refl, sym, ap, ◌∙◌, subst, append_assoc, append-nil, take-append-drop}
 use Rattle.std.proofs.lemmas.Grind.{flat_map-append}
 use Rattle.std.proofs.lemmas.List.{drop_more, take_all, take_more}
 use Rattle.std.specs.Io.KnownBytes.{Appends, Keeps}
 use Rattle.std.proofs.KnownBytes.{Appends-kept, Appends-nil, Appends-trans}
 use Rattle.outside.specs.Lists.{Journals}
-use Rattle.protocol_spec.specs.Chain.Words.{Each}
+use Rattle.protocol_spec.proofs.ListLemmas.{each_front, each_back}
 use Rattle.journal_core.specs.Records as journals
 use Rattle.report_text.specs.declared.lines.Line.{Line}
 use Rattle.report_text.specs.Text.{text_of}
@@ -13,10 +13,10 @@ use Rattle.schedule_text.specs.declared.words.Event.{Event}
 use Rattle.schedule_text.specs.declared.words.Event.TheVariants as event
 use Rattle.schedule_text.specs.declared.words.Schedule.{Schedule}
 use Rattle.world_spec.specs.Setting.{Setting, Trust}
-use Rattle.world_spec.specs.World.{World, new_seat, new_world}
+use Rattle.world_spec.specs.World.{World, new_world}
 use Rattle.world_spec.specs.Step.{happens}
 use Rattle.world_spec.specs.Report.{lines_of}
-use Rattle.world_spec.specs.Run.{journal, records_of, report, report_from, report_of, run, world_after}
+use Rattle.world_spec.specs.Run.{journal, report, report_from, report_of, run, world_after}
 use Rattle.scene_spec.specs.Scene.{Scene}
 use Rattle.scene_spec.specs.Worlds.{AreKeepable, Restarts, Shows, journal_in}
 use Rattle.world_core.specs.Restarts.{StaysDown}
@@ -28,24 +28,17 @@ use Rattle.outside.specs.Streams.{AppendsFront}
 use Rattle.committee_core.specs.Ways.{MeetsBadRecord, RunsCut, RunsFront, RunsWhole, ShowsRun}
 use Rattle.committee_core.proofs.Following.{FrontFrom, IsFollowed, ReadsTold, TellsFrom, bad-untold, followed, front-ahead, front-told, keepable-shown, kept-taken, kept-untaken}
 use Rattle.committee_core.proofs.Restarting.{restart-of}
+use Rattle.run_law.proofs.SceneRecords.{no-records}
 
 -- ---- lists
 
-each-front : {A : Type 0} (P : A → Type 0) (xs ys : List A) → Each P (xs ++ ys) → Each P xs
-each-front P [] ys all = tt
-each-front P (x ∷ xs) ys all = (all.0, each-front P xs ys all.1)
-
-each-back : {A : Type 0} (P : A → Type 0) (xs ys : List A) → Each P (xs ++ ys) → Each P ys
-each-back P [] ys all = all
-each-back P (x ∷ xs) ys all = each-back P xs ys all.1
-
 reads-front : (start : Option Journals) (front back : List Event) → ReadsBack start (front ++ back) → ReadsBack start front
 reads-front start front back (inl told) = inl told
-reads-front start front back (inr all) = inr (each-front ReadsNone front back all)
+reads-front start front back (inr all) = inr (each_front ReadsNone front back all)
 
 reads-next : (start : Option Journals) (front : List Event) (e : Event) (back : List Event) → ReadsBack start (front ++ e ∷ back) → ReadsTold start e
 reads-next start front e back (inl told) = inl told
-reads-next start front e back (inr all) = inr ((each-back ReadsNone front (e ∷ back) all).0)
+reads-next start front e back (inr all) = inr ((each_back ReadsNone front (e ∷ back) all).0)
 
 -- ---- runs of fronts
 
@@ -79,11 +72,6 @@ pub record Behind (trust : Trust) (s : Setting) (start : Option Journals) (held0
   pub shows : Shows trust s (run s front (new_world s)) sc
   pub tells : TellsFrom start told (run s front (new_world s))
   pub written : Appends held0 held (lines_text (report_from s front (new_world s)))
-
-no-records : (flags : List Bool) (m : ℕ) → records_of (slice_get (map new_seat flags) m) ≡ []
-no-records [] m = refl
-no-records (honest ∷ flags) zero = refl
-no-records (honest ∷ flags) (suc m) = no-records flags m
 
 no-journal : (s : Setting) (m : ℕ) → journal_in (new_world s) m ≡ []
 unfolding new_world

@@ -1,12 +1,11 @@
 -- What is said of a member that is followed.
-use Rattle.std.proofs.Common.{◌≡◌, ◌∙◌, ℕ, zero, suc, Bool, true, false, cond, List, [], ◌∷◌, length, Option, Some, None, Result, Ok, Err, inl, inr, ◌⊎◌, refl, sym, ap, subst, append_assoc, ◌++◌, arith}
+use Rattle.std.proofs.Common.{◌≡◌, ◌∙◌, ℕ, zero, suc, Bool, true, false, cond, List, [], ◌∷◌, length, Option, Some, None, Result, Ok, Err, inl, inr, ◌⊎◌, refl, sym, ap, subst, append_assoc, ◌++◌}
 use Rattle.std.specs.Prelude.{OnOk, IfOk, codes, decimal, option_map, slice_get}
-use Rattle.std.specs.FinMap.{values}
-use Rattle.std.specs.Io.KnownBytes.{Appends, Keeps}
+use Rattle.std.specs.Io.KnownBytes.{Appends}
 use Rattle.std.proofs.KnownBytes.{Appends-nil, Keeps-refl}
 use Rattle.wire_bcs.specs.declared.seq.OutOfMemory.{OutOfMemory}
 use Rattle.outside.specs.Lists.{Journals, KeepsJournals}
-use Rattle.outside.specs.Streams.{AppendsFront, ReadsText}
+use Rattle.outside.specs.Streams.{ReadsText}
 use Rattle.chain_types.specs.declared.objects.Object.{Object}
 use Rattle.schedule_text.specs.declared.words.Schedule.{Schedule}
 use Rattle.schedule_text.specs.Schedule.{Refused, longest_text, schedule_of}
@@ -15,14 +14,12 @@ use Rattle.world_spec.specs.Setting.{Setting, Trust}
 use Rattle.world_spec.specs.World as worlds
 use Rattle.world_spec.specs.World.{World, honest_seat, member_in}
 use Rattle.world_spec.specs.Run.{world_after}
-use Rattle.scene_spec.specs.Known.{Known as Names}
-use Rattle.scene_spec.specs.Posts.{Post, seat_at}
+use Rattle.scene_spec.specs.Posts.{seat_at}
 use Rattle.scene_spec.specs.Scene.{Scene}
 use Rattle.scene_spec.specs.Seats.{Seat}
 use Rattle.scene_spec.specs.Terms.{terms_of}
 use Rattle.scene_spec.specs.Worlds.{Shows, posts_from}
 use Rattle.validator_core.specs.Opened.{opening_objects}
-use Rattle.world_core.specs.Crews.{honest_at, honest_post}
 use Rattle.world_core.specs.Looks.{transaction_of}
 use Rattle.follower_core.specs.declared.catching.CatchUpRefusal.{CatchUpRefusal}
 use Rattle.follower_core.specs.declared.catching.CatchUpRefusal.TheVariants as stopped
@@ -31,9 +28,9 @@ use Rattle.follower_core.specs.Following.{State, applied_in, opened}
 use Rattle.blame_law.specs.Followed.{made_as}
 use Rattle.committee_core.specs.declared.verdict.Verdict.{Verdict}
 use Rattle.committee_core.specs.declared.verdict.Verdict.TheVariants as verdict
-use Rattle.committee_core.specs.Follow.{Asked, ComesTo, Finds, FrontOf, IsEqual, IsVerdict, IsVerdictBehind, IsVerdictFrom, LeavesObjects, FollowsBad, FollowsFront, asked_at, asked_in, asked_up, follower_of, state_in, unrefused, unrun, verdict_words}
+use Rattle.committee_core.specs.Follow.{Asked, ComesTo, Finds, FrontOf, IsEqual, IsVerdict, IsVerdictFrom, LeavesObjects, FollowsBad, FollowsFront, asked_at, asked_in, asked_up, follower_of, state_in, unrefused, unrun, verdict_words}
 use Rattle.committee_core.specs.Headline.{program_trust}
-use Rattle.committee_core.specs.Journals.{KeepsFronts, KeepsRun, ReadsBack}
+use Rattle.committee_core.specs.Journals.{KeepsFronts}
 use Rattle.committee_core.specs.Report.{refusal_text, setting_in}
 use Rattle.committee_core.specs.Ways.{MeetsBadRecord, RunsCut, RunsSilently, TextCut}
 use Rattle.committee_core.proofs.Ended.{holds_along}
@@ -117,7 +114,7 @@ found_if text m kept kept' sc (Err e) runs sees = tt
 
 -- ---- what was cut
 
-untold : (trust : Trust) (s : Schedule) (kept kept' : Option Journals) → kept ≡ None → KeepsFronts trust s kept kept'
+pub untold : (trust : Trust) (s : Schedule) (kept kept' : Option Journals) → kept ≡ None → KeepsFronts trust s kept kept'
 untold trust s None kept' none = tt
 untold trust s (Some lists) kept' none = absurd (cc)
 

@@ -1,6 +1,7 @@
 -- The definition's world behind a front of the events, as the code's scene shows it.
-use Rattle.std.proofs.Common.{◌≡◌, ◌≤◌, ◌<◌, ◌⊎◌, inl, inr, ℕ, zero, suc, Bool, true, false, List, [], ◌∷◌, ◌++◌, map, length, Option, Some, None, Ok, Err, slice_get, slice_set, refl, sym, ap, ◌∙◌, subst, arith}
+use Rattle.std.proofs.Common.{◌≡◌, ◌≤◌, ◌<◌, ◌⊎◌, inl, inr, ℕ, zero, suc, Bool, true, false, List, [], ◌∷◌, ◌++◌, map, length, Option, Some, None, Ok, Err, slice_get, refl, sym, ap, ◌∙◌, subst, arith}
 use Rattle.outside.specs.Lists.{Journals, journal_of, with_record}
+use Rattle.protocol_spec.proofs.ListLemmas.{set_length}
 use Rattle.protocol_spec.specs.Chain.Certificates.{Rules}
 use Rattle.journal_core.specs.declared.records.Record.{Record}
 use Rattle.journal_core.specs.Records as journals
@@ -13,7 +14,7 @@ use Rattle.schedule_text.specs.declared.words.Event.TheVariants as event
 use Rattle.scene_spec.specs.Starts.{started}
 use Rattle.world_spec.specs.Setting.{Setting, Trust}
 use Rattle.world_spec.specs.World as worlds
-use Rattle.world_spec.specs.World.{World, new_world, member_in}
+use Rattle.world_spec.specs.World.{World}
 use Rattle.world_spec.specs.Step.{happens}
 use Rattle.world_spec.specs.Report.{lines_of}
 use Rattle.world_spec.specs.Run.{records_of, run}
@@ -26,6 +27,7 @@ use Rattle.committee_core.specs.Laws.{SceneLaws}
 use Rattle.committee_core.specs.Journals.{AreAtLeast, IsTold, ReadsNone}
 use Rattle.committee_core.specs.Steps.{IsTaken}
 use Rattle.committee_core.proofs.Restarting.{restart-of}
+use Rattle.run_law.proofs.SceneSteps.{posts-shown}
 
 -- ---- told lists
 
@@ -39,15 +41,10 @@ abbrev pub FrontFrom : Option Journals → Option Journals → World → Type 0
 FrontFrom None now w = Unit {0}
 FrontFrom (Some start) now w = (lists : Journals) × (now ≡ Some lists) × TellsFront (Some lists) w
 
-length-set : {A : Type 0} (xs : List A) (i : ℕ) (y : A) → length (slice_set xs i y) ≡ length xs
-length-set [] i y = refl
-length-set (x ∷ xs) zero y = refl
-length-set (x ∷ xs) (suc i) y = ap suc (length-set xs i y)
-
 all-length : (records : List Record) (lists : Journals) (m : ℕ) → length (with_all lists m records) ≡ length lists
 all-length [] lists m = refl
 all-length (x ∷ records) lists m =
-    all-length records (with_record lists m (journals.journal_record.spell x)) m ∙ length-set lists m (journal_of lists m ++ journals.journal_record.spell x ∷ [])
+    all-length records (with_record lists m (journals.journal_record.spell x)) m ∙ set_length lists m (journal_of lists m ++ journals.journal_record.spell x ∷ [])
 
 -- lists that were told are told behind a line
 abbrev IsToldAs : Journals → Option Journals → Type 0
@@ -60,13 +57,6 @@ added-told lists now (Some (m, records)) is = (with_all lists m records, is, all
 may-told : (lists : Journals) (now : Option Journals) (left : Option (ℕ × List Record)) → MayAddLine left (Some lists) now → IsToldAs lists now
 may-told lists now None is = (lists, is, refl)
 may-told lists now (Some (m, records)) cut = (with_all lists m cut.front, cut.adds, all-length cut.front lists m)
-
-posts-length : (s : Setting) (m : ℕ) (seats : List worlds.Seat) → length (posts_from s m seats) ≡ length seats
-posts-length s m [] = refl
-posts-length s m (seat ∷ seats) = ap suc (posts-length s (suc m) seats)
-
-pub seats-length : (trust : Trust) (s : Setting) (w : World) (sc : Scene) → Shows trust s w sc → length sc.posts ≡ length w.seats
-seats-length trust s w sc shows = ap (λ (x : Scene). length x.posts) shows.scene ∙ posts-length s 0 w.seats
 
 -- ---- a restart
 
@@ -127,7 +117,7 @@ restart-followed trust l s w sc now m lists given (Some p) at shows starts tells
     let is : back.kept ≡ journal_in w m = back.is ∙ tells m in
     let begins : started s.rules s.opening (journal_in w m) ≡ Ok back.state =
     ap (started s.rules s.opening) (sym is) ∙ sym (started-shown trust s w sc back.kept shows) ∙ back.starts in
-    let count : length sc.posts ≡ length w.seats = seats-length trust s w sc shows in
+    let count : length sc.posts ≡ length w.seats = posts-shown trust s w sc shows in
     let low : m < length sc.posts = got-below sc.posts m p at in
     let below : m < length w.seats = omega (arith, count, low) in
     record {
@@ -175,7 +165,7 @@ pub kept-taken : (trust : Trust) (l : SceneLaws trust) (s : Setting) (w : World)
     → Shows trust s w sc → TellsFrom start told w → AreAtLeast start (length sc.posts) → IsTaken trust e sc now told told' given → TellsFrom start told' (happens s w e)
 kept-taken trust l s w sc now e None told told' given shows tells wide taken = tt
 kept-taken trust l s w sc now e (Some start) told told' given shows (lists, same, size, tells) wide taken =
-    let count : length sc.posts ≡ length w.seats = seats-length trust s w sc shows in
+    let count : length sc.posts ≡ length w.seats = posts-shown trust s w sc shows in
     let enough : length sc.posts ≤ length start = wide in
     let room : length w.seats ≤ length lists = omega (arith, count, enough, size) in
     let left = leaves-told trust l s w sc e lists told' shows room tells
@@ -187,7 +177,7 @@ pub kept-untaken : (trust : Trust) (l : SceneLaws trust) (s : Setting) (w : Worl
     → Shows trust s w sc → TellsFrom start told w → AreAtLeast start (length sc.posts) → MayAddLine (records_left (rules_in trust.accepts sc) sc (work_of sc e)) told told' → FrontFrom start told' (happens s w e)
 kept-untaken trust l s w sc e None told told' shows tells wide left = tt
 kept-untaken trust l s w sc e (Some start) told told' shows (lists, same, size, tells) wide left =
-    let count : length sc.posts ≡ length w.seats = seats-length trust s w sc shows in
+    let count : length sc.posts ≡ length w.seats = posts-shown trust s w sc shows in
     let enough : length sc.posts ≤ length start = wide in
     let room : length w.seats ≤ length lists = omega (arith, count, enough, size) in
     may-leave-told trust l s w sc e lists told' shows room tells

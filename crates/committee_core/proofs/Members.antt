@@ -1,5 +1,5 @@
 -- A schedule that is read has a committee: 1 to 64 members, each with a stake.
-use Rattle.std.proofs.Common.{◌≡◌, ◌==◌, ◌+◌, ◌≤◌, ℕ, suc, Bool, true, false, List, [], ◌∷◌, ◌++◌, map, length, Option, Some, None, Result, Ok, Err, nat_lt, if◌then◌else◌, refl, ap, subst, arith}
+use Rattle.std.proofs.Common.{◌≡◌, ◌==◌, ◌+◌, ◌≤◌, ℕ, suc, Bool, true, false, List, [], ◌∷◌, ◌++◌, map, length, Option, Some, None, Result, Ok, Err, nat_lt, if◌then◌else◌, refl, subst, arith}
 use Rattle.std.proofs.lemmas.Bool.Decides.{nat_tests}
 use Rattle.std.specs.List.{AllByRecursion, list_any}
 use Rattle.quorum_core.specs.declared.committee.CommitteeRefusal.TheVariants as refusal
@@ -12,11 +12,12 @@ use Rattle.schedule_text.specs.declared.words.Setup.TheVariants as setup
 use Rattle.schedule_text.specs.declared.statement.Statement.{Statement}
 use Rattle.schedule_text.specs.declared.statement.Statement.TheVariants as statement
 use Rattle.schedule_text.specs.Agrees.{no_lines}
-use Rattle.schedule_text.specs.Known.{Check, add_line, also, after_check, check, event_check, roles, setup_check, setup_kind_check}
+use Rattle.schedule_text.specs.Known.{Check, add_line, also, event_check, roles, setup_check, setup_kind_check}
 use Rattle.schedule_text.specs.Schedule.{schedule_of}
 use Rattle.text_law.specs.Sayable.{IsSayable, IsStatement, added, makes_member, then_read}
-use Rattle.text_law.proofs.SaidWhole.{text_said}
+use Rattle.text_law.proofs.SaidWhole.{text_said, same, check_said, after_said}
 use Rattle.world_spec.specs.Setting.{stakes_of}
+use Rattle.headline_law.proofs.Rolls.{same-count}
 
 -- ---- each has a stake
 
@@ -50,15 +51,6 @@ some-member (setup.Writers n ∷ lines) h = some-member lines h
 
 -- ---- there are 64 at most
 
-roles-count : (lines : List Setup) → length (roles lines) ≡ length (stakes_of lines)
-unfolding roles
-roles-count [] = refl
-roles-count (setup.Member stake honest ∷ lines) = ap suc (roles-count lines)
-roles-count (setup.Coin name who balance ∷ lines) = roles-count lines
-roles-count (setup.Counter name value ∷ lines) = roles-count lines
-roles-count (setup.Cap name who currency ∷ lines) = roles-count lines
-roles-count (setup.Writers n ∷ lines) = roles-count lines
-
 count-push : (lines : List Setup) (x : Setup) → length (stakes_of (lines ++ x ∷ [])) ≡ length (stakes_of lines) + length (stakes_of (x ∷ []))
 count-push [] x = omega arith
 count-push (setup.Member stake honest ∷ lines) x =
@@ -75,20 +67,9 @@ IsFew s = length (stakes_of s.setup) ≤ 64
 abbrev read_ok : Schedule → Result Schedule Cause
 read_ok s = Ok s
 
-same : (s t : Schedule) → read_ok s ≡ read_ok t → s ≡ t
-same s t h = cc
-
-after_said : (c : Check) (v u : Schedule) → after_check c v ≡ Ok u → (c ≡ Ok tt) × (v ≡ u)
-after_said (Ok tt) v u h = (refl, same v u h)
-after_said (Err c) v u h = absurd (cc)
-
 last_said : (a b : Check) → also a b ≡ Ok tt → b ≡ Ok tt
 last_said (Ok u) b h = h
 last_said (Err c) b h = absurd (cc)
-
-check_said : (b : Bool) (c : Cause) → check b c ≡ Ok tt → b ≡ true
-check_said true c h = refl
-check_said false c h = absurd (cc)
 
 few-more : (n : ℕ) (b : Bool) → b ≡ nat_lt n 64 → b ≡ true → n + 1 ≤ 64
 few-more n b is holds = grind (arith, nat_tests)
@@ -97,7 +78,7 @@ kind-few : (t : Schedule) (x : Setup) → setup_kind_check t x ≡ Ok tt → IsF
 unfolding setup_kind_check
 kind-few t (setup.Member stake honest) h few =
     let below = few-more (length (roles t.setup)) (nat_lt (length (roles t.setup)) 64) refl (check_said (nat_lt (length (roles t.setup)) 64) cause.TooManyMembers h) in
-    let count : length (roles t.setup) ≡ length (stakes_of t.setup) = roles-count t.setup in
+    let count : length (roles t.setup) ≡ length (stakes_of t.setup) = same-count t.setup in
     omega (arith, below, count)
 kind-few t (setup.Coin name who balance) h few = omega (arith, few)
 kind-few t (setup.Counter name value) h few = omega (arith, few)

@@ -6,7 +6,7 @@ use Rattle.text_law.specs.Laws.{GeneratedTextIsASchedule}
 use Rattle.command_words.specs.declared.words.Command.{Command}
 use Rattle.command_words.specs.declared.words.Command.TheVariants as command
 use Rattle.digest_core.specs.declared.Digest.{Digest}
-use Rattle.committee_core.specs.Endings.{BeginsEmpty, CheckEnds, Ends, IsUnused, RunEnds}
+use Rattle.committee_core.specs.Endings.{BeginsEmpty, CheckEnds, Ends, RunEnds}
 use Rattle.committee_core.specs.Desk.{DeskEnds}
 use Rattle.committee_core.specs.Follow.{FollowEnds}
 use Rattle.committee_core.specs.Journals.{AreEmpty}
@@ -15,7 +15,7 @@ use Rattle.committee_core.specs.Outside.{Outside}
 use Rattle.committee_core.specs.Replay.{ReplayEnds}
 use Rattle.command_words.specs.Words.{IsInRange}
 use Rattle.committee_core.proofs.Made.{kept_none, made_cut}
-use Rattle.committee_core.proofs.Whole.{keeps_same}
+use Rattle.validator_core.proofs.Settling.{keeps_same}
 
 -- words that are no command
 pub unused : (c : Option Command) (o : Outside) → c ≡ None → Ends c o o 2

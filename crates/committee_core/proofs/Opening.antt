@@ -9,12 +9,12 @@ use Rattle.quorum_core.specs.declared.committee.CommitteeRefusal.{CommitteeRefus
 use Rattle.quorum_core.specs.declared.committee.CommitteeRefusal.TheVariants as refusal
 use Rattle.quorum_core.specs.Committee.{committee_of}
 use Rattle.schedule_text.specs.declared.words.Setup.{Setup}
-use Rattle.schedule_text.specs.declared.words.Setup.TheVariants as setup
 use Rattle.world_spec.specs.Setting.{Trust, honest_of, setting_of, stakes_of}
 use Rattle.scene_spec.specs.Terms.{Terms}
 use Rattle.scene_spec.specs.Posts.{new_posts}
 use Rattle.scene_spec.specs.Scene.{Scene, new_scene}
 use Rattle.committee_core.specs.Journals.{AreAtLeast, AreEmpty}
+use Rattle.world_core.proofs.Sound.{as_many}
 
 few-where : (n : ℕ) (empty many : Bool) (last : Result (List ℕ) CommitteeRefusal) (stakes : List ℕ) → many ≡ nat_lt 64 n
     → (if empty then Err refusal.NoMembers else (if many then Err refusal.TooManyMembers else last)) ≡ Ok stakes → n ≤ 64
@@ -30,20 +30,12 @@ posts-of : (terms : Terms) (opening : List Object) (m : ℕ) (flags : List Bool)
 posts-of terms opening m [] = refl
 posts-of terms opening m (honest ∷ flags) = ap suc (posts-of terms opening (suc m) flags)
 
-as-many : (lines : List Setup) → length (honest_of lines) ≡ length (stakes_of lines)
-as-many [] = refl
-as-many (setup.Member stake honest ∷ lines) = ap suc (as-many lines)
-as-many (setup.Coin name who balance ∷ lines) = as-many lines
-as-many (setup.Counter name value ∷ lines) = as-many lines
-as-many (setup.Cap name who currency ∷ lines) = as-many lines
-as-many (setup.Writers n ∷ lines) = as-many lines
-
 -- the world has a member for each stake, and at most 64
 pub few_posts : (trust : Trust) (lines : List Setup) (sc : Scene) → sc ≡ new_scene (setting_of trust lines) lines → committee_of (stakes_of lines) ≡ Ok (stakes_of lines) → length sc.posts ≤ 64
 unfolding setting_of
 few_posts trust lines sc is h =
     let few : length (stakes_of lines) ≤ 64 = few-members (stakes_of lines) h in
-    let size : length sc.posts ≡ length (stakes_of lines) = ap (λ (x : Scene). length x.posts) is ∙ posts-of _ _ 0 (honest_of lines) ∙ as-many lines in
+    let size : length sc.posts ≡ length (stakes_of lines) = ap (λ (x : Scene). length x.posts) is ∙ posts-of _ _ 0 (honest_of lines) ∙ as_many lines in
     omega (arith, few, size)
 
 -- told lists are as many as the keeper has

@@ -2,7 +2,7 @@
 use Rattle.std.proofs.Common.{◌≡◌, ◌⊎◌, inl, inr, ℕ, zero, suc, Bool, true, false, List, [], ◌∷◌, length, map, Option, Some, None, Result, Ok, Err, refl, sym, ◌∙◌, ap, subst, is_some, slice_get, Bor, option_copied, ◌++◌}
 use Rattle.std.specs.Prelude.{IfOk, codes, decimal}
 use Rattle.std.specs.Io.KnownBytes.{Appends, Keeps}
-use Rattle.outside.specs.Lists.{Journals, KeepsJournals, journal_of}
+use Rattle.outside.specs.Lists.{Journals, journal_of}
 use Rattle.report_text.specs.declared.lines.Line.{Line}
 use Rattle.report_text.specs.declared.lines.Line.TheVariants as line
 use Rattle.report_text.specs.declared.lines.RestartText.TheVariants as restart_text
@@ -179,10 +179,6 @@ pub known_read : (status : ℕ) → (status ≡ 0) ⊎ (status ≡ 3) ⊎ (statu
 known_read status (inl nil) = inl nil
 known_read status (inr (inl three)) = inr (inl three)
 known_read status (inr (inr more)) = inr (inr (inr more))
-
-pub keeps_lists : (told : Option Journals) → KeepsJournals told told
-keeps_lists None = tt
-keeps_lists (Some lists) = refl
 
 pub keeps_held : (held : Option (List ℕ)) → Keeps held held
 keeps_held None = tt

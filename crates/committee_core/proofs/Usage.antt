@@ -5,7 +5,7 @@ use Rattle.command_words.specs.declared.words.Command.TheVariants as command
 use Rattle.committee_core.specs.Outside.{Outside}
 use Rattle.committee_core.specs.Endings.{Ends}
 
-clash : {A : Type 0} {x : A} → Some x ≡ None → ⊥
+pub clash : {A : Type 0} {x : A} → Some x ≡ None → ⊥
 clash e = absurd (cc)
 
 pub no_words : {A B : Type 0} {x : A} → Some x ≡ None → B
@@ -32,7 +32,7 @@ checked n (inr (inr (inl h))) e = omega (arith, h, e)
 checked n (inr (inr (inr (inl h)))) e = omega (arith, h, e)
 checked n (inr (inr (inr (inr h)))) e = omega (arith, h, e)
 
-replayed : (n : ℕ) → (n ≡ 0) ⊎ (n ≡ 3) ⊎ (n ≡ 4) ⊎ (n ≡ 5) ⊎ (n ≡ 6) ⊎ (n ≡ 7) ⊎ (n ≡ 8) → n ≡ 2 → ⊥
+pub replayed : (n : ℕ) → (n ≡ 0) ⊎ (n ≡ 3) ⊎ (n ≡ 4) ⊎ (n ≡ 5) ⊎ (n ≡ 6) ⊎ (n ≡ 7) ⊎ (n ≡ 8) → n ≡ 2 → ⊥
 replayed n (inl h) e = omega (arith, h, e)
 replayed n (inr (inl h)) e = omega (arith, h, e)
 replayed n (inr (inr (inl h))) e = omega (arith, h, e)

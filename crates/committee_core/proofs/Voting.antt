@@ -1,10 +1,8 @@
 -- What is asked for at the desk, who is behind it, and what is said of its history.
-use Rattle.std.proofs.Common.{◌≡◌, ◌⊎◌, inl, inr, ◌<◌, ℕ, zero, suc, ◌+◌, ◌&&◌, Bool, true, false, List, [], ◌∷◌, ◌++◌, length, map, take, replicate, get_or, Option, Some, None, option_map, Result, Ok, Err, refl, sym, ap, ◌∙◌, subst, slice_get, add-one, arith}
+use Rattle.std.proofs.Common.{◌≡◌, ◌⊎◌, inl, inr, ℕ, zero, suc, ◌+◌, Bool, true, false, List, [], ◌∷◌, ◌++◌, length, map, take, replicate, Option, Some, None, option_map, Result, Ok, Err, refl, sym, ap, ◌∙◌, subst, slice_get, add-one}
 use Rattle.std.specs.Prelude.{IfOk}
 use Rattle.std.specs.List.{flat_map, list_all}
-use Rattle.std.specs.Io.KnownBytes.{Appends, Keeps}
-use Rattle.digest_core.specs.declared.Digest.{Digest}
-use Rattle.quorum_core.specs.declared.signer.Signer.{Signer}
+use Rattle.std.specs.Io.KnownBytes.{Appends}
 use Rattle.wire_bcs.specs.Place.{Stop}
 use Rattle.wire_bcs.specs.Whole.{whole}
 use Rattle.outside.specs.Lists.{Journals, journal_of}
@@ -18,25 +16,24 @@ use Rattle.schedule_text.specs.declared.words.Event.{Event}
 use Rattle.schedule_text.specs.declared.words.Event.TheVariants as event
 use Rattle.schedule_text.specs.declared.words.Schedule.{Schedule}
 use Rattle.schedule_text.specs.Schedule.{Refused, longest_text, schedule_of}
+use Rattle.protocol_spec.proofs.Truth.{and_true}
 use Rattle.protocol_spec.specs.Chain.Certificates.{Rules, read_as, read_signed}
-use Rattle.protocol_spec.specs.Chain.Words.{Each}
 use Rattle.protocol_spec.specs.Member.Checkpoints.{zero_digest}
-use Rattle.protocol_spec.specs.Member.Member.{Member, fresh}
-use Rattle.world_spec.specs.Setting.{Setting, Trust, setting_of}
+use Rattle.protocol_spec.specs.Member.Member.{fresh}
+use Rattle.world_spec.specs.Setting.{Setting, Trust}
 use Rattle.world_spec.specs.World as worlds
 use Rattle.world_spec.specs.World.{Made, World, honest_seat, is_honest, new_world}
 use Rattle.world_spec.specs.Making.{made_by_line}
 use Rattle.world_spec.specs.Names.{tx_name}
-use Rattle.world_spec.specs.Report.{vote_answered}
 use Rattle.world_spec.specs.Run.{run, world_after}
 use Rattle.world_spec.specs.Step.{happens}
 use Rattle.scene_spec.specs.Known.{Known, names_of}
-use Rattle.scene_spec.specs.Posts.{Post, seat_at}
+use Rattle.scene_spec.specs.Posts.{seat_at}
 use Rattle.scene_spec.specs.Scene.{Scene}
 use Rattle.scene_spec.specs.Seats.{Seat}
 use Rattle.scene_spec.specs.Starts.{started}
-use Rattle.scene_spec.specs.Terms.{Terms, terms_of}
-use Rattle.scene_spec.specs.Worlds.{Shows, post_of, posts_from, scene_of}
+use Rattle.scene_spec.specs.Terms.{Terms}
+use Rattle.scene_spec.specs.Worlds.{Shows, posts_from}
 use Rattle.scene_spec.proofs.LineWorlds.{vote_same}
 use Rattle.report_text.specs.declared.lines.Line.{Line}
 use Rattle.report_text.specs.declared.lines.Line.TheVariants as line
@@ -46,13 +43,12 @@ use Rattle.world_core.specs.Replays.{IsReplayed}
 use Rattle.world_core.specs.SeatRestarts.{HasBadRecord}
 use Rattle.world_lines.specs.Answers.{vote_as}
 use Rattle.vote_desk.specs.declared.entry.DeskEntry.{DeskEntry}
-use Rattle.vote_desk.specs.declared.standing.Standing.{Standing}
 use Rattle.vote_desk.specs.Callers.{AreAnswered, asked_in}
 use Rattle.vote_desk.specs.Dealt.{AreMadeBy}
 use Rattle.vote_desk.specs.Histories.{IsLegal}
 use Rattle.vote_desk.specs.Votes.{Accepts, FollowsUnder, standing}
 use Rattle.committee_core.specs.declared.desk.Said.{Said}
-use Rattle.committee_core.specs.Desk.{AreVotes, EndsAs, EndsBy, IsDeskCut, IsSaid, IsSaidCut, IsVoted, SaysOfDesk, are_txs, call_line, call_line_by, call_text, desk_head, desk_opening, desk_text, desk_world, digest_read, is_tx, none_honest_text, only_tx_text, signed_bytes, text_by}
+use Rattle.committee_core.specs.Desk.{AreVotes, EndsAs, EndsBy, IsDeskCut, IsSaid, IsSaidCut, SaysOfDesk, are_txs, call_line, call_line_by, call_text, desk_head, desk_text, desk_world, digest_read, is_tx, none_honest_text, only_tx_text, signed_bytes, text_by}
 use Rattle.committee_core.specs.Headline.{program_trust}
 use Rattle.committee_core.specs.Report.{refusal_text, setting_in}
 use Rattle.committee_core.proofs.Replays.{Is}
@@ -79,10 +75,6 @@ all-taken (t ∷ txs) (suc n) none_at = ap (λ (l : List Made). t ∷ l) (all-ta
 
 pub all_requests : (txs : List Made) (n : ℕ) (requests : List (List ℕ)) → option_map (λ (t : Made). t.signed) (slice_get txs n) ≡ None → requests ≡ map signed_bytes (take n txs) → requests ≡ map signed_bytes txs
 all_requests txs n requests none_at so_far = so_far ∙ ap (map signed_bytes) (all-taken txs n none_at)
-
-pub tx_short : (x : SignedTx) → transactions.signed.short x → transactions.transaction.short x.tx
-unfolding transactions.signed
-tx_short x short = short.0
 
 pub read_ok : (bytes : List ℕ) (x : SignedTx) → whole transactions.signed bytes ≡ Ok x → digest_read (read_signed bytes) ≡ transaction_digest x.tx
 unfolding read_signed
@@ -117,19 +109,12 @@ never_bad r opening lists place is bad =
     let starts : started r opening [] ≡ Err (no_start.BadRecord place bad.why) = ap (started r opening) (sym empty) ∙ bad.starts in
     absurd (cc)
 
-pub some_same : {A : Type 0} (x y : A) → Some x ≡ Some y → x ≡ y
-some_same x y is = cc
-
 pub legal_at : (member opened : Seat) (accepts : Accepts) (keeper lists : Journals) (r : Result (List DeskEntry) (Unit {0})) → member ≡ opened → keeper ≡ lists → IfOk r (IsLegal FollowsUnder (standing member accepts 0 (Some keeper))) → IfOk r (IsLegal FollowsUnder (standing opened accepts 0 (Some lists)))
 legal_at member opened accepts keeper lists r is kept legal =
     subst (λ (v : Seat). IfOk r (IsLegal FollowsUnder (standing v accepts 0 (Some lists)))) is
     (subst (λ (l : Journals). IfOk r (IsLegal FollowsUnder (standing member accepts 0 (Some l)))) kept legal)
 
 -- ---- who is honest
-
-both : (a b : Bool) → (a && b) ≡ true → (a ≡ true) × (b ≡ true)
-both true b is = (refl, is)
-both false b is = absurd (cc)
 
 -- a `tx` line leaves the seats
 same-seats : (s : Setting) (w : World) (e : Event) → is_tx e ≡ true → (happens s w e).seats ≡ w.seats
@@ -157,7 +142,7 @@ same-seats s w (event.Final tx members) is = absurd (cc)
 
 seats-along : (s : Setting) (w : World) (events : List Event) → list_all is_tx events ≡ true → (run s events w).seats ≡ w.seats
 seats-along s w [] are = refl
-seats-along s w (e ∷ events) are = let two = both (is_tx e) (list_all is_tx events) are in seats-along s (happens s w e) events two.1 ∙ same-seats s w e two.0
+seats-along s w (e ∷ events) are = let two = and_true (is_tx e) (list_all is_tx events) are in seats-along s (happens s w e) events two.1 ∙ same-seats s w e two.0
 
 first-honest : (s : Setting) (seats : List worlds.Seat) → honest_post (slice_get (posts_from s 0 seats) 0) ≡ honest_seat (slice_get seats 0)
 first-honest s [] = refl

@@ -7,7 +7,7 @@ use Rattle.digest_core.specs.Tagged.{seal_tag, tagged_digest}
 use Rattle.quorum_core.specs.declared.signer.Signer.{Signer}
 use Rattle.quorum_core.specs.Signers as codecs
 use Rattle.quorum_core.specs.Seals.{keyed_seal as sealed_under}
-use Rattle.outside.specs.Lists.{Journals, KeepsJournals}
+use Rattle.outside.specs.Lists.{Journals}
 use Rattle.schedule_text.specs.declared.words.Schedule.{Schedule}
 use Rattle.schedule_text.specs.Schedule.{Refused, longest_text, schedule_of}
 use Rattle.world_spec.specs.Setting.{Trust}
@@ -20,6 +20,7 @@ use Rattle.committee_core.specs.Journals.{AreEmpty, KeepsFronts}
 use Rattle.committee_core.specs.Report.{refusal_text, report_text, setting_in}
 use Rattle.outside.specs.Streams.{AppendsFront}
 use Rattle.committee_core.specs.Ways.{RunsCut, RunsSilently, RunsWhole, ShowsRun, TextCut}
+use Rattle.validator_core.proofs.Settling.{keeps_same}
 
 -- ---- nothing was done yet
 
@@ -30,10 +31,6 @@ empty_fronts trust s (Some lists) empty =
 
 pub nothing_run : (trust : Trust) (s : Schedule) (held : Option (List ℕ)) (start : Option Journals) → AreEmpty start → RunsCut trust s held held start start
 nothing_run trust s held start empty = inl (record { written = λ reads. ([], report_text trust s, refl, Appends-nil held); journals = empty_fronts trust s start empty })
-
-pub keeps_same : (start : Option Journals) → KeepsJournals start start
-keeps_same None = tt
-keeps_same (Some lists) = refl
 
 pub nothing_done : (trust : Trust) (r : Result Schedule Refused) (held : Option (List ℕ)) (start : Option Journals) → AreEmpty start → TextCut trust r held held start start
 nothing_done trust (Ok s) held start empty = nothing_run trust s held start empty

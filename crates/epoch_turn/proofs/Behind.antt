@@ -1,5 +1,5 @@
 -- What was built stays a front of what can be, as more is admitted, cut and executed.
-use Rattle.std.proofs.Common.{◌≡◌, ◌∙◌, refl, sym, ap, subst, arith, ℕ, suc, ◌≤◌, Bool, true, false, cond, List, [], ◌∷◌, ◌++◌, length, take, drop, length-drop, append_assoc, append-nil}
+use Rattle.std.proofs.Common.{◌≡◌, ◌∙◌, refl, sym, ap, subst, arith, ℕ, suc, ◌≤◌, Bool, true, false, cond, List, [], ◌∷◌, ◌++◌, length, take, drop, length-drop, append-nil}
 use Rattle.std.specs.Prelude.{Option, is_some, map}
 use Rattle.std.specs.List.{list_all}
 use Rattle.std.proofs.lemmas.Bool.{and_from, and_parts, cond-true}
@@ -7,6 +7,7 @@ use Rattle.std.proofs.lemmas.List.{drop-append-le, take-append-le}
 use Rattle.digest_core.specs.declared.Digest.{Digest}
 use Rattle.checkpoint_core.specs.declared.checkpoints.Item.{Item}
 use Rattle.checkpoint_core.specs.declared.checkpoints.Checkpoint.{Checkpoint}
+use Rattle.protocol_spec.proofs.ListLemmas.{front_then}
 use Rattle.protocol_spec.specs.Chain.Words.{IsFront, last_of}
 use Rattle.protocol_spec.specs.Member.Versions.{Execution, execution_of, is_executed}
 use Rattle.protocol_spec.specs.Member.Checkpoints.{digest_before, effects_digest_of}
@@ -79,9 +80,6 @@ front_executed executed more (d ∷ ds) = by (is_due_done executed d) refl (fron
     by true e rest =
         let now = cond-true (is_due_done (executed ++ more) d) (suc (front_length (is_due_done (executed ++ more)) ds)) 0 (done_stays executed more d e) in
         omega (arith, now, rest)
-
-pub front_then : {A : Type 0} (xs ys zs : List A) → IsFront xs ys → IsFront ys zs → IsFront xs zs
-front_then {A} xs ys zs (us, e) (vs, f) = (us ++ vs, f ∙ ap (λ (ws : List A). ws ++ vs) e ∙ append_assoc xs us vs)
 
 pub behind_executed : (epoch : ℕ) (executed more : List Execution) (c : Chaining) → IsBehind epoch executed c → IsBehind epoch (executed ++ more) c
 behind_executed epoch executed more c behind = record {

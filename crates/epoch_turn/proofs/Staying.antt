@@ -4,6 +4,7 @@ use Rattle.std.specs.Prelude.{map}
 use Rattle.std.proofs.lemmas.List.{append-nil, length-map, map-append}
 use Rattle.checkpoint_core.specs.declared.checkpoints.Checkpoint.{Checkpoint}
 use Rattle.answer_types.specs.declared.answers.Held.{Held}
+use Rattle.protocol_spec.proofs.ListLemmas.{front_then}
 use Rattle.protocol_spec.specs.Chain.Words.{IsFront}
 use Rattle.protocol_spec.specs.Member.Versions.{Execution}
 use Rattle.protocol_spec.specs.Member.Admission.{Admitted}
@@ -12,7 +13,7 @@ use Rattle.epoch_turn.specs.declared.due.Due.{Due}
 use Rattle.epoch_turn.specs.declared.due.CutMark.{CutMark}
 use Rattle.epoch_turn.specs.Dues.{cuts_of, due_of, front_length, is_due_done, size_of}
 use Rattle.epoch_turn.specs.Chains.{AreHeld, Chaining, IsBehind, IsBuilt, IsTold, due_chain}
-use Rattle.epoch_turn.proofs.Behind.{behind_executed, chain_due, chain_executed, chain_marks, front_then}
+use Rattle.epoch_turn.proofs.Behind.{behind_executed, chain_due, chain_executed, chain_marks}
 use Rattle.epoch_turn.proofs.Told.{all_found, chained_is, told_held}
 
 -- all that can be built, by what the chain was told

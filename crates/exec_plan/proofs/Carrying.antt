@@ -11,14 +11,17 @@ use Rattle.chain_types.specs.declared.objects.Producer.TheVariants as producers
 use Rattle.answer_types.specs.declared.pieces.Executed.{Executed}
 use Rattle.answer_types.specs.declared.answers.Held.{Held}
 use Rattle.chain_types.specs.Equal.{digest_eq, key_eq}
+use Rattle.protocol_spec.proofs.Equality.{digest_same}
+use Rattle.protocol_spec.proofs.Executions.{effects_tx, versions_more}
 use Rattle.protocol_spec.specs.Chain.Words.{Along, Each, all_some, first_of, first_some, onto_some, where_true}
 use Rattle.protocol_spec.specs.Chain.Keys.{fits, object_key}
-use Rattle.protocol_spec.proofs.ListLemmas.{and-first, and-second, or-first, or-second}
+use Rattle.protocol_spec.proofs.ListLemmas.{and-first, and-second, find_back, find_front}
+use Rattle.protocol_spec.proofs.Truth.{or_false_left, or_false_right, or_true, or_left, or_right}
 use Rattle.protocol_spec.specs.Block.Execution.{execution, written_keys}
 use Rattle.protocol_spec.specs.Member.Versions.{Execution, Version, is_executed, object_in, opened, versions, written, written_by}
 use Rattle.protocol_spec.specs.Member.Admission.{Admission}
 use Rattle.protocol_spec.specs.Member.Rounds.{Books, Wanted, executes_as, found, is_maker_done, is_wanted, may_run, present, ready, ready_as, ready_on, wants_of, writes_new}
-use Rattle.version_store.proofs.Equality.{digest_same, digest_self}
+use Rattle.version_store.proofs.Equality.{digest_self}
 use Rattle.version_store.specs.Stores.{Stored}
 use Rattle.exec_plan.specs.declared.task.Carry.{Carry}
 use Rattle.exec_plan.specs.declared.task.Carry.TheVariants as carries
@@ -32,9 +35,8 @@ use Rattle.exec_plan.specs.Makers.{is_made}
 use Rattle.exec_plan.specs.Planning.{KeepsTheRounds}
 use Rattle.exec_plan.specs.declared.link.Link.{Link}
 use Rattle.exec_plan.specs.Tasks.{IsSoundTask, Planned, carried, carry_as, carry_of, edges_of, first_carry, is_at, is_not_run, is_origin_kept, keep_as, kept_of, lacking, link_as, link_of, links_of, maker_number, number_of, object_of, origin_of, other_carries, outcome_for, outcome_of, outcome_on, outcome_with, outputs_of, slot_as, task_of, tasks_after, tasks_of, want_as}
-use Rattle.exec_plan.proofs.Executing.{names_itself}
-use Rattle.exec_plan.proofs.Following.{executed_join, versions_join}
-use Rattle.exec_plan.proofs.Layering.{Joins, clash, each_planned, either_true, found_apart, opening_other, planned_along, planned_join, stranger_by, true_left, true_right, turns_are_rounds}
+use Rattle.exec_plan.proofs.Following.{executed_join}
+use Rattle.exec_plan.proofs.Layering.{Joins, clash, each_planned, found_apart, opening_other, planned_along, planned_join, stranger_by, turns_are_rounds}
 use Rattle.exec_plan.proofs.Linking.{carry_on, count_tasks, inputs_are, inputs_at, links, outcome_at, outcome_in, outs_after, outs_are, tasks, tasks_join}
 use Rattle.exec_plan.proofs.Making.{unmade_rests}
 use Rattle.exec_plan.proofs.Readying.{is_ready, ready_alike}
@@ -42,14 +44,6 @@ use Rattle.exec_plan.proofs.Rounding.{at_front, longer}
 use Rattle.exec_plan.proofs.Settling.{none_by, not_among, not_opened}
 
 -- ---- searches
-
-find_front : {A : Type 0} (test : A → Bool) (xs ys : List A) (x : A) → find test xs ≡ Some x → find test (xs ++ ys) ≡ Some x
-find_front test [] ys x e = absurd (cc)
-find_front test (z ∷ zs) ys x e = go (test z) e (find_front test zs ys x)
-  where
-    go : (b : Bool) → cond b (Some z) (find test zs) ≡ Some x → (find test zs ≡ Some x → find test (zs ++ ys) ≡ Some x) → cond b (Some z) (find test (zs ++ ys)) ≡ Some x
-    go true e more = e
-    go false e more = more e
 
 -- ---- numbers of tasks
 
@@ -115,20 +109,12 @@ made_by tx key (o ∷ os) =
     go true more = refl
     go false more = more
 
-find_back : {A : Type 0} (test : A → Bool) (xs ys : List A) → find test xs ≡ None → find test (xs ++ ys) ≡ find test ys
-find_back test [] ys none = refl
-find_back test (x ∷ xs) ys none = go (test x) none (find_back test xs ys)
-  where
-    go : (b : Bool) → cond b (Some x) (find test xs) ≡ None → (find test xs ≡ None → find test (xs ++ ys) ≡ find test ys) → cond b (Some x) (find test (xs ++ ys)) ≡ find test ys
-    go true none more = absurd (cc)
-    go false none more = more none
-
 -- what the last transaction made is what it wrote
 pub made_last : (opening : List Object) (before : List Execution) (x : Execution) (key : ObjectKey) → is_executed before x.digest ≡ false
     → found (versions opening (before ++ x ∷ [])) (record { key = key; producer = Some (producers.Tx x.digest) }) ≡ find (is_at key) x.gave.objects
 unfolding versions
 made_last opening before x key first =
-    ap (λ vs. option_map object_in (find test vs)) (versions_join opening before (x ∷ []))
+    ap (λ vs. option_map object_in (find test vs)) (versions_more opening before (x ∷ []))
     ∙ ap (option_map object_in) (find_back test (map opened opening ++ flat_map written_by before) (flat_map written_by (x ∷ [])) before_none)
     ∙ ap (λ vs. option_map object_in (find test vs)) (append-nil (written_by x))
     ∙ made_by x.digest key x.gave.objects
@@ -210,7 +196,7 @@ module _ (b : Books) (executed : List Execution) (all : List Held) where
 
     -- what was held is found
     here_stays : (w : Wanted) (o : Object) → found vs w ≡ Some o → there w ≡ Some o
-    here_stays w o e = ap (λ held. option_map object_in (find test held)) (versions_join b.opening executed kept) ∙ go (find test vs) refl e
+    here_stays w o e = ap (λ held. option_map object_in (find test held)) (versions_more b.opening executed kept) ∙ go (find test vs) refl e
       where
         test : Version → Bool
         test = is_wanted w.key w.producer
@@ -240,7 +226,7 @@ module _ (b : Books) (executed : List Execution) (all : List Held) where
             → carry_of (outcome n) w.key ≡ carry_as (option_map object_in (find (is_wanted w.key p) (versions b.opening now)))
         go None number made = absurd (cc)
         go (Some producers.Opening) number made = absurd (cc)
-        go (Some (producers.Tx tx)) number made = either (either_true (is_executed executed tx) (is_executed kept tx) (sym (executed_join executed kept tx) ∙ made))
+        go (Some (producers.Tx tx)) number made = either (or_true (is_executed executed tx) (is_executed kept tx) (sym (executed_join executed kept tx) ∙ made))
           where
             either : (is_executed executed tx ≡ true) ⊎ (is_executed kept tx ≡ true)
                 → carry_of (outcome n) w.key ≡ carry_as (option_map object_in (find (is_wanted w.key (Some (producers.Tx tx))) (versions b.opening now)))
@@ -392,14 +378,14 @@ module _ (b : Books) (executed : List Execution) (all : List Held) where
       kept_gave x outcomes.Waits e = absurd (cc)
 
       of_this : (tx : Digest) → (digest_eq h.digest tx || false) ≡ true → h.digest ≡ tx
-      of_this tx e = go (either_true (digest_eq h.digest tx) false e)
+      of_this tx e = go (or_true (digest_eq h.digest tx) false e)
         where
           go : (digest_eq h.digest tx ≡ true) ⊎ (false ≡ true) → h.digest ≡ tx
           go (inl is) = digest_same h.digest tx is
           go (inr is) = absurd (cc)
 
       still_fresh : (tx : Digest) → is_planned (front ++ h ∷ []) tx ≡ true → is_executed executed tx ≡ false
-      still_fresh tx there = go (either_true (is_planned front tx) (is_planned (h ∷ []) tx) (sym (planned_join front (h ∷ []) tx) ∙ there))
+      still_fresh tx there = go (or_true (is_planned front tx) (is_planned (h ∷ []) tx) (sym (planned_join front (h ∷ []) tx) ∙ there))
         where
           go : (is_planned front tx ≡ true) ⊎ (is_planned (h ∷ []) tx ≡ true) → is_executed executed tx ≡ false
           go (inl before) = stands.fresh tx before
@@ -409,7 +395,7 @@ module _ (b : Books) (executed : List Execution) (all : List Held) where
       stands_without : Stands (front ++ h ∷ []) kept
       stands_without = record {
         fresh = still_fresh;
-        known = λ tx ran. planned_join front (h ∷ []) tx ∙ true_left (is_planned front tx) (is_planned (h ∷ []) tx) (stands.known tx ran);
+        known = λ tx ran. planned_join front (h ∷ []) tx ∙ or_left (is_planned front tx) (is_planned (h ∷ []) tx) (stands.known tx ran);
         done = λ tx n number ran. go tx n ran (number_push tx front h n number);
       }
         where
@@ -442,7 +428,7 @@ module _ (b : Books) (executed : List Execution) (all : List Held) where
 
         -- a task in front that was kept
         done_before : (tx : Digest) (n : ℕ) → number_of tx front ≡ Some n → is_executed (kept ++ x ∷ []) tx ≡ true → IsDone (kept ++ x ∷ []) tx n
-        done_before tx n number ran = go (either_true (is_executed kept tx) (is_executed (x ∷ []) tx) (sym (executed_join kept (x ∷ []) tx) ∙ ran))
+        done_before tx n number ran = go (or_true (is_executed kept tx) (is_executed (x ∷ []) tx) (sym (executed_join kept (x ∷ []) tx) ∙ ran))
           where
             planned : is_planned front tx ≡ true
             planned = number_planned tx front n number
@@ -470,15 +456,15 @@ module _ (b : Books) (executed : List Execution) (all : List Held) where
         stands_with : Stands (front ++ h ∷ []) (kept ++ x ∷ [])
         stands_with = record {
           fresh = still_fresh;
-          known = λ tx ran. knows tx (either_true (is_executed kept tx) (is_executed (x ∷ []) tx) (sym (executed_join kept (x ∷ []) tx) ∙ ran));
+          known = λ tx ran. knows tx (or_true (is_executed kept tx) (is_executed (x ∷ []) tx) (sym (executed_join kept (x ∷ []) tx) ∙ ran));
           done = λ tx n number ran. go tx n ran (number_push tx front h n number);
         }
           where
             knows : (tx : Digest) → (is_executed kept tx ≡ true) ⊎ (is_executed (x ∷ []) tx ≡ true) → is_planned (front ++ h ∷ []) tx ≡ true
-            knows tx (inl before) = planned_join front (h ∷ []) tx ∙ true_left (is_planned front tx) (is_planned (h ∷ []) tx) (stands.known tx before)
+            knows tx (inl before) = planned_join front (h ∷ []) tx ∙ or_left (is_planned front tx) (is_planned (h ∷ []) tx) (stands.known tx before)
             knows tx (inr this) =
                 planned_join front (h ∷ []) tx
-                ∙ true_right (is_planned front tx) (is_planned (h ∷ []) tx) (true_left (digest_eq h.digest tx) false (ap (digest_eq h.digest) (sym (ran_one tx this)) ∙ digest_self h.digest))
+                ∙ or_right (is_planned front tx) (is_planned (h ∷ []) tx) (or_left (digest_eq h.digest tx) false (ap (digest_eq h.digest) (sym (ran_one tx this)) ∙ digest_self h.digest))
 
             go : (tx : Digest) (n : ℕ) → is_executed (kept ++ x ∷ []) tx ≡ true → (number_of tx front ≡ Some n) ⊎ ((number_of tx front ≡ None) × (is_of tx h ≡ true) × (n ≡ length front)) → IsDone (kept ++ x ∷ []) tx n
             go tx n ran (inl is) = done_before tx n is ran
@@ -523,7 +509,7 @@ module _ (b : Books) (executed : List Execution) (all : List Held) where
   named_on t objects sound = go (fits t.tx objects)
     where
       go : (c : Bool) → IsNamed t (cond c (outcomes.Done (execution t.tx objects)) outcomes.Unfit)
-      go true = names_itself t.tx objects ∙ sym sound.1
+      go true = effects_tx t.tx objects ∙ sym sound.1
       go false = tt
 
   named_in : (t : Planned) (inputs : List Carry) → IsSoundTask t.tx t.digest → IsNamed t (outcome_of t inputs)
@@ -628,9 +614,9 @@ module _ (b : Books) (executed : List Execution) (all : List Held) where
       rest : Option Outcome
       rest = outcome_for (outs_after vs a all (length f + 1) (tasks_after vs a (links vs a all) (f ++ h ∷ []) back)) h.digest
   came_at (k ∷ ks) f back h out =
-      ap (λ c. cond c (Some (outcome_of (task_of vs a (links vs a all) f k) (inputs_at vs a all (length f)))) (rest (length f + 1))) (or-first (digest_eq k.digest h.digest) (is_planned ks h.digest) out)
+      ap (λ c. cond c (Some (outcome_of (task_of vs a (links vs a all) f k) (inputs_at vs a all (length f)))) (rest (length f + 1))) (or_false_left (digest_eq k.digest h.digest) (is_planned ks h.digest) out)
       ∙ ap rest (let l = longer f k in omega (arith, l))
-      ∙ came_at ks (f ++ k ∷ []) back h (or-second (digest_eq k.digest h.digest) (is_planned ks h.digest) out)
+      ∙ came_at ks (f ++ k ∷ []) back h (or_false_right (digest_eq k.digest h.digest) (is_planned ks h.digest) out)
       ∙ ap (λ g. Some (outcome_of (task_of vs a (links vs a all) g h) (inputs_at vs a all (length g)))) (append_assoc f (k ∷ []) ks)
     where
       rest : ℕ → Option Outcome

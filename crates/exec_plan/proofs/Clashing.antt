@@ -7,21 +7,16 @@ use Rattle.chain_types.specs.declared.objects.Object.{Object}
 use Rattle.chain_types.specs.declared.objects.ObjectKey.{ObjectKey}
 use Rattle.answer_types.specs.declared.answers.Held.{Held}
 use Rattle.chain_types.specs.Equal.{digest_eq}
+use Rattle.protocol_spec.proofs.Truth.{or_right, or_left}
 use Rattle.protocol_spec.specs.Chain.Tests.{has_key}
 use Rattle.protocol_spec.specs.Block.Execution.{written_keys}
 use Rattle.protocol_spec.specs.Member.Versions.{Execution, is_executed, versions}
 use Rattle.protocol_spec.specs.Member.Rounds.{Books, clashes, holds_key, ready, round_add, round_among}
+use Rattle.version_store.proofs.Based.{any_both}
 use Rattle.version_store.proofs.Equality.{digest_self}
 use Rattle.exec_plan.specs.Written.{writes}
-use Rattle.exec_plan.proofs.Following.{any_join, executed_join, holds_join}
+use Rattle.exec_plan.proofs.Following.{executed_join, holds_join}
 use Rattle.exec_plan.proofs.Readying.{is_ready}
-
-or_true : (a b : Bool) → a ≡ true → (a || b) ≡ true
-or_true a b is = ap (λ c. c || b) is
-
-true_or : (a b : Bool) → b ≡ true → (a || b) ≡ true
-true_or true b is = refl
-true_or false b is = is
 
 -- ---- keys that more executions write
 
@@ -32,9 +27,9 @@ more_writes round more (k ∷ ks) some = go (writes round k) refl some (more_wri
     go : (b : Bool) → writes round k ≡ b → (b || list_any (writes round) ks) ≡ true → (list_any (writes round) ks ≡ true → list_any (writes (round ++ more)) ks ≡ true)
         → (writes (round ++ more) k || list_any (writes (round ++ more)) ks) ≡ true
     go true is some rest =
-        or_true (writes (round ++ more) k) (list_any (writes (round ++ more)) ks)
-        (any_join (λ (y : Execution). has_key (written_keys y.gave) k) round more ∙ or_true (writes round k) (writes more k) is)
-    go false is some rest = true_or (writes (round ++ more) k) (list_any (writes (round ++ more)) ks) (rest some)
+        or_left (writes (round ++ more) k) (list_any (writes (round ++ more)) ks)
+        (any_both (λ (y : Execution). has_key (written_keys y.gave) k) round more ∙ or_left (writes round k) (writes more k) is)
+    go false is some rest = or_right (writes (round ++ more) k) (list_any (writes (round ++ more)) ks) (rest some)
 
 pub now_held : (opening : List Object) (before more : List Execution) (keys : List ObjectKey) → list_any (writes more) keys ≡ true → list_any (holds_key (versions opening (before ++ more))) keys ≡ true
 now_held opening before more [] some = absurd (cc)
@@ -43,9 +38,9 @@ now_held opening before more (k ∷ ks) some = go (writes more k) refl some (now
     go : (b : Bool) → writes more k ≡ b → (b || list_any (writes more) ks) ≡ true → (list_any (writes more) ks ≡ true → list_any (holds_key (versions opening (before ++ more))) ks ≡ true)
         → (holds_key (versions opening (before ++ more)) k || list_any (holds_key (versions opening (before ++ more))) ks) ≡ true
     go true is some rest =
-        or_true (holds_key (versions opening (before ++ more)) k) (list_any (holds_key (versions opening (before ++ more))) ks)
-        (holds_join opening before more k ∙ true_or (holds_key (versions opening before) k) (writes more k) is)
-    go false is some rest = true_or (holds_key (versions opening (before ++ more)) k) (list_any (holds_key (versions opening (before ++ more))) ks) (rest some)
+        or_left (holds_key (versions opening (before ++ more)) k) (list_any (holds_key (versions opening (before ++ more))) ks)
+        (holds_join opening before more k ∙ or_right (holds_key (versions opening before) k) (writes more k) is)
+    go false is some rest = or_right (holds_key (versions opening (before ++ more)) k) (list_any (holds_key (versions opening (before ++ more))) ks) (rest some)
 
 -- ---- a round has each ready certificate, or one that writes what it writes
 
@@ -54,7 +49,7 @@ IsCovered round h x = (is_executed round h.digest ≡ true) ⊎ (clashes round x
 
 module _ (b : Books) (executed : List Execution) where
   covered_more : (h : Held) (x : Execution) (round more : List Execution) → IsCovered round h x → IsCovered (round ++ more) h x
-  covered_more h x round more (inl ran) = inl (executed_join round more h.digest ∙ or_true (is_executed round h.digest) (is_executed more h.digest) ran)
+  covered_more h x round more (inl ran) = inl (executed_join round more h.digest ∙ or_left (is_executed round h.digest) (is_executed more h.digest) ran)
   covered_more h x round more (inr clash) = inr (more_writes round more (written_keys x.gave) clash)
 
   covered_add : (h : Held) (x : Execution) (round : List Execution) (o : Option Execution) → IsCovered round h x → IsCovered (round_add round o) h x
@@ -79,7 +74,7 @@ module _ (b : Books) (executed : List Execution) where
       go true clash = inr clash
       go false clash = inl (
           executed_join round (x ∷ []) h.digest
-          ∙ true_or (is_executed round h.digest) (is_executed (x ∷ []) h.digest) (ap (λ (c : Bool). is_some (cond c (Some x) None)) itself)
+          ∙ or_right (is_executed round h.digest) (is_executed (x ∷ []) h.digest) (ap (λ (c : Bool). is_some (cond c (Some x) None)) itself)
           )
 
   pub covered_at : (hs : List Held) (round : List Execution) (place : ℕ) (h : Held) (x : Execution) → slice_get hs place ≡ Some h → ready b executed h ≡ Some x → IsCovered (round_among b executed round hs) h x

@@ -13,11 +13,13 @@ use Rattle.digest_core.specs.declared.Digest.{Digest}
 use Rattle.chain_types.specs.declared.objects.Producer.TheVariants as producers
 use Rattle.answer_types.specs.declared.answers.Held.{Held}
 use Rattle.chain_types.specs.Equal.{digest_eq}
+use Rattle.protocol_spec.proofs.Equality.{digest_same}
+use Rattle.protocol_spec.proofs.ListLemmas.{has_left, has_right, tail_is}
 use Rattle.protocol_spec.specs.Chain.Words.{Has}
 use Rattle.protocol_spec.specs.Member.Admission.{Admission}
 use Rattle.protocol_spec.specs.Member.Rounds.{Wanted, left}
 use Rattle.version_store.specs.Stores.{Stored}
-use Rattle.version_store.proofs.Equality.{digest_same, digest_self}
+use Rattle.version_store.proofs.Equality.{digest_self}
 use Rattle.exec_plan.specs.declared.waiting.Waiting.{Waiting}
 use Rattle.exec_plan.specs.Behind.{Frees, KeepsListed, Lists, StaysListed, is_among, listed}
 use Rattle.exec_plan.specs.Books.{books_of, is_let, left_in}
@@ -26,7 +28,6 @@ use Rattle.exec_plan.specs.Makers.{are_made, is_made, producer_in}
 use Rattle.exec_plan.specs.Places.{placed}
 use Rattle.exec_plan.specs.Waits.{Filed, IsFiled, IsWaiting, KeepsPlaces, StoodBefore, was_run, is_unadmitted, comes_next, is_behind, is_loose}
 use Rattle.exec_plan.proofs.Growing.{let_grow, still_out, wants_grow}
-use Rattle.exec_plan.proofs.Joined.{tail_is}
 use Rattle.exec_plan.proofs.LeftOver.{executed_stays, left_of_places, unlet_stays}
 use Rattle.exec_plan.proofs.Making.{makes_not, unmade_stays}
 
@@ -158,10 +159,6 @@ push_keeps [] x y has = absurd has
 push_keeps (z ∷ zs) x y (inl is) = inl is
 push_keeps (z ∷ zs) x y (inr has) = inr (push_keeps zs x y has)
 
-pub push_has : {A : Type 0} → (xs : List A) (x : A) → Has (xs ++ x ∷ []) x
-push_has [] x = inl refl
-push_has (z ∷ zs) x = inr (push_has zs x)
-
 -- how a map of lists reads after a change at one key
 pub kept_listed : (old new : Lists) (tx : Digest) (before after : List ℕ) → listed old tx ≡ before → ((p : ℕ) → Has before p → Has after p)
     → ((q : Digest) → lookup (digest_eq q) new ≡ cond (digest_eq tx q) (Some after) (lookup (digest_eq q) old)) → KeepsListed old new
@@ -183,15 +180,6 @@ pub now_listed : (old new : Lists) (tx : Digest) (after : List ℕ) (p : ℕ) �
 now_listed old new tx after p has reads =
     subst (λ (ps : List ℕ). Has ps p) (sym (ap (λ (o : Option (List ℕ)). unwrap_or o []) (reads tx ∙ ap (λ c. cond c (Some after) (lookup (digest_eq tx) old)) (digest_self tx)))) has
 
-pub join_first : {A : Type 0} → (xs ys : List A) (y : A) → Has xs y → Has (xs ++ ys) y
-join_first [] ys y has = absurd has
-join_first (x ∷ xs) ys y (inl is) = inl is
-join_first (x ∷ xs) ys y (inr has) = inr (join_first xs ys y has)
-
-pub join_second : {A : Type 0} → (xs ys : List A) (y : A) → Has ys y → Has (xs ++ ys) y
-join_second [] ys y has = has
-join_second (x ∷ xs) ys y has = inr (join_second xs ys y has)
-
 -- nothing is freed before the first
 pub none_freed : (lists : Lists) (all : List Digest) → Frees lists lists [] all all
 none_freed lists all = record { at = λ tx place has. inr (record { listed = has; out = refl }) }
@@ -203,14 +191,14 @@ one_freed old mid new freed more x left all frees is others = record { at = λ t
   where
     apart : (tx : Digest) (place : ℕ) (b : Bool) → digest_eq x tx ≡ b → StaysListed mid (x ∷ left) all tx place → Has more place ⊎ StaysListed new left all tx place
     apart tx place true same stays =
-        inl (subst (λ (ps : List ℕ). Has ps place) (sym is) (join_second freed (listed mid x) place (subst (λ (q : Digest). Has (listed mid q) place) (sym (digest_same x tx same)) stays.listed)))
+        inl (subst (λ (ps : List ℕ). Has ps place) (sym is) (has_right freed (listed mid x) place (subst (λ (q : Digest). Has (listed mid q) place) (sym (digest_same x tx same)) stays.listed)))
     apart tx place false other stays = inr (record {
       listed = subst (λ (ps : List ℕ). Has ps place) (sym (others tx other)) stays.listed;
       out = stays.out ∙ ap (λ (b : Bool). b || is_among left tx) other;
     })
 
     go : (tx : Digest) (place : ℕ) → Has freed place ⊎ StaysListed mid (x ∷ left) all tx place → Has more place ⊎ StaysListed new left all tx place
-    go tx place (inl done) = inl (subst (λ (ps : List ℕ). Has ps place) (sym is) (join_first freed (listed mid x) place done))
+    go tx place (inl done) = inl (subst (λ (ps : List ℕ). Has ps place) (sym is) (has_left freed (listed mid x) place done))
     go tx place (inr stays) = apart tx place (digest_eq x tx) refl stays
 
 -- the first of the transactions that are left

@@ -1,32 +1,27 @@
 -- The members of a round, one after the other, can each be executed behind those before it.
-use Rattle.std.proofs.Common.{◌≡◌, Bool, true, false, cond, not, ◌&&◌, ◌||◌, List, [], ◌∷◌, ◌++◌, map, Some, is_some, refl, ap, sym, ◌∙◌, append_assoc}
+use Rattle.std.proofs.Common.{◌≡◌, Bool, true, false, cond, not, ◌||◌, List, [], ◌∷◌, ◌++◌, map, Some, is_some, refl, ap, ◌∙◌}
 use Rattle.std.specs.Prelude.{find, flat_map}
 use Rattle.std.specs.List.{list_any}
-use Rattle.std.proofs.lemmas.Grind.{flat_map-append}
 use Rattle.digest_core.specs.declared.Digest.{Digest}
 use Rattle.chain_types.specs.declared.objects.Object.{Object}
 use Rattle.chain_types.specs.declared.objects.ObjectKey.{ObjectKey}
 use Rattle.answer_types.specs.declared.answers.Held.{Held}
 use Rattle.chain_types.specs.Equal.{digest_eq, key_eq}
+use Rattle.protocol_spec.proofs.Equality.{key_same, test_turned}
+use Rattle.protocol_spec.proofs.Executions.{versions_more}
 use Rattle.protocol_spec.specs.Chain.Words.{Each, repeats}
 use Rattle.protocol_spec.specs.Chain.Tests.{has_key}
 use Rattle.protocol_spec.specs.Chain.Keys.{object_key}
-use Rattle.protocol_spec.proofs.ListLemmas.{and-first, and-second, not-true, or-first, or-second}
+use Rattle.protocol_spec.proofs.ListLemmas.{and-first, and-second, not-true}
+use Rattle.protocol_spec.proofs.Truth.{both_true, or_false_left, or_false_right}
 use Rattle.protocol_spec.specs.Block.Execution.{written_keys}
-use Rattle.protocol_spec.specs.Member.Versions.{Execution, Version, is_executed, opened, versions, written, written_by}
+use Rattle.protocol_spec.specs.Member.Versions.{Execution, Version, is_executed, versions, written, written_by}
 use Rattle.protocol_spec.specs.Member.Rounds.{holds_key, writes_new}
-use Rattle.version_store.proofs.Equality.{key_same, key_self, turn}
+use Rattle.version_store.proofs.Based.{any_both}
+use Rattle.version_store.proofs.Equality.{key_self}
 use Rattle.exec_plan.specs.Written.{writes}
 
 -- ---- tests of lists that are joined
-
-pub any_join : {A : Type 0} (test : A → Bool) (xs ys : List A) → list_any test (xs ++ ys) ≡ (list_any test xs || list_any test ys)
-any_join test [] ys = refl
-any_join test (x ∷ xs) ys = go (test x) (any_join test xs ys)
-  where
-    go : (b : Bool) → list_any test (xs ++ ys) ≡ (list_any test xs || list_any test ys) → (b || list_any test (xs ++ ys)) ≡ ((b || list_any test xs) || list_any test ys)
-    go true more = refl
-    go false more = more
 
 pub executed_join : (xs ys : List Execution) (tx : Digest) → is_executed (xs ++ ys) tx ≡ (is_executed xs tx || is_executed ys tx)
 executed_join [] ys tx = refl
@@ -40,33 +35,24 @@ executed_join (x ∷ xs) ys tx = go (digest_eq x.digest tx) (executed_join xs ys
 both_false : (a b : Bool) → a ≡ false → b ≡ false → (a || b) ≡ false
 both_false a b p q = ap (λ c. c || b) p ∙ q
 
-both_true : (a b : Bool) → a ≡ true → b ≡ true → (a && b) ≡ true
-both_true a b p q = ap (λ c. c && b) p ∙ q
-
 -- ---- versions behind more executions
-
-pub versions_join : (opening : List Object) (before more : List Execution) → versions opening (before ++ more) ≡ versions opening before ++ flat_map written_by more
-unfolding versions
-versions_join opening before more =
-    ap (λ vs. map opened opening ++ vs) (flat_map-append written_by before more)
-    ∙ sym (append_assoc (map opened opening) (flat_map written_by before) (flat_map written_by more))
 
 -- the objects of an execution are held where it writes them
 holds_objects : (tx : Digest) (objects : List Object) (key : ObjectKey) → holds_key (map (written tx) objects) key ≡ has_key (map object_key objects) key
 holds_objects tx [] key = refl
-holds_objects tx (o ∷ os) key = ap (λ b. b || holds_key (map (written tx) os) key) (turn key_eq key_same key_self (object_key o) key) ∙ ap (λ b. key_eq key (object_key o) || b) (holds_objects tx os key)
+holds_objects tx (o ∷ os) key = ap (λ b. b || holds_key (map (written tx) os) key) (test_turned key_eq key_same key_self (object_key o) key) ∙ ap (λ b. key_eq key (object_key o) || b) (holds_objects tx os key)
 
 pub holds_written : (round : List Execution) (key : ObjectKey) → holds_key (flat_map written_by round) key ≡ writes round key
 holds_written [] key = refl
 holds_written (x ∷ xs) key =
-    any_join (λ (v : Version). key_eq (object_key v.object) key) (written_by x) (flat_map written_by xs)
+    any_both (λ (v : Version). key_eq (object_key v.object) key) (written_by x) (flat_map written_by xs)
     ∙ ap (λ b. b || holds_key (flat_map written_by xs) key) (holds_objects x.digest x.gave.objects key)
     ∙ ap (λ b. has_key (written_keys x.gave) key || b) (holds_written xs key)
 
 pub holds_join : (opening : List Object) (before more : List Execution) (key : ObjectKey) → holds_key (versions opening (before ++ more)) key ≡ (holds_key (versions opening before) key || writes more key)
 holds_join opening before more key =
-    ap (λ vs. holds_key vs key) (versions_join opening before more)
-    ∙ any_join (λ (v : Version). key_eq (object_key v.object) key) (versions opening before) (flat_map written_by more)
+    ap (λ vs. holds_key vs key) (versions_more opening before more)
+    ∙ any_both (λ (v : Version). key_eq (object_key v.object) key) (versions opening before) (flat_map written_by more)
     ∙ ap (λ b. holds_key (versions opening before) key || b) (holds_written more key)
 
 -- keys that are neither held nor written by the round are held nowhere behind it
@@ -75,8 +61,8 @@ none_held : (opening : List Object) (before more : List Execution) (keys : List 
 none_held opening before more [] p q = refl
 none_held opening before more (k ∷ ks) p q =
     both_false (holds_key (versions opening (before ++ more)) k) (list_any (holds_key (versions opening (before ++ more))) ks)
-    (holds_join opening before more k ∙ both_false (holds_key (versions opening before) k) (writes more k) (or-first (holds_key (versions opening before) k) (list_any (holds_key (versions opening before)) ks) p) (or-first (writes more k) (list_any (writes more) ks) q))
-    (none_held opening before more ks (or-second (holds_key (versions opening before) k) (list_any (holds_key (versions opening before)) ks) p) (or-second (writes more k) (list_any (writes more) ks) q))
+    (holds_join opening before more k ∙ both_false (holds_key (versions opening before) k) (writes more k) (or_false_left (holds_key (versions opening before) k) (list_any (holds_key (versions opening before)) ks) p) (or_false_left (writes more k) (list_any (writes more) ks) q))
+    (none_held opening before more ks (or_false_right (holds_key (versions opening before) k) (list_any (holds_key (versions opening before)) ks) p) (or_false_right (writes more k) (list_any (writes more) ks) q))
 
 -- what is new is still new behind a round that writes none of it
 pub still_new : (opening : List Object) (before more : List Execution) (keys : List ObjectKey) → writes_new (versions opening before) keys ≡ true → list_any (writes more) keys ≡ false

@@ -1,26 +1,26 @@
 -- What more admitted transactions change: nothing for a certificate that may run already.
 use Rattle.std.proofs.Common.{◌≡◌, ℕ, zero, suc, Bool, true, false, cond, not, ◌||◌, List, [], ◌∷◌, ◌++◌, map, length, Option, Some, None, is_some, refl, ap, sym, subst, ◌∙◌, append_assoc, append-nil}
-use Rattle.std.specs.Prelude.{drop, filter, find, option_map, zip}
-use Rattle.std.specs.List.{list_any}
+use Rattle.std.specs.Prelude.{drop, find, option_map, zip}
 use Rattle.digest_core.specs.declared.Digest.{Digest}
 use Rattle.chain_types.specs.declared.objects.Object.{Object}
-use Rattle.chain_types.specs.declared.transactions.Input.{Input}
 use Rattle.chain_types.specs.declared.transactions.Input.TheVariants as inputs
 use Rattle.chain_types.specs.declared.transactions.Transaction.{Transaction}
-use Rattle.chain_types.specs.Digests.{is_object}
 use Rattle.chain_types.specs.Equal.{digest_eq}
 use Rattle.answer_types.specs.declared.answers.Assigned.{Assigned}
 use Rattle.answer_types.specs.declared.answers.Held.{Held}
-use Rattle.protocol_spec.specs.Chain.Keys.{has_shared_input, is_shared_input, objects_of}
+use Rattle.protocol_spec.proofs.Executions.{same_wants}
+use Rattle.protocol_spec.proofs.ListLemmas.{drop_all}
+use Rattle.protocol_spec.proofs.Truth.{some_mapped}
+use Rattle.protocol_spec.specs.Chain.Keys.{has_shared_input, objects_of}
 use Rattle.protocol_spec.specs.Member.Admission.{Admission, Admitted, admit, assigned_in, assigned_of, digest_of_admitted, entered, is_admitted, is_dropped, is_free, joined_inputs, passed_mark, take_free, taken, taken_as, taken_next}
 use Rattle.protocol_spec.specs.Member.Rounds.{wanted_by, wants_of}
+use Rattle.version_store.proofs.Based.{any_both}
 use Rattle.version_store.specs.Stores.{Stored}
 use Rattle.exec_plan.specs.Behind.{is_among}
 use Rattle.exec_plan.specs.Books.{is_let}
 use Rattle.version_assign.specs.Calls.{Admitting, admitted_since, with_entry, with_mark}
 use Rattle.exec_plan.specs.declared.waiting.Waiting.{Waiting}
 use Rattle.exec_plan.specs.Waits.{Admits, IsWaiting, StoodBefore}
-use Rattle.exec_plan.proofs.Following.{any_join}
 
 -- ---- who is admitted
 
@@ -35,10 +35,6 @@ found_any tx (x ∷ xs) = go (of_tx tx x) (found_any tx xs)
     go true rest = refl
     go false rest = rest
 
-pub some_mapped : {A B : Type 0} (f : A → B) (o : Option A) → is_some (option_map f o) ≡ is_some o
-some_mapped f None = refl
-some_mapped f (Some x) = refl
-
 -- versions are assigned to exactly those that are admitted
 pub assigned_is : (a : Admission) (tx : Digest) → is_some (assigned_of a tx) ≡ is_admitted a.admitted tx
 unfolding assigned_of
@@ -49,16 +45,6 @@ pub let_is : (a : Admission) (h : Held) {b : Bool} → has_shared_input h.cert.t
 let_is a h shared is = is ∙ assigned_is a h.digest ∙ ap (λ s. not s || is_admitted a.admitted h.digest) (sym shared)
 
 -- ---- what is wanted
-
--- a transaction of no shared object wants the same, whatever is assigned
-same_wants : (is : List Input) (os : List (Option Digest)) (a b : Option (List Assigned)) → list_any is_shared_input is ≡ false → map (wanted_by a) (zip (filter is_object is) os) ≡ map (wanted_by b) (zip (filter is_object is) os)
-same_wants [] os a b none = refl
-same_wants (inputs.Pure bytes ∷ is) os a b none = same_wants is os a b none
-same_wants (inputs.Owned r ∷ is) [] a b none = refl
-same_wants (inputs.Owned r ∷ is) (o ∷ os) a b none = ap (λ ws. wanted_by a (inputs.Owned r, o) ∷ ws) (same_wants is os a b none)
-same_wants (inputs.Immutable r ∷ is) [] a b none = refl
-same_wants (inputs.Immutable r ∷ is) (o ∷ os) a b none = ap (λ ws. wanted_by a (inputs.Immutable r, o) ∷ ws) (same_wants is os a b none)
-same_wants (inputs.Shared id initial mutable ∷ is) os a b none = absurd (cc)
 
 found_more : (tx : Digest) (xs ys : List Admitted) → is_admitted xs tx ≡ true → find (of_tx tx) (xs ++ ys) ≡ find (of_tx tx) xs
 found_more tx [] ys there = absurd (cc)
@@ -84,7 +70,7 @@ module _ (before after : Admission) (txs : List Digest) (admits : Admits before 
   admitted_grow : (tx : Digest) → is_admitted after.admitted tx ≡ (is_admitted before.admitted tx || is_among txs tx)
   admitted_grow tx =
       ap (λ (admitted : List Admitted). is_admitted admitted tx) admits.admitted
-      ∙ any_join (of_tx tx) before.admitted admits.more
+      ∙ any_both (of_tx tx) before.admitted admits.more
       ∙ ap (λ b. is_admitted before.admitted tx || b) (sym (ap (λ ds. is_among ds tx) admits.named ∙ named_any tx admits.more))
 
   -- a certificate may run where it might before, or is newly admitted
@@ -142,15 +128,11 @@ goes_free : (writers : Option ℕ) (opening : List Object) (n : ℕ) (a : Admiss
 goes_free writers opening zero a = goes_same a
 goes_free writers opening (suc n) a = goes_next opening (take_free writers opening n) (goes_free writers opening n) a (find (is_free writers a) a.pending)
 
-behind_front : {A : Type 0} → (xs ys : List A) → drop (length xs) (xs ++ ys) ≡ ys
-behind_front [] ys = refl
-behind_front (x ∷ xs) ys = behind_front xs ys
-
 goes_admits : (a b : Admission) → Goes a b → Admits a b (map digest_of_admitted (drop (length a.admitted) b.admitted))
 goes_admits a b (more, e) = record {
   more = more;
   admitted = e;
-  named = ap (map digest_of_admitted) (ap (drop (length a.admitted)) e ∙ behind_front a.admitted more);
+  named = ap (map digest_of_admitted) (ap (drop (length a.admitted)) e ∙ drop_all a.admitted more);
 }
 
 -- between an admission and that behind an entry, what stands behind the earlier ones was admitted

@@ -1,6 +1,6 @@
 -- What a certificate's transaction wants, as its definition has it.
-use Rattle.std.proofs.Common.{◌≡◌, ◌-◌, List, [], ◌∷◌, ◌++◌, Option, None, map, length, refl, ap, sym, ◌∙◌, append_assoc, append-nil, arith}
-use Rattle.std.specs.Prelude.{drop, filter, find, option_map, take, zip}
+use Rattle.std.proofs.Common.{◌≡◌, ◌-◌, List, [], ◌∷◌, ◌++◌, Option, None, map, refl, ap, sym, ◌∙◌, append_assoc, append-nil}
+use Rattle.std.specs.Prelude.{filter, find, option_map, zip}
 use Rattle.digest_core.specs.declared.Digest.{Digest}
 use Rattle.chain_types.specs.declared.objects.ObjectKey.{ObjectKey}
 use Rattle.chain_types.specs.declared.objects.Producer.{Producer}
@@ -44,15 +44,6 @@ unfolding wants_of
 wants_are a h = wants_behind (assigned_of a h.digest) [] (inputs.Owned h.cert.tx.gas ∷ h.cert.tx.inputs) h.cert.origins
 
 -- ---- the rest of a list
-
-pub tail_is : {A : Type 0} → (x : A) (xs : List A) → take (length (x ∷ xs) - 1) (drop 1 (x ∷ xs)) ≡ xs
-tail_is x xs =
-    let n : length (x ∷ xs) - 1 ≡ length xs = omega arith in
-    ap (λ k. take k xs) n ∙ whole xs
-  where
-    whole : {B : Type 0} → (ys : List B) → take (length ys) ys ≡ ys
-    whole [] = refl
-    whole (y ∷ ys) = ap (λ zs. y ∷ zs) (whole ys)
 
 -- ---- nobody made what is not assigned
 

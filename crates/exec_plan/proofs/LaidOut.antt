@@ -15,11 +15,13 @@ use Rattle.chain_types.specs.declared.objects.Producer.{Producer}
 use Rattle.chain_types.specs.declared.objects.Producer.TheVariants as producers
 use Rattle.answer_types.specs.declared.answers.Held.{Held}
 use Rattle.chain_types.specs.Equal.{digest_eq}
+use Rattle.protocol_spec.proofs.Equality.{digest_same, test_turned}
+use Rattle.protocol_spec.proofs.ListLemmas.{tail_is}
 use Rattle.protocol_spec.specs.Chain.Words.{Along, Each}
 use Rattle.protocol_spec.specs.Member.Versions.{Version}
 use Rattle.protocol_spec.specs.Member.Admission.{Admission}
 use Rattle.protocol_spec.specs.Member.Rounds.{Wanted, found, wants_of}
-use Rattle.version_store.proofs.Equality.{digest_same, digest_self, turn}
+use Rattle.version_store.proofs.Equality.{digest_self}
 use Rattle.dag_core.specs.declared.plan.Edge.{Edge}
 use Rattle.dag_core.specs.Values.{count_in, count_out, first_bad, is_forward, source, target}
 use Rattle.dag_core.proofs.Fixed.{IsPlan}
@@ -30,7 +32,6 @@ use Rattle.exec_plan.specs.Books.{AreApart, books_of, digest_of_held}
 use Rattle.exec_plan.specs.Drafts.{Drafted, IsDraft, all_given, bare_task, drafted_after, drafted_at, drafted_with, given, given_at, link_in, nothing_drafted, number_in, picked, want_in}
 use Rattle.exec_plan.specs.Layers.{is_of, is_planned, planned_of}
 use Rattle.exec_plan.specs.Tasks.{Planned, count_given, edge_of, edges_of, gives_of, key_of_link, link_as, link_of, links_after, links_of, maker_number, number_of, origin_of, slot_as, takes_of, task_of, tasks_after, tasks_of, values_of, want_as}
-use Rattle.exec_plan.proofs.Joined.{tail_is}
 use Rattle.exec_plan.proofs.Layering.{Joins, planned_along}
 use Rattle.exec_plan.proofs.Linking.{IsForward, comes_from, forward_here, links_forward, links_join, longer_by, task_plan, tasks_join}
 
@@ -100,7 +101,7 @@ counted_from test (x ∷ xs) n = go (test x) (counted_from test xs (n + 1)) (cou
 numbered : (tx : Digest) (front : List Held) → position_from (digest_eq tx) 0 (map digest_of_held front) ≡ number_of tx front
 numbered tx [] = refl
 numbered tx (h ∷ hs) =
-    ap (λ b. cond b (Some 0) (position_from (digest_eq tx) (0 + 1) (map digest_of_held hs))) (turn digest_eq digest_same digest_self tx h.digest)
+    ap (λ b. cond b (Some 0) (position_from (digest_eq tx) (0 + 1) (map digest_of_held hs))) (test_turned digest_eq digest_same digest_self tx h.digest)
     ∙ ap (λ (o : Option ℕ). cond (is_of tx h) (Some 0) o) (counted_from (digest_eq tx) (map digest_of_held hs) (0 + 1) ∙ ones (position_from (digest_eq tx) 0 (map digest_of_held hs)) ∙ ap (option_map suc) (numbered tx hs))
   where
     ones : (o : Option ℕ) → option_map (λ k. 0 + 1 + k) o ≡ option_map suc o
@@ -228,7 +229,7 @@ module _ (vs : List Version) (a : Admission) where
   absent : (front : List Held) (tx : Digest) → is_planned front tx ≡ false → list_any (digest_eq tx) (map digest_of_held front) ≡ false
   absent [] tx out = refl
   absent (h ∷ hs) tx out =
-      ap (λ c. c || list_any (digest_eq tx) (map digest_of_held hs)) (turn digest_eq digest_same digest_self tx h.digest)
+      ap (λ c. c || list_any (digest_eq tx) (map digest_of_held hs)) (test_turned digest_eq digest_same digest_self tx h.digest)
       ∙ go (is_of tx h) out (absent hs tx)
     where
       go : (b : Bool) → (b || is_planned hs tx) ≡ false → (is_planned hs tx ≡ false → list_any (digest_eq tx) (map digest_of_held hs) ≡ false) → (b || list_any (digest_eq tx) (map digest_of_held hs)) ≡ false

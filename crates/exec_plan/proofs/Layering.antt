@@ -9,13 +9,17 @@ use Rattle.chain_types.specs.declared.objects.Producer.TheVariants as producers
 use Rattle.answer_types.specs.declared.pieces.Executed.{Executed}
 use Rattle.answer_types.specs.declared.answers.Held.{Held}
 use Rattle.chain_types.specs.Equal.{digest_eq, key_eq}
+use Rattle.protocol_spec.proofs.Equality.{digest_same, test_turned}
+use Rattle.protocol_spec.proofs.Executions.{versions_more, ready_once}
 use Rattle.protocol_spec.specs.Chain.Words.{Along, Each, all_some, repeats, where_true}
 use Rattle.protocol_spec.specs.Chain.Keys.{fits}
-use Rattle.protocol_spec.proofs.ListLemmas.{and-first, and-second, or-first, or-second}
+use Rattle.protocol_spec.proofs.ListLemmas.{and-first, and-second, each_join, along_join, each_filter}
+use Rattle.protocol_spec.proofs.Truth.{or_right, or_left, or_true, or_false_left, or_false_right}
 use Rattle.protocol_spec.specs.Block.Execution.{execution, written_keys}
 use Rattle.protocol_spec.specs.Member.Versions.{Execution, Version, is_executed, object_in, versions, written_by}
 use Rattle.protocol_spec.specs.Member.Rounds.{Books, Wanted, clashes, executes_as, found, is_maker_done, is_wanted, may_run, present, ready, ready_as, ready_on, round_add, round_among, round_of, rounds, rounds_within, wants_of, writes_new}
-use Rattle.version_store.proofs.Equality.{digest_same, digest_self, turn}
+use Rattle.version_store.proofs.Based.{any_both}
+use Rattle.version_store.proofs.Equality.{digest_self}
 use Rattle.version_store.specs.Stores.{Stored}
 use Rattle.exec_plan.specs.Books.{AreApart, digest_of_held}
 use Rattle.exec_plan.specs.Layers.{in_turn, is_maker_planned, is_of, is_planned, is_supplied, joins_layer, layer_of, layers_within, onto_kept, planned_of}
@@ -23,24 +27,13 @@ use Rattle.exec_plan.specs.Makers.{is_made}
 use Rattle.exec_plan.specs.Planning.{TurnsAreRounds}
 use Rattle.exec_plan.specs.Written.{writes}
 use Rattle.exec_plan.proofs.Clashing.{IsCovered, covered_at, now_held}
-use Rattle.exec_plan.proofs.Following.{any_join, executed_join, none_out, still_new, versions_join}
+use Rattle.exec_plan.proofs.Following.{executed_join, none_out, still_new}
 use Rattle.exec_plan.proofs.Making.{unmade_rests}
-use Rattle.exec_plan.proofs.Readying.{executed_rests, is_ready, ready_alike}
+use Rattle.exec_plan.proofs.Readying.{is_ready, ready_alike}
 use Rattle.exec_plan.proofs.Settling.{AreOthers, find_none, never_new, none_by, not_among}
 
 pub clash : {b : Bool} → b ≡ true → b ≡ false → ⊥
 clash p q = absurd (cc)
-
-pub either_true : (a b : Bool) → (a || b) ≡ true → (a ≡ true) ⊎ (b ≡ true)
-either_true true b e = inl refl
-either_true false b e = inr e
-
-pub true_left : (a b : Bool) → a ≡ true → (a || b) ≡ true
-true_left a b e = ap (λ c. c || b) e
-
-pub true_right : (a b : Bool) → b ≡ true → (a || b) ≡ true
-true_right true b e = refl
-true_right false b e = e
 
 false_both : (a b : Bool) → a ≡ false → b ≡ false → (a || b) ≡ false
 false_both a b p q = ap (λ c. c || b) p ∙ q
@@ -79,7 +72,7 @@ found_apart opening before more w others = go w.producer others
     go : (p : Option Producer) → stranger_by more p → option_map object_in (find (is_wanted w.key p) (versions opening (before ++ more))) ≡ option_map object_in (find (is_wanted w.key p) (versions opening before))
     go None others = ap (option_map object_in) (nobody (versions opening (before ++ more)) ∙ sym (nobody (versions opening before)))
     go (Some p) others =
-        ap (λ vs. option_map object_in (find (is_wanted w.key (Some p)) vs)) (versions_join opening before more)
+        ap (λ vs. option_map object_in (find (is_wanted w.key (Some p)) vs)) (versions_more opening before more)
         ∙ ap (option_map object_in) (find_none (is_wanted w.key (Some p)) (versions opening before) (flat_map written_by more) (none_by w.key p more others))
 
 all_apart : (opening : List Object) (before more : List Execution) (ws : List Wanted) → Each (AreStrangers more) ws
@@ -139,7 +132,7 @@ module _ (b : Books) (before more : List Execution) (h : Held) where
 -- ---- who is planned
 
 pub planned_join : (xs ys : List Held) (tx : Digest) → is_planned (xs ++ ys) tx ≡ (is_planned xs tx || is_planned ys tx)
-planned_join xs ys tx = any_join (is_of tx) xs ys
+planned_join xs ys tx = any_both (is_of tx) xs ys
 
 module _ (test : Held → Bool) where
   -- a picked certificate is one of the list
@@ -149,21 +142,21 @@ module _ (test : Held → Bool) where
     where
       go : (t : Bool) → is_planned (cond t (h ∷ filter test hs) (filter test hs)) tx ≡ true → (is_planned (filter test hs) tx ≡ true → list_any (digest_eq tx) (map digest_of_held hs) ≡ true)
           → (digest_eq tx h.digest || list_any (digest_eq tx) (map digest_of_held hs)) ≡ true
-      go false there rest = true_right (digest_eq tx h.digest) (list_any (digest_eq tx) (map digest_of_held hs)) (rest there)
-      go true there rest = either (either_true (digest_eq h.digest tx) (is_planned (filter test hs) tx) there)
+      go false there rest = or_right (digest_eq tx h.digest) (list_any (digest_eq tx) (map digest_of_held hs)) (rest there)
+      go true there rest = either (or_true (digest_eq h.digest tx) (is_planned (filter test hs) tx) there)
         where
           either : (digest_eq h.digest tx ≡ true) ⊎ (is_planned (filter test hs) tx ≡ true) → (digest_eq tx h.digest || list_any (digest_eq tx) (map digest_of_held hs)) ≡ true
-          either (inl is) = true_left (digest_eq tx h.digest) (list_any (digest_eq tx) (map digest_of_held hs)) (turn digest_eq digest_same digest_self tx h.digest ∙ is)
-          either (inr more) = true_right (digest_eq tx h.digest) (list_any (digest_eq tx) (map digest_of_held hs)) (rest more)
+          either (inl is) = or_left (digest_eq tx h.digest) (list_any (digest_eq tx) (map digest_of_held hs)) (test_turned digest_eq digest_same digest_self tx h.digest ∙ is)
+          either (inr more) = or_right (digest_eq tx h.digest) (list_any (digest_eq tx) (map digest_of_held hs)) (rest more)
 
   listed_at : (hs : List Held) (place : ℕ) (h : Held) → slice_get hs place ≡ Some h → (tx : Digest) → digest_eq tx h.digest ≡ true → list_any (digest_eq tx) (map digest_of_held hs) ≡ true
   listed_at [] place h at tx is = absurd (cc)
   listed_at (k ∷ ks) zero h at tx is =
-      true_left (digest_eq tx k.digest) (list_any (digest_eq tx) (map digest_of_held ks)) (ap (λ (x : Held). digest_eq tx x.digest) same ∙ is)
+      or_left (digest_eq tx k.digest) (list_any (digest_eq tx) (map digest_of_held ks)) (ap (λ (x : Held). digest_eq tx x.digest) same ∙ is)
     where
       same : k ≡ h
       same = cc
-  listed_at (k ∷ ks) (suc n) h at tx is = true_right (digest_eq tx k.digest) (list_any (digest_eq tx) (map digest_of_held ks)) (listed_at ks n h at tx is)
+  listed_at (k ∷ ks) (suc n) h at tx is = or_right (digest_eq tx k.digest) (list_any (digest_eq tx) (map digest_of_held ks)) (listed_at ks n h at tx is)
 
   -- where no transaction is held twice, who has the digest of a picked one is picked
   pub is_picked : (hs : List Held) → AreApart hs → (place : ℕ) (h : Held) → slice_get hs place ≡ Some h → is_planned (filter test hs) h.digest ≡ true → test h ≡ true
@@ -175,15 +168,15 @@ module _ (test : Held → Bool) where
 
       go : (t : Bool) → test k ≡ t → is_planned (cond t (k ∷ filter test ks) (filter test ks)) k.digest ≡ true → test k ≡ true
       go true is there = is
-      go false is there = absurd (clash (planned_listed ks k.digest there) (or-first (list_any (digest_eq k.digest) (map digest_of_held ks)) (repeats digest_eq (map digest_of_held ks)) apart))
-  is_picked (k ∷ ks) apart (suc n) h at there = go (test k) there (is_picked ks (or-second (list_any (digest_eq k.digest) (map digest_of_held ks)) (repeats digest_eq (map digest_of_held ks)) apart) n h at)
+      go false is there = absurd (clash (planned_listed ks k.digest there) (or_false_left (list_any (digest_eq k.digest) (map digest_of_held ks)) (repeats digest_eq (map digest_of_held ks)) apart))
+  is_picked (k ∷ ks) apart (suc n) h at there = go (test k) there (is_picked ks (or_false_right (list_any (digest_eq k.digest) (map digest_of_held ks)) (repeats digest_eq (map digest_of_held ks)) apart) n h at)
     where
       go : (t : Bool) → is_planned (cond t (k ∷ filter test ks) (filter test ks)) h.digest ≡ true → (is_planned (filter test ks) h.digest ≡ true → test h ≡ true) → test h ≡ true
       go false there rest = rest there
-      go true there rest = either (either_true (digest_eq k.digest h.digest) (is_planned (filter test ks) h.digest) there)
+      go true there rest = either (or_true (digest_eq k.digest h.digest) (is_planned (filter test ks) h.digest) there)
         where
           either : (digest_eq k.digest h.digest ≡ true) ⊎ (is_planned (filter test ks) h.digest ≡ true) → test h ≡ true
-          either (inl is) = absurd (clash (listed_at ks n h at k.digest is) (or-first (list_any (digest_eq k.digest) (map digest_of_held ks)) (repeats digest_eq (map digest_of_held ks)) apart))
+          either (inl is) = absurd (clash (listed_at ks n h at k.digest is) (or_false_left (list_any (digest_eq k.digest) (map digest_of_held ks)) (repeats digest_eq (map digest_of_held ks)) apart))
           either (inr more) = rest more
 
   -- a property that a test brings holds of those that are picked
@@ -193,7 +186,7 @@ module _ (test : Held → Bool) where
     where
       go : (t : Bool) → test h ≡ t → is_planned (cond t (h ∷ filter test hs) (filter test hs)) tx ≡ true → (is_planned (filter test hs) tx ≡ true → P tx) → P tx
       go false is there rest = rest there
-      go true is there rest = either (either_true (digest_eq h.digest tx) (is_planned (filter test hs) tx) there)
+      go true is there rest = either (or_true (digest_eq h.digest tx) (is_planned (filter test hs) tx) there)
         where
           either : (digest_eq h.digest tx ≡ true) ⊎ (is_planned (filter test hs) tx ≡ true) → P tx
           either (inl same) = subst P (digest_same h.digest tx same) (each h is)
@@ -206,8 +199,8 @@ turn_planned b (h ∷ hs) executed tx there = go (ready b executed h) refl there
   where
     go : (o : Option Execution) → ready b executed h ≡ o → is_executed (onto_kept (λ e. in_turn b e hs) executed o) tx ≡ true → ((e : List Execution) → is_executed (in_turn b e hs) tx ≡ true → is_planned hs tx ≡ true)
         → (digest_eq h.digest tx || is_planned hs tx) ≡ true
-    go None is there more = true_right (digest_eq h.digest tx) (is_planned hs tx) (more executed there)
-    go (Some x) is there more = either (either_true (is_executed (x ∷ []) tx) (is_executed (in_turn b (executed ++ x ∷ []) hs) tx) (sym (executed_join (x ∷ []) (in_turn b (executed ++ x ∷ []) hs) tx) ∙ there))
+    go None is there more = or_right (digest_eq h.digest tx) (is_planned hs tx) (more executed there)
+    go (Some x) is there more = either (or_true (is_executed (x ∷ []) tx) (is_executed (in_turn b (executed ++ x ∷ []) hs) tx) (sym (executed_join (x ∷ []) (in_turn b (executed ++ x ∷ []) hs) tx) ∙ there))
       where
         named : x.digest ≡ h.digest
         named = (is_ready b executed h x is).named
@@ -217,8 +210,8 @@ turn_planned b (h ∷ hs) executed tx there = go (ready b executed h) refl there
         itself false is there = absurd (cc)
 
         either : (is_executed (x ∷ []) tx ≡ true) ⊎ (is_executed (in_turn b (executed ++ x ∷ []) hs) tx ≡ true) → (digest_eq h.digest tx || is_planned hs tx) ≡ true
-        either (inl is) = true_left (digest_eq h.digest tx) (is_planned hs tx) (itself (digest_eq x.digest tx) refl is)
-        either (inr more_is) = true_right (digest_eq h.digest tx) (is_planned hs tx) (more (executed ++ x ∷ []) more_is)
+        either (inl is) = or_left (digest_eq h.digest tx) (is_planned hs tx) (itself (digest_eq x.digest tx) refl is)
+        either (inr more_is) = or_right (digest_eq h.digest tx) (is_planned hs tx) (more (executed ++ x ∷ []) more_is)
 
 -- ---- who makes what is wanted
 
@@ -264,7 +257,7 @@ supplied_more executed planned more (w ∷ ws) all =
       where
         go : (e p : Bool) → is_planned (planned ++ more) tx ≡ (p || is_planned more tx) → (e || p) ≡ true → (e || is_planned (planned ++ more) tx) ≡ true
         go true p is all = refl
-        go false p is all = is ∙ true_left p (is_planned more tx) all
+        go false p is all = is ∙ or_left p (is_planned more tx) all
 
 -- ---- a layer is a round
 
@@ -330,7 +323,7 @@ module _ (b : Books) (executed : List Execution) (planned : List Held) where
 
         go : (e : Bool) → is_executed executed h.digest ≡ e → (p : Bool) → is_planned planned h.digest ≡ p → (m : Bool) → may_run b h ≡ m
             → (s : Bool) → list_all (is_supplied executed planned) (wants_of b.admission h) ≡ s → (not e && not p && m && s) ≡ false → ready b now h ≡ None
-        go true ex p pl m may s sup out = executed_rests b now h (behind.stays h.digest ex)
+        go true ex p pl m may s sup out = ready_once b now h (behind.stays h.digest ex)
         go false ex true pl m may s sup out = behind.rests place h at pl
         go false ex false pl false may s sup out = no_more (is_executed now h.digest) (may_run b h) (ready_on b now h (present b now h)) may
         go false ex false pl true may true sup out = absurd (cc)
@@ -364,8 +357,8 @@ module _ (b : Books) (executed : List Execution) (planned : List Held) where
     -- one more member
     more_new : (round : List Execution) (h : Held) (x : Execution) (hs : List Held) → AreApart (h ∷ hs) → IsNew round (h ∷ hs) → Joins h → x.digest ≡ h.digest → IsNew (round ++ x ∷ []) hs
     more_new round h x hs apart is joined named = record {
-      out = outs hs is.out.1 (or-first (list_any (digest_eq h.digest) (map digest_of_held hs)) (repeats digest_eq (map digest_of_held hs)) apart);
-      new = λ tx there. either tx (either_true (is_executed round tx) (is_executed (x ∷ []) tx) (sym (executed_join round (x ∷ []) tx) ∙ there));
+      out = outs hs is.out.1 (or_false_left (list_any (digest_eq h.digest) (map digest_of_held hs)) (repeats digest_eq (map digest_of_held hs)) apart);
+      new = λ tx there. either tx (or_true (is_executed round tx) (is_executed (x ∷ []) tx) (sym (executed_join round (x ∷ []) tx) ∙ there));
     }
       where
         alone : (tx : Digest) (c : Bool) → digest_eq x.digest tx ≡ c → is_executed (x ∷ []) tx ≡ c
@@ -378,8 +371,8 @@ module _ (b : Books) (executed : List Execution) (planned : List Held) where
         outs (k ∷ ks) each apart = (
           executed_join round (x ∷ []) k.digest
               ∙ false_both (is_executed round k.digest) (is_executed (x ∷ []) k.digest) each.0
-              (alone k.digest false (ap (λ (d : Digest). digest_eq d k.digest) named ∙ or-first (digest_eq h.digest k.digest) (list_any (digest_eq h.digest) (map digest_of_held ks)) apart)),
-          outs ks each.1 (or-second (digest_eq h.digest k.digest) (list_any (digest_eq h.digest) (map digest_of_held ks)) apart),
+              (alone k.digest false (ap (λ (d : Digest). digest_eq d k.digest) named ∙ or_false_left (digest_eq h.digest k.digest) (list_any (digest_eq h.digest) (map digest_of_held ks)) apart)),
+          outs ks each.1 (or_false_right (digest_eq h.digest k.digest) (list_any (digest_eq h.digest) (map digest_of_held ks)) apart),
         )
 
         itself : (tx : Digest) (c : Bool) → digest_eq x.digest tx ≡ c → is_executed (x ∷ []) tx ≡ true → h.digest ≡ tx
@@ -396,7 +389,7 @@ module _ (b : Books) (executed : List Execution) (planned : List Held) where
         → round ++ in_turn b (now ++ round) (layer_in hs) ≡ round_among b now round hs
     layer_is_round [] place round at apart new = append-nil round
     layer_is_round (h ∷ hs) place round at apart new =
-        go (joins_layer b executed planned h) refl (λ r. layer_is_round hs (suc place) r (later place h hs at) (or-second (list_any (digest_eq h.digest) (map digest_of_held hs)) (repeats digest_eq (map digest_of_held hs)) apart))
+        go (joins_layer b executed planned h) refl (λ r. layer_is_round hs (suc place) r (later place h hs at) (or_false_right (list_any (digest_eq h.digest) (map digest_of_held hs)) (repeats digest_eq (map digest_of_held hs)) apart))
       where
         More : Type 0
         More = (r : List Execution) → IsNew r hs → r ++ in_turn b (now ++ r) (layer_in hs) ≡ round_among b now r hs
@@ -467,7 +460,7 @@ module _ (b : Books) (executed : List Execution) (planned : List Held) where
         behind_round out (Some x) e = clashing x out (subst (λ r. IsCovered r h x) (sym (layer_turn apart)) (covered_at b now b.held [] place h x at e))
 
         go : (c : Bool) → is_executed round h.digest ≡ c → ready b (now ++ round) h ≡ None
-        go true ran = executed_rests b (now ++ round) h (executed_join now round h.digest ∙ true_right (is_executed now h.digest) (is_executed round h.digest) ran)
+        go true ran = ready_once b (now ++ round) h (executed_join now round h.digest ∙ or_right (is_executed now h.digest) (is_executed round h.digest) ran)
         go false out =
             ready_apart b now round h out (strangers executed planned round round_new (wants_of b.admission h) (joins h is).all)
             ∙ behind_round out (ready b now h) refl
@@ -476,10 +469,10 @@ module _ (b : Books) (executed : List Execution) (planned : List Held) where
 pub behind_more : (b : Books) (executed : List Execution) (planned : List Held) (now : List Execution) → IsBehind b executed planned now → AreApart b.held
     → IsBehind b executed (planned ++ layer_of b executed planned) (now ++ in_turn b now (layer_of b executed planned))
 behind_more b executed planned now behind apart = record {
-  known = λ tx there. knows tx (either_true (is_executed now tx) (is_executed round tx) (sym (executed_join now round tx) ∙ there));
-  stays = λ tx there. executed_join now round tx ∙ true_left (is_executed now tx) (is_executed round tx) (behind.stays tx there);
-  rests = λ place h at there. resting place h at (either_true (is_planned planned h.digest) (is_planned layer h.digest) (sym (planned_join planned layer h.digest) ∙ there));
-  supplied = λ place h at there. supplying place h at (either_true (is_planned planned h.digest) (is_planned layer h.digest) (sym (planned_join planned layer h.digest) ∙ there));
+  known = λ tx there. knows tx (or_true (is_executed now tx) (is_executed round tx) (sym (executed_join now round tx) ∙ there));
+  stays = λ tx there. executed_join now round tx ∙ or_left (is_executed now tx) (is_executed round tx) (behind.stays tx there);
+  rests = λ place h at there. resting place h at (or_true (is_planned planned h.digest) (is_planned layer h.digest) (sym (planned_join planned layer h.digest) ∙ there));
+  supplied = λ place h at there. supplying place h at (or_true (is_planned planned h.digest) (is_planned layer h.digest) (sym (planned_join planned layer h.digest) ∙ there));
 }
   where
     new : AreNewcomers executed planned (in_turn b now (layer_of b executed planned))
@@ -496,10 +489,10 @@ behind_more b executed planned now behind apart = record {
       where
         go : (e p : Bool) → (e || p) ≡ true → (e || (p || is_planned layer tx)) ≡ true
         go true p is = refl
-        go false p is = true_left p (is_planned layer tx) is
+        go false p is = or_left p (is_planned layer tx) is
     knows tx (inr there) =
-        true_right (is_executed executed tx) (is_planned (planned ++ layer) tx)
-        (planned_join planned layer tx ∙ true_right (is_planned planned tx) (is_planned layer tx) (turn_planned b layer now tx there))
+        or_right (is_executed executed tx) (is_planned (planned ++ layer) tx)
+        (planned_join planned layer tx ∙ or_right (is_planned planned tx) (is_planned layer tx) (turn_planned b layer now tx there))
 
     resting : (place : ℕ) (h : Held) → slice_get b.held place ≡ Some h → (is_planned planned h.digest ≡ true) ⊎ (is_planned layer h.digest ≡ true) → ready b (now ++ round) h ≡ None
     resting place h at (inl there) =
@@ -508,7 +501,7 @@ behind_more b executed planned now behind apart = record {
       where
         out : (c : Bool) → is_executed round h.digest ≡ c → is_executed round h.digest ≡ false
         out false e = e
-        out true e = absurd (clash there (or-second (is_executed executed h.digest) (is_planned planned h.digest) (new h.digest e)))
+        out true e = absurd (clash there (or_false_right (is_executed executed h.digest) (is_planned planned h.digest) (new h.digest e)))
     resting place h at (inr there) = layer_rests b executed planned now behind apart place h at (is_picked (joins_layer b executed planned) b.held apart place h at there)
 
     supplying : (place : ℕ) (h : Held) → slice_get b.held place ≡ Some h → (is_planned planned h.digest ≡ true) ⊎ (is_planned layer h.digest ≡ true) → list_all (is_supplied executed (planned ++ layer)) (wants_of b.admission h) ≡ true
@@ -528,7 +521,7 @@ layers_turn (suc n) b executed planned now apart behind =
 
 nothing_planned : (b : Books) (executed : List Execution) → IsBehind b executed [] executed
 nothing_planned b executed = record {
-  known = λ tx there. true_left (is_executed executed tx) false there;
+  known = λ tx there. or_left (is_executed executed tx) false there;
   stays = λ tx there. there;
   rests = λ place h at there. absurd (never h.digest there);
   supplied = λ place h at there. absurd (never h.digest there);
@@ -543,10 +536,6 @@ turns_are_rounds b executed apart = layers_turn (length b.held) b executed [] ex
 
 -- ---- who is planned joins a layer
 
-along_join : {A : Type 0} (P : List A → A → Type 0) (before xs ys : List A) → Along P before xs → Along P (before ++ xs) ys → Along P before (xs ++ ys)
-along_join P before [] ys p q = subst (λ b. Along P b ys) (append-nil before) q
-along_join P before (x ∷ xs) ys p q = (p.0, along_join P (before ++ x ∷ []) xs ys p.1 (subst (λ b. Along P b ys) (sym (append_assoc before (x ∷ []) xs)) q))
-
 module _ (b : Books) (executed : List Execution) (planned : List Held) where
   joins_behind : (more : List Held) (h : Held) → Joins b executed planned h → is_planned more h.digest ≡ false → Joins b executed (planned ++ more) h
   joins_behind more h joined out = record {
@@ -560,7 +549,7 @@ module _ (b : Books) (executed : List Execution) (planned : List Held) where
   layer_along [] more apart out = tt
   layer_along (h ∷ hs) more apart out =
       go (joins_layer b executed planned h) refl
-      (λ ms. layer_along hs ms (or-second (list_any (digest_eq h.digest) (map digest_of_held hs)) (repeats digest_eq (map digest_of_held hs)) apart))
+      (λ ms. layer_along hs ms (or_false_right (list_any (digest_eq h.digest) (map digest_of_held hs)) (repeats digest_eq (map digest_of_held hs)) apart))
     where
       next : (ks : List Held) → Each (λ (k : Held). is_planned more k.digest ≡ false) ks → list_any (digest_eq h.digest) (map digest_of_held ks) ≡ false
           → Each (λ (k : Held). is_planned (more ++ h ∷ []) k.digest ≡ false) ks
@@ -568,8 +557,8 @@ module _ (b : Books) (executed : List Execution) (planned : List Held) where
       next (k ∷ ks) each apart = (
         planned_join more (h ∷ []) k.digest
             ∙ false_both (is_planned more k.digest) (digest_eq h.digest k.digest || false) each.0
-            (false_both (digest_eq h.digest k.digest) false (or-first (digest_eq h.digest k.digest) (list_any (digest_eq h.digest) (map digest_of_held ks)) apart) refl),
-        next ks each.1 (or-second (digest_eq h.digest k.digest) (list_any (digest_eq h.digest) (map digest_of_held ks)) apart),
+            (false_both (digest_eq h.digest k.digest) false (or_false_left (digest_eq h.digest k.digest) (list_any (digest_eq h.digest) (map digest_of_held ks)) apart) refl),
+        next ks each.1 (or_false_right (digest_eq h.digest k.digest) (list_any (digest_eq h.digest) (map digest_of_held ks)) apart),
       )
 
       go : (j : Bool) → joins_layer b executed planned h ≡ j
@@ -579,7 +568,7 @@ module _ (b : Books) (executed : List Execution) (planned : List Held) where
       go true is rest = (
         joins_behind more h (joins b executed planned h is) out.0,
         subst (λ f. Along (Joins b executed) f (filter (joins_layer b executed planned) hs)) (sym (append_assoc planned more (h ∷ [])))
-            (rest (more ++ h ∷ []) (next hs out.1 (or-first (list_any (digest_eq h.digest) (map digest_of_held hs)) (repeats digest_eq (map digest_of_held hs)) apart))),
+            (rest (more ++ h ∷ []) (next hs out.1 (or_false_left (list_any (digest_eq h.digest) (map digest_of_held hs)) (repeats digest_eq (map digest_of_held hs)) apart))),
       )
 
 none_planned : (hs : List Held) → Each (λ (h : Held). is_planned [] h.digest ≡ false) hs
@@ -600,22 +589,10 @@ planned_along b executed apart = layers_along (length b.held) b executed [] apar
 
 -- what each held certificate has, each planned one has
 
-each_joined : {A : Type 0} (P : A → Type 0) (xs ys : List A) → Each P xs → Each P ys → Each P (xs ++ ys)
-each_joined P [] ys p q = q
-each_joined P (x ∷ xs) ys p q = (p.0, each_joined P xs ys p.1 q)
-
-each_picked : {A : Type 0} (P : A → Type 0) (test : A → Bool) (xs : List A) → Each P xs → Each P (filter test xs)
-each_picked P test [] each = tt
-each_picked {A = A} P test (x ∷ xs) each = go (test x) (each_picked P test xs each.1)
-  where
-    go : (c : Bool) → Each P (filter test xs) → Each P (cond c (x ∷ filter test xs) (filter test xs))
-    go true rest = (each.0, rest)
-    go false rest = rest
-
 each_within : (n : ℕ) (b : Books) (executed : List Execution) (planned : List Held) (P : Held → Type 0) → Each P b.held → Each P (layers_within n b executed planned)
 each_within zero b executed planned P each = tt
 each_within (suc n) b executed planned P each =
-    each_joined P (layer_of b executed planned) (layers_within n b executed (planned ++ layer_of b executed planned)) (each_picked P (joins_layer b executed planned) b.held each)
+    each_join P (layer_of b executed planned) (layers_within n b executed (planned ++ layer_of b executed planned)) (each_filter P (joins_layer b executed planned) b.held each)
     (each_within n b executed (planned ++ layer_of b executed planned) P each)
 
 pub each_planned : (b : Books) (executed : List Execution) (P : Held → Type 0) → Each P b.held → Each P (planned_of b executed)

@@ -11,6 +11,7 @@ use Rattle.chain_types.specs.declared.objects.Object.{Object}
 use Rattle.chain_types.specs.declared.objects.Producer.{Producer}
 use Rattle.chain_types.specs.declared.objects.Producer.TheVariants as producers
 use Rattle.answer_types.specs.declared.answers.Held.{Held}
+use Rattle.protocol_spec.proofs.ListLemmas.{each_join}
 use Rattle.protocol_spec.specs.Chain.Words.{Each}
 use Rattle.protocol_spec.specs.Member.Versions.{Version}
 use Rattle.protocol_spec.specs.Member.Admission.{Admission}
@@ -58,10 +59,6 @@ comes_from n l = eqb l.from n
 -- a link comes from a task in front of the one that it goes to, and that is below a number
 abbrev pub IsForward : ℕ → Link → Type 0
 IsForward n l = (l.from < l.to) × (l.to < n)
-
-each_join : {A : Type 0} (P : A → Type 0) (xs ys : List A) → Each P xs → Each P ys → Each P (xs ++ ys)
-each_join P [] ys p q = q
-each_join P (x ∷ xs) ys p q = (p.0, each_join P xs ys p.1 q)
 
 module _ (vs : List Version) (a : Admission) where
   pub links_join : (front xs ys : List Held) → links_after vs a front (xs ++ ys) ≡ links_after vs a front xs ++ links_after vs a (front ++ xs) ys

@@ -11,12 +11,16 @@ use Rattle.chain_types.specs.declared.objects.Producer.{Producer}
 use Rattle.chain_types.specs.declared.objects.Producer.TheVariants as producers
 use Rattle.answer_types.specs.declared.answers.Held.{Held}
 use Rattle.chain_types.specs.Equal.{digest_eq}
+use Rattle.protocol_spec.proofs.Equality.{digest_same, test_turned}
+use Rattle.protocol_spec.proofs.ListLemmas.{has_left, has_right, tail_is}
+use Rattle.protocol_spec.proofs.Truth.{or_assoc, or_true, or_left, or_right}
 use Rattle.protocol_spec.specs.Chain.Words.{Each, Has}
 use Rattle.protocol_spec.specs.Chain.Shape.{is_empty_list}
 use Rattle.protocol_spec.specs.Member.Versions.{Execution, is_executed}
 use Rattle.protocol_spec.specs.Member.Admission.{Admission}
 use Rattle.protocol_spec.specs.Member.Rounds.{Books, Wanted, is_maker_done, wants_of}
-use Rattle.version_store.proofs.Equality.{digest_same, digest_self, turn}
+use Rattle.version_store.proofs.Based.{any_both}
+use Rattle.version_store.proofs.Equality.{digest_self}
 use Rattle.version_store.specs.Stores.{Stored}
 use Rattle.exec_plan.specs.declared.waiting.Waiting.{Waiting}
 use Rattle.exec_plan.specs.Ahead.{Agrees, AreParked, AreTaken, Parked, has_run, joining, joins_now, joins_of, lacks_admission, layer_places, waits_behind, was_taken, with_digest}
@@ -29,10 +33,8 @@ use Rattle.exec_plan.specs.Past.{as_if, empty_execution}
 use Rattle.exec_plan.specs.Places.{Picks}
 use Rattle.exec_plan.specs.Runs.{with_executions}
 use Rattle.exec_plan.specs.Waits.{Filed, IsBehind, IsFiled, IsWaiting, comes_next, is_behind, is_loose, is_unadmitted, was_run}
-use Rattle.exec_plan.proofs.Filing.{join_first, join_second}
-use Rattle.exec_plan.proofs.Following.{any_join, executed_join}
-use Rattle.exec_plan.proofs.Layering.{clash, either_true, is_picked, planned_join, true_left, true_right}
-use Rattle.exec_plan.proofs.Joined.{tail_is}
+use Rattle.exec_plan.proofs.Following.{executed_join}
+use Rattle.exec_plan.proofs.Layering.{clash, is_picked, planned_join}
 use Rattle.exec_plan.proofs.Making.{makes_not}
 use Rattle.exec_plan.proofs.Rounding.{all_far, ascends, at_front, at_none, longer, picks_of}
 
@@ -40,7 +42,7 @@ use Rattle.exec_plan.proofs.Rounding.{all_far, ascends, at_front, at_none, longe
 
 named_is : (txs : List Digest) (tx : Digest) → is_executed (map empty_execution txs) tx ≡ list_any (digest_eq tx) txs
 named_is [] tx = refl
-named_is (d ∷ ds) tx = go (digest_eq d tx) (digest_eq tx d) (turn digest_eq digest_same digest_self d tx) (named_is ds tx)
+named_is (d ∷ ds) tx = go (digest_eq d tx) (digest_eq tx d) (test_turned digest_eq digest_same digest_self d tx) (named_is ds tx)
   where
     go : (b c : Bool) → b ≡ c → is_executed (map empty_execution ds) tx ≡ list_any (digest_eq tx) ds
         → is_some (cond b (Some (empty_execution d)) (find (λ (y : Execution). digest_eq y.digest tx) (map empty_execution ds))) ≡ (c || list_any (digest_eq tx) ds)
@@ -56,10 +58,6 @@ or_none : (a : Bool) → a ≡ (a || false)
 or_none true = refl
 or_none false = refl
 
-or_assoc : (a b c : Bool) → ((a || b) || c) ≡ (a || (b || c))
-or_assoc true b c = refl
-or_assoc false b c = refl
-
 one_named : (txs : List Digest) (d tx : Digest) → list_any (digest_eq tx) (insert_key digest_eq txs d) ≡ (list_any (digest_eq tx) txs || digest_eq tx d)
 one_named txs d tx = go (list_any (digest_eq d) txs) refl
   where
@@ -71,7 +69,7 @@ one_named txs d tx = go (list_any (digest_eq d) txs) refl
     go : (b : Bool) → list_any (digest_eq d) txs ≡ b → list_any (digest_eq tx) (cond b txs (txs ++ d ∷ [])) ≡ (list_any (digest_eq tx) txs || digest_eq tx d)
     go true there =
         absorb (list_any (digest_eq tx) txs) (digest_eq tx d) (λ same. ap (λ (x : Digest). list_any (digest_eq x) txs) (digest_same tx d same) ∙ there)
-    go false there = any_join (digest_eq tx) txs (d ∷ []) ∙ ap (λ b. list_any (digest_eq tx) txs || b) (sym (or_none (digest_eq tx d)))
+    go false there = any_both (digest_eq tx) txs (d ∷ []) ∙ ap (λ b. list_any (digest_eq tx) txs || b) (sym (or_none (digest_eq tx d)))
 
 -- who is named behind more names
 pub all_named : (more txs : List Digest) (tx : Digest) → list_any (digest_eq tx) (insert_all digest_eq txs more) ≡ (list_any (digest_eq tx) txs || list_any (digest_eq tx) more)
@@ -83,12 +81,12 @@ all_named (d ∷ ds) txs tx =
 
 among_is : (txs : List Digest) (tx : Digest) → is_among txs tx ≡ list_any (digest_eq tx) txs
 among_is [] tx = refl
-among_is (d ∷ ds) tx = ap (λ c. c || is_among ds tx) (turn digest_eq digest_same digest_self d tx) ∙ ap (λ c. digest_eq tx d || c) (among_is ds tx)
+among_is (d ∷ ds) tx = ap (λ c. c || is_among ds tx) (test_turned digest_eq digest_same digest_self d tx) ∙ ap (λ c. digest_eq tx d || c) (among_is ds tx)
 
 planned_is : (hs : List Held) (tx : Digest) → list_any (digest_eq tx) (map digest_of_held hs) ≡ is_planned hs tx
 planned_is [] tx = refl
 planned_is (h ∷ hs) tx =
-    ap (λ c. c || list_any (digest_eq tx) (map digest_of_held hs)) (turn digest_eq digest_same digest_self tx h.digest) ∙ ap (λ c. digest_eq h.digest tx || c) (planned_is hs tx)
+    ap (λ c. c || list_any (digest_eq tx) (map digest_of_held hs)) (test_turned digest_eq digest_same digest_self tx h.digest) ∙ ap (λ c. digest_eq h.digest tx || c) (planned_is hs tx)
 
 pub agrees_more : (txs : List Digest) (planned more : List Held) → Agrees txs planned → Agrees (insert_all digest_eq txs (map digest_of_held more)) (planned ++ more)
 agrees_more txs planned more agrees tx =
@@ -242,14 +240,14 @@ planned_at : (test : Held → Bool) (hs : List Held) (place : ℕ) (h : Held) �
 planned_at test [] place h at is = absurd (cc)
 planned_at test (k ∷ ks) zero h at is =
     ap (λ c. is_planned (cond c (k ∷ filter test ks) (filter test ks)) h.digest) (ap test same ∙ is)
-    ∙ true_left (digest_eq k.digest h.digest) (is_planned (filter test ks) h.digest) (ap (λ (x : Held). digest_eq x.digest h.digest) same ∙ digest_self h.digest)
+    ∙ or_left (digest_eq k.digest h.digest) (is_planned (filter test ks) h.digest) (ap (λ (x : Held). digest_eq x.digest h.digest) same ∙ digest_self h.digest)
   where
     same : k ≡ h
     same = cc
 planned_at test (k ∷ ks) (suc n) h at is = go (test k) (planned_at test ks n h at is)
   where
     go : (c : Bool) → is_planned (filter test ks) h.digest ≡ true → is_planned (cond c (k ∷ filter test ks) (filter test ks)) h.digest ≡ true
-    go true there = true_right (digest_eq k.digest h.digest) (is_planned (filter test ks) h.digest) there
+    go true there = or_right (digest_eq k.digest h.digest) (is_planned (filter test ks) h.digest) there
     go false there = there
 
 module _ (s : Stored) (a : Admission) (held : List Held) (txs : List Digest) where
@@ -290,9 +288,9 @@ module _ (s : Stored) (a : Admission) (held : List Held) (txs : List Digest) whe
   run_or_joins place h at may made = known_more h.digest ∙ go (is_executed before.executed h.digest) refl
     where
       go : (c : Bool) → is_executed before.executed h.digest ≡ c → (is_executed before.executed h.digest || list_any (digest_eq h.digest) names) ≡ true
-      go true ran = true_left (is_executed before.executed h.digest) (list_any (digest_eq h.digest) names) ran
+      go true ran = or_left (is_executed before.executed h.digest) (list_any (digest_eq h.digest) names) ran
       go false out =
-          true_right (is_executed before.executed h.digest) (list_any (digest_eq h.digest) names)
+          or_right (is_executed before.executed h.digest) (list_any (digest_eq h.digest) names)
           (has_joined place h at
           (ap (λ c. not c && is_let a h && are_made before.executed a h) out ∙ ap (λ c. c && are_made before.executed a h) may ∙ made))
 
@@ -311,7 +309,7 @@ module _ (s : Stored) (a : Admission) (held : List Held) (txs : List Digest) whe
       })
 
       go : (place : ℕ) (h : Held) → slice_get held place ≡ Some h → Filed before a [] old place h → Filed after a freed new place h
-      go place h at (was_run ran) = was_run (known_more h.digest ∙ true_left (is_executed before.executed h.digest) (list_any (digest_eq h.digest) names) ran)
+      go place h at (was_run ran) = was_run (known_more h.digest ∙ or_left (is_executed before.executed h.digest) (list_any (digest_eq h.digest) names) ran)
       go place h at (is_unadmitted unlet has) = is_unadmitted unlet (subst (λ (ls : Lists). Has (listed ls h.digest) place) (sym (still ∙ out)) has)
       go place h at (comes_next may has made) = was_run (run_or_joins place h at may made)
       go place h at (is_behind may b) = waits place h may b (frees.at b.maker place (subst (λ (ls : Lists). Has (listed ls b.maker) place) (sym same) b.listed))
@@ -319,14 +317,14 @@ module _ (s : Stored) (a : Admission) (held : List Held) (txs : List Digest) whe
 
   -- the places of the layer were taken
   pub layer_taken : AreApart held → (old : Waiting) (taken looked : List ℕ) → IsWaiting before a held old → looked ≡ old.next.keys → AreTaken held txs taken → AreTaken held more (taken ++ looked)
-  layer_taken apart old taken looked filed is were place h at named = either (either_true (list_any (digest_eq h.digest) txs) (list_any (digest_eq h.digest) names) (sym (all_named names txs h.digest) ∙ named))
+  layer_taken apart old taken looked filed is were place h at named = either (or_true (list_any (digest_eq h.digest) txs) (list_any (digest_eq h.digest) names) (sym (all_named names txs h.digest) ∙ named))
     where
       opened : Has old.next.keys place ⊎ (joins_now before a h ≡ false) → joins_now before a h ≡ true → Has (taken ++ looked) place
-      opened (inl has) joined = join_second taken looked place (subst (λ ps. Has ps place) (sym is) has)
+      opened (inl has) joined = has_right taken looked place (subst (λ ps. Has ps place) (sym is) has)
       opened (inr out) joined = absurd (clash joined out)
 
       either : (list_any (digest_eq h.digest) txs ≡ true) ⊎ (list_any (digest_eq h.digest) names ≡ true) → Has (taken ++ looked) place
-      either (inl earlier) = join_first taken looked place (were place h at earlier)
+      either (inl earlier) = has_left taken looked place (were place h at earlier)
       either (inr new) =
           opened (open_or_rests before a held old filed place h at)
           (is_picked (joins_now before a) held apart place h at (sym (planned_is layer h.digest) ∙ new))
@@ -418,7 +416,7 @@ module _ (s : Stored) (a : Admission) (held : List Held) where
   parks txs planned old new taken looked all agrees filed were opened out same is = record { at = λ place h at. subst (λ ps. Parked s a planned ps new place h) (sym is) (go place h at (filed.at place h at)) }
     where
       ran : (place : ℕ) (h : Held) → slice_get held place ≡ Some h → (list_any (digest_eq h.digest) txs ≡ true) ⊎ (is_executed s.executed h.digest ≡ true) → Parked s a planned (taken ++ looked) new place h
-      ran place h at (inl named) = was_taken (join_first taken looked place (were place h at named))
+      ran place h at (inl named) = was_taken (has_left taken looked place (were place h at named))
       ran place h at (inr done) = has_run done
 
       second : (n d : Bool) → (n || d) ≡ false → d ≡ false
@@ -430,9 +428,9 @@ module _ (s : Stored) (a : Admission) (held : List Held) where
       first false d e = refl
 
       go : (place : ℕ) (h : Held) → slice_get held place ≡ Some h → Filed (as_if txs s) a [] old place h → Parked s a planned (taken ++ looked) new place h
-      go place h at (was_run done) = ran place h at (either_true (list_any (digest_eq h.digest) txs) (is_executed s.executed h.digest) (sym (known_is txs s h.digest) ∙ done))
+      go place h at (was_run done) = ran place h at (or_true (list_any (digest_eq h.digest) txs) (is_executed s.executed h.digest) (sym (known_is txs s h.digest) ∙ done))
       go place h at (is_unadmitted unlet has) = lacks_admission unlet (subst (λ (ls : Lists). Has (listed ls h.digest) place) (sym out) has)
-      go place h at (comes_next may has made) = was_taken (join_second taken looked place (subst (λ ps. Has ps place) (sym opened) has))
+      go place h at (comes_next may has made) = was_taken (has_right taken looked place (subst (λ ps. Has ps place) (sym opened) has))
       go place h at (is_behind may c) =
           waits_behind may
           (record {
@@ -454,7 +452,7 @@ module _ (s : Stored) (a : Admission) (held : List Held) where
       out tx unplanned true e = absurd (clash (among tx e) unplanned)
 
       go : (place : ℕ) (h : Held) → Parked s a planned taken w place h → Filed (with_executions s kept) a taken w place h
-      go place h (has_run done) = was_run (executed_join s.executed kept h.digest ∙ true_left (is_executed s.executed h.digest) (is_executed kept h.digest) done)
+      go place h (has_run done) = was_run (executed_join s.executed kept h.digest ∙ or_left (is_executed s.executed h.digest) (is_executed kept h.digest) done)
       go place h (lacks_admission unlet has) = is_unadmitted unlet has
       go place h (waits_behind may c unplanned) = is_behind may (record {
         maker = c.maker;

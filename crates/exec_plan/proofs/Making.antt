@@ -8,6 +8,7 @@ use Rattle.chain_types.specs.declared.objects.Producer.{Producer}
 use Rattle.chain_types.specs.declared.objects.Producer.TheVariants as producers
 use Rattle.answer_types.specs.declared.answers.Held.{Held}
 use Rattle.answer_types.specs.declared.answers.Left.{Left}
+use Rattle.protocol_spec.proofs.Truth.{both_true}
 use Rattle.protocol_spec.specs.Chain.Words.{Has, all_some, first_of, first_some, onto_some, where_true}
 use Rattle.protocol_spec.specs.Member.Versions.{Execution, is_executed, object_in, versions}
 use Rattle.protocol_spec.specs.Member.Admission.{Admission}
@@ -20,9 +21,6 @@ use Rattle.exec_plan.proofs.Settling.{not_made}
 alone : {A : Type 0} (o x : Option A) → first_some (o ∷ []) ≡ x → o ≡ x
 alone None x e = e
 alone (Some y) x e = e
-
-both : (a b : Bool) → a ≡ true → b ≡ true → (a && b) ≡ true
-both a b p q = ap (λ c. c && b) p ∙ q
 
 any_and_false : (a b : Bool) → b ≡ false → (a && b) ≡ false
 any_and_false true b e = e
@@ -57,7 +55,7 @@ module _ (executed : List Execution) where
     where
       go : (o : Option Digest) → unmade executed w ≡ o → (later : Option Digest) → first_some (o ∷ later ∷ []) ≡ None → (later ≡ None → list_all (is_made executed) ws ≡ true)
           → list_all (is_made executed) (w ∷ ws) ≡ true
-      go None is later e more = both (is_made executed w) (list_all (is_made executed) ws) (made_by w.producer is) (more (alone later None e))
+      go None is later e more = both_true (is_made executed w) (list_all (is_made executed) ws) (made_by w.producer is) (more (alone later None e))
       go (Some d) is later e more = absurd (cc)
 
   first_makes : (ws : List Wanted) (d : Digest) → first_of (unmade executed) ws ≡ Some d → Has (map producer_in ws) (Some (producers.Tx d)) × (is_executed executed d ≡ false)

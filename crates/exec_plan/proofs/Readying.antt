@@ -13,11 +13,6 @@ use Rattle.protocol_spec.specs.Member.Rounds.{Books, executes_as, may_run, prese
 use Rattle.version_store.specs.Stores.{Stored}
 use Rattle.exec_plan.specs.Books.{books_of, ready_in}
 
--- a certificate that was executed is not ready
-pub executed_rests : (b : Books) (executed : List Execution) (h : Held) → is_executed executed h.digest ≡ true → ready b executed h ≡ None
-unfolding ready
-executed_rests b executed h is = ap (λ e. cond (not e && may_run b h) (ready_on b executed h (present b executed h)) None) is
-
 -- of the books, only the opening objects and the admission count
 pub ready_alike : (s : Stored) (a : Admission) (held : List Held) (h : Held) → ready_in s a h ≡ ready (books_of s a held) s.executed h
 unfolding ready present

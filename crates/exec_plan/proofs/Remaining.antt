@@ -10,13 +10,15 @@ use Rattle.chain_types.specs.declared.objects.Producer.TheVariants as producers
 use Rattle.chain_types.specs.declared.transactions.Transaction.{Transaction}
 use Rattle.answer_types.specs.declared.answers.Held.{Held}
 use Rattle.chain_types.specs.Equal.{digest_eq}
+use Rattle.protocol_spec.proofs.Equality.{digest_same, test_turned}
 use Rattle.protocol_spec.specs.Chain.Words.{Along, Each, first_of, first_some, repeats, where_true}
 use Rattle.protocol_spec.specs.Chain.Keys.{fits}
-use Rattle.protocol_spec.proofs.ListLemmas.{and-first, and-second, or-first, or-second}
+use Rattle.protocol_spec.proofs.ListLemmas.{and-first, and-second}
+use Rattle.protocol_spec.proofs.Truth.{or_false_left, or_false_right, or_true, or_left, or_right}
 use Rattle.protocol_spec.specs.Block.Execution.{execution}
 use Rattle.protocol_spec.specs.Member.Versions.{Execution, Version, is_executed, versions}
 use Rattle.protocol_spec.specs.Member.Rounds.{Books, Wanted, found, is_due, is_maker_done, is_origin_done, left, left_as, may_run, missing, wants_of}
-use Rattle.version_store.proofs.Equality.{digest_same, digest_self, turn}
+use Rattle.version_store.proofs.Equality.{digest_self}
 use Rattle.exec_plan.specs.declared.task.Carry.{Carry}
 use Rattle.exec_plan.specs.declared.task.Outcome.{Outcome}
 use Rattle.exec_plan.specs.declared.task.Outcome.TheVariants as outcomes
@@ -28,7 +30,7 @@ use Rattle.exec_plan.specs.Planning.{LeavesTheLeft}
 use Rattle.exec_plan.specs.Tasks.{carry_as, edges_of, key_lacking, lacking, left_by, left_of_outputs, links_of, object_of, outcome_for, outcome_of, outcome_on, outputs_of, task_of, tasks_after, tasks_of, want_as}
 use Rattle.exec_plan.proofs.Carrying.{came, came_at, keeps_rounds}
 use Rattle.exec_plan.proofs.Following.{executed_join}
-use Rattle.exec_plan.proofs.Layering.{AreNewcomers, AreStrangers, Joins, clash, each_planned, either_true, found_apart, joins, planned_along, planned_join, stranger_by, strangers, true_left, true_right, turn_join, turn_planned, turns_are_rounds}
+use Rattle.exec_plan.proofs.Layering.{AreNewcomers, AreStrangers, Joins, clash, each_planned, found_apart, joins, planned_along, planned_join, stranger_by, strangers, turn_join, turn_planned, turns_are_rounds}
 use Rattle.exec_plan.proofs.Linking.{inputs_at, links, outs_after, outs_are}
 use Rattle.exec_plan.proofs.Settling.{AreOthers}
 
@@ -46,14 +48,14 @@ module _ (b : Books) (executed : List Execution) where
   passes_planned test [] place h at is = absurd (cc)
   passes_planned test (k ∷ ks) zero h at is =
       ap (λ c. is_planned (cond c (k ∷ filter test ks) (filter test ks)) h.digest) (ap test same ∙ is)
-      ∙ true_left (digest_eq k.digest h.digest) (is_planned (filter test ks) h.digest) (ap (λ (x : Held). digest_eq x.digest h.digest) same ∙ digest_self h.digest)
+      ∙ or_left (digest_eq k.digest h.digest) (is_planned (filter test ks) h.digest) (ap (λ (x : Held). digest_eq x.digest h.digest) same ∙ digest_self h.digest)
     where
       same : k ≡ h
       same = cc
   passes_planned test (k ∷ ks) (suc n) h at is = go (test k) (passes_planned test ks n h at is)
     where
       go : (c : Bool) → is_planned (filter test ks) h.digest ≡ true → is_planned (cond c (k ∷ filter test ks) (filter test ks)) h.digest ≡ true
-      go true there = true_right (digest_eq k.digest h.digest) (is_planned (filter test ks) h.digest) there
+      go true there = or_right (digest_eq k.digest h.digest) (is_planned (filter test ks) h.digest) there
       go false there = there
 
   -- each layer takes its certificates from those that were not planned
@@ -76,9 +78,9 @@ module _ (b : Books) (executed : List Execution) where
           → length (cond (not q) (h ∷ outs) outs) + length (cond j (h ∷ ins) ins) ≤ length (cond (not p) (h ∷ before) before)
       go true join true pl q is more = absurd (clash pl (joins b executed planned h join).not_planned)
       go true join false pl true is more = omega (arith, more)
-      go true join false pl false is more = absurd (clash (each 0 h refl join) (or-second (is_planned planned h.digest) (is_planned layer h.digest) (sym is)))
+      go true join false pl false is more = absurd (clash (each 0 h refl join) (or_false_right (is_planned planned h.digest) (is_planned layer h.digest) (sym is)))
       go false join true pl true is more = more
-      go false join true pl false is more = absurd (clash pl (or-first (is_planned planned h.digest) (is_planned layer h.digest) (sym is)))
+      go false join true pl false is more = absurd (clash pl (or_false_left (is_planned planned h.digest) (is_planned layer h.digest) (sym is)))
       go false join false pl true is more = omega (arith, more)
       go false join false pl false is more = omega (arith, more)
 
@@ -224,7 +226,7 @@ along_behind b executed (x ∷ xs) ys before along = subst (λ f. Along (Joins b
 -- those behind were neither executed nor planned in front
 along_new : (b : Books) (executed : List Execution) (hs front : List Held) → Along (Joins b executed) front hs → (tx : Digest) → is_planned hs tx ≡ true → (is_executed executed tx || is_planned front tx) ≡ false
 along_new b executed [] front along tx there = absurd (cc)
-along_new b executed (h ∷ hs) front along tx there = go (either_true (digest_eq h.digest tx) (is_planned hs tx) there) (along_new b executed hs (front ++ h ∷ []) along.1 tx)
+along_new b executed (h ∷ hs) front along tx there = go (or_true (digest_eq h.digest tx) (is_planned hs tx) there) (along_new b executed hs (front ++ h ∷ []) along.1 tx)
   where
     both : (a c : Bool) → a ≡ false → c ≡ false → (a || c) ≡ false
     both a c p q = ap (λ x. x || c) p ∙ q
@@ -233,8 +235,8 @@ along_new b executed (h ∷ hs) front along tx there = go (either_true (digest_e
     go (inl same) rest = subst (λ (d : Digest). (is_executed executed d || is_planned front d) ≡ false) (digest_same h.digest tx same) (both (is_executed executed h.digest) (is_planned front h.digest) along.0.not_before along.0.not_planned)
     go (inr behind) rest =
         let out = rest behind in
-        both (is_executed executed tx) (is_planned front tx) (or-first (is_executed executed tx) (is_planned (front ++ h ∷ []) tx) out)
-        (or-first (is_planned front tx) (is_planned (h ∷ []) tx) (sym (planned_join front (h ∷ []) tx) ∙ or-second (is_executed executed tx) (is_planned (front ++ h ∷ []) tx) out))
+        both (is_executed executed tx) (is_planned front tx) (or_false_left (is_executed executed tx) (is_planned (front ++ h ∷ []) tx) out)
+        (or_false_left (is_planned front tx) (is_planned (h ∷ []) tx) (sym (planned_join front (h ∷ []) tx) ∙ or_false_right (is_executed executed tx) (is_planned (front ++ h ∷ []) tx) out))
 
 -- ---- where a planned certificate stands
 
@@ -266,26 +268,26 @@ split_at (h ∷ hs) tx there = go (digest_eq h.digest tx) refl there (split_at h
 -- where no transaction is held twice, a transaction has one certificate
 listed : (hs : List Held) (place : ℕ) (h : Held) → slice_get hs place ≡ Some h → (tx : Digest) → digest_eq tx h.digest ≡ true → list_any (digest_eq tx) (map digest_of_held hs) ≡ true
 listed [] place h at tx is = absurd (cc)
-listed (k ∷ ks) zero h at tx is = true_left (digest_eq tx k.digest) (list_any (digest_eq tx) (map digest_of_held ks)) (ap (λ (x : Held). digest_eq tx x.digest) same ∙ is)
+listed (k ∷ ks) zero h at tx is = or_left (digest_eq tx k.digest) (list_any (digest_eq tx) (map digest_of_held ks)) (ap (λ (x : Held). digest_eq tx x.digest) same ∙ is)
   where
     same : k ≡ h
     same = cc
-listed (k ∷ ks) (suc n) h at tx is = true_right (digest_eq tx k.digest) (list_any (digest_eq tx) (map digest_of_held ks)) (listed ks n h at tx is)
+listed (k ∷ ks) (suc n) h at tx is = or_right (digest_eq tx k.digest) (list_any (digest_eq tx) (map digest_of_held ks)) (listed ks n h at tx is)
 
 same_held : (hs : List Held) → AreApart hs → (p q : ℕ) (h k : Held) → slice_get hs p ≡ Some h → slice_get hs q ≡ Some k → digest_eq k.digest h.digest ≡ true → digest_eq h.digest k.digest ≡ true → k ≡ h
 same_held [] apart p q h k at there is back = absurd (cc)
 same_held (x ∷ xs) apart zero zero h k at there is back = cc
 same_held (x ∷ xs) apart zero (suc q) h k at there is back =
-    absurd (clash (listed xs q k there x.digest (ap (λ (y : Held). digest_eq y.digest k.digest) same ∙ back)) (or-first (list_any (digest_eq x.digest) (map digest_of_held xs)) (repeats digest_eq (map digest_of_held xs)) apart))
+    absurd (clash (listed xs q k there x.digest (ap (λ (y : Held). digest_eq y.digest k.digest) same ∙ back)) (or_false_left (list_any (digest_eq x.digest) (map digest_of_held xs)) (repeats digest_eq (map digest_of_held xs)) apart))
   where
     same : x ≡ h
     same = cc
 same_held (x ∷ xs) apart (suc p) zero h k at there is back =
-    absurd (clash (listed xs p h at x.digest (ap (λ (y : Held). digest_eq y.digest h.digest) same ∙ is)) (or-first (list_any (digest_eq x.digest) (map digest_of_held xs)) (repeats digest_eq (map digest_of_held xs)) apart))
+    absurd (clash (listed xs p h at x.digest (ap (λ (y : Held). digest_eq y.digest h.digest) same ∙ is)) (or_false_left (list_any (digest_eq x.digest) (map digest_of_held xs)) (repeats digest_eq (map digest_of_held xs)) apart))
   where
     same : x ≡ k
     same = cc
-same_held (x ∷ xs) apart (suc p) (suc q) h k at there is back = same_held xs (or-second (list_any (digest_eq x.digest) (map digest_of_held xs)) (repeats digest_eq (map digest_of_held xs)) apart) p q h k at there is back
+same_held (x ∷ xs) apart (suc p) (suc q) h k at there is back = same_held xs (or_false_right (list_any (digest_eq x.digest) (map digest_of_held xs)) (repeats digest_eq (map digest_of_held xs)) apart) p q h k at there is back
 
 -- each certificate of a list has a place
 each_placed : (hs : List Held) → Each (λ (k : Held). (place : ℕ) × (slice_get hs place ≡ Some k)) hs
@@ -340,11 +342,11 @@ module _ (b : Books) (executed : List Execution) (apart : AreApart b.held) where
       by : (p : Option Producer) → is_maker_done after p ≡ true → is_maker_planned executed planned p ≡ true
       by None made = refl
       by (Some producers.Opening) made = refl
-      by (Some (producers.Tx tx)) made = either (either_true (is_executed executed tx) (is_executed (in_turn b executed planned) tx) (sym (executed_join executed (in_turn b executed planned) tx) ∙ made))
+      by (Some (producers.Tx tx)) made = either (or_true (is_executed executed tx) (is_executed (in_turn b executed planned) tx) (sym (executed_join executed (in_turn b executed planned) tx) ∙ made))
         where
           either : (is_executed executed tx ≡ true) ⊎ (is_executed (in_turn b executed planned) tx ≡ true) → (is_executed executed tx || is_planned planned tx) ≡ true
-          either (inl ran) = true_left (is_executed executed tx) (is_planned planned tx) ran
-          either (inr ran) = true_right (is_executed executed tx) (is_planned planned tx) (turn_planned b planned executed tx ran)
+          either (inl ran) = or_left (is_executed executed tx) (is_planned planned tx) ran
+          either (inr ran) = or_right (is_executed executed tx) (is_planned planned tx) (turn_planned b planned executed tx ran)
 
   -- what it takes to be due
   record IsDue (h : Held) : Type 0 where
@@ -366,7 +368,7 @@ module _ (b : Books) (executed : List Execution) (apart : AreApart b.held) where
   due_planned place h at is = go (is_planned planned h.digest) refl
     where
       not_before : is_executed executed h.digest ≡ false
-      not_before = or-first (is_executed executed h.digest) (is_executed (in_turn b executed planned) h.digest) (sym (executed_join executed (in_turn b executed planned) h.digest) ∙ is.first)
+      not_before = or_false_left (is_executed executed h.digest) (is_executed (in_turn b executed planned) h.digest) (sym (executed_join executed (in_turn b executed planned) h.digest) ∙ is.first)
 
       joins_all : is_planned planned h.digest ≡ false → joins_layer b executed planned h ≡ true
       joins_all out =
@@ -388,7 +390,7 @@ module _ (b : Books) (executed : List Execution) (apart : AreApart b.held) where
     itself =
         let placed = each_behind (λ (k : Held). (p : ℕ) × (slice_get b.held p ≡ Some k)) split.front split.back split.of
         (subst (λ hs. Each (λ (k : Held). (p : ℕ) × (slice_get b.held p ≡ Some k)) hs) split.whole (each_planned b executed (λ (k : Held). (p : ℕ) × (slice_get b.held p ≡ Some k)) (each_placed b.held))) in
-        same_held b.held apart place placed.0 h split.of at placed.1 split.named (turn digest_eq digest_same digest_self h.digest split.of.digest ∙ split.named)
+        same_held b.held apart place placed.0 h split.of at placed.1 split.named (test_turned digest_eq digest_same digest_self h.digest split.of.digest ∙ split.named)
 
     whole : planned ≡ split.front ++ h ∷ split.back
     whole = split.whole ∙ ap (λ (k : Held). split.front ++ k ∷ split.back) itself

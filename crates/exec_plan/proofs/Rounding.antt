@@ -6,6 +6,7 @@ use Rattle.std.specs.List.Sorted.{IsStrictlySortedBy}
 use Rattle.std.specs.Ordering.{nat_cmp}
 use Rattle.std.specs.declared.cmp.Ordering.TheVariants.{Less}
 use Rattle.answer_types.specs.declared.answers.Held.{Held}
+use Rattle.protocol_spec.proofs.ListLemmas.{each_has}
 use Rattle.protocol_spec.specs.Chain.Words.{Each, Has}
 use Rattle.exec_plan.specs.Places.{Picks}
 
@@ -37,11 +38,6 @@ ascends (p ∷ ps) sorted = (above ps sorted.0, ascends ps sorted.1)
 each_map : {A : Type 0} → (P Q : A → Type 0) → ((x : A) → P x → Q x) → (xs : List A) → Each P xs → Each Q xs
 each_map P Q weaker [] each = tt
 each_map P Q weaker (x ∷ xs) each = (weaker x each.0, each_map P Q weaker xs each.1)
-
-each_has : {A : Type 0} → (P : A → Type 0) (xs : List A) (x : A) → Each P xs → Has xs x → P x
-each_has P [] x each has = absurd has
-each_has P (y ∷ ys) x each (inl is) = subst P is each.0
-each_has P (y ∷ ys) x each (inr has) = each_has P ys x each.1 has
 
 -- ascending places pick what they name, where all else is idle
 module _ (Idle : Held → Type 0) where

@@ -255,7 +255,7 @@ impl Draft {
 }
 
 /// With the task of the certificate at a place, where there is one.
-#[tactic(auto, using(crate::proofs::Executing::each_at))]
+#[tactic(auto, using(protocol_spec::proofs::ListLemmas::each_at))]
 fn with_at(
     draft: Draft,
     alloc: Global,

@@ -9,6 +9,7 @@ use Rattle.checkpoint_core.specs.declared.checkpoints.Checkpoint.{Checkpoint}
 use Rattle.checkpoint_core.specs.declared.links.LinkRefusal.{LinkRefusal}
 use Rattle.checkpoint_core.specs.declared.links.LinkRefusal.TheVariants as link_refused
 use Rattle.checkpoint_core.specs.Links.{link_answer, wanted_number, wanted_parent}
+use Rattle.protocol_spec.proofs.Truth.{where_not_true}
 use Rattle.protocol_spec.specs.Chain.Words.{first_some, where_true}
 use Rattle.follower_core.specs.declared.refusals.FollowRefusal.{FollowRefusal}
 use Rattle.follower_core.specs.declared.refusals.FollowRefusal.TheVariants as refused
@@ -21,10 +22,6 @@ use Rattle.follower_core.specs.Following.{State, applied_in, is_memory, link_ref
 pub front_none : {A : Type 0} → (x : Option A) (xs : List (Option A)) → first_some (x ∷ xs) ≡ None → (x ≡ None) × (first_some xs ≡ None)
 front_none None xs h = (refl, h)
 front_none (Some y) xs h = absurd (cc)
-
-not_said : {A : Type 0} → (b : Bool) (x : A) → where_true (not b) x ≡ None → b ≡ true
-not_said true x h = refl
-not_said false x h = absurd (cc)
 
 -- ---- where nothing is refused
 
@@ -76,7 +73,7 @@ module _ (tip : Tip) (c : Checkpoint) (txs : List Transaction) where
 
   -- it came with as many transactions as it lists
   pub counts_agree : refusal_before tip c txs ≡ None → length txs ≡ length c.items
-  counts_agree h = (Decides-eqb (length txs) (length c.items)).0 (not_said (length txs == length c.items) (refused.Count (length txs) (length c.items)) (cases_behind h).1)
+  counts_agree h = (Decides-eqb (length txs) (length c.items)).0 (where_not_true (length txs == length c.items) (refused.Count (length txs) (length c.items)) (cases_behind h).1)
 
   -- and its number is how many were applied before
   pub number_is : refusal_before tip c txs ≡ None → c.number ≡ applied_in tip

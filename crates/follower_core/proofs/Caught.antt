@@ -15,7 +15,7 @@ use Rattle.follower_core.specs.declared.refusals.FollowRefusal.TheVariants as re
 use Rattle.follower_core.specs.Catching.{Known, applied_by, applied_unless, applied_with, before_epoch, caught_from, caught_up, counted_at, found_from, is_wanting, passed_at, refusal_as, with_found}
 use Rattle.follower_core.specs.Following.{Answers, State, applied_in, is_memory, state_behind}
 use Rattle.follower_core.proofs.Answering.{none_refused, number_is}
-use Rattle.follower_core.proofs.Walking.{tail_is}
+use Rattle.protocol_spec.proofs.ListLemmas.{tail_is}
 
 -- ---- the transactions of items
 

@@ -6,10 +6,10 @@ use Rattle.indexmap.specs.IndexMap.{insert_entry}
 use Rattle.chain_types.specs.declared.objects.Object.{Object}
 use Rattle.chain_types.specs.declared.objects.ObjectId.{ObjectId}
 use Rattle.chain_types.specs.Equal.{id_eq}
+use Rattle.protocol_spec.proofs.Equality.{id_same, id_turned, ids_tie}
 use Rattle.protocol_spec.specs.Member.Sequential.{Objects}
 use Rattle.follower_core.specs.Ledgers.{Changes, Entries, changed, changed_by, objects_under, overlaid}
-use Rattle.follower_core.proofs.Equality.{id_same, id_turn}
-use Rattle.follower_core.proofs.Objects.{ids_tie, ids_total, same_objects, under}
+use Rattle.follower_core.proofs.Objects.{ids_total, same_objects, under}
 
 at_change : (m : Objects) (k : ObjectId) (c : Option Object) (id : ObjectId) → get (changed m k c) id ≡ cond (id_eq id k) c (get m id)
 at_change m k None id = get-remove ids_total m k id ∙ ap (λ b. cond b None (get m id)) (sym (ids_tie id k))
@@ -80,4 +80,4 @@ settles es fs (d ∷ ds) k c is = ap (λ m. changed m d.0 d.1) (settles es fs ds
 
 -- a map that was written at a key
 pub written_at : (es fs : Entries) (k : ObjectId) (c : Option Object) → ((id : ObjectId) → lookup (id_eq id) fs ≡ cond (id_eq k id) c (lookup (id_eq id) es)) → IsChanged es k c fs
-written_at es fs k c h = λ id. h id ∙ ap (λ b. cond b c (lookup (id_eq id) es)) (id_turn k id)
+written_at es fs k c h = λ id. h id ∙ ap (λ b. cond b c (lookup (id_eq id) es)) (id_turned k id)

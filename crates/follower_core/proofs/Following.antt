@@ -13,6 +13,8 @@ use Rattle.checkpoint_core.specs.declared.checkpoints.Item.{Item}
 use Rattle.effects_core.specs.declared.effects.Effects.{Effects}
 use Rattle.effects_core.specs.Effects.{digest_of_effects}
 use Rattle.answer_types.specs.declared.pieces.Executed.{Executed}
+use Rattle.protocol_spec.proofs.Equality.{digest_same}
+use Rattle.protocol_spec.proofs.Truth.{or_false_right, where_false}
 use Rattle.protocol_spec.specs.Chain.Keys.{fits}
 use Rattle.protocol_spec.specs.Chain.Shape.{shape_fault}
 use Rattle.protocol_spec.specs.Chain.Tests.{has_digest}
@@ -23,7 +25,6 @@ use Rattle.follower_core.specs.declared.refusals.FollowRefusal.TheVariants as re
 use Rattle.follower_core.specs.Followed.{Handed, followed, followed_effects, joined, told_effects}
 use Rattle.follower_core.specs.Courses.{Course, behind, behind_all, behind_given, differs_in, first_bad, given, given_on, is_bad, is_stuck, place_refusal}
 use Rattle.follower_core.specs.Following.{AreApplied, State, behind_checkpoint, behind_handed, course_behind, opened, turned}
-use Rattle.follower_core.proofs.Equality.{digest_same}
 use Rattle.follower_core.proofs.Answering.{counts_agree, front_none, none_refused}
 
 -- ---- one transaction
@@ -71,17 +72,9 @@ record IsListed (m : Course) (i : Item) (t : Transaction) : Type 0 where
   gives : given m.map t ≡ Some gave
   told_so : digest_of_effects gave.effects ≡ i.effects
 
-not_said : {A : Type 0} → (b : Bool) (x : A) → where_true b x ≡ None → b ≡ false
-not_said false x h = refl
-not_said true x h = absurd (cc)
-
-or_right : (a b : Bool) → (a || b) ≡ false → b ≡ false
-or_right true b h = absurd (cc)
-or_right false b h = h
-
 bad_free : (m : Course) (t : Transaction) → is_stuck m t ≡ false → is_bad m t (given m.map t) ≡ false
 unfolding is_stuck
-bad_free m t h = or_right (has_digest m.ran (transaction_digest t)) (is_bad m t (given m.map t)) (or_right (is_some (shape_fault t)) (has_digest m.ran (transaction_digest t) || is_bad m t (given m.map t)) h)
+bad_free m t h = or_false_right (has_digest m.ran (transaction_digest t)) (is_bad m t (given m.map t)) (or_false_right (is_some (shape_fault t)) (has_digest m.ran (transaction_digest t) || is_bad m t (given m.map t)) h)
 
 is_true : (b : Bool) → not b ≡ false → b ≡ true
 is_true true h = refl
@@ -93,14 +86,14 @@ stands_listed m place i t h =
     let first = front_none (where_true (not (digest_eq (transaction_digest t) i.tx)) (refused.WrongTx place)) (where_true (is_stuck m t) (refused.Stuck place) ∷ differs_in place (given m.map t) i.effects ∷ []) h in
     let second = front_none (where_true (is_stuck m t) (refused.Stuck place)) (differs_in place (given m.map t) i.effects ∷ []) first.1 in
     let third = front_none (differs_in place (given m.map t) i.effects) [] second.1 in
-    by (given m.map t) refl (bad_free m t (not_said (is_stuck m t) (refused.Stuck place) second.0)) third.0
+    by (given m.map t) refl (bad_free m t (where_false (is_stuck m t) (refused.Stuck place) second.0)) third.0
   where
     by : (g : Option Executed) → given m.map t ≡ g → is_bad m t g ≡ false → differs_in place g i.effects ≡ None → IsListed m i t
     by None is free same = absurd (cc)
     by (Some x) is free same = record {
       gave = x;
       gives = is;
-      told_so = digest_same (digest_of_effects x.effects) i.effects (is_true (digest_eq (digest_of_effects x.effects) i.effects) (not_said (not (digest_eq (digest_of_effects x.effects) i.effects)) (refused.Differs place (digest_of_effects x.effects) i.effects) same));
+      told_so = digest_same (digest_of_effects x.effects) i.effects (is_true (digest_eq (digest_of_effects x.effects) i.effects) (where_false (not (digest_eq (digest_of_effects x.effects) i.effects)) (refused.Differs place (digest_of_effects x.effects) i.effects) same));
     }
 
 one_effects : (f : Folded) (m : Course) (i : Item) (t : Transaction) → f.map ≡ m.map → IsListed m i t → told (fold_one f t).effects ≡ told f.effects ++ Some i.effects ∷ []

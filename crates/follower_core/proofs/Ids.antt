@@ -11,22 +11,19 @@ use Rattle.chain_types.specs.declared.transactions.Transaction.{Transaction}
 use Rattle.chain_types.specs.Digests.{is_object}
 use Rattle.chain_types.specs.Equal.{id_eq}
 use Rattle.answer_types.specs.declared.pieces.Executed.{Executed}
+use Rattle.protocol_spec.proofs.Equality.{id_same, id_turned}
+use Rattle.protocol_spec.proofs.Truth.{or_assoc}
 use Rattle.protocol_spec.specs.Chain.Keys.{named_id, named_ids}
 use Rattle.protocol_spec.specs.Chain.Tests.{has_id}
 use Rattle.protocol_spec.specs.Chain.Words.{repeats}
 use Rattle.follower_core.specs.Courses.{Course, creates_held, is_bad, is_held, written_ids}
 use Rattle.follower_core.specs.Steps.{creates_in, named_after, repeats_after}
-use Rattle.follower_core.proofs.Equality.{id_same, id_turn}
 
 -- ---- truth values
 
 or_none : (a : Bool) → (a || false) ≡ a
 or_none true = refl
 or_none false = refl
-
-or_assoc : (a b c : Bool) → ((a || b) || c) ≡ (a || (b || c))
-or_assoc true b c = refl
-or_assoc false b c = refl
 
 pub no_fault : {A : Type 0} → (o : Option A) → is_some o ≡ false → o ≡ None
 no_fault None h = refl
@@ -61,7 +58,7 @@ seen_more : (seen : List ObjectId) (id : ObjectId) (os : List Object) → later_
 unfolding later_seen ids_of
 seen_more seen id [] = refl
 seen_more seen id (o ∷ os) =
-    ap (λ b. b || later_seen (seen ++ id ∷ []) os) (has_behind seen id o.id ∙ ap (λ b. has_id seen o.id || b) (id_turn o.id id))
+    ap (λ b. b || later_seen (seen ++ id ∷ []) os) (has_behind seen id o.id ∙ ap (λ b. has_id seen o.id || b) (id_turned o.id id))
     ∙ ap (λ b. (has_id seen o.id || id_eq id o.id) || b) (seen_more seen id os)
     ∙ swapped (has_id seen o.id) (id_eq id o.id) (later_seen seen os) (list_any (id_eq id) (ids_of os))
 

@@ -2,33 +2,27 @@
 use Rattle.std.proofs.Common.{◌≡◌, Bool, true, false, cond, T, [], ◌∷◌, Option, Some, None, refl, ap, sym, ◌∙◌}
 use Rattle.std.specs.List.{AllByRecursion, IsDistinct}
 use Rattle.std.specs.Map.{lookup, keys_of}
-use Rattle.std.specs.Ordering.{eq_by_cmp, is_eq, match_ordering}
+use Rattle.std.specs.Ordering.{match_ordering}
 use Rattle.std.specs.BTreeMap.{insert_entry}
 use Rattle.std.specs.declared.cmp.Ordering.{Ordering}
 use Rattle.std.specs.declared.cmp.Ordering.TheVariants.{Equal, Greater, Less}
 use Rattle.std.specs.Cmp.{IsTotalOrder}
-use Rattle.std.specs.Cmp.Lexicographic.{on_texts, texts_ties}
+use Rattle.std.specs.Cmp.Lexicographic.{on_texts}
 use Rattle.std.specs.FinMap.{entries, entries_sorted, get, get-entries, get-from_entries, same_map}
 use Rattle.std.specs.FinMap.Entries.{by_order, find, find-put, is_sorted, is_sorted-put, put, same_entries}
 use Rattle.std.proofs.lemmas.Map.Keys.{IsDistinct-head, IsDistinct-tail}
 use Rattle.chain_types.specs.declared.objects.Object.{Object}
 use Rattle.chain_types.specs.declared.objects.ObjectId.{ObjectId}
 use Rattle.chain_types.specs.Equal.{id_eq}
+use Rattle.protocol_spec.proofs.Equality.{ids_unique, ids_tie, id_same}
 use Rattle.protocol_spec.specs.Member.Sequential.{Objects}
 use Rattle.protocol_spec.specs.Member.Versions.{id_cmp}
 use Rattle.follower_core.specs.Ledgers.{Entries, objects_under, placed}
-use Rattle.follower_core.proofs.Equality.{id_same}
 
 -- ---- the order of the ids
 
 pub ids_total : IsTotalOrder id_cmp
 ids_total = on_texts (λ (i : ObjectId). i.0.0)
-
-pub ids_tie : (a b : ObjectId) → id_eq a b ≡ eq_by_cmp id_cmp a b
-ids_tie a b = texts_ties a.0.0 b.0.0
-
-equal_ids : (a b : ObjectId) → id_cmp a b ≡ Equal → a ≡ b
-equal_ids a b is = id_same a b (ids_tie a b ∙ ap is_eq is)
 
 -- ---- what is found
 
@@ -41,7 +35,7 @@ under es id = get-from_entries ids_total es id ∙ found_under id es
 
 -- two maps are one where the same is found
 pub same_objects : (m n : Objects) → ((id : ObjectId) → get m id ≡ get n id) → m ≡ n
-same_objects m n same = same_map ids_total equal_ids m n same
+same_objects m n same = same_map ids_total ids_unique m n same
 
 -- ---- in order
 
@@ -79,7 +73,7 @@ placed_sorted (e ∷ es) done h = placed_sorted es (put id_cmp e.0 e.1 done) (is
 
 -- entries of which no id comes twice, put into their places, are those of the map
 pub all_placed : (es : Entries) → IsDistinct id_eq (keys_of es) → placed [] es ≡ entries (objects_under es)
-all_placed es apart = same_entries id_cmp ids_total equal_ids (placed [] es) (entries (objects_under es)) (placed_sorted es [] tt) (entries_sorted (objects_under es)) (λ id.
+all_placed es apart = same_entries id_cmp ids_total ids_unique (placed [] es) (entries (objects_under es)) (placed_sorted es [] tt) (entries_sorted (objects_under es)) (λ id.
     placed_found es [] apart id ∙ none_else (lookup (id_eq id) es) ∙ sym (under es id) ∙ get-entries (objects_under es) id)
 
 -- a sorted map puts an entry into its place

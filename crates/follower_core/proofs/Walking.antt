@@ -3,6 +3,7 @@ use Rattle.std.proofs.Common.{arith, subst, take, drop, get_or, ◌≡◌, ◌�
 use Rattle.chain_types.specs.declared.transactions.Transaction.{Transaction}
 use Rattle.chain_types.specs.Transactions.{transaction}
 use Rattle.checkpoint_core.specs.declared.checkpoints.Item.{Item}
+use Rattle.protocol_spec.proofs.ListLemmas.{tail_is}
 use Rattle.protocol_spec.specs.Chain.Words.{Each, first_some}
 use Rattle.follower_core.specs.declared.refusals.FollowRefusal.{FollowRefusal}
 use Rattle.follower_core.specs.Courses.{Course, behind, behind_all, first_bad, place_refusal}
@@ -19,13 +20,6 @@ pub record Walks (start : Ledger) (items : List Item) (txs : List Transaction) (
 
 pub starts_walk : (start : Ledger) (items : List Item) (txs : List Transaction) → Each transaction.short txs → length txs ≡ length items → Walks start items txs start 0 items txs
 starts_walk start items txs short size = record { kept = refl; same = refl; leads = refl; size = size; count = omega arith; short = short }
-
-all_taken : {A : Type 0} (xs : List A) → take (length xs) xs ≡ xs
-all_taken [] = refl
-all_taken (x ∷ xs) = ap (λ ys. x ∷ ys) (all_taken xs)
-
-pub tail_is : {A : Type 0} (x : A) (xs : List A) → take (length (x ∷ xs) - 1) (drop 1 (x ∷ xs)) ≡ xs
-tail_is x xs = let less : length (x ∷ xs) - 1 ≡ length xs = omega arith in rw less (all_taken xs)
 
 -- nothing is refused at this place
 goes_on : (m : Course) (place : ℕ) (i : Item) (is : List Item) (t : Transaction) (ts : List Transaction) → place_refusal m place i t ≡ None

@@ -1,24 +1,22 @@
 -- What a member has executed it has admitted, where it closed and all that it holds is in the sequence: along its
 -- executions each one's origins are admitted, so it does not wait; and without shared inputs it is not dropped.
 use Rattle.std.proofs.Common.{inl, inr, refl, sym, subst, ap, arith}
-use Rattle.std.proofs.lemmas.Bool.{eqb-true}
-use Rattle.std.specs.Prelude.{◌≡◌, ◌⊎◌, ℕ, Bool, true, false, not, ◌||◌, ◌==◌, List, [], ◌∷◌, ◌++◌, filter_map, find, length, map, slice_get, zip, Option, Some, None}
+use Rattle.std.specs.Prelude.{◌≡◌, ◌⊎◌, ℕ, Bool, true, false, not, ◌||◌, List, [], ◌∷◌, ◌++◌, filter_map, find, length, map, slice_get, zip, Option, Some, None}
 use Rattle.std.specs.List.{list_any}
 use Rattle.digest_core.specs.declared.Digest.{Digest}
 use Rattle.chain_types.specs.declared.objects.Object.{Object}
 use Rattle.chain_types.specs.declared.transactions.Input.{Input}
 use Rattle.chain_types.specs.declared.transactions.Input.TheVariants as inputs
 use Rattle.chain_types.specs.declared.transactions.Transaction.{Transaction}
-use Rattle.chain_types.specs.declared.refusals.CertRefusal.TheVariants as refused
 use Rattle.chain_types.specs.Equal.{digest_eq}
 use Rattle.chain_types.specs.Digests.{key_of}
-use Rattle.chain_messages.specs.declared.messages.Certificate.{Certificate}
 use Rattle.chain_messages.specs.Messages as messages
 use Rattle.answer_types.specs.declared.answers.Held.{Held}
 use Rattle.schedule_text.specs.declared.words.Event.{Event}
+use Rattle.protocol_spec.proofs.Checked.{valid_length}
+use Rattle.protocol_spec.proofs.ListLemmas.{each_has, has_map}
 use Rattle.protocol_spec.specs.Chain.Words.{Has, Along, all_some}
 use Rattle.protocol_spec.specs.Chain.Keys.{has_shared_input, is_shared_input, mutable_id, objects_of}
-use Rattle.protocol_spec.specs.Chain.Certificates.{Rules, cert_cases, cert_refusal}
 use Rattle.protocol_spec.specs.Member.Versions.{Execution, versions}
 use Rattle.protocol_spec.specs.Member.Admission.{Admission, assigned_of, is_admitted, is_free, is_origin_admitted, joined_inputs}
 use Rattle.protocol_spec.specs.Member.Sequence.{Sequence}
@@ -28,13 +26,13 @@ use Rattle.world_spec.specs.Setting.{Setting}
 use Rattle.world_spec.specs.World.{Seat, member_in}
 use Rattle.world_spec.specs.Run.{world_after}
 use Rattle.world_spec.specs.Assumptions.{IsHonestRun, all_delivered}
-use Rattle.safety_law.proofs.Apart.{accepted, none-each, none-found}
-use Rattle.safety_law.proofs.Once.{digest-same, each-has, has-push}
+use Rattle.safety_law.proofs.Apart.{none-found}
+use Rattle.safety_law.proofs.Once.{digest-same, has-push}
+use Rattle.sequence_law.proofs.Live.{has-any}
 use Rattle.sequence_law.proofs.Reading.{has-zip}
 use Rattle.agreement_law.specs.Agreed.{IsHeldAsGiven}
 use Rattle.agreement_law.specs.Explained.{IsExplained}
 use Rattle.agreement_law.proofs.Executing.{executions-explained, some-parts}
-use Rattle.agreement_law.proofs.Lists.{has-any, map-has}
 use Rattle.agreement_law.proofs.Prefixes.{follows}
 use Rattle.agreement_law.proofs.SameSteps.{given-alike}
 use Rattle.agreement_law.proofs.Supply.{every-held, stocked}
@@ -76,10 +74,6 @@ no-mutable (inputs.Owned r ∷ is) e = no-mutable is e
 no-mutable (inputs.Immutable r ∷ is) e = no-mutable is e
 no-mutable (inputs.Shared id initial mutable ∷ is) e = absurd (cc)
 
-valid-length : (r : Rules) (c : Certificate) → cert_refusal r c ≡ None → length c.origins ≡ length (objects_of c.tx)
-unfolding cert_refusal
-valid-length r c e = eqb-true (length c.origins) (length (objects_of c.tx)) (accepted (length c.origins == length (objects_of c.tx)) (refused.Shape 13) (none-each (cert_cases r c) e).1.0)
-
 -- with its origins admitted it is free
 free-without : (writers : Option ℕ) (a : Admission) (h : Held) → has_shared_input h.cert.tx ≡ false → ((d : Option Digest) → Has h.cert.origins d → is_origin_admitted a d ≡ true) → is_free writers a h ≡ true
 free-without writers a h none each = rw (has-all (is_origin_admitted a) h.cert.origins each, no-mutable h.cert.tx.inputs none) refl
@@ -90,7 +84,7 @@ module _ (m : Member) (before : List Execution) (h : Held) (objects : List Objec
   was-found : (i : Input) (d : Option Digest) → Has (joined_inputs h.cert) (i, d) → (o : Object) × (found (versions m.opening before) (wanted_by (assigned_of m.sequence.admission h.digest) (i, d)) ≡ Some o)
   unfolding present wants_of
   was-found i d k = all-found (found (versions m.opening before)) (map (wanted_by (assigned_of m.sequence.admission h.digest)) (joined_inputs h.cert)) objects (wanted_by (assigned_of m.sequence.admission h.digest) (i, d)) there
-      (map-has (wanted_by (assigned_of m.sequence.admission h.digest)) (joined_inputs h.cert) (i, d) k)
+      (has_map (wanted_by (assigned_of m.sequence.admission h.digest)) (joined_inputs h.cert) (i, d) k)
 
   origin-executed : (i : Input) (tx : Digest) → Has (joined_inputs h.cert) (i, Some tx) → is_shared_input i ≡ false → (y : Execution) × Has before y × (y.digest ≡ tx)
   origin-executed (inputs.Pure bytes) tx k own = let o = was-found (inputs.Pure bytes) (Some tx) k in absurd (nobody (versions m.opening before) (shared_key (record { 0 = record { 0 = [] } }) 0) o.0 o.1)
@@ -116,14 +110,14 @@ module _ (s : Setting) (events : List Event) (honest : IsHonestRun s events) (n 
       subst (λ (q : Sequence). IsIdle s.rules.writers q.admission) (sym taken.gives) (nothing-free s.rules m.opening m.epoch (map messages.entry.spell taken.front))
 
   held-given : (h : Held) → Has m.held h → IsHeldAsGiven s.rules (all_delivered s events) m.epoch h
-  held-given h there = each-has (IsHeldAsGiven s.rules (all_delivered s events) m.epoch) m.held h (every-held s events n seat at) there
+  held-given h there = each_has (IsHeldAsGiven s.rules (all_delivered s events) m.epoch) m.held h (every-held s events n seat at) there
 
   module _ (before : List Execution) (each : (y : Execution) → Has before y → IsTaken y.digest) (h : Held) (there : Has m.held h) (none : has_shared_input h.cert.tx ≡ false) (objects : List Object) (present_is : present (books m) before h ≡ Some objects) where
     -- each origin is admitted
     origin-taken : (d : Option Digest) → Has h.cert.origins d → is_origin_admitted admission d ≡ true
     origin-taken None k = refl
     origin-taken (Some tx) k =
-        let i = beside (objects_of h.cert.tx) h.cert.origins (Some tx) (valid-length s.rules h.cert (held-given h there).valid) k in
+        let i = beside (objects_of h.cert.tx) h.cert.origins (Some tx) (valid_length s.rules h.cert (held-given h there).valid) k in
         let y = origin-executed m before h objects present_is i.0 tx i.1 (unshared h.cert.tx none i.0 (has-zip (objects_of h.cert.tx) h.cert.origins i.0 (Some tx) i.1)) in
         subst IsTaken y.2 (each y.0 y.1)
 
@@ -137,7 +131,7 @@ module _ (s : Setting) (events : List Event) (honest : IsHonestRun s events) (n 
 
     not-waiting : (k : Held) → Has admission.pending k → k.digest ≡ h.digest → ⊥
     not-waiting k waits same =
-        let given = each-has (IsHeldAsGiven s.rules (all_delivered s events) m.epoch) admission.pending k (stocked s events n seat at).supplied.pending waits in
+        let given = each_has (IsHeldAsGiven s.rules (all_delivered s events) m.epoch) admission.pending k (stocked s events n seat at).supplied.pending waits in
         let alike = given-alike s events honest m.epoch m.epoch k.digest h.digest k.cert h.cert given (held-given h there) same in
         let free = free-without s.rules.writers admission k (subst (λ (t : Transaction). has_shared_input t ≡ false) (sym alike.0) none)
         (λ d o. origin-taken d (subst (λ (ds : List (Option Digest)). Has ds d) alike.1 o)) in

@@ -7,6 +7,7 @@ use Rattle.checkpoint_core.specs.declared.checkpoints.Checkpoint.{Checkpoint}
 use Rattle.journal_core.specs.declared.records.Record.{Record}
 use Rattle.journal_core.specs.declared.records.Record.TheVariants as record_as
 use Rattle.answer_types.specs.declared.answers.Held.{Held}
+use Rattle.protocol_spec.proofs.ListLemmas.{front_whole, front_then}
 use Rattle.protocol_spec.specs.Chain.Words.{Has, IsFront}
 use Rattle.protocol_spec.specs.Chain.Certificates.{Rules}
 use Rattle.protocol_spec.specs.Member.Versions.{Execution}
@@ -15,7 +16,6 @@ use Rattle.protocol_spec.specs.Member.Checkpoints.{chained, checkpoint_behind, i
 use Rattle.protocol_spec.specs.Member.Member.{Member, after, built, fresh, state}
 use Rattle.safety_law.proofs.Apart.{state-push}
 use Rattle.safety_law.proofs.Once.{has-push}
-use Rattle.agreement_law.proofs.Growth.{front-all, front-then}
 
 -- ---- lists
 
@@ -66,15 +66,15 @@ same-or-less (suc a) (suc b) low = go (same-or-less a b (omega (arith, low)))
 -- ---- the epoch, and the checkpoints of the epochs before, along a journal
 
 pub chained-more : (epoch : ℕ) (held : List Held) (executed : List Execution) (cuts : List Cut) (before : List Checkpoint) → IsFront before (chained epoch held executed before cuts)
-chained-more epoch held executed [] before = front-all before
+chained-more epoch held executed [] before = front_whole before
 chained-more epoch held executed (c ∷ cs) before = go (list_all (is_done held executed) c.txs) (chained-more epoch held executed cs (before ++ checkpoint_behind epoch executed before c ∷ []))
   where
     next : List Checkpoint
     next = before ++ checkpoint_behind epoch executed before c ∷ []
 
     go : (b : Bool) → IsFront next (chained epoch held executed next cs) → IsFront before (cond b (chained epoch held executed next cs) before)
-    go true front = front-then before next (chained epoch held executed next cs) (checkpoint_behind epoch executed before c ∷ [], refl) front
-    go false front = front-all before
+    go true front = front_then before next (chained epoch held executed next cs) (checkpoint_behind epoch executed before c ∷ [], refl) front
+    go false front = front_whole before
 
 -- where a checkpoint comes from: it stood before, or is of a cut of the epoch
 pub record IsOfCuts (epoch : ℕ) (executed : List Execution) (c : Checkpoint) : Type 0 where
@@ -132,13 +132,13 @@ turn-past r m = refl
 
 after-past : (r : Rules) (m : Member) (x : Record) → IsFront m.past (after r m x).past
 unfolding after
-after-past r m (record_as.Vote tx origins) = front-all m.past
-after-past r m (record_as.Hold c) = front-all m.past
-after-past r m (record_as.See bytes) = front-all m.past
-after-past r m record_as.Close = front-all m.past
-after-past r m (record_as.Ran txs) = front-all m.past
+after-past r m (record_as.Vote tx origins) = front_whole m.past
+after-past r m (record_as.Hold c) = front_whole m.past
+after-past r m (record_as.See bytes) = front_whole m.past
+after-past r m record_as.Close = front_whole m.past
+after-past r m (record_as.Ran txs) = front_whole m.past
 after-past r m record_as.Turn = past-built m
-after-past r m (record_as.Ran2 items) = front-all m.past
+after-past r m (record_as.Ran2 items) = front_whole m.past
 
 -- the checkpoints of the epochs before are of epochs before
 abbrev pub PastIsBefore : Member → Type 0
@@ -224,9 +224,9 @@ module _ (r : Rules) (opening : List Object) where
       omega (arith, one, rest)
 
   pub past-grows : (more before : List Record) → IsFront (at before).past (at (before ++ more)).past
-  past-grows [] before = subst (λ (rs : List Record). IsFront (at before).past (at rs).past) (sym (append-nil before)) (front-all (at before).past)
+  past-grows [] before = subst (λ (rs : List Record). IsFront (at before).past (at rs).past) (sym (append-nil before)) (front_whole (at before).past)
   past-grows (x ∷ more) before =
-      front-then (at before).past (at (before ++ x ∷ [])).past (at (before ++ (x ∷ more))).past
+      front_then (at before).past (at (before ++ x ∷ [])).past (at (before ++ (x ∷ more))).past
       (subst (λ (m : Member). IsFront (at before).past m.past) (sym (state-push r opening before x)) (after-past r (at before) x))
       (subst (λ (rs : List Record). IsFront (at (before ++ x ∷ [])).past (at rs).past) (append_assoc before (x ∷ []) more) (past-grows more (before ++ x ∷ [])))
 

@@ -1,7 +1,7 @@
 -- The version that admission assigned to a shared input is there, once its writer was executed.
 use Rattle.std.proofs.Common.{inl, inr, refl, sym, subst, ap, ◌∙◌}
 use Rattle.std.proofs.lemmas.Bool.{eq-eqb}
-use Rattle.std.specs.Prelude.{◌≡◌, ◌⊎◌, ℕ, Bool, true, false, cond, not, ◌==◌, nat_le, List, [], ◌∷◌, ◌++◌, map, zip, filter, find, slice_get, Option, Some, None, option_map, is_some, Result, Ok, Err}
+use Rattle.std.specs.Prelude.{◌≡◌, ◌⊎◌, ℕ, Bool, true, false, not, ◌==◌, nat_le, List, [], ◌∷◌, ◌++◌, map, zip, find, slice_get, Option, Some, None, option_map, is_some}
 use Rattle.std.specs.List.{list_any}
 use Rattle.digest_core.specs.declared.Digest.{Digest}
 use Rattle.chain_types.specs.declared.objects.ObjectId.{ObjectId}
@@ -11,15 +11,15 @@ use Rattle.chain_types.specs.declared.transactions.Input.{Input}
 use Rattle.chain_types.specs.declared.transactions.Input.TheVariants as inputs
 use Rattle.chain_types.specs.declared.transactions.Transaction.{Transaction}
 use Rattle.chain_types.specs.Equal.{digest_eq, id_eq, key_eq}
-use Rattle.chain_types.specs.Digests.{transaction_digest, is_object}
+use Rattle.chain_types.specs.Digests.{is_object}
 use Rattle.chain_messages.specs.declared.messages.Certificate.{Certificate}
 use Rattle.answer_types.specs.declared.answers.Held.{Held}
 use Rattle.schedule_text.specs.declared.words.Event.{Event}
+use Rattle.protocol_spec.proofs.Equality.{digest_same, id_same}
 use Rattle.protocol_spec.specs.Chain.Words.{Has, Along, first_some, first_of, where_true, last_where}
-use Rattle.protocol_spec.specs.Chain.Keys.{object_key, objects_of, mutable_id, is_shared_since, is_shared_input, version_of, version_limit, fits_input, fit_inputs}
-use Rattle.protocol_spec.proofs.ListLemmas.{find-test, and-first, and-second, or-second}
-use Rattle.protocol_spec.specs.Block.Block.{Block}
-use Rattle.protocol_spec.specs.Block.Execution.{Failure, outcome, execution, executed_by}
+use Rattle.protocol_spec.specs.Chain.Keys.{object_key, objects_of, mutable_id, is_shared_since, is_shared_input, version_limit, fits_input, fit_inputs}
+use Rattle.protocol_spec.proofs.ListLemmas.{find-test, and-first, and-second, each_has, has_left, find_has, has_parts, has_mapped}
+use Rattle.protocol_spec.proofs.Truth.{or_false_right, where_false, some_same}
 use Rattle.protocol_spec.specs.Member.Versions.{Execution, Version, opened, written, versions, version_at, object_in, is_executed}
 use Rattle.protocol_spec.specs.Member.Votes.{Ballot, shared_key, made_by}
 use Rattle.protocol_spec.specs.Member.Admission.{Admitted, Standing, is_admitted, writes, mutable_ids, cert_of, joined_inputs, opening_object, begins, beginning, beginning_by, standing_after, standing_or, current, is_shared_object, lacks_shared, version_at_admission, assigned_of}
@@ -30,23 +30,21 @@ use Rattle.world_spec.specs.World.{Seat, member_in}
 use Rattle.world_spec.specs.Run.{world_after}
 use Rattle.world_spec.specs.Assumptions.{IsHonestRun, all_delivered}
 use Rattle.safety_law.proofs.Apart.{none-of}
-use Rattle.safety_law.proofs.Once.{each-has, equal, digest-same, has-left}
-use Rattle.safety_law.proofs.Kept.{find-has}
+use Rattle.safety_law.proofs.Once.{digest-same}
+use Rattle.sequence_law.proofs.Live.{passed-has, any-has}
 use Rattle.sequence_law.specs.Admitted.{held_again, IsInOrder}
-use Rattle.block_law.proofs.Counts.{id_same, id_refl}
-use Rattle.block_law.proofs.Reading.{where-false}
+use Rattle.block_law.proofs.Counts.{id_refl}
 use Rattle.block_law.proofs.Places.{shared-written}
-use Rattle.block_law.proofs.Written.{chosen-from}
+use Rattle.block_law.proofs.Written.{chosen-from, fits-first}
 use Rattle.agreement_law.specs.Agreed.{IsHeldAsGiven}
 use Rattle.agreement_law.proofs.Supply.{every-held, every-admission}
 use Rattle.sequence_law.specs.Orderly.{AreApart, gave}
-use Rattle.sequence_law.proofs.Touched.{has-parts, has-mapped}
-use Rattle.sequence_law.proofs.Reading.{has-zip, fits-inputs}
+use Rattle.sequence_law.proofs.Reading.{has-zip}
 use Rattle.agreement_law.specs.Steps.{step_of}
-use Rattle.agreement_law.proofs.Lists.{some-same, has-middle, along-split, any-has, first-says}
+use Rattle.agreement_law.proofs.Lists.{has-middle, along-split, first-says}
 use Rattle.agreement_law.proofs.SameSteps.{given-alike}
 use Rattle.agreement_law.proofs.Executed.{admitted-given, executed-is-step}
-use Rattle.agreement_law.proofs.Versions.{versions-same}
+use Rattle.agreement_law.proofs.Versions.{versions-same, effects-version}
 use Rattle.agreement_law.proofs.Wants.{assigned-is, shared-wanted}
 use Rattle.headline_law.proofs.Present.{has-find, some-mapped, opened-in, written-in, held-found, seen-in, voted-given}
 use Rattle.headline_law.proofs.Whole.{any-none}
@@ -65,18 +63,8 @@ last-has {A = A} test (x ∷ xs) y e = go (last_where test xs) refl (test x) ref
   where
     go : (o : Option A) → last_where test xs ≡ o → (b : Bool) → test x ≡ b → first_some (o ∷ where_true b x ∷ []) ≡ Some y → (last_where test xs ≡ Some y → Has xs y × (test y ≡ true)) → Has (x ∷ xs) y × (test y ≡ true)
     go (Some z) h b t e rest = let r = rest (h ∙ e) in (inr r.0, r.1)
-    go None h true t e rest = let same = some-same x y e in (inl same, subst (λ (z : A). test z ≡ true) same t)
+    go None h true t e rest = let same = some_same x y e in (inl same, subst (λ (z : A). test z ≡ true) same t)
     go None h false t e rest = absurd (cc)
-
-filter-keeps : {A : Type 0} (test : A → Bool) (xs : List A) (x : A) → Has xs x → test x ≡ true → Has (filter test xs) x
-filter-keeps test [] x h e = absurd h
-filter-keeps {A = A} test (y ∷ ys) x h e = go (test y) refl h (λ k. filter-keeps test ys x k e)
-  where
-    go : (b : Bool) → test y ≡ b → Has (y ∷ ys) x → (Has ys x → Has (filter test ys) x) → Has (cond b (y ∷ filter test ys) (filter test ys)) x
-    go true q (inl p) rest = inl p
-    go true q (inr k) rest = inr (rest k)
-    go false q (inl p) rest = absurd (let same = ap test p in cc)
-    go false q (inr k) rest = rest k
 
 -- the object of each input
 fitting-object : (t : Transaction) (is : List Input) (os : List Object) (i : Input) → fit_inputs t is os ≡ true → Has is i → (o : Object) × Has (zip is os) (i, o) × (fits_input t i o ≡ true)
@@ -84,14 +72,6 @@ fitting-object t [] os i fit h = absurd h
 fitting-object t (j ∷ is) [] i fit h = absurd (cc)
 fitting-object t (j ∷ is) (o ∷ os) i fit (inl e) = (o, inl (ap (λ (z : Input). (z, o)) e), subst (λ (z : Input). fits_input t z o ≡ true) e (and-first (fits_input t j o) (fit_inputs t is os) fit))
 fitting-object t (j ∷ is) (o ∷ os) i fit (inr h) = let r = fitting-object t is os i (and-second (fits_input t j o) (fit_inputs t is os) fit) h in (r.0, inr r.1, r.2)
-
-effects-version : (t : Transaction) (objects : List Object) → (execution t objects).effects.version ≡ version_of objects
-unfolding execution
-effects-version t objects = go (outcome t (transaction_digest t) objects)
-  where
-    go : (r : Result Block Failure) → (executed_by t (transaction_digest t) objects r).effects.version ≡ version_of objects
-    go (Ok b) = refl
-    go (Err failure) = refl
 
 -- ---- a version that is there
 
@@ -112,7 +92,7 @@ module _ (m : Member) where
   opening-there id o e =
       let key = key-same o id o.version (id_same o.id id (find-test (λ (z : Object). id_eq z.id id) m.opening o e)) refl in
       some-mapped object_in (find (is_wanted (shared_key id o.version) (Some producers.Opening)) there)
-      (has-find (is_wanted (shared_key id o.version) (Some producers.Opening)) there (opened o) (opened-in m.opening m.executed o (find-has (λ (z : Object). id_eq z.id id) m.opening o e)) (rw key refl))
+      (has-find (is_wanted (shared_key id o.version) (Some producers.Opening)) there (opened o) (opened-in m.opening m.executed o (find_has (λ (z : Object). id_eq z.id id) m.opening o e)) (rw key refl))
 
   written-there : (id : ObjectId) (version : ℕ) (x : Execution) (o : Object) → Has m.executed x → Has x.gave.objects o → o.id ≡ id → o.version ≡ version → Finds id (version, producers.Tx x.digest)
   written-there id version x o h w e f =
@@ -145,13 +125,13 @@ module _ (s : Setting) (events : List Event) (honest : IsHonestRun s events) (di
       go (inputs.Owned r) h e = absurd (cc)
       go (inputs.Immutable r) h e = absurd (cc)
       go (inputs.Shared x k false) h e = absurd (cc)
-      go (inputs.Shared x k true) h e = (k, inr (filter-keeps is_object w.cert.tx.inputs (inputs.Shared id k true) (subst (λ (z : ObjectId). Has w.cert.tx.inputs (inputs.Shared z k true)) (same x e) h) refl))
+      go (inputs.Shared x k true) h e = (k, inr (passed-has is_object w.cert.tx.inputs (inputs.Shared id k true) (subst (λ (z : ObjectId). Has w.cert.tx.inputs (inputs.Shared z k true)) (same x e) h) refl))
 
   writer-there : (id : ObjectId) (w : Admitted) → Has admitted w → writes id w ≡ true → is_executed m.executed w.digest ≡ true → Finds m id (w.version, producers.Tx w.digest)
   writer-there id w h e done =
       let step = executed-is-step s events honest n seat at w h done in
       let i = mutable-named id w e in
-      let o = fitting-object w.cert.tx (objects_of w.cert.tx) (step_of m w).inputs (inputs.Shared id i.0 true) (fits-inputs w.cert.tx (step_of m w).inputs step.fit) i.1 in
+      let o = fitting-object w.cert.tx (objects_of w.cert.tx) (step_of m w).inputs (inputs.Shared id i.0 true) (fits-first w.cert.tx (step_of m w).inputs step.fit) i.1 in
       let now = shared-written w.cert.tx (step_of m w).inputs id i.0 o.0 o.1 in
       let version = versions-same s events honest n seat at w h (executes_as (held_again w) (gave (step_of m w))) step.executed refl in
       written-there m id w.version (executes_as (held_again w) (gave (step_of m w))) now.now step.executed now.written
@@ -174,7 +154,7 @@ module _ (s : Setting) (events : List Event) (honest : IsHonestRun s events) (di
   none-lacks : (b : Admitted) → Has admitted b → list_any (lacks_shared m.opening) (joined_inputs b.cert) ≡ false
   none-lacks b h =
       let r = along-split (IsKept m.opening) [] admitted b (none-dropped s events n seat at) h in
-      or-second (nat_le version_limit (version_at_admission m.opening r.0 b.cert)) (list_any (lacks_shared m.opening) (joined_inputs b.cert)) r.3
+      or_false_right (nat_le version_limit (version_at_admission m.opening r.0 b.cert)) (list_any (lacks_shared m.opening) (joined_inputs b.cert)) r.3
 
   begun-open : (b : Admitted) → Has admitted b → (id : ObjectId) (initial : ℕ) (mutable : Bool) → Has (joined_inputs b.cert) (inputs.Shared id initial mutable, None) → Finds m id (begins m.opening id initial None)
   begun-open b h id initial mutable joined =
@@ -201,7 +181,7 @@ module _ (s : Setting) (events : List Event) (honest : IsHonestRun s events) (di
       go : (t : Bool) → id_eq x id ≡ t → where_true t (begins m.opening x initial d) ≡ Some st → Finds m id st
       go false t e = absurd (cc)
       go true t e =
-          let same : begins m.opening id initial d ≡ st = ap (λ (z : ObjectId). begins m.opening z initial d) (sym (id_same x id t)) ∙ some-same (begins m.opening x initial d) st e in
+          let same : begins m.opening id initial d ≡ st = ap (λ (z : ObjectId). begins m.opening z initial d) (sym (id_same x id t)) ∙ some_same (begins m.opening x initial d) st e in
           subst (Finds m id) same
           (by-origin d (subst (λ (z : ObjectId). Has (joined_inputs b.cert) (inputs.Shared z initial mutable, d)) (id_same x id t) joined)
           (subst (λ (z : Standing). is_maker_done m.executed (Some z.1) ≡ true) (sym same) done))
@@ -216,13 +196,13 @@ module _ (s : Setting) (events : List Event) (honest : IsHonestRun s events) (di
     a-there = subst (λ (zs : List Admitted). Has zs a) (sym split) (has-middle front a back)
 
     front-there : (b : Admitted) → Has front b → Has admitted b
-    front-there b h = subst (λ (zs : List Admitted). Has zs b) (sym split) (has-left front (a ∷ back) b h)
+    front-there b h = subst (λ (zs : List Admitted). Has zs b) (sym split) (has_left front (a ∷ back) b h)
 
     cert-there : (c : Certificate) → Has certs c → (b : Admitted) × Has admitted b × (b.cert ≡ c)
-    cert-there c h = go (has-parts (map cert_of front) (a.cert ∷ []) c h)
+    cert-there c h = go (has_parts (map cert_of front) (a.cert ∷ []) c h)
       where
         go : Has (map cert_of front) c ⊎ Has (a.cert ∷ []) c → (b : Admitted) × Has admitted b × (b.cert ≡ c)
-        go (inl k) = let b = has-mapped cert_of front c k in (b.0, front-there b.0 b.1, b.2)
+        go (inl k) = let b = has_mapped cert_of front c k in (b.0, front-there b.0 b.1, b.2)
         go (inr (inl e)) = (a, a-there, e)
         go (inr (inr k)) = absurd k
 
@@ -234,7 +214,7 @@ module _ (s : Setting) (events : List Event) (honest : IsHonestRun s events) (di
     named-first id initial mutable d joined none =
         let here : beginning_by m.opening id a.cert ≡ None = none-of (beginning_by m.opening id) certs a.cert none (last-there (map cert_of front)) in
         let says : beginning m.opening id (inputs.Shared id initial mutable, d) ≡ None = none-of (beginning m.opening id) (joined_inputs a.cert) (inputs.Shared id initial mutable, d) here joined in
-        let apart = where-false (id_eq id id) (begins m.opening id initial d) says in
+        let apart = where_false (id_eq id id) (begins m.opening id initial d) says in
         let same = id_refl id in
         cc
       where
@@ -273,10 +253,10 @@ module _ (s : Setting) (events : List Event) (honest : IsHonestRun s events) (di
   pub admitted-as : (h : Held) → Has m.held h → is_admitted admitted h.digest ≡ true → IsAdmittedAs h
   admitted-as h held e =
       let a = any-has (λ (x : Admitted). digest_eq x.digest h.digest) admitted e in
-      let same = equal a.0.digest h.digest a.2 in
+      let same = digest_same a.0.digest h.digest a.2 in
       let r = along-split (λ (b : List Admitted) (x : Admitted). IsInOrder m.opening b x × IsKept m.opening b x) [] admitted a.0 (along-both (IsInOrder m.opening) (IsKept m.opening) [] admitted (every-admission s events n seat at).order (none-dropped s events n seat at)) a.1 in
       let alike = given-alike s events honest m.epoch m.epoch a.0.digest h.digest a.0.cert h.cert (admitted-given s events honest n seat at a.0 a.1)
-      (each-has (IsHeldAsGiven s.rules (all_delivered s events) m.epoch) m.held h (every-held s events n seat at) held) same in
+      (each_has (IsHeldAsGiven s.rules (all_delivered s events) m.epoch) m.held h (every-held s events n seat at) held) same in
       record { front = r.0; back = r.1; of = a.0; split = r.2; next = r.3.0; undropped = r.3.1; digest = same; tx = alike.0; origins = alike.1 }
 
   pub joined-as : (h : Held) → (it : IsAdmittedAs h) → (i : Input) (d : Option Digest) → Has (joined_inputs h.cert) (i, d) → Has (joined_inputs it.of.cert) (i, d)

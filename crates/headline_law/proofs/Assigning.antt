@@ -1,7 +1,6 @@
 -- In every sequence what is assigned to a transaction is above what was assigned to those before it that write the object.
-use Rattle.std.proofs.Common.{inl, inr, refl, sym, subst, ap, ◌∙◌, append_assoc}
-use Rattle.std.specs.Prelude.{◌≡◌, ◌<◌, ℕ, Bool, true, false, List, [], ◌∷◌, ◌++◌, filter_map, Option, Some, None}
-use Rattle.std.specs.List.{cons_option}
+use Rattle.std.proofs.Common.{refl, sym, subst, ap, ◌∙◌, append_assoc}
+use Rattle.std.specs.Prelude.{◌≡◌, ◌<◌, ℕ, Bool, true, false, List, [], ◌∷◌, ◌++◌, Some}
 use Rattle.chain_types.specs.declared.objects.ObjectId.{ObjectId}
 use Rattle.chain_types.specs.declared.objects.Object.{Object}
 use Rattle.chain_types.specs.declared.transactions.Input.{Input}
@@ -18,15 +17,7 @@ use Rattle.sequence_law.proofs.Tidy.{tidy-seen}
 use Rattle.agreement_law.proofs.Lists.{along-split}
 use Rattle.headline_law.specs.Assigned.{IsAssignedAbove}
 use Rattle.headline_law.proofs.Rising.{writes-it, rising}
-
-has-chosen : {A B : Type 0} (f : A → Option B) (xs : List A) (y : B) → Has (filter_map f xs) y → (x : A) × Has xs x × (f x ≡ Some y)
-has-chosen f [] y h = absurd h
-has-chosen {A = A} {B = B} f (x ∷ xs) y h = go (f x) refl h (has-chosen f xs y)
-  where
-    go : (o : Option B) → f x ≡ o → Has (cons_option o (filter_map f xs)) y → (Has (filter_map f xs) y → (z : A) × Has xs z × (f z ≡ Some y)) → (z : A) × Has (x ∷ xs) z × (f z ≡ Some y)
-    go None e h rest = let r = rest h in (r.0, inr r.1, r.2)
-    go (Some z) e (inl q) rest = (x, inl refl, e ∙ ap Some q)
-    go (Some z) e (inr h) rest = let r = rest h in (r.0, inr r.1, r.2)
+use Rattle.block_law.proofs.Written.{chosen-from}
 
 module _ (opening : List Object) where
   -- what is assigned is the current version, of an input that may write it where the assignment says so
@@ -50,7 +41,7 @@ module _ (opening : List Object) where
   assigned-current : (before : List Admitted) (a : Admitted) → IsInOrder opening before a → (u : Assigned) → Has a.assigned u → IsCurrent before a u
   unfolding admit
   assigned-current before a next u h =
-      let i = has-chosen (assignment opening before a.cert) (objects_of a.cert.tx) u (subst (λ (us : List Assigned). Has us u) (ap (λ (x : Admitted). x.assigned) next.versions) h) in
+      let i = chosen-from (assignment opening before a.cert) (objects_of a.cert.tx) u (subst (λ (us : List Assigned). Has us u) (ap (λ (x : Admitted). x.assigned) next.versions) h) in
       is-current before a u i.0 i.1 i.2
 
   -- ---- one behind those in order

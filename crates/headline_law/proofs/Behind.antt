@@ -1,6 +1,6 @@
 -- The state behind a member's run is one of a run of the world: it starts again, and runs. Neither line delivers anything.
 use Rattle.std.proofs.Common.{refl, sym, subst, ap, ◌∙◌, append_assoc, append-nil}
-use Rattle.std.specs.Prelude.{◌≡◌, ℕ, zero, suc, true, List, [], ◌∷◌, ◌++◌, map, slice_get, slice_set, Option, Some, None, Ok}
+use Rattle.std.specs.Prelude.{◌≡◌, ℕ, true, List, [], ◌∷◌, ◌++◌, map, slice_get, Option, Some, None, Ok}
 use Rattle.chain_types.specs.declared.transactions.Transaction.{Transaction}
 use Rattle.chain_types.specs.declared.transactions.SignedTx.{SignedTx}
 use Rattle.chain_messages.specs.declared.messages.Certificate.{Certificate}
@@ -9,6 +9,7 @@ use Rattle.journal_core.specs.declared.records.Record.TheVariants as record_as
 use Rattle.answer_types.specs.declared.answers.Ran.{Ran}
 use Rattle.schedule_text.specs.declared.words.Event.{Event}
 use Rattle.schedule_text.specs.declared.words.Event.TheVariants as event
+use Rattle.protocol_spec.proofs.ListLemmas.{set_get}
 use Rattle.protocol_spec.specs.Chain.Words.{Has}
 use Rattle.protocol_spec.specs.Member.Versions.{Execution}
 use Rattle.protocol_spec.specs.Member.Rounds.{rounds}
@@ -21,11 +22,6 @@ use Rattle.world_spec.specs.Run.{run, world_after}
 use Rattle.world_spec.specs.Assumptions.{asked, delivered, delivered_ends, all_of, all_formed, all_delivered, all_transactions, NoForgery, IsHonestRun}
 use Rattle.safety_law.proofs.Apart.{state-push}
 use Rattle.safety_law.proofs.Grown.{world-append}
-
-get-set-same : {A : Type 0} (xs : List A) (i : ℕ) (y x : A) → slice_get xs i ≡ Some y → slice_get (slice_set xs i x) i ≡ Some x
-get-set-same [] i y x e = absurd (cc)
-get-set-same (z ∷ xs) zero y x e = refl
-get-set-same (z ∷ xs) (suc i) y x e = get-set-same xs i y x e
 
 all-append : {A : Type 0} (says : Setting → World → Event → List A) (s : Setting) (front back : List Event) (w : World) → all_of says s (front ++ back) w ≡ all_of says s front w ++ all_of says s back (run s front w)
 all-append says s [] back w = refl
@@ -128,11 +124,11 @@ module _ (s : Setting) (n : ℕ) where
 
   restarted : (w : World) (seat : Seat) → slice_get w.seats n ≡ Some seat → slice_get (happens s w (event.Restart n)).seats n ≡ Some (started_seat seat)
   unfolding happens
-  restarted w seat e = subst (λ (o : Option Seat). slice_get (on_seat w n started_seat o).seats n ≡ Some (started_seat seat)) (sym e) (get-set-same w.seats n seat (started_seat seat) e)
+  restarted w seat e = subst (λ (o : Option Seat). slice_get (on_seat w n started_seat o).seats n ≡ Some (started_seat seat)) (sym e) (set_get w.seats n seat (started_seat seat) e)
 
   has-run : (w : World) (seat : Seat) → slice_get w.seats n ≡ Some (started_seat seat) → slice_get (happens s w (event.Run n 1)).seats n ≡ Some (ran_seat seat)
   unfolding happens called_in
-  has-run w seat e = subst (λ (o : Option Seat). slice_get (called_seat s w n runs o).seats n ≡ Some (ran_seat seat)) (sym e) (get-set-same w.seats n (started_seat seat) (ran_seat seat) e)
+  has-run w seat e = subst (λ (o : Option Seat). slice_get (called_seat s w n runs o).seats n ≡ Some (ran_seat seat)) (sym e) (set_get w.seats n (started_seat seat) (ran_seat seat) e)
 
   -- a member whose run answers is behind it in a longer run
   pub record IsRunOn (events : List Event) (m : Member) : Type 0 where

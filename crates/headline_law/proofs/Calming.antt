@@ -39,6 +39,8 @@ use Rattle.answer_types.specs.declared.refusals.TurnRefusal.TheVariants as no_tu
 use Rattle.answer_types.specs.declared.refusals.AckRefusal.TheVariants as no_ack
 use Rattle.report_text.specs.declared.lines.Line.{Line}
 use Rattle.report_text.specs.declared.lines.Line.TheVariants as line
+use Rattle.protocol_spec.proofs.ListLemmas.{each_join}
+use Rattle.protocol_spec.proofs.Truth.{some_same}
 use Rattle.protocol_spec.specs.Chain.Words.{Each, first_of, first_some, where_true, unless_refused, refused_or}
 use Rattle.protocol_spec.specs.Chain.Shape.{shape_fault}
 use Rattle.protocol_spec.specs.Chain.Certificates.{accepts_sender, read_signed, read_certificate, cert_refusal}
@@ -54,8 +56,7 @@ use Rattle.world_spec.specs.Setting.{Name, Setting}
 use Rattle.world_spec.specs.World.{World}
 use Rattle.world_spec.specs.Names.{tx_name}
 use Rattle.world_spec.specs.Report.{ack_answered, checkpoint_line, checkpoint_lines, close_answered, effects_line, end_answered, entry_lines, hold_answered, ignored_text, left_line, run_answered, status_line, turn_answered, vote_answered, what_text}
-use Rattle.safety_law.proofs.Forks.{each-join}
-use Rattle.agreement_law.proofs.Lists.{first-says, some-same}
+use Rattle.agreement_law.proofs.Lists.{first-says}
 use Rattle.headline_law.specs.Alarms.{halts_ack, halts_close, halts_end, halts_entry, halts_send, halts_vote, is_alarm}
 
 abbrev pub IsCalmLine : Line → Type 0
@@ -213,7 +214,7 @@ module _ (s : Setting) (w : World) where
   ran-calm : (n : ℕ) (ran : Ran) → ran.left ≡ [] → Each IsCalmLine (run_answered s w n (Ok ran))
   ran-calm n ran none = (
     refl,
-    each-join IsCalmLine (map (effects_line w) ran.executed) (map (left_line s w) ran.left ++ checkpoint_lines w ran.built) (calm-mapped (effects_line w) ran.executed (λ e. status-calm (tx_name w e.tx) e.version e.gas e.status))
+    each_join IsCalmLine (map (effects_line w) ran.executed) (map (left_line s w) ran.left ++ checkpoint_lines w ran.built) (calm-mapped (effects_line w) ran.executed (λ e. status-calm (tx_name w e.tx) e.version e.gas e.status))
         (subst (λ (left : List Left). Each IsCalmLine (map (left_line s w) left ++ checkpoint_lines w ran.built)) (sym none) (checkpoints-calm ran.built)),
   )
 
@@ -247,7 +248,7 @@ module _ (s : Setting) (w : World) where
 
   waits-calm : (b : Bool) (tx : Digest) (x : EndRefusal) → where_true b (no_end.Waits tx) ≡ Some x → EndIsCalm (Err x)
   waits-calm false tx x e = absurd (cc)
-  waits-calm true tx x e = subst (λ (y : EndRefusal). EndIsCalm (Err y)) (some-same (no_end.Waits tx) x e) refl
+  waits-calm true tx x e = subst (λ (y : EndRefusal). EndIsCalm (Err y)) (some_same (no_end.Waits tx) x e) refl
 
   pub end-calm : (m : Member) → fork_of m ≡ None → EndIsCalm (end_answer s.rules m)
   unfolding end_answer
@@ -265,7 +266,7 @@ module _ (s : Setting) (w : World) where
 
   unfinished-calm : (n : ℕ) (m : Member) (b : Bool) (tx : Digest) (x : TurnRefusal) → where_true b (no_turn.Waits tx) ≡ Some x → TurnIsCalm n m (Err x)
   unfinished-calm n m false tx x e = absurd (cc)
-  unfinished-calm n m true tx x e = subst (λ (y : TurnRefusal). TurnIsCalm n m (Err y)) (some-same (no_turn.Waits tx) x e) (refl, tt)
+  unfinished-calm n m true tx x e = subst (λ (y : TurnRefusal). TurnIsCalm n m (Err y)) (some_same (no_turn.Waits tx) x e) (refl, tt)
 
   pub turn-calm : (n : ℕ) (m : Member) → fork_of m ≡ None → TurnIsCalm n m (turn_answer s.rules m)
   unfolding turn_answer

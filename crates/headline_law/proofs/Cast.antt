@@ -16,6 +16,7 @@ use Rattle.answer_types.specs.declared.refusals.VoteRefusal.{VoteRefusal}
 use Rattle.answer_types.specs.declared.refusals.VoteRefusal.TheVariants as no_vote
 use Rattle.schedule_text.specs.declared.words.Event.{Event}
 use Rattle.schedule_text.specs.declared.words.Event.TheVariants as event
+use Rattle.protocol_spec.proofs.ListLemmas.{each_join, each_at}
 use Rattle.protocol_spec.specs.Chain.Words.{Has, Each, first_some, where_true, unless_refused, refused_or}
 use Rattle.protocol_spec.specs.Chain.Certificates.{Rules, read_signed}
 use Rattle.protocol_spec.specs.Member.Votes.{Cast, vote_origins}
@@ -27,7 +28,7 @@ use Rattle.world_spec.specs.Names.{made_named, cert_named}
 use Rattle.world_spec.specs.Step.{happens, entries_left, voted_on}
 use Rattle.world_spec.specs.Run.{world_after}
 use Rattle.world_spec.specs.Assumptions.{send_call, call_list, see_calls, ack_call, calls_of, signed_read}
-use Rattle.safety_law.proofs.InWorld.{each-get, each-any, kept-line, new-seats}
+use Rattle.safety_law.proofs.InWorld.{each-any, kept-line, new-seats}
 use Rattle.safety_law.proofs.Apart.{due-free}
 use Rattle.safety_law.proofs.Once.{has-push}
 use Rattle.safety_law.proofs.Grown.{world-append}
@@ -84,13 +85,9 @@ no-vote-at : (s : Setting) (w : World) (seat : Option Seat) → Each NoVote (cal
 no-vote-at s w None = tt
 no-vote-at s w (Some seat) = no-vote-next (member_in s seat).sequence.number (next_entry w (member_in s seat))
 
-each-join : {A : Type 0} (P : A → Type 0) (xs ys : List A) → Each P xs → Each P ys → Each P (xs ++ ys)
-each-join P [] ys one other = other
-each-join P (x ∷ xs) ys one other = (one.0, each-join P xs ys one.1 other)
-
 no-vote-sees : (s : Setting) (n : ℕ) (w : World) (m : ℕ) → Each NoVote (see_calls s n w m)
 no-vote-sees s zero w m = tt
-no-vote-sees s (suc n) w m = each-join NoVote (call_list (next_call s w m)) (see_calls s n (called_if s w m (next_call s w m)) m) (no-vote-at s w (slice_get w.seats m)) (no-vote-sees s n (called_if s w m (next_call s w m)) m)
+no-vote-sees s (suc n) w m = each_join NoVote (call_list (next_call s w m)) (see_calls s n (called_if s w m (next_call s w m)) m) (no-vote-at s w (slice_get w.seats m)) (no-vote-sees s n (called_if s w m (next_call s w m)) m)
 
 no-vote-sent : (c : Option Certificate) → Each NoVote (send_call c)
 no-vote-sent None = tt
@@ -206,4 +203,4 @@ module _ (s : Setting) where
   new-cast = new-seats s (λ call. ⊥) (CastIn []) (λ records call x g d p. absurd g) s.honest (λ tx o h. absurd h)
 
 pub every-vote-was-cast : (s : Setting) (events : List Event) (m : ℕ) (seat : Seat) → slice_get (world_after s events).seats m ≡ Some seat → (tx : Transaction) (origins : List (Option Digest)) → Has seat.records (record_as.Vote tx origins) → WasCast s events tx origins
-every-vote-was-cast s events m seat at = each-get (λ (y : Seat). CastIn s events y.records) (world_after s events).seats m seat (run-cast s events [] (new-cast s)) at
+every-vote-was-cast s events m seat at = each_at (λ (y : Seat). CastIn s events y.records) (world_after s events).seats m seat (run-cast s events [] (new-cast s)) at

@@ -8,6 +8,7 @@ use Rattle.chain_types.specs.declared.transactions.Input.{Input}
 use Rattle.chain_types.specs.Digests.{transaction_digest}
 use Rattle.answer_types.specs.declared.pieces.Executed.{Executed}
 use Rattle.schedule_text.specs.declared.words.Event.{Event}
+use Rattle.protocol_spec.proofs.ListLemmas.{has_left, has_right, has_map, flat_has}
 use Rattle.protocol_spec.specs.Chain.Words.{Has}
 use Rattle.protocol_spec.specs.Chain.Keys.{object_key, objects_of}
 use Rattle.protocol_spec.specs.Member.Versions.{Execution, Version, opened, written, written_by, versions, object_in}
@@ -15,12 +16,8 @@ use Rattle.protocol_spec.specs.Member.Rounds.{executes_as}
 use Rattle.protocol_spec.specs.Member.Member.{Member}
 use Rattle.world_spec.specs.Setting.{Setting}
 use Rattle.world_spec.specs.Assumptions.{IsHonestRun}
-use Rattle.safety_law.proofs.Once.{has-left}
 use Rattle.sequence_law.specs.Orderly.{Step, gave, AreApart}
-use Rattle.sequence_law.proofs.Reading.{has-right}
 use Rattle.agreement_law.specs.Orderly.{OpensApart}
-use Rattle.agreement_law.proofs.Lists.{map-has}
-use Rattle.agreement_law.proofs.Turned.{flat-has}
 use Rattle.headline_law.proofs.Present.{IsOpened, IsWrote, version-from}
 use Rattle.headline_law.specs.Chained.{MayWrite, IsExecutedAs, Holds, IsPassedOn, AreOneChain}
 use Rattle.headline_law.proofs.Family.{IsThere, IsFamily}
@@ -32,11 +29,11 @@ use Rattle.headline_law.proofs.Takers.{in-run, one-taker}
 
 opened-in : (opening : List Object) (executed : List Execution) (o : Object) → Has opening o → Has (versions opening executed) (opened o)
 unfolding versions
-opened-in opening executed o h = has-left (map opened opening) (flat_map written_by executed) (opened o) (map-has opened opening o h)
+opened-in opening executed o h = has_left (map opened opening) (flat_map written_by executed) (opened o) (has_map opened opening o h)
 
 written-in : (opening : List Object) (executed : List Execution) (x : Execution) (o : Object) → Has executed x → Has x.gave.objects o → Has (versions opening executed) (written x.digest o)
 unfolding versions
-written-in opening executed x o h k = has-right (map opened opening) (flat_map written_by executed) (written x.digest o) (flat-has written_by executed x (written x.digest o) h (map-has (written x.digest) x.gave.objects o k))
+written-in opening executed x o h k = has_right (map opened opening) (flat_map written_by executed) (written x.digest o) (flat_has written_by executed x (written x.digest o) h (has_map (written x.digest) x.gave.objects o k))
 
 -- ---- members of one epoch
 

@@ -20,6 +20,8 @@ use Rattle.answer_types.specs.declared.pieces.Item.{Item}
 use Rattle.answer_types.specs.declared.pieces.Placed.{Placed}
 use Rattle.answer_types.specs.declared.pieces.Gave.{Gave}
 use Rattle.answer_types.specs.declared.pieces.Gave.TheVariants as gave
+use Rattle.protocol_spec.proofs.ListLemmas.{each_join, all_none}
+use Rattle.protocol_spec.proofs.Truth.{where_false, map_none}
 use Rattle.protocol_spec.specs.Chain.Words.{Each, first_some, where_true}
 use Rattle.protocol_spec.specs.Chain.Tests.{kind_eq}
 use Rattle.protocol_spec.specs.Chain.Keys.{version_of}
@@ -28,17 +30,13 @@ use Rattle.protocol_spec.specs.Block.Block.{Place, Value, pure, object, vector, 
 use Rattle.protocol_spec.specs.Block.Commands.{Fault, cause, Need, number, address, by_value, by_mut, by_ref, coins, paired, all_by, needs_of, place_of, takes_value, wrong_count, arguments_cause, piece_of, item_in, items_in, number_in, spend, spend_all, numbered_coin, split_block, split, withheld, sum_of, merge_cases, merge_block, merge, placed_at, address_in, transfer_block, vector_block, given_as, given_all, spend_taken, put_back, put_changed, placed_list, called_block, called, site, performed, taken_cause, command_step}
 use Rattle.protocol_spec.specs.Block.Execution.{Failure, input_slots, first_block, commands_from, commands_next, is_unused, checked_end, outcome}
 use Rattle.block_law.proofs.Slots.{Every, put-every, value-every, every-append, spend-placed, spend-every}
-use Rattle.block_law.proofs.Reading.{all-none, where-false, AllRead, all-read, is-changed}
+use Rattle.block_law.proofs.Reading.{AllRead, all-read, is-changed}
 use Rattle.block_law.proofs.Amounts.{sum-cons}
 use Rattle.block_law.proofs.Kept.{result_slot}
 use Rattle.block_law.proofs.Steps.{ok-same, unless-ok}
-use Rattle.block_law.proofs.Blocks.{refused-ok, map-none}
+use Rattle.block_law.proofs.Blocks.{refused-ok}
 use Rattle.headline_law.proofs.Low.{Low, LowNumber, with-low, less-low, coin-amount, vault-amount, coin-low, number-low, bytes-low, zero-low}
 use Rattle.headline_law.proofs.Natives.{LowItem, LowPlaced, LowChange, LowLeft, Gives, LowGiven, native-low}
-
-pub each-both : {A : Type 0} (P : A → Type 0) (xs ys : List A) → Each P xs → Each P ys → Each P (xs ++ ys)
-each-both P [] ys each more = more
-each-both P (x ∷ xs) ys each more = (each.0, each-both P xs ys each.1 more)
 
 module _ (all : Bool) where
   abbrev pub Holds : Option Value → Type 0
@@ -152,8 +150,8 @@ module _ (all : Bool) where
 
         small : total < amount_limit
         small =
-            let none = all-none (merge_cases t target i (items_in b sources)) merged.0 in
-            let below = leb-false amount_limit (amount_of i.content + withheld t target + sum_of (items_in b sources)) (where-false (nat_le amount_limit (amount_of i.content + withheld t target + sum_of (items_in b sources))) (cause 9) none.1.0) in
+            let none = all_none (merge_cases t target i (items_in b sources)) merged.0 in
+            let below = leb-false amount_limit (amount_of i.content + withheld t target + sum_of (items_in b sources)) (where_false (nat_le amount_limit (amount_of i.content + withheld t target + sum_of (items_in b sources))) (cause 9) none.1.0) in
             omega (arith, below)
 
     to-address : (who : Address) (is : List Item) → Each (LowItem all) is → Each (LowPlaced all) (map (placed_at (owner.Address who)) is)
@@ -163,7 +161,7 @@ module _ (all : Bool) where
     transfer-low : (values : List Argument) (who : Address) → IsLow (transfer_block b values who)
     transfer-low values who = record {
       slots = spent values;
-      placed = each-both (LowPlaced all) b.placed (map (placed_at (owner.Address who)) (items_in b values)) it.placed (to-address who (items_in b values) (items-low values));
+      placed = each_join (LowPlaced all) b.placed (map (placed_at (owner.Address who)) (items_in b values)) it.placed (to-address who (items_in b values) (items-low values));
     }
 
     vector-low : (k : Kind) (values : List Argument) → IsLow (vector_block c b k values)
@@ -229,7 +227,7 @@ module _ (all : Bool) where
     called-low needs (gave.Done results changed left made) after g e = subst IsLow (ok-same Fault (called_block c b needs results changed left made) after e) (record {
       slots = more-results c (put_changed needs changed (spend_taken needs b)).slots (map object results)
           (put-lie needs changed (spend_taken needs b) g.changed_is (taken-lie needs b it.slots)) (objects-hold results g.results_are);
-      placed = each-both (LowPlaced all) b.placed (placed_list left) it.placed (goes left g.left_is);
+      placed = each_join (LowPlaced all) b.placed (placed_list left) it.placed (goes left g.left_is);
     })
 
     performed-low : (x : Command) (after : Block) → arguments_cause t b x [] (needs_of x) ≡ None → performed t tx version c b x ≡ Ok after → IsLow after
@@ -248,7 +246,7 @@ module _ (all : Bool) where
     unfolding command_step
     step-low x after e =
         let r = refused-ok (option_map cause (taken_cause t b x)) (performed t tx version c b x) after e in
-        let n = all-none (where_true (wrong_count x) 11 ∷ arguments_cause t b x [] (needs_of x) ∷ []) (map-none cause (taken_cause t b x) r.0) in
+        let n = all_none (where_true (wrong_count x) 11 ∷ arguments_cause t b x [] (needs_of x) ∷ []) (map_none cause (taken_cause t b x) r.0) in
         performed-low x after n.1.0 r.1
 
   -- ---- all commands

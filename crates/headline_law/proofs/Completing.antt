@@ -3,15 +3,14 @@ use Rattle.std.proofs.Common.{inl, inr, refl, sym, subst, ap, append_assoc, appe
 use Rattle.std.specs.Prelude.{◌≡◌, ◌⊎◌, ℕ, zero, suc, Bool, true, false, cond, nat_le, List, [], ◌∷◌, ◌++◌, length, Option, Some, None, option_map, Ok}
 use Rattle.answer_types.specs.declared.answers.Held.{Held}
 use Rattle.answer_types.specs.declared.refusals.RunRefusal.TheVariants as no_run
+use Rattle.protocol_spec.proofs.ListLemmas.{push_has, has_left, has_right, has_map}
 use Rattle.protocol_spec.specs.Chain.Words.{Has, first_some, unless_refused, where_true}
 use Rattle.protocol_spec.specs.Chain.Certificates.{Rules}
 use Rattle.protocol_spec.specs.Member.Versions.{Execution}
 use Rattle.protocol_spec.specs.Member.Rounds.{Books, clashes, ready, round_add, round_among, round_of, rounds, rounds_within}
 use Rattle.protocol_spec.specs.Member.Member.{Fork, Member, books, fork_of, with_rounds}
 use Rattle.protocol_spec.specs.Member.Calls.{effects_of, ran_as, record_limit, run_answer}
-use Rattle.safety_law.proofs.Once.{has-last, has-left}
-use Rattle.sequence_law.proofs.Reading.{has-right}
-use Rattle.agreement_law.proofs.Lists.{has-split, map-has}
+use Rattle.agreement_law.proofs.Lists.{has-split}
 use Rattle.headline_law.specs.Runs.{CompletesRuns, IsKeptOut, IsKeptOutBehind, RoundsTakeReady, RunsAs}
 use Rattle.headline_law.proofs.Rounds.{among-more, nothing-ready}
 
@@ -30,7 +29,7 @@ module _ (b : Books) (executed : List Execution) where
       placed : (front back : List Held) → b.held ≡ front ++ h ∷ back → (c : Bool) → clashes (round_among b executed [] front) x ≡ c
           → (Has (cond c (round_among b executed [] front) (round_among b executed [] front ++ x ∷ [])) x → Has (round_among b executed [] b.held) x) → Has (round_among b executed [] b.held) x ⊎ IsKeptOut b executed h x
       placed front back split true c more = inr (record { front = front; back = back; split = split; clash = c })
-      placed front back split false c more = inl (more (has-last (round_among b executed [] front) x))
+      placed front back split false c more = inl (more (push_has (round_among b executed [] front) x))
 
       go : (front : List Held) × (back : List Held) × (b.held ≡ front ++ (h ∷ back)) → Has (round_among b executed [] b.held) x ⊎ IsKeptOut b executed h x
       go (front, back, split) =
@@ -114,7 +113,7 @@ what-is-ready b executed n h x held e = go (round-takes-or b behind h x held e)
     go (inr out) = inr out
     go (inl there) =
         let one = is-one-round b executed n h x held e in
-        inl (subst (λ (r : List Execution). Has r x) (sym one.1) (has-right (rounds_within n b executed) (round_of b behind ++ one.0) x (has-left (round_of b behind) one.0 x there)))
+        inl (subst (λ (r : List Execution). Has r x) (sym one.1) (has_right (rounds_within n b executed) (round_of b behind ++ one.0) x (has_left (round_of b behind) one.0 x there)))
 
 -- ---- the answer
 
@@ -136,7 +135,7 @@ module _ (r : Rules) (m : Member) where
       go (inl there) = inl (record {
         ran = ran_as m (rounds (books m) m.executed) (with_rounds m);
         answer = answer-is none room;
-        told = map-has effects_of (rounds (books m) m.executed) x there;
-        stands = has-right m.executed (rounds (books m) m.executed) x there;
+        told = has_map effects_of (rounds (books m) m.executed) x there;
+        stands = has_right m.executed (rounds (books m) m.executed) x there;
       })
       go (inr out) = inr out

@@ -18,7 +18,7 @@ use Rattle.chain_types.specs.Digests.{transaction_digest}
 use Rattle.protocol_spec.specs.Chain.Words.{Has, Each, first_some, where_true}
 use Rattle.protocol_spec.specs.Chain.Committee.{is_among}
 use Rattle.protocol_spec.specs.Chain.Certificates.{Rules, accepts_statement, read_entry}
-use Rattle.protocol_spec.proofs.ListLemmas.{and-second}
+use Rattle.protocol_spec.proofs.ListLemmas.{and-second, has_parts, each_has, has_left, has_right, each_join}
 use Rattle.protocol_spec.specs.Member.Sequence.{Sequence, What, takes, commits, counts, ignores, ignored_or, certificate_cases, held_as, what_stated, what_read, what_of, counted_as, ends_with_member, with_what, with_entry, saw}
 use Rattle.protocol_spec.specs.Member.Member.{Member, after, state}
 use Rattle.protocol_spec.specs.Member.Calls.{Call, votes, holds, sees, runs, closes, ends, turns, acks, due}
@@ -29,10 +29,8 @@ use Rattle.world_spec.specs.Run.{run, world_after}
 use Rattle.world_spec.specs.Assumptions.{calls_of, read_list, entry_ends, ends_read, delivered_ends, all_of, IsUnforgedEnd, NoForgery}
 use Rattle.safety_law.proofs.InWorld.{in_world_given}
 use Rattle.safety_law.proofs.Apart.{state-push}
-use Rattle.safety_law.proofs.Backed.{has-either}
-use Rattle.safety_law.proofs.Once.{each-has, has-left, has-push}
-use Rattle.safety_law.proofs.Totals.{each-all, has-right}
-use Rattle.safety_law.proofs.Forks.{each-join}
+use Rattle.safety_law.proofs.Once.{has-push}
+use Rattle.safety_law.proofs.Totals.{each-all}
 use Rattle.safety_law.proofs.Grown.{IsGrown, grown-run}
 use Rattle.agreement_law.proofs.Prefixes.{IsSee, due-see}
 
@@ -146,17 +144,17 @@ module _ (r : Rules) (total : List Sealed) where
 brings-calls : (r : Rules) (total : List Sealed) (calls : List Call) → ((x : Sealed) → Has (flat_map (ends_read r) calls) x → Has total x) → Each (BringsEnds r total) calls
 brings-calls r total [] h = tt
 brings-calls r total (call ∷ calls) h = (
-  each-all (Has total) (ends_read r call) (λ x k. h x (has-left (ends_read r call) (flat_map (ends_read r) calls) x k)),
-  brings-calls r total calls (λ x k. h x (has-right (ends_read r call) (flat_map (ends_read r) calls) x k)),
+  each-all (Has total) (ends_read r call) (λ x k. h x (has_left (ends_read r call) (flat_map (ends_read r) calls) x k)),
+  brings-calls r total calls (λ x k. h x (has_right (ends_read r call) (flat_map (ends_read r) calls) x k)),
 )
 
 module _ (s : Setting) where
   brings-run : (total : List Sealed) (events : List Event) (w : World) → ((x : Sealed) → Has (all_of delivered_ends s events w) x → Has total x) → Each (BringsEnds s.rules total) (all_of calls_of s events w)
   unfolding delivered_ends
   brings-run total [] w h = tt
-  brings-run total (e ∷ events) w h = each-join (BringsEnds s.rules total) (calls_of s w e) (all_of calls_of s events (happens s w e))
-      (brings-calls s.rules total (calls_of s w e) (λ x k. h x (has-left (delivered_ends s w e) (all_of delivered_ends s events (happens s w e)) x k)))
-      (brings-run total events (happens s w e) (λ x k. h x (has-right (delivered_ends s w e) (all_of delivered_ends s events (happens s w e)) x k)))
+  brings-run total (e ∷ events) w h = each_join (BringsEnds s.rules total) (calls_of s w e) (all_of calls_of s events (happens s w e))
+      (brings-calls s.rules total (calls_of s w e) (λ x k. h x (has_left (delivered_ends s w e) (all_of delivered_ends s events (happens s w e)) x k)))
+      (brings-run total events (happens s w e) (λ x k. h x (has_right (delivered_ends s w e) (all_of delivered_ends s events (happens s w e)) x k)))
 
   counted-given : (events : List Event) (m : ℕ) (seat : Seat) → slice_get (world_after s events).seats m ≡ Some seat → HasGiven s.rules (all_of delivered_ends s events (new_world s)) (member_in s seat)
   counted-given events m seat at =
@@ -168,10 +166,10 @@ module _ (s : Setting) where
   -- where it was delivered it was unforged, and the world grew on
   unforged-at : (x : Sealed) (events : List Event) (w : World) → NoForgery s events w → Has (all_of delivered_ends s events w) x → (v : World) × IsUnforgedEnd s v x × IsGrown v (run s events w)
   unforged-at x [] w none h = absurd h
-  unforged-at x (e ∷ events) w none h = go (has-either (delivered_ends s w e) (all_of delivered_ends s events (happens s w e)) x h) (unforged-at x events (happens s w e) none.2)
+  unforged-at x (e ∷ events) w none h = go (has_parts (delivered_ends s w e) (all_of delivered_ends s events (happens s w e)) x h) (unforged-at x events (happens s w e) none.2)
     where
       go : Has (delivered_ends s w e) x ⊎ Has (all_of delivered_ends s events (happens s w e)) x → (Has (all_of delivered_ends s events (happens s w e)) x → (v : World) × IsUnforgedEnd s v x × IsGrown v (run s events (happens s w e))) → (v : World) × IsUnforgedEnd s v x × IsGrown v (run s (e ∷ events) w)
-      go (inl h) rest = (w, each-has (IsUnforgedEnd s w) (delivered_ends s w e) x none.1 h, grown-run s (e ∷ events) w)
+      go (inl h) rest = (w, each_has (IsUnforgedEnd s w) (delivered_ends s w e) x none.1 h, grown-run s (e ∷ events) w)
       go (inr h) rest = rest h
 
   pub counted-stated : (events : List Event) → NoForgery s events (new_world s) → (m : ℕ) (seat : Seat) → slice_get (world_after s events).seats m ≡ Some seat

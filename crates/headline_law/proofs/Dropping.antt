@@ -1,7 +1,7 @@
 -- What is dropped was delivered and is dropped for a cause; a valid certificate without shared inputs has none.
 use Rattle.std.proofs.Common.{inl, inr, refl, sym, subst, arith}
 use Rattle.std.proofs.lemmas.Bool.{eq-eqb, ltb-false, lt-leb}
-use Rattle.std.specs.Prelude.{◌≡◌, ◌⊎◌, ◌≤◌, ◌-◌, ℕ, zero, suc, max, Bool, true, false, cond, nat_lt, nat_le, ◌==◌, List, [], ◌∷◌, ◌++◌, filter, find, flat_map, fold, length, map, slice_get, Option, Some, None}
+use Rattle.std.specs.Prelude.{◌≡◌, ◌⊎◌, ◌≤◌, ◌-◌, ℕ, zero, suc, max, Bool, true, false, cond, nat_lt, nat_le, ◌==◌, List, [], ◌∷◌, ◌++◌, find, flat_map, fold, length, map, slice_get, Option, Some, None}
 use Rattle.std.specs.List.{list_any}
 use Rattle.digest_core.specs.declared.Digest.{Digest}
 use Rattle.chain_types.specs.declared.objects.Object.{Object}
@@ -14,11 +14,12 @@ use Rattle.journal_core.specs.declared.records.Record.{Record}
 use Rattle.journal_core.specs.declared.records.Record.TheVariants as record_as
 use Rattle.answer_types.specs.declared.answers.Held.{Held}
 use Rattle.schedule_text.specs.declared.words.Event.{Event}
-use Rattle.protocol_spec.specs.Chain.Words.{Has, Each, where_true}
+use Rattle.protocol_spec.specs.Chain.Words.{Has, Each}
 use Rattle.protocol_spec.specs.Chain.Keys.{has_shared_input, is_shared_input, objects_of, version_limit}
 use Rattle.protocol_spec.specs.Chain.Shape.{is_bad_version, names_bad_version, shape_cases, shape_fault}
 use Rattle.protocol_spec.specs.Chain.Certificates.{Rules, cert_cases, cert_refusal, read_entry}
-use Rattle.protocol_spec.proofs.ListLemmas.{each-push, filter-each, find-each, or-first, or-second}
+use Rattle.protocol_spec.proofs.ListLemmas.{filter-each, find-each, each_push, has_mapped}
+use Rattle.protocol_spec.proofs.Truth.{where_false, or_false_left, or_false_right, map_none}
 use Rattle.protocol_spec.specs.Member.Admission.{Admitted, Admission, admit, entered, is_dropped, is_free, joined_inputs, lacks_shared, not_of, passed_mark, take_free, taken, taken_as, taken_next, taken_version, version_at_admission}
 use Rattle.protocol_spec.specs.Member.Sequence.{Sequence, What, takes, commits, counts, ignores, what_of, counted_as, ends_with_member, with_what, with_entry, saw}
 use Rattle.protocol_spec.specs.Member.Member.{Member, after, fork_of, fresh, held_with, state}
@@ -28,10 +29,9 @@ use Rattle.world_spec.specs.World.{Seat, new_world, member_in}
 use Rattle.world_spec.specs.Run.{world_after}
 use Rattle.world_spec.specs.Assumptions.{all_delivered, entry_certificates, read_list}
 use Rattle.safety_law.proofs.InWorld.{in_world_given}
-use Rattle.safety_law.proofs.Apart.{none-each, none-map, state-push}
+use Rattle.safety_law.proofs.Apart.{none-each, state-push}
 use Rattle.safety_law.proofs.Once.{has-push}
-use Rattle.safety_law.proofs.Totals.{has-mapped}
-use Rattle.sequence_law.proofs.Reading.{has-zip}
+use Rattle.sequence_law.proofs.Reading.{has-zip, has-kept}
 use Rattle.agreement_law.specs.Agreed.{IsHeldAsGiven}
 use Rattle.agreement_law.proofs.Prefixes.{IsSee, due-see}
 use Rattle.agreement_law.proofs.Supply.{Delivers, IsSupplied, Stocked, after-stocked, delivers-run, none-stocked}
@@ -93,7 +93,7 @@ module _ (r : Rules) (total : List Certificate) where
     sorted-what : (q : Sequence) (what : What) → ((h : Held) → what ≡ takes h → Given epoch h) → IsSorted epoch opening q.admission → IsSorted epoch opening (with_what r opening q what).admission
     unfolding entered passed_mark
     sorted-what q (takes h) given sorted = sorted-free (length (q.admission.pending ++ h ∷ [])) (record q.admission { pending = q.admission.pending ++ h ∷ [] })
-        (record { pending = each-push (Given epoch) q.admission.pending h sorted.pending (given h refl); dropped = sorted.dropped })
+        (record { pending = each_push (Given epoch) q.admission.pending h sorted.pending (given h refl); dropped = sorted.dropped })
     sorted-what q commits given sorted = sorted-free (length q.admission.pending) (record q.admission { marked = length q.admission.admitted }) (record { pending = sorted.pending; dropped = sorted.dropped })
     sorted-what q (counts m) given sorted = go (ends_with_member r q m)
       where
@@ -159,38 +159,25 @@ was-dropped s events m seat at =
 
 -- ---- without shared inputs there is no cause
 
-any-none : {A : Type 0} (test : A → Bool) (xs : List A) → ((x : A) → Has xs x → test x ≡ false) → list_any test xs ≡ false
+pub any-none : {A : Type 0} (test : A → Bool) (xs : List A) → ((x : A) → Has xs x → test x ≡ false) → list_any test xs ≡ false
 any-none test [] each = refl
 any-none test (x ∷ xs) each = rw (each x (inl refl)) (any-none test xs (λ y h. each y (inr h)))
 
 none-any : {A : Type 0} (test : A → Bool) (xs : List A) → list_any test xs ≡ false → (x : A) → Has xs x → test x ≡ false
 none-any test [] e x h = absurd h
-none-any {A = A} test (y ∷ ys) e x (inl same) = subst (λ (z : A). test z ≡ false) same (or-first (test y) (list_any test ys) e)
-none-any test (y ∷ ys) e x (inr h) = none-any test ys (or-second (test y) (list_any test ys) e) x h
-
-left-has : {A : Type 0} (test : A → Bool) (xs : List A) (x : A) → Has (filter test xs) x → Has xs x
-left-has test [] x h = absurd h
-left-has test (y ∷ ys) x h = go (test y) h (left-has test ys x)
-  where
-    go : (b : Bool) → Has (cond b (y ∷ filter test ys) (filter test ys)) x → (Has (filter test ys) x → Has ys x) → Has (y ∷ ys) x
-    go true (inl e) rest = inl e
-    go true (inr k) rest = inr (rest k)
-    go false k rest = inr (rest k)
+none-any {A = A} test (y ∷ ys) e x (inl same) = subst (λ (z : A). test z ≡ false) same (or_false_left (test y) (list_any test ys) e)
+none-any test (y ∷ ys) e x (inr h) = none-any test ys (or_false_right (test y) (list_any test ys) e) x h
 
 -- no object of the transaction is a shared input
 pub unshared : (t : Transaction) → has_shared_input t ≡ false → (i : Input) → Has (objects_of t) i → is_shared_input i ≡ false
 unshared t none i (inl e) = subst (λ (j : Input). is_shared_input j ≡ false) e refl
-unshared t none i (inr h) = none-any is_shared_input t.inputs none i (left-has is_object t.inputs i h)
-
-where-none : {A : Type 0} (b : Bool) (x : A) → where_true b x ≡ None → b ≡ false
-where-none true x e = absurd (cc)
-where-none false x e = refl
+unshared t none i (inr h) = none-any is_shared_input t.inputs none i (has-kept is_object t.inputs i h)
 
 valid-versions : (r : Rules) (c : Certificate) → cert_refusal r c ≡ None → (i : Input) → Has (objects_of c.tx) i → names_bad_version i ≡ false
 unfolding cert_refusal shape_fault
 valid-versions r c valid =
     none-any names_bad_version (objects_of c.tx)
-    (where-none (list_any names_bad_version (objects_of c.tx)) 11 (none-each (shape_cases c.tx) (none-map _ (shape_fault c.tx) (none-each (cert_cases r c) valid).0)).1.1.1.1.1.1.1.1.1.1.0)
+    (where_false (list_any names_bad_version (objects_of c.tx)) 11 (none-each (shape_cases c.tx) (map_none _ (shape_fault c.tx) (none-each (cert_cases r c) valid).0)).1.1.1.1.1.1.1.1.1.1.0)
 
 greatest-low : (vs : List ℕ) (a n : ℕ) → a ≤ n → ((v : ℕ) → Has vs v → v ≤ n) → fold max a vs ≤ n
 greatest-low [] a n low each = low
@@ -198,7 +185,7 @@ greatest-low (v ∷ vs) a n low each = let one = each v (inl refl) in greatest-l
 
 module _ (r : Rules) (opening : List Object) (earlier : List Admitted) (c : Certificate) (valid : cert_refusal r c ≡ None) (none : has_shared_input c.tx ≡ false) where
   named-low : (v : ℕ) → is_bad_version v ≡ false → v ≤ version_limit - 2
-  named-low v e = ltb-false (version_limit - 2) v (or-second (v == 0) (nat_lt (version_limit - 2) v) e)
+  named-low v e = ltb-false (version_limit - 2) v (or_false_right (v == 0) (nat_lt (version_limit - 2) v) e)
 
   taken-low : (i : Input) → is_shared_input i ≡ false → names_bad_version i ≡ false → taken_version opening earlier c i ≤ version_limit - 2
   taken-low (inputs.Pure bytes) own good = omega arith
@@ -210,7 +197,7 @@ module _ (r : Rules) (opening : List Object) (earlier : List Admitted) (c : Cert
   unfolding lamport_version
   low =
       let greatest = greatest-low (map (taken_version opening earlier c) (objects_of c.tx)) 0 (version_limit - 2) (omega arith) (λ v h.
-      let i = has-mapped (taken_version opening earlier c) (objects_of c.tx) v h in
+      let i = has_mapped (taken_version opening earlier c) (objects_of c.tx) v h in
       subst (λ (w : ℕ). w ≤ version_limit - 2) i.2 (taken-low i.0 (unshared c.tx none i.0 i.1) (valid-versions r c valid i.0 i.1))) in
       lt-leb version_limit (version_at_admission opening earlier c) (omega (arith, greatest))
 

@@ -4,13 +4,14 @@ use Rattle.std.proofs.lemmas.List.{length-append, length-drop}
 use Rattle.std.specs.Prelude.{◌≡◌, ◌≤◌, ℕ, zero, suc, Bool, true, false, cond, List, [], ◌∷◌, ◌++◌, flat_map, find, fold, length, Option, Some, None}
 use Rattle.chain_types.specs.declared.objects.Object.{Object}
 use Rattle.answer_types.specs.declared.answers.Held.{Held}
+use Rattle.protocol_spec.proofs.ListLemmas.{front_length, flat_append}
 use Rattle.protocol_spec.specs.Chain.Words.{IsFront}
 use Rattle.protocol_spec.specs.Chain.Committee.{weight, is_quorum}
 use Rattle.protocol_spec.specs.Chain.Certificates.{Rules}
-use Rattle.protocol_spec.specs.Member.Admission.{Admitted, Admission, entered, is_dropped, is_free, passed_mark, since_mark, take_free, taken, taken_as, taken_next}
+use Rattle.protocol_spec.specs.Member.Admission.{Admission, entered, is_dropped, is_free, passed_mark, since_mark, take_free, taken, taken_as, taken_next}
 use Rattle.protocol_spec.specs.Member.Sequence.{Cut, Sequence, What, takes, commits, counts, ignores, nothing_seen, what_of, cut_of, last_cut, counted_as, ends_with_member, with_what, with_entry, saw, seen}
 use Rattle.agreement_law.specs.Checkpointed.{admitted_in}
-use Rattle.agreement_law.proofs.Cuts.{cut-seen, flat-append}
+use Rattle.agreement_law.proofs.Cuts.{cut-seen, cut-txs}
 use Rattle.agreement_law.proofs.Prefixes.{earlier-saw}
 use Rattle.headline_law.specs.Ended.{IsWhole}
 
@@ -38,21 +39,14 @@ record IsCutUp (q : Sequence) : Type 0 where
   low : q.admission.marked ≤ length q.admission.admitted
   whole : q.ended ≡ true → cut_length q.cuts ≡ length q.admission.admitted
 
-cut-txs : (txs : List Admitted) → flat_map admitted_in (cut_of txs) ≡ txs
-cut-txs [] = refl
-cut-txs (a ∷ more) = append-nil (a ∷ more)
-
 -- cut once more, with what was admitted since the mark
 cut-more : (q : Sequence) (c : List Cut) → IsCutUp q → q.ended ≡ false → flat_map admitted_in c ≡ since_mark q.admission → cut_length (q.cuts ++ c) ≡ length q.admission.admitted
 cut-more q c up going e =
-    let joined = ap length (flat-append admitted_in q.cuts c) ∙ length-append (flat_map admitted_in q.cuts) (flat_map admitted_in c) in
+    let joined = ap length (flat_append admitted_in q.cuts c) ∙ length-append (flat_map admitted_in q.cuts) (flat_map admitted_in c) in
     let since = ap length e ∙ length-drop q.admission.marked q.admission.admitted in
     let before = up.marked going in
     let low = up.low in
     omega (arith, joined, since, before, low)
-
-front-length : {A : Type 0} (xs ys : List A) → IsFront xs ys → length xs ≤ length ys
-front-length xs ys (more, e) = let n = ap length e ∙ length-append xs more in omega (arith, n)
 
 module _ (r : Rules) (opening : List Object) (epoch : ℕ) where
   -- what an entry does to a sequence that goes on; admission only appends
@@ -85,7 +79,7 @@ module _ (r : Rules) (opening : List Object) (epoch : ℕ) where
 
   up-saw : (q : Sequence) (bytes : List ℕ) → IsCutUp q → IsCutUp (saw r opening epoch q bytes)
   unfolding saw with_entry
-  up-saw q bytes up = go q.ended refl (front-length q.admission.admitted (saw r opening epoch q bytes).admission.admitted (earlier-saw r opening epoch q bytes).admitted)
+  up-saw q bytes up = go q.ended refl (front_length q.admission.admitted (saw r opening epoch q bytes).admission.admitted (earlier-saw r opening epoch q bytes).admitted)
     where
       go : (b : Bool) → q.ended ≡ b → length q.admission.admitted ≤ length (cond b q (with_entry r opening q (what_of r epoch q bytes))).admission.admitted → IsCutUp (cond b q (with_entry r opening q (what_of r epoch q bytes)))
       go true e more = up

@@ -8,6 +8,7 @@ use Rattle.chain_types.specs.declared.transactions.Transaction.{Transaction}
 use Rattle.chain_types.specs.Digests.{transaction_digest}
 use Rattle.answer_types.specs.declared.pieces.Executed.{Executed}
 use Rattle.schedule_text.specs.declared.words.Event.{Event}
+use Rattle.protocol_spec.proofs.Truth.{some_same}
 use Rattle.protocol_spec.specs.Chain.Words.{Has}
 use Rattle.protocol_spec.specs.Chain.Keys.{objects_of, fits}
 use Rattle.protocol_spec.specs.Member.Versions.{Execution}
@@ -17,7 +18,6 @@ use Rattle.world_spec.specs.Setting.{Setting}
 use Rattle.world_spec.specs.Assumptions.{IsHonestRun}
 use Rattle.sequence_law.specs.Orderly.{Step, gave, Makes, IsOpening, AreApart}
 use Rattle.agreement_law.specs.Orderly.{OpensApart}
-use Rattle.agreement_law.proofs.Lists.{some-same}
 use Rattle.agreement_law.proofs.SameSteps.{given-alike}
 use Rattle.headline_law.specs.Chained.{MayWrite, IsExecutedAs}
 use Rattle.headline_law.proofs.Family.{IsSame, IsThere, IsFamily}
@@ -50,7 +50,7 @@ module _ (s : Setting) (events : List Event) (honest : IsHonestRun s events) whe
         let d = digest-of s events honest m settled x it ∙ e ∙ sym (digest-of s events honest m settled y also) in
         let alike = given-alike s events honest m.epoch m.epoch it.of.digest also.of.digest it.of.cert also.of.cert (settled.held it.of it.is_held) (settled.held also.of also.is_held) d in (
           sym it.tx ∙ alike.0 ∙ also.tx,
-          some-same x.inputs y.inputs (sym it.there ∙ same-present m it.of also.of d alike.0 alike.1 ∙ also.there),
+          some_same x.inputs y.inputs (sym it.there ∙ same-present m it.of also.of d alike.0 alike.1 ∙ also.there),
         )
 
     pub runnable-gave : (x y : Step) → IsRunnable m x → IsRunnable m y → transaction_digest x.tx ≡ transaction_digest y.tx → gave x ≡ gave y
@@ -76,7 +76,7 @@ module _ (s : Setting) (events : List Event) (honest : IsHonestRun s events) whe
               may = it.may;
               tx = alike.0 ∙ e.tx;
               there = there;
-              fit = subst (λ (t : Transaction). fits t x.inputs ≡ true) (sym it.tx ∙ alike.0 ∙ e.tx) (subst (λ (os : List Object). fits z.tx os ≡ true) (some-same z.inputs x.inputs (sym it.there ∙ there)) it.fit);
+              fit = subst (λ (t : Transaction). fits t x.inputs ≡ true) (sym it.tx ∙ alike.0 ∙ e.tx) (subst (λ (os : List Object). fits z.tx os ≡ true) (some_same z.inputs x.inputs (sym it.there ∙ there)) it.fit);
             }
 
   -- ---- families

@@ -1,7 +1,7 @@
 -- A run executes all that was admitted, one behind the other: each waits for admitted ones before it. So it builds the
 -- checkpoint of each cut.
 use Rattle.std.proofs.Common.{inl, inr, refl, sym, subst, ◌∙◌, append_assoc, append-nil}
-use Rattle.std.specs.Prelude.{◌≡◌, ◌⊎◌, ℕ, Bool, true, false, not, ◌||◌, List, [], ◌∷◌, ◌++◌, map, flat_map, slice_get, Option, Some, None, option_map, Ok, nat_le, Err}
+use Rattle.std.specs.Prelude.{◌≡◌, ◌⊎◌, ℕ, Bool, true, false, not, List, [], ◌∷◌, ◌++◌, map, flat_map, slice_get, Option, Some, None, option_map, Ok, nat_le, Err}
 use Rattle.digest_core.specs.declared.Digest.{Digest}
 use Rattle.chain_types.specs.declared.objects.ObjectId.{ObjectId}
 use Rattle.chain_types.specs.declared.objects.Object.{Object}
@@ -14,6 +14,9 @@ use Rattle.answer_types.specs.declared.answers.Ran.{Ran}
 use Rattle.answer_types.specs.declared.refusals.TurnRefusal.{TurnRefusal}
 use Rattle.answer_types.specs.declared.refusals.TurnRefusal.TheVariants as no_turn
 use Rattle.schedule_text.specs.declared.words.Event.{Event}
+use Rattle.protocol_spec.proofs.Equality.{digest_same}
+use Rattle.protocol_spec.proofs.ListLemmas.{each_has, has_left, has_parts, has_mapped, flat_has}
+use Rattle.protocol_spec.proofs.Truth.{or_right, some_same}
 use Rattle.protocol_spec.specs.Chain.Words.{Has, Each, Along, first_some, first_of, where_true, last_where, unless_refused}
 use Rattle.protocol_spec.specs.Chain.Tests.{origins_eq}
 use Rattle.protocol_spec.specs.Chain.Keys.{objects_of, has_shared_input}
@@ -27,31 +30,29 @@ use Rattle.world_spec.specs.Setting.{Setting}
 use Rattle.world_spec.specs.World.{Seat, member_in}
 use Rattle.world_spec.specs.Run.{world_after}
 use Rattle.world_spec.specs.Assumptions.{IsHonestRun, all_delivered}
-use Rattle.safety_law.proofs.Once.{each-has, equal, digest-same, has-push, has-left}
+use Rattle.safety_law.proofs.Once.{digest-same, has-push}
+use Rattle.safety_law.proofs.Totals.{each-all}
+use Rattle.sequence_law.proofs.Live.{any-has, has-any}
 use Rattle.sequence_law.specs.Admitted.{IsInOrder, is_origin_in}
 use Rattle.agreement_law.specs.Agreed.{IsHeldAsGiven}
 use Rattle.agreement_law.proofs.Supply.{every-held, every-admission}
 use Rattle.sequence_law.specs.Orderly.{AreApart}
-use Rattle.sequence_law.proofs.Touched.{has-parts, has-mapped}
 use Rattle.agreement_law.specs.Checkpointed.{admitted_in, IsBuilt}
-use Rattle.agreement_law.proofs.Lists.{some-same, has-middle, has-second, any-has, has-any, all-has, each-all, first-says}
+use Rattle.agreement_law.proofs.Lists.{has-middle, all-has, first-says}
 use Rattle.agreement_law.proofs.SameSteps.{given-alike}
 use Rattle.agreement_law.proofs.Executed.{admitted-given}
 use Rattle.agreement_law.proofs.Checkpointed.{all-cut}
-use Rattle.agreement_law.proofs.Turned.{has-all, flat-has}
+use Rattle.agreement_law.proofs.Turned.{has-all}
 use Rattle.headline_law.specs.Runs.{HasNothingToWaitFor}
 use Rattle.headline_law.proofs.Undropped.{IsKept, none-dropped}
 use Rattle.headline_law.proofs.AssignedShared.{along-both, last-has, IsAdmittedAs, wanted-current}
 use Rattle.headline_law.proofs.Running.{runs-execute-all}
 use Rattle.headline_law.proofs.Stock.{IsHeldUnder, admitted-held}
+use Rattle.block_law.proofs.Written.{second}
 
 along-at : {A : Type 0} (P : List A → A → Type 0) (before front : List A) (x : A) (back : List A) → Along P before (front ++ (x ∷ back)) → P (before ++ front) x
 along-at {A = A} P before [] x back along = subst (λ (b : List A). P b x) (sym (append-nil before)) along.0
 along-at {A = A} P before (y ∷ front) x back along = subst (λ (b : List A). P b x) (append_assoc before (y ∷ []) front) (along-at P (before ++ y ∷ []) front x back along.1)
-
-or-true : (a b : Bool) → b ≡ true → (a || b) ≡ true
-or-true true b e = refl
-or-true false b e = e
 
 same-origins : (xs : List (Option Digest)) → origins_eq xs xs ≡ true
 same-origins [] = refl
@@ -70,20 +71,20 @@ module _ (executed : List Execution) where
     origin-done None e = refl
     origin-done (Some tx) e =
         let b = any-has (λ (b : Admitted). digest_eq b.digest tx) front e in
-        subst (λ (d : Digest). is_executed executed d ≡ true) (equal b.0.digest tx b.2) (each b.0 b.1).itself
+        subst (λ (d : Digest). is_executed executed d ≡ true) (digest_same b.0.digest tx b.2) (each b.0 b.1).itself
 
     module _ (a : Admitted) (origins : (d : Option Digest) → Has a.cert.origins d → is_origin_done executed d ≡ true) where
       abbrev certs : List Certificate
       certs = map cert_of front ++ a.cert ∷ []
 
       cert-origins : (c : Certificate) → Has certs c → (d : Option Digest) → Has c.origins d → is_origin_done executed d ≡ true
-      cert-origins c h = go (has-parts (map cert_of front) (a.cert ∷ []) c h)
+      cert-origins c h = go (has_parts (map cert_of front) (a.cert ∷ []) c h)
         where
           Origins : Certificate → Type 0
           Origins c = (d : Option Digest) → Has c.origins d → is_origin_done executed d ≡ true
 
           go : Has (map cert_of front) c ⊎ Has (a.cert ∷ []) c → Origins c
-          go (inl k) = let b = has-mapped cert_of front c k in subst Origins b.2 (each b.0 b.1).origins
+          go (inl k) = let b = has_mapped cert_of front c k in subst Origins b.2 (each b.0 b.1).origins
           go (inr (inl e)) = subst Origins e origins
           go (inr (inr k)) = absurd k
 
@@ -98,7 +99,7 @@ module _ (executed : List Execution) where
           by (Some tx) done = done
 
           go : (t : Bool) → where_true t (begins opening x initial d) ≡ Some st → is_maker_done executed (Some st.1) ≡ true
-          go true e = subst (λ (z : Standing). is_maker_done executed (Some z.1) ≡ true) (some-same (begins opening x initial d) st e) (by d done)
+          go true e = subst (λ (z : Standing). is_maker_done executed (Some z.1) ≡ true) (some_same (begins opening x initial d) st e) (by d done)
           go false e = absurd (cc)
 
       -- the writer of the current version of a shared object
@@ -113,7 +114,7 @@ module _ (executed : List Execution) where
           go None h (Some st) k =
               let c = first-says (beginning_by opening id) certs st k in
               let x = first-says (beginning opening id) (joined_inputs c.0) st c.2 in
-              begun-done opening id x.0.0 x.0.1 (cert-origins c.0 c.1 x.0.1 (has-second (objects_of c.0.tx) c.0.origins x.0.0 x.0.1 x.1)) st x.2
+              begun-done opening id x.0.0 x.0.1 (cert-origins c.0 c.1 x.0.1 (second (objects_of c.0.tx) c.0.origins x.0.0 x.0.1 x.1)) st x.2
 
 -- ---- a run
 
@@ -138,7 +139,7 @@ module _ (s : Setting) (events : List Event) (honest : IsHonestRun s events) (di
       record {
         under = under;
         alike = given-alike s events honest m.epoch m.epoch a.digest under.of.digest a.cert under.of.cert (admitted-given s events honest n seat at a there)
-            (each-has (IsHeldAsGiven s.rules (all_delivered s events) m.epoch) m.held under.of (every-held s events n seat at) under.held) (sym under.digest);
+            (each_has (IsHeldAsGiven s.rules (all_delivered s events) m.epoch) m.held under.of (every-held s events n seat at) under.held) (sym under.digest);
       }
 
   module _ (front back : List Admitted) (a : Admitted) (split : admitted ≡ front ++ (a ∷ back)) (each : (b : Admitted) → Has front b → IsDone executed b) where
@@ -168,20 +169,20 @@ module _ (s : Setting) (events : List Event) (honest : IsHonestRun s events) (di
       unfolding as-admitted
       writer-done (inputs.Pure bytes) d k = refl
       writer-done (inputs.Owned r) None k = refl
-      writer-done (inputs.Owned r) (Some tx) k = held-origins (Some tx) (has-second (objects_of h.cert.tx) h.cert.origins (inputs.Owned r) (Some tx) k)
+      writer-done (inputs.Owned r) (Some tx) k = held-origins (Some tx) (second (objects_of h.cert.tx) h.cert.origins (inputs.Owned r) (Some tx) k)
       writer-done (inputs.Immutable r) None k = refl
-      writer-done (inputs.Immutable r) (Some tx) k = held-origins (Some tx) (has-second (objects_of h.cert.tx) h.cert.origins (inputs.Immutable r) (Some tx) k)
+      writer-done (inputs.Immutable r) (Some tx) k = held-origins (Some tx) (second (objects_of h.cert.tx) h.cert.origins (inputs.Immutable r) (Some tx) k)
       writer-done (inputs.Shared id initial mutable) d k = subst (λ (w : Wanted). is_maker_done executed w.producer ≡ true)
           (sym (wanted-current s events honest distinct n seat at h as-admitted id initial mutable d k)) (current-done executed front each a origins-done m.opening id)
 
       waits-for-nothing : HasNothingToWaitFor (with_rounds m) h
       unfolding wants_of
       waits-for-nothing = record {
-        may = or-true (not (has_shared_input h.cert.tx)) (is_admitted admitted h.digest)
+        may = or_right (not (has_shared_input h.cert.tx)) (is_admitted admitted h.digest)
             (has-any (λ (x : Admitted). digest_eq x.digest h.digest) admitted a there (subst (λ (d : Digest). digest_eq a.digest d ≡ true) (sym held.under.digest) (digest-same a.digest)));
         origins = has-all (is_origin_done executed) h.cert.origins held-origins;
         writers = has-all (λ (w : Wanted). is_maker_done executed w.producer) (map (wanted_by (assigned_of m.sequence.admission h.digest)) (joined_inputs h.cert)) (λ w k.
-            let x = has-mapped (wanted_by (assigned_of m.sequence.admission h.digest)) (joined_inputs h.cert) w k in
+            let x = has_mapped (wanted_by (assigned_of m.sequence.admission h.digest)) (joined_inputs h.cert) w k in
             subst (λ (z : Wanted). is_maker_done executed z.producer ≡ true) x.2 (writer-done x.0.0 x.0.1 x.1));
       }
 
@@ -211,7 +212,7 @@ module _ (s : Setting) (events : List Event) (honest : IsHonestRun s events) (di
   pub runs-build-all : Each (IsBuilt (with_rounds m)) m.sequence.cuts
   runs-build-all = each-all (IsBuilt (with_rounds m)) m.sequence.cuts (λ c h. has-all (is_done m.held executed) c.txs (λ a k.
       let front = all-cut s events n seat at in
-      admitted-done a (subst (λ (zs : List Admitted). Has zs a) (sym front.1) (has-left (flat_map admitted_in m.sequence.cuts) front.0 a (flat-has admitted_in m.sequence.cuts c a h k)))))
+      admitted-done a (subst (λ (zs : List Admitted). Has zs a) (sym front.1) (has_left (flat_map admitted_in m.sequence.cuts) front.0 a (flat_has admitted_in m.sequence.cuts c a h k)))))
 
   -- behind the run no admitted certificate keeps the member in its epoch
   none-waits : (txs : List Admitted) → ((a : Admitted) → Has txs a → Has admitted a) → first_of (not_done (with_rounds m)) txs ≡ None

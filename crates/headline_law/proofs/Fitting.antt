@@ -16,7 +16,8 @@ use Rattle.answer_types.specs.declared.answers.Held.{Held}
 use Rattle.schedule_text.specs.declared.words.Event.{Event}
 use Rattle.protocol_spec.specs.Chain.Words.{Has, repeats, where_true}
 use Rattle.protocol_spec.specs.Chain.Keys.{object_key, objects_of, is_address, is_owned_by, is_immutable, fits_input}
-use Rattle.protocol_spec.proofs.ListLemmas.{and-first, find-test}
+use Rattle.protocol_spec.proofs.ListLemmas.{and-first, find-test, find_has}
+use Rattle.protocol_spec.proofs.Truth.{where_not_true}
 use Rattle.protocol_spec.specs.Member.Versions.{Execution, Version, versions, is_key, version_at, object_in}
 use Rattle.protocol_spec.specs.Member.Votes.{Ballot, object_held, of_held, absent, wrong_digest, wrong_owner, wrong_kind, vote_cases, vote_refusal, maker, made_by}
 use Rattle.protocol_spec.specs.Member.Admission.{joined_inputs}
@@ -26,8 +27,7 @@ use Rattle.world_spec.specs.Setting.{Setting}
 use Rattle.world_spec.specs.World.{Seat, member_in}
 use Rattle.world_spec.specs.Run.{world_after}
 use Rattle.world_spec.specs.Assumptions.{IsHonestRun}
-use Rattle.safety_law.proofs.Apart.{none-each, none-of, accepted}
-use Rattle.safety_law.proofs.Kept.{find-has}
+use Rattle.safety_law.proofs.Apart.{none-each, none-of}
 use Rattle.agreement_law.specs.Explained.{IsExplained}
 use Rattle.agreement_law.proofs.Executing.{executions-explained}
 use Rattle.agreement_law.proofs.Agreeing.{one-key, both-key}
@@ -86,7 +86,7 @@ module _ (b : Ballot) (m : Member) (openings : b.opening ≡ m.opening) (same : 
   held-one None e o q d from p f = absurd (cc)
   held-one (Some u) e o q d from p f =
       let k = find-test (is_key key) (versions b.opening b.executed) u e in
-      let one = version-one u p (find-has (is_key key) (versions b.opening b.executed) u e) k (subst (λ (c : Option Digest). found there (wanted_version key c) ≡ Some p) (sym from) f) in
+      let one = version-one u p (find_has (is_key key) (versions b.opening b.executed) u e) k (subst (λ (c : Option Digest). found there (wanted_version key c) ≡ Some p) (sym from) f) in
       (sym (of-some u.object o q) ∙ one, subst (λ (r : Object). key_eq (object_key r) key ≡ true) one k)
     where
       of-some : (x y : Object) → Some x ≡ Some y → x ≡ y
@@ -105,16 +105,16 @@ not-both false false refusal e f = absurd (cc)
 module _ (b : Ballot) (t : Transaction) (o : Object) where
   owned-fits : (r : ObjectRef) → object_held b (key_of r) ≡ Some o → wrong_digest b (inputs.Owned r) ≡ None → wrong_owner b t (inputs.Owned r) ≡ None → wrong_kind b (inputs.Owned r) ≡ None → key_eq (object_key o) (key_of r) ≡ true → fits_input t (inputs.Owned r) o ≡ true
   owned-fits r held digest who kind key =
-      let address = accepted (is_address o.owner) (refused.WrongKind (key_of r)) (subst (λ (h : Option Object). where_true (of_held h (λ (p : Object). not (is_address p.owner))) (refused.WrongKind (key_of r)) ≡ None) held kind) in
+      let address = where_not_true (is_address o.owner) (refused.WrongKind (key_of r)) (subst (λ (h : Option Object). where_true (of_held h (λ (p : Object). not (is_address p.owner))) (refused.WrongKind (key_of r)) ≡ None) held kind) in
       both (id_eq o.id r.id) (o.version == r.version) (digest_eq (digest_of_object o) r.digest) (is_owned_by t.sender o.owner) key
-      (accepted (digest_eq (digest_of_object o) r.digest) (refused.WrongDigest (key_of r)) (subst (λ (h : Option Object). where_true (of_held h (λ (p : Object). not (digest_eq (digest_of_object p) r.digest))) (refused.WrongDigest (key_of r)) ≡ None) held digest))
+      (where_not_true (digest_eq (digest_of_object o) r.digest) (refused.WrongDigest (key_of r)) (subst (λ (h : Option Object). where_true (of_held h (λ (p : Object). not (digest_eq (digest_of_object p) r.digest))) (refused.WrongDigest (key_of r)) ≡ None) held digest))
       (not-both (is_address o.owner) (is_owned_by t.sender o.owner) (refused.WrongOwner (key_of r)) (subst (λ (h : Option Object). where_true (of_held h (λ (p : Object). is_address p.owner && not (is_owned_by t.sender p.owner))) (refused.WrongOwner (key_of r)) ≡ None) held who) address)
 
   frozen-fits : (r : ObjectRef) → object_held b (key_of r) ≡ Some o → wrong_digest b (inputs.Immutable r) ≡ None → wrong_kind b (inputs.Immutable r) ≡ None → key_eq (object_key o) (key_of r) ≡ true → fits_input t (inputs.Immutable r) o ≡ true
   frozen-fits r held digest kind key =
       both (id_eq o.id r.id) (o.version == r.version) (digest_eq (digest_of_object o) r.digest) (is_immutable o.owner) key
-      (accepted (digest_eq (digest_of_object o) r.digest) (refused.WrongDigest (key_of r)) (subst (λ (h : Option Object). where_true (of_held h (λ (p : Object). not (digest_eq (digest_of_object p) r.digest))) (refused.WrongDigest (key_of r)) ≡ None) held digest))
-      (accepted (is_immutable o.owner) (refused.WrongKind (key_of r)) (subst (λ (h : Option Object). where_true (of_held h (λ (p : Object). not (is_immutable p.owner))) (refused.WrongKind (key_of r)) ≡ None) held kind))
+      (where_not_true (digest_eq (digest_of_object o) r.digest) (refused.WrongDigest (key_of r)) (subst (λ (h : Option Object). where_true (of_held h (λ (p : Object). not (digest_eq (digest_of_object p) r.digest))) (refused.WrongDigest (key_of r)) ≡ None) held digest))
+      (where_not_true (is_immutable o.owner) (refused.WrongKind (key_of r)) (subst (λ (h : Option Object). where_true (of_held h (λ (p : Object). not (is_immutable p.owner))) (refused.WrongKind (key_of r)) ≡ None) held kind))
 
 -- ---- at a member
 
@@ -148,12 +148,12 @@ module _ (m : Member) (t : Transaction) (apart : AreApart m.opening) (once : (y 
   input-fits (inputs.Pure bytes) d seen = tt
   input-fits (inputs.Owned r) d seen = λ p f.
       let ok = is-accepted seen.voter t seen.free (inputs.Owned r) seen.there in
-      let o = held-some seen.voter (key_of r) (accepted (is_some (object_held seen.voter (key_of r))) (refused.Absent (key_of r)) ok.held) in
+      let o = held-some seen.voter (key_of r) (where_not_true (is_some (object_held seen.voter (key_of r))) (refused.Absent (key_of r)) ok.held) in
       let one = held-one seen.voter m seen.openings seen.same apart once (key_of r) (version_at (versions seen.voter.opening seen.voter.executed) (key_of r)) refl o.0 o.1 d seen.origin p f in
       owned-fits seen.voter t p r (o.1 ∙ ap Some one.0) ok.digest ok.who ok.kind one.1
   input-fits (inputs.Immutable r) d seen = λ p f.
       let ok = is-accepted seen.voter t seen.free (inputs.Immutable r) seen.there in
-      let o = held-some seen.voter (key_of r) (accepted (is_some (object_held seen.voter (key_of r))) (refused.Absent (key_of r)) ok.held) in
+      let o = held-some seen.voter (key_of r) (where_not_true (is_some (object_held seen.voter (key_of r))) (refused.Absent (key_of r)) ok.held) in
       let one = held-one seen.voter m seen.openings seen.same apart once (key_of r) (version_at (versions seen.voter.opening seen.voter.executed) (key_of r)) refl o.0 o.1 d seen.origin p f in
       frozen-fits seen.voter t p r (o.1 ∙ ap Some one.0) ok.digest ok.kind one.1
   input-fits (inputs.Shared id initial mutable) d seen = tt

@@ -7,6 +7,7 @@ use Rattle.answer_types.specs.declared.answers.Ran.{Ran}
 use Rattle.report_text.specs.declared.lines.Line.{Line}
 use Rattle.schedule_text.specs.declared.words.Event.{Event}
 use Rattle.schedule_text.specs.declared.words.Event.TheVariants as event
+use Rattle.protocol_spec.proofs.ListLemmas.{has_left, has_map, set_get}
 use Rattle.protocol_spec.specs.Chain.Words.{Has}
 use Rattle.protocol_spec.specs.Member.Versions.{Execution}
 use Rattle.protocol_spec.specs.Member.Rounds.{rounds}
@@ -19,12 +20,9 @@ use Rattle.world_spec.specs.Report.{checkpoint_lines, effects_line, left_line, l
 use Rattle.world_spec.specs.Run.{world_after}
 use Rattle.safety_law.proofs.Apart.{state-push}
 use Rattle.safety_law.proofs.Grown.{world-append}
-use Rattle.safety_law.proofs.Once.{has-left}
-use Rattle.safety_law.proofs.Totals.{has-map}
 use Rattle.headline_law.specs.Runs.{IsKeptOutBehind, RunsAs}
 use Rattle.headline_law.proofs.Completing.{runs-complete}
 use Rattle.headline_law.specs.Executing.{CanRun, LineExecutes, ReadyIsExecuted}
-use Rattle.headline_law.proofs.Halting.{set-there}
 
 module _ (s : Setting) (seat : Seat) where
   -- what a run leaves in the records, where so much was executed
@@ -73,7 +71,7 @@ module _ (s : Setting) (events : List Event) (m workers : ℕ) (seat : Seat) (at
   seat-behind : (ran : Ran) → run_answer s.rules (member_in s seat) ≡ Ok ran → slice_get (world_after s (events ++ event.Run m workers ∷ [])).seats m ≡ Some new
   seat-behind ran e =
       ap (λ (v : World). slice_get v.seats m) (world-append s events (event.Run m workers ∷ []) ∙ world-behind ran e)
-      ∙ set-there w.seats m seat new at
+      ∙ set_get w.seats m seat new at
 
   -- the lines of the run
   lines-are : (ran : Ran) → run_answer s.rules (member_in s seat) ≡ Ok ran → lines_of s w (event.Run m workers) ≡ run_answered s w m (Ok ran)
@@ -88,7 +86,7 @@ module _ (s : Setting) (events : List Event) (m workers : ℕ) (seat : Seat) (at
     there = seat-behind it.ran it.answer;
     executed = subst (λ (xs : List Execution). Has xs x) (sym (ran-executed s seat executed refl)) it.stands;
     told = subst (λ (ls : List Line). Has ls (effects_line w x.gave.effects)) (sym (lines-are it.ran it.answer))
-        (inr (has-left (map (effects_line w) it.ran.executed) (map (left_line s w) it.ran.left ++ checkpoint_lines w it.ran.built) (effects_line w x.gave.effects) (has-map (effects_line w) it.ran.executed x.gave.effects it.told)));
+        (inr (has_left (map (effects_line w) it.ran.executed) (map (left_line s w) it.ran.left ++ checkpoint_lines w it.ran.built) (effects_line w x.gave.effects) (has_map (effects_line w) it.ran.executed x.gave.effects it.told)));
   }
 
 pub ready-is-executed : (s : Setting) (events : List Event) → ReadyIsExecuted s events

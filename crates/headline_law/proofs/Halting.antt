@@ -1,7 +1,7 @@
 -- A line of the report that says that a member met two certificates that consume one version comes of a member that
 -- holds two such, before the line or behind it.
 use Rattle.std.proofs.Common.{inl, inr, refl, sym, subst, ap, append_assoc, append-nil, ◌∙◌}
-use Rattle.std.specs.Prelude.{◌≡◌, ◌⊎◌, ℕ, zero, suc, min, Bool, true, false, cond, not, ◌==◌, List, [], ◌∷◌, ◌++◌, slice_get, slice_set, Option, Some, None, option_map, option_and_then, Ok}
+use Rattle.std.specs.Prelude.{◌≡◌, ◌⊎◌, ℕ, zero, suc, min, Bool, true, false, cond, not, ◌==◌, List, [], ◌∷◌, ◌++◌, slice_get, Option, Some, None, option_map, option_and_then, Ok}
 use Rattle.chain_messages.specs.Messages as messages
 use Rattle.chain_messages.specs.declared.messages.Certificate.{Certificate}
 use Rattle.chain_messages.specs.declared.messages.Entry.{Entry}
@@ -16,6 +16,7 @@ use Rattle.schedule_text.specs.declared.words.Event.{Event}
 use Rattle.schedule_text.specs.declared.words.Event.TheVariants as event
 use Rattle.report_text.specs.declared.lines.Line.{Line}
 use Rattle.report_text.specs.declared.lines.AckText.TheVariants as ack_text
+use Rattle.protocol_spec.proofs.ListLemmas.{set_get, each_join}
 use Rattle.protocol_spec.specs.Chain.Words.{Each, first_some, where_true}
 use Rattle.protocol_spec.specs.Member.Sequence.{held_as}
 use Rattle.protocol_spec.specs.Member.Member.{Fork, Member, after, fork_in, fork_of, fork_with, live_objects}
@@ -26,14 +27,8 @@ use Rattle.world_spec.specs.Names.{cert_named, made_named, shown_order}
 use Rattle.world_spec.specs.Step.{entries_left, happens, sent}
 use Rattle.world_spec.specs.Report.{Lines, ack_lines, ack_reached, and_lines, call_lines, cert_lines, close_reached, end_reached, entries_lines, entry_reached, final_lines, fvote_lines, hold_reached, hold_said, is_seat_up, lines_of, none_taken, object_line, run_reached, see_halted, see_up, send_said, show_up, turn_reached, vote_lines, vote_reached, vote_said}
 use Rattle.safety_law.proofs.Apart.{state-push}
-use Rattle.safety_law.proofs.Forks.{each-join}
 use Rattle.headline_law.specs.Alarms.{halts_ack, halts_close, halts_end, halts_send, halts_vote}
 use Rattle.headline_law.proofs.Calming.{IsCalmLine, MeetsFork, SeesFork, ack-calm, calm-mapped, close-calm, end-calm, hold-calm, run-calm, see-calm, turn-calm, vote-calm}
-
-pub set-there : {A : Type 0} (xs : List A) (i : ℕ) (y x : A) → slice_get xs i ≡ Some y → slice_get (slice_set xs i x) i ≡ Some x
-set-there [] i y x e = absurd (cc)
-set-there (z ∷ xs) zero y x e = refl
-set-there (z ∷ xs) (suc i) y x e = set-there xs i y x e
 
 -- a fork with what is held last is a fork
 fork-last : (earlier hs : List Held) (h : Held) (f : Fork) → fork_with (earlier ++ hs) h ≡ Some f → (g : Fork) × (fork_in earlier (hs ++ h ∷ []) ≡ Some g)
@@ -127,7 +122,7 @@ module _ (s : Setting) where
       let new : Seat = record it.seat { records = it.seat.records ++ y ∷ [] } in
       subst (λ (v : World). IsForked v m) (sym left) (record {
         seat = new;
-        at = set-there w.seats m it.seat new it.at;
+        at = set_get w.seats m it.seat new it.at;
         fork = f;
         is = ap fork_of (state-push s.rules s.opening it.seat.records y) ∙ (ap (λ (n : Member). fork_of (after s.rules n y)) it.same ∙ q);
       })
@@ -200,7 +195,7 @@ module _ (s : Setting) where
   stays-forked w m number bytes it = subst (λ (o : Option Seat). IsForked (called_seat s w m (sees number bytes) o) m) (sym it.at) (go it.seat.up it.seat.armed (due s.rules (member_in s it.seat) (sees number bytes)) (due-forked (member_in s it.seat) it.fork it.is number bytes))
     where
       same : IsForked (behind s w m (sees number bytes) it.seat (answers (member_in s it.seat) None)) m
-      same = record { seat = record it.seat { records = it.seat.records }; at = set-there w.seats m it.seat (record it.seat { records = it.seat.records }) it.at; fork = it.fork; is = it.is }
+      same = record { seat = record it.seat { records = it.seat.records }; at = set_get w.seats m it.seat (record it.seat { records = it.seat.records }) it.at; fork = it.fork; is = it.is }
 
       go : (up : Bool) (armed : Option Bool) (x : Option Record) → x ≡ None → IsForked (behind s w m (sees number bytes) it.seat (cond up (reached_up (member_in s it.seat) armed x) finds_down)) m
       go false armed x e = it
@@ -224,7 +219,7 @@ module _ (s : Setting) where
   sees-forked (suc n) w m it = sees-forked n (called_if s w m (next_call s w m)) m (next-forked w m it)
 
   and-calm : (ls : Lines) (rest : List Line) → Each IsCalmLine ls.0 → Each IsCalmLine rest → Each IsCalmLine (and_lines ls rest)
-  and-calm (ls, true) rest one two = each-join IsCalmLine ls rest one two
+  and-calm (ls, true) rest one two = each_join IsCalmLine ls rest one two
   and-calm (ls, false) rest one two = one
 
   entries-calm : (n : ℕ) (w : World) (m : ℕ) → NotForked w m → Each IsCalmLine (entries_lines s n w m) ⊎ IsForked (sees_on s n w m) m

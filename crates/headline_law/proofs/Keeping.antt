@@ -1,29 +1,29 @@
 -- Under the run assumptions nothing is kept out of its round, so a run executes all that is ready before it or behind some
 -- of its rounds.
-use Rattle.std.proofs.Common.{inl, inr, refl, sym, subst, ap, append_assoc, ◌∙◌}
-use Rattle.std.specs.Prelude.{◌≡◌, ◌⊎◌, ℕ, true, List, [], ◌∷◌, ◌++◌, flat_map, find, map, slice_get, Option, Some, None, option_map, Ok}
+use Rattle.std.proofs.Common.{inl, inr, sym, subst, ap, append_assoc, ◌∙◌}
+use Rattle.std.specs.Prelude.{◌≡◌, ◌⊎◌, ℕ, true, List, [], ◌∷◌, ◌++◌, flat_map, map, slice_get, Some, Ok}
 use Rattle.std.specs.List.{list_any}
 use Rattle.chain_types.specs.declared.objects.Object.{Object}
 use Rattle.chain_types.specs.declared.objects.ObjectKey.{ObjectKey}
 use Rattle.answer_types.specs.declared.answers.Held.{Held}
 use Rattle.answer_types.specs.declared.answers.Ran.{Ran}
 use Rattle.schedule_text.specs.declared.words.Event.{Event}
-use Rattle.protocol_spec.specs.Chain.Words.{Has, all_some, onto_some}
+use Rattle.protocol_spec.proofs.Executions.{versions_more}
+use Rattle.protocol_spec.proofs.ListLemmas.{has_left, has_right}
+use Rattle.protocol_spec.specs.Chain.Words.{Has, all_some}
 use Rattle.protocol_spec.specs.Chain.Tests.{has_key}
 use Rattle.protocol_spec.specs.Block.Execution.{execution, written_keys}
-use Rattle.protocol_spec.specs.Member.Versions.{Execution, Version, is_executed, object_in, opened, versions, written_by}
-use Rattle.protocol_spec.specs.Member.Rounds.{Books, Wanted, found, is_wanted, may_run, present, ready, round_among, round_of, rounds, rounds_within, wants_of}
+use Rattle.protocol_spec.specs.Member.Versions.{Execution, Version, is_executed, versions, written_by}
+use Rattle.protocol_spec.specs.Member.Rounds.{Books, found, may_run, present, ready, round_among, round_of, rounds, rounds_within, wants_of}
 use Rattle.protocol_spec.specs.Member.Member.{Member, books, with_rounds}
 use Rattle.protocol_spec.specs.Member.Calls.{run_answer}
 use Rattle.world_spec.specs.Setting.{Setting}
 use Rattle.world_spec.specs.World.{Seat, member_in}
 use Rattle.world_spec.specs.Run.{world_after}
 use Rattle.world_spec.specs.Assumptions.{IsHonestRun}
-use Rattle.safety_law.proofs.Once.{has-left}
+use Rattle.sequence_law.proofs.Live.{any-has}
 use Rattle.sequence_law.specs.Orderly.{AreApart}
-use Rattle.sequence_law.proofs.Reading.{has-right}
-use Rattle.agreement_law.proofs.Executing.{find-more, some-parts}
-use Rattle.agreement_law.proofs.Lists.{any-has}
+use Rattle.agreement_law.proofs.Executing.{all-found}
 use Rattle.headline_law.specs.Runs.{IsKeptOut, ready_behind}
 use Rattle.headline_law.proofs.Behind.{IsRunOn, run-on, start_and_run}
 use Rattle.headline_law.proofs.Completing.{among-append, is-one-round, what-is-ready}
@@ -32,33 +32,9 @@ use Rattle.headline_law.proofs.Keys.{nothing-clashes, was-executed}
 
 -- ---- what is present stays
 
-flat-join : {A B : Type 0} (f : A → List B) (xs ys : List A) → flat_map f (xs ++ ys) ≡ flat_map f xs ++ flat_map f ys
-flat-join f [] ys = refl
-flat-join f (x ∷ xs) ys = ap (λ zs. f x ++ zs) (flat-join f xs ys) ∙ sym (append_assoc (f x) (flat_map f xs) (flat_map f ys))
-
-versions-join : (opening : List Object) (before more : List Execution) → versions opening (before ++ more) ≡ versions opening before ++ flat_map written_by more
-unfolding versions
-versions-join opening before more = ap (λ vs. map opened opening ++ vs) (flat-join written_by before more) ∙ sym (append_assoc (map opened opening) (flat_map written_by before) (flat_map written_by more))
-
-found-still : (held more : List Version) (w : Wanted) (o : Object) → found held w ≡ Some o → found (held ++ more) w ≡ Some o
-found-still held more w o e = go (find (is_wanted w.key w.producer) held) refl e
-  where
-    go : (f : Option Version) → find (is_wanted w.key w.producer) held ≡ f → option_map object_in f ≡ Some o → found (held ++ more) w ≡ Some o
-    go None h e = absurd (cc)
-    go (Some v) h e = ap (option_map object_in) (find-more (is_wanted w.key w.producer) held more v h) ∙ e
-
-all-still : (held more : List Version) (ws : List Wanted) (os : List Object) → all_some (map (found held) ws) ≡ Some os → all_some (map (found (held ++ more)) ws) ≡ Some os
-all-still held more [] os e = e
-all-still held more (w ∷ ws) os e =
-    let parts = some-parts (found held w) (map (found held) ws) os e in
-    joined (found (held ++ more) w) parts.0 (found-still held more w parts.0 parts.2) ∙ (ap (onto_some parts.0) (all-still held more ws parts.1 parts.3) ∙ parts.4)
-  where
-    joined : (f : Option Object) (o : Object) → f ≡ Some o → all_some (f ∷ map (found (held ++ more)) ws) ≡ onto_some o (all_some (map (found (held ++ more)) ws))
-    joined f o e = ap (λ (g : Option Object). all_some (g ∷ map (found (held ++ more)) ws)) e
-
 present-still : (b : Books) (before more : List Execution) (h : Held) (os : List Object) → present b before h ≡ Some os → present b (before ++ more) h ≡ Some os
 unfolding present
-present-still b before more h os e = subst (λ (vs : List Version). all_some (map (found vs) (wants_of b.admission h)) ≡ Some os) (sym (versions-join b.opening before more)) (all-still (versions b.opening before) (flat_map written_by more) (wants_of b.admission h) os e)
+present-still b before more h os e = subst (λ (vs : List Version). all_some (map (found vs) (wants_of b.admission h)) ≡ Some os) (sym (versions_more b.opening before more)) (all-found (versions b.opening before) (flat_map written_by more) (wants_of b.admission h) os e)
 
 -- ---- no two write one key
 
@@ -80,7 +56,7 @@ module _ (b : Books) (executed : List Execution) (alike : AreAlike b (executed +
 
   executed-in : (y : Execution) → Has (round_of b behind) y → y.digest ≡ h.digest → is_executed (executed ++ rounds b executed) h.digest ≡ true
   executed-in y there same = was-executed (executed ++ rounds b executed) y h.digest
-      (has-right executed (rounds b executed) y (subst (λ (r : List Execution). Has r y) (sym one.1) (has-right (rounds_within n b executed) (round_of b behind ++ one.0) y (has-left (round_of b behind) one.0 y there)))) same
+      (has_right executed (rounds b executed) y (subst (λ (r : List Execution). Has r y) (sym one.1) (has_right (rounds_within n b executed) (round_of b behind ++ one.0) y (has_left (round_of b behind) one.0 y there)))) same
 
   digest-of : (k : Held) (y : Execution) → ready b behind k ≡ Some y → y.digest ≡ k.digest
   digest-of k y q = ap (λ (z : Execution). z.digest) (ready-says b behind k y q).is
@@ -102,7 +78,7 @@ module _ (b : Books) (executed : List Execution) (alike : AreAlike b (executed +
   kept-executed out =
       let key = any-has (λ (key : ObjectKey). list_any (λ (y : Execution). has_key (written_keys y.gave) key) (round_among b behind [] out.front)) (written_keys x.gave) out.clash in
       let y = any-has (λ (y : Execution). has_key (written_keys y.gave) key.0) (round_among b behind [] out.front) key.2 in
-      let k = from (among-from b behind b.held out.front [] (λ z r. subst (λ (hs : List Held). Has hs z) (sym out.split) (has-left out.front (h ∷ out.back) z r)) y.0 y.1) in
+      let k = from (among-from b behind b.held out.front [] (λ z r. subst (λ (hs : List Held). Has hs z) (sym out.split) (has_left out.front (h ∷ out.back) z r)) y.0 y.1) in
       executed-in y.0 (among-round out.front out.back out.split y.0 y.1)
       (digest-of k.0 y.0 k.2 ∙ sym (kept-same k.0 y.0 k.1 k.2 key.0 key.1 (key-there b behind (written_keys y.0.gave) key.0 y.2)))
     where
@@ -114,7 +90,7 @@ module _ (b : Books) (executed : List Execution) (alike : AreAlike b (executed +
   ready-executed = go (what-is-ready b executed n h x held e)
     where
       go : Has (rounds b executed) x ⊎ IsKeptOut b behind h x → is_executed (executed ++ rounds b executed) h.digest ≡ true
-      go (inl there) = was-executed (executed ++ rounds b executed) x h.digest (has-right executed (rounds b executed) x there) (digest-of h x e)
+      go (inl there) = was-executed (executed ++ rounds b executed) x h.digest (has_right executed (rounds b executed) x there) (digest-of h x e)
       go (inr out) = kept-executed out
 
 -- ---- in an honest run

@@ -12,9 +12,11 @@ use Rattle.chain_types.specs.Digests.{transaction_digest}
 use Rattle.answer_types.specs.declared.pieces.Executed.{Executed}
 use Rattle.answer_types.specs.declared.answers.Held.{Held}
 use Rattle.schedule_text.specs.declared.words.Event.{Event}
+use Rattle.protocol_spec.proofs.Equality.{id_same}
 use Rattle.protocol_spec.specs.Chain.Words.{Has, repeats, where_true}
 use Rattle.protocol_spec.specs.Chain.Keys.{object_key, fits}
-use Rattle.protocol_spec.proofs.ListLemmas.{and-first, and-second, or-first, or-second}
+use Rattle.protocol_spec.proofs.ListLemmas.{and-first, and-second, has_mapped}
+use Rattle.protocol_spec.proofs.Truth.{or_false_left, or_false_right}
 use Rattle.protocol_spec.specs.Block.Execution.{execution, written_keys}
 use Rattle.protocol_spec.specs.Member.Versions.{Execution, Version, versions, object_in, is_executed}
 use Rattle.protocol_spec.specs.Member.Rounds.{Books, present, may_run, holds_key, writes_new, executes_as, ready_as, ready_on, ready}
@@ -24,11 +26,9 @@ use Rattle.world_spec.specs.World.{Seat, member_in}
 use Rattle.world_spec.specs.Run.{world_after}
 use Rattle.world_spec.specs.Assumptions.{IsHonestRun}
 use Rattle.safety_law.proofs.Once.{digest-same}
-use Rattle.block_law.proofs.Counts.{id_same}
+use Rattle.sequence_law.proofs.Live.{any-has}
 use Rattle.sequence_law.specs.Orderly.{Step, gave, id_of, AreApart}
-use Rattle.sequence_law.proofs.Touched.{has-mapped}
 use Rattle.agreement_law.specs.Orderly.{OpensApart}
-use Rattle.agreement_law.proofs.Lists.{any-has}
 use Rattle.agreement_law.proofs.Known.{opens-apart}
 use Rattle.headline_law.proofs.Present.{has-find, IsOpened, IsWrote, version-from}
 use Rattle.headline_law.proofs.Family.{IsFamily}
@@ -57,7 +57,7 @@ was-executed executed y d h e = has-find (λ (x : Execution). digest_eq x.digest
 -- objects with different ids have different keys
 other-keys : (o : Object) (os : List Object) (more : List ObjectId) → list_any (id_eq o.id) (map id_of os ++ more) ≡ false → list_any (key_eq (object_key o)) (map object_key os) ≡ false
 other-keys o [] more e = refl
-other-keys o (p ∷ os) more e = go (id_eq o.id p.id) (or-first (id_eq o.id p.id) (list_any (id_eq o.id) (map id_of os ++ more)) e) (other-keys o os more (or-second (id_eq o.id p.id) (list_any (id_eq o.id) (map id_of os ++ more)) e))
+other-keys o (p ∷ os) more e = go (id_eq o.id p.id) (or_false_left (id_eq o.id p.id) (list_any (id_eq o.id) (map id_of os ++ more)) e) (other-keys o os more (or_false_right (id_eq o.id p.id) (list_any (id_eq o.id) (map id_of os ++ more)) e))
   where
     go : (b : Bool) → b ≡ false → list_any (key_eq (object_key o)) (map object_key os) ≡ false → ((b && (o.version == p.version)) || list_any (key_eq (object_key o)) (map object_key os)) ≡ false
     go true e rest = absurd (cc)
@@ -66,8 +66,8 @@ other-keys o (p ∷ os) more e = go (id_eq o.id p.id) (or-first (id_eq o.id p.id
 keys-once : (os : List Object) (more : List ObjectId) → repeats id_eq (map id_of os ++ more) ≡ false → repeats key_eq (map object_key os) ≡ false
 keys-once [] more e = refl
 keys-once (o ∷ os) more e = go (list_any (key_eq (object_key o)) (map object_key os))
-    (other-keys o os more (or-first (list_any (id_eq o.id) (map id_of os ++ more)) (repeats id_eq (map id_of os ++ more)) e))
-    (keys-once os more (or-second (list_any (id_eq o.id) (map id_of os ++ more)) (repeats id_eq (map id_of os ++ more)) e))
+    (other-keys o os more (or_false_left (list_any (id_eq o.id) (map id_of os ++ more)) (repeats id_eq (map id_of os ++ more)) e))
+    (keys-once os more (or_false_right (list_any (id_eq o.id) (map id_of os ++ more)) (repeats id_eq (map id_of os ++ more)) e))
   where
     go : (b : Bool) → b ≡ false → repeats key_eq (map object_key os) ≡ false → (b || repeats key_eq (map object_key os)) ≡ false
     go true e rest = absurd (cc)
@@ -155,7 +155,7 @@ module _ (s : Setting) (events : List Event) (honest : IsHonestRun s events) (di
       where
         no-key : (key : ObjectKey) → Has (written_keys (execution h.cert.tx objects)) key → holds_key (versions m.opening m.executed) key ≡ true → ⊥
         no-key key there holds =
-            let p = has-mapped object_key (gave x).objects key there in
+            let p = has_mapped object_key (gave x).objects key there in
             let v = any-has (λ (v : Version). key_eq (object_key v.object) key) (versions m.opening m.executed) holds in
             key-apart idle p.0 p.1 v.0 v.1
             (id_same v.0.object.id key.id (and-first (id_eq v.0.object.id key.id) (v.0.object.version == key.version) v.2) ∙ sym (ap (λ (k : ObjectKey). k.id) p.2))
@@ -170,7 +170,7 @@ module _ (s : Setting) (events : List Event) (honest : IsHonestRun s events) (di
 
   pub nothing-clashes : (h k : Held) (objects others : List Object) → MayExecute m h objects → MayExecute m k others → (key : ObjectKey) → Has (written_keys (execution h.cert.tx objects)) key → Has (written_keys (execution k.cert.tx others)) key → h.digest ≡ k.digest
   nothing-clashes h k objects others it to key one two =
-      let p = has-mapped object_key (gave (as-step h objects)).objects key one in
-      let q = has-mapped object_key (gave (as-step k others)).objects key two in
+      let p = has_mapped object_key (gave (as-step h objects)).objects key one in
+      let q = has_mapped object_key (gave (as-step k others)).objects key two in
       let same = all-writers m.opening (IsRunnable m) all-runnable (as-step h objects) (as-step k others) (runnable h objects it) (runnable k others to) p.0 q.0 p.1 q.1 (ap (λ (z : ObjectKey). z.id) (p.2 ∙ sym q.2)) (ap (λ (z : ObjectKey). z.version) (p.2 ∙ sym q.2)) in
       digest-is h objects it ∙ same.digest ∙ sym (digest-is k others to)

@@ -1,17 +1,19 @@
 -- What is in the sequence, as far as it was seen, stays in it: admitted, dropped or pending.
 use Rattle.std.proofs.Common.{inl, inr, refl, sym, subst, ◌∙◌}
-use Rattle.std.specs.Prelude.{◌≡◌, ◌⊎◌, ℕ, zero, suc, Bool, true, false, cond, ◌||◌, List, [], ◌∷◌, ◌++◌, filter, find, length, Option, Some, None}
+use Rattle.std.specs.Prelude.{◌≡◌, ◌⊎◌, ℕ, zero, suc, Bool, true, false, cond, ◌||◌, List, [], ◌∷◌, ◌++◌, find, length, Option, Some, None}
 use Rattle.std.specs.List.{list_any}
 use Rattle.digest_core.specs.declared.Digest.{Digest}
 use Rattle.chain_types.specs.declared.objects.Object.{Object}
 use Rattle.chain_types.specs.Equal.{digest_eq}
 use Rattle.answer_types.specs.declared.answers.Held.{Held}
+use Rattle.protocol_spec.proofs.Equality.{digest_same}
+use Rattle.protocol_spec.proofs.ListLemmas.{push_has, has_left}
 use Rattle.protocol_spec.specs.Chain.Words.{Has}
 use Rattle.protocol_spec.specs.Chain.Certificates.{Rules}
 use Rattle.protocol_spec.specs.Member.Admission.{Admitted, Admission, admit, entered, is_admitted, is_dropped, is_free, is_known, not_of, passed_mark, take_free, taken, taken_as, taken_next}
 use Rattle.protocol_spec.specs.Member.Sequence.{Sequence, What, takes, commits, counts, ignores, what_of, counted_as, ends_with_member, with_what, with_entry, saw}
-use Rattle.safety_law.proofs.Once.{digest-same, equal, has-last, has-left}
-use Rattle.agreement_law.proofs.Lists.{any-has, has-any}
+use Rattle.safety_law.proofs.Once.{digest-same}
+use Rattle.sequence_law.proofs.Live.{passed-has, any-has, has-any}
 
 -- it was admitted, dropped, or waits
 abbrev pub IsIn : Admission → Digest → Type 0
@@ -28,12 +30,12 @@ module _ (a : Admission) (tx : Digest) where
   in-known e = go (is_admitted a.admitted tx) refl (list_any (digest_eq tx) a.dropped) refl (list_any is_waiting a.pending) refl e
     where
       among : (b : Bool) → is_admitted a.admitted tx ≡ b → b ≡ true → (x : Admitted) × Has a.admitted x × (x.digest ≡ tx)
-      among b e t = let x = any-has is_this a.admitted (subst (λ (c : Bool). is_admitted a.admitted tx ≡ c) t e) in (x.0, x.1, equal x.0.digest tx x.2)
+      among b e t = let x = any-has is_this a.admitted (subst (λ (c : Bool). is_admitted a.admitted tx ≡ c) t e) in (x.0, x.1, digest_same x.0.digest tx x.2)
 
       go : (x : Bool) → is_admitted a.admitted tx ≡ x → (y : Bool) → list_any (digest_eq tx) a.dropped ≡ y → (z : Bool) → list_any is_waiting a.pending ≡ z → (x || y || z) ≡ true → IsIn a tx
       go true p y q z r e = inl (among true p refl)
-      go false p true q z r e = let d = any-has (digest_eq tx) a.dropped q in inr (inl (subst (Has a.dropped) (sym (equal tx d.0 d.2)) d.1))
-      go false p false q true r e = let h = any-has is_waiting a.pending r in inr (inr (h.0, h.1, equal h.0.digest tx h.2))
+      go false p true q z r e = let d = any-has (digest_eq tx) a.dropped q in inr (inl (subst (Has a.dropped) (sym (digest_same tx d.0 d.2)) d.1))
+      go false p false q true r e = let h = any-has is_waiting a.pending r in inr (inr (h.0, h.1, digest_same h.0.digest tx h.2))
       go false p false q false r e = absurd (cc)
 
   or-left : (x y : Bool) → x ≡ true → (x || y) ≡ true
@@ -52,39 +54,25 @@ module _ (a : Admission) (tx : Digest) where
   known-in (inr (inl d)) = or-left (is_admitted a.admitted tx || list_any (digest_eq tx) a.dropped) (list_any is_waiting a.pending) (or-right (is_admitted a.admitted tx) (list_any (digest_eq tx) a.dropped) (has-any (digest_eq tx) a.dropped tx d (digest-same tx)))
   known-in (inr (inr h)) = or-right (is_admitted a.admitted tx || list_any (digest_eq tx) a.dropped) (list_any is_waiting a.pending) (has-any is_waiting a.pending h.0 h.1 (same-as h.0.digest h.2))
 
--- an element of a list is left by a test that it passes
-left-in : {A : Type 0} (test : A → Bool) (xs : List A) (x : A) → Has xs x → test x ≡ true → Has (filter test xs) x
-left-in test [] x h e = absurd h
-left-in {A = A} test (y ∷ ys) x (inl same) e = go (test y) (subst (λ (z : A). test z ≡ true) (sym same) e)
-  where
-    go : (b : Bool) → b ≡ true → Has (cond b (y ∷ filter test ys) (filter test ys)) x
-    go true t = inl same
-    go false t = absurd (cc)
-left-in test (y ∷ ys) x (inr h) e = go (test y) (left-in test ys x h e)
-  where
-    go : (b : Bool) → Has (filter test ys) x → Has (cond b (y ∷ filter test ys) (filter test ys)) x
-    go true k = inr k
-    go false k = k
-
 -- ---- what is taken, and what an entry does
 
 module _ (r : Rules) (opening : List Object) (tx : Digest) where
   in-taken_as : (b : Bool) (a : Admission) (h : Held) → IsIn a tx → IsIn (taken_as b opening a h) tx
   unfolding admit
   in-taken_as true a h (inl x) = inl x
-  in-taken_as true a h (inr (inl d)) = inr (inl (has-left a.dropped (h.digest ∷ []) tx d))
+  in-taken_as true a h (inr (inl d)) = inr (inl (has_left a.dropped (h.digest ∷ []) tx d))
   in-taken_as true a h (inr (inr k)) = go (digest_eq h.digest k.0.digest) refl
     where
       go : (b : Bool) → digest_eq h.digest k.0.digest ≡ b → IsIn (taken_as true opening a h) tx
-      go true e = inr (inl (subst (Has (a.dropped ++ h.digest ∷ [])) (equal h.digest k.0.digest e ∙ k.2) (has-last a.dropped h.digest)))
-      go false e = inr (inr (k.0, left-in (not_of h) a.pending k.0 k.1 (rw e refl), k.2))
-  in-taken_as false a h (inl x) = inl (x.0, has-left a.admitted (admit opening a.admitted h ∷ []) x.0 x.1, x.2)
+      go true e = inr (inl (subst (Has (a.dropped ++ h.digest ∷ [])) (digest_same h.digest k.0.digest e ∙ k.2) (push_has a.dropped h.digest)))
+      go false e = inr (inr (k.0, passed-has (not_of h) a.pending k.0 k.1 (rw e refl), k.2))
+  in-taken_as false a h (inl x) = inl (x.0, has_left a.admitted (admit opening a.admitted h ∷ []) x.0 x.1, x.2)
   in-taken_as false a h (inr (inl d)) = inr (inl d)
   in-taken_as false a h (inr (inr k)) = go (digest_eq h.digest k.0.digest) refl
     where
       go : (b : Bool) → digest_eq h.digest k.0.digest ≡ b → IsIn (taken_as false opening a h) tx
-      go true e = inl (admit opening a.admitted h, has-last a.admitted (admit opening a.admitted h), equal h.digest k.0.digest e ∙ k.2)
-      go false e = inr (inr (k.0, left-in (not_of h) a.pending k.0 k.1 (rw e refl), k.2))
+      go true e = inl (admit opening a.admitted h, push_has a.admitted (admit opening a.admitted h), digest_same h.digest k.0.digest e ∙ k.2)
+      go false e = inr (inr (k.0, passed-has (not_of h) a.pending k.0 k.1 (rw e refl), k.2))
 
   in-free : (n : ℕ) (a : Admission) → IsIn a tx → IsIn (take_free r.writers opening n a) tx
   in-free zero a is = is
@@ -101,7 +89,7 @@ module _ (r : Rules) (opening : List Object) (tx : Digest) where
   in-more : (a : Admission) (h : Held) → IsIn a tx → IsIn (record a { pending = a.pending ++ h ∷ [] }) tx
   in-more a h (inl x) = inl x
   in-more a h (inr (inl d)) = inr (inl d)
-  in-more a h (inr (inr k)) = inr (inr (k.0, has-left a.pending (h ∷ []) k.0 k.1, k.2))
+  in-more a h (inr (inr k)) = inr (inr (k.0, has_left a.pending (h ∷ []) k.0 k.1, k.2))
 
   in-mark : (a : Admission) (n : ℕ) → IsIn a tx → IsIn (record a { marked = n }) tx
   in-mark a n (inl x) = inl x
@@ -134,7 +122,7 @@ in-taken r opening epoch q bytes h going e = go q.ended going
   where
     one : IsIn (with_what r opening q (what_of r epoch q bytes)).admission h.digest
     one = subst (λ (what : What). IsIn (with_what r opening q what).admission h.digest) (sym e)
-        (in-entered r opening h.digest q.admission h (inr (inr (h, has-last q.admission.pending h, refl))))
+        (in-entered r opening h.digest q.admission h (inr (inr (h, push_has q.admission.pending h, refl))))
 
     go : (b : Bool) → b ≡ false → IsIn (cond b q (with_entry r opening q (what_of r epoch q bytes))).admission h.digest
     go true e = absurd (cc)

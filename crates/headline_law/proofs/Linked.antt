@@ -1,50 +1,37 @@
 -- Of two versions of one id the lower was passed on. By induction on the higher, with no order of the transactions.
 use Rattle.std.proofs.Common.{inl, inr, refl, sym, subst, ap, ◌∙◌, arith}
-use Rattle.std.specs.Prelude.{◌≡◌, ◌⊎◌, ◌<◌, ◌≤◌, ℕ, zero, suc, Bool, true, false, nat_lt, List, [], ◌∷◌, ◌++◌, map, zip, Result, Ok, Err}
+use Rattle.std.specs.Prelude.{◌≡◌, ◌⊎◌, ◌<◌, ◌≤◌, ℕ, zero, suc, Bool, true, false, nat_lt, List, ◌++◌, map, zip}
 use Rattle.std.proofs.lemmas.Bool.{ltb-true, ltb-false}
 use Rattle.std.specs.FinMap.{get}
 use Rattle.digest_core.specs.declared.Digest.{Digest}
 use Rattle.chain_types.specs.declared.objects.ObjectId.{ObjectId}
 use Rattle.chain_types.specs.declared.objects.Object.{Object}
 use Rattle.chain_types.specs.declared.transactions.Input.{Input}
-use Rattle.chain_types.specs.declared.transactions.Transaction.{Transaction}
 use Rattle.chain_types.specs.Equal.{id_eq}
 use Rattle.chain_types.specs.Digests.{transaction_digest}
 use Rattle.answer_types.specs.declared.pieces.Executed.{Executed}
+use Rattle.protocol_spec.proofs.Executions.{effects_tx}
 use Rattle.protocol_spec.specs.Chain.Words.{Has, numbers_below, repeats}
-use Rattle.protocol_spec.specs.Chain.Keys.{objects_of, named_ids, version_of, fits_input, fit_inputs}
-use Rattle.protocol_spec.proofs.ListLemmas.{and-second}
-use Rattle.protocol_spec.specs.Block.Block.{Block}
-use Rattle.protocol_spec.specs.Block.Execution.{Failure, outcome, execution, executed_by}
+use Rattle.protocol_spec.specs.Chain.Keys.{objects_of, named_ids, version_of}
+use Rattle.protocol_spec.proofs.ListLemmas.{has_mapped}
+use Rattle.protocol_spec.proofs.Truth.{some_same}
 use Rattle.protocol_spec.specs.Member.Sequential.{map_of, map_after}
 use Rattle.block_law.specs.Names.{drawn_id, drawn_ids, touched_ids}
 use Rattle.block_law.proofs.Effects.{objects-ids}
+use Rattle.block_law.proofs.Written.{below, fits-first, second as has-second}
 use Rattle.sequence_law.specs.Orderly.{Step, gave, id_of, Makes, AreApart}
 use Rattle.sequence_law.proofs.Standing.{stands-after, stands-opening}
-use Rattle.sequence_law.proofs.Touched.{has-mapped, below, IsReplaced, IsTouched, touched-object, written-version, above}
-use Rattle.sequence_law.proofs.Reading.{fits-inputs, given-once}
-use Rattle.agreement_law.proofs.Lists.{some-same, has-second}
+use Rattle.sequence_law.proofs.Touched.{IsReplaced, IsTouched, touched-object, written-version, above}
+use Rattle.sequence_law.proofs.Reading.{given-once}
+use Rattle.agreement_law.proofs.Chains.{input-of}
 use Rattle.agreement_law.proofs.Ordered.{repeats-append}
+use Rattle.agreement_law.proofs.Versions.{effects-version}
 use Rattle.headline_law.specs.Chained.{MayWrite}
 use Rattle.headline_law.proofs.Family.{IsSame, IsThere, IsFamily}
 
-effects-tx : (t : Transaction) (objects : List Object) → (execution t objects).effects.tx ≡ transaction_digest t
-unfolding execution
-effects-tx t objects = go (outcome t (transaction_digest t) objects)
-  where
-    go : (r : Result Block Failure) → (executed_by t (transaction_digest t) objects r).effects.tx ≡ transaction_digest t
-    go (Ok b) = refl
-    go (Err failure) = refl
-
-input-of : (t : Transaction) (is : List Input) (os : List Object) (o : Object) → fit_inputs t is os ≡ true → Has os o → (i : Input) × Has (zip is os) (i, o)
-input-of t is [] o e h = absurd h
-input-of t [] (p ∷ os) o e h = absurd (cc)
-input-of t (i ∷ is) (p ∷ os) o e (inl q) = (i, inl (ap (λ (z : Object). (i, z)) q))
-input-of t (i ∷ is) (p ∷ os) o e (inr h) = let r = input-of t is os o (and-second (fits_input t i p) (fit_inputs t is os) e) h in (r.0, inr r.1)
-
 -- of objects with different ids two with one id are one
 one-opening : (os : List Object) (a b : Object) → AreApart os → Has os a → Has os b → a.id ≡ b.id → a ≡ b
-one-opening os a b apart h k e = some-same a b (sym (stands-opening os a apart h) ∙ ap (get (map_of os)) e ∙ stands-opening os b apart k)
+one-opening os a b apart h k e = some_same a b (sym (stands-opening os a apart h) ∙ ap (get (map_of os)) e ∙ stands-opening os b apart k)
 
 nat-order : (a b : ℕ) → (a < b) ⊎ (b ≤ a)
 nat-order a b = go (nat_lt a b) refl
@@ -60,14 +47,6 @@ taken-below x p o h i named =
     let low = above x.inputs o (has-second (objects_of x.tx) x.inputs i o named) in
     let at = written-version x p h in
     omega (arith, low, at)
-
-effects-version : (t : Transaction) (objects : List Object) → (execution t objects).effects.version ≡ version_of objects
-unfolding execution
-effects-version t objects = go (outcome t (transaction_digest t) objects)
-  where
-    go : (r : Result Block Failure) → (executed_by t (transaction_digest t) objects r).effects.version ≡ version_of objects
-    go (Ok b) = refl
-    go (Err failure) = refl
 
 same-version : (x y : Step) → IsSame x y → version_of x.inputs ≡ version_of y.inputs
 same-version x y same = sym (effects-version x.tx x.inputs) ∙ ap (λ (g : Executed). g.effects.version) same.given ∙ effects-version y.tx y.inputs
@@ -138,19 +117,19 @@ module _ (opening : List Object) (Among : Step → Type 0) (f : IsFamily opening
 
   named-not-drawn : (x : Step) → Among x → (id : ObjectId) → Has (named_ids x.tx) id → Makes x id → ⊥
   named-not-drawn x ax id named makes =
-      let o = has-mapped id_of x.inputs id (subst (λ (ids : List ObjectId). Has ids id) (sym (objects-ids x.tx x.inputs (f.fit x ax))) named) in
-      let i = input-of x.tx (objects_of x.tx) x.inputs o.0 (fits-inputs x.tx x.inputs (f.fit x ax)) o.1 in
+      let o = has_mapped id_of x.inputs id (subst (λ (ids : List ObjectId). Has ids id) (sym (objects-ids x.tx x.inputs (f.fit x ax))) named) in
+      let i = input-of x.tx (objects_of x.tx) x.inputs o.0 (fits-first x.tx x.inputs (f.fit x ax)) o.1 in
       let low = above x.inputs o.0 o.1 in
       let high = made-least (suc o.0.version) x ax id makes o.0 (f.sources x ax i.0 o.0 i.1) o.2 (omega arith) in
       absurd (omega (arith, low, high))
 
   touched-once : (x : Step) → Among x → repeats id_eq (touched_ids x.tx (gave x).effects) ≡ false
-  touched-once x ax = subst (λ (d : Digest). repeats id_eq (named_ids x.tx ++ drawn_ids d (gave x).effects.created) ≡ false) (sym (effects-tx x.tx x.inputs))
+  touched-once x ax = subst (λ (d : Digest). repeats id_eq (named_ids x.tx ++ drawn_ids d (gave x).effects.created) ≡ false) (sym (effects_tx x.tx x.inputs))
       (repeats-append (named_ids x.tx) (drawn_ids (transaction_digest x.tx) (gave x).effects.created) (f.names x ax) (f.draws x ax) apart)
     where
       apart : (a b : ObjectId) → Has (named_ids x.tx) a → Has (drawn_ids (transaction_digest x.tx) (gave x).effects.created) b → a ≡ b → ⊥
       apart a b named drawn e =
-          let k = has-mapped (drawn_id (transaction_digest x.tx)) (numbers_below (gave x).effects.created) b drawn in
+          let k = has_mapped (drawn_id (transaction_digest x.tx)) (numbers_below (gave x).effects.created) b drawn in
           named-not-drawn x ax a named (k.0, below (gave x).effects.created k.0 k.1, k.2 ∙ sym e)
 
   pub gave-once : (x : Step) → Among x → repeats id_eq (map id_of (gave x).objects ++ (gave x).effects.deleted) ≡ false
@@ -160,7 +139,7 @@ module _ (opening : List Object) (Among : Step → Type 0) (f : IsFamily opening
   pub wrote-once : (x : Step) → Among x → (p q : Object) → Has (gave x).objects p → Has (gave x).objects q → p.id ≡ q.id → p ≡ q
   wrote-once x ax p q h k e =
       let once = gave-once x ax in
-      some-same p q (sym (stands-after (map_of opening) (gave x) p once h) ∙ ap (get (map_after (map_of opening) (gave x))) e ∙ stands-after (map_of opening) (gave x) q once k)
+      some_same p q (sym (stands-after (map_of opening) (gave x) p once h) ∙ ap (get (map_after (map_of opening) (gave x))) e ∙ stands-after (map_of opening) (gave x) q once k)
 
   -- ---- the chain
 

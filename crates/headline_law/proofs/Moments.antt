@@ -1,5 +1,5 @@
 -- Each moment of an honest run.
-use Rattle.std.proofs.Common.{◌≡◌, List, [], ◌∷◌, ◌++◌, Some, Ok, refl, sym, subst, ap}
+use Rattle.std.proofs.Common.{◌≡◌, List, [], ◌++◌, Some, Ok, sym, subst}
 use Rattle.std.specs.Prelude.{ℕ, slice_get}
 use Rattle.schedule_text.specs.declared.words.Schedule.{Schedule}
 use Rattle.schedule_text.specs.declared.words.Event.{Event}
@@ -27,10 +27,7 @@ use Rattle.headline_law.proofs.Reciting.{report-calm}
 use Rattle.headline_law.proofs.Reporting.{read-front}
 use Rattle.headline_law.proofs.Standing.{final-stands}
 use Rattle.headline_law.specs.Headline.{Agree, AreSafe, Holds, IsPromised, Stands}
-
-append_nil : {A : Type 0} (xs : List A) → xs ++ [] ≡ xs
-append_nil [] = refl
-append_nil (x ∷ xs) = ap (λ ys. x ∷ ys) (append_nil xs)
+use Rattle.protocol_spec.proofs.ListLemmas.{append_nil}
 
 module _ (text : List ℕ) (t : Schedule) (read : schedule_of text ≡ Ok t) (trust : Trust) (front back : List Event) (cut : t.events ≡ front ++ back) (honest : IsHonestRun (setting_of trust t.setup) front) where
   -- a front, and nothing behind it

@@ -9,6 +9,7 @@ use Rattle.answer_types.specs.declared.answers.Held.{Held}
 use Rattle.answer_types.specs.declared.pieces.Executed.{Executed}
 use Rattle.journal_core.specs.declared.records.Record.{Record}
 use Rattle.schedule_text.specs.declared.words.Event.{Event}
+use Rattle.protocol_spec.proofs.ListLemmas.{each_has}
 use Rattle.protocol_spec.specs.Chain.Words.{Has}
 use Rattle.protocol_spec.specs.Chain.Committee.{is_among}
 use Rattle.protocol_spec.specs.Member.Versions.{Execution}
@@ -21,7 +22,7 @@ use Rattle.safety_law.proofs.Forks.{all-front}
 use Rattle.safety_law.proofs.Fronts.{honest-front}
 use Rattle.safety_law.proofs.Journals.{every-record}
 use Rattle.safety_law.proofs.Meeting.{two_meet}
-use Rattle.safety_law.proofs.Once.{each-has}
+use Rattle.safety_law.proofs.Owner.{honest-after}
 use Rattle.safety_law.proofs.Voted.{seat-of}
 use Rattle.sequence_law.specs.Orderly.{AreApart}
 use Rattle.agreement_law.specs.Agreed.{IsHeldAsGiven}
@@ -34,7 +35,7 @@ use Rattle.agreement_law.proofs.Supply.{every-held}
 use Rattle.headline_law.specs.Stated.{HasExecuted, WasOnce}
 use Rattle.headline_law.proofs.Saying.{every-ack}
 use Rattle.headline_law.proofs.Settling.{still-executed}
-use Rattle.headline_law.proofs.Standing.{among-has, are-alike, honest-after}
+use Rattle.headline_law.proofs.Standing.{among-has, are-alike}
 use Rattle.headline_law.proofs.Along.{epoch-grows}
 use Rattle.headline_law.proofs.Turning.{IsLast, last-moment}
 
@@ -59,7 +60,7 @@ module _ (s : Setting) (events : List Event) (run_is : IsHonestRun s events) (m 
   unfolding all_delivered
   given-of epoch effects l had =
       let it = (along-split (IsExplained (books (member_in s l.seat))) [] (member_in s l.seat).executed had.of (executions-explained s l.front l.member l.seat l.there) had.there).3 in
-      let g = each-has (IsHeldAsGiven s.rules (all_delivered s l.front) (member_in s l.seat).epoch) (member_in s l.seat).held it.of (every-held s l.front l.member l.seat l.there) it.is_held in (
+      let g = each_has (IsHeldAsGiven s.rules (all_delivered s l.front) (member_in s l.seat).epoch) (member_in s l.seat).held it.of (every-held s l.front l.member l.seat l.there) it.is_held in (
         it.of,
         record {
           digest_is = g.digest_is;
@@ -96,7 +97,7 @@ final-agreed s events run_is distinct epoch tx effects members final front back 
     go : (k : ℕ) × (k < length s.rules.stakes) × (is_among members k ≡ true) × (is_among members k ≡ true) × (is_faulty_in s.honest k ≡ false) → others ≡ effects
     go (k, low, first, second, sound) =
         let there = seat-of s events run_is k (honest-after s events k sound) in
-        let acked = every-ack s events k there.0 there.1 there.2 epoch tx effects (each-has (λ (n : ℕ). Has (world_after s events).said (said_by n (statement.Ack epoch tx effects))) members k final.said (among-has members k first)) in
+        let acked = every-ack s events k there.0 there.1 there.2 epoch tx effects (each_has (λ (n : ℕ). Has (world_after s events).said (said_by n (statement.Ack epoch tx effects))) members k final.said (among-has members k first)) in
         let l = last-of s events run_is k there.0 there.1 tx epoch effects acked in
         let also = had-at s events run_is k there.0 there.1 tx epoch effects acked l in
         let alike = are-alike s events run_is distinct front l.front back l.back (sym split) l.whole m l.member seat l.seat at l.there (had.epoch_is ∙ sym also.epoch_is) in
@@ -111,7 +112,7 @@ final-once s events run_is tx epoch other effects others members peers one two =
     go : (k : ℕ) × (k < length s.rules.stakes) × (is_among members k ≡ true) × (is_among peers k ≡ true) × (is_faulty_in s.honest k ≡ false) → (epoch ≡ other) × (effects ≡ others)
     go (k, low, first, second, sound) =
         let there = seat-of s events run_is k (honest-after s events k sound) in
-        let acked = every-ack s events k there.0 there.1 there.2 epoch tx effects (each-has (λ (n : ℕ). Has (world_after s events).said (said_by n (statement.Ack epoch tx effects))) members k one.said (among-has members k first)) in
-        let also = every-ack s events k there.0 there.1 there.2 other tx others (each-has (λ (n : ℕ). Has (world_after s events).said (said_by n (statement.Ack other tx others))) peers k two.said (among-has peers k second)) in
+        let acked = every-ack s events k there.0 there.1 there.2 epoch tx effects (each_has (λ (n : ℕ). Has (world_after s events).said (said_by n (statement.Ack epoch tx effects))) members k one.said (among-has members k first)) in
+        let also = every-ack s events k there.0 there.1 there.2 other tx others (each_has (λ (n : ℕ). Has (world_after s events).said (said_by n (statement.Ack other tx others))) peers k two.said (among-has peers k second)) in
         let same = one-epoch s events run_is k there.0 there.1 tx epoch other effects others acked also in
         (same, one-effects s events run_is k there.0 there.1 tx epoch effects others acked (subst (λ (e : ℕ). WasOnce s there.0.records (HasExecuted e tx others)) (sym same) also))

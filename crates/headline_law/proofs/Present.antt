@@ -17,8 +17,9 @@ use Rattle.answer_types.specs.declared.answers.Held.{Held}
 use Rattle.schedule_text.specs.declared.words.Event.{Event}
 use Rattle.protocol_spec.specs.Chain.Words.{Has}
 use Rattle.protocol_spec.specs.Chain.Keys.{object_key, objects_of}
-use Rattle.protocol_spec.proofs.ListLemmas.{find-test}
-use Rattle.protocol_spec.specs.Member.Versions.{Execution, Version, opened, written, written_by, versions, is_key, version_at, object_in, execution_of, is_executed}
+use Rattle.protocol_spec.proofs.ListLemmas.{find-test, has_parts, each_has, has_left, find_has, has_mapped, has_right, has_map, flat_has}
+use Rattle.protocol_spec.proofs.Truth.{where_not_true}
+use Rattle.protocol_spec.specs.Member.Versions.{Execution, Version, opened, written, written_by, versions, is_key, version_at, object_in, is_executed}
 use Rattle.protocol_spec.specs.Member.Votes.{Ballot, object_held, absent, vote_cases, vote_refusal, maker, made_by, origin_of, vote_origins}
 use Rattle.protocol_spec.specs.Member.Admission.{joined_inputs}
 use Rattle.protocol_spec.specs.Member.Rounds.{wanted_version, is_wanted, found, is_origin_done}
@@ -27,21 +28,16 @@ use Rattle.world_spec.specs.Setting.{Setting}
 use Rattle.world_spec.specs.World.{Seat, member_in}
 use Rattle.world_spec.specs.Run.{world_after}
 use Rattle.world_spec.specs.Assumptions.{IsHonestRun, all_delivered}
-use Rattle.safety_law.proofs.Apart.{none-each, none-of, accepted}
-use Rattle.safety_law.proofs.Backed.{has-either}
-use Rattle.safety_law.proofs.Once.{each-has, equal, digest-same, has-left}
-use Rattle.safety_law.proofs.Kept.{find-has}
+use Rattle.safety_law.proofs.Apart.{none-each, none-of}
+use Rattle.safety_law.proofs.Once.{digest-same}
 use Rattle.safety_law.proofs.Owner.{voter}
 use Rattle.agreement_law.specs.Agreed.{IsGiven, IsHeldAsGiven}
 use Rattle.agreement_law.proofs.Supply.{every-held}
+use Rattle.sequence_law.proofs.Live.{has-flat}
 use Rattle.sequence_law.specs.Orderly.{AreApart}
-use Rattle.sequence_law.proofs.Touched.{has-mapped}
-use Rattle.sequence_law.proofs.Reading.{has-right}
-use Rattle.agreement_law.proofs.Lists.{map-has}
-use Rattle.agreement_law.proofs.Lives.{has-flat}
 use Rattle.agreement_law.proofs.SameSteps.{was-formed}
-use Rattle.agreement_law.proofs.Turned.{flat-has}
 use Rattle.agreement_law.proofs.AgreedEpochs.{members-agree}
+use Rattle.agreement_law.proofs.Executed.{execution-there}
 use Rattle.headline_law.specs.Cast.{WasCast}
 use Rattle.headline_law.specs.Present.{IsPresent}
 use Rattle.headline_law.proofs.Cast.{every-vote-was-cast}
@@ -76,33 +72,22 @@ IsWrote executed u = (x : Execution) × Has executed x × (o : Object) × Has x.
 
 pub version-from : (opening : List Object) (executed : List Execution) (u : Version) → Has (versions opening executed) u → IsOpened opening u ⊎ IsWrote executed u
 unfolding versions
-version-from opening executed u h = go (has-either (map opened opening) (flat_map written_by executed) u h)
+version-from opening executed u h = go (has_parts (map opened opening) (flat_map written_by executed) u h)
   where
     go : Has (map opened opening) u ⊎ Has (flat_map written_by executed) u → IsOpened opening u ⊎ IsWrote executed u
-    go (inl k) = let o = has-mapped opened opening u k in inl (o.0, o.1, o.2)
+    go (inl k) = let o = has_mapped opened opening u k in inl (o.0, o.1, o.2)
     go (inr k) =
         let x = has-flat written_by executed u k in
-        let o = has-mapped (written x.0.digest) x.0.gave.objects u x.2 in
+        let o = has_mapped (written x.0.digest) x.0.gave.objects u x.2 in
         inr (x.0, x.1, o.0, o.1, o.2)
 
 pub opened-in : (opening : List Object) (executed : List Execution) (o : Object) → Has opening o → Has (versions opening executed) (opened o)
 unfolding versions
-opened-in opening executed o h = has-left (map opened opening) (flat_map written_by executed) (opened o) (map-has opened opening o h)
+opened-in opening executed o h = has_left (map opened opening) (flat_map written_by executed) (opened o) (has_map opened opening o h)
 
 pub written-in : (opening : List Object) (executed : List Execution) (x : Execution) (o : Object) → Has executed x → Has x.gave.objects o → Has (versions opening executed) (written x.digest o)
 unfolding versions
-written-in opening executed x o h k = has-right (map opened opening) (flat_map written_by executed) (written x.digest o) (flat-has written_by executed x (written x.digest o) h (map-has (written x.digest) x.gave.objects o k))
-
-pub executed-is : (executed : List Execution) (tx : Digest) → is_executed executed tx ≡ true → (y : Execution) × Has executed y × (y.digest ≡ tx)
-executed-is executed tx e = go (execution_of executed tx) refl e
-  where
-    go : (o : Option Execution) → execution_of executed tx ≡ o → is_some o ≡ true → (y : Execution) × Has executed y × (y.digest ≡ tx)
-    go None h e = absurd (cc)
-    go (Some y) h e = (
-      y,
-      find-has (λ (x : Execution). digest_eq x.digest tx) executed y h,
-      equal y.digest tx (find-test (λ (x : Execution). digest_eq x.digest tx) executed y h),
-    )
+written-in opening executed x o h k = has_right (map opened opening) (flat_map written_by executed) (written x.digest o) (flat_has written_by executed x (written x.digest o) h (has_map (written x.digest) x.gave.objects o k))
 
 -- ---- a member that agrees with the voter
 
@@ -119,7 +104,7 @@ module _ (b : Ballot) (m : Member) (openings : b.opening ≡ m.opening) (same : 
 
   written-found : (x : Execution) (o : Object) → Has b.executed x → Has x.gave.objects o → key_eq (object_key o) key ≡ true → is_executed m.executed x.digest ≡ true → Found (Some x.digest)
   written-found x o h w k done =
-      let y = executed-is m.executed x.digest done in
+      let y = execution-there m.executed x.digest done in
       let gave = same x y.0 h y.1 (sym y.2) in
       some-mapped object_in (find (is_wanted key (Some (producers.Tx x.digest))) there)
       (has-find (is_wanted key (Some (producers.Tx x.digest))) there (written y.0.digest o)
@@ -137,7 +122,7 @@ module _ (b : Ballot) (m : Member) (openings : b.opening ≡ m.opening) (same : 
   named-found : (v : Option Version) → version_at (versions b.opening b.executed) key ≡ v → is_some (option_map object_in v) ≡ true → (d : Option Digest) → made_by v ≡ d → is_origin_done m.executed d ≡ true → Found d
   named-found None e some d o done = absurd (cc)
   named-found (Some u) e some d o done = subst Found o
-      (version-found u (find-has (is_key key) (versions b.opening b.executed) u e) (find-test (is_key key) (versions b.opening b.executed) u e) (subst (λ (c : Option Digest). is_origin_done m.executed c ≡ true) (sym o) done))
+      (version-found u (find_has (is_key key) (versions b.opening b.executed) u e) (find-test (is_key key) (versions b.opening b.executed) u e) (subst (λ (c : Option Digest). is_origin_done m.executed c ≡ true) (sym o) done))
 
   pub held-found : is_some (object_held b key) ≡ true → (d : Option Digest) → made_by (version_at (versions b.opening b.executed) key) ≡ d → is_origin_done m.executed d ≡ true → Found d
   held-found held d o done = named-found (version_at (versions b.opening b.executed) key) refl held d o done
@@ -145,8 +130,8 @@ module _ (b : Ballot) (m : Member) (openings : b.opening ≡ m.opening) (same : 
 input-found : (b : Ballot) (m : Member) → b.opening ≡ m.opening → ((x y : Execution) → Has b.executed x → Has m.executed y → x.digest ≡ y.digest → x.gave ≡ y.gave)
     → (i : Input) (d : Option Digest) → absent b i ≡ None → origin_of b i ≡ d → is_origin_done m.executed d ≡ true → IsPresent m i d
 input-found b m openings same (inputs.Pure bytes) d free o done = tt
-input-found b m openings same (inputs.Owned r) d free o done = held-found b m openings same (key_of r) (accepted (is_some (object_held b (key_of r))) (refused.Absent (key_of r)) free) d o done
-input-found b m openings same (inputs.Immutable r) d free o done = held-found b m openings same (key_of r) (accepted (is_some (object_held b (key_of r))) (refused.Absent (key_of r)) free) d o done
+input-found b m openings same (inputs.Owned r) d free o done = held-found b m openings same (key_of r) (where_not_true (is_some (object_held b (key_of r))) (refused.Absent (key_of r)) free) d o done
+input-found b m openings same (inputs.Immutable r) d free o done = held-found b m openings same (key_of r) (where_not_true (is_some (object_held b (key_of r))) (refused.Absent (key_of r)) free) d o done
 input-found b m openings same (inputs.Shared id initial mutable) d free o done = tt
 
 -- ---- in a run
@@ -199,7 +184,7 @@ voted-given s events honest distinct n seat at d c given =
 pub voted-by : (s : Setting) (events : List Event) → IsHonestRun s events → AreApart s.opening → (n : ℕ) (seat : Seat) → slice_get (world_after s events).seats n ≡ Some seat
     → (h : Held) → Has (member_in s seat).held h → IsVoted (member_in s seat) h.cert.tx h.cert.origins
 voted-by s events honest distinct n seat at h held = voted-given s events honest distinct n seat at h.digest h.cert
-    (each-has (IsHeldAsGiven s.rules (all_delivered s events) (member_in s seat).epoch) (member_in s seat).held h (every-held s events n seat at) held)
+    (each_has (IsHeldAsGiven s.rules (all_delivered s events) (member_in s seat).epoch) (member_in s seat).held h (every-held s events n seat at) held)
 
 pub seen-by : (s : Setting) (events : List Event) → IsHonestRun s events → AreApart s.opening → (n : ℕ) (seat : Seat) → slice_get (world_after s events).seats n ≡ Some seat
     → (h : Held) → Has (member_in s seat).held h → (i : Input) (d : Option Digest) → Has (joined_inputs h.cert) (i, d) → IsSeen (member_in s seat) h.cert.tx i d

@@ -10,20 +10,21 @@ use Rattle.schedule_text.specs.declared.words.Event.TheVariants as event
 use Rattle.report_text.specs.declared.lines.Line.TheVariants as line
 use Rattle.report_text.specs.declared.lines.FinalText.{FinalText}
 use Rattle.report_text.specs.declared.lines.FinalText.TheVariants as final_text
+use Rattle.protocol_spec.proofs.Equality.{digest_same}
 use Rattle.protocol_spec.specs.Chain.Words.{Has, first_of, first_some, where_true}
 use Rattle.protocol_spec.specs.Chain.Committee.{is_quorum, is_roll, total_of, weight}
 use Rattle.protocol_spec.proofs.ListLemmas.{and-first, and-second}
+use Rattle.protocol_spec.proofs.Truth.{where_not_true, some_same}
 use Rattle.protocol_spec.specs.Member.Checkpoints.{zero_digest}
 use Rattle.world_spec.specs.Setting.{Name, Setting}
 use Rattle.world_spec.specs.Names.{made_named}
 use Rattle.world_spec.specs.World.{Made, World, said_by}
 use Rattle.world_spec.specs.Step.{Collected, lacks, short, differ, whole, ack_in, collected, differ_from, differs_among, lacks_where, last_said, too_short, whole_or}
 use Rattle.world_spec.specs.Report.{acks_collected, final_collected, final_lines, lines_of}
-use Rattle.safety_law.proofs.Apart.{accepted, none-of}
-use Rattle.safety_law.proofs.Once.{equal}
+use Rattle.safety_law.proofs.Apart.{none-of}
 use Rattle.safety_law.proofs.Steps.{last-said}
 use Rattle.safety_law.proofs.Totals.{each-all}
-use Rattle.agreement_law.proofs.Lists.{first-says, some-same}
+use Rattle.agreement_law.proofs.Lists.{first-says}
 use Rattle.headline_law.specs.Printed.{IsFinalHere, final_by}
 
 -- ---- what collecting the whole says
@@ -35,7 +36,7 @@ module _ (stakes : List ℕ) (reads : ℕ → Option Digest) where
   IsCause o = o ≡ Some whole → ⊥
 
   where-cause : (b : Bool) (c : Collected) → (c ≡ whole → ⊥) → IsCause (where_true b c)
-  where-cause true c other e = other (some-same c whole e)
+  where-cause true c other e = other (some_same c whole e)
   where-cause false c other e = cc
 
   lacks-cause : (m : ℕ) (o : Option Digest) → IsCause (lacks_where m o)
@@ -71,7 +72,7 @@ module _ (stakes : List ℕ) (reads : ℕ → Option Digest) where
       go None p None q None r e = record { none_lacks = p; enough = q; none_differs = r }
 
   free-quorum : (ms : List ℕ) → IsFree ms → is_quorum stakes (weight stakes ms) ≡ true
-  free-quorum ms free = accepted (is_quorum stakes (weight stakes ms)) (short (weight stakes ms) (total_of stakes)) free.enough
+  free-quorum ms free = where_not_true (is_quorum stakes (weight stakes ms)) (short (weight stakes ms) (total_of stakes)) free.enough
 
   read-of : (m : ℕ) (o : Option Digest) → lacks_where m o ≡ None → (x : Digest) × (o ≡ Some x)
   read-of m None e = absurd (cc)
@@ -80,7 +81,7 @@ module _ (stakes : List ℕ) (reads : ℕ → Option Digest) where
   same-read : (a m : ℕ) (o p : Option Digest) (x y : Digest) → o ≡ Some x → p ≡ Some y → differ_from digest_eq a o m p ≡ None → x ≡ y
   same-read a m None p x y eo ep e = absurd (cc)
   same-read a m (Some u) None x y eo ep e = absurd (cc)
-  same-read a m (Some u) (Some v) x y eo ep e = sym (some-same u x eo) ∙ (equal u v (accepted (digest_eq u v) (differ a m) e) ∙ some-same v y ep)
+  same-read a m (Some u) (Some v) x y eo ep e = sym (some_same u x eo) ∙ (digest_same u v (where_not_true (digest_eq u v) (differ a m) e) ∙ some_same v y ep)
 
   -- all members said one thing
   free-same : (ms : List ℕ) → IsFree ms → (x : Digest) × ((m : ℕ) → Has ms m → reads m ≡ Some x)
@@ -109,7 +110,7 @@ is-ack epoch tx (statement.Ack e t x) d q = go ((e == epoch) && digest_eq t tx) 
     named a b c = cc
 
     go : (b : Bool) → ((e == epoch) && digest_eq t tx) ≡ b → where_true b x ≡ Some d → statement.Ack e t x ≡ statement.Ack epoch tx d
-    go true h q = named (eqb-true e epoch (and-first (e == epoch) (digest_eq t tx) h)) (equal t tx (and-second (e == epoch) (digest_eq t tx) h)) (some-same x d q)
+    go true h q = named (eqb-true e epoch (and-first (e == epoch) (digest_eq t tx) h)) (digest_same t tx (and-second (e == epoch) (digest_eq t tx) h)) (some_same x d q)
     go false h q = absurd (cc)
 
 module _ (s : Setting) (w : World) where

@@ -14,6 +14,7 @@ use Rattle.schedule_text.specs.declared.statement.Statement.TheVariants as state
 use Rattle.schedule_text.specs.Schedule.{schedule_of}
 use Rattle.text_law.specs.Sayable.{IsSetup, IsStatement}
 use Rattle.text_law.proofs.SaidWhole.{text_said}
+use Rattle.protocol_spec.proofs.ListLemmas.{each_join}
 use Rattle.protocol_spec.specs.Chain.Words.{Each}
 use Rattle.protocol_spec.specs.Chain.Keys.{currency_sum}
 use Rattle.protocol_spec.specs.Block.Natives.{amount_limit, amount_of}
@@ -27,7 +28,6 @@ use Rattle.agreement_law.proofs.SetUp.{set-up-apart}
 use Rattle.agreement_law.specs.Sums.{NamesOther, epoch_gas}
 use Rattle.agreement_law.proofs.Sums.{only-gas, are-backed, set-up-backed, set-up-capless}
 use Rattle.headline_law.specs.Amounts.{money_held, HoldsAmount, IsAmount}
-use Rattle.headline_law.proofs.Commands.{each-both}
 use Rattle.headline_law.proofs.Openings.{gas-was-held}
 
 -- ---- the lines of the set-up
@@ -63,7 +63,7 @@ new-amounts (o ∷ os) objects more each = new-amounts os (with_new objects o) m
   where
     go : (b : Bool) → Each IsAmount (cond b objects (objects ++ o ∷ []))
     go true = each
-    go false = each-both IsAmount objects (o ∷ []) each (more.0, tt)
+    go false = each_join IsAmount objects (o ∷ []) each (more.0, tt)
 
 money-amount : (k : Content) → amount_of k < amount_limit → money_held k < amount_limit
 money-amount (content.Coin currency balance) less = less

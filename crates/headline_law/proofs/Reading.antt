@@ -12,23 +12,25 @@ use Rattle.chain_types.specs.Equal.{digest_eq}
 use Rattle.chain_types.specs.Digests.{is_object}
 use Rattle.answer_types.specs.declared.answers.Assigned.{Assigned}
 use Rattle.answer_types.specs.declared.answers.Held.{Held}
+use Rattle.protocol_spec.proofs.Equality.{digest_same}
 use Rattle.protocol_spec.specs.Chain.Words.{Has, Along, IsFront, all_some}
-use Rattle.protocol_spec.specs.Chain.Keys.{objects_of, is_shared_input, has_shared_input, fits_input, fit_inputs, fits}
-use Rattle.protocol_spec.proofs.ListLemmas.{and-first, and-second}
+use Rattle.protocol_spec.specs.Chain.Keys.{objects_of, is_shared_input, has_shared_input, fits_input, fits}
+use Rattle.protocol_spec.proofs.ListLemmas.{find_has}
 use Rattle.protocol_spec.specs.Member.Versions.{Execution, Version, versions, object_in}
 use Rattle.protocol_spec.specs.Member.Admission.{Admitted, Admission, is_admitted, assigned_of, assignments, current}
 use Rattle.protocol_spec.specs.Member.Rounds.{Wanted, is_wanted, wanted_by, wants_of, found, present, may_run, executes_as}
 use Rattle.protocol_spec.specs.Member.Member.{Member, books}
-use Rattle.safety_law.proofs.Once.{equal}
-use Rattle.safety_law.proofs.Kept.{find-has}
+use Rattle.sequence_law.proofs.Live.{any-has}
 use Rattle.sequence_law.specs.Admitted.{held_again, IsInOrder}
+use Rattle.agreement_law.proofs.Executed.{same-wants}
 use Rattle.agreement_law.specs.Explained.{IsExplained}
 use Rattle.agreement_law.proofs.Executing.{wants-same, explained-more}
 use Rattle.sequence_law.specs.Orderly.{Step, gave}
-use Rattle.sequence_law.proofs.Reading.{has-zip, fits-inputs}
-use Rattle.agreement_law.proofs.Lists.{any-has, along-split}
+use Rattle.sequence_law.proofs.Reading.{has-zip}
+use Rattle.agreement_law.proofs.Lists.{along-split}
 use Rattle.agreement_law.proofs.Wants.{found-as, version-found, wanted-at, assigned-is, shared-wanted}
 use Rattle.headline_law.proofs.Present.{IsOpened, IsWrote, version-from}
+use Rattle.block_law.proofs.Written.{fit-at, fits-first}
 
 -- a held certificate whose inputs are present and fit, and that is admitted if it has a shared input
 pub record IsRunnable (m : Member) (x : Step) : Type 0 where
@@ -39,24 +41,10 @@ pub record IsRunnable (m : Member) (x : Step) : Type 0 where
   pub there : present (books m) m.executed of ≡ Some x.inputs
   pub fit : fits x.tx x.inputs ≡ true
 
--- each named object fits its input
-fits-each : (t : Transaction) (is : List Input) (os : List Object) (i : Input) (o : Object) → fit_inputs t is os ≡ true → Has (zip is os) (i, o) → fits_input t i o ≡ true
-fits-each t [] os i o e h = absurd h
-fits-each t (j ∷ is) [] i o e h = absurd h
-fits-each t (j ∷ is) (p ∷ os) i o e (inl q) = subst (λ (x : Input × Object). fits_input t x.0 x.1 ≡ true) q (and-first (fits_input t j p) (fit_inputs t is os) e)
-fits-each t (j ∷ is) (p ∷ os) i o e (inr h) = fits-each t is os i o (and-second (fits_input t j p) (fit_inputs t is os) e) h
-
 pub fits-it : (x : Step) (i : Input) (o : Object) → fits x.tx x.inputs ≡ true → Has (zip (objects_of x.tx) x.inputs) (i, o) → fits_input x.tx i o ≡ true
-fits-it x i o fit h = fits-each x.tx (objects_of x.tx) x.inputs i o (fits-inputs x.tx x.inputs fit) h
+fits-it x i o fit h = fit-at x.tx (objects_of x.tx) x.inputs i o (fits-first x.tx x.inputs fit) h
 
 -- ---- wants
-
-pub same-wants : (a : Admission) (h k : Held) → h.digest ≡ k.digest → h.cert.tx ≡ k.cert.tx → h.cert.origins ≡ k.cert.origins → wants_of a h ≡ wants_of a k
-unfolding wants_of
-same-wants a h k d t o =
-    ap (λ (tx : Digest). map (wanted_by (assigned_of a tx)) (zip (objects_of h.cert.tx) h.cert.origins)) d
-    ∙ ap (λ (x : Transaction). map (wanted_by (assigned_of a k.digest)) (zip (objects_of x) h.cert.origins)) t
-    ∙ ap (λ (os : List (Option Digest)). map (wanted_by (assigned_of a k.digest)) (zip (objects_of k.cert.tx) os)) o
 
 pub same-present : (m : Member) (h k : Held) → h.digest ≡ k.digest → h.cert.tx ≡ k.cert.tx → h.cert.origins ≡ k.cert.origins → present (books m) m.executed h ≡ present (books m) m.executed k
 unfolding present
@@ -91,7 +79,7 @@ module _ (m : Member) (x : Step) (it : IsRunnable m x) where
       let w = wanted-of i o h in
       let want = wanted_by (assigned_of m.sequence.admission it.of.digest) (i, w.0) in
       let v = found-as (versions m.opening m.executed) want o w.2 in
-      go v.0 v.2 (version-from m.opening m.executed v.0 (find-has (is_wanted want.key want.producer) (versions m.opening m.executed) v.0 v.1))
+      go v.0 v.2 (version-from m.opening m.executed v.0 (find_has (is_wanted want.key want.producer) (versions m.opening m.executed) v.0 v.1))
     where
       go : (v : Version) → v.object ≡ o → IsOpened m.opening v ⊎ IsWrote m.executed v → Has m.opening o ⊎ ((y : Execution) × Has m.executed y × Has y.gave.objects o)
       go v e (inl (p, there, q)) = inl (subst (Has m.opening) (ap object_in q ∙ e) there)
@@ -104,7 +92,7 @@ module _ (m : Member) (x : Step) (it : IsRunnable m x) where
   admitted-as id initial mutable h =
       let a = any-has (λ (a : Admitted). digest_eq a.digest it.of.digest) m.sequence.admission.admitted
       (go (has_shared_input it.of.cert.tx) (shared (subst (λ (t : Transaction). Has (objects_of t) (inputs.Shared id initial mutable)) (sym it.tx) h)) it.may) in
-      (a.0, a.1, equal a.0.digest it.of.digest a.2)
+      (a.0, a.1, digest_same a.0.digest it.of.digest a.2)
     where
       go : (b : Bool) → b ≡ true → (not b || is_admitted m.sequence.admission.admitted it.of.digest) ≡ true → is_admitted m.sequence.admission.admitted it.of.digest ≡ true
       go true e may = may

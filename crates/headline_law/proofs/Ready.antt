@@ -1,7 +1,7 @@
 -- What is found for a shared input fits it; so no held certificate is unfit, and none is absent whose makers were executed.
 use Rattle.std.proofs.Common.{inl, inr, refl, sym, subst, ap, ◌∙◌}
 use Rattle.std.proofs.lemmas.Bool.{eqb-true, eq-eqb, leb-false, lt-ltb}
-use Rattle.std.specs.Prelude.{◌≡◌, ◌⊎◌, ℕ, Bool, true, false, cond, not, ◌&&◌, ◌||◌, ◌==◌, nat_lt, nat_le, List, [], ◌∷◌, map, zip, filter, fold, slice_get, Option, Some, None, is_some}
+use Rattle.std.specs.Prelude.{◌≡◌, ◌⊎◌, ℕ, Bool, true, false, cond, not, ◌&&◌, ◌||◌, ◌==◌, nat_lt, nat_le, List, [], ◌∷◌, map, zip, filter, slice_get, Option, Some, None, is_some}
 use Rattle.std.specs.List.{list_any, list_all}
 use Rattle.digest_core.specs.declared.Digest.{Digest}
 use Rattle.chain_types.specs.declared.objects.ObjectId.{ObjectId}
@@ -19,11 +19,13 @@ use Rattle.chain_types.specs.Digests.{key_of, transaction_digest, is_object, lam
 use Rattle.answer_types.specs.declared.answers.Assigned.{Assigned}
 use Rattle.answer_types.specs.declared.answers.Held.{Held}
 use Rattle.schedule_text.specs.declared.words.Event.{Event}
+use Rattle.protocol_spec.proofs.Equality.{id_same}
 use Rattle.protocol_spec.specs.Chain.Words.{Has, all_some}
 use Rattle.protocol_spec.specs.Chain.Tests.{producer_eq}
 use Rattle.protocol_spec.specs.Chain.Keys.{object_key, objects_of, is_shared_since, is_shared_input, has_shared_input, version_of, version_limit, fits_input, fit_inputs, fits}
-use Rattle.protocol_spec.proofs.ListLemmas.{find-test, and-first, and-second, or-first, not-true}
-use Rattle.protocol_spec.specs.Member.Versions.{Execution, Version, versions, is_id, object_in, newer, newest, is_deleted, live, is_executed}
+use Rattle.protocol_spec.proofs.ListLemmas.{find-test, and-first, and-second, not-true, each_has, find_has, has_mapped}
+use Rattle.protocol_spec.proofs.Truth.{or_false_left, where_not_true, some_same}
+use Rattle.protocol_spec.specs.Member.Versions.{Execution, Version, versions, is_id, object_in, newest, is_deleted, live, is_executed}
 use Rattle.protocol_spec.specs.Member.Votes.{shared_key, Ballot, of_held, wrong_kind, vote_cases, vote_refusal, origin_of, vote_origins}
 use Rattle.protocol_spec.specs.Member.Admission.{joined_inputs, lacks_shared, is_admitted, taken_version, version_at_admission, assigned_of}
 use Rattle.protocol_spec.specs.Member.Rounds.{Books, Wanted, wanted_by, wanted_as, wanted_version, assigned_id, wants_of, is_wanted, found, present, may_run, is_maker_done, is_origin_done, is_due}
@@ -32,22 +34,23 @@ use Rattle.world_spec.specs.Setting.{Setting}
 use Rattle.world_spec.specs.World.{Seat, member_in}
 use Rattle.world_spec.specs.Run.{world_after}
 use Rattle.world_spec.specs.Assumptions.{IsHonestRun, all_delivered}
-use Rattle.safety_law.proofs.Apart.{none-each, none-of, accepted}
-use Rattle.safety_law.proofs.Once.{each-has}
-use Rattle.safety_law.proofs.Kept.{find-has}
-use Rattle.block_law.proofs.Counts.{id_same, id_refl}
+use Rattle.safety_law.proofs.Apart.{none-each, none-of}
+use Rattle.block_law.proofs.Counts.{id_refl}
+use Rattle.block_law.proofs.Written.{second}
 use Rattle.block_law.specs.Shared.{shared_since}
 use Rattle.agreement_law.specs.Agreed.{IsGiven, IsHeldAsGiven}
 use Rattle.agreement_law.proofs.Supply.{every-held}
+use Rattle.sequence_law.proofs.Live.{has-any}
 use Rattle.sequence_law.specs.Orderly.{AreApart}
-use Rattle.sequence_law.proofs.Touched.{has-mapped}
-use Rattle.sequence_law.proofs.Reading.{has-zip}
-use Rattle.agreement_law.proofs.Lists.{some-same, has-second, has-any, all-has}
+use Rattle.sequence_law.proofs.Reading.{has-zip, has-kept}
+use Rattle.agreement_law.proofs.Lists.{all-has}
 use Rattle.agreement_law.proofs.Known.{opens-apart}
+use Rattle.agreement_law.proofs.Lives.{newest-from}
+use Rattle.agreement_law.proofs.Versions.{each-version}
 use Rattle.agreement_law.proofs.Wants.{found-as, nobody, version-found, wanted-at}
 use Rattle.headline_law.proofs.Present.{cast-given, voted-by, owned-present}
 use Rattle.headline_law.proofs.Fitting.{writes-once}
-use Rattle.headline_law.proofs.Whole.{filter-has, zip-there, whole-fits, certificates-fit}
+use Rattle.headline_law.proofs.Whole.{zip-there, whole-fits, certificates-fit}
 use Rattle.headline_law.specs.Shared.{ShareAlike}
 use Rattle.headline_law.specs.Ready.{wanted_of}
 use Rattle.headline_law.proofs.Alike.{share-alike}
@@ -64,22 +67,6 @@ filter-test {A = A} test (y ∷ ys) x h = go (test y) refl h (filter-test test y
     go true e (inr h) rest = rest h
     go false e h rest = rest h
 
-newest-from : (ps : List Object) (b : Option Object) (o : Object) → fold newer b ps ≡ Some o → (b ≡ Some o) ⊎ Has ps o
-newest-from [] b o e = inl e
-newest-from (p ∷ ps) b o e = go (newest-from ps (newer b p) o e)
-  where
-    either : (b : Option Object) → newer b p ≡ Some o → (b ≡ Some o) ⊎ Has (p ∷ ps) o
-    either None q = inr (inl (some-same p o q))
-    either (Some x) q = pick (nat_lt x.version p.version) q
-      where
-        pick : (t : Bool) → cond t (Some p) (Some x) ≡ Some o → (Some x ≡ Some o) ⊎ Has (p ∷ ps) o
-        pick true q = inr (inl (some-same p o q))
-        pick false q = inl q
-
-    go : (newer b p ≡ Some o) ⊎ Has ps o → (b ≡ Some o) ⊎ Has (p ∷ ps) o
-    go (inl q) = either b q
-    go (inr h) = inr (inr h)
-
 abbrev IsVersionOf : List Version → ObjectId → Object → Type 0
 IsVersionOf there id o = (v : Version) × Has there v × (v.object ≡ o) × (v.object.id ≡ id)
 
@@ -90,8 +77,8 @@ live-version opening executed id o e = go (is_deleted executed id) e
     some : (None ≡ Some o) ⊎ Has (map object_in (filter (is_id id) (versions opening executed))) o → IsVersionOf (versions opening executed) id o
     some (inl q) = absurd (cc)
     some (inr h) =
-        let v = has-mapped object_in (filter (is_id id) (versions opening executed)) o h in
-        (v.0, filter-has (is_id id) (versions opening executed) v.0 v.1, v.2, id_same v.0.object.id id (filter-test (is_id id) (versions opening executed) v.0 v.1))
+        let v = has_mapped object_in (filter (is_id id) (versions opening executed)) o h in
+        (v.0, has-kept (is_id id) (versions opening executed) v.0 v.1, v.2, id_same v.0.object.id id (filter-test (is_id id) (versions opening executed) v.0 v.1))
 
     go : (b : Bool) → cond b None (newest id (versions opening executed)) ≡ Some o → IsVersionOf (versions opening executed) id o
     go true e = absurd (cc)
@@ -101,7 +88,7 @@ live-version opening executed id o e = go (is_deleted executed id) e
 
 is-since : (initial : ℕ) (who : Owner) → shared_since who ≡ Some initial → is_shared_since initial who ≡ true
 is-since initial (owner.Address a) e = absurd (cc)
-is-since initial (owner.Shared k) e = eq-eqb k initial (some-same k initial e)
+is-since initial (owner.Shared k) e = eq-eqb k initial (some_same k initial e)
 is-since initial owner.Immutable e = absurd (cc)
 
 since-is : (initial : ℕ) (who : Owner) → is_shared_since initial who ≡ true → shared_since who ≡ Some initial
@@ -120,7 +107,7 @@ unfolding vote_refusal
 saw-shared b t free id initial mutable h =
     let cases = none-each (vote_cases b t (transaction_digest t)) free in
     let kind = none-of (wrong_kind b) (objects_of t) (inputs.Shared id initial mutable) cases.1.1.1.1.1.0 h in
-    let p = held-passes (live b.opening b.executed id) (λ (o : Object). is_shared_since initial o.owner) (accepted (of_held (live b.opening b.executed id) (λ (o : Object). is_shared_since initial o.owner)) (refused.WrongKind (shared_key id initial)) kind) in
+    let p = held-passes (live b.opening b.executed id) (λ (o : Object). is_shared_since initial o.owner) (where_not_true (of_held (live b.opening b.executed id) (λ (o : Object). is_shared_since initial o.owner)) (refused.WrongKind (shared_key id initial)) kind) in
     let v = live-version b.opening b.executed id p.0 p.1 in
     (v.0, v.1, v.3, ap (λ (o : Object). shared_since o.owner) v.2 ∙ since-is initial p.0.owner p.2)
 
@@ -136,15 +123,6 @@ wanted-id asg id initial mutable d = go (assigned_id asg id)
 found-id : (key : ObjectKey) (maker : Option Producer) (v : Version) → is_wanted key maker v ≡ true → v.object.id ≡ key.id
 found-id key None v e = absurd (cc)
 found-id key (Some p) v e = id_same v.object.id key.id (and-first (id_eq v.object.id key.id) (v.object.version == key.version) (and-first (key_eq (object_key v.object) key) (producer_eq v.producer p) e))
-
--- objects that have the versions of their inputs, one by one
-each-version : (t : Transaction) (taken : Input → ℕ) (is : List Input) (os : List Object) → fit_inputs t is os ≡ true → ((i : Input) (o : Object) → Has (zip is os) (i, o) → o.version ≡ taken i) → map (λ (o : Object). o.version) os ≡ map taken is
-each-version t taken [] [] fit same = refl
-each-version t taken [] (o ∷ os) fit same = absurd (cc)
-each-version t taken (i ∷ is) [] fit same = absurd (cc)
-each-version t taken (i ∷ is) (o ∷ os) fit same =
-    ap (λ (v : ℕ). v ∷ map (λ (p : Object). p.version) os) (same i o (inl refl))
-    ∙ ap (λ (vs : List ℕ). taken i ∷ vs) (each-version t taken is os (and-second (fits_input t i o) (fit_inputs t is os) fit) (λ j p h. same j p (inr h)))
 
 -- ---- lists of what is wanted
 
@@ -189,7 +167,7 @@ module _ (s : Setting) (events : List Event) (honest : IsHonestRun s events) (di
   m = member_in s seat
 
   given-of : (h : Held) → Has m.held h → IsGiven s.rules (all_delivered s events) m.epoch h.digest h.cert
-  given-of h there = each-has (IsHeldAsGiven s.rules (all_delivered s events) m.epoch) m.held h (every-held s events n seat at) there
+  given-of h there = each_has (IsHeldAsGiven s.rules (all_delivered s events) m.epoch) m.held h (every-held s events n seat at) there
 
   -- the versions of the object are shared as the input says
   shared-since : (h : Held) → Has m.held h → (id : ObjectId) (initial : ℕ) (mutable : Bool) → Has (objects_of h.cert.tx) (inputs.Shared id initial mutable)
@@ -210,7 +188,7 @@ module _ (s : Setting) (events : List Event) (honest : IsHonestRun s events) (di
       let w = wanted_of m h (inputs.Shared id initial mutable) d in
       let u = found-as (versions m.opening m.executed) w o e in
       let same : u.0.object.id ≡ id = found-id w.key w.producer u.0 (find-test (is_wanted w.key w.producer) (versions m.opening m.executed) u.0 u.1) ∙ wanted-id (assigned_of m.sequence.admission h.digest) id initial mutable d in
-      let since = shared-since h held id initial mutable (has-zip (objects_of h.cert.tx) h.cert.origins (inputs.Shared id initial mutable) d joined) u.0 (find-has (is_wanted w.key w.producer) (versions m.opening m.executed) u.0 u.1) same in
+      let since = shared-since h held id initial mutable (has-zip (objects_of h.cert.tx) h.cert.origins (inputs.Shared id initial mutable) d joined) u.0 (find_has (is_wanted w.key w.producer) (versions m.opening m.executed) u.0 u.1) same in
       let ids : id_eq o.id id ≡ true = subst (λ (z : ObjectId). id_eq o.id z ≡ true) (sym (ap (λ (p : Object). p.id) u.2) ∙ same) (id_refl o.id) in
       let owners : is_shared_since initial o.owner ≡ true = is-since initial o.owner (sym (ap (λ (p : Object). shared_since p.owner) u.2) ∙ since) in
       rw (ids, owners) refl
@@ -239,7 +217,7 @@ module _ (s : Setting) (events : List Event) (honest : IsHonestRun s events) (di
 
     low : fit_inputs h.cert.tx (objects_of h.cert.tx) os ≡ true → nat_lt (version_of os) version_limit ≡ true
     low fit =
-        let below = leb-false version_limit (version_at_admission m.opening it.front it.of.cert) (or-first (nat_le version_limit (version_at_admission m.opening it.front it.of.cert)) (list_any (lacks_shared m.opening) (joined_inputs it.of.cert)) it.undropped) in
+        let below = leb-false version_limit (version_at_admission m.opening it.front it.of.cert) (or_false_left (nat_le version_limit (version_at_admission m.opening it.front it.of.cert)) (list_any (lacks_shared m.opening) (joined_inputs it.of.cert)) it.undropped) in
         subst (λ (v : ℕ). nat_lt v version_limit ≡ true) (sym (version-is fit)) (lt-ltb (version_at_admission m.opening it.front it.of.cert) version_limit below)
 
   -- ---- no held certificate is unfit
@@ -269,7 +247,7 @@ module _ (s : Setting) (events : List Event) (honest : IsHonestRun s events) (di
     admitted-if : (id : ObjectId) (initial : ℕ) (mutable : Bool) → Has (objects_of h.cert.tx) (inputs.Shared id initial mutable) → is_admitted m.sequence.admission.admitted h.digest ≡ true
     admitted-if id initial mutable (inl e) = absurd (cc)
     admitted-if id initial mutable (inr k) =
-        let shares : has_shared_input h.cert.tx ≡ true = has-any is_shared_input h.cert.tx.inputs (inputs.Shared id initial mutable) (filter-has is_object h.cert.tx.inputs (inputs.Shared id initial mutable) k) refl in
+        let shares : has_shared_input h.cert.tx ≡ true = has-any is_shared_input h.cert.tx.inputs (inputs.Shared id initial mutable) (has-kept is_object h.cert.tx.inputs (inputs.Shared id initial mutable) k) refl in
         subst (λ (b : Bool). (not b || is_admitted m.sequence.admission.admitted h.digest) ≡ true) shares may
 
     never-pure : (bytes : List ℕ) → Has (objects_of h.cert.tx) (inputs.Pure bytes) → ⊥
@@ -287,9 +265,9 @@ module _ (s : Setting) (events : List Event) (honest : IsHonestRun s events) (di
         → (w : Wanted) → Has (wants_of m.sequence.admission h) w → is_some (found (versions m.opening m.executed) w) ≡ true
     unfolding wants_of
     wants-there origins makers w k =
-        let x = has-mapped (wanted_by (assigned_of m.sequence.admission h.digest)) (joined_inputs h.cert) w k in
+        let x = has_mapped (wanted_by (assigned_of m.sequence.admission h.digest)) (joined_inputs h.cert) w k in
         subst (λ (z : Wanted). is_some (found (versions m.opening m.executed) z) ≡ true) x.2
-        (input-there x.0.0 x.0.1 x.1 (all-has (is_origin_done m.executed) h.cert.origins x.0.1 origins (has-second (objects_of h.cert.tx) h.cert.origins x.0.0 x.0.1 x.1))
+        (input-there x.0.0 x.0.1 x.1 (all-has (is_origin_done m.executed) h.cert.origins x.0.1 origins (second (objects_of h.cert.tx) h.cert.origins x.0.0 x.0.1 x.1))
         (subst (λ (z : Wanted). is_maker_done m.executed z.producer ≡ true) (sym x.2)
         (all-has (λ (z : Wanted). is_maker_done m.executed z.producer) (map (wanted_by (assigned_of m.sequence.admission h.digest)) (joined_inputs h.cert)) w makers k)))
 

@@ -4,6 +4,7 @@ use Rattle.std.proofs.Common.{refl, sym, subst, append_assoc, ◌∙◌}
 use Rattle.std.specs.Prelude.{◌≡◌, ℕ, List, [], ◌∷◌, ◌++◌, slice_get, Some, Ok}
 use Rattle.answer_types.specs.declared.answers.Ran.{Ran}
 use Rattle.schedule_text.specs.declared.words.Event.{Event}
+use Rattle.protocol_spec.proofs.ListLemmas.{each_join, each_has}
 use Rattle.protocol_spec.specs.Chain.Words.{Each}
 use Rattle.protocol_spec.specs.Member.Calls.{run_answer}
 use Rattle.world_spec.specs.Setting.{Setting}
@@ -12,10 +13,9 @@ use Rattle.world_spec.specs.Step.{happens}
 use Rattle.world_spec.specs.Report.{lines_of}
 use Rattle.world_spec.specs.Run.{report, report_from, world_after}
 use Rattle.world_spec.specs.Assumptions.{IsHonestRun}
-use Rattle.safety_law.proofs.Forks.{each-join, no-fork}
+use Rattle.safety_law.proofs.Forks.{no-fork}
 use Rattle.safety_law.proofs.Fronts.{honest-front}
 use Rattle.safety_law.proofs.Grown.{world-append}
-use Rattle.safety_law.proofs.Once.{each-has}
 use Rattle.sequence_law.specs.Orderly.{AreApart}
 use Rattle.headline_law.proofs.Running.{no-run-leaves-anything}
 use Rattle.headline_law.specs.Alarms.{IsCalm}
@@ -34,7 +34,7 @@ module _ (s : Setting) (events : List Event) (honest : IsHonestRun s events) (di
   calm-from front (e ∷ back) split =
       let next : events ≡ (front ++ e ∷ []) ++ back = split ∙ sym (append_assoc front (e ∷ []) back) in
       let world : world_after s (front ++ e ∷ []) ≡ happens s (world_after s front) e = world-append s front (e ∷ []) in
-      each-join IsCalmLine (lines_of s (world_after s front) e) (report_from s back (happens s (world_after s front) e))
+      each_join IsCalmLine (lines_of s (world_after s front) e) (report_from s back (happens s (world_after s front) e))
       (line-calm s (world_after s front) (none-forked front (e ∷ back) split) e (subst (NoneForked s) world (none-forked (front ++ e ∷ []) back next)) (none-left front (e ∷ back) split))
       (subst (λ (w : World). Each IsCalmLine (report_from s back w)) world (calm-from (front ++ e ∷ []) back next))
 
@@ -43,4 +43,4 @@ module _ (s : Setting) (events : List Event) (honest : IsHonestRun s events) (di
   calm-lines = calm-from [] events refl
 
 pub report-calm : (s : Setting) (events : List Event) → IsHonestRun s events → AreApart s.opening → IsCalm s events
-report-calm s events honest distinct l h = each-has IsCalmLine (report s events) l (calm-lines s events honest distinct) h
+report-calm s events honest distinct l h = each_has IsCalmLine (report s events) l (calm-lines s events honest distinct) h

@@ -6,6 +6,7 @@ use Rattle.schedule_text.specs.declared.words.Event.{Event}
 use Rattle.schedule_text.specs.declared.words.Event.TheVariants as event
 use Rattle.schedule_text.specs.declared.words.Schedule.{Schedule}
 use Rattle.schedule_text.specs.Schedule.{schedule_of}
+use Rattle.protocol_spec.proofs.ListLemmas.{has_parts, each_has}
 use Rattle.protocol_spec.specs.Chain.Words.{Each, Has}
 use Rattle.protocol_spec.specs.Chain.Committee.{is_roll}
 use Rattle.world_spec.specs.Setting.{Name, Setting, Trust, setting_of}
@@ -14,9 +15,7 @@ use Rattle.world_spec.specs.Step.{happens}
 use Rattle.world_spec.specs.Report.{lines_of}
 use Rattle.world_spec.specs.Run.{report, report_from, report_of, run, world_after}
 use Rattle.world_spec.specs.Assumptions.{IsHonestRun}
-use Rattle.safety_law.proofs.Backed.{has-either}
 use Rattle.safety_law.proofs.Grown.{statements-grow}
-use Rattle.safety_law.proofs.Once.{each-has}
 use Rattle.sequence_law.specs.Orderly.{AreApart}
 use Rattle.agreement_law.proofs.SetUp.{set-up-apart}
 use Rattle.headline_law.specs.Final.{StandsForGood}
@@ -40,7 +39,7 @@ module _ (s : Setting) (name : Name) (members : List ℕ) where
   told-here e events w h = go (asks-or-other s w e)
     where
       go : IsAsking e ⊎ Each IsOther (lines_of s w e) → IsTold s (e ∷ events) w name members
-      go (inr others) = absurd (let no = each-has IsOther (lines_of s w e) (final_by name members) others h in cc)
+      go (inr others) = absurd (let no = each_has IsOther (lines_of s w e) (final_by name members) others h in cc)
       go (inl asking) =
           let asked = printed-asked s w name asking.name asking.members members (subst (λ (x : Event). Has (lines_of s w x) (final_by name members)) asking.is h) in
           let is : e ≡ event.Final name members = asking.is ∙ ap (λ (n : Name). event.Final n asking.members) asked.0 ∙ ap (λ (ms : List ℕ). event.Final name ms) asked.1 in
@@ -53,7 +52,7 @@ module _ (s : Setting) (name : Name) (members : List ℕ) where
 
   told-in : (events : List Event) (w : World) → Has (report_from s events w) (final_by name members) → IsTold s events w name members
   told-in [] w h = absurd h
-  told-in (e ∷ events) w h = go (has-either (lines_of s w e) (report_from s events (happens s w e)) (final_by name members) h) (told-in events (happens s w e))
+  told-in (e ∷ events) w h = go (has_parts (lines_of s w e) (report_from s events (happens s w e)) (final_by name members) h) (told-in events (happens s w e))
     where
       go : Has (lines_of s w e) (final_by name members) ⊎ Has (report_from s events (happens s w e)) (final_by name members)
           → (Has (report_from s events (happens s w e)) (final_by name members) → IsTold s events (happens s w e) name members) → IsTold s (e ∷ events) w name members
@@ -73,7 +72,7 @@ module _ (s : Setting) (events : List Event) (run_is : IsHonestRun s events) (di
       stands s early late (subst (IsHonestRun s) split run_is) distinct it.made.signed.tx.epoch it.made.digest it.effects members it.final.quorum (λ k h.
       subst (λ (es : List Event). Has (world_after s es).said (said_by k (statement.Ack it.made.signed.tx.epoch it.made.digest it.effects))) (sym whole ∙ split)
       (statements-grow s front back (said_by k (statement.Ack it.made.signed.tx.epoch it.made.digest it.effects))
-      (each-has (λ (n : ℕ). Has (world_after s front).said (said_by n (statement.Ack it.made.signed.tx.epoch it.made.digest it.effects))) members k it.final.said h)))
+      (each_has (λ (n : ℕ). Has (world_after s front).said (said_by n (statement.Ack it.made.signed.tx.epoch it.made.digest it.effects))) members k it.final.said h)))
 
   was-final : is_roll s.rules.stakes members ≡ true → (it : IsTold s events (new_world s) name members) → WasFinal s events name members
   unfolding world_after

@@ -8,14 +8,15 @@ use Rattle.chain_types.specs.declared.transactions.Input.TheVariants as inputs
 use Rattle.chain_types.specs.Equal.{id_eq}
 use Rattle.chain_types.specs.Digests.{is_object, lamport_version}
 use Rattle.chain_messages.specs.declared.messages.Certificate.{Certificate}
+use Rattle.protocol_spec.proofs.Equality.{id_same}
+use Rattle.protocol_spec.proofs.ListLemmas.{has_parts, has_map}
 use Rattle.protocol_spec.specs.Chain.Words.{Has, Along, first_some, first_of, where_true, last_where}
 use Rattle.protocol_spec.specs.Chain.Tests.{has_id}
 use Rattle.protocol_spec.specs.Chain.Keys.{objects_of, mutable_id}
 use Rattle.protocol_spec.specs.Member.Admission.{Admitted, writes, cert_of, beginning_by, standing_after, standing_or, current, taken_version, admit}
 use Rattle.sequence_law.specs.Admitted.{IsInOrder}
-use Rattle.block_law.proofs.Counts.{id_same, id_refl}
-use Rattle.sequence_law.proofs.Touched.{has-parts}
-use Rattle.agreement_law.proofs.Lists.{has-split, map-has, along-front}
+use Rattle.block_law.proofs.Counts.{id_refl}
+use Rattle.agreement_law.proofs.Lists.{has-split, along-front}
 
 -- ---- the last of which a test holds
 
@@ -46,7 +47,7 @@ pub two-places : {A : Type 0} (xs : List A) (a b : A) → Has xs a → Has xs b 
 two-places {A = A} xs a b h k = go (has-split xs a h)
   where
     go : (front : List A) × (rest : List A) × (xs ≡ front ++ (a ∷ rest)) → (a ≡ b) ⊎ (IsAhead xs a b ⊎ IsAhead xs b a)
-    go (front, rest, split) = pick (has-parts front (a ∷ rest) b (subst (λ (zs : List A). Has zs b) split k))
+    go (front, rest, split) = pick (has_parts front (a ∷ rest) b (subst (λ (zs : List A). Has zs b) split k))
       where
         pick : Has front b ⊎ Has (a ∷ rest) b → (a ≡ b) ⊎ (IsAhead xs a b ⊎ IsAhead xs b a)
         pick (inl before) =
@@ -121,7 +122,7 @@ module _ (opening : List Object) (id : ObjectId) where
       let i = mutable-named y.cert.tx.inputs id w in
       subst (λ (v : ℕ). (current opening before y.cert id).0 < v) (sym (ap (λ (x : Admitted). x.version) next.versions))
       (below-lamport (map (taken_version opening before y.cert) (objects_of y.cert.tx)) (current opening before y.cert id).0
-      (map-has (taken_version opening before y.cert) (objects_of y.cert.tx) (inputs.Shared id i.0 true) (inr i.1)))
+      (has_map (taken_version opening before y.cert) (objects_of y.cert.tx) (inputs.Shared id i.0 true) (inr i.1)))
 
   current-last : (before : List Admitted) (c : Certificate) (w : Admitted) → last_where (writes id) before ≡ Some w → (current opening before c id).0 ≡ w.version
   unfolding current

@@ -14,11 +14,12 @@ use Rattle.schedule_text.specs.declared.statement.Statement.TheVariants as state
 use Rattle.schedule_text.specs.Agrees.{no_lines}
 use Rattle.schedule_text.specs.Known.{Check, add_line, after_check, also, ascends, check, each_check, event_check, member_check, role_of, roles, tx_check}
 use Rattle.schedule_text.specs.Schedule.{schedule_of}
+use Rattle.protocol_spec.proofs.Truth.{both_true}
 use Rattle.protocol_spec.specs.Chain.Committee.{all_known, is_roll}
 use Rattle.protocol_spec.specs.Chain.Committee as committee
 use Rattle.world_spec.specs.Setting.{Name, Trust, setting_of, stakes_of}
 use Rattle.text_law.specs.Sayable.{added, then_read}
-use Rattle.text_law.proofs.SaidWhole.{text_said}
+use Rattle.text_law.proofs.SaidWhole.{text_said, check_said}
 
 -- ---- a check of the lines, one after the other
 
@@ -63,14 +64,6 @@ both-ok : (a b : Check) → also a b ≡ Ok tt → (a ≡ Ok tt) × (b ≡ Ok tt
 both-ok (Ok u) b e = (refl, e)
 both-ok (Err c) b e = absurd (cc)
 
-check-ok : (b : Bool) (c : Cause) → check b c ≡ Ok tt → b ≡ true
-check-ok true c e = refl
-check-ok false c e = absurd (cc)
-
-and-true : (a b : Bool) → a ≡ true → b ≡ true → (a && b) ≡ true
-and-true true b e f = f
-and-true false b e f = absurd (cc)
-
 same-ascends : (ms : List ℕ) → ascends ms ≡ true → committee.ascends ms ≡ true
 same-ascends [] e = refl
 same-ascends (m ∷ []) e = refl
@@ -81,7 +74,7 @@ same-ascends (m ∷ n ∷ ms) e = go (nat_lt m n) e (same-ascends (n ∷ ms))
     go false e rest = absurd (cc)
 
 -- a role for each stake
-same-count : (lines : List Setup) → length (roles lines) ≡ length (stakes_of lines)
+pub same-count : (lines : List Setup) → length (roles lines) ≡ length (stakes_of lines)
 unfolding roles
 same-count [] = refl
 same-count (setup.Member stake honest ∷ lines) = next (same-count lines)
@@ -98,15 +91,15 @@ unfolding each_check
 all-checked u stakes [] same e = refl
 all-checked u stakes (m ∷ ms) same e =
     let both = both-ok (member_check u m) (each_check (member_check u) ms) e in
-    and-true (nat_lt m (length stakes)) (all_known stakes ms)
-    (subst (λ (n : ℕ). nat_lt m n ≡ true) same (check-ok (nat_lt m (length (roles u.setup))) cause.UnknownMember both.0)) (all-checked u stakes ms same both.1)
+    both_true (nat_lt m (length stakes)) (all_known stakes ms)
+    (subst (λ (n : ℕ). nat_lt m n ≡ true) same (check_said (nat_lt m (length (roles u.setup))) cause.UnknownMember both.0)) (all-checked u stakes ms same both.1)
 
 final-checked : (u : Schedule) (name : Name) (members stakes : List ℕ) → length (roles u.setup) ≡ length stakes → event_check u (event.Final name members) ≡ Ok tt → is_roll stakes members ≡ true
 unfolding event_check
 final-checked u name members stakes same e =
     let one = both-ok (tx_check u name) (also (each_check (member_check u) members) (check (ascends members) cause.BadOrder)) e in
     let two = both-ok (each_check (member_check u) members) (check (ascends members) cause.BadOrder) one.1 in
-    and-true (committee.ascends members) (all_known stakes members) (same-ascends members (check-ok (ascends members) cause.BadOrder two.1)) (all-checked u stakes members same two.0)
+    both_true (committee.ascends members) (all_known stakes members) (same-ascends members (check_said (ascends members) cause.BadOrder two.1)) (all-checked u stakes members same two.0)
 
 pub read-roll : (text : List ℕ) (t : Schedule) → schedule_of text ≡ Ok t → (trust : Trust) (front : List Event) (name : Name) (members : List ℕ) (back : List Event) → t.events ≡ front ++ (event.Final name members ∷ back)
     → is_roll (setting_of trust t.setup).rules.stakes members ≡ true

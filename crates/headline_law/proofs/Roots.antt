@@ -1,7 +1,7 @@
 -- Each version that a member has is shared as the object that first had its id in the epoch: an opening object, or one
 -- that an executed transaction created.
 use Rattle.std.proofs.Common.{inl, inr, refl, sym, subst, ap, ◌∙◌, arith, append_assoc, append-nil}
-use Rattle.std.specs.Prelude.{◌≡◌, ◌⊎◌, ◌<◌, ◌≤◌, ℕ, zero, suc, Bool, true, false, List, [], ◌∷◌, ◌++◌, map, slice_get, Some, None, Result, Ok, Err}
+use Rattle.std.specs.Prelude.{◌≡◌, ◌⊎◌, ◌<◌, ◌≤◌, ℕ, zero, suc, Bool, true, false, List, [], ◌∷◌, ◌++◌, slice_get, Some}
 use Rattle.digest_core.specs.declared.Digest.{Digest}
 use Rattle.chain_types.specs.declared.objects.ObjectId.{ObjectId}
 use Rattle.chain_types.specs.declared.objects.Object.{Object}
@@ -12,45 +12,40 @@ use Rattle.chain_messages.specs.declared.messages.Certificate.{Certificate}
 use Rattle.answer_types.specs.declared.pieces.Executed.{Executed}
 use Rattle.answer_types.specs.declared.answers.Held.{Held}
 use Rattle.schedule_text.specs.declared.words.Event.{Event}
-use Rattle.protocol_spec.specs.Chain.Words.{Has, Along, all_some, numbers_below, repeats}
+use Rattle.protocol_spec.proofs.Executions.{effects_tx}
+use Rattle.protocol_spec.proofs.ListLemmas.{each_has, has_left, has_parts, has_mapped, has_right}
+use Rattle.protocol_spec.specs.Chain.Words.{Has, Along, numbers_below, repeats}
 use Rattle.protocol_spec.specs.Chain.Keys.{objects_of, named_ids}
-use Rattle.protocol_spec.specs.Chain.Shape.{shape_cases, shape_fault}
-use Rattle.protocol_spec.specs.Chain.Certificates.{Rules, cert_cases, cert_refusal}
-use Rattle.protocol_spec.specs.Block.Block.{Block}
-use Rattle.protocol_spec.specs.Block.Execution.{Failure, outcome, execution, executed_by}
+use Rattle.protocol_spec.specs.Block.Execution.{execution}
 use Rattle.protocol_spec.specs.Member.Versions.{Execution, Version, versions, is_executed}
-use Rattle.protocol_spec.specs.Member.Rounds.{Wanted, is_wanted, wants_of, found, present}
+use Rattle.protocol_spec.specs.Member.Rounds.{wants_of, present}
 use Rattle.protocol_spec.specs.Member.Member.{Member, books}
 use Rattle.world_spec.specs.Setting.{Setting}
 use Rattle.world_spec.specs.World.{Seat, member_in}
 use Rattle.world_spec.specs.Names.{draws}
 use Rattle.world_spec.specs.Run.{world_after}
 use Rattle.world_spec.specs.Assumptions.{IsHonestRun, all_delivered, all_transactions}
-use Rattle.safety_law.proofs.Once.{each-has, digest-same, has-left}
-use Rattle.safety_law.proofs.Kept.{find-has}
-use Rattle.safety_law.proofs.Apart.{none-each, none-map}
+use Rattle.safety_law.proofs.Once.{digest-same}
 use Rattle.block_law.specs.Names.{drawn_id, drawn_ids, touched_ids}
-use Rattle.block_law.proofs.Reading.{where-false}
 use Rattle.block_law.proofs.Steps.{map-append}
 use Rattle.block_law.proofs.Effects.{objects-ids}
 use Rattle.block_law.specs.Shared.{shared_since, IsAsNamed, IsNew}
-use Rattle.block_law.proofs.Written.{stay-shared}
+use Rattle.block_law.proofs.Written.{stay-shared, below, second}
 use Rattle.agreement_law.specs.Agreed.{IsGiven, IsHeldAsGiven}
 use Rattle.agreement_law.specs.Explained.{IsExplained}
 use Rattle.agreement_law.proofs.Supply.{every-held}
-use Rattle.agreement_law.proofs.Executing.{executions-explained, some-parts}
+use Rattle.agreement_law.proofs.Executing.{executions-explained}
 use Rattle.agreement_law.proofs.Same.{of-run}
 use Rattle.sequence_law.specs.Orderly.{Step, id_of}
-use Rattle.sequence_law.proofs.Touched.{has-parts, has-mapped, below, written-version}
-use Rattle.sequence_law.proofs.Reading.{has-right}
+use Rattle.sequence_law.proofs.Touched.{written-version}
 use Rattle.agreement_law.specs.Orderly.{OpensApart}
-use Rattle.agreement_law.proofs.Lists.{some-same, has-second, along-split}
+use Rattle.agreement_law.proofs.Lists.{along-split}
 use Rattle.agreement_law.proofs.Lives.{IsThere, version-there}
-use Rattle.agreement_law.proofs.Wants.{found-as}
-use Rattle.agreement_law.proofs.Executed.{one-gave}
-use Rattle.agreement_law.proofs.Ordered.{repeats-append}
+use Rattle.agreement_law.proofs.Executed.{one-gave, execution-there}
+use Rattle.agreement_law.proofs.Ordered.{repeats-append, names-once}
 use Rattle.agreement_law.proofs.Drawn.{created-most}
-use Rattle.headline_law.proofs.Present.{has-find, executed-is}
+use Rattle.agreement_law.proofs.Known.{each-found}
+use Rattle.headline_law.proofs.Present.{has-find}
 
 -- ---- where an id comes from
 
@@ -82,38 +77,9 @@ first-like opening executed p o id share (inr r) = inr (record { by = r.by; ther
 
 first-more : (opening : List Object) (executed more : List Execution) (o : Object) → HasFirst opening executed o → HasFirst opening (executed ++ more) o
 first-more opening executed more o (inl r) = inl r
-first-more opening executed more o (inr r) = inr (record { by = r.by; there = has-left executed more r.by r.there; first = r.first; written = r.written; id = r.id; share = r.share; number = r.number; drew = r.drew; drawn = r.drawn })
+first-more opening executed more o (inr r) = inr (record { by = r.by; there = has_left executed more r.by r.there; first = r.first; written = r.written; id = r.id; share = r.share; number = r.number; drew = r.drew; drawn = r.drawn })
 
 -- ---- what the shape of a certificate says
-
-names-once : (r : Rules) (c : Certificate) → cert_refusal r c ≡ None → repeats id_eq (named_ids c.tx) ≡ false
-unfolding cert_refusal shape_fault
-names-once r c e =
-    let shape = none-each (shape_cases c.tx) (none-map _ (shape_fault c.tx) (none-each (cert_cases r c) e).0) in
-    where-false (repeats id_eq (named_ids c.tx)) 5 shape.1.1.1.1.0
-
-effects-tx : (t : Transaction) (objects : List Object) → (execution t objects).effects.tx ≡ transaction_digest t
-unfolding execution
-effects-tx t objects = go (outcome t (transaction_digest t) objects)
-  where
-    go : (r : Result Block Failure) → (executed_by t (transaction_digest t) objects r).effects.tx ≡ transaction_digest t
-    go (Ok b) = refl
-    go (Err failure) = refl
-
--- an object that is found for a wish is one of the versions
-each-found : (vs : List Version) (ws : List Wanted) (os : List Object) → all_some (map (found vs) ws) ≡ Some os → (o : Object) → Has os o → (v : Version) × Has vs v × (v.object ≡ o)
-each-found vs [] os e o h = absurd (subst (λ (zs : List Object). Has zs o) (sym (some-same [] os e)) h)
-each-found vs (w ∷ ws) os e o h = go (some-parts (found vs w) (map (found vs) ws) os e) (each-found vs ws)
-  where
-    there : (q : Object) → found vs w ≡ Some q → (v : Version) × Has vs v × (v.object ≡ q)
-    there q at = let f = found-as vs w q at in (f.0, find-has (is_wanted w.key w.producer) vs f.0 f.1, f.2)
-
-    go : (q : Object) × (rest : List Object) × (found vs w ≡ Some q) × (all_some (map (found vs) ws) ≡ Some rest) × (Some (q ∷ rest) ≡ Some os) → ((rest : List Object) → all_some (map (found vs) ws) ≡ Some rest → (o : Object) → Has rest o → (v : Version) × Has vs v × (v.object ≡ o)) → (v : Version) × Has vs v × (v.object ≡ o)
-    go (q, rest, at, all, same) back = pick (subst (λ (zs : List Object). Has zs o) (sym (some-same (q ∷ rest) os same)) h)
-      where
-        pick : Has (q ∷ rest) o → (v : Version) × Has vs v × (v.object ≡ o)
-        pick (inl e) = let t = there q at in (t.0, t.1, t.2 ∙ e)
-        pick (inr k) = back rest all o k
 
 -- ---- at a member
 
@@ -131,7 +97,7 @@ module _ (s : Setting) (events : List Event) (honest : IsHonestRun s events) (n 
   m = member_in s seat
 
   given-of : (h : Held) → Has m.held h → IsGiven s.rules (all_delivered s events) m.epoch h.digest h.cert
-  given-of h there = each-has (IsHeldAsGiven s.rules (all_delivered s events) m.epoch) m.held h (every-held s events n seat at) there
+  given-of h there = each_has (IsHeldAsGiven s.rules (all_delivered s events) m.epoch) m.held h (every-held s events n seat at) there
 
   explained-of-run : (before : List Execution) (x : Execution) → IsExplained (books m) before x → IsOfRun s events m x
   explained-of-run before x it =
@@ -164,7 +130,7 @@ module _ (s : Setting) (events : List Event) (honest : IsHonestRun s events) (n 
       differ j less e = let same = (honest.ids.drawn t t h h j k (omega (arith, low, less)) (omega (arith, low)) e).1 in omega (arith, same, less)
 
       apart : (x y : ObjectId) → Has (drawn_ids (transaction_digest t) k) x → Has (drawn_id (transaction_digest t) k ∷ []) y → x ≡ y → ⊥
-      apart x y one (inl two) e = let j = has-mapped (drawn_id (transaction_digest t)) (numbers_below k) x one in differ j.0 (below k j.0 j.1) (j.2 ∙ e ∙ sym two)
+      apart x y one (inl two) e = let j = has_mapped (drawn_id (transaction_digest t)) (numbers_below k) x one in differ j.0 (below k j.0 j.1) (j.2 ∙ e ∙ sym two)
       apart x y one (inr two) e = two
 
   -- all that these executions wrote is shared as what had its id first, and no id that they named was one that they drew
@@ -221,7 +187,7 @@ module _ (s : Setting) (events : List Event) (honest : IsHonestRun s events) (n 
 
     once-again : is_executed before y.digest ≡ true → IsOnce (execution t it.inputs).effects.created
     once-again e =
-        let x = executed-is before y.digest e in
+        let x = execution-there before y.digest e in
         subst (λ (g : Executed). IsOnce g.effects.created) (one-gave s events honest n seat at x.0 y (inside x.0 x.1) there x.2 ∙ y-gave)
         (are.once x.0 x.1 t in-run (x.2 ∙ y-digest))
 
@@ -231,8 +197,8 @@ module _ (s : Setting) (events : List Event) (honest : IsHonestRun s events) (n 
       where
         apart : (a b : ObjectId) → Has (named_ids t) a → Has (drawn_ids (transaction_digest t) (execution t it.inputs).effects.created) b → a ≡ b → ⊥
         apart a b named drawn e =
-            let o = has-mapped id_of it.inputs a (subst (λ (ids : List ObjectId). Has ids a) (sym (objects-ids t it.inputs it.fit)) named) in
-            let k = has-mapped (drawn_id (transaction_digest t)) (numbers_below (execution t it.inputs).effects.created) b drawn in
+            let o = has_mapped id_of it.inputs a (subst (λ (ids : List ObjectId). Has ids a) (sym (objects-ids t it.inputs it.fit)) named) in
+            let k = has_mapped (drawn_id (transaction_digest t)) (numbers_below (execution t it.inputs).effects.created) b drawn in
             named-first new o.0 (input-first o.0 o.1) k.0 (below (execution t it.inputs).effects.created k.0 k.1) (o.2 ∙ e ∙ sym k.2)
 
     once-here : IsOnce (execution t it.inputs).effects.created
@@ -243,16 +209,16 @@ module _ (s : Setting) (events : List Event) (honest : IsHonestRun s events) (n 
         go false e = once-new e
 
     touched-once : repeats id_eq (touched_ids t (execution t it.inputs).effects) ≡ false
-    touched-once = subst (λ (d : Digest). repeats id_eq (named_ids t ++ drawn_ids d (execution t it.inputs).effects.created) ≡ false) (sym (effects-tx t it.inputs)) once-here
+    touched-once = subst (λ (d : Digest). repeats id_eq (named_ids t ++ drawn_ids d (execution t it.inputs).effects.created) ≡ false) (sym (effects_tx t it.inputs)) once-here
 
     object-rooted : (o : Object) → Has (execution t it.inputs).objects o → HasFirst m.opening (before ++ y ∷ []) o
     object-rooted o h = go (stay-shared t it.inputs it.fit touched-once o h)
       where
         go : IsAsNamed t it.inputs o ⊎ IsNew t it.inputs o → HasFirst m.opening (before ++ y ∷ []) o
-        go (inl a) = first-more m.opening before (y ∷ []) o (first-like m.opening before a.before o a.id a.share (input-first a.before (has-second (objects_of t) it.inputs a.of a.before a.named)))
+        go (inl a) = first-more m.opening before (y ∷ []) o (first-like m.opening before a.before o a.id a.share (input-first a.before (second (objects_of t) it.inputs a.of a.before a.named)))
         go (inr a) = inr (record {
           by = y;
-          there = has-right before (y ∷ []) y (inl refl);
+          there = has_right before (y ∷ []) y (inl refl);
           first = o;
           written = subst (λ (g : Executed). Has g.objects o) (sym y-gave) h;
           id = refl;
@@ -266,7 +232,7 @@ module _ (s : Setting) (events : List Event) (honest : IsHonestRun s events) (n 
     next-rooted = record { rooted = rooted; once = once }
       where
         rooted : (x : Execution) → Has (before ++ y ∷ []) x → (o : Object) → Has x.gave.objects o → HasFirst m.opening (before ++ y ∷ []) o
-        rooted x h o w = go (has-parts before (y ∷ []) x h)
+        rooted x h o w = go (has_parts before (y ∷ []) x h)
           where
             go : Has before x ⊎ Has (y ∷ []) x → HasFirst m.opening (before ++ y ∷ []) o
             go (inl k) = first-more m.opening before (y ∷ []) o (are.rooted x k o w)
@@ -274,7 +240,7 @@ module _ (s : Setting) (events : List Event) (honest : IsHonestRun s events) (n 
             go (inr (inr k)) = absurd k
 
         once : (x : Execution) → Has (before ++ y ∷ []) x → (u : Transaction) → Has (all_transactions s events) u → x.digest ≡ transaction_digest u → repeats id_eq (named_ids u ++ drawn_ids (transaction_digest u) x.gave.effects.created) ≡ false
-        once x h u among e = go (has-parts before (y ∷ []) x h)
+        once x h u among e = go (has_parts before (y ∷ []) x h)
           where
             go : Has before x ⊎ Has (y ∷ []) x → repeats id_eq (named_ids u ++ drawn_ids (transaction_digest u) x.gave.effects.created) ≡ false
             go (inl k) = are.once x k u among e
@@ -291,7 +257,7 @@ module _ (s : Setting) (events : List Event) (honest : IsHonestRun s events) (n 
       subst AreRooted (append_assoc before (x ∷ []) xs) (all-rooted xs (before ++ x ∷ []) both (λ z h. rest z (inr h)) (next-rooted before are inside x (rest x (inl refl)) along.0) along.1)
     where
       both : (z : Execution) → Has (before ++ x ∷ []) z → Has m.executed z
-      both z h = go (has-parts before (x ∷ []) z h)
+      both z h = go (has_parts before (x ∷ []) z h)
         where
           go : Has before z ⊎ Has (x ∷ []) z → Has m.executed z
           go (inl k) = inside z k

@@ -4,24 +4,23 @@ use Rattle.std.proofs.Common.{inl, inr, refl, sym, subst, ap, ◌∙◌, arith, 
 use Rattle.std.proofs.lemmas.Bool.{eqb-true}
 use Rattle.std.specs.Prelude.{◌≡◌, ◌⊎◌, ◌<◌, ◌≤◌, ◌+◌, ◌==◌, ℕ, zero, suc, Bool, true, false, cond, not, ◌&&◌, List, [], ◌∷◌, ◌++◌, find, length, Option, Some, None, is_some}
 use Rattle.std.specs.List.{list_any}
-use Rattle.digest_core.specs.declared.Digest.{Digest}
 use Rattle.chain_types.specs.declared.objects.ObjectId.{ObjectId}
 use Rattle.chain_types.specs.declared.objects.ObjectKey.{ObjectKey}
 use Rattle.chain_types.specs.declared.objects.Object.{Object}
 use Rattle.chain_types.specs.Equal.{id_eq, key_eq}
 use Rattle.answer_types.specs.declared.answers.Held.{Held}
+use Rattle.protocol_spec.proofs.Equality.{id_same}
+use Rattle.protocol_spec.proofs.Executions.{stays_executed}
 use Rattle.protocol_spec.specs.Chain.Words.{Has, where_true}
 use Rattle.protocol_spec.specs.Chain.Tests.{has_key}
 use Rattle.protocol_spec.specs.Chain.Keys.{fits}
-use Rattle.protocol_spec.proofs.ListLemmas.{and-first, and-second, not-true}
+use Rattle.protocol_spec.proofs.ListLemmas.{and-first, and-second, not-true, has_left, push_has, has_right}
 use Rattle.protocol_spec.specs.Block.Execution.{execution, written_keys}
 use Rattle.protocol_spec.specs.Member.Versions.{Execution, versions, is_executed}
 use Rattle.protocol_spec.specs.Member.Rounds.{Books, present, may_run, writes_new, executes_as, ready_as, ready_on, ready, clashes, round_add, round_among, round_of, rounds_within, rounds}
-use Rattle.safety_law.proofs.Once.{has-push, has-left, has-last}
-use Rattle.block_law.proofs.Counts.{id_same}
-use Rattle.sequence_law.proofs.Reading.{has-right}
-use Rattle.agreement_law.proofs.Lists.{any-has}
+use Rattle.safety_law.proofs.Once.{has-push}
 use Rattle.headline_law.proofs.Keys.{was-executed}
+use Rattle.sequence_law.proofs.Live.{any-has}
 
 -- ---- what is ready
 
@@ -73,7 +72,7 @@ module _ (b : Books) (executed : List Execution) where
     where
       kept : (y : Execution) (c : Bool) → Has (cond c round (round ++ y ∷ [])) x
       kept y true = h
-      kept y false = has-left round (y ∷ []) x h
+      kept y false = has_left round (y ∷ []) x h
 
       added : (o : Option Execution) → Has (round_add round o) x
       added None = h
@@ -146,7 +145,7 @@ module _ (b : Books) (executed : List Execution) where
     Takes round h = (y : Execution) × Has round y × (y.digest ≡ h.digest)
 
     taken : (round : List Execution) → ((y : Execution) → Has round y → IsReadyOne b.held y) → (h : Held) (x : Execution) → Has b.held h → ready b executed h ≡ Some x → (c : Bool) → clashes round x ≡ c → Takes (cond c round (round ++ x ∷ [])) h
-    taken round from h x there e false c = (x, has-last round x, ap (λ (z : Execution). z.digest) (ready-says b executed h x e).is)
+    taken round from h x there e false c = (x, push_has round x, ap (λ (z : Execution). z.digest) (ready-says b executed h x e).is)
     taken round from h x there e true c =
         let key = any-has (λ (key : ObjectKey). list_any (λ (y : Execution). has_key (written_keys y.gave) key) round) (written_keys x.gave) c in
         let y = any-has (λ (y : Execution). has_key (written_keys y.gave) key.0) round key.2 in
@@ -168,7 +167,7 @@ module _ (b : Books) (executed : List Execution) where
     unfolding round_of
     round-takes h x there e =
         let t = all-taken b.held [] (λ k r. r) (λ y none. absurd none) h x there e in
-        was-executed (executed ++ round_among b executed [] b.held) t.0 h.digest (has-right executed (round_among b executed [] b.held) t.0 t.1) t.2
+        was-executed (executed ++ round_among b executed [] b.held) t.0 h.digest (has_right executed (round_among b executed [] b.held) t.0 t.1) t.2
 
 -- ---- how many are open
 
@@ -188,9 +187,6 @@ some-more test (x ∷ xs) ys e = go (test x) e (some-more test xs ys)
     go true e rest = refl
     go false e rest = rest e
 
-still-executed : (xs ys : List Execution) (d : Digest) → is_executed xs d ≡ true → is_executed (xs ++ ys) d ≡ true
-still-executed xs ys d e = some-more _ xs ys e
-
 unless-less : (c d : Bool) → (c ≡ true → d ≡ true) → unless d ≤ unless c
 unless-less true d more = subst (λ (z : Bool). unless z ≤ 0) (sym (more refl)) (omega arith)
 unless-less false true more = omega arith
@@ -199,7 +195,7 @@ unless-less false false more = omega arith
 count-less : (xs ys : List Execution) (hs : List Held) → idle_count (xs ++ ys) hs ≤ idle_count xs hs
 count-less xs ys [] = omega arith
 count-less xs ys (h ∷ hs) =
-    let here = unless-less (is_executed xs h.digest) (is_executed (xs ++ ys) h.digest) (still-executed xs ys h.digest) in
+    let here = unless-less (is_executed xs h.digest) (is_executed (xs ++ ys) h.digest) (stays_executed xs ys h.digest) in
     let rest = count-less xs ys hs in
     omega (arith, here, rest)
 
@@ -211,7 +207,7 @@ count-lower xs ys (k ∷ hs) h (inl q) was is =
     let rest = count-less xs ys hs in
     omega (arith, one, none, rest)
 count-lower xs ys (k ∷ hs) h (inr r) was is =
-    let here = unless-less (is_executed xs k.digest) (is_executed (xs ++ ys) k.digest) (still-executed xs ys k.digest) in
+    let here = unless-less (is_executed xs k.digest) (is_executed (xs ++ ys) k.digest) (stays_executed xs ys k.digest) in
     let rest = count-lower xs ys hs h r was is in
     omega (arith, here, rest)
 
@@ -232,7 +228,7 @@ module _ (b : Books) where
       let from = round-from b executed x h in
       let says = ready-says b executed from.0 x from.2 in
       count-lower executed (round_of b executed) b.held from.0 from.1 says.idle
-      (was-executed (executed ++ round_of b executed) x from.0.digest (has-right executed (round_of b executed) x h) (ap (λ (z : Execution). z.digest) says.is))
+      (was-executed (executed ++ round_of b executed) x from.0.digest (has_right executed (round_of b executed) x h) (ap (λ (z : Execution). z.digest) says.is))
 
   -- behind an empty round all are empty
   empty-ends : (n : ℕ) (executed : List Execution) → round_of b executed ≡ [] → rounds_within n b executed ≡ []

@@ -24,9 +24,11 @@ use Rattle.answer_types.specs.declared.refusals.EndRefusal.TheVariants as no_end
 use Rattle.answer_types.specs.declared.refusals.AckRefusal.{AckRefusal}
 use Rattle.answer_types.specs.declared.refusals.AckRefusal.TheVariants as no_ack
 use Rattle.schedule_text.specs.declared.words.Event.{Event}
+use Rattle.protocol_spec.proofs.Equality.{digest_same}
 use Rattle.protocol_spec.specs.Chain.Words.{Has, first_some, where_true, unless_refused, refused_or}
 use Rattle.protocol_spec.specs.Chain.Certificates.{Rules, read_signed}
-use Rattle.protocol_spec.proofs.ListLemmas.{find-test}
+use Rattle.protocol_spec.proofs.ListLemmas.{find-test, find_has}
+use Rattle.protocol_spec.proofs.Truth.{where_not_true}
 use Rattle.protocol_spec.specs.Member.Versions.{Execution, execution_of}
 use Rattle.protocol_spec.specs.Member.Admission.{is_known}
 use Rattle.protocol_spec.specs.Member.Votes.{Cast, vote_origins}
@@ -35,10 +37,8 @@ use Rattle.protocol_spec.specs.Member.Calls.{Call, votes, holds, sees, runs, clo
 use Rattle.world_spec.specs.Setting.{Setting}
 use Rattle.world_spec.specs.World.{Seat, appended, stated, said_by, voted_statement, built_statements, ran_statements, answered_statement, checkpoint_statement}
 use Rattle.world_spec.specs.Run.{world_after}
-use Rattle.safety_law.proofs.Apart.{none-each, none-of, accepted}
+use Rattle.safety_law.proofs.Apart.{none-each, none-of}
 use Rattle.safety_law.proofs.Backed.{backed}
-use Rattle.safety_law.proofs.Once.{equal}
-use Rattle.safety_law.proofs.Kept.{find-has}
 use Rattle.headline_law.specs.Stated.{HasExecuted, IsSettled, MakesStatement, WasOnce}
 
 -- ---- every statement
@@ -134,8 +134,8 @@ module _ (r : Rules) (m : Member) (epoch : ℕ) (tx effects : Digest) where
   acks-what asked (Some x) e (inl same) = record {
     epoch_is = epochs same;
     of = x;
-    there = find-has (λ (y : Execution). digest_eq y.digest asked) m.executed x e;
-    named = equal x.digest asked (find-test (λ (y : Execution). digest_eq y.digest asked) m.executed x e) ∙ txs same;
+    there = find_has (λ (y : Execution). digest_eq y.digest asked) m.executed x e;
+    named = digest_same x.digest asked (find-test (λ (y : Execution). digest_eq y.digest asked) m.executed x e) ∙ txs same;
     gave = digests same;
   }
     where
@@ -181,8 +181,8 @@ module _ (r : Rules) (m : Member) (epoch : ℕ) where
       let none = none-each (end_cases m) e in
       record {
         epoch_is = epochs same;
-        closed = accepted m.closed no_end.NotClosed none.1.0;
-        known = λ h there. accepted (is_known m.sequence.admission h.digest) (no_end.Waits h.digest) (none-of (unseen m) m.held h none.1.1.0 there);
+        closed = where_not_true m.closed no_end.NotClosed none.1.0;
+        known = λ h there. where_not_true (is_known m.sequence.admission h.digest) (no_end.Waits h.digest) (none-of (unseen m) m.held h none.1.1.0 there);
       }
     where
       epochs : statement.End m.epoch ≡ statement.End epoch → m.epoch ≡ epoch

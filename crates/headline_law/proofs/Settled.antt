@@ -3,6 +3,7 @@ use Rattle.std.proofs.Common.{inl, inr, subst, append-nil}
 use Rattle.std.specs.Prelude.{◌≡◌, ◌⊎◌, ℕ, List, [], ◌++◌, slice_get, Some}
 use Rattle.answer_types.specs.declared.answers.Held.{Held}
 use Rattle.schedule_text.specs.declared.words.Event.{Event}
+use Rattle.protocol_spec.proofs.ListLemmas.{each_has}
 use Rattle.protocol_spec.specs.Chain.Words.{Has, Along, IsFront}
 use Rattle.protocol_spec.specs.Member.Versions.{Execution}
 use Rattle.protocol_spec.specs.Member.Admission.{Admitted}
@@ -11,7 +12,6 @@ use Rattle.world_spec.specs.Setting.{Setting}
 use Rattle.world_spec.specs.World.{Seat, new_world, member_in}
 use Rattle.world_spec.specs.Run.{world_after}
 use Rattle.world_spec.specs.Assumptions.{IsHonestRun, delivered, all_delivered}
-use Rattle.safety_law.proofs.Once.{each-has}
 use Rattle.safety_law.proofs.Forks.{all-front}
 use Rattle.sequence_law.specs.Admitted.{IsInOrder}
 use Rattle.agreement_law.specs.Agreed.{IsGiven, IsHeldAsGiven, IsAdmittedAsGiven, IsEarlier}
@@ -32,10 +32,10 @@ pub settled : (s : Setting) (front back : List Event) (n : ℕ) (seat : Seat) �
 unfolding all_delivered
 settled s front back n seat at = record {
   held = λ h k.
-      let g = each-has (IsHeldAsGiven s.rules (all_delivered s front) (member_in s seat).epoch) (member_in s seat).held h (every-held s front n seat at) k in
+      let g = each_has (IsHeldAsGiven s.rules (all_delivered s front) (member_in s seat).epoch) (member_in s seat).held h (every-held s front n seat at) k in
       record { digest_is = g.digest_is; valid = g.valid; epoch_is = g.epoch_is; comes = all-front delivered s front back (new_world s) h.cert g.comes };
   admitted = λ a k.
-      let g = each-has (IsAdmittedAsGiven s.rules (all_delivered s front) (member_in s seat).epoch) (member_in s seat).sequence.admission.admitted a (every-admission s front n seat at).given k in
+      let g = each_has (IsAdmittedAsGiven s.rules (all_delivered s front) (member_in s seat).epoch) (member_in s seat).sequence.admission.admitted a (every-admission s front n seat at).given k in
       record { digest_is = g.digest_is; valid = g.valid; epoch_is = g.epoch_is; comes = all-front delivered s front back (new_world s) a.cert g.comes };
   order = (every-admission s front n seat at).order;
   explained = executions-explained s front n seat at;

@@ -12,6 +12,7 @@ use Rattle.journal_core.specs.declared.records.Record.TheVariants as record_as
 use Rattle.answer_types.specs.declared.answers.Held.{Held}
 use Rattle.answer_types.specs.declared.refusals.HoldRefusal.{HoldRefusal}
 use Rattle.answer_types.specs.declared.refusals.HoldRefusal.TheVariants as no_hold
+use Rattle.protocol_spec.proofs.ListLemmas.{has_left}
 use Rattle.protocol_spec.specs.Chain.Words.{Has, Along, IsFront, first_some, where_true, unless_refused, refused_or}
 use Rattle.protocol_spec.specs.Chain.Certificates.{Rules, read_certificate, cert_refusal}
 use Rattle.protocol_spec.specs.Member.Versions.{Execution}
@@ -22,7 +23,7 @@ use Rattle.protocol_spec.specs.Member.Member.{Member, Fork, fork_of, fork_with, 
 use Rattle.protocol_spec.specs.Member.Calls.{Call, votes, holds, sees, runs, closes, ends, turns, acks, record_limit, new_hold, hold_read, is_hold_kept, hold_record, hold_answer, due}
 use Rattle.protocol_spec.specs.Member.Due.{IsDueBehind}
 use Rattle.safety_law.proofs.Apart.{state-push}
-use Rattle.safety_law.proofs.Once.{has-left, has-push}
+use Rattle.safety_law.proofs.Once.{has-push}
 use Rattle.agreement_law.proofs.Appends.{due-appends}
 use Rattle.agreement_law.proofs.Prefixes.{IsSee, due-see}
 use Rattle.headline_law.specs.Stated.{HasExecuted, IsSettled}
@@ -114,9 +115,9 @@ module _ (r : Rules) where
   }
   one-onward m call (record_as.See bytes) d same = record { executed = λ y h. h; settled = λ e st. see-settled m bytes (call-going m bytes call (due-see r m bytes call d)) e st }
   one-onward m call record_as.Close d same = record { executed = λ y h. h; settled = λ e st. record { epoch_is = st.epoch_is; closed = refl; known = st.known } }
-  one-onward m call (record_as.Ran txs) d same = record { executed = λ y h. has-left m.executed (rounds (books m) m.executed) y h; settled = λ e st. record { epoch_is = st.epoch_is; closed = st.closed; known = st.known } }
+  one-onward m call (record_as.Ran txs) d same = record { executed = λ y h. has_left m.executed (rounds (books m) m.executed) y h; settled = λ e st. record { epoch_is = st.epoch_is; closed = st.closed; known = st.known } }
   one-onward m call record_as.Turn d same = absurd (omega (arith, same))
-  one-onward m call (record_as.Ran2 items) d same = record { executed = λ y h. has-left m.executed (rounds (books m) m.executed) y h; settled = λ e st. record { epoch_is = st.epoch_is; closed = st.closed; known = st.known } }
+  one-onward m call (record_as.Ran2 items) d same = record { executed = λ y h. has_left m.executed (rounds (books m) m.executed) y h; settled = λ e st. record { epoch_is = st.epoch_is; closed = st.closed; known = st.known } }
 
 -- ---- along an epoch
 

@@ -2,7 +2,7 @@
 -- those who acknowledged it and among those whose End was counted.
 use Rattle.std.proofs.Common.{inl, inr, refl, sym, subst, ap, ◌∙◌, arith, append_assoc}
 use Rattle.std.proofs.lemmas.Bool.{cond-true, eqb-true}
-use Rattle.std.specs.Prelude.{◌≡◌, ◌⊎◌, ◌<◌, ◌≤◌, ℕ, zero, suc, Bool, true, false, ◌==◌, List, [], ◌∷◌, ◌++◌, flat_map, length, map, slice_get, Option, Some, None, is_some}
+use Rattle.std.specs.Prelude.{◌≡◌, ◌⊎◌, ◌<◌, ◌≤◌, ℕ, true, false, ◌==◌, List, [], ◌∷◌, ◌++◌, flat_map, length, map, slice_get, Option, Some, None, is_some}
 use Rattle.std.specs.List.{list_all}
 use Rattle.digest_core.specs.declared.Digest.{Digest}
 use Rattle.chain_types.specs.Equal.{digest_eq}
@@ -16,10 +16,11 @@ use Rattle.answer_types.specs.declared.pieces.Executed.{Executed}
 use Rattle.answer_types.specs.declared.answers.Held.{Held}
 use Rattle.journal_core.specs.declared.records.Record.{Record}
 use Rattle.schedule_text.specs.declared.words.Event.{Event}
+use Rattle.protocol_spec.proofs.Equality.{digest_same}
 use Rattle.protocol_spec.specs.Chain.Words.{Has, IsFront}
 use Rattle.protocol_spec.specs.Chain.Committee.{is_among, is_quorum, weight}
 use Rattle.protocol_spec.specs.Chain.Certificates.{Rules}
-use Rattle.protocol_spec.proofs.ListLemmas.{and-first, find-test}
+use Rattle.protocol_spec.proofs.ListLemmas.{and-first, find-test, find_has, each_has, push_has, has_left, has_mapped, front_whole, has_map, flat_has}
 use Rattle.protocol_spec.specs.Member.Versions.{Execution, execution_of, is_executed}
 use Rattle.protocol_spec.specs.Member.Admission.{Admitted, is_admitted}
 use Rattle.protocol_spec.specs.Member.Sequence.{Cut, Sequence, seen}
@@ -27,29 +28,25 @@ use Rattle.protocol_spec.specs.Member.Checkpoints.{chained, checkpoint_behind, e
 use Rattle.protocol_spec.specs.Member.Member.{Member, built, state}
 use Rattle.schedule_text.specs.declared.words.Setup.{Setup}
 use Rattle.world_spec.specs.Setting.{Setting, Trust, setting_of}
-use Rattle.world_spec.specs.World.{Seat, new_seat, new_world, entries_at, honest_seat, is_honest, member_in, said_by}
+use Rattle.world_spec.specs.World.{Seat, entries_at, member_in, said_by}
 use Rattle.world_spec.specs.Run.{world_after}
 use Rattle.world_spec.specs.Assumptions.{IsFinal, IsHonestRun, is_faulty_in}
 use Rattle.safety_law.proofs.Fronts.{honest-front}
-use Rattle.safety_law.proofs.Grown.{grown-run, statements-grow}
+use Rattle.safety_law.proofs.Grown.{statements-grow}
 use Rattle.safety_law.proofs.Journals.{every-record}
-use Rattle.safety_law.proofs.Kept.{find-has}
 use Rattle.safety_law.proofs.Meeting.{two_meet}
-use Rattle.safety_law.proofs.Once.{each-has, equal, has-last, has-left}
-use Rattle.safety_law.proofs.Totals.{has-mapped}
+use Rattle.safety_law.proofs.Owner.{honest-after}
 use Rattle.safety_law.proofs.Voted.{seat-of}
+use Rattle.sequence_law.proofs.Live.{any-has, has-flat}
 use Rattle.sequence_law.specs.Orderly.{AreApart}
 use Rattle.agreement_law.specs.Agreed.{IsTaken}
 use Rattle.agreement_law.specs.Checkpointed.{admitted_in}
 use Rattle.agreement_law.proofs.AgreedEpochs.{members-agree}
 use Rattle.agreement_law.proofs.Ended.{seen-ended}
-use Rattle.agreement_law.proofs.Growth.{front-all}
-use Rattle.agreement_law.proofs.Lists.{any-has, map-has}
-use Rattle.agreement_law.proofs.Lives.{has-flat}
 use Rattle.agreement_law.proofs.Opened.{grows-after}
 use Rattle.agreement_law.proofs.Prefixes.{earlier-front, either-front, follows, more-taken}
 use Rattle.agreement_law.proofs.SetUp.{set-up-apart}
-use Rattle.agreement_law.proofs.Turned.{CanTurn, flat-has, has-all}
+use Rattle.agreement_law.proofs.Turned.{CanTurn, has-all}
 use Rattle.headline_law.specs.Ended.{IsWhole}
 use Rattle.headline_law.specs.Final.{StandsForGood, StandsIn}
 use Rattle.headline_law.specs.Stated.{HasExecuted, IsSettled, WasOnce}
@@ -66,20 +63,10 @@ use Rattle.headline_law.proofs.Turning.{HasLeft, IsLast, last-moment, left-epoch
 pub among-has : (xs : List ℕ) (m : ℕ) → is_among xs m ≡ true → Has xs m
 among-has xs m e = let x = any-has (λ (n : ℕ). n == m) xs e in subst (Has xs) (eqb-true x.0 m x.2) x.1
 
-front-has : {A : Type 0} (xs ys : List A) (x : A) → IsFront xs ys → Has xs x → Has ys x
-front-has {A = A} xs ys x (more, e) h = subst (λ (zs : List A). Has zs x) (sym e) (has-left xs more x h)
+pub front-has : {A : Type 0} (xs ys : List A) (x : A) → IsFront xs ys → Has xs x → Has ys x
+front-has {A = A} xs ys x (more, e) h = subst (λ (zs : List A). Has zs x) (sym e) (has_left xs more x h)
 
 -- ---- who is honest
-
-honest-in : (honest : List Bool) (m : ℕ) → is_faulty_in honest m ≡ false → honest_seat (slice_get (map new_seat honest) m) ≡ true
-honest-in [] m e = absurd (cc)
-honest-in (true ∷ honest) zero e = refl
-honest-in (false ∷ honest) zero e = absurd (cc)
-honest-in (h ∷ honest) (suc m) e = honest-in honest m e
-
-pub honest-after : (s : Setting) (events : List Event) (m : ℕ) → is_faulty_in s.honest m ≡ false → is_honest (world_after s events) m ≡ true
-unfolding world_after new_world
-honest-after s events m e = (grown-run s events (new_world s)).honest m ∙ honest-in s.honest m e
 
 -- ---- the checkpoints of cuts that are done
 
@@ -95,7 +82,7 @@ module _ (epoch : ℕ) (held : List Held) (executed : List Execution) (c : Cut) 
   first-of before cs = record {
     checkpoint = checkpoint_behind epoch executed before c;
     among = front-has (before ++ checkpoint_behind epoch executed before c ∷ []) (chained epoch held executed (before ++ checkpoint_behind epoch executed before c ∷ []) cs) (checkpoint_behind epoch executed before c)
-        (chained-more epoch held executed cs (before ++ checkpoint_behind epoch executed before c ∷ [])) (has-last before (checkpoint_behind epoch executed before c));
+        (chained-more epoch held executed cs (before ++ checkpoint_behind epoch executed before c ∷ [])) (push_has before (checkpoint_behind epoch executed before c));
     epoch_is = refl;
     items = refl;
   }
@@ -112,7 +99,7 @@ module _ (epoch : ℕ) (held : List Held) (executed : List Execution) (c : Cut) 
 -- a member that can turn has built a checkpoint with each transaction that it admitted, with its effects
 module _ (p : Member) (can : CanTurn p) (whole : flat_map admitted_in p.sequence.cuts ≡ p.sequence.admission.admitted) where
   cut-done : (d : Cut) → Has p.sequence.cuts d → list_all (is_done p.held p.executed) d.txs ≡ true
-  cut-done d h = has-all (is_done p.held p.executed) d.txs (λ a k. can.done a (subst (λ (zs : List Admitted). Has zs a) whole (flat-has admitted_in p.sequence.cuts d a h k)))
+  cut-done d h = has-all (is_done p.held p.executed) d.txs (λ a k. can.done a (subst (λ (zs : List Admitted). Has zs a) whole (flat_has admitted_in p.sequence.cuts d a h k)))
 
   admitted-stands : (before : PastIsBefore p) (a : Admitted) (effects : Digest) → Has p.sequence.admission.admitted a → effects_digest_of (execution_of p.executed a.digest) ≡ effects → StandsIn (built p) p.epoch a.digest effects
   unfolding built
@@ -123,7 +110,7 @@ module _ (p : Member) (can : CanTurn p) (whole : flat_map admitted_in p.sequence
         checkpoint = it.checkpoint;
         among = it.among;
         epoch_is = it.epoch_is;
-        item = subst (λ (d : Digest). Has it.checkpoint.items (record { tx = a.digest; effects = d })) e (subst (λ (is : List Item). Has is (item_of p.executed a)) (sym it.items) (map-has (item_of p.executed) c.0.txs a c.2));
+        item = subst (λ (d : Digest). Has it.checkpoint.items (record { tx = a.digest; effects = d })) e (subst (λ (is : List Item). Has is (item_of p.executed a)) (sym it.items) (has_map (item_of p.executed) c.0.txs a c.2));
         only = λ d k same i there named. each-same d (built-from p d k) same i there named ∙ e;
       }
     where
@@ -131,7 +118,7 @@ module _ (p : Member) (can : CanTurn p) (whole : flat_map admitted_in p.sequence
       each-same : (d : Checkpoint) → Has p.past d ⊎ IsOfCuts p.epoch p.executed d → d.epoch ≡ p.epoch → (i : Item) → Has d.items i → i.tx ≡ a.digest → i.effects ≡ effects_digest_of (execution_of p.executed a.digest)
       each-same d (inl k) same i there named = absurd (let less = before d k in omega (arith, less, same))
       each-same d (inr of) same i there named =
-          let b = has-mapped (item_of p.executed) of.of.txs i (subst (λ (is : List Item). Has is i) of.items there) in
+          let b = has_mapped (item_of p.executed) of.of.txs i (subst (λ (is : List Item). Has is i) of.items there) in
           ap (λ (x : Item). x.effects) (sym b.2) ∙ ap (λ (tx : Digest). effects_digest_of (execution_of p.executed tx)) (ap (λ (x : Item). x.tx) b.2 ∙ named)
 
 -- ---- of an ended epoch a member has admitted what any other has
@@ -148,7 +135,7 @@ ended-has-all r entries p q one two epoch opening ended = go (either-front one.f
     go : IsFront one.front two.front ⊎ IsFront two.front one.front → Front q.sequence p.sequence
     go (inl more) =
         let same = gives ∙ seen-ended r p.opening p.epoch one.front two.front more (subst (λ (z : Sequence). z.ended ≡ true) one.gives ended) ∙ sym one.gives in
-        subst (λ (z : Sequence). Front z p.sequence) (sym same) (front-all p.sequence.admission.admitted)
+        subst (λ (z : Sequence). Front z p.sequence) (sym same) (front_whole p.sequence.admission.admitted)
     go (inr less) = subst (λ (z : Sequence). Front z p.sequence) (sym gives) (subst (Front (seen r p.opening p.epoch (map messages.entry.spell two.front))) (sym one.gives)
         (earlier-front r p.opening p.epoch two.front one.front less).admitted)
 
@@ -310,8 +297,8 @@ module _ (s : Setting) (front back : List Event) (run_is : IsHonestRun s (front 
       let front_is = admitted-too s all run_is distinct turn.front has.front rest has.back joined has.whole turn.member has.member turn.seat has.seat turn.there has.at same-epoch left.can.ended in
       let a = any-has (λ (x : Admitted). digest_eq x.digest has.had.of.digest) acker.sequence.admission.admitted has.admitted in
       let here = front-has acker.sequence.admission.admitted turner.sequence.admission.admitted a.0 front_is a.1 in
-      let named : a.0.digest ≡ tx = equal a.0.digest has.had.of.digest a.2 ∙ has.had.named in
-      let it = admitted-stands turner left.can whole.cuts (past-before s.rules s.opening turn.seat.records) a.0 effects here (gave-same a.0 here (equal a.0.digest has.had.of.digest a.2)) in
+      let named : a.0.digest ≡ tx = digest_same a.0.digest has.had.of.digest a.2 ∙ has.had.named in
+      let it = admitted-stands turner left.can whole.cuts (past-before s.rules s.opening turn.seat.records) a.0 effects here (gave-same a.0 here (digest_same a.0.digest has.had.of.digest a.2)) in
       subst (λ (d : Digest). StandsIn (built turner) epoch d effects) named (subst (λ (e : ℕ). StandsIn (built turner) e a.0.digest effects) turn.epoch_is it)
     where
       gave-same : (a : Admitted) → Has turner.sequence.admission.admitted a → a.digest ≡ has.had.of.digest → effects_digest_of (execution_of turner.executed a.digest) ≡ effects
@@ -320,8 +307,8 @@ module _ (s : Setting) (front back : List Event) (run_is : IsHonestRun s (front 
           go : (o : Option Execution) → execution_of turner.executed a.digest ≡ o → is_some o ≡ true → effects_digest_of o ≡ effects
           go None f some = absurd (cc)
           go (Some y) f some =
-              let there = find-has (λ (z : Execution). digest_eq z.digest a.digest) turner.executed y f in
-              let digest = equal y.digest a.digest (find-test (λ (z : Execution). digest_eq z.digest a.digest) turner.executed y f) ∙ e in
+              let there = find_has (λ (z : Execution). digest_eq z.digest a.digest) turner.executed y f in
+              let digest = digest_same y.digest a.digest (find-test (λ (z : Execution). digest_eq z.digest a.digest) turner.executed y f) ∙ e in
               ap (λ (g : Executed). digest_of_effects g.effects) (alike.executions y has.had.of there has.had.there digest) ∙ has.had.gave
 
   pub stands : StandsIn (built (member_in s seat)) epoch tx effects
@@ -334,7 +321,7 @@ pub final-stands : (s : Setting) (events : List Event) → IsHonestRun s events 
 final-stands s events run_is distinct epoch tx effects members final front back split m seat at less =
     stands s front back (subst (IsHonestRun s) split run_is) distinct epoch tx effects members final.quorum
     (λ k h. subst (λ (es : List Event). Has (world_after s es).said (said_by k (statement.Ack epoch tx effects))) split
-    (each-has (λ (n : ℕ). Has (world_after s events).said (said_by n (statement.Ack epoch tx effects))) members k final.said h)) m seat at less
+    (each_has (λ (n : ℕ). Has (world_after s events).said (said_by n (statement.Ack epoch tx effects))) members k final.said h)) m seat at less
 
 pub stands-in-schedules : (trust : Trust) (lines : List Setup) (events : List Event) → IsHonestRun (setting_of trust lines) events
     → (epoch : ℕ) (tx effects : Digest) (members : List ℕ) → IsFinal (setting_of trust lines) (world_after (setting_of trust lines) events) epoch tx effects members

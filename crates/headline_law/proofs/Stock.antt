@@ -7,16 +7,15 @@ use Rattle.chain_types.specs.Equal.{digest_eq}
 use Rattle.journal_core.specs.declared.records.Record.{Record}
 use Rattle.journal_core.specs.declared.records.Record.TheVariants as record_as
 use Rattle.answer_types.specs.declared.answers.Held.{Held}
+use Rattle.protocol_spec.proofs.Equality.{digest_same}
 use Rattle.protocol_spec.specs.Chain.Words.{Has, Each}
 use Rattle.protocol_spec.specs.Chain.Certificates.{Rules}
-use Rattle.protocol_spec.proofs.ListLemmas.{find-each, find-test, filter-each, each-push}
+use Rattle.protocol_spec.proofs.ListLemmas.{find-each, find-test, filter-each, each_push, each_has, push_has, find_has, each_as}
 use Rattle.protocol_spec.specs.Member.Admission.{Admitted, Admission, is_free, not_of, admit, taken_as, taken, is_dropped, taken_next, take_free, entered, passed_mark}
 use Rattle.protocol_spec.specs.Member.Sequence.{Sequence, What, takes, commits, counts, ignores, what_of, counted_as, ends_with_member, with_what, with_entry, saw, held_as}
 use Rattle.protocol_spec.specs.Member.Checkpoints.{held_of}
 use Rattle.protocol_spec.specs.Member.Member.{Member, fresh, held_with, after, state}
-use Rattle.safety_law.proofs.Once.{each-has, equal, digest-same, has-last}
-use Rattle.safety_law.proofs.Kept.{find-has}
-use Rattle.agreement_law.proofs.InSequences.{each-map}
+use Rattle.safety_law.proofs.Once.{digest-same}
 use Rattle.headline_law.proofs.Present.{has-find}
 use Rattle.headline_law.proofs.Rounds.{some-more}
 
@@ -30,7 +29,7 @@ module _ (P : Digest → Type 0) (r : Rules) (opening : List Object) where
   unfolding admit
   of-taken_as true a h all p = record { admitted = all.admitted; pending = filter-each (λ (k : Held). P k.digest) (λ (k : Held). P k.digest) (not_of h) a.pending (λ k t q. q) all.pending }
   of-taken_as false a h all p = record {
-    admitted = each-push (λ (x : Admitted). P x.digest) a.admitted (admit opening a.admitted h) all.admitted p;
+    admitted = each_push (λ (x : Admitted). P x.digest) a.admitted (admit opening a.admitted h) all.admitted p;
     pending = filter-each (λ (k : Held). P k.digest) (λ (k : Held). P k.digest) (not_of h) a.pending (λ k t q. q) all.pending;
   }
 
@@ -45,7 +44,7 @@ module _ (P : Digest → Type 0) (r : Rules) (opening : List Object) where
   of-what : (q : Sequence) (what : What) → AllOf P q.admission → ((h : Held) → what ≡ takes h → P h.digest) → AllOf P (with_what r opening q what).admission
   unfolding entered passed_mark
   of-what q (takes h) all new = of-free (length (q.admission.pending ++ h ∷ [])) (record q.admission { pending = q.admission.pending ++ h ∷ [] })
-      (record { admitted = all.admitted; pending = each-push (λ (k : Held). P k.digest) q.admission.pending h all.pending (new h refl) })
+      (record { admitted = all.admitted; pending = each_push (λ (k : Held). P k.digest) q.admission.pending h all.pending (new h refl) })
   of-what q commits all new = of-free (length q.admission.pending) (record q.admission { marked = length q.admission.admitted }) (record { admitted = all.admitted; pending = all.pending })
   of-what q (counts m) all new = go (ends_with_member r q m)
     where
@@ -88,12 +87,12 @@ held-new held what h e = subst (λ (w : What). IsHeldIn (held_with held w) h.dig
   where
     go : (b : Bool) → is_some (held_of held h.digest) ≡ b → IsHeldIn (cond b held (held ++ h ∷ [])) h.digest
     go true e = e
-    go false e = has-find (is_of_digest h.digest) (held ++ h ∷ []) h (has-last held h) (digest-same h.digest)
+    go false e = has-find (is_of_digest h.digest) (held ++ h ∷ []) h (push_has held h) (digest-same h.digest)
 
 more-of : (P Q : Digest → Type 0) (a : Admission) → ((tx : Digest) → P tx → Q tx) → AllOf P a → AllOf Q a
 more-of P Q a more all = record {
-  admitted = each-map (λ (x : Admitted). P x.digest) (λ (x : Admitted). Q x.digest) a.admitted (λ x p. more x.digest p) all.admitted;
-  pending = each-map (λ (h : Held). P h.digest) (λ (h : Held). Q h.digest) a.pending (λ h p. more h.digest p) all.pending;
+  admitted = each_as (λ (x : Admitted). P x.digest) (λ (x : Admitted). Q x.digest) a.admitted (λ x p. more x.digest p) all.admitted;
+  pending = each_as (λ (h : Held). P h.digest) (λ (h : Held). Q h.digest) a.pending (λ h p. more h.digest p) all.pending;
 }
 
 -- the certificate that is found first under its digest is one that the member holds
@@ -130,11 +129,11 @@ module _ (r : Rules) where
   state-stocked opening records = fold-stocked records (fresh opening) (record { admitted = tt; pending = tt })
 
   pub admitted-held : (opening : List Object) (records : List Record) (a : Admitted) → Has (state r opening records).sequence.admission.admitted a → IsHeldUnder (state r opening records) a.digest
-  admitted-held opening records a h = go (held_of m.held a.digest) refl (each-has (λ (x : Admitted). IsHeldIn m.held x.digest) m.sequence.admission.admitted a (state-stocked opening records).admitted h)
+  admitted-held opening records a h = go (held_of m.held a.digest) refl (each_has (λ (x : Admitted). IsHeldIn m.held x.digest) m.sequence.admission.admitted a (state-stocked opening records).admitted h)
     where
       m : Member
       m = state r opening records
 
       go : (o : Option Held) → held_of m.held a.digest ≡ o → is_some o ≡ true → IsHeldUnder m a.digest
       go None e some = absurd (cc)
-      go (Some k) e some = record { of = k; found = e; held = find-has (is_of_digest a.digest) m.held k e; digest = equal k.digest a.digest (find-test (is_of_digest a.digest) m.held k e) }
+      go (Some k) e some = record { of = k; found = e; held = find_has (is_of_digest a.digest) m.held k e; digest = digest_same k.digest a.digest (find-test (is_of_digest a.digest) m.held k e) }

@@ -1,7 +1,7 @@
 -- What two members of one epoch may run: no two different transactions may write one object, and the ids that they
 -- draw are new and apart.
 use Rattle.std.proofs.Common.{inl, inr, refl, sym, subst, ap, ◌∙◌, arith, append_assoc, append-nil}
-use Rattle.std.specs.Prelude.{◌≡◌, ◌⊎◌, ◌<◌, ◌≤◌, ℕ, zero, suc, Bool, true, false, List, [], ◌∷◌, ◌++◌, zip, None}
+use Rattle.std.specs.Prelude.{◌≡◌, ◌⊎◌, ◌<◌, ◌≤◌, ℕ, zero, suc, Bool, true, false, List, [], ◌∷◌, ◌++◌, zip}
 use Rattle.digest_core.specs.declared.Digest.{Digest}
 use Rattle.chain_types.specs.declared.objects.ObjectId.{ObjectId}
 use Rattle.chain_types.specs.declared.objects.ObjectKey.{ObjectKey}
@@ -15,53 +15,41 @@ use Rattle.chain_types.specs.Digests.{transaction_digest, consumed_keys}
 use Rattle.chain_messages.specs.declared.messages.Certificate.{Certificate}
 use Rattle.answer_types.specs.declared.answers.Held.{Held}
 use Rattle.schedule_text.specs.declared.words.Event.{Event}
+use Rattle.protocol_spec.proofs.Equality.{digest_same, id_same}
 use Rattle.protocol_spec.specs.Chain.Words.{Has, Along, IsFront, numbers_below, repeats}
 use Rattle.protocol_spec.specs.Chain.Keys.{objects_of, is_shared_since, named_ids, fits_input}
-use Rattle.protocol_spec.specs.Chain.Shape.{shape_cases, shape_fault}
-use Rattle.protocol_spec.specs.Chain.Certificates.{Rules, cert_cases, cert_refusal}
-use Rattle.protocol_spec.proofs.ListLemmas.{and-first}
+use Rattle.protocol_spec.proofs.ListLemmas.{and-first, has_mapped}
 use Rattle.protocol_spec.specs.Block.Execution.{is_written}
 use Rattle.protocol_spec.specs.Member.Admission.{Admitted, Admission, current}
 use Rattle.protocol_spec.specs.Member.Member.{Member}
 use Rattle.world_spec.specs.Setting.{Setting}
 use Rattle.world_spec.specs.Names.{draws}
 use Rattle.world_spec.specs.Assumptions.{IsHonestRun, all_delivered, all_transactions}
-use Rattle.safety_law.proofs.Once.{equal, digest-same, has-left}
-use Rattle.safety_law.proofs.Apart.{none-each, none-map}
+use Rattle.safety_law.proofs.Once.{digest-same}
 use Rattle.sequence_law.specs.Admitted.{IsInOrder}
 use Rattle.block_law.specs.Names.{drawn_id, drawn_ids}
-use Rattle.block_law.proofs.Reading.{where-false}
 use Rattle.block_law.proofs.Steps.{map-append}
-use Rattle.block_law.proofs.Counts.{id_same}
+use Rattle.block_law.proofs.Written.{below}
 use Rattle.agreement_law.specs.Agreed.{IsGiven}
 use Rattle.agreement_law.proofs.Same.{of-run}
 use Rattle.safety_law.proofs.Owner.{owner}
 use Rattle.sequence_law.specs.Orderly.{Step, gave, Makes, IsOpening}
-use Rattle.sequence_law.proofs.Touched.{has-mapped, below}
 use Rattle.sequence_law.proofs.Reading.{has-zip, not-both}
 use Rattle.agreement_law.specs.Orderly.{OpensApart}
-use Rattle.agreement_law.proofs.Ordered.{repeats-append}
+use Rattle.agreement_law.proofs.Ordered.{repeats-append, names-once}
 use Rattle.agreement_law.proofs.SameSteps.{was-formed, given-alike}
 use Rattle.agreement_law.proofs.Drawn.{created-most}
 use Rattle.headline_law.specs.Chained.{MayWrite}
 use Rattle.headline_law.proofs.Rising.{IsAhead, two-places, writes-it, rising, in-order}
 use Rattle.headline_law.proofs.Settled.{IsSettled, ArePeers}
 use Rattle.headline_law.proofs.Reading.{IsRunnable, fits-it, admitted-as, shared-read}
-
-names-once : (r : Rules) (c : Certificate) → cert_refusal r c ≡ None → repeats id_eq (named_ids c.tx) ≡ false
-unfolding cert_refusal shape_fault
-names-once r c e =
-    let shape = none-each (shape_cases c.tx) (none-map _ (shape_fault c.tx) (none-each (cert_cases r c) e).0) in
-    where-false (repeats id_eq (named_ids c.tx)) 5 shape.1.1.1.1.0
+use Rattle.headline_law.proofs.Standing.{front-has}
 
 few-made : (x : Step) (k : ℕ) → k < (gave x).effects.created → k < draws x.tx.commands
 few-made x k less = let most = created-most x.tx x.inputs in omega (arith, less, most)
 
 shared-it : (t : Transaction) (o : Object) (id : ObjectId) (initial : ℕ) (mutable : Bool) → fits_input t (inputs.Shared id initial mutable) o ≡ true → o.id ≡ id
 shared-it t o id initial mutable e = id_same o.id id (and-first (id_eq o.id id) (is_shared_since initial o.owner) e)
-
-front-has : {A : Type 0} (xs ys : List A) (a : A) → IsFront xs ys → Has xs a → Has ys a
-front-has {A = A} xs ys a (rest, e) h = subst (λ (zs : List A). Has zs a) (sym e) (has-left xs rest a h)
 
 -- ---- admitted certificates that may write one shared object
 
@@ -127,7 +115,7 @@ module _ (s : Setting) (events : List Event) (honest : IsHonestRun s events) whe
         differ j less e = let same = (honest.ids.drawn x.tx x.tx in-run in-run j k (omega (arith, low, less)) (omega (arith, low)) e).1 in omega (arith, same, less)
 
         apart : (a b : ObjectId) → Has (drawn_ids (transaction_digest x.tx) k) a → Has (drawn_id (transaction_digest x.tx) k ∷ []) b → a ≡ b → ⊥
-        apart a b one (inl two) e = let j = has-mapped (drawn_id (transaction_digest x.tx)) (numbers_below k) a one in differ j.0 (below k j.0 j.1) (j.2 ∙ e ∙ sym two)
+        apart a b one (inl two) e = let j = has_mapped (drawn_id (transaction_digest x.tx)) (numbers_below k) a one in differ j.0 (below k j.0 j.1) (j.2 ∙ e ∙ sym two)
         apart a b one (inr two) e = two
 
     pub draws-apart : repeats id_eq (drawn_ids (transaction_digest x.tx) (gave x).effects.created) ≡ false
@@ -239,5 +227,5 @@ module _ (s : Setting) (events : List Event) (honest : IsHonestRun s events) whe
         other e same = let is = subst (λ (d : Digest). digest_eq (transaction_digest x.tx) d ≡ true) same (digest-same (transaction_digest x.tx)) in cc
 
         go : (b : Bool) → digest_eq (transaction_digest x.tx) (transaction_digest y.tx) ≡ b → transaction_digest x.tx ≡ transaction_digest y.tx
-        go true e = equal (transaction_digest x.tx) (transaction_digest y.tx) e
+        go true e = digest_same (transaction_digest x.tx) (transaction_digest y.tx) e
         go false e = absurd (apart (other e) o i j h may g also_may)

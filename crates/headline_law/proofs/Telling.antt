@@ -18,6 +18,7 @@ use Rattle.schedule_text.specs.declared.words.Event.{Event}
 use Rattle.schedule_text.specs.declared.words.Event.TheVariants as event
 use Rattle.report_text.specs.declared.lines.Line.{Line}
 use Rattle.report_text.specs.declared.lines.Line.TheVariants as line
+use Rattle.protocol_spec.proofs.ListLemmas.{each_join}
 use Rattle.protocol_spec.specs.Chain.Words.{Each}
 use Rattle.protocol_spec.specs.Member.Member.{Fork, Member, fork_of, live_objects}
 use Rattle.protocol_spec.specs.Member.Calls.{Call, votes, holds, sees, runs, closes, ends, turns, acks, run_answer, see_answer, turn_answer}
@@ -26,7 +27,6 @@ use Rattle.world_spec.specs.Names.{made_named, shown_order, tx_name}
 use Rattle.world_spec.specs.World.{Made, Reached, World, finds_down, stops, answers, called_if, member_at, next_call, reached}
 use Rattle.world_spec.specs.Step.{entries_left}
 use Rattle.world_spec.specs.Report.{Lines, ack_lines, and_lines, call_lines, cert_lines, checkpoint_line, checkpoint_lines, effects_line, entries_lines, entry_lines, entry_reached, fvote_lines, is_seat_up, left_line, left_line_of, lines_of, none_taken, object_line, run_answered, run_reached, see_halted, see_up, show_up, status_line, turn_answered, turn_reached, vote_lines}
-use Rattle.safety_law.proofs.Forks.{each-join}
 
 -- whether a line of the report speaks of finality
 abbrev pub is_final_line : Line → Bool
@@ -90,7 +90,7 @@ module _ (s : Setting) (w : World) where
   other-call m (Some (acks tx)) = tt
 
 other-and : (ls : Lines) (rest : List Line) → Each IsOther ls.0 → Each IsOther rest → Each IsOther (and_lines ls rest)
-other-and (ls, true) rest one two = each-join IsOther ls rest one two
+other-and (ls, true) rest one two = each_join IsOther ls rest one two
 other-and (ls, false) rest one two = one
 
 other-none : (m : ℕ) (ls : List Line) → Each IsOther ls → Each IsOther (none_taken m ls)
@@ -125,8 +125,8 @@ module _ (s : Setting) where
   other-run : (w : World) (m : ℕ) (answer : Result Ran RunRefusal) → Each IsOther (run_answered s w m answer)
   other-run w m (Ok ran) = (
     refl,
-    each-join IsOther (map (effects_line w) ran.executed) (map (left_line s w) ran.left ++ checkpoint_lines w ran.built) (each-mapped (effects_line w) ran.executed (λ e. other-status (tx_name w e.tx) e.version e.gas e.status))
-        (each-join IsOther (map (left_line s w) ran.left) (checkpoint_lines w ran.built) (each-mapped (left_line s w) ran.left (λ l. other-left w l.tx l.key)) (other-checkpoints s w ran.built)),
+    each_join IsOther (map (effects_line w) ran.executed) (map (left_line s w) ran.left ++ checkpoint_lines w ran.built) (each-mapped (effects_line w) ran.executed (λ e. other-status (tx_name w e.tx) e.version e.gas e.status))
+        (each_join IsOther (map (left_line s w) ran.left) (checkpoint_lines w ran.built) (each-mapped (left_line s w) ran.left (λ l. other-left w l.tx l.key)) (other-checkpoints s w ran.built)),
   )
   other-run w m (Err no_run.Down) = (refl, tt)
   other-run w m (Err (no_run.Halted first second)) = (refl, tt)

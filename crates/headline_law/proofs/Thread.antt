@@ -1,7 +1,7 @@
 -- One thread's map holds amounts, behind any transactions.
 use Rattle.std.proofs.Common.{refl, ap, sym, subst, ◌∙◌, arith}
 use Rattle.std.proofs.lemmas.Bool.{ltb-true, ltb-false}
-use Rattle.std.specs.Prelude.{◌≡◌, ◌<◌, ℕ, Bool, true, false, cond, ◌&&◌, ◌==◌, nat_lt, nat_le, List, [], ◌∷◌, ◌++◌, map, fold, length, Option, Some, None}
+use Rattle.std.specs.Prelude.{◌≡◌, ◌<◌, ℕ, Bool, true, false, cond, ◌&&◌, ◌==◌, nat_lt, nat_le, List, [], ◌∷◌, ◌++◌, map, fold, Option, Some, None}
 use Rattle.std.specs.FinMap.{empty, entries, values, get, len-empty, len-entries}
 use Rattle.chain_types.specs.declared.objects.ObjectId.{ObjectId}
 use Rattle.chain_types.specs.declared.objects.Object.{Object}
@@ -11,15 +11,16 @@ use Rattle.chain_types.specs.declared.transactions.Input.{Input}
 use Rattle.chain_types.specs.declared.transactions.Input.TheVariants as inputs
 use Rattle.chain_types.specs.declared.transactions.Transaction.{Transaction}
 use Rattle.effects_core.specs.declared.effects.Effects.{Effects}
-use Rattle.protocol_spec.specs.Chain.Words.{Each, all_some, onto_some}
+use Rattle.protocol_spec.specs.Chain.Words.{Each, all_some}
 use Rattle.protocol_spec.specs.Chain.Keys.{objects_of, version_of, version_limit, is_gas_coin, balance_of, fit_inputs, pays_gas, fits}
-use Rattle.protocol_spec.proofs.ListLemmas.{and-first, and-second}
+use Rattle.protocol_spec.proofs.ListLemmas.{and-first, and-second, nil_of}
 use Rattle.protocol_spec.specs.Block.Natives.{amount_limit, amount_of}
 use Rattle.protocol_spec.specs.Block.Execution.{execution}
 use Rattle.protocol_spec.specs.Member.Versions.{id_cmp}
 use Rattle.protocol_spec.specs.Member.Sequential.{Objects, with_object, without_id, map_of, at_version, named_in, read_by, Folded, without_effects, with_execution, executed_on, fold_one, fold_all}
 use Rattle.block_law.specs.Keeping.{GasIsAmount}
 use Rattle.block_law.proofs.Sums.{objects_weight, option_weight}
+use Rattle.sequence_law.proofs.Following.{onto-parts}
 use Rattle.sequence_law.specs.Kept.{opened_with}
 use Rattle.sequence_law.proofs.Moving.{map_weight, change-weight}
 use Rattle.agreement_law.specs.Opened.{HasEffects, GasHolds}
@@ -82,13 +83,9 @@ found-amount m id o clean e =
     let here = ap (option_weight excess) e in
     is-amount o.content (omega (arith, changed, clean, here))
 
-none-long : {A : Type 0} (xs : List A) → length xs ≡ 0 → xs ≡ []
-none-long [] e = refl
-none-long (x ∷ xs) e = absurd (cc)
-
 clean-empty : Clean empty
 clean-empty = ap (λ (es : List (ObjectId × Object)). objects_weight excess (map (λ (e : ObjectId × Object). e.1) es))
-    (none-long (entries (empty {X = Object} {R = id_cmp})) (sym (len-entries (empty {X = Object} {R = id_cmp})) ∙ len-empty id_cmp Object))
+    (nil_of (entries (empty {X = Object} {R = id_cmp})) (sym (len-entries (empty {X = Object} {R = id_cmp})) ∙ len-empty id_cmp Object))
 
 clean-map : (os : List Object) → Each HoldsAmount os → Clean (map_of os)
 unfolding map_of
@@ -118,10 +115,6 @@ named-amount m i o clean e = go i e
     go (inputs.Owned r) e = at r.version r.id e
     go (inputs.Immutable r) e = at r.version r.id e
     go (inputs.Shared id initial mutable) e = found-amount m id o clean e
-
-onto-parts : (x : Object) (rest : Option (List Object)) (o : Object) (os : List Object) → onto_some x rest ≡ Some (o ∷ os) → (x ≡ o) × (rest ≡ Some os)
-onto-parts x None o os e = absurd (cc)
-onto-parts x (Some xs) o os e = (cc, cc)
 
 all-amounts : (m : Objects) (is : List Input) (os : List Object) → Clean m → all_some (map (named_in m) is) ≡ Some os → Each HoldsAmount os
 all-amounts m is [] clean e = tt

@@ -1,31 +1,29 @@
 -- The last moment of a member in an epoch: where it turns out of it, or the present one. All states in which it was in
 -- that epoch come before.
 use Rattle.std.proofs.Common.{inl, inr, refl, sym, subst, ap, ◌∙◌, arith, append_assoc, append-nil}
-use Rattle.std.specs.Prelude.{◌≡◌, ◌⊎◌, ◌<◌, ◌≤◌, ◌+◌, ℕ, zero, suc, min, List, [], ◌∷◌, ◌++◌, slice_get, Option, Some, None, option_map, option_and_then}
-use Rattle.chain_messages.specs.declared.messages.Certificate.{Certificate}
-use Rattle.chain_messages.specs.declared.messages.Entry.{Entry}
+use Rattle.std.specs.Prelude.{◌≡◌, ◌⊎◌, ◌<◌, ◌≤◌, ◌+◌, ℕ, min, List, [], ◌∷◌, ◌++◌, slice_get, Some}
 use Rattle.checkpoint_core.specs.declared.checkpoints.Checkpoint.{Checkpoint}
 use Rattle.journal_core.specs.declared.records.Record.{Record}
 use Rattle.journal_core.specs.declared.records.Record.TheVariants as record_as
 use Rattle.schedule_text.specs.declared.words.Event.{Event}
 use Rattle.schedule_text.specs.declared.words.Event.TheVariants as event
+use Rattle.protocol_spec.proofs.ListLemmas.{each_at, front_then}
 use Rattle.protocol_spec.specs.Chain.Words.{Has, Each, IsFront}
 use Rattle.protocol_spec.specs.Member.Member.{Member, after, built, state}
 use Rattle.protocol_spec.specs.Member.Calls.{Call, turns, due}
 use Rattle.world_spec.specs.Setting.{Setting}
-use Rattle.world_spec.specs.World.{Seat, Made, World, new_world, member_in, called_if, state_of, next_call_of, next_call, next_entry, numbered_call, member_at}
+use Rattle.world_spec.specs.World.{Seat, World, new_world, member_in, member_at}
 use Rattle.world_spec.specs.Names.{made_named, cert_named}
 use Rattle.world_spec.specs.Step.{happens, entries_left}
 use Rattle.world_spec.specs.Run.{world_after}
-use Rattle.world_spec.specs.Assumptions.{vote_call, send_call, call_list, see_calls, ack_call, calls_of}
-use Rattle.safety_law.proofs.InWorld.{each-get, kept-line, new-seats}
+use Rattle.world_spec.specs.Assumptions.{calls_of}
+use Rattle.safety_law.proofs.InWorld.{kept-line, new-seats}
 use Rattle.safety_law.proofs.Apart.{state-push}
-use Rattle.safety_law.proofs.Forks.{each-join}
 use Rattle.safety_law.proofs.Grown.{world-append}
 use Rattle.agreement_law.proofs.Appends.{a_turn, appended_as, appended_by, due-appends}
-use Rattle.agreement_law.proofs.Growth.{front-then}
 use Rattle.agreement_law.proofs.Prefixes.{either-front}
 use Rattle.agreement_law.proofs.OneCall.{one-call}
+use Rattle.agreement_law.proofs.Opened.{no-turn-sees, no-turn-voted, no-turn-sent, no-turn-acked}
 use Rattle.agreement_law.proofs.Turned.{CanTurn, turn-due}
 use Rattle.headline_law.proofs.Along.{IsBeyond, IsTurn, built-beyond, cancel, epoch-grows, first-beyond, more-beyond, past-built, past-grows, push-split, same-or-less, turn-between, turn-epoch, turn-past}
 
@@ -33,30 +31,6 @@ use Rattle.headline_law.proofs.Along.{IsBeyond, IsTurn, built-beyond, cancel, ep
 
 abbrev NoTurn : Call → Type 0
 NoTurn call = appended_by call ≡ Some a_turn → ⊥
-
-no-turn-next : (number : ℕ) (e : Option Entry) → Each NoTurn (call_list (option_map (numbered_call number) e))
-no-turn-next number None = tt
-no-turn-next number (Some e) = (λ q. absurd (cc), tt)
-
-no-turn-at : (s : Setting) (w : World) (seat : Option Seat) → Each NoTurn (call_list (option_and_then (next_call_of w) (option_and_then (state_of s) seat)))
-no-turn-at s w None = tt
-no-turn-at s w (Some seat) = no-turn-next (member_in s seat).sequence.number (next_entry w (member_in s seat))
-
-no-turn-sees : (s : Setting) (n : ℕ) (w : World) (m : ℕ) → Each NoTurn (see_calls s n w m)
-no-turn-sees s zero w m = tt
-no-turn-sees s (suc n) w m = each-join NoTurn (call_list (next_call s w m)) (see_calls s n (called_if s w m (next_call s w m)) m) (no-turn-at s w (slice_get w.seats m)) (no-turn-sees s n (called_if s w m (next_call s w m)) m)
-
-no-turn-voted : (t : Option Made) → Each NoTurn (vote_call t)
-no-turn-voted None = tt
-no-turn-voted (Some t) = (λ q. absurd (cc), tt)
-
-no-turn-sent : (c : Option Certificate) → Each NoTurn (send_call c)
-no-turn-sent None = tt
-no-turn-sent (Some c) = (λ q. absurd (cc), tt)
-
-no-turn-acked : (t : Option Made) → Each NoTurn (ack_call t)
-no-turn-acked None = tt
-no-turn-acked (Some t) = (λ q. absurd (cc), tt)
 
 -- ---- line by line
 
@@ -158,7 +132,7 @@ module _ (s : Setting) where
   new-turn = new-seats s (λ call. ⊥) (TurnsIn []) (λ records call x g d p. absurd g) s.honest (no-records [])
 
   turns-in : (events : List Event) (m : ℕ) (seat : Seat) → slice_get (world_after s events).seats m ≡ Some seat → TurnsIn events seat.records
-  turns-in events m seat there = each-get (λ (y : Seat). TurnsIn events y.records) (world_after s events).seats m seat (run-turn events [] new-turn) there
+  turns-in events m seat there = each_at (λ (y : Seat). TurnsIn events y.records) (world_after s events).seats m seat (run-turn events [] new-turn) there
 
   -- ---- the moments of a member
 
@@ -210,7 +184,7 @@ module _ (s : Setting) where
     -- what was built behind the turn is kept
     kept-built : (front back : List Record) → seat.records ≡ front ++ (record_as.Turn ∷ back) → IsFront (built (of front)) (built (of seat.records))
     kept-built front back split =
-        front-then (built (of front)) (of seat.records).past (built (of seat.records))
+        front_then (built (of front)) (of seat.records).past (built (of seat.records))
         (subst (λ (cs : List Checkpoint). IsFront cs (of seat.records).past) (ap (λ (p : Member). p.past) (state-push s.rules s.opening front record_as.Turn) ∙ turn-past s.rules (of front))
         (subst (λ (rs : List Record). IsFront (of (front ++ record_as.Turn ∷ [])).past (of rs).past) (append_assoc front (record_as.Turn ∷ []) back ∙ sym split) (past-grows s.rules s.opening back (front ++ record_as.Turn ∷ []))))
         (past-built (of seat.records))

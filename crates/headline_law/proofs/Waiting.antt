@@ -3,12 +3,12 @@ use Rattle.std.proofs.Common.{inl, inr, refl, ap, arith}
 use Rattle.std.specs.Prelude.{◌≡◌, ◌≤◌, ◌<◌, ℕ, zero, suc, Bool, true, false, cond, List, [], ◌∷◌, ◌++◌, filter, find, fold, length, Option, Some, None}
 use Rattle.chain_types.specs.declared.objects.Object.{Object}
 use Rattle.answer_types.specs.declared.answers.Held.{Held}
+use Rattle.protocol_spec.proofs.ListLemmas.{find_has}
 use Rattle.protocol_spec.specs.Chain.Words.{Has}
 use Rattle.protocol_spec.specs.Chain.Certificates.{Rules}
 use Rattle.protocol_spec.specs.Member.Admission.{Admission, is_free, not_of, taken_as, taken, is_dropped, taken_next, take_free, entered, passed_mark, admit}
 use Rattle.protocol_spec.specs.Member.Sequence.{Sequence, What, takes, commits, counts, ignores, nothing_seen, what_of, counted_as, ends_with_member, with_what, with_entry, saw, seen}
 use Rattle.safety_law.proofs.Once.{digest-same}
-use Rattle.safety_law.proofs.Kept.{find-has}
 
 -- ---- a filter leaves no more, and fewer where one element fails
 
@@ -62,7 +62,7 @@ module _ (writers : Option ℕ) (opening : List Object) where
       go : (o : Option Held) → find (is_free writers a) a.pending ≡ o → ((b : Admission) → length b.pending ≤ n → IsIdle writers (take_free writers opening n b)) → IsIdle writers (taken_next (take_free writers opening n) opening a o)
       go None e rest = e
       go (Some h) e rest =
-          let less = pending-fewer (is_dropped opening a.admitted h.cert) a h (find-has (is_free writers a) a.pending h e) in
+          let less = pending-fewer (is_dropped opening a.admitted h.cert) a h (find_has (is_free writers a) a.pending h e) in
           rest (taken opening a h) (omega (arith, few, less))
 
 -- ---- entries

@@ -1,7 +1,7 @@
 -- What a certificate without shared inputs wants fits its transaction.
 use Rattle.std.proofs.Common.{inl, inr, refl, sym, subst, ap, ◌∙◌, arith}
 use Rattle.std.proofs.lemmas.Bool.{eqb-true, ltb-false, le-leb, lt-ltb}
-use Rattle.std.specs.Prelude.{◌≡◌, ◌≤◌, ◌<◌, ◌-◌, ℕ, suc, max, Bool, true, false, cond, not, ◌&&◌, ◌==◌, nat_lt, List, [], ◌∷◌, map, zip, filter, fold, slice_get, Option, Some, None, is_some}
+use Rattle.std.specs.Prelude.{◌≡◌, ◌≤◌, ◌<◌, ◌-◌, ℕ, suc, max, Bool, true, false, not, ◌&&◌, ◌==◌, nat_lt, List, [], ◌∷◌, map, zip, fold, slice_get, Option, Some, None, is_some}
 use Rattle.std.specs.List.{list_any}
 use Rattle.digest_core.specs.declared.Digest.{Digest}
 use Rattle.chain_types.specs.declared.objects.Object.{Object}
@@ -19,8 +19,8 @@ use Rattle.protocol_spec.specs.Chain.Words.{Has, all_some, where_true}
 use Rattle.protocol_spec.specs.Chain.Shape.{names_bad_version, shape_cases, shape_fault}
 use Rattle.protocol_spec.specs.Chain.Certificates.{Rules, cert_cases, cert_refusal}
 use Rattle.protocol_spec.specs.Chain.Keys.{objects_of, is_address, is_gas_coin, balance_of, is_shared_input, has_shared_input, version_of, version_limit, fits_input, fit_inputs, pays_gas, fits}
-use Rattle.protocol_spec.proofs.ListLemmas.{and-first, and-second, or-first, or-second}
-use Rattle.block_law.proofs.Reading.{where-false}
+use Rattle.protocol_spec.proofs.ListLemmas.{and-first, and-second, each_has}
+use Rattle.protocol_spec.proofs.Truth.{or_false_left, or_false_right, where_false, map_none, where_not_true, some_same}
 use Rattle.protocol_spec.specs.Member.Versions.{Execution, Version, versions, version_at}
 use Rattle.protocol_spec.specs.Member.Votes.{shared_key, Ballot, object_held, of_held, gas_balance, held_balance, absent, vote_cases, vote_refusal, origin_of, vote_origins}
 use Rattle.protocol_spec.specs.Member.Admission.{assigned_of}
@@ -30,13 +30,12 @@ use Rattle.world_spec.specs.Setting.{Setting}
 use Rattle.world_spec.specs.World.{Seat, member_in}
 use Rattle.world_spec.specs.Run.{world_after}
 use Rattle.world_spec.specs.Assumptions.{IsHonestRun, all_delivered}
-use Rattle.safety_law.proofs.Apart.{none-each, none-of, none-map, accepted}
-use Rattle.safety_law.proofs.Once.{each-has}
+use Rattle.safety_law.proofs.Apart.{none-each, none-of}
 use Rattle.agreement_law.specs.Agreed.{IsHeldAsGiven}
 use Rattle.agreement_law.proofs.Supply.{every-held}
 use Rattle.agreement_law.proofs.Executing.{some-parts}
+use Rattle.sequence_law.proofs.Reading.{has-kept}
 use Rattle.sequence_law.specs.Orderly.{AreApart}
-use Rattle.agreement_law.proofs.Lists.{some-same}
 use Rattle.agreement_law.proofs.Wants.{nobody}
 use Rattle.agreement_law.proofs.Known.{opens-apart}
 use Rattle.headline_law.specs.Present.{FitsAsNamed}
@@ -47,17 +46,8 @@ use Rattle.headline_law.proofs.Fitting.{WritesOnce, held-one, held-some, input-f
 
 pub any-none : {A : Type 0} (test : A → Bool) (xs : List A) (x : A) → list_any test xs ≡ false → Has xs x → test x ≡ false
 any-none test [] x e h = absurd h
-any-none test (y ∷ ys) x e (inl q) = subst (λ z. test z ≡ false) q (or-first (test y) (list_any test ys) e)
-any-none test (y ∷ ys) x e (inr h) = any-none test ys x (or-second (test y) (list_any test ys) e) h
-
-pub filter-has : {A : Type 0} (test : A → Bool) (xs : List A) (x : A) → Has (filter test xs) x → Has xs x
-filter-has test [] x h = absurd h
-filter-has test (y ∷ ys) x h = go (test y) h (filter-has test ys x)
-  where
-    go : (b : Bool) → Has (cond b (y ∷ filter test ys) (filter test ys)) x → (Has (filter test ys) x → Has ys x) → Has (y ∷ ys) x
-    go true (inl e) rest = inl e
-    go true (inr h) rest = inr (rest h)
-    go false h rest = inr (rest h)
+any-none test (y ∷ ys) x e (inl q) = subst (λ z. test z ≡ false) q (or_false_left (test y) (list_any test ys) e)
+any-none test (y ∷ ys) x e (inr h) = any-none test ys x (or_false_right (test y) (list_any test ys) e) h
 
 pub zip-there : {A B : Type 0} (f : A → B) (xs : List A) (x : A) → Has xs x → Has (zip xs (map f xs)) (x, f x)
 zip-there f [] x h = absurd h
@@ -66,7 +56,7 @@ zip-there f (y ∷ ys) x (inr h) = inr (zip-there f ys x h)
 
 not-shared : (t : Transaction) → has_shared_input t ≡ false → (i : Input) → Has (objects_of t) i → is_shared_input i ≡ false
 not-shared t none i (inl e) = subst (λ (j : Input). is_shared_input j ≡ false) e refl
-not-shared t none i (inr h) = any-none is_shared_input t.inputs i none (filter-has is_object t.inputs i h)
+not-shared t none i (inr h) = any-none is_shared_input t.inputs i none (has-kept is_object t.inputs i h)
 
 -- ---- each object
 
@@ -82,10 +72,10 @@ module _ (m : Member) (t : Transaction) (a : Option (List Assigned)) (f : Input 
   there = versions m.opening m.executed
 
   all-fit : (is : List Input) → ((i : Input) → Has is i → (o : Object) → found there (wanted_by a (i, f i)) ≡ Some o → fits_input t i o ≡ true) → (os : List Object) → all_some (map (found there) (map (wanted_by a) (zip is (map f is)))) ≡ Some os → fit_inputs t is os ≡ true
-  all-fit [] each os e = subst (λ (zs : List Object). fit_inputs t [] zs ≡ true) (some-same [] os e) refl
+  all-fit [] each os e = subst (λ (zs : List Object). fit_inputs t [] zs ≡ true) (some_same [] os e) refl
   all-fit (i ∷ is) each os e =
       let p = some-parts (found there (wanted_by a (i, f i))) (map (found there) (map (wanted_by a) (zip is (map f is)))) os e in
-      subst (λ (zs : List Object). fit_inputs t (i ∷ is) zs ≡ true) (some-same (p.0 ∷ p.1) os p.4)
+      subst (λ (zs : List Object). fit_inputs t (i ∷ is) zs ≡ true) (some_same (p.0 ∷ p.1) os p.4)
       (rw (each i (inl refl) p.0 p.2) (all-fit is (λ j h. each j (inr h)) p.1 p.3))
 
 -- ---- the version stays below the limit
@@ -94,10 +84,10 @@ low-version : (t : Transaction) (i : Input) (o : Object) → is_shared_input i �
 low-version t (inputs.Pure bytes) o none good fit = absurd (cc)
 low-version t (inputs.Owned r) o none good fit =
     let same = eqb-true o.version r.version (and-second (id_eq o.id r.id) (o.version == r.version) (and-first (id_eq o.id r.id && (o.version == r.version)) _ (and-first _ _ fit))) in
-    subst (λ (v : ℕ). v ≤ version_limit - 2) (sym same) (ltb-false (version_limit - 2) r.version (or-second (r.version == 0) (nat_lt (version_limit - 2) r.version) good))
+    subst (λ (v : ℕ). v ≤ version_limit - 2) (sym same) (ltb-false (version_limit - 2) r.version (or_false_right (r.version == 0) (nat_lt (version_limit - 2) r.version) good))
 low-version t (inputs.Immutable r) o none good fit =
     let same = eqb-true o.version r.version (and-second (id_eq o.id r.id) (o.version == r.version) (and-first (id_eq o.id r.id && (o.version == r.version)) _ (and-first _ _ fit))) in
-    subst (λ (v : ℕ). v ≤ version_limit - 2) (sym same) (ltb-false (version_limit - 2) r.version (or-second (r.version == 0) (nat_lt (version_limit - 2) r.version) good))
+    subst (λ (v : ℕ). v ≤ version_limit - 2) (sym same) (ltb-false (version_limit - 2) r.version (or_false_right (r.version == 0) (nat_lt (version_limit - 2) r.version) good))
 low-version t (inputs.Shared id initial mutable) o none good fit = absurd (cc)
 
 max-low : (b a : ℕ) (t : Transaction) (is : List Input) (os : List Object) → a ≤ b → ((i : Input) → Has is i → (o : Object) → fits_input t i o ≡ true → o.version ≤ b) → fit_inputs t is os ≡ true → fold max a (map (λ (o : Object). o.version) os) ≤ b
@@ -119,8 +109,8 @@ version-low t os none good fit = lt-ltb (version_of os) version_limit (below-lim
 versions-good : (r : Rules) (c : Certificate) → cert_refusal r c ≡ None → list_any names_bad_version (objects_of c.tx) ≡ false
 unfolding cert_refusal shape_fault
 versions-good r c e =
-    let shape = none-each (shape_cases c.tx) (none-map _ (shape_fault c.tx) (none-each (cert_cases r c) e).0) in
-    where-false (list_any names_bad_version (objects_of c.tx)) 11 shape.1.1.1.1.1.1.1.1.1.1.0
+    let shape = none-each (shape_cases c.tx) (map_none _ (shape_fault c.tx) (none-each (cert_cases r c) e).0) in
+    where_false (list_any names_bad_version (objects_of c.tx)) 11 shape.1.1.1.1.1.1.1.1.1.1.0
 
 -- ---- gas
 
@@ -129,7 +119,7 @@ module _ (b : Ballot) (t : Transaction) (free : vote_refusal b t (transaction_di
   unfolding vote_refusal
   gas-coin =
       let case = (none-each (vote_cases b t (transaction_digest t)) free).1.1.1.1.0 in
-      and-second (is_address o.owner) (is_gas_coin o.content) (accepted (is_address o.owner && is_gas_coin o.content) (refused.WrongKind (key_of t.gas))
+      and-second (is_address o.owner) (is_gas_coin o.content) (where_not_true (is_address o.owner && is_gas_coin o.content) (refused.WrongKind (key_of t.gas))
       (subst (λ (h : Option Object). where_true (of_held h (λ (p : Object). not (is_address p.owner && is_gas_coin p.content))) (refused.WrongKind (key_of t.gas)) ≡ None) held case))
 
   rich : t.budget ≤ balance_of o.content
@@ -177,9 +167,9 @@ module _ (m : Member) (t : Transaction) (origins : List (Option Digest)) (v : Is
   unfolding vote_refusal
   gas-paid e =
       let p = some-parts (found (versions m.opening m.executed) (wanted_by a (inputs.Owned t.gas, origin_of v.voter (inputs.Owned t.gas)))) _ os (named-wants e) in
-      let o = held-some v.voter (key_of t.gas) (accepted (is_some (object_held v.voter (key_of t.gas))) (refused.Absent (key_of t.gas)) (none-of (absent v.voter) (objects_of t) (inputs.Owned t.gas) (none-each (vote_cases v.voter t (transaction_digest t)) v.free).0 (inl refl))) in
+      let o = held-some v.voter (key_of t.gas) (where_not_true (is_some (object_held v.voter (key_of t.gas))) (refused.Absent (key_of t.gas)) (none-of (absent v.voter) (objects_of t) (inputs.Owned t.gas) (none-each (vote_cases v.voter t (transaction_digest t)) v.free).0 (inl refl))) in
       let one = held-one v.voter m v.openings v.same apart once (key_of t.gas) (version_at (versions v.voter.opening v.voter.executed) (key_of t.gas)) refl o.0 o.1 (origin_of v.voter (inputs.Owned t.gas)) refl p.0 p.2 in
-      subst (λ (zs : List Object). pays_gas t zs ≡ true) (some-same (p.0 ∷ p.1) os p.4) (pays v.voter t v.free p.0 (o.1 ∙ ap Some one.0) p.1)
+      subst (λ (zs : List Object). pays_gas t zs ≡ true) (some_same (p.0 ∷ p.1) os p.4) (pays v.voter t v.free p.0 (o.1 ∙ ap Some one.0) p.1)
 
   pub whole-fits : Wants → fits t os ≡ true
   unfolding fits
@@ -189,7 +179,7 @@ pub certificates-fit : (s : Setting) (events : List Event) → IsHonestRun s eve
     → (h : Held) → Has (member_in s seat).held h → has_shared_input h.cert.tx ≡ false → (os : List Object) → present (books (member_in s seat)) (member_in s seat).executed h ≡ Some os → fits h.cert.tx os ≡ true
 unfolding present wants_of
 certificates-fit s events honest distinct n seat at h held none os e =
-    let given = each-has (IsHeldAsGiven s.rules (all_delivered s events) (member_in s seat).epoch) (member_in s seat).held h (every-held s events n seat at) held in
+    let given = each_has (IsHeldAsGiven s.rules (all_delivered s events) (member_in s seat).epoch) (member_in s seat).held h (every-held s events n seat at) held in
     whole-fits (member_in s seat) h.cert.tx h.cert.origins (voted-by s events honest distinct n seat at h held) (opens-apart s events honest distinct n seat at).distinct (writes-once s events n seat at)
     (assigned_of (member_in s seat).sequence.admission h.digest) os (record {
       shared = λ i there shared o f. absurd (let not = not-shared h.cert.tx none i there in cc);

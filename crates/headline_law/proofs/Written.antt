@@ -12,6 +12,7 @@ use Rattle.chain_types.specs.declared.transactions.Transaction.{Transaction}
 use Rattle.chain_types.specs.Equal.{id_eq}
 use Rattle.chain_types.specs.Digests.{transaction_digest}
 use Rattle.answer_types.specs.declared.pieces.Placed.{Placed}
+use Rattle.protocol_spec.proofs.ListLemmas.{each_join}
 use Rattle.protocol_spec.specs.Chain.Words.{Each, numbers_below}
 use Rattle.protocol_spec.specs.Chain.Keys.{version_of}
 use Rattle.protocol_spec.specs.Chain.Shape.{cost}
@@ -23,7 +24,7 @@ use Rattle.block_law.proofs.Slots.{value-every}
 use Rattle.headline_law.specs.Amounts.{HoldsAmount, IsAmount, HasBytes}
 use Rattle.headline_law.proofs.Low.{with-low, less-low, bytes-low}
 use Rattle.headline_law.proofs.Natives.{LowPlaced}
-use Rattle.headline_law.proofs.Commands.{each-both, Lying, IsLow, LowObject, LowInput, ends-low}
+use Rattle.headline_law.proofs.Commands.{Lying, IsLow, LowObject, LowInput, ends-low}
 
 module _ (all : Bool) where
   -- ---- what may be written
@@ -83,7 +84,7 @@ module _ (all : Bool) where
       least n = omega arith
 
   done-low : (t : Transaction) (tx : Digest) (objects : List Object) (b : Block) → IsLow all b → Each (LowObject all) (done_objects t tx objects b)
-  done-low t tx objects b low = each-both (LowObject all)
+  done-low t tx objects b low = each_join (LowObject all)
       (with_rest_first t (filter_map (λ (x : Place × Object). after_block (version_of objects) b x.0 x.1) (written_places t objects))) (created_objects tx (version_of objects) b)
       (rest-low t (filter_map (λ (x : Place × Object). after_block (version_of objects) b x.0 x.1) (written_places t objects))
       (chosen-low (λ (x : Place × Object). after_block (version_of objects) b x.0 x.1) (written_places t objects) (λ x. after-low (version_of objects) b x.0 x.1 low)))

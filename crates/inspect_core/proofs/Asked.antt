@@ -1,28 +1,28 @@
 -- What is said of a world, and how a question ends.
-use Rattle.std.proofs.Common.{◌≡◌, ◌⊎◌, inl, inr, ℕ, zero, suc, Bool, true, false, List, [], ◌∷◌, ◌++◌, map, Option, Some, None, Result, Ok, Err, if◌then◌else◌, refl, sym, ap, subst, ◌∙◌, append-nil}
+use Rattle.std.proofs.Common.{◌≡◌, ◌⊎◌, inl, inr, ℕ, zero, suc, Bool, true, false, List, [], ◌∷◌, map, Option, Some, None, Result, Ok, Err, if◌then◌else◌, refl, sym, ap, subst, ◌∙◌}
 use Rattle.std.specs.Prelude.{option_and_then, option_map, slice_get}
 use Rattle.std.specs.Io.KnownBytes.{Appends, Keeps}
-use Rattle.outside.specs.Lists.{Journals, KeepsJournals, journal_of}
+use Rattle.outside.specs.Lists.{Journals, KeepsJournals}
 use Rattle.outside.specs.Streams.{AppendsFront, ReadsText}
 use Rattle.schedule_text.specs.declared.words.Event.{Event}
 use Rattle.schedule_text.specs.declared.words.Schedule.{Schedule}
 use Rattle.schedule_text.specs.Schedule.{Refused, longest_text, schedule_of}
-use Rattle.protocol_spec.specs.Member.Member.{Member}
 use Rattle.world_spec.specs.Names.{cert_in, tx_name}
-use Rattle.world_spec.specs.Setting.{Setting, Trust}
+use Rattle.world_spec.specs.Setting.{Setting}
 use Rattle.world_spec.specs.World as worlds
 use Rattle.world_spec.specs.World.{World, member_in}
 use Rattle.world_spec.specs.Run.{world_after}
 use Rattle.scene_spec.specs.Seats.{Seat}
-use Rattle.scene_spec.specs.Posts.{Post, seat_at}
+use Rattle.scene_spec.specs.Posts.{seat_at}
 use Rattle.scene_spec.specs.Terms.{terms_of}
 use Rattle.scene_spec.specs.Scene.{Scene}
 use Rattle.scene_spec.specs.Known.{Known, names_of}
 use Rattle.scene_spec.specs.Worlds.{Shows, posts_from}
 use Rattle.world_core.specs.Crews.{honest_at}
 use Rattle.light_check.specs.Certified.{Accepting}
-use Rattle.committee_core.specs.Headline.{IsRefused, program_trust}
-use Rattle.committee_core.specs.Journals.{KeepsFronts, KeepsRun, ReadsBack}
+use Rattle.committee_core.proofs.Caught.{untold}
+use Rattle.committee_core.proofs.Made.{whole_fronts}
+use Rattle.committee_core.specs.Headline.{program_trust}
 use Rattle.committee_core.specs.Report.{refusal_text, setting_in}
 use Rattle.committee_core.specs.Ways.{RunsSilently, TextCut}
 use Rattle.inspect_core.specs.declared.questions.Question.{Question}
@@ -32,7 +32,7 @@ use Rattle.inspect_core.specs.Digests.{SaysDigests, alone, standing}
 use Rattle.inspect_core.specs.Ends.{CutsText, KeepsSome, OfText, RunsAndSays, Says, SaysBehind, SaysOf, SaysSome, Writing}
 use Rattle.inspect_core.specs.Sight.{Sight, events_in, sight_in, sight_of}
 use Rattle.inspect_core.specs.Standing.{States, state_of}
-use Rattle.inspect_core.proofs.Statuses.{IsFault, IsSaid, said_or_fault}
+use Rattle.inspect_core.proofs.Statuses.{IsSaid, said_or_fault}
 
 -- ---- the members as the code sees them are those of the world
 
@@ -94,10 +94,6 @@ answer_written q x status given text Written says known written said =
 
 -- ---- the whole
 
-fronts_of_run : (trust : Trust) (s : Schedule) (kept kept' : Option Journals) → KeepsRun trust s kept kept' → KeepsFronts trust s kept kept'
-fronts_of_run trust s None kept' all = tt
-fronts_of_run trust s (Some old) kept' (lists, is, all) = (lists, is, λ m. ([], sym (all m) ∙ sym (append-nil (journal_of lists m))))
-
 said_behind : (q : Question) (text : List ℕ) (status : ℕ) (Written : Writing) (kept kept' : Option Journals) (sc : Scene) → (runs : RunsSilently program_trust text kept kept' sc)
     → SaysOf q (sight_in sc (events_in (schedule_of text))) status Written → SaysBehind q runs.schedule kept status Written
 said_behind q text status Written kept kept' sc runs said = λ reads.
@@ -117,7 +113,7 @@ ran_said q text status Written kept kept' sc runs said = record {
 pub ran_cut : (q : Question) (text : List ℕ) (held held' : Option (List ℕ)) (kept kept' : Option Journals) (sc : Scene) → RunsSilently program_trust text kept kept' sc
     → Keeps held held' ⊎ ((status : ℕ) × SaysOf q (sight_in sc (events_in (schedule_of text))) status (AppendsFront held held')) → CutsText q text held held' kept kept'
 ran_cut q text held held' kept kept' sc runs cut = record {
-  journals = subst (λ (r : Result Schedule Refused). KeepsSome r kept kept') (sym runs.is) (fronts_of_run program_trust runs.schedule kept kept' runs.journals);
+  journals = subst (λ (r : Result Schedule Refused). KeepsSome r kept kept') (sym runs.is) (whole_fronts program_trust runs.schedule kept kept' runs.journals);
   written = go cut;
 }
   where
@@ -128,13 +124,9 @@ ran_cut q text held held' kept kept' sc runs cut = record {
 
 -- ---- what did not run
 
-untold_fronts : (trust : Trust) (s : Schedule) (kept kept' : Option Journals) → kept ≡ None → KeepsFronts trust s kept kept'
-untold_fronts trust s None kept' untold = tt
-untold_fronts trust s (Some lists) kept' untold = absurd (cc)
-
 some_kept : (r : Result Schedule Refused) (kept kept' : Option Journals) → TextCut program_trust r None None kept kept' → KeepsSome r kept kept'
 some_kept (Ok s) kept kept' (inl front) = front.journals
-some_kept (Ok s) kept kept' (inr bad) = untold_fronts program_trust s kept kept' bad.untold
+some_kept (Ok s) kept kept' (inr bad) = untold program_trust s kept kept' bad.untold
 some_kept (Err f) kept kept' cut = cut.1
 
 -- nothing was written of a run that was cut
@@ -161,7 +153,3 @@ refused_cut q text f held held' kept kept' is cut written = record {
 
 pub of_text : (Is : List ℕ → Type 0) (left left' : Option (List ℕ)) (text : List ℕ) → ReadsText longest_text left left' text → Is text → OfText Is left left'
 of_text Is left left' text read so = record { text = text; read = read; so = so }
-
-pub read_refused : (left left' held held' : Option (List ℕ)) (kept kept' : Option Journals) (text : List ℕ) → ReadsText longest_text left left' text
-    → (r : Refused) × (schedule_of text ≡ Err r) × Appends held held' (refusal_text r) × KeepsJournals kept kept' → IsRefused left left' held held' kept kept'
-read_refused left left' held held' kept kept' text read (r, is, written, stays) = record { text = text; refused = r; read = read; is = is; written = written; stays = stays }

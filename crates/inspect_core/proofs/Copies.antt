@@ -1,17 +1,15 @@
 -- What a member has built, one checkpoint after the other.
-use Rattle.std.proofs.Common.{◌≡◌, ◌<◌, ◌+◌, ◌≤◌, ℕ, zero, suc, List, [], ◌∷◌, ◌++◌, length, take, Option, Some, None, refl, sym, ap, subst, arith, ◌∙◌}
-use Rattle.std.specs.Prelude.{All, slice_get}
-use Rattle.std.proofs.lemmas.List.Elements.{All-from_recursion, All-cons, All-nil}
+use Rattle.std.proofs.Common.{◌≡◌, ◌<◌, ◌+◌, ◌≤◌, ℕ, zero, suc, List, [], ◌∷◌, ◌++◌, length, take, Some, None, sym, ap, arith, ◌∙◌}
+use Rattle.std.specs.Prelude.{slice_get}
 use Rattle.std.proofs.lemmas.List.{take_all}
 use Rattle.checkpoint_core.specs.declared.checkpoints.Checkpoint.{Checkpoint}
 use Rattle.checkpoint_core.specs.Checkpoints.{checkpoint}
 use Rattle.protocol_spec.specs.Chain.Words.{Each}
+use Rattle.light_check.proofs.Sealing.{all_of_each}
 use Rattle.light_check.specs.Chains.{checkpoints}
+use Rattle.committee_core.proofs.Agreeing.{clash}
 
 -- ---- a place within a list
-
-clash : {A : Type 0} {x : A} → None ≡ Some x → ⊥
-clash e = absurd (cc)
 
 pub something_there : {A : Type 0} (xs : List A) (n : ℕ) → n < length xs → None ≡ slice_get xs n → ⊥
 something_there [] n low e = omega (arith, low)
@@ -35,10 +33,6 @@ front_whole xs front n is most = is ∙ take_all n xs most
 pub short_more : (cs : List Checkpoint) (c : Checkpoint) → Each checkpoint.short cs → checkpoint.short c → Each checkpoint.short (cs ++ c ∷ [])
 short_more [] c all one = (one, tt)
 short_more (x ∷ cs) c all one = (all.0, short_more cs c all.1 one)
-
-all_of_each : {A : Type 0} (P : A → Type 0) (xs : List A) → Each P xs → All P xs
-all_of_each P [] all = All-nil P
-all_of_each P (x ∷ xs) all = All-cons P x xs all.0 (all_of_each P xs all.1)
 
 pub short_all : (cs : List Checkpoint) → length cs < 2147483648 → Each checkpoint.short cs → checkpoints.short cs
 unfolding checkpoints

@@ -9,6 +9,8 @@ use Rattle.scene_spec.specs.Posts.{Post}
 use Rattle.world_core.specs.Crews.{honest_at}
 use Rattle.inspect_core.specs.Digests.{NoneStands, with_digest}
 use Rattle.inspect_core.specs.Standing.{states_in}
+use Rattle.protocol_spec.proofs.Truth.{some_same}
+use Rattle.committee_core.proofs.Agreeing.{clash}
 
 -- ---- a line
 
@@ -18,15 +20,9 @@ line_behind text words d = simp (append_assoc) refl
 
 -- ---- lines
 
-clash : {A : Type 0} {x : A} → None ≡ Some x → ⊥
-clash e = absurd (cc)
-
-given : {A : Type 0} (x y : A) → Some x ≡ Some y → x ≡ y
-given x y e = cc
-
 more_lines : {A : Type 0} (f : A → List ℕ) (xs : List A) (n : ℕ) (x : A) → slice_get xs n ≡ Some x → flat_map f (take n xs) ++ f x ≡ flat_map f (take (suc n) xs)
 more_lines f [] n x e = absurd (clash e)
-more_lines f (y ∷ xs) zero x e = ap f (sym (given y x e)) ∙ sym (append-nil (f y))
+more_lines f (y ∷ xs) zero x e = ap f (sym (some_same y x e)) ∙ sym (append-nil (f y))
 more_lines f (y ∷ xs) (suc n) x e = append_assoc (f y) (flat_map f (take n xs)) (f x) ∙ ap (λ l. f y ++ l) (more_lines f xs n x e)
 
 pub tx_words : (old now text name : List ℕ) (d : Digest) → text ≡ old ++ codes "tx " ++ name → now ≡ with_digest text d → now ≡ old ++ with_digest (codes "tx " ++ name) d

@@ -1,20 +1,20 @@
 -- The certificates that were found, with one more.
-use Rattle.std.proofs.Common.{◌≡◌, ◌∙◌, ℕ, zero, suc, ◌+◌, Bool, true, false, ◌||◌, cond, List, [], ◌∷◌, ◌++◌, fold, map, drop, Option, Some, None, option_map, is_some, slice_get, Result, Ok, Err, refl, sym, ap, subst, add-one}
+use Rattle.std.proofs.Common.{◌≡◌, ◌∙◌, ℕ, zero, suc, ◌+◌, Bool, true, false, ◌||◌, cond, List, [], ◌∷◌, ◌++◌, fold, map, drop, Option, Some, None, option_map, is_some, slice_get, Ok, Err, refl, sym, ap, subst, add-one}
 use Rattle.std.specs.Prelude.{bytes_eq}
-use Rattle.std.specs.List.{flat_map, list_any}
+use Rattle.std.specs.List.{flat_map}
 use Rattle.std.specs.Map.{lookup}
 use Rattle.wire_bcs.specs.Place.{Stop}
 use Rattle.wire_bcs.specs.Whole.{whole}
 use Rattle.chain_messages.specs.Messages as messages
 use Rattle.chain_messages.specs.declared.messages.Certificate.{Certificate}
 use Rattle.schedule_text.specs.declared.words.Event.{Event}
+use Rattle.protocol_spec.proofs.ListLemmas.{any_last, each_push}
 use Rattle.protocol_spec.specs.Chain.Certificates.{Rules, read_as, read_certificate}
-use Rattle.protocol_spec.specs.Chain.Words.{Each}
 use Rattle.world_spec.specs.Assumptions.{read_list}
 use Rattle.world_spec.specs.Names.{cert_in}
 use Rattle.world_spec.specs.World.{Formed}
 use Rattle.tables.specs.Named.{Named, named, with_name}
-use Rattle.inspect_core.specs.Certified.{handed_over, is_there, is_valid, spelled_by, with_new, with_valid}
+use Rattle.inspect_core.specs.Certified.{handed_over, is_valid, spelled_by, with_new, with_valid}
 use Rattle.inspect_core.specs.Found.{AreFound, IsSound}
 
 -- ---- no names, no certificates
@@ -37,10 +37,6 @@ pub one_added : (r : Rules) (stakes : List ℕ) (certs : List Certificate) (spel
 one_added r stakes certs spelled c found good apart =
     ap (λ b. cond b certs (certs ++ c ∷ [])) (apart ∙ found.names c) ∙ ap (λ b. cond b (with_new certs c) certs) good
 
-each_more : {A : Type 0} (P : A → Type 0) (xs : List A) (x : A) → Each P xs → P x → Each P (xs ++ x ∷ [])
-each_more P [] x all one = (one, tt)
-each_more P (y ∷ xs) x all one = (all.0, each_more P xs x all.1 one)
-
 or_none : (b : Bool) → (b || false) ≡ b
 or_none true = refl
 or_none false = refl
@@ -57,23 +53,15 @@ named_more test (e ∷ es) bytes = go (test e.0) (named_more test es bytes)
     go true more = refl
     go false more = more
 
-any_more : {A : Type 0} (test : A → Bool) (xs : List A) (x : A) → list_any test (xs ++ x ∷ []) ≡ (list_any test xs || test x)
-any_more test [] x = or_none (test x)
-any_more test (y ∷ xs) x = go (test y) (any_more test xs x)
-  where
-    go : (b : Bool) → list_any test (xs ++ x ∷ []) ≡ (list_any test xs || test x) → (b || list_any test (xs ++ x ∷ [])) ≡ ((b || list_any test xs) || test x)
-    go true more = refl
-    go false more = more
-
 pub found_more : (stakes : List ℕ) (certs : List Certificate) (spelled : Named (Unit {0})) (c : Certificate) → AreFound stakes certs spelled → IsSound stakes c
     → false ≡ is_some (named spelled (messages.certificate.spell c)) → AreFound stakes (certs ++ c ∷ []) (with_name spelled (messages.certificate.spell c) tt)
 found_more stakes certs spelled c found sound apart =
     subst (λ b. AreFound stakes (certs ++ c ∷ []) (cond b spelled (spelled ++ (messages.certificate.spell c, tt) ∷ []))) apart (record {
-      sound = each_more (IsSound stakes) certs c found.sound sound;
+      sound = each_push (IsSound stakes) certs c found.sound sound;
       names = λ d.
           named_more (bytes_eq (messages.certificate.spell d)) spelled (messages.certificate.spell c)
           ∙ ap (λ b. b || bytes_eq (messages.certificate.spell d) (messages.certificate.spell c)) (found.names d)
-          ∙ sym (any_more (λ x. bytes_eq (messages.certificate.spell d) (messages.certificate.spell x)) certs c);
+          ∙ sym (any_last (λ x. bytes_eq (messages.certificate.spell d) (messages.certificate.spell x)) certs c);
     })
 
 -- the same of lists that are equal to these

@@ -1,5 +1,5 @@
 -- What is said of two certificates, as the code comes to it.
-use Rattle.std.proofs.Common.{◌≡◌, ◌∙◌, ◌<◌, ℕ, Bool, true, false, ◌||◌, cond, List, [], ◌∷◌, filter, length, Option, Some, None, refl, sym, ap, subst, arith}
+use Rattle.std.proofs.Common.{◌≡◌, ◌<◌, ℕ, Bool, true, false, cond, List, [], ◌∷◌, filter, length, Option, Some, None, refl, sym, ap, subst, arith}
 use Rattle.std.specs.Prelude.{◌&&◌, nat_lt, option_map}
 use Rattle.std.proofs.lemmas.Bool.{ltb-true, lt-ltb}
 use Rattle.chain_types.specs.Transactions as transactions
@@ -9,24 +9,15 @@ use Rattle.chain_types.specs.Equal.{key_eq}
 use Rattle.chain_messages.specs.Messages as messages
 use Rattle.chain_messages.specs.declared.messages.Certificate.{Certificate}
 use Rattle.quorum_core.specs.Committee.{all_known, ascends, is_among, is_roll}
+use Rattle.protocol_spec.proofs.Truth.{and_true, or_right, or_left, both_true}
 use Rattle.protocol_spec.specs.Chain.Tests.{has_key}
 use Rattle.protocol_spec.specs.Chain.Words.{Each, first_of, first_some, where_true}
 use Rattle.light_check.specs.declared.rivals.DoubleVote.{DoubleVote}
-use Rattle.light_check.specs.Blamed.{are_rivals, blame_for, blamed, sealed_both, sealers, shared_key}
+use Rattle.light_check.specs.Blamed.{are_rivals, blame_for, blamed, sealers, shared_key}
 use Rattle.inspect_core.specs.Blame.{Names, double_text, pair_text}
 use Rattle.inspect_core.specs.Found.{IsSound}
 use Rattle.inspect_core.proofs.Shared.{IsQuiet, key_refl}
-
-clash : {A : Type 0} {x : A} → None ≡ Some x → ⊥
-clash e = absurd (cc)
-
-both : (a b : Bool) → (a && b) ≡ true → (a ≡ true) × (b ≡ true)
-both true true h = (refl, refl)
-both true false h = absurd (cc)
-both false b h = absurd (cc)
-
-and_true : (a b : Bool) → a ≡ true → b ≡ true → (a && b) ≡ true
-and_true a b p q = ap (λ x. x && b) p ∙ q
+use Rattle.committee_core.proofs.Agreeing.{clash}
 
 -- ---- some members of a roll
 
@@ -38,31 +29,31 @@ above m (x ∷ xs) = nat_lt m x && above m xs
 above_less : (m n : ℕ) (xs : List ℕ) → nat_lt m n ≡ true → above n xs ≡ true → above m xs ≡ true
 above_less m n [] less h = refl
 above_less m n (x ∷ xs) less h =
-    let p = both (nat_lt n x) (above n xs) h in
+    let p = and_true (nat_lt n x) (above n xs) h in
     let a : m < n = ltb-true m n less in
     let b : n < x = ltb-true n x p.0 in
-    and_true (nat_lt m x) (above m xs) (lt-ltb m x (omega (arith, a, b))) (above_less m n xs less p.1)
+    both_true (nat_lt m x) (above m xs) (lt-ltb m x (omega (arith, a, b))) (above_less m n xs less p.1)
 
 behind_ascend : (m : ℕ) (xs : List ℕ) → ascends (m ∷ xs) ≡ true → ascends xs ≡ true
 behind_ascend m [] h = refl
-behind_ascend m (x ∷ xs) h = (both (nat_lt m x) (ascends (x ∷ xs)) h).1
+behind_ascend m (x ∷ xs) h = (and_true (nat_lt m x) (ascends (x ∷ xs)) h).1
 
 all_above : (m : ℕ) (xs : List ℕ) → ascends (m ∷ xs) ≡ true → above m xs ≡ true
 all_above m [] h = refl
-all_above m (x ∷ xs) h = let p = both (nat_lt m x) (ascends (x ∷ xs)) h in
-    and_true (nat_lt m x) (above m xs) p.0 (above_less m x xs p.0 (all_above x xs p.1))
+all_above m (x ∷ xs) h = let p = and_true (nat_lt m x) (ascends (x ∷ xs)) h in
+    both_true (nat_lt m x) (above m xs) p.0 (above_less m x xs p.0 (all_above x xs p.1))
 
 above_kept : (test : ℕ → Bool) (m : ℕ) (xs : List ℕ) → above m xs ≡ true → above m (filter test xs) ≡ true
 above_kept test m [] h = refl
-above_kept test m (x ∷ xs) h = let p = both (nat_lt m x) (above m xs) h in go (test x) p.0 (above_kept test m xs p.1)
+above_kept test m (x ∷ xs) h = let p = and_true (nat_lt m x) (above m xs) h in go (test x) p.0 (above_kept test m xs p.1)
   where
     go : (b : Bool) → nat_lt m x ≡ true → above m (filter test xs) ≡ true → above m (cond b (x ∷ filter test xs) (filter test xs)) ≡ true
-    go true here rest = and_true (nat_lt m x) (above m (filter test xs)) here rest
+    go true here rest = both_true (nat_lt m x) (above m (filter test xs)) here rest
     go false here rest = rest
 
 ascend_onto : (m : ℕ) (xs : List ℕ) → above m xs ≡ true → ascends xs ≡ true → ascends (m ∷ xs) ≡ true
 ascend_onto m [] h a = refl
-ascend_onto m (x ∷ xs) h a = and_true (nat_lt m x) (ascends (x ∷ xs)) (both (nat_lt m x) (above m xs) h).0 a
+ascend_onto m (x ∷ xs) h a = both_true (nat_lt m x) (ascends (x ∷ xs)) (and_true (nat_lt m x) (above m xs) h).0 a
 
 ascend_kept : (test : ℕ → Bool) (xs : List ℕ) → ascends xs ≡ true → ascends (filter test xs) ≡ true
 ascend_kept test [] h = refl
@@ -74,15 +65,15 @@ ascend_kept test (x ∷ xs) h = go (test x) (above_kept test x xs (all_above x x
 
 known_kept : (stakes : List ℕ) (test : ℕ → Bool) (xs : List ℕ) → all_known stakes xs ≡ true → all_known stakes (filter test xs) ≡ true
 known_kept stakes test [] h = refl
-known_kept stakes test (x ∷ xs) h = let p = both (nat_lt x (length stakes)) (all_known stakes xs) h in go (test x) p.0 (known_kept stakes test xs p.1)
+known_kept stakes test (x ∷ xs) h = let p = and_true (nat_lt x (length stakes)) (all_known stakes xs) h in go (test x) p.0 (known_kept stakes test xs p.1)
   where
     go : (b : Bool) → nat_lt x (length stakes) ≡ true → all_known stakes (filter test xs) ≡ true → all_known stakes (cond b (x ∷ filter test xs) (filter test xs)) ≡ true
-    go true here rest = and_true (nat_lt x (length stakes)) (all_known stakes (filter test xs)) here rest
+    go true here rest = both_true (nat_lt x (length stakes)) (all_known stakes (filter test xs)) here rest
     go false here rest = rest
 
 roll_kept : (stakes : List ℕ) (test : ℕ → Bool) (xs : List ℕ) → is_roll stakes xs ≡ true → is_roll stakes (filter test xs) ≡ true
-roll_kept stakes test xs h = let p = both (ascends xs) (all_known stakes xs) h in
-    and_true (ascends (filter test xs)) (all_known stakes (filter test xs)) (ascend_kept test xs p.0) (known_kept stakes test xs p.1)
+roll_kept stakes test xs h = let p = and_true (ascends xs) (all_known stakes xs) h in
+    both_true (ascends (filter test xs)) (all_known stakes (filter test xs)) (ascend_kept test xs p.0) (known_kept stakes test xs p.1)
 
 -- those who are blamed are a roll
 pub double_roll : (stakes : List ℕ) (c d : Certificate) (b : DoubleVote) → IsSound stakes d → Some b ≡ blamed c d → is_roll stakes b.members ≡ true
@@ -96,13 +87,6 @@ double_roll stakes c d b sound is = go (are_rivals c d) (shared_key c d) is
         subst (λ (x : DoubleVote). is_roll stakes x.members ≡ true) same (roll_kept stakes (is_among (sealers c)) (sealers d) sound.roll)
 
 -- ---- certificates that share no version
-
-or_right : (a b : Bool) → b ≡ true → (a || b) ≡ true
-or_right true b h = refl
-or_right false b h = h
-
-or_left : (a b : Bool) → a ≡ true → (a || b) ≡ true
-or_left a b h = ap (λ x. x || b) h
 
 none_shared : (keys others : List ObjectKey) → ((q : ObjectKey) → has_key keys q ≡ true → has_key others q ≡ true → ⊥) → first_of (λ key. where_true (has_key keys key) key) others ≡ None
 none_shared keys [] apart = refl

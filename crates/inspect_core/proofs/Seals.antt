@@ -1,18 +1,17 @@
 -- Who seals what, as the code sees the members.
-use Rattle.std.proofs.Common.{◌≡◌, ◌↔◌, ℕ, zero, suc, true, false, List, [], ◌∷◌, Option, Some, None, IsTrue, refl, sym, ap, ◌∙◌, arith, ◌≤◌, ◌<◌, length, inl, inr}
-use Rattle.std.specs.Prelude.{IfSome, option_and_then, option_map, slice_get}
+use Rattle.std.proofs.Common.{◌≡◌, ◌↔◌, ℕ, true, false, List, Option, Some, None, IsTrue, refl, sym, ap, ◌∙◌, arith, ◌≤◌, ◌<◌, length, inl, inr}
+use Rattle.std.specs.Prelude.{option_and_then, option_map, slice_get}
 use Rattle.std.proofs.lemmas.Bool.{cases_lt}
 use Rattle.checkpoint_core.specs.declared.checkpoints.Checkpoint.{Checkpoint}
+use Rattle.protocol_spec.proofs.Truth.{some_same}
 use Rattle.protocol_spec.specs.Member.Member.{Member, built}
 use Rattle.scene_spec.specs.Seats.{Seat}
 use Rattle.scene_spec.specs.Posts.{Post}
 use Rattle.world_core.specs.Crews.{honest_at}
 use Rattle.world_core.specs.Looks.{checkpoint_at}
-use Rattle.inspect_core.specs.Chain.{AllSeal, HasBuilt, HasBuiltAll, HasBuiltAt, IsFirstUnbuilt, LacksAt, SealsAt}
+use Rattle.inspect_core.specs.Chain.{AllSeal, HasBuilt, HasBuiltAll, HasBuiltAt, LacksAt, SealsAt}
 use Rattle.inspect_core.specs.Standing.{States, states_in}
-
-clash : {A : Type 0} {x : A} → None ≡ Some x → ⊥
-clash e = absurd (cc)
+use Rattle.committee_core.proofs.Agreeing.{clash, no_post}
 
 same_place : (posts : List Post) (k n : ℕ) → option_and_then (λ (m : Member). slice_get (built m) n) (states_in posts k) ≡ checkpoint_at (slice_get posts k) n
 same_place posts k n = go (honest_at (slice_get posts k))
@@ -21,11 +20,8 @@ same_place posts k n = go (honest_at (slice_get posts k))
     go None = refl
     go (Some seat) = refl
 
-given : {A : Type 0} (x y : A) → Some x ≡ Some y → x ≡ y
-given x y e = cc
-
 pub built_there : (posts : List Post) (k n : ℕ) (b c : Checkpoint) {R : Type 0} → Some b ≡ checkpoint_at (slice_get posts k) n → R ↔ (b ≡ c) → R ↔ HasBuilt (states_in posts) k n c
-built_there posts k n b c there is = (λ r. same_place posts k n ∙ (sym there ∙ ap Some (is.0 r)), λ has. is.1 (given b c (there ∙ (sym (same_place posts k n) ∙ has))))
+built_there posts k n b c there is = (λ r. same_place posts k n ∙ (sym there ∙ ap Some (is.0 r)), λ has. is.1 (some_same b c (there ∙ (sym (same_place posts k n) ∙ has))))
 
 never : IsTrue false → ⊥
 never h = cc
@@ -39,7 +35,7 @@ is_true : (b : _) → b ≡ true → IsTrue b
 is_true b e = e
 
 pub place_yes : (states : States) (cs : List Checkpoint) (k n : ℕ) (c : Checkpoint) → Some c ≡ slice_get cs n → HasBuilt states k n c → HasBuiltAt states cs k n
-place_yes states cs k n c there has = λ d at. subst-to d (given c d (there ∙ at))
+place_yes states cs k n c there has = λ d at. subst-to d (some_same c d (there ∙ at))
   where
     subst-to : (d : Checkpoint) → c ≡ d → HasBuilt states k n d
     subst-to d same = has ∙ ap Some same
@@ -52,22 +48,17 @@ place_no states cs k n c there lacks = record { checkpoint = c; there = sym ther
 
 -- ---- at all places
 
-past : {A : Type 0} (xs : List A) (n : ℕ) → length xs ≤ n → slice_get xs n ≡ None
-past [] n most = refl
-past (x ∷ xs) zero most = absurd (omega (arith, most))
-past (x ∷ xs) (suc n) most = past xs n (omega (arith, most))
-
 pub built_all : (states : States) (cs : List Checkpoint) (k end : ℕ) → ((i : ℕ) → i < end → HasBuiltAt states cs k i) → length cs ≤ end → HasBuiltAll states cs k
 built_all states cs k end before most n = elim (cases_lt n end) [
   | inl low ↦ before n low
-  | inr high ↦ place_none states cs k n (sym (past cs n (omega (arith, most, high))))
+  | inr high ↦ place_none states cs k n (sym (no_post cs n (omega (arith, most, high))))
 ]
 
 pub seals_none : (states : States) (cs : List Checkpoint) (members : List ℕ) (place : ℕ) → None ≡ slice_get members place → SealsAt states cs members place
 seals_none states cs members place none = λ k at. absurd (clash (none ∙ at))
 
 pub seals_one : (states : States) (cs : List Checkpoint) (members : List ℕ) (place k : ℕ) → Some k ≡ slice_get members place → HasBuiltAll states cs k → SealsAt states cs members place
-seals_one states cs members place k there all = λ j at. go j (given k j (there ∙ at))
+seals_one states cs members place k there all = λ j at. go j (some_same k j (there ∙ at))
   where
     go : (j : ℕ) → k ≡ j → HasBuiltAll states cs j
     go j same = rw (sym same) all
@@ -75,5 +66,5 @@ seals_one states cs members place k there all = λ j at. go j (given k j (there 
 pub all_seal : (states : States) (cs : List Checkpoint) (members : List ℕ) (end : ℕ) → ((i : ℕ) → i < end → SealsAt states cs members i) → length members ≤ end → AllSeal states cs members
 all_seal states cs members end before most place = elim (cases_lt place end) [
   | inl low ↦ before place low
-  | inr high ↦ seals_none states cs members place (sym (past members place (omega (arith, most, high))))
+  | inr high ↦ seals_none states cs members place (sym (no_post members place (omega (arith, most, high))))
 ]

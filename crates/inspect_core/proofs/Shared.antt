@@ -1,15 +1,16 @@
 -- Certificates that share a version with none of the others are left out, and no line goes.
-use Rattle.std.proofs.Common.{◌≡◌, ◌∙◌, ◌⊎◌, inl, inr, ℕ, Bool, true, false, ◌||◌, cond, List, [], ◌∷◌, ◌++◌, filter, fold, Option, Some, None, is_some, refl, sym, ap, subst}
+use Rattle.std.proofs.Common.{◌≡◌, ◌∙◌, ◌⊎◌, inl, inr, ℕ, Bool, true, false, cond, List, [], ◌∷◌, ◌++◌, filter, fold, Option, Some, None, is_some, refl, sym, ap, subst}
 use Rattle.std.specs.Prelude.{◌==◌, ◌&&◌}
 use Rattle.std.specs.List.{flat_map, list_any}
 use Rattle.std.proofs.lemmas.Slice.Eq.{bytes_eq-Decides}
 use Rattle.std.proofs.lemmas.Bool.Decides.{Decides-eqb}
 use Rattle.indexmap.specs.IndexMap.{insert_entry}
-use Rattle.digest_core.specs.declared.Digest.{Digest}
 use Rattle.chain_types.specs.declared.objects.ObjectKey.{ObjectKey}
 use Rattle.chain_types.specs.Digests.{consumed_keys}
-use Rattle.chain_types.specs.Equal.{digest_eq, id_eq, key_eq}
+use Rattle.chain_types.specs.Equal.{key_eq}
 use Rattle.chain_messages.specs.declared.messages.Certificate.{Certificate}
+use Rattle.protocol_spec.proofs.Equality.{key_same}
+use Rattle.protocol_spec.proofs.Truth.{or_right, or_left, or_true}
 use Rattle.protocol_spec.specs.Chain.Tests.{has_key}
 use Rattle.protocol_spec.specs.Chain.Words.{Each}
 use Rattle.inspect_core.specs.Certified.{of_pairs}
@@ -20,40 +21,13 @@ use Rattle.inspect_core.specs.Uses.{Uses, is_more, is_shared, is_suspect, use_of
 apart : true ≡ false → ⊥
 apart h = absurd (cc)
 
-or_left : (a b : Bool) → a ≡ true → (a || b) ≡ true
-or_left true b h = refl
-or_left false b h = absurd (apart (sym h))
-
-or_right : (a b : Bool) → b ≡ true → (a || b) ≡ true
-or_right true b h = refl
-or_right false b h = h
-
-either : (a b : Bool) → (a || b) ≡ true → (a ≡ true) ⊎ (b ≡ true)
-either true b h = inl refl
-either false b h = inr h
-
-both : (a b : Bool) → (a && b) ≡ true → (a ≡ true) × (b ≡ true)
-both true true h = (refl, refl)
-both true false h = absurd (cc)
-both false b h = absurd (cc)
-
-digest_same : (a b : Digest) → digest_eq a b ≡ true → a ≡ b
-digest_same a b h = ap (λ (x : List ℕ). let d : Digest = record { 0 = x } in d) ((bytes_eq-Decides a.0 b.0).0 h)
-
-key_same : (a b : ObjectKey) → key_eq a b ≡ true → a ≡ b
-key_same a b h =
-    let p : (id_eq a.id b.id ≡ true) × ((a.version == b.version) ≡ true) = both (id_eq a.id b.id) (a.version == b.version) h in
-    let i : a.id.0 ≡ b.id.0 = digest_same a.id.0 b.id.0 p.0 in
-    let v : a.version ≡ b.version = (Decides-eqb a.version b.version).0 p.1 in
-    ap (λ (d : Digest). let k : ObjectKey = record { id = record { 0 = d }; version = a.version } in k) i ∙ ap (λ (n : ℕ). let k : ObjectKey = record { id = b.id; version = n } in k) v
-
 pub key_refl : (a : ObjectKey) → key_eq a a ≡ true
 key_refl a = ap (λ b. b && (a.version == a.version)) ((bytes_eq-Decides a.id.0.0 a.id.0.0).1 refl) ∙ (Decides-eqb a.version a.version).1 refl
 
 -- what holds of a key that is there holds of one of them
 any_of : (p : ObjectKey → Bool) (keys : List ObjectKey) (q : ObjectKey) → has_key keys q ≡ true → p q ≡ true → list_any p keys ≡ true
 any_of p [] q there h = absurd (apart (sym there))
-any_of p (k ∷ keys) q there h = go (either (key_eq q k) (has_key keys q) there) (any_of p keys q)
+any_of p (k ∷ keys) q there h = go (or_true (key_eq q k) (has_key keys q) there) (any_of p keys q)
   where
     go : (key_eq q k ≡ true) ⊎ (has_key keys q ≡ true) → (has_key keys q ≡ true → p q ≡ true → list_any p keys ≡ true) → list_any p (k ∷ keys) ≡ true
     go (inl is) rest = or_left (p k) (list_any p keys) (subst (λ (x : ObjectKey). p x ≡ true) (key_same q k is) h)
@@ -129,7 +103,7 @@ still_shared (key ∷ keys) uses q h = still_shared keys (with_use uses key) q (
 
 now_used : (keys : List ObjectKey) (uses : Uses) (q : ObjectKey) → has_key keys q ≡ true → IsUsed (with_uses uses keys) q
 now_used [] uses q there = absurd (apart (sym there))
-now_used (key ∷ keys) uses q there = go (either (key_eq q key) (has_key keys q) there) (now_used keys (with_use uses key) q)
+now_used (key ∷ keys) uses q there = go (or_true (key_eq q key) (has_key keys q) there) (now_used keys (with_use uses key) q)
   where
     go : (key_eq q key ≡ true) ⊎ (has_key keys q ≡ true) → (has_key keys q ≡ true → IsUsed (with_uses uses (key ∷ keys)) q) → IsUsed (with_uses uses (key ∷ keys)) q
     go (inl is) rest = still_used keys (with_use uses key) q (used_now uses key q is)
@@ -137,7 +111,7 @@ now_used (key ∷ keys) uses q there = go (either (key_eq q key) (has_key keys q
 
 now_shared : (keys : List ObjectKey) (uses : Uses) (q : ObjectKey) → IsUsed uses q → has_key keys q ≡ true → IsShared (with_uses uses keys) q
 now_shared [] uses q h there = absurd (apart (sym there))
-now_shared (key ∷ keys) uses q h there = go (either (key_eq q key) (has_key keys q) there) (now_shared keys (with_use uses key) q (used_still uses key q h))
+now_shared (key ∷ keys) uses q h there = go (or_true (key_eq q key) (has_key keys q) there) (now_shared keys (with_use uses key) q (used_still uses key q h))
   where
     go : (key_eq q key ≡ true) ⊎ (has_key keys q ≡ true) → (has_key keys q ≡ true → IsShared (with_uses uses (key ∷ keys)) q) → IsShared (with_uses uses (key ∷ keys)) q
     go (inl is) rest = still_shared keys (with_use uses key) q (shared_now uses key q is h)

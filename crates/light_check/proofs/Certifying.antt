@@ -1,6 +1,6 @@
 -- A chain in which no link is bad is certified, and no link of a certified one is bad.
-use Rattle.std.proofs.Common.{◌≡◌, ◌∙◌, ℕ, suc, Bool, true, false, List, [], ◌∷◌, Option, Some, None, Ok, Err, refl, sym, ap, subst}
-use Rattle.std.specs.Prelude.{◌+◌, IfOk, IsErrOf, Result, bytes_eq, ◌==◌, ◌&&◌, not, option_map, if◌then◌else◌}
+use Rattle.std.proofs.Common.{◌≡◌, ◌∙◌, ℕ, Bool, true, false, List, [], ◌∷◌, Option, Some, None, Ok, Err, refl, sym, ap, subst}
+use Rattle.std.specs.Prelude.{◌+◌, IfOk, IsErrOf, Result, bytes_eq, ◌==◌, not, option_map, if◌then◌else◌}
 use Rattle.std.proofs.lemmas.Bool.{eqb-true, eq-eqb}
 use Rattle.std.proofs.lemmas.Slice.Eq.{bytes_eq-Decides}
 use Rattle.digest_core.specs.declared.Digest.{Digest}
@@ -11,7 +11,8 @@ use Rattle.checkpoint_core.specs.declared.checkpoints.Checkpoint.{Checkpoint}
 use Rattle.checkpoint_core.specs.declared.links.LinkRefusal.TheVariants as link_refused
 use Rattle.checkpoint_core.specs.Links.{link_answer, wanted_number, wanted_parent}
 use Rattle.protocol_spec.specs.Chain.Words.{Each, first_some, where_true}
-use Rattle.protocol_spec.proofs.ListLemmas.{and-first, and-second}
+use Rattle.protocol_spec.proofs.ListLemmas.{and-first, and-second, all_none}
+use Rattle.protocol_spec.proofs.Truth.{where_not_true}
 use Rattle.light_check.specs.declared.chain.Link.{Link}
 use Rattle.light_check.specs.declared.link.Tip.{Tip}
 use Rattle.light_check.specs.declared.chain.ChainRefusal.{ChainRefusal}
@@ -22,11 +23,6 @@ use Rattle.light_check.specs.Causes as causes
 
 -- ---- lists of cases
 
-each_none : {A : Type 0} (cases : List (Option A)) → first_some cases ≡ None → Each (λ (x : Option A). x ≡ None) cases
-each_none [] h = tt
-each_none (None ∷ cases) h = (refl, each_none cases h)
-each_none (Some x ∷ cases) h = absurd (cc)
-
 first_none : {A : Type 0} (cases : List (Option A)) → Each (λ (x : Option A). x ≡ None) cases → first_some cases ≡ None
 first_none [] e = refl
 first_none (None ∷ cases) e = first_none cases e.1
@@ -34,10 +30,6 @@ first_none (Some x ∷ cases) e = absurd (no_some x e.0)
   where
     no_some : {A : Type 0} (x : A) → Some x ≡ None → ⊥
     no_some x h = absurd (cc)
-
-no_case : {A : Type 0} (b : Bool) (x : A) → where_true (not b) x ≡ None → b ≡ true
-no_case true x h = refl
-no_case false x h = absurd (cc)
 
 is_no_case : {A : Type 0} (b : Bool) (x : A) → b ≡ true → where_true (not b) x ≡ None
 is_no_case true x h = refl
@@ -91,7 +83,7 @@ pub number_goes_on : (stakes : List ℕ) (accepts : Accepting) (before : Option 
 unfolding cause_of
 number_goes_on stakes accepts before l h =
     (goes_on (option_map place_of_tip before) l.checkpoint
-    (each_none
+    (all_none
     (cause_of_link (link_answer (option_map place_of_tip before) l.checkpoint) ∷
     where_true (not (l.checkpoint.epoch == epoch_behind before)) 3 ∷
     where_true (not (is_roll stakes (members_in l))) 4 ∷
@@ -101,7 +93,7 @@ number_goes_on stakes accepts before l h =
 linked : (stakes : List ℕ) (accepts : Accepting) (before : Option Checkpoint) (l : Link) → cause_of stakes accepts (option_map causes.tip_of before) l ≡ None → IsLinked stakes accepts before l
 unfolding cause_of
 linked stakes accepts before l h =
-    let cases = each_none
+    let cases = all_none
     (cause_of_link (link_answer (option_map place_of_tip (option_map causes.tip_of before)) l.checkpoint) ∷
     where_true (not (l.checkpoint.epoch == epoch_behind (option_map causes.tip_of before))) 3 ∷
     where_true (not (is_roll stakes (members_in l))) 4 ∷
@@ -111,10 +103,10 @@ linked stakes accepts before l h =
     record {
       number = on.0;
       parent = on.1;
-      epoch = eqb-true l.checkpoint.epoch (epoch_behind (option_map causes.tip_of before)) (no_case (l.checkpoint.epoch == epoch_behind (option_map causes.tip_of before)) 3 cases.1.0) ∙ same_epoch before;
-      roll = no_case (is_roll stakes (members_in l)) 4 cases.1.1.0;
-      quorum = no_case (is_quorum stakes (weight stakes (members_in l))) 5 cases.1.1.1.0;
-      sealed = accepted_each accepts (stated l.checkpoint) l.seals (no_case (all_accepted accepts (stated l.checkpoint) l.seals) 6 cases.1.1.1.1.0);
+      epoch = eqb-true l.checkpoint.epoch (epoch_behind (option_map causes.tip_of before)) (where_not_true (l.checkpoint.epoch == epoch_behind (option_map causes.tip_of before)) 3 cases.1.0) ∙ same_epoch before;
+      roll = where_not_true (is_roll stakes (members_in l)) 4 cases.1.1.0;
+      quorum = where_not_true (is_quorum stakes (weight stakes (members_in l))) 5 cases.1.1.1.0;
+      sealed = accepted_each accepts (stated l.checkpoint) l.seals (where_not_true (all_accepted accepts (stated l.checkpoint) l.seals) 6 cases.1.1.1.1.0);
     }
 
 without_cause : (stakes : List ℕ) (accepts : Accepting) (before : Option Checkpoint) (l : Link) → IsLinked stakes accepts before l → cause_of stakes accepts (option_map causes.tip_of before) l ≡ None

@@ -7,6 +7,7 @@ use Rattle.chain_messages.specs.Messages.{member_seal}
 use Rattle.checkpoint_core.specs.Checkpoints.{checkpoint}
 use Rattle.chain_messages.specs.declared.messages.MemberSeal.{MemberSeal}
 use Rattle.checkpoint_core.specs.declared.checkpoints.Checkpoint.{Checkpoint}
+use Rattle.protocol_spec.proofs.ListLemmas.{map_length, append_nil}
 use Rattle.protocol_spec.specs.Chain.Words.{Each}
 use Rattle.light_check.specs.declared.chain.Link.{Link}
 use Rattle.light_check.specs.declared.chain.Chain.{Chain}
@@ -34,10 +35,6 @@ pub one_seal_more : (accepts : Accepting) (bytes members after : List ℕ) (memb
 one_seal_more accepts bytes members after member seals s far is accepted = λ more are.
     subst (AreSealsOf accepts bytes members) (sym (append_assoc seals (s ∷ []) more)) (far (s ∷ more) (rw (is, are.0) refl, (accepted, are.1)))
 
-append_nil : {A : Type 0} (xs : List A) → xs ++ [] ≡ xs
-append_nil [] = refl
-append_nil (x ∷ xs) = ap (λ ys. x ∷ ys) (append_nil xs)
-
 pub all_seals : (accepts : Accepting) (bytes members rest : List ℕ) (seals : List MemberSeal) → length rest < 1 → SealsSoFar accepts bytes members rest seals → AreSealsOf accepts bytes members seals
 all_seals accepts bytes members [] seals none far = subst (AreSealsOf accepts bytes members) (append_nil seals) (far [] (refl, tt))
 all_seals accepts bytes members (m ∷ rest) seals none far = absurd (omega (arith, none))
@@ -60,11 +57,7 @@ all_links accepts members checkpoints (c ∷ rest) links none far = absurd (omeg
 
 -- ---- what can be spelled
 
-length-map : {A B : Type 0} (f : A → B) (xs : List A) → length (map f xs) ≡ length xs
-length-map f [] = refl
-length-map f (x ∷ xs) = ap suc (length-map f xs)
-
-all_of_each : {A : Type 0} (P : A → Type 0) (xs : List A) → Each P xs → All P xs
+pub all_of_each : {A : Type 0} (P : A → Type 0) (xs : List A) → Each P xs → All P xs
 all_of_each P [] each = All-nil P
 all_of_each P (x ∷ xs) each = All-cons P x xs each.0 (all_of_each P xs each.1)
 
@@ -76,7 +69,7 @@ seals_short (s ∷ seals) = ((tt, tt), seals_short seals)
 link_is_short : (accepts : Accepting) (members : List ℕ) (c : Checkpoint) (l : Link) → IsSealedBy accepts members c l → checkpoint.short c → length members ≤ 2147483647 → link.short l
 unfolding link
 link_is_short accepts members c l is short few =
-    let many : length l.seals ≡ length members = sym (length-map member_of l.seals) ∙ ap (λ (xs : List ℕ). length xs) is.by in
+    let many : length l.seals ≡ length members = sym (map_length member_of l.seals) ∙ ap (λ (xs : List ℕ). length xs) is.by in
     (subst checkpoint.short (sym is.of) short, (omega (arith, many, few), all_of_each member_seal.short l.seals (seals_short l.seals)))
 
 links_are_short : (accepts : Accepting) (members : List ℕ) (checkpoints : List Checkpoint) (links : List Link) → AreSealedBy accepts members checkpoints links → Each checkpoint.short checkpoints → length members ≤ 2147483647

@@ -1,8 +1,8 @@
 -- One step of the walk over the links of a chain.
-use Rattle.std.proofs.Common.{arith, subst, take, drop, get_or, ◌≡◌, ◌∙◌, ◌<◌, ◌≤◌, ◌+◌, ◌-◌, ◌^◌, ℕ, suc, List, [], ◌∷◌, Option, Some, None, refl, sym, ap, length}
+use Rattle.std.proofs.Common.{arith, subst, take, drop, get_or, ◌≡◌, ◌∙◌, ◌≤◌, ◌+◌, ◌-◌, ℕ, List, [], ◌∷◌, Option, Some, None, refl, sym, ap, length}
 use Rattle.std.specs.Prelude.{option_map}
-use Rattle.digest_core.specs.declared.Digest.{Digest}
-use Rattle.checkpoint_core.specs.Links.{HasNext, link_answer, wanted_number}
+use Rattle.checkpoint_core.specs.Links.{HasNext, wanted_number}
+use Rattle.protocol_spec.proofs.ListLemmas.{tail_is}
 use Rattle.protocol_spec.specs.Chain.Words.{first_some}
 use Rattle.light_check.specs.declared.chain.Link.{Link}
 use Rattle.light_check.specs.declared.link.Tip.{Tip}
@@ -48,13 +48,6 @@ pub record Walks (stakes : List ℕ) (accepts : Accepting) (links : List Link) (
 
 pub starts_walk : (stakes : List ℕ) (accepts : Accepting) (links : List Link) → AllShort links → Walks stakes accepts links 0 None links
 starts_walk stakes accepts links short = record { same = refl; count = omega arith; short = short; behind = refl }
-
-all_taken : {A : Type 0} (xs : List A) → take (length xs) xs ≡ xs
-all_taken [] = refl
-all_taken (x ∷ xs) = ap (λ ys. x ∷ ys) (all_taken xs)
-
-tail_is : {A : Type 0} (x : A) (xs : List A) → take (length (x ∷ xs) - 1) (drop 1 (x ∷ xs)) ≡ xs
-tail_is x xs = let less : length (x ∷ xs) - 1 ≡ length xs = omega arith in rw less (all_taken xs)
 
 pub goes_further : (stakes : List ℕ) (accepts : Accepting) (links rest : List Link) (place : ℕ) (before : Option Tip) (l : Link) (tip : Tip) → l ≡ get_or rest 0 l → 1 ≤ length rest
     → Walks stakes accepts links place before rest → cause_of stakes accepts before l ≡ None → tip ≡ tip_of l.checkpoint → Walks stakes accepts links (place + 1) (Some tip) (take (length rest - 1) (drop 1 rest))

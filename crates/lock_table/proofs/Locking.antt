@@ -6,7 +6,8 @@ use Rattle.digest_core.specs.declared.Digest.{Digest}
 use Rattle.chain_types.specs.declared.objects.ObjectKey.{ObjectKey}
 use Rattle.chain_types.specs.Equal.{digest_eq, key_eq}
 use Rattle.lock_table.specs.Locks.{Locks, locked_by, or_other, other_lock, unless_own, with_locks}
-use Rattle.lock_table.proofs.Keys.{digest_same, key_same, key_refl}
+use Rattle.lock_table.proofs.Keys.{key_refl}
+use Rattle.protocol_spec.proofs.Equality.{digest_same, key_same}
 
 -- the key is among the keys
 abbrev pub Among : ObjectKey → List ObjectKey → Type 0
@@ -28,7 +29,7 @@ put_same (l ∷ ls) key tx = by (key_eq key l.0) refl (put_same ls key tx)
         ap (λ b. locked_by (cond b ((l.0, tx) ∷ ls) (l ∷ insert_entry key_eq ls key tx)) key) is ∙ ap (λ b. cond b (Some l.1) (locked_by (insert_entry key_eq ls key tx) key)) is ∙ more
 
 -- every other key is as it was
-put_other : (locks : Locks) (key : ObjectKey) (tx : Digest) (q : ObjectKey) → key_eq q key ≡ false → locked_by (insert_entry key_eq locks key tx) q ≡ locked_by locks q
+pub put_other : (locks : Locks) (key : ObjectKey) (tx : Digest) (q : ObjectKey) → key_eq q key ≡ false → locked_by (insert_entry key_eq locks key tx) q ≡ locked_by locks q
 put_other [] key tx q apart = ap (λ b. cond b (Some tx) None) apart
 put_other (l ∷ ls) key tx q apart = by (key_eq key l.0) refl (put_other ls key tx q apart)
   where

@@ -224,7 +224,7 @@ fn said(reply: &Result<Voted, VoteRefusal>) -> Said {
 }
 
 /// Asks for the vote: what is said, and the keeper's count of faults.
-#[tactic(auto, using(crate::proofs::Numbers::keeps_number))]
+#[tactic(auto, using(vote_desk::proofs::Benches::number_stays))]
 fn ask(member: &mut Validator, keeper: &mut MemKeeper, bytes: &[u8]) -> Option<(Said, u64)>
     requires number { member.old.member ≡ 0 }
     ensures number { member.new.member ≡ 0 }

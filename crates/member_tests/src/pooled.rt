@@ -156,7 +156,7 @@ fn outcomes(alloc: Global, effects: &[Effects]) -> Result<Vec<Outcome>, OutOfMem
 }
 
 /// What those came to that a run by so many workers executes.
-#[tactic(auto, using(crate::proofs::Numbers::keeps_number))]
+#[tactic(auto, using(vote_desk::proofs::Benches::number_stays))]
 fn runs_by<R: Threads + Sync, G: Gate + Sync>(
     rt: &R,
     alloc: Global,

@@ -18,7 +18,7 @@ use wire_bcs::{OutOfMemory, Seq};
 const MARK: [u8; 1] = [2];
 
 /// What the member answers to the entry of this number; `KeepFault` where nothing is kept of it.
-#[tactic(auto, using(crate::proofs::Numbers::keeps_number))]
+#[tactic(auto, using(vote_desk::proofs::Benches::number_stays))]
 pub(crate) fn sees(
     member: &mut Validator,
     keeper: &mut MemKeeper,

@@ -44,7 +44,7 @@ pub(crate) fn member_of(alloc: Global, kept: &Seq<Seq<u8>>) -> Result<Validator,
 }
 
 /// Whether the vote is fresh, where there is one.
-#[tactic(auto, using(crate::proofs::Numbers::keeps_number))]
+#[tactic(auto, using(vote_desk::proofs::Benches::number_stays))]
 fn votes(member: &mut Validator, keeper: &mut MemKeeper, bytes: &[u8]) -> Option<bool>
     requires number { member.old.member ≡ 0 }
     ensures number { member.new.member ≡ 0 }
@@ -59,7 +59,7 @@ fn votes(member: &mut Validator, keeper: &mut MemKeeper, bytes: &[u8]) -> Option
 }
 
 /// Whether the certificate is newly held, where it is held.
-#[tactic(auto, using(crate::proofs::Numbers::keeps_number))]
+#[tactic(auto, using(vote_desk::proofs::Benches::number_stays))]
 pub(crate) fn holds(member: &mut Validator, keeper: &mut MemKeeper, bytes: &[u8]) -> Option<bool>
     requires number { member.old.member ≡ 0 }
     ensures number { member.new.member ≡ 0 }
@@ -71,7 +71,7 @@ pub(crate) fn holds(member: &mut Validator, keeper: &mut MemKeeper, bytes: &[u8]
 }
 
 /// How many transactions a run executes.
-#[tactic(auto, using(crate::proofs::Numbers::keeps_number))]
+#[tactic(auto, using(vote_desk::proofs::Benches::number_stays))]
 pub(crate) fn runs<R: Threads + Sync>(
     rt: &R,
     member: &mut Validator,
@@ -90,7 +90,7 @@ pub(crate) fn runs<R: Threads + Sync>(
 }
 
 /// Whether the member closes its epoch, where it may be asked to.
-#[tactic(auto, using(crate::proofs::Numbers::keeps_number))]
+#[tactic(auto, using(vote_desk::proofs::Benches::number_stays))]
 fn closes(member: &mut Validator, keeper: &mut MemKeeper) -> Option<bool>
     requires number { member.old.member ≡ 0 }
     ensures number { member.new.member ≡ 0 }

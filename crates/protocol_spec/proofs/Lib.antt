@@ -1,1 +1,5 @@
 pub mod ListLemmas
+pub mod Truth
+pub mod Equality
+pub mod Executions
+pub mod Checked

@@ -7,6 +7,7 @@ use Rattle.chain_types.specs.declared.transactions.Argument.{Argument}
 use Rattle.chain_types.specs.declared.transactions.Argument.TheVariants as argument
 use Rattle.chain_types.specs.declared.transactions.Command.{Command}
 use Rattle.chain_types.specs.declared.transactions.Transaction.{Transaction}
+use Rattle.protocol_spec.proofs.ListLemmas.{any_last}
 use Rattle.protocol_spec.specs.Chain.Words.{first_some, where_true}
 use Rattle.protocol_spec.specs.Block.Block as block
 use Rattle.protocol_spec.specs.Block.Commands as commands
@@ -55,18 +56,6 @@ one_place (spots.Result a i) (spots.Input b) e = absurd (cc)
 one_place (spots.Result a i) (spots.Result b j) e =
     let parts = and_parts (a == b) (i == j) e in
     ap (λ (n : ℕ). spots.Result n i) (eqb-true a b parts.0) ∙ ap (λ (n : ℕ). spots.Result b n) (eqb-true i j parts.1)
-
-any_last : {A : Type 0} (test : A → Bool) (xs : List A) (x : A) → list_any test (xs ++ x ∷ []) ≡ (list_any test xs || test x)
-any_last test [] x = go (test x)
-  where
-    go : (b : Bool) → (b || false) ≡ b
-    go true = refl
-    go false = refl
-any_last test (y ∷ ys) x = ap (λ t. test y || t) (any_last test ys x) ∙ go (test y) (list_any test ys) (test x)
-  where
-    go : (a b c : Bool) → (a || (b || c)) ≡ ((a || b) || c)
-    go true b c = refl
-    go false b c = refl
 
 or_false : (b : Bool) → b ≡ (b || false)
 or_false true = refl

@@ -1,5 +1,5 @@
 -- What a transaction of valid shape and objects that fit it give for its execution.
-use Rattle.std.proofs.Common.{◌≡◌, ◌≤◌, ◌<◌, ◌+◌, ℕ, zero, suc, Bool, true, false, ◌&&◌, length, get_or, List, [], ◌∷◌, ◌++◌, map, Option, Some, None, Result, Ok, Err, IfOk, refl, ap, ◌∙◌, arith, add-one}
+use Rattle.std.proofs.Common.{◌≡◌, ◌≤◌, ◌<◌, ◌+◌, ℕ, suc, Bool, true, false, ◌&&◌, length, List, [], ◌∷◌, ◌++◌, map, None, Result, Ok, Err, IfOk, refl, ap, ◌∙◌, arith, add-one}
 use Rattle.std.specs.Prelude.{nat_lt}
 use Rattle.std.specs.List.{list_any}
 use Rattle.std.proofs.lemmas.Bool.{ltb-false, ltb-true}
@@ -12,9 +12,10 @@ use Rattle.effects_core.specs.declared.effects.Status.{Status}
 use Rattle.effects_core.specs.declared.effects.Status.TheVariants as status
 use Rattle.answer_types.specs.declared.pieces.Executed.{Executed}
 use Rattle.wire_bcs.specs.declared.seq.OutOfMemory.{OutOfMemory}
+use Rattle.protocol_spec.proofs.ListLemmas.{none_at}
+use Rattle.protocol_spec.proofs.Truth.{where_false_number}
 use Rattle.protocol_spec.specs.Chain.Keys.{fit_inputs, fits, objects_of, pays_gas, version_limit, version_of}
 use Rattle.protocol_spec.specs.Chain.Shape.{is_empty_list, is_no_native, shape_cases, shape_fault}
-use Rattle.protocol_spec.specs.Chain.Words.{first_some, where_true}
 use Rattle.protocol_spec.specs.Block.Block as block
 use Rattle.protocol_spec.specs.Block.Execution.{Failure, executed_as, executed_by, failed_objects, failed_status, less_cost_first, with_rest_first, written_places}
 use Rattle.ptb_run.specs.Outcomes.{is_wide}
@@ -25,32 +26,17 @@ use Rattle.ptb_run.specs.Left.{Left, firsts_after}
 use Rattle.ptb_run.specs.Remains.{created_below, gone_after, kept_after, same_after}
 use Rattle.ptb_run.proofs.Remaining.{deleted_are, done_are, failed_are}
 
--- where there is no fault, no case has one
-none_at : (cases : List (Option ℕ)) (place : ℕ) → first_some cases ≡ None → get_or cases place None ≡ None
-none_at [] place e = refl
-none_at (Some n ∷ cases) place e = absurd (cc)
-none_at (None ∷ cases) zero e = refl
-none_at (None ∷ cases) (suc place) e = none_at cases place e
-
-not_so : (b : Bool) (n : ℕ) → where_true b n ≡ None → b ≡ false
-not_so true n e = absurd (cc)
-not_so false n e = refl
-
 pub few_commands : (t : Transaction) → shape_fault t ≡ None → length t.commands ≤ 1024
 unfolding shape_fault
-few_commands t e = ltb-false 1024 (length t.commands) (not_so (nat_lt 1024 (length t.commands)) 3 (none_at (shape_cases t) 2 e))
-
-pub few_inputs : (t : Transaction) → shape_fault t ≡ None → length t.inputs ≤ 256
-unfolding shape_fault
-few_inputs t e = ltb-false 256 (length t.inputs) (not_so (nat_lt 256 (length t.inputs)) 4 (none_at (shape_cases t) 3 e))
+few_commands t e = ltb-false 1024 (length t.commands) (where_false_number (nat_lt 1024 (length t.commands)) 3 (none_at (shape_cases t) 2 e))
 
 pub known_natives : (t : Transaction) → shape_fault t ≡ None → list_any is_no_native t.commands ≡ false
 unfolding shape_fault
-known_natives t e = not_so (list_any is_no_native t.commands) 9 (none_at (shape_cases t) 8 e)
+known_natives t e = where_false_number (list_any is_no_native t.commands) 9 (none_at (shape_cases t) 8 e)
 
 pub none_wide : (t : Transaction) → shape_fault t ≡ None → list_any is_wide t.commands ≡ false
 unfolding shape_fault
-none_wide t e = not_so (list_any is_wide t.commands) 12 (none_at (shape_cases t) 11 e)
+none_wide t e = where_false_number (list_any is_wide t.commands) 12 (none_at (shape_cases t) 11 e)
 
 last_holds : (a b c : Bool) → (a && b && c) ≡ true → c ≡ true
 last_holds true true true e = refl

@@ -1,22 +1,19 @@
 -- What is found by its id is the first of that id that left the block.
 use Rattle.std.proofs.Common.{◌≡◌, ℕ, Bool, true, false, cond, List, [], ◌∷◌, ◌++◌, Option, Some, None, is_some, option_map, refl, ap, sym, ◌∙◌}
-use Rattle.std.specs.Prelude.{bytes_eq, find}
+use Rattle.std.specs.Prelude.{find}
 use Rattle.std.specs.Map.{lookup}
-use Rattle.std.proofs.lemmas.Slice.Eq.{bytes_eq-Decides}
 use Rattle.chain_types.specs.declared.objects.ObjectId.{ObjectId}
 use Rattle.chain_types.specs.Equal.{id_eq}
 use Rattle.answer_types.specs.declared.pieces.Item.{Item}
 use Rattle.answer_types.specs.declared.pieces.Placed.{Placed}
+use Rattle.protocol_spec.proofs.Equality.{id_same, bytes_turned}
+use Rattle.protocol_spec.proofs.Truth.{or_else}
 use Rattle.protocol_spec.specs.Block.Block.{Block, value_in}
 use Rattle.protocol_spec.specs.Block.Commands.{piece_of}
 use Rattle.protocol_spec.specs.Block.Execution.{after_block, left_in, now_in, object_at}
 use Rattle.ptb_run.specs.declared.written.Moved.{Moved}
 use Rattle.ptb_run.specs.Values.{spot_of}
 use Rattle.ptb_run.specs.Left.{Left, firsts_after, moved_now, object_left, object_now, with_first}
-
-abbrev or_else : {A : Type 0} → Option A → Option A → Option A
-or_else None y = y
-or_else (Some x) y = Some x
 
 or_none : {A : Type 0} → (x : Option A) → x ≡ or_else x None
 or_none None = refl
@@ -35,17 +32,6 @@ lookup_last test (e ∷ es) k v = by (test e.0) (lookup_last test es k v)
     by true more = refl
     by false more = more
 
-bytes_back : (xs ys : List ℕ) → bytes_eq xs ys ≡ bytes_eq ys xs
-bytes_back xs ys = go (bytes_eq xs ys) refl (bytes_eq ys xs) refl
-  where
-    go : (a : Bool) → bytes_eq xs ys ≡ a → (b : Bool) → bytes_eq ys xs ≡ b → bytes_eq xs ys ≡ bytes_eq ys xs
-    go true e b f = e ∙ sym ((bytes_eq-Decides ys xs).1 (sym ((bytes_eq-Decides xs ys).0 e)))
-    go false e false f = e ∙ sym f
-    go false e true f = (bytes_eq-Decides xs ys).1 (sym ((bytes_eq-Decides ys xs).0 f)) ∙ sym f
-
-one_id : (a b : ObjectId) → id_eq a b ≡ true → a ≡ b
-one_id a b e = ap (λ (x : List ℕ). let id : ObjectId = record { 0 = record { 0 = x } } in id) ((bytes_eq-Decides a.0.0 b.0.0).0 e)
-
 clash : true ≡ false → ⊥
 clash h = cc
 
@@ -56,7 +42,7 @@ one_more id left p rest = by (lookup (id_eq p.item.id) left) refl
     there : (b : Bool) → id_eq p.item.id id ≡ b → (o : Option Placed) → lookup (id_eq id) left ≡ o → is_some (lookup (id_eq p.item.id) left) ≡ true → or_else o rest ≡ or_else o (cond b (Some p) rest)
     there b e (Some q) is some = refl
     there false e None is some = refl
-    there true e None is some = absurd (clash (sym some ∙ ap is_some (ap (λ (i : ObjectId). lookup (id_eq i) left) (one_id p.item.id id e) ∙ is)))
+    there true e None is some = absurd (clash (sym some ∙ ap is_some (ap (λ (i : ObjectId). lookup (id_eq i) left) (id_same p.item.id id e) ∙ is)))
 
     pick : (b : Bool) → or_else (cond b (Some p) None) rest ≡ cond b (Some p) rest
     pick true = refl
@@ -72,7 +58,7 @@ one_more id left p rest = by (lookup (id_eq p.item.id) left) refl
         ∙ ap (λ (o : Option Placed). or_else o rest) (lookup_last (id_eq id) left p.item.id p)
         ∙ or_else-assoc (lookup (id_eq id) left) (cond (id_eq id p.item.id) (Some p) None) rest
         ∙ ap (λ (o : Option Placed). or_else (lookup (id_eq id) left) o)
-        (ap (λ (b : Bool). or_else (cond b (Some p) None) rest) (bytes_back id.0.0 p.item.id.0.0) ∙ pick (id_eq p.item.id id))
+        (ap (λ (b : Bool). or_else (cond b (Some p) None) rest) (bytes_turned id.0.0 p.item.id.0.0) ∙ pick (id_eq p.item.id id))
 
 found_after : (id : ObjectId) (left : Left) (ps : List Placed) → lookup (id_eq id) (firsts_after left ps) ≡ or_else (lookup (id_eq id) left) (find (λ (p : Placed). id_eq p.item.id id) ps)
 found_after id left [] = or_none (lookup (id_eq id) left)

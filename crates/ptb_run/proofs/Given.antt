@@ -1,8 +1,7 @@
 -- What natives are given, and that it has the forms of their modes.
-use Rattle.std.proofs.Common.{◌≡◌, ℕ, Bool, true, false, not, List, [], ◌∷◌, ◌++◌, length, map, Option, Some, None, refl, ap, sym, ◌∙◌, append-nil, append_assoc, arith}
+use Rattle.std.proofs.Common.{◌≡◌, ℕ, true, false, List, [], ◌∷◌, ◌++◌, length, map, Option, Some, None, refl, ap, sym, ◌∙◌, append-nil, append_assoc, arith}
 use Rattle.std.specs.List.{list_all}
-use Rattle.std.specs.Prelude.{◌==◌}
-use Rattle.std.proofs.lemmas.Bool.{and_parts, and_from, eqb-true}
+use Rattle.std.proofs.lemmas.Bool.{and_parts, and_from}
 use Rattle.chain_types.specs.declared.transactions.Command.{Command}
 use Rattle.chain_types.specs.declared.transactions.Command.TheVariants as command
 use Rattle.chain_types.specs.declared.objects.Kind.{Kind}
@@ -10,6 +9,7 @@ use Rattle.chain_types.specs.declared.transactions.Argument.{Argument}
 use Rattle.answer_types.specs.declared.pieces.Given.{Given}
 use Rattle.answer_types.specs.declared.pieces.Mode.{Mode}
 use Rattle.answer_types.specs.declared.pieces.Mode.TheVariants as modes
+use Rattle.protocol_spec.proofs.Truth.{equal_numbers}
 use Rattle.protocol_spec.specs.Block.Natives.{parameters_of}
 use Rattle.protocol_spec.specs.Block.Block as block
 use Rattle.protocol_spec.specs.Block.Commands as commands
@@ -89,18 +89,11 @@ forms_are b native args needs is same taken =
     ap (λ (l : List (Argument × commands.Need)). have_forms (parameters_of native) (commands.given_all b l)) is
     ∙ all_formed b args (parameters_of native) same (sym (ap (λ (l : List (Argument × commands.Need)). list_all (is_taken b) l) is) ∙ taken)
 
-counted : (a b : ℕ) → not (a == b) ≡ false → a ≡ b
-counted a b e = go (a == b) refl e
-  where
-    go : (t : Bool) → (a == b) ≡ t → not t ≡ false → a ≡ b
-    go true is n = eqb-true a b is
-    go false is n = absurd (cc)
-
 -- a call of which no cause speaks has arguments of the forms of its native
 pub forms_of : (b : block.Block) (x : Command) (native : ℕ) (args : List Argument) (needs : List (Argument × commands.Need))
     → x ≡ command.Call native args → commands.wrong_count x ≡ false → needs ≡ commands.needs_of x → list_all (is_taken b) (commands.needs_of x) ≡ true
     → have_forms (parameters_of native) (commands.given_all b needs) ≡ true
 forms_of b x native args needs at same is taken =
     forms_are b native args needs (is ∙ ap commands.needs_of at)
-    (counted (length args) (length (parameters_of native)) (sym (ap commands.wrong_count at) ∙ same))
+    (equal_numbers (length args) (length (parameters_of native)) (sym (ap commands.wrong_count at) ∙ same))
     (ap (λ (l : List (Argument × commands.Need)). list_all (is_taken b) l) is ∙ taken)

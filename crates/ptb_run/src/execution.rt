@@ -171,7 +171,7 @@ fn site_of(digest: &Digest, objects: &[Object]) -> Site
 }
 
 /// What is executed on the objects that fit.
-#[tactic(auto, unfolding(protocol_spec::specs::Block::Execution::execution), using(crate::proofs::Executing::few_commands, crate::proofs::Executing::few_inputs, crate::proofs::Executing::known_natives, crate::proofs::Executing::none_wide, crate::proofs::Executing::fits_low, crate::proofs::Executing::fits_some))]
+#[tactic(auto, unfolding(protocol_spec::specs::Block::Execution::execution), using(crate::proofs::Executing::few_commands, protocol_spec::proofs::Checked::few_inputs, crate::proofs::Executing::known_natives, crate::proofs::Executing::none_wide, crate::proofs::Executing::fits_low, crate::proofs::Executing::fits_some))]
 fn execute_fitting(
     alloc: Global,
     tx: &Transaction,

@@ -10,6 +10,7 @@ use Rattle.journal_core.specs.declared.records.Record.TheVariants as record_as
 use Rattle.protocol_spec.specs.Chain.Tests.{list_eq}
 use Rattle.protocol_spec.specs.Chain.Certificates.{Rules}
 use Rattle.protocol_spec.proofs.ListLemmas.{and-first, and-second}
+use Rattle.protocol_spec.proofs.Truth.{both_true}
 use Rattle.protocol_spec.specs.Member.Member.{Member, fresh, after}
 use Rattle.protocol_spec.specs.Member.Calls.{ran_items, run_answer}
 use Rattle.protocol_spec.specs.Member.Replay.{ran_item_eq, is_some_list, is_allowed, replayed_from, replayed}
@@ -28,15 +29,11 @@ same-after r m (record_as.Ran2 items) = refl
 abbrev tx_of : RanItem → Digest
 tx_of i = i.tx
 
-both-true : (a b : Bool) → a ≡ true → b ≡ true → (a && b) ≡ true
-both-true true b e f = f
-both-true false b e f = absurd (cc)
-
 same-txs : (xs ys : List RanItem) → list_eq ran_item_eq xs ys ≡ true → list_eq digest_eq (map tx_of xs) (map tx_of ys) ≡ true
 same-txs [] [] e = refl
 same-txs [] (y ∷ ys) e = absurd (cc)
 same-txs (x ∷ xs) [] e = absurd (cc)
-same-txs (x ∷ xs) (y ∷ ys) e = both-true (digest_eq x.tx y.tx) (list_eq digest_eq (map tx_of xs) (map tx_of ys))
+same-txs (x ∷ xs) (y ∷ ys) e = both_true (digest_eq x.tx y.tx) (list_eq digest_eq (map tx_of xs) (map tx_of ys))
     (and-first (digest_eq x.tx y.tx) (digest_eq x.effects y.effects) (and-first (ran_item_eq x y) (list_eq ran_item_eq xs ys) e))
     (same-txs xs ys (and-second (ran_item_eq x y) (list_eq ran_item_eq xs ys) e))
 
@@ -54,8 +51,8 @@ still-allowed r m (record_as.Ran txs) e = e
 still-allowed r m record_as.Turn e = e
 still-allowed r m (record_as.Ran2 items) e =
     let front = and-first (is_ok (run_answer r m) && is_some_list items) (list_eq ran_item_eq items (ran_items m)) e in
-    both-true (is_ok (run_answer r m) && is_some_list (map tx_of items)) (list_eq digest_eq (map tx_of items) (map tx_of (ran_items m)))
-    (both-true (is_ok (run_answer r m)) (is_some_list (map tx_of items)) (and-first (is_ok (run_answer r m)) (is_some_list items) front) (some-map items (and-second (is_ok (run_answer r m)) (is_some_list items) front)))
+    both_true (is_ok (run_answer r m) && is_some_list (map tx_of items)) (list_eq digest_eq (map tx_of items) (map tx_of (ran_items m)))
+    (both_true (is_ok (run_answer r m)) (is_some_list (map tx_of items)) (and-first (is_ok (run_answer r m)) (is_some_list items) front) (some-map items (and-second (is_ok (run_answer r m)) (is_some_list items) front)))
     (same-txs items (ran_items m) (and-second (is_ok (run_answer r m) && is_some_list items) (list_eq ran_item_eq items (ran_items m)) e))
 
 older-from : (r : Rules) (records : List Record) (m last : Member) (place : ℕ) → replayed_from r m place records ≡ Ok last → replayed_from r m place (map as_older records) ≡ Ok last

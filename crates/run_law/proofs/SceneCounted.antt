@@ -9,6 +9,7 @@ use Rattle.answer_types.specs.declared.pieces.Executed.{Executed}
 use Rattle.journal_core.specs.declared.records.Record.{Record}
 use Rattle.journal_core.specs.declared.records.Record.TheVariants as record_as
 use Rattle.answer_types.specs.declared.answers.Held.{Held}
+use Rattle.protocol_spec.proofs.Executions.{ready_once, stays_executed}
 use Rattle.protocol_spec.specs.Chain.Words.{where_true}
 use Rattle.protocol_spec.specs.Chain.Certificates.{Rules}
 use Rattle.protocol_spec.specs.Chain.Keys.{fits}
@@ -21,14 +22,6 @@ use Rattle.protocol_spec.specs.Member.Member.{Member, after, fresh, held_with, s
 use Rattle.safety_law.proofs.Once.{digest-same}
 
 -- ---- what is executed stays so
-
-stays-executed : (xs ys : List Execution) (d : Digest) → is_executed xs d ≡ true → is_executed (xs ++ ys) d ≡ true
-stays-executed [] ys d is = absurd (cc)
-stays-executed (x ∷ xs) ys d is = go (digest_eq x.digest d) is (stays-executed xs ys d)
-  where
-    go : (b : Bool) → is_some (cond b (Some x) (execution_of xs d)) ≡ true → (is_executed xs d ≡ true → is_executed (xs ++ ys) d ≡ true) → is_some (cond b (Some x) (execution_of (xs ++ ys) d)) ≡ true
-    go true is more = refl
-    go false is more = more is
 
 last-executed : (xs : List Execution) (x : Execution) → is_executed (xs ++ x ∷ []) x.digest ≡ true
 last-executed [] x = rw (digest-same x.digest) refl
@@ -89,10 +82,6 @@ ready-of b executed h = where-on (not (is_executed executed h.digest) && may_run
     where-on true there = where-there there
     where-on false there = tt
 
-ready-once : (b : Books) (executed : List Execution) (h : Held) → is_executed executed h.digest ≡ true → ready b executed h ≡ None
-unfolding ready
-ready-once b executed h is = rw is refl
-
 -- the round is a front of what becomes of it
 round-front : (b : Books) (executed round : List Execution) (hs : List Held) → (rest : List Execution) × (round_among b executed round hs ≡ round ++ rest)
 round-front b executed round [] = ([], sym (append-nil round))
@@ -120,7 +109,7 @@ module _ (b : Books) (executed : List Execution) where
 
   was-waiting : (h : Held) (x : Execution) (is : Bool) → ready b executed h ≡ Some x → is_executed executed h.digest ≡ is → is_executed executed h.digest ≡ false
   was-waiting h x false ready_ at = at
-  was-waiting h x true ready_ at = absurd (let none = ready-once b executed h at in cc)
+  was-waiting h x true ready_ at = absurd (let none = ready_once b executed h at in cc)
 
   module _ (h : Held) (hs : List Held) (more : (round : List Execution) → Counts round (round_among b executed round hs) hs) where
     abbrev with_round : List Execution → List Execution
@@ -130,7 +119,7 @@ module _ (b : Books) (executed : List Execution) where
     none-added : (round : List Execution) → Counts round (with_round round) (h ∷ hs)
     none-added round =
         one-more h hs (waiting (executed ++ with_round round) hs) (length round) (length (with_round round)) (is_executed executed h.digest) (is_executed (executed ++ with_round round) h.digest)
-        (stays-executed executed (with_round round) h.digest) (more round)
+        (stays_executed executed (with_round round) h.digest) (more round)
 
     -- its execution is added, so it waits no more
     one-added : (round : List Execution) (x : Execution) → x.digest ≡ h.digest → is_executed executed h.digest ≡ false → Counts round (with_round (round ++ x ∷ [])) (h ∷ hs)
@@ -140,7 +129,7 @@ module _ (b : Books) (executed : List Execution) where
         let there : is_executed (executed ++ done) h.digest ≡ true =
         behind-executed executed done h.digest
         (subst (λ (l : List Execution). is_executed l h.digest ≡ true) (sym front.1)
-        (stays-executed (round ++ x ∷ []) front.0 h.digest (subst (λ (d : Digest). is_executed (round ++ x ∷ []) d ≡ true) same (last-executed round x)))) in
+        (stays_executed (round ++ x ∷ []) front.0 h.digest (subst (λ (d : Digest). is_executed (round ++ x ∷ []) d ≡ true) same (last-executed round x)))) in
         let long = length-append round (x ∷ []) in
         let counts = more (round ++ x ∷ []) in
         let le : length done + waiting (executed ++ done) hs ≤ length round + suc (waiting executed hs) = omega (arith, counts, long) in

@@ -7,6 +7,7 @@ use Rattle.chain_messages.specs.declared.messages.Entry.TheVariants as entry
 use Rattle.chain_messages.specs.declared.messages.Statement.TheVariants as statement
 use Rattle.schedule_text.specs.declared.words.Event.{Event}
 use Rattle.schedule_text.specs.declared.words.Event.TheVariants as event
+use Rattle.protocol_spec.proofs.ListLemmas.{each_front}
 use Rattle.protocol_spec.specs.Chain.Words.{Each}
 use Rattle.protocol_spec.specs.Member.Calls.{runs, votes, holds, closes, ends, turns, acks}
 use Rattle.world_spec.specs.Setting.{Setting}
@@ -15,7 +16,6 @@ use Rattle.world_spec.specs.Names.{cert_named, made_named}
 use Rattle.world_spec.specs.Making.{made_by_line}
 use Rattle.world_spec.specs.Step.{acked, appended_entry, armed_seat, end_in, end_ordered, entries_left, false_ack, formed, fvoted, happens, has_ended, honest_end, last_said, on_seat, ordered, ordered_end, risen_if, says, sealed_end, sent, started_seat, voted_on}
 use Rattle.world_spec.specs.Run.{run}
-use Rattle.safety_law.proofs.InWorld.{each-front}
 use Rattle.scene_spec.specs.Posts.{Post, arming}
 use Rattle.scene_spec.specs.Worlds.{AreKeepable, IsKeepable}
 use Rattle.run_law.proofs.ScenePosts.{called-open, changed-open}
@@ -31,7 +31,7 @@ same-keeps w v same keepable = subst AreKeepable same keepable
 
 front-of : (qs : List (List Entry)) (n : ℕ) (e : Entry) → AreKeepable (slice_set qs n (entries_at qs n ++ e ∷ [])) → AreKeepable qs
 front-of [] n e keepable = tt
-front-of (es ∷ qs) zero e keepable = (each-front IsKeepable es (e ∷ []) keepable.0, keepable.1)
+front-of (es ∷ qs) zero e keepable = (each_front IsKeepable es (e ∷ []) keepable.0, keepable.1)
 front-of (es ∷ qs) (suc n) e keepable = (keepable.0, front-of qs n e keepable.1)
 
 entry-keeps : (w : World) (e : Entry) → Keeps w (appended_entry w e)
@@ -47,7 +47,7 @@ module _ (s : Setting) where
   order-keeps w (Some c) keepable = if-keeps w (appended_entry w (entry.Cert c)) w (c.tx.epoch == w.epoch) (entry-keeps w (entry.Cert c)) (λ same. same) keepable
 
   risen-keeps : (w v : World) (b : Bool) → Keeps w v → Keeps w (risen_if b v)
-  risen-keeps w v true keeps keepable = keeps (each-front (Each IsKeepable) v.sequences ([] ∷ []) keepable)
+  risen-keeps w v true keeps keepable = keeps (each_front (Each IsKeepable) v.sequences ([] ∷ []) keepable)
   risen-keeps w v false keeps keepable = keeps keepable
 
   end-keeps : (w v : World) (m epoch : ℕ) → v.sequences ≡ w.sequences → Keeps w (ordered_end s v m epoch)

@@ -2,6 +2,7 @@
 use Rattle.std.proofs.Common.{refl, sym, ap, ◌∙◌, append-nil, arith}
 use Rattle.std.specs.Prelude.{◌≡◌, ℕ, ◌+◌, zero, suc, Bool, true, false, cond, List, [], ◌∷◌, ◌++◌, map, slice_get, slice_set, Option, Some, None, option_map}
 use Rattle.journal_core.specs.declared.records.Record.{Record}
+use Rattle.protocol_spec.proofs.ListLemmas.{set_same}
 use Rattle.protocol_spec.specs.Member.Member.{Member, state}
 use Rattle.protocol_spec.specs.Member.Calls.{Call, after_due, due}
 use Rattle.world_spec.specs.Setting.{Setting}
@@ -30,14 +31,6 @@ place-is k (suc m) = let same = place-is (suc k) m in omega (arith, same)
 
 pub place-first : (m : ℕ) → place 0 m ≡ m
 place-first m = let same = place-is 0 m in omega (arith, same)
-
-pub same-some : {A : Type 0} (x y : A) → Some x ≡ Some y → x ≡ y
-same-some x y e = cc
-
-pub set-same : {A : Type 0} (xs : List A) (m : ℕ) (x : A) → slice_get xs m ≡ Some x → slice_set xs m x ≡ xs
-set-same [] m x e = refl
-set-same {A} (y ∷ ys) zero x e = ap (λ (z : A). z ∷ ys) (sym (same-some y x e))
-set-same {A} (y ∷ ys) (suc m) x e = ap (λ (zs : List A). y ∷ zs) (set-same ys m x e)
 
 pub posts-get : (s : Setting) (k : ℕ) (seats : List worlds.Seat) (m : ℕ) → slice_get (posts_from s k seats) m ≡ option_map (post_of s (place k m)) (slice_get seats m)
 posts-get s k [] m = refl
@@ -97,7 +90,7 @@ module _ (s : Setting) where
       (standing-behind call k seat x seat.up (answered-due s (λ _. Unit {0}) (λ _. Unit {0}) (λ _ _ _ _ _ _. tt) seat call before x e))
 
   seats-left : (w : World) (m : ℕ) (call : Call) (seat : worlds.Seat) (r : Reached) → slice_get w.seats m ≡ Some seat → slice_set w.seats m (left_by seat r) ≡ (behind s w m call seat r).seats
-  seats-left w m call seat finds_down e = set-same w.seats m seat e
+  seats-left w m call seat finds_down e = set_same w.seats m seat e
   seats-left w m call seat (stops kept x) e = refl
   seats-left w m call seat (answers before x) e = refl
 

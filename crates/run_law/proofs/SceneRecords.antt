@@ -1,5 +1,5 @@
 -- Told records follow the world.
-use Rattle.std.proofs.Common.{refl, sym, subst, ap, ◌∙◌, append-nil, append_assoc, arith, inl, inr}
+use Rattle.std.proofs.Common.{refl, sym, subst, ap, ◌∙◌, arith, inl, inr}
 use Rattle.std.specs.Prelude.{◌≡◌, ◌⊎◌, ◌≤◌, ◌==◌, ℕ, zero, suc, Bool, true, false, cond, length, List, [], ◌∷◌, ◌++◌, map, slice_get, slice_set, Option, Some, None, option_map}
 use Rattle.chain_messages.specs.declared.messages.Certificate.{Certificate}
 use Rattle.chain_messages.specs.declared.messages.Statement.{Statement}
@@ -9,6 +9,7 @@ use Rattle.journal_core.specs.Records as journals
 use Rattle.outside.specs.Lists.{Journals, journal_of, with_record}
 use Rattle.schedule_text.specs.declared.words.Event.{Event}
 use Rattle.schedule_text.specs.declared.words.Event.TheVariants as event
+use Rattle.protocol_spec.proofs.ListLemmas.{front_then, front_whole, set_length}
 use Rattle.protocol_spec.specs.Chain.Certificates.{Rules}
 use Rattle.protocol_spec.specs.Member.Calls.{Call, acks}
 use Rattle.world_spec.specs.Setting.{Name, Trust, Setting}
@@ -57,15 +58,10 @@ tells-set (x ∷ xs) (l ∷ ls) zero seat other kept room at tells is (suc k) = 
 tells-set (x ∷ xs) (l ∷ ls) (suc m) seat other kept room at tells is zero = tells zero
 tells-set (x ∷ xs) (l ∷ ls) (suc m) seat other kept room at tells is (suc k) = tells-set xs ls m seat other kept (omega (arith, room)) at (λ j. tells (suc j)) is k
 
-length-set : {A : Type 0} (xs : List A) (m : ℕ) (x : A) → length (slice_set xs m x) ≡ length xs
-length-set [] m x = refl
-length-set (y ∷ ys) zero x = refl
-length-set (y ∷ ys) (suc m) x = ap (λ (n : ℕ). suc n) (length-set ys m x)
-
 -- told lists with more records stay as many
 all-many : (lists : Journals) (m : ℕ) (records : List Record) → length (with_all lists m records) ≡ length lists
 all-many lists m [] = refl
-all-many lists m (x ∷ records) = all-many (with_record lists m (journals.journal_record.spell x)) m records ∙ length-set lists m (journal_of lists m ++ journals.journal_record.spell x ∷ [])
+all-many lists m (x ∷ records) = all-many (with_record lists m (journals.journal_record.spell x)) m records ∙ set_length lists m (journal_of lists m ++ journals.journal_record.spell x ∷ [])
 
 all-then : (lists : Journals) (m : ℕ) (xs ys : List Record) → with_all lists m (xs ++ ys) ≡ with_all (with_all lists m xs) m ys
 all-then lists m [] ys = refl
@@ -115,8 +111,8 @@ module _ (s : Setting) (w : World) (m : ℕ) (call : Call) (lists : Journals) (r
 module _ (s : Setting) where
   left-many : (w : World) (m : ℕ) (call : Call) (seat : worlds.Seat) (r : Reached) → length (behind s w m call seat r).seats ≡ length w.seats
   left-many w m call seat finds_down = refl
-  left-many w m call seat (stops kept x) = length-set w.seats m (stopped_seat seat kept x)
-  left-many w m call seat (answers before x) = length-set w.seats m (record seat { records = appended seat.records x })
+  left-many w m call seat (stops kept x) = set_length w.seats m (stopped_seat seat kept x)
+  left-many w m call seat (answers before x) = set_length w.seats m (record seat { records = appended seat.records x })
 
   seat-many : (w : World) (m : ℕ) (call : Call) (seat : Option worlds.Seat) → length (called_seat s w m call seat).seats ≡ length w.seats
   seat-many w m call None = refl
@@ -285,14 +281,8 @@ line-told trust s w sc e before now shows room tells adds = told-behind trust s 
 
 -- ---- fronts
 
-front-refl : {A : Type 0} (xs : List A) → IsFront xs xs
-front-refl xs = ([], sym (append-nil xs))
-
-front-then : {A : Type 0} (xs ys zs : List A) → IsFront xs ys → IsFront ys zs → IsFront xs zs
-front-then {A} xs ys zs a b = (a.0 ++ b.0, b.1 ∙ ap (λ (l : List A). l ++ b.0) a.1 ∙ append_assoc xs a.0 b.0)
-
 front-is : {A : Type 0} (xs ys : List A) → xs ≡ ys → IsFront xs ys
-front-is {A} xs ys e = subst (λ (l : List A). IsFront xs l) e (front-refl xs)
+front-is {A} xs ys e = subst (λ (l : List A). IsFront xs l) e (front_whole xs)
 
 front-spelled : (records : List Record) (x : Record) → IsFront (spelled records) (spelled (records ++ x ∷ []))
 front-spelled records x = (journals.journal_record.spell x ∷ [], spelled-push records x)
@@ -309,25 +299,25 @@ grows-same : (w next : World) → KeepsRecords w next → Grows w next
 grows-same w next same k = front-is (journal_in w k) (journal_in next k) (ap (λ (records : List Record). spelled records) (sym (same k)))
 
 grows-refl : (w : World) → Grows w w
-grows-refl w k = front-refl (journal_in w k)
+grows-refl w k = front_whole (journal_in w k)
 
 grows-then : (w v u : World) → Grows w v → Grows v u → Grows w u
-grows-then w v u a b k = front-then (journal_in w k) (journal_in v k) (journal_in u k) (a k) (b k)
+grows-then w v u a b k = front_then (journal_in w k) (journal_in v k) (journal_in u k) (a k) (b k)
 
 more-records : (seats : List worlds.Seat) (m : ℕ) (seat other : worlds.Seat) → slice_get seats m ≡ Some seat → IsFront (spelled seat.records) (spelled other.records)
     → (k : ℕ) → IsFront (spelled (records_of (slice_get seats k))) (spelled (records_of (slice_get (slice_set seats m other) k)))
-more-records [] m seat other at more k = front-refl []
+more-records [] m seat other at more k = front_whole []
 more-records (x ∷ xs) zero seat other at more zero = subst (λ (o : Option worlds.Seat). IsFront (spelled (records_of o)) (spelled other.records)) (sym at) more
-more-records (x ∷ xs) zero seat other at more (suc k) = front-refl (spelled (records_of (slice_get xs k)))
-more-records (x ∷ xs) (suc m) seat other at more zero = front-refl (spelled x.records)
+more-records (x ∷ xs) zero seat other at more (suc k) = front_whole (spelled (records_of (slice_get xs k)))
+more-records (x ∷ xs) (suc m) seat other at more zero = front_whole (spelled x.records)
 more-records (x ∷ xs) (suc m) seat other at more (suc k) = more-records xs m seat other at more k
 
 module _ (s : Setting) where
   behind-grows : (w : World) (m : ℕ) (call : Call) (seat : worlds.Seat) (r : Reached) → slice_get w.seats m ≡ Some seat → Grows w (behind s w m call seat r)
   behind-grows w m call seat finds_down at = grows-refl w
   behind-grows w m call seat (stops true x) at = more-records w.seats m seat (stopped_seat seat true x) at (front-spelled seat.records x)
-  behind-grows w m call seat (stops false x) at = more-records w.seats m seat (stopped_seat seat false x) at (front-refl (spelled seat.records))
-  behind-grows w m call seat (answers before None) at = more-records w.seats m seat (record seat { records = seat.records }) at (front-refl (spelled seat.records))
+  behind-grows w m call seat (stops false x) at = more-records w.seats m seat (stopped_seat seat false x) at (front_whole (spelled seat.records))
+  behind-grows w m call seat (answers before None) at = more-records w.seats m seat (record seat { records = seat.records }) at (front_whole (spelled seat.records))
   behind-grows w m call seat (answers before (Some x)) at = more-records w.seats m seat (record seat { records = seat.records ++ x ∷ [] }) at (front-spelled seat.records x)
 
   seat-grows : (w : World) (m : ℕ) (call : Call) (seat : Option worlds.Seat) → slice_get w.seats m ≡ seat → Grows w (called_seat s w m call seat)
@@ -356,23 +346,23 @@ module _ (s : Setting) where
 
 pub front-ahead : (s : Setting) (w : World) (e : Event) (told : Option Journals) → TellsFront told w → TellsFront told (happens s w e)
 front-ahead s w e None front = front
-front-ahead s w e (Some lists) front = λ m. front-then (journal_of lists m) (journal_in w m) (journal_in (happens s w e) m) (front m) (line-grows s w e m)
+front-ahead s w e (Some lists) front = λ m. front_then (journal_of lists m) (journal_in w m) (journal_in (happens s w e) m) (front m) (line-grows s w e m)
 
 -- ---- a line that was cut
 
 -- one list has grown
 front-set : (lists : Journals) (m : ℕ) (kept : List (List ℕ)) → IsFront (journal_of lists m) kept → (k : ℕ) → IsFront (journal_of lists k) (journal_of (slice_set lists m kept) k)
-front-set [] m kept front k = front-refl []
+front-set [] m kept front k = front_whole []
 front-set (l ∷ ls) zero kept front zero = front
-front-set (l ∷ ls) zero kept front (suc k) = front-refl (journal_of ls k)
-front-set (l ∷ ls) (suc m) kept front zero = front-refl l
+front-set (l ∷ ls) zero kept front (suc k) = front_whole (journal_of ls k)
+front-set (l ∷ ls) (suc m) kept front zero = front_whole l
 front-set (l ∷ ls) (suc m) kept front (suc k) = front-set ls m kept front k
 
 front-all : (lists : Journals) (m : ℕ) (records : List Record) (k : ℕ) → IsFront (journal_of lists k) (journal_of (with_all lists m records) k)
-front-all lists m [] k = front-refl (journal_of lists k)
+front-all lists m [] k = front_whole (journal_of lists k)
 front-all lists m (x ∷ records) k =
     let more = with_record lists m (journals.journal_record.spell x) in
-    front-then (journal_of lists k) (journal_of more k) (journal_of (with_all more m records) k)
+    front_then (journal_of lists k) (journal_of more k) (journal_of (with_all more m records) k)
     (front-set lists m (journal_of lists m ++ journals.journal_record.spell x ∷ []) (journals.journal_record.spell x ∷ [], refl) k)
     (front-all more m records k)
 
@@ -381,7 +371,7 @@ module _ (lists : Journals) (now : Option Journals) (w : World) where
   front-told : (m : ℕ) (front rest : List Record) → now ≡ Some (with_all lists m front) → Tells (Some (with_all lists m (front ++ rest))) w → TellsFront now w
   front-told m front rest is tells =
       subst (λ (told : Option Journals). TellsFront told w) (sym is) (λ k.
-      front-then (journal_of (with_all lists m front) k) (journal_of (with_all lists m (front ++ rest)) k) (journal_in w k)
+      front_then (journal_of (with_all lists m front) k) (journal_of (with_all lists m (front ++ rest)) k) (journal_in w k)
       (subst (λ (more : Journals). IsFront (journal_of (with_all lists m front) k) (journal_of more k)) (sym (all-then lists m front rest)) (front-all (with_all lists m front) m rest k))
       (front-is (journal_of (with_all lists m (front ++ rest)) k) (journal_in w k) (tells k)))
 
@@ -398,7 +388,7 @@ line-cut trust s w sc e (Some lists) now shows room tells adds =
 
 -- ---- the first world
 
-no-records : (honest : List Bool) (m : ℕ) → records_of (slice_get (map new_seat honest) m) ≡ []
+pub no-records : (honest : List Bool) (m : ℕ) → records_of (slice_get (map new_seat honest) m) ≡ []
 no-records [] m = refl
 no-records (h ∷ honest) zero = refl
 no-records (h ∷ honest) (suc m) = no-records honest m

@@ -1,57 +1,48 @@
 -- In the run of a schedule that a text says, all that is read from the bytes of calls fits.
 use Rattle.std.proofs.Common.{refl, subst, arith}
 use Rattle.std.proofs.lemmas.List.{length-append}
-use Rattle.std.specs.Prelude.{◌≡◌, ◌≤◌, ℕ, ◌+◌, zero, suc, min, List, [], ◌∷◌, ◌++◌, map, length, Option, Some, None, option_map, bytes_eq, Ok}
+use Rattle.std.specs.Prelude.{◌≡◌, ◌≤◌, ℕ, ◌+◌, min, List, [], ◌∷◌, ◌++◌, map, length, Option, Some, None, option_map, bytes_eq, Ok}
 use Rattle.std.specs.List.{AllByRecursion}
-use Rattle.wire_bcs.specs.Place.{IsBytes}
 use Rattle.chain_messages.specs.Messages as messages
 use Rattle.schedule_text.specs.declared.words.Event.{Event}
 use Rattle.schedule_text.specs.declared.words.Event.TheVariants as event
 use Rattle.schedule_text.specs.declared.words.Schedule.{Schedule}
 use Rattle.schedule_text.specs.declared.words.Setup.{Setup}
-use Rattle.schedule_text.specs.declared.words.Setup.TheVariants as line
 use Rattle.schedule_text.specs.declared.statement.Statement.TheVariants as statement
 use Rattle.schedule_text.specs.Schedule.{schedule_of}
+use Rattle.protocol_spec.proofs.ListLemmas.{find_has, each_has, each_join}
 use Rattle.protocol_spec.specs.Chain.Words.{Each, last_where}
-use Rattle.world_spec.specs.Setting.{Name, Setting, setting_of, things_from}
-use Rattle.world_spec.specs.Keyed.{keyed_seal}
+use Rattle.world_spec.specs.Setting.{Name, Setting}
 use Rattle.world_spec.specs.World.{Formed, Made, World, member_at, new_world}
 use Rattle.world_spec.specs.Names.{cert_in, made_named}
 use Rattle.world_spec.specs.Step.{entries_left, happens}
 use Rattle.world_spec.specs.Run.{run, world_after}
 use Rattle.world_spec.specs.Assumptions.{ack_call, all_of, calls_of, see_calls, send_call, vote_call}
-use Rattle.text_law.specs.Sayable.{IsByte, IsStatement}
+use Rattle.text_law.specs.Sayable.{IsStatement}
 use Rattle.text_law.proofs.SaidWhole.{text_said}
-use Rattle.safety_law.proofs.Kept.{find-has}
-use Rattle.safety_law.proofs.Once.{each-has}
 use Rattle.safety_law.proofs.Steps.{last-has}
-use Rattle.safety_law.proofs.Forks.{each-join}
 use Rattle.text_law.specs.HonestTexts.{keyed_setting}
-use Rattle.text_law.proofs.Members.{tagged-digest}
-use Rattle.text_law.proofs.Texts.{most_words, IsShortEvent}
+use Rattle.text_law.proofs.Texts.{most_words}
 use Rattle.text_law.proofs.TextLines.{text-short}
-use Rattle.text_law.proofs.Fits.{AreThings, IsFitMade, genesis-digest}
+use Rattle.text_law.proofs.Fits.{AreThings, IsFitMade}
+use Rattle.text_law.proofs.Honest.{all-back, setting-seals, setting-things, fit-events}
 use Rattle.text_law.proofs.Runs.{AreSeals, IsFit, IsFitEvent, world-fit}
+use Rattle.text_law.proofs.Words.{bytes_by_index}
 use Rattle.scene_spec.specs.Worlds.{AreKeepable, ReadsFit, Restarts}
 use Rattle.run_law.proofs.SceneSees.{see-each}
 use Rattle.run_law.proofs.SceneStarts.{entry-spelled, hold-bytes, hold-spelled, run-starts, vote-bytes, vote-spelled}
-
-by-index : (bytes : List ℕ) → AllByRecursion IsByte bytes → IsBytes bytes
-by-index [] each i = omega arith
-by-index (b ∷ bytes) each zero = each.0
-by-index (b ∷ bytes) each (suc i) = by-index bytes each.1 i
 
 -- ---- the calls of a line
 
 module _ (s : Setting) (n : ℕ) (w : World) (fit : IsFit s n w) where
   vote-read : (name : Name) (t : Option Made) → made_named w name ≡ t → Each ReadsFit (vote_call t)
   vote-read name None at = tt
-  vote-read name (Some t) at = (vote-spelled t.signed (each-has IsFitMade w.txs t fit.txs (find-has (λ (x : Made). bytes_eq x.name name) w.txs t at)).0, tt)
+  vote-read name (Some t) at = (vote-spelled t.signed (each_has IsFitMade w.txs t fit.txs (find_has (λ (x : Made). bytes_eq x.name name) w.txs t at)).0, tt)
 
   send-read : (name : Name) (f : Option Formed) → last_where (λ (x : Formed). bytes_eq x.name name) w.certs ≡ f → Each ReadsFit (send_call (option_map cert_in f))
   send-read name None at = tt
   send-read name (Some f) at =
-      (hold-spelled f.cert (each-has (λ (x : Formed). messages.certificate.fits x.cert) w.certs f fit.certs (last-has (λ (x : Formed). bytes_eq x.name name) w.certs f at)), tt)
+      (hold-spelled f.cert (each_has (λ (x : Formed). messages.certificate.fits x.cert) w.certs f fit.certs (last-has (λ (x : Formed). bytes_eq x.name name) w.certs f at)), tt)
 
   see-read : (m count : ℕ) → Each ReadsFit (see_calls s count w m)
   see-read m count = see-each s messages.entry.fits ReadsFit entry-spelled count w m fit.entries
@@ -77,8 +68,8 @@ module _ (s : Setting) (n : ℕ) (w : World) (fit : IsFit s n w) where
   line-read (event.Show m) is = tt
   line-read (event.Stop m kept) is = tt
   line-read (event.Restart m) is = tt
-  line-read (event.RawVote m bytes) is = (vote-bytes bytes (by-index bytes is.0.1.1), tt)
-  line-read (event.RawHold m bytes) is = (hold-bytes bytes (by-index bytes is.0.1.1), tt)
+  line-read (event.RawVote m bytes) is = (vote-bytes bytes (bytes_by_index bytes is.0.1.1), tt)
+  line-read (event.RawHold m bytes) is = (hold-bytes bytes (bytes_by_index bytes is.0.1.1), tt)
   line-read (event.Ack m tx spoiled) is = ack-read (made_named w tx)
   line-read (event.Final tx members) is = tt
 
@@ -96,10 +87,6 @@ all-front : {A : Type 0} (P : A → Type 0) (xs ys : List A) → AllByRecursion 
 all-front P [] ys each = tt
 all-front P (x ∷ xs) ys each = (each.0, all-front P xs ys each.1)
 
-all-back : {A : Type 0} (P : A → Type 0) (xs ys : List A) → AllByRecursion P (xs ++ ys) → AllByRecursion P ys
-all-back P [] ys each = each
-all-back P (x ∷ xs) ys each = all-back P xs ys each.1
-
 module _ (s : Setting) (seals : AreSeals s.seal) (things : AreThings s.things) where
   fit-behind : (before : List Event) → length before ≤ most_words → AllByRecursion IsFitEvent before → IsFit s (0 + length before) (run s before (new_world s))
   unfolding world_after
@@ -113,33 +100,13 @@ module _ (s : Setting) (seals : AreSeals s.seal) (things : AreThings s.things) w
       let fit = fit-behind before (omega (arith, few)) done in
       let long = length-append before (e ∷ []) in
       let rest = calls-read (before ++ e ∷ []) events (omega (arith, few, long)) (all-push IsFitEvent before e done each.0) each.1 in
-      each-join ReadsFit (calls_of s w e) (all_of calls_of s events (happens s w e)) (line-read s (0 + length before) w fit e each.0)
+      each_join ReadsFit (calls_of s w e) (all_of calls_of s events (happens s w e)) (line-read s (0 + length before) w fit e each.0)
       (subst (λ (v : World). Each ReadsFit (all_of calls_of s events v)) (run-push s before e (new_world s)) rest)
 
   read-starts : (events : List Event) → length events ≤ most_words → AllByRecursion IsFitEvent events → AreKeepable (world_after s events).sequences → Restarts s (world_after s events)
   read-starts events few each keepable = run-starts s events (calls-read [] events (omega (arith, few)) tt each) keepable
 
 -- ---- what a text says
-
-setting-seals : (secret : List ℕ) (t : Schedule) → AreSeals (keyed_setting secret t).seal
-unfolding setting_of keyed_seal
-setting-seals secret t signer bytes = tagged-digest _ _
-
-line-things : (n : ℕ) (lines : List Setup) → AreThings (things_from n lines)
-line-things n [] = tt
-line-things n (line.Member stake honest ∷ lines) = line-things n lines
-line-things n (line.Coin name who balance ∷ lines) = (genesis-digest n, line-things (n + 1) lines)
-line-things n (line.Counter name value ∷ lines) = (genesis-digest n, line-things (n + 1) lines)
-line-things n (line.Cap name who currency ∷ lines) = (genesis-digest n, line-things (n + 1) lines)
-line-things n (line.Writers w ∷ lines) = line-things n lines
-
-setting-things : (secret : List ℕ) (t : Schedule) → AreThings (keyed_setting secret t).things
-unfolding setting_of
-setting-things secret t = line-things 0 t.setup
-
-fit-events : (events : List Event) → AllByRecursion IsStatement (map (λ e. statement.Event e) events) → AllByRecursion (IsShortEvent most_words) events → AllByRecursion IsFitEvent events
-fit-events [] said short = tt
-fit-events (e ∷ events) said short = ((said.0, short.0), fit-events events said.1 short.1)
 
 pub text-starts : (text : List ℕ) (t : Schedule) → schedule_of text ≡ Ok t → (secret : List ℕ) → (front rest : List Event) → t.events ≡ front ++ rest
     → AreKeepable (world_after (keyed_setting secret t) front).sequences → Restarts (keyed_setting secret t) (world_after (keyed_setting secret t) front)

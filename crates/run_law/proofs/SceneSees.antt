@@ -1,25 +1,24 @@
 -- Entries that a member takes: the calls that hand them in are the same in a world and in its scene.
 use Rattle.std.proofs.Common.{refl, sym, subst, ap, ◌∙◌, inl, inr}
-use Rattle.std.specs.Prelude.{◌≡◌, ◌⊎◌, ℕ, zero, suc, min, Bool, true, false, cond, List, [], ◌∷◌, slice_get, slice_set, Option, Some, None, option_map, option_and_then}
+use Rattle.std.specs.Prelude.{◌≡◌, ◌⊎◌, ℕ, zero, suc, min, Bool, true, false, cond, List, [], ◌∷◌, slice_get, Option, Some, None, option_map, option_and_then}
 use Rattle.chain_messages.specs.Messages as messages
 use Rattle.chain_messages.specs.declared.messages.Entry.{Entry}
 use Rattle.journal_core.specs.declared.records.Record.{Record}
+use Rattle.protocol_spec.proofs.ListLemmas.{set_get, each_at, each_join}
 use Rattle.protocol_spec.specs.Chain.Words.{Each}
 use Rattle.protocol_spec.specs.Member.Member.{Member}
 use Rattle.protocol_spec.specs.Member.Calls.{Call, sees, due}
 use Rattle.world_spec.specs.Setting.{Setting}
 use Rattle.world_spec.specs.World as worlds
-use Rattle.world_spec.specs.World.{World, Reached, finds_down, stops, answers, appended, behind, called_if, called_in, called_seat, entries_at, member_at, member_in, next_call, next_call_of, numbered_call, reached, reached_at, reached_seat, reached_up, sees_on, state_of}
+use Rattle.world_spec.specs.World.{World, Reached, finds_down, answers, appended, behind, called_if, called_in, called_seat, entries_at, member_at, member_in, next_call, next_call_of, numbered_call, reached, reached_at, reached_seat, reached_up, sees_on, state_of}
 use Rattle.world_spec.specs.Step.{entries_left}
 use Rattle.world_spec.specs.Report.{is_seat_up}
 use Rattle.world_spec.specs.Assumptions.{call_list, see_calls}
-use Rattle.safety_law.proofs.InWorld.{each-get}
-use Rattle.safety_law.proofs.Forks.{each-join}
 use Rattle.scene_spec.specs.Terms.{terms_of}
 use Rattle.scene_spec.specs.Posts.{Post, seat_at}
 use Rattle.scene_spec.specs.Scene.{Scene, bare_world}
 use Rattle.scene_spec.specs.Steps as scenes
-use Rattle.scene_spec.specs.Steps.{called_scene, next_on, seat_state, sees_to, standing_at, state_at}
+use Rattle.scene_spec.specs.Steps.{next_on, seat_state, sees_to, standing_at, state_at}
 use Rattle.scene_spec.specs.Worlds.{post_of, scene_of}
 use Rattle.run_law.proofs.ScenePosts.{called-open, called-same, place, posts-get}
 
@@ -34,11 +33,6 @@ pub record IsDown (s : Setting) (w : World) (m : ℕ) : Type 0 where
   pub down : is_seat_up (slice_get w.seats m) ≡ false
   pub state : state_at (scene_of s w) m ≡ None
   pub same : (call : Call) → called_in s w m call ≡ w
-
-get-set : {A : Type 0} (xs : List A) (m : ℕ) (x y : A) → slice_get xs m ≡ Some x → slice_get (slice_set xs m y) m ≡ Some y
-get-set [] m x y at = absurd (cc)
-get-set (z ∷ zs) zero x y at = refl
-get-set (z ∷ zs) (suc m) x y at = get-set zs m x y at
 
 module _ (s : Setting) where
   -- ---- the state of a member that is up
@@ -163,7 +157,7 @@ module _ (s : Setting) where
       let seat : worlds.Seat = record is.seat { records = appended is.seat.records x } in
       let same : called_in s w m call ≡ behind s w m call is.seat (answers before x) =
       up-called w m call is ∙ ap (λ (r : Reached). behind s w m call is.seat r) (sym (up-reached w m call is) ∙ e) in
-      record { seat = seat; at = ap (λ (v : World). slice_get v.seats m) same ∙ get-set w.seats m is.seat seat is.at; up = is.up }
+      record { seat = seat; at = ap (λ (v : World). slice_get v.seats m) same ∙ set_get w.seats m is.seat seat is.at; up = is.up }
 
   -- ---- nothing is ordered
 
@@ -184,7 +178,7 @@ module _ (s : Setting) where
       where
         go : (o : Option Entry) → slice_get es m.sequence.number ≡ o → Each P (call_list (option_map (numbered_call m.sequence.number) o))
         go None at = tt
-        go (Some e) at = (tells m.sequence.number e (each-get Q es m.sequence.number e each at), tt)
+        go (Some e) at = (tells m.sequence.number e (each_at Q es m.sequence.number e each at), tt)
 
     entries-of : (qs : List (List Entry)) (n : ℕ) → Each (Each Q) qs → Each Q (entries_at qs n)
     entries-of [] n each = tt
@@ -199,6 +193,6 @@ module _ (s : Setting) where
     see-each zero w m each = tt
     see-each (suc n) w m each =
         let v = called_if s w m (next_call s w m) in
-        each-join P (call_list (next_call s w m)) (see_calls s n v m)
+        each_join P (call_list (next_call s w m)) (see_calls s n v m)
         (next-of w (slice_get w.seats m) each)
         (see-each n v m (subst (λ (qs : List (List Entry)). Each (Each Q) qs) (sym (if-open w m (next_call s w m))) each))

@@ -39,7 +39,7 @@ use Rattle.answer_types.specs.declared.refusals.StartRefusal.{StartRefusal}
 use Rattle.answer_types.specs.declared.refusals.StartRefusal.TheVariants as no_start
 use Rattle.protocol_spec.specs.Chain.Words.{Along, Each, and_then, first_some, unless_refused, where_true}
 use Rattle.protocol_spec.specs.Chain.Certificates.{Rules, read_as, read_certificate, read_entry, read_signed}
-use Rattle.protocol_spec.proofs.ListLemmas.{along-push}
+use Rattle.protocol_spec.proofs.ListLemmas.{along-push, each_back, each_front, each_at, each_join}
 use Rattle.protocol_spec.specs.Member.Versions.{Execution}
 use Rattle.protocol_spec.specs.Member.Rounds.{rounds}
 use Rattle.protocol_spec.specs.Member.Member.{Member, after, books, fresh, state, with_rounds}
@@ -57,9 +57,8 @@ use Rattle.world_spec.specs.Assumptions.{ack_call, all_of, calls_of, see_calls, 
 use Rattle.scene_spec.specs.Starts.{read_record, started, started_from, taken_at}
 use Rattle.protocol_spec.specs.Member.Due.{IsDueBehind}
 use Rattle.safety_law.proofs.Apart.{state-push}
-use Rattle.safety_law.proofs.InWorld.{each-back, each-front, each-get, in_world_given, kept-line, new-seats}
+use Rattle.safety_law.proofs.InWorld.{in_world_given, kept-line, new-seats}
 use Rattle.safety_law.proofs.Allowed.{due-allowed}
-use Rattle.safety_law.proofs.Forks.{each-join}
 use Rattle.text_law.proofs.Members.{AreOrigins, IsDigest, IsFitMember, IsFitStatement, fit-none, fit-step, stated-fit, tagged-digest}
 use Rattle.text_law.proofs.Fits.{origins-fit}
 use Rattle.scene_spec.specs.Scene.{Scene, bare_world}
@@ -247,7 +246,7 @@ module _ (r : Rules) (opening : List Object) (records : List Record) (fit : IsFi
   unfolding after
   ran-digests items d =
       let next : IsFitMember (after r m (record_as.Ran2 items)) = subst IsFitMember (state-push r opening records (record_as.Ran2 items)) (fit-step r opening records runs (record_as.Ran2 items) tt d fit) in
-      each-back (λ (y : Execution). IsDigest y.digest) m.executed (rounds (books m) m.executed) next.executed
+      each_back (λ (y : Execution). IsDigest y.digest) m.executed (rounds (books m) m.executed) next.executed
 
   run-good : (answer : Result Ran RunRefusal) → run_answer r m ≡ answer → due r m runs ≡ Some x → run_record m answer ≡ Some x → IsGood x
   run-good (Err refusal) answers d e = absurd (cc)
@@ -332,8 +331,8 @@ module _ (s : Setting) where
 
   all-start : (w : World) → Each SeatStarts w.seats → Restarts s w
   all-start w each = record {
-    starts = λ m seat at. (each-get SeatStarts w.seats m seat each at).0;
-    due = λ m seat at. (each-get SeatStarts w.seats m seat each at).1;
+    starts = λ m seat at. (each_at SeatStarts w.seats m seat each at).0;
+    due = λ m seat at. (each_at SeatStarts w.seats m seat each at).1;
   }
 
   -- ---- the calls of a line
@@ -431,9 +430,9 @@ module _ (s : Setting) where
   run-given : (events : List Event) (w : World) → Each ReadsFit (all_of calls_of s events w) → AreKeepable (run s events w).sequences → Each Given (all_of calls_of s events w)
   run-given [] w fits keepable = tt
   run-given (e ∷ events) w fits keepable =
-      each-join Given (calls_of s w e) (all_of calls_of s events (happens s w e))
-      (line-given s w e (work-reads w e (each-front ReadsFit (calls_of s w e) _ fits)) (run-keepable s (e ∷ events) w keepable))
-      (run-given events (happens s w e) (each-back ReadsFit (calls_of s w e) _ fits) keepable)
+      each_join Given (calls_of s w e) (all_of calls_of s events (happens s w e))
+      (line-given s w e (work-reads w e (each_front ReadsFit (calls_of s w e) _ fits)) (run-keepable s (e ∷ events) w keepable))
+      (run-given events (happens s w e) (each_back ReadsFit (calls_of s w e) _ fits) keepable)
 
   all-given : (events : List Event) → Each ReadsFit (all_of calls_of s events (new_world s)) → AreKeepable (world_after s events).sequences → Each Given (all_of calls_of s events (new_world s))
   unfolding world_after

@@ -59,7 +59,7 @@ first-shown trust lines =
     }
 
 -- a post for each seat
-posts-many : (s : Setting) (k : ℕ) (seats : List worlds.Seat) → length (posts_from s k seats) ≡ length seats
+pub posts-many : (s : Setting) (k : ℕ) (seats : List worlds.Seat) → length (posts_from s k seats) ≡ length seats
 posts-many s k [] = refl
 posts-many s k (seat ∷ seats) = ap (λ (n : ℕ). suc n) (posts-many s (suc k) seats)
 

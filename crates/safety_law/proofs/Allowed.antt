@@ -23,6 +23,7 @@ use Rattle.answer_types.specs.declared.refusals.RunRefusal.{RunRefusal}
 use Rattle.answer_types.specs.declared.refusals.CloseRefusal.{CloseRefusal}
 use Rattle.answer_types.specs.declared.refusals.TurnRefusal.{TurnRefusal}
 use Rattle.schedule_text.specs.declared.words.Event.{Event}
+use Rattle.protocol_spec.proofs.Truth.{some_same}
 use Rattle.protocol_spec.specs.Chain.Words.{Along, first_some, where_true, unless_refused, refused_or}
 use Rattle.protocol_spec.specs.Chain.Tests.{list_eq, origin_eq}
 use Rattle.protocol_spec.specs.Chain.Certificates.{Rules, read_signed, read_certificate}
@@ -51,15 +52,12 @@ same-origin (Some d) = digest-same d
 same-item : (i : RanItem) → ran_item_eq i i ≡ true
 same-item i = rw (digest-same i.tx) (digest-same i.effects)
 
-some-of : {A : Type 0} (x y : A) → Some x ≡ Some y → x ≡ y
-some-of x y e = cc
-
 module _ (r : Rules) (m : Member) (x : Record) where
   abbrev Allows : Record → Type 0
   Allows y = is_allowed r m y ≡ true
 
   named : (y : Record) → Some y ≡ Some x → Allows y → Allows x
-  named y e a = subst Allows (some-of y x e) a
+  named y e a = subst Allows (some_same y x e) a
 
   -- ---- votes: the seal does not matter to a vote that was cast
 

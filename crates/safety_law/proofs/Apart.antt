@@ -1,6 +1,6 @@
 -- The votes of a member's epoch are apart: a new one was not locked by an earlier one.
 use Rattle.std.proofs.Common.{inl, inr, refl, sym, subst}
-use Rattle.std.specs.Prelude.{◌≡◌, ℕ, Bool, true, false, cond, not, ◌&&◌, ◌==◌, List, [], ◌∷◌, ◌++◌, find, fold, slice_get, Option, Some, None, option_map, Result, Ok, Err}
+use Rattle.std.specs.Prelude.{◌≡◌, ℕ, Bool, true, false, cond, not, ◌&&◌, ◌==◌, List, [], ◌∷◌, ◌++◌, find, fold, slice_get, Option, Some, None, Result, Ok, Err}
 use Rattle.wire_bcs.specs.declared.fault.WireFault.{WireFault}
 use Rattle.digest_core.specs.declared.Digest.{Digest}
 use Rattle.chain_types.specs.Equal.{digest_eq}
@@ -26,6 +26,7 @@ use Rattle.protocol_spec.specs.Chain.Words.{Has, Each, first_some, first_of, whe
 use Rattle.protocol_spec.specs.Chain.Tests.{has_key}
 use Rattle.protocol_spec.specs.Chain.Certificates.{Rules, accepts_sender, read_signed, read_certificate}
 use Rattle.protocol_spec.proofs.ListLemmas.{along-push}
+use Rattle.protocol_spec.proofs.Truth.{where_not_true, map_none}
 use Rattle.protocol_spec.specs.Member.Votes.{Cast, Ballot, vote_refusal, vote_cases, vote_origins, locked, is_lock}
 use Rattle.protocol_spec.specs.Member.Member.{Member, ballot, vote_for, cast_of, fresh, after, state}
 use Rattle.protocol_spec.specs.Member.Calls.{Call, votes, holds, sees, runs, closes, ends, turns, acks, decided_as, new_vote_cases, voted_as, new_vote, vote_again, unsealed_of, vote_read, vote_stopped, vote_answer, hold_answer, is_hold_kept, see_cases, run_answer, close_answer, turn_answer, vote_record, hold_record, see_record, ran_items, ran_record, run_record, close_record, turn_record, due}
@@ -42,10 +43,6 @@ pub none-each : {A : Type 0} (cases : List (Option A)) → first_some cases ≡ 
 none-each [] e = tt
 none-each (Some x ∷ cases) e = absurd (cc)
 none-each (None ∷ cases) e = (refl, none-each cases e)
-
-pub none-map : {A B : Type 0} (f : A → B) (o : Option A) → option_map f o ≡ None → o ≡ None
-none-map f None e = refl
-none-map f (Some x) e = absurd (cc)
 
 pub none-of : {A B : Type 0} (says : A → Option B) (xs : List A) (x : A) → first_of says xs ≡ None → Has xs x → says x ≡ None
 none-of says [] x e h = absurd h
@@ -77,17 +74,13 @@ each-apart later (v ∷ vs) none = (
 pub not-locked : (b : Ballot) (t : Transaction) (origins : List (Option Digest)) → vote_refusal b t (transaction_digest t) ≡ None → Each (IsApartFrom (cast_of t origins)) b.votes
 unfolding vote_refusal
 not-locked b t origins e = each-apart (cast_of t origins) b.votes (λ key h.
-    none-map _ (find (is_lock (transaction_digest t) key) b.votes) (none-of (locked b.votes (transaction_digest t)) (consumed_keys t) key
+    map_none _ (find (is_lock (transaction_digest t) key) b.votes) (none-of (locked b.votes (transaction_digest t)) (consumed_keys t) key
     (none-each (vote_cases b t (transaction_digest t)) e).1.1.1.1.1.1.1.0 h))
 
 -- ---- only a vote appends a Vote, and then no case refuses it
 
 same-tx : (t u : Transaction) (o p : List (Option Digest)) → Some (record_as.Vote t o) ≡ Some (record_as.Vote u p) → t ≡ u
 same-tx t u o p e = cc
-
-pub accepted : {E : Type 0} (b : Bool) (refusal : E) → where_true (not b) refusal ≡ None → b ≡ true
-accepted true refusal e = refl
-accepted false refusal e = absurd (cc)
 
 -- no case refuses the transaction, it is of the member's epoch, which has no vote for it yet, and it was read
 -- with an accepted seal; P holds of what was read
@@ -107,10 +100,10 @@ module _ (P : SignedTx → Type 0) (r : Rules) (m : Member) (tx : Transaction) (
       go : (refusal : Option VoteRefusal) → first_some (new_vote_cases m x.tx (unsealed_of r x)) ≡ refusal → vote_record (Ok x) (unless_refused refusal (voted_as m x.tx (vote_origins (ballot m) x.tx) true)) ≡ Some (record_as.Vote tx origins) → Free tx
       go (Some refusal) none e = absurd (cc)
       go None none e = subst Free (same-tx x.tx tx (vote_origins (ballot m) x.tx) origins e) (record {
-        free = none-map decided_as (vote_refusal (ballot m) x.tx (transaction_digest x.tx)) (none-each (new_vote_cases m x.tx (unsealed_of r x)) none).1.1.1.0;
+        free = map_none decided_as (vote_refusal (ballot m) x.tx (transaction_digest x.tx)) (none-each (new_vote_cases m x.tx (unsealed_of r x)) none).1.1.1.0;
         epoch = same;
         new = new;
-        given = (x, refl, accepted (accepts_sender r x.tx x.seal) no_vote.Unsealed (none-each (new_vote_cases m x.tx (unsealed_of r x)) none).1.1.0, p);
+        given = (x, refl, where_not_true (accepts_sender r x.tx x.seal) no_vote.Unsealed (none-each (new_vote_cases m x.tx (unsealed_of r x)) none).1.1.0, p);
       })
 
   again-free : (x : SignedTx) (v : Option Cast) → vote_for m (transaction_digest x.tx) ≡ v → P x → (x.tx.epoch == m.epoch) ≡ true → vote_record (Ok x) (vote_again m x.tx (unsealed_of r x) v) ≡ Some (record_as.Vote tx origins) → Free tx

@@ -10,6 +10,7 @@ use Rattle.chain_messages.specs.declared.messages.Certificate.{Certificate}
 use Rattle.journal_core.specs.declared.records.Record.{Record}
 use Rattle.schedule_text.specs.declared.words.Event.{Event}
 use Rattle.schedule_text.specs.declared.words.Event.TheVariants as event
+use Rattle.protocol_spec.proofs.ListLemmas.{has_parts, each_at}
 use Rattle.protocol_spec.specs.Chain.Words.{Has, Each}
 use Rattle.protocol_spec.specs.Member.Member.{Member, state}
 use Rattle.protocol_spec.specs.Member.Calls.{Call, votes, holds, runs, closes, ends, turns, acks, due}
@@ -20,7 +21,7 @@ use Rattle.world_spec.specs.Making.{made_by_line}
 use Rattle.world_spec.specs.Step.{happens, says, voted_on, fvoted, fvote_origins, formed, formed_as, votes_collected, Collected, lacks, short, differ, whole, sent, ordered, honest_end, ordered_end, risen_if, has_ended, appended_entry, sealed_end, acked, false_ack, on_seat, armed_seat, started_seat, entries_left, end_in, last_said}
 use Rattle.world_spec.specs.Run.{run, world_after}
 use Rattle.world_spec.specs.Assumptions.{calls_of}
-use Rattle.safety_law.proofs.InWorld.{each-get, each-any, kept-called, kept-line, new-seats}
+use Rattle.safety_law.proofs.InWorld.{each-any, kept-called, kept-line, new-seats}
 
 -- the seat at a place, behind a change of one
 pub get-set : {A : Type 0} (xs : List A) (m n : ℕ) (y q : A) → slice_get (slice_set xs m y) n ≡ Some q → ((n ≡ m) × (y ≡ q)) ⊎ (slice_get xs n ≡ Some q)
@@ -35,16 +36,6 @@ get-set (x ∷ xs) (suc m) (suc n) y q e = go (get-set xs m n y q e)
   where
     go : ((n ≡ m) × (y ≡ q)) ⊎ (slice_get xs n ≡ Some q) → ((suc n ≡ suc m) × (y ≡ q)) ⊎ (slice_get xs n ≡ Some q)
     go (inl p) = inl (ap suc p.0, p.1)
-    go (inr h) = inr h
-
--- an element of two lists
-pub has-either : {A : Type 0} (xs ys : List A) (y : A) → Has (xs ++ ys) y → Has xs y ⊎ Has ys y
-has-either [] ys y h = inr h
-has-either (x ∷ xs) ys y (inl e) = inl (inl e)
-has-either (x ∷ xs) ys y (inr h) = go (has-either xs ys y h)
-  where
-    go : Has xs y ⊎ Has ys y → Has (x ∷ xs) y ⊎ Has ys y
-    go (inl h) = inl (inr h)
     go (inr h) = inr h
 
 -- what was said by one member
@@ -72,7 +63,7 @@ module _ (s : Setting) (P : List Record → Type 0) (B : List Record → Stateme
       go (inr a) = back x h q a honest
 
   back-add : (said : List Said) (seats : List Seat) (m : ℕ) (seat : Seat) (sts : List Statement) → slice_get seats m ≡ Some seat → ((st : Statement) → Has sts st → B seat.records st) → Back said seats → Back (said ++ map (said_by m) sts) seats
-  back-add said seats m seat sts e new back x h q at honest = go (has-either said (map (said_by m) sts) x h)
+  back-add said seats m seat sts e new back x h q at honest = go (has_parts said (map (said_by m) sts) x h)
     where
       same : (a b : Seat) → Some a ≡ Some b → a ≡ b
       same a b e = cc
@@ -84,7 +75,7 @@ module _ (s : Setting) (P : List Record → Type 0) (B : List Record → Stateme
 
   -- a faulty member may say what it likes
   back-faulty : (w : World) (m : ℕ) (st : Statement) → is_honest w m ≡ false → Backs w → Backs (says w m st)
-  back-faulty w m st faulty back x h q at honest = go (has-either w.said (said_by m st ∷ []) x h)
+  back-faulty w m st faulty back x h q at honest = go (has_parts w.said (said_by m st ∷ []) x h)
     where
       go : Has w.said x ⊎ Has (said_by m st ∷ []) x → B q.records x.statement
       go (inl h) = back x h q at honest
@@ -141,7 +132,7 @@ module _ (s : Setting) (P : List Record → Type 0) (B : List Record → Stateme
 
   back-called_seat : (w : World) (m : ℕ) (call : Call) (seat : Option Seat) → slice_get w.seats m ≡ seat → All w → Backs w → Backs (called_seat s w m call seat)
   back-called_seat w m call None at all back = back
-  back-called_seat w m call (Some seat) at all back = back-behind w m call seat (reached_seat s call seat) at refl (each-get (λ (y : Seat). P y.records) w.seats m seat all at) back
+  back-called_seat w m call (Some seat) at all back = back-behind w m call seat (reached_seat s call seat) at refl (each_at (λ (y : Seat). P y.records) w.seats m seat all at) back
 
   back-called : (w : World) (m : ℕ) (call : Call) → All w → Backs w → Backs (called_in s w m call)
   unfolding called_in

@@ -33,10 +33,12 @@ use Rattle.answer_types.specs.declared.refusals.RunRefusal.{RunRefusal}
 use Rattle.answer_types.specs.declared.refusals.CloseRefusal.{CloseRefusal}
 use Rattle.answer_types.specs.declared.refusals.TurnRefusal.{TurnRefusal}
 use Rattle.schedule_text.specs.declared.words.Event.{Event}
+use Rattle.protocol_spec.proofs.Equality.{bytes_same}
 use Rattle.protocol_spec.specs.Chain.Words.{Has, Each, Along, first_some, first_of, where_true, refused_or, unless_refused}
 use Rattle.protocol_spec.specs.Chain.Tests.{has_key}
 use Rattle.protocol_spec.specs.Chain.Certificates.{Rules, read_signed, read_certificate, read_entry, cert_refusal}
-use Rattle.protocol_spec.proofs.ListLemmas.{along-push, and-first, and-second}
+use Rattle.protocol_spec.proofs.ListLemmas.{along-push, and-first, and-second, each_join, flat_has, has_parts, each_has, has_left, has_right}
+use Rattle.protocol_spec.proofs.Truth.{where_not_true}
 use Rattle.protocol_spec.specs.Member.Sequence.{What, takes, commits, counts, ignores, ignored_or, certificate_cases, end_cases, what_stated, what_read, what_of, held_as}
 use Rattle.protocol_spec.specs.Member.Checkpoints.{held_of}
 use Rattle.protocol_spec.specs.Member.Member.{Member, Fork, consumes, fork_at, fork_with, fork_in, fork_of, held_with, after, state}
@@ -47,21 +49,20 @@ use Rattle.world_spec.specs.Step.{happens}
 use Rattle.world_spec.specs.Run.{run, world_after}
 use Rattle.world_spec.specs.Assumptions.{calls_of, read_list, entry_certificates, certificates_read, delivered, all_of, all_delivered, IsHonestRun}
 use Rattle.safety_law.proofs.InWorld.{in_world_given}
-use Rattle.safety_law.proofs.Apart.{none-each, none-found, accepted, state-push}
-use Rattle.safety_law.proofs.Backed.{has-either}
-use Rattle.safety_law.proofs.Once.{bytes-equal, digest-same, each-has, has-left, has-push}
+use Rattle.safety_law.proofs.Apart.{none-each, none-found, state-push}
+use Rattle.safety_law.proofs.Once.{digest-same, has-push}
 use Rattle.safety_law.specs.Owners.{IsFormedOrValid}
-use Rattle.safety_law.proofs.Totals.{each-all, has-right, flat-each}
+use Rattle.safety_law.proofs.Totals.{each-all, flat-each}
 use Rattle.safety_law.proofs.Owner.{owner}
 
 -- ---- lists
 
-has-key : (keys : List ObjectKey) (key : ObjectKey) → has_key keys key ≡ true → Has keys key
+pub has-key : (keys : List ObjectKey) (key : ObjectKey) → has_key keys key ≡ true → Has keys key
 has-key [] key e = absurd (cc)
 has-key (k ∷ keys) key e = go (key_eq key k) refl e (has-key keys key)
   where
     alike : key_eq key k ≡ true → k ≡ key
-    alike q = both (bytes-equal key.id.0.0 k.id.0.0 (and-first (bytes_eq key.id.0.0 k.id.0.0) (key.version == k.version) q)) (eqb-true key.version k.version (and-second (bytes_eq key.id.0.0 k.id.0.0) (key.version == k.version) q))
+    alike q = both (bytes_same key.id.0.0 k.id.0.0 (and-first (bytes_eq key.id.0.0 k.id.0.0) (key.version == k.version) q)) (eqb-true key.version k.version (and-second (bytes_eq key.id.0.0 k.id.0.0) (key.version == k.version) q))
       where
         both : key.id.0.0 ≡ k.id.0.0 → key.version ≡ k.version → k ≡ key
         both p q =
@@ -278,7 +279,7 @@ module _ (total : List Certificate) (r : Rules) where
         subst (IsGood total r m.epoch) (same-held (held_as c) h e) (record {
           comes = g;
           valid = is-none (cert_refusal r c) (not-none (is_some (cert_refusal r c)) ignore.Cert cases.1.0);
-          of_epoch = eqb-true c.tx.epoch m.epoch (accepted (c.tx.epoch == m.epoch) ignore.Epoch cases.0);
+          of_epoch = eqb-true c.tx.epoch m.epoch (where_not_true (c.tx.epoch == m.epoch) ignore.Epoch cases.0);
           named = refl;
         })
 
@@ -331,10 +332,6 @@ module _ (total : List Certificate) (r : Rules) where
 
 -- ---- what the run delivers
 
-pub each-join : {A : Type 0} (P : A → Type 0) (xs ys : List A) → Each P xs → Each P ys → Each P (xs ++ ys)
-each-join P [] ys one other = other
-each-join P (x ∷ xs) ys one other = (one.0, each-join P xs ys one.1 other)
-
 module _ (s : Setting) (total : List Certificate) where
   abbrev IsDelivered : Call → Type 0
   IsDelivered call = Each (Has total) (certificates_read s.rules call)
@@ -342,9 +339,9 @@ module _ (s : Setting) (total : List Certificate) where
   delivered-given : (events : List Event) (w : World) → ((c : Certificate) → Has (all_of delivered s events w) c → Has total c) → Each IsDelivered (all_of calls_of s events w)
   unfolding delivered
   delivered-given [] w sub = tt
-  delivered-given (e ∷ events) w sub = each-join IsDelivered (calls_of s w e) (all_of calls_of s events (happens s w e))
-      (flat-each (certificates_read s.rules) (Has total) (calls_of s w e) (λ c h. sub c (has-left (flat_map (certificates_read s.rules) (calls_of s w e)) _ c h)))
-      (delivered-given events (happens s w e) (λ c h. sub c (has-right (flat_map (certificates_read s.rules) (calls_of s w e)) _ c h)))
+  delivered-given (e ∷ events) w sub = each_join IsDelivered (calls_of s w e) (all_of calls_of s events (happens s w e))
+      (flat-each (certificates_read s.rules) (Has total) (calls_of s w e) (λ c h. sub c (has_left (flat_map (certificates_read s.rules) (calls_of s w e)) _ c h)))
+      (delivered-given events (happens s w e) (λ c h. sub c (has_right (flat_map (certificates_read s.rules) (calls_of s w e)) _ c h)))
 
   held-good : (events : List Event) → ((c : Certificate) → Has (all_of delivered s events (new_world s)) c → Has total c) → (m : ℕ) (seat : Seat) → slice_get (world_after s events).seats m ≡ Some seat
       → AreGood total s.rules (member_in s seat).epoch (member_in s seat).held
@@ -355,26 +352,21 @@ module _ (s : Setting) (total : List Certificate) where
 
 pub all-front : {A : Type 0} (says : Setting → World → Event → List A) (s : Setting) (front back : List Event) (w : World) (x : A) → Has (all_of says s front w) x → Has (all_of says s (front ++ back) w) x
 all-front says s [] back w x h = absurd h
-all-front says s (e ∷ front) back w x h = go (has-either (says s w e) (all_of says s front (happens s w e)) x h) (all-front says s front back (happens s w e) x)
+all-front says s (e ∷ front) back w x h = go (has_parts (says s w e) (all_of says s front (happens s w e)) x h) (all-front says s front back (happens s w e) x)
   where
     go : Has (says s w e) x ⊎ Has (all_of says s front (happens s w e)) x → (Has (all_of says s front (happens s w e)) x → Has (all_of says s (front ++ back) (happens s w e)) x) → Has (all_of says s (e ∷ (front ++ back)) w) x
-    go (inl h) rest = has-left (says s w e) (all_of says s (front ++ back) (happens s w e)) x h
-    go (inr h) rest = has-right (says s w e) (all_of says s (front ++ back) (happens s w e)) x (rest h)
+    go (inl h) rest = has_left (says s w e) (all_of says s (front ++ back) (happens s w e)) x h
+    go (inr h) rest = has_right (says s w e) (all_of says s (front ++ back) (happens s w e)) x (rest h)
 
 all-at : {A : Type 0} (says : Setting → World → Event → List A) (s : Setting) (front back : List Event) (e : Event) (w : World) (x : A) → Has (says s (run s front w) e) x → Has (all_of says s (front ++ e ∷ back) w) x
-all-at says s [] back e w x h = has-left (says s w e) (all_of says s back (happens s w e)) x h
-all-at says s (f ∷ front) back e w x h = has-right (says s w f) (all_of says s (front ++ e ∷ back) (happens s w f)) x (all-at says s front back e (happens s w f) x h)
-
-has-flat : {A B : Type 0} (f : A → List B) (xs : List A) (x : A) (y : B) → Has xs x → Has (f x) y → Has (flat_map f xs) y
-has-flat f [] x y h k = absurd h
-has-flat f (z ∷ xs) x y (inl e) k = has-left (f z) (flat_map f xs) y (subst (λ w. Has (f w) y) (sym e) k)
-has-flat f (z ∷ xs) x y (inr h) k = has-right (f z) (flat_map f xs) y (has-flat f xs x y h k)
+all-at says s [] back e w x h = has_left (says s w e) (all_of says s back (happens s w e)) x h
+all-at says s (f ∷ front) back e w x h = has_right (says s w f) (all_of says s (front ++ e ∷ back) (happens s w f)) x (all-at says s front back e (happens s w f) x h)
 
 -- what a call of a line reads is delivered in the run
 call-given : (s : Setting) (front back : List Event) (e : Event) (call : Call) → Has (calls_of s (world_after s front) e) call → Each (Has (all_of delivered s (front ++ e ∷ back) (new_world s))) (certificates_read s.rules call)
 unfolding delivered world_after
 call-given s front back e call h = each-all (Has (all_of delivered s (front ++ e ∷ back) (new_world s))) (certificates_read s.rules call)
-    (λ c k. all-at delivered s front back e (new_world s) c (has-flat (certificates_read s.rules) (calls_of s (run s front (new_world s)) e) call c h k))
+    (λ c k. all-at delivered s front back e (new_world s) c (flat_has (certificates_read s.rules) (calls_of s (run s front (new_world s)) e) call c h k))
 
 -- ---- no fork
 
@@ -396,7 +388,7 @@ module _ (s : Setting) (events : List Event) (run_is : IsHonestRun s events) (ep
       go true q = absurd (let is = subst (λ (d : Digest). digest_eq e.digest d ≡ true) (one q) (digest-same e.digest) in cc)
 
   no-fork-with : (earlier : List Held) (h : Held) → ((e : Held) → Has earlier e → Good e) → Good h → IsOther earlier h → fork_with earlier h ≡ None
-  no-fork-with earlier h good good_h other = none-first (fork_at earlier h) (consumed_keys h.cert.tx) (λ key k. none key (none-find (consumes key) earlier (λ e l. no-key e h (good e l) good_h (each-has (λ (x : Held). digest_eq x.digest h.digest ≡ false) earlier e other l) key k)))
+  no-fork-with earlier h good good_h other = none-first (fork_at earlier h) (consumed_keys h.cert.tx) (λ key k. none key (none-find (consumes key) earlier (λ e l. no-key e h (good e l) good_h (each_has (λ (x : Held). digest_eq x.digest h.digest ≡ false) earlier e other l) key k)))
     where
       none : (key : ObjectKey) → find (consumes key) earlier ≡ None → fork_at earlier h key ≡ None
       none key e = rw e refl

@@ -5,16 +5,14 @@ use Rattle.chain_types.specs.declared.transactions.Transaction.{Transaction}
 use Rattle.chain_types.specs.declared.transactions.SignedTx.{SignedTx}
 use Rattle.chain_messages.specs.declared.messages.Certificate.{Certificate}
 use Rattle.schedule_text.specs.declared.words.Event.{Event}
+use Rattle.protocol_spec.proofs.ListLemmas.{has_parts, has_left, has_map, has_mapped, has_right}
 use Rattle.protocol_spec.specs.Chain.Words.{Has}
 use Rattle.world_spec.specs.Setting.{Setting}
 use Rattle.world_spec.specs.World.{Made, Formed, World, new_world}
 use Rattle.world_spec.specs.Step.{happens}
 use Rattle.world_spec.specs.Run.{world_after}
 use Rattle.world_spec.specs.Assumptions.{asked, delivered, all_of, all_formed, all_delivered, all_transactions, IsHonestRun, NoForgery}
-use Rattle.safety_law.proofs.Backed.{has-either}
-use Rattle.safety_law.proofs.Once.{has-left}
 use Rattle.safety_law.proofs.Grown.{IsGrown, grown-run, world-append}
-use Rattle.safety_law.proofs.Totals.{has-map, has-mapped, has-right}
 use Rattle.safety_law.proofs.Forks.{all-front}
 
 -- the second list has each element of the first
@@ -22,17 +20,17 @@ abbrev IsWithin : {A : Type 0} → List A → List A → Type 0
 IsWithin {A} xs ys = (x : A) → Has xs x → Has ys x
 
 map-within : {A B : Type 0} (f : A → B) (xs ys : List A) → IsWithin xs ys → IsWithin (map f xs) (map f ys)
-map-within {A} f xs ys within y h = go (has-mapped f xs y h)
+map-within {A} f xs ys within y h = go (has_mapped f xs y h)
   where
     go : (x : A) × Has xs x × (f x ≡ y) → Has (map f ys) y
-    go (x, h, e) = subst (Has (map f ys)) e (has-map f ys x (within x h))
+    go (x, h, e) = subst (Has (map f ys)) e (has_map f ys x (within x h))
 
 join-within : {A : Type 0} (xs ys us vs : List A) → IsWithin xs us → IsWithin ys vs → IsWithin (xs ++ ys) (us ++ vs)
-join-within xs ys us vs one other x h = go (has-either xs ys x h)
+join-within xs ys us vs one other x h = go (has_parts xs ys x h)
   where
     go : Has xs x ⊎ Has ys x → Has (us ++ vs) x
-    go (inl h) = has-left us vs x (one x h)
-    go (inr h) = has-right us vs x (other x h)
+    go (inl h) = has_left us vs x (one x h)
+    go (inr h) = has_right us vs x (other x h)
 
 unforged-front : (s : Setting) (front back : List Event) (w : World) → NoForgery s (front ++ back) w → NoForgery s front w
 unforged-front s [] back w none = tt

@@ -2,6 +2,7 @@
 use Rattle.std.proofs.Common.{refl, sym, subst, ap, ◌∙◌}
 use Rattle.std.specs.Prelude.{◌≡◌, ℕ, zero, suc, List, [], ◌∷◌, ◌++◌, map, slice_get, slice_set, Option, Some, None}
 use Rattle.schedule_text.specs.declared.words.Event.{Event}
+use Rattle.protocol_spec.proofs.ListLemmas.{has_left}
 use Rattle.protocol_spec.specs.Chain.Words.{Has}
 use Rattle.protocol_spec.specs.Member.Calls.{Call}
 use Rattle.world_spec.specs.Setting.{Setting}
@@ -10,7 +11,6 @@ use Rattle.world_spec.specs.Step.{happens}
 use Rattle.world_spec.specs.Run.{run, world_after}
 use Rattle.world_spec.specs.Assumptions.{calls_of}
 use Rattle.safety_law.proofs.InWorld.{each-any}
-use Rattle.safety_law.proofs.Once.{has-left}
 use Rattle.safety_law.proofs.Steps.{Keeps, step-line}
 
 pub record IsGrown (w v : World) : Type 0 where
@@ -45,7 +45,7 @@ module _ (s : Setting) where
   grown-behind w m call seat finds_down at = grown-same w
   grown-behind w m call seat (stops kept x) at = grown-seat w m seat (stopped_seat seat kept x) at refl
   grown-behind w m call seat (answers before x) at = record {
-    said = λ y h. has-left w.said (map (said_by m) (stated s.rules before call)) y h;
+    said = λ y h. has_left w.said (map (said_by m) (stated s.rules before call)) y h;
     honest = λ n. honest-set w.seats m seat (record seat { records = appended seat.records x }) n at refl;
     txs = λ t h. h;
     certs = λ f h. h;
@@ -63,12 +63,12 @@ module _ (s : Setting) where
   pub grown-keeps : (u : World) → Keeps s (λ _ _. Unit {0}) (IsGrown u)
   grown-keeps u = record {
     calls = λ w m call _ g. grown-then u w (called_in s w m call) g (grown-called w m call);
-    lies = λ w m st _ _ g. record { said = λ x h. has-left w.said (said_by m st ∷ []) x (g.said x h); honest = g.honest; txs = g.txs; certs = g.certs };
+    lies = λ w m st _ _ g. record { said = λ x h. has_left w.said (said_by m st ∷ []) x (g.said x h); honest = g.honest; txs = g.txs; certs = g.certs };
     seats = λ w m seat new at same _ g. grown-then u w (with_seat w m new) g (grown-seat w m seat new at same);
     enters = λ w e _ g. record { said = g.said; honest = g.honest; txs = g.txs; certs = g.certs };
     rises = λ w g. record { said = g.said; honest = g.honest; txs = g.txs; certs = g.certs };
-    makes = λ w l t _ g. record { said = g.said; honest = g.honest; txs = λ x h. has-left w.txs (t ∷ []) x (g.txs x h); certs = g.certs };
-    forms = λ w t ms _ _ g. record { said = g.said; honest = g.honest; txs = g.txs; certs = λ f h. has-left w.certs _ f (g.certs f h) };
+    makes = λ w l t _ g. record { said = g.said; honest = g.honest; txs = λ x h. has_left w.txs (t ∷ []) x (g.txs x h); certs = g.certs };
+    forms = λ w t ms _ _ g. record { said = g.said; honest = g.honest; txs = g.txs; certs = λ f h. has_left w.certs _ f (g.certs f h) };
   }
 
   pub grown-line : (w : World) (e : Event) → IsGrown w (happens s w e)

@@ -1,5 +1,5 @@
 -- What holds of no records and is kept by each record that is due holds of every seat of every run.
-use Rattle.std.proofs.Common.{refl, subst, ◌∙◌}
+use Rattle.std.proofs.Common.{refl, ◌∙◌}
 use Rattle.std.specs.Prelude.{◌≡◌, ℕ, zero, suc, min, Bool, true, false, cond, List, [], ◌∷◌, ◌++◌, map, slice_get, slice_set, Option, Some, None}
 use Rattle.chain_types.specs.Transactions as transactions
 use Rattle.chain_messages.specs.Messages as messages
@@ -7,6 +7,7 @@ use Rattle.chain_messages.specs.declared.messages.Certificate.{Certificate}
 use Rattle.journal_core.specs.declared.records.Record.{Record}
 use Rattle.schedule_text.specs.declared.words.Event.{Event}
 use Rattle.schedule_text.specs.declared.words.Event.TheVariants as event
+use Rattle.protocol_spec.proofs.ListLemmas.{each_front, each_back, each_at}
 use Rattle.protocol_spec.specs.Chain.Words.{Each}
 use Rattle.protocol_spec.specs.Member.Member.{Member, state}
 use Rattle.protocol_spec.specs.Member.Calls.{Call, votes, holds, runs, closes, ends, turns, acks, due}
@@ -23,22 +24,6 @@ pub each-set : {A : Type 0} (P : A → Type 0) (xs : List A) (m : ℕ) (x : A) �
 each-set P [] m x each one = tt
 each-set P (y ∷ ys) zero x each one = (one, each.1)
 each-set P (y ∷ ys) (suc m) x each one = (each.0, each-set P ys m x each.1 one)
-
-pub each-get : {A : Type 0} (P : A → Type 0) (xs : List A) (m : ℕ) (x : A) → Each P xs → slice_get xs m ≡ Some x → P x
-each-get P [] m x each e = absurd (cc)
-each-get P (y ∷ ys) zero x each e = subst P (same y x e) each.0
-  where
-    same : {A : Type 0} (y x : A) → Some y ≡ Some x → y ≡ x
-    same y x e = cc
-each-get P (y ∷ ys) (suc m) x each e = each-get P ys m x each.1 e
-
-pub each-front : {A : Type 0} (P : A → Type 0) (xs ys : List A) → Each P (xs ++ ys) → Each P xs
-each-front P [] ys each = tt
-each-front P (x ∷ xs) ys each = (each.0, each-front P xs ys each.1)
-
-pub each-back : {A : Type 0} (P : A → Type 0) (xs ys : List A) → Each P (xs ++ ys) → Each P ys
-each-back P [] ys each = each
-each-back P (x ∷ xs) ys each = each-back P xs ys each.1
 
 module _ (s : Setting) (Given : Call → Type 0) (P : List Record → Type 0) (step : (records : List Record) (call : Call) (x : Record) → Given call → due s.rules (state s.rules s.opening records) call ≡ Some x → P records → P (records ++ x ∷ [])) where
   abbrev pub AllSeats : World → Type 0
@@ -87,7 +72,7 @@ module _ (s : Setting) (Given : Call → Type 0) (P : List Record → Type 0) (s
 
   kept-called_seat : (w : World) (m : ℕ) (call : Call) (seat : Option Seat) → Given call → slice_get w.seats m ≡ seat → AllSeats w → AllSeats (called_seat s w m call seat)
   kept-called_seat w m call None g e all = all
-  kept-called_seat w m call (Some seat) g e all = kept-behind w m call seat (reached_seat s call seat) g refl (each-get (λ (y : Seat). P y.records) w.seats m seat all e) all
+  kept-called_seat w m call (Some seat) g e all = kept-behind w m call seat (reached_seat s call seat) g refl (each_at (λ (y : Seat). P y.records) w.seats m seat all e) all
 
   pub kept-called : (w : World) (m : ℕ) (call : Call) → Given call → AllSeats w → AllSeats (called_in s w m call)
   unfolding called_in
@@ -99,7 +84,7 @@ module _ (s : Setting) (Given : Call → Type 0) (P : List Record → Type 0) (s
 
   kept-sees : (n : ℕ) (w : World) (m : ℕ) → Each Given (see_calls s n w m) → AllSeats w → AllSeats (sees_on s n w m)
   kept-sees zero w m g all = all
-  kept-sees (suc n) w m g all = kept-sees n (called_if s w m (next_call s w m)) m (each-back Given (call_list (next_call s w m)) _ g) (kept-called_if w m (next_call s w m) (each-front Given (call_list (next_call s w m)) _ g) all)
+  kept-sees (suc n) w m g all = kept-sees n (called_if s w m (next_call s w m)) m (each_back Given (call_list (next_call s w m)) _ g) (kept-called_if w m (next_call s w m) (each_front Given (call_list (next_call s w m)) _ g) all)
 
   -- the other lines append no record
   kept-voted : (w : World) (m : ℕ) (t : Option Made) → Each Given (vote_call t) → AllSeats w → AllSeats (voted_on s w m t)
@@ -145,7 +130,7 @@ module _ (s : Setting) (Given : Call → Type 0) (P : List Record → Type 0) (s
 
   kept-on_seat : (w : World) (m : ℕ) (change : Seat → Seat) → ((seat : Seat) → P seat.records → P (change seat).records) → (seat : Option Seat) → slice_get w.seats m ≡ seat → AllSeats w → AllSeats (on_seat w m change seat)
   kept-on_seat w m change keeps None e all = all
-  kept-on_seat w m change keeps (Some seat) e all = each-set (λ (y : Seat). P y.records) w.seats m (change seat) all (keeps seat (each-get (λ (y : Seat). P y.records) w.seats m seat all e))
+  kept-on_seat w m change keeps (Some seat) e all = each-set (λ (y : Seat). P y.records) w.seats m (change seat) all (keeps seat (each_at (λ (y : Seat). P y.records) w.seats m seat all e))
 
   kept-acked : (w : World) (m : ℕ) (spoiled : Bool) (t : Option Made) → Each Given (ack_call t) → AllSeats w → AllSeats (acked s w m spoiled t)
   kept-acked w m spoiled None g all = all
@@ -176,7 +161,7 @@ module _ (s : Setting) (Given : Call → Type 0) (P : List Record → Type 0) (s
 
   kept-run : (events : List Event) (w : World) → Each Given (all_of calls_of s events w) → AllSeats w → AllSeats (run s events w)
   kept-run [] w g all = all
-  kept-run (e ∷ events) w g all = kept-run events (happens s w e) (each-back Given (calls_of s w e) _ g) (kept-line w e (each-front Given (calls_of s w e) _ g) all)
+  kept-run (e ∷ events) w g all = kept-run events (happens s w e) (each_back Given (calls_of s w e) _ g) (kept-line w e (each_front Given (calls_of s w e) _ g) all)
 
   pub new-seats : (honest : List Bool) → P [] → Each (λ (seat : Seat). P seat.records) (map new_seat honest)
   new-seats [] none = tt
@@ -185,7 +170,7 @@ module _ (s : Setting) (Given : Call → Type 0) (P : List Record → Type 0) (s
   -- where every call of the run is as given
   pub in_world_given : P [] → (events : List Event) → Each Given (all_of calls_of s events (new_world s)) → (m : ℕ) (seat : Seat) → slice_get (world_after s events).seats m ≡ Some seat → P seat.records
   unfolding world_after new_world
-  in_world_given none events g m seat e = each-get (λ (y : Seat). P y.records) (run s events (new_world s)).seats m seat (kept-run events (new_world s) g (new-seats s.honest none)) e
+  in_world_given none events g m seat e = each_at (λ (y : Seat). P y.records) (run s events (new_world s)).seats m seat (kept-run events (new_world s) g (new-seats s.honest none)) e
 
 pub each-any : {A : Type 0} (xs : List A) → Each (λ _. Unit {0}) xs
 each-any [] = tt

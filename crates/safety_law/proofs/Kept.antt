@@ -1,7 +1,7 @@
 -- Each vote that an honest member stated is in its journal.
 use Rattle.std.proofs.Common.{inl, inr, refl, sym, subst, ◌∙◌}
 use Rattle.std.proofs.lemmas.Bool.{eqb-true}
-use Rattle.std.specs.Prelude.{◌≡◌, ◌⊎◌, ℕ, Bool, true, false, cond, not, ◌==◌, List, [], ◌∷◌, ◌++◌, map, find, slice_get, Option, Some, None, Result, Ok, Err}
+use Rattle.std.specs.Prelude.{◌≡◌, ◌⊎◌, ℕ, Bool, true, false, not, ◌==◌, List, [], ◌∷◌, ◌++◌, map, slice_get, Option, Some, None, Result, Ok, Err}
 use Rattle.wire_bcs.specs.declared.fault.WireFault.{WireFault}
 use Rattle.digest_core.specs.declared.Digest.{Digest}
 use Rattle.chain_types.specs.Equal.{digest_eq}
@@ -23,11 +23,12 @@ use Rattle.answer_types.specs.declared.refusals.EndRefusal.{EndRefusal}
 use Rattle.answer_types.specs.declared.refusals.AckRefusal.{AckRefusal}
 use Rattle.answer_types.specs.declared.refusals.AckRefusal.TheVariants as no_ack
 use Rattle.chain_types.specs.declared.objects.Object.{Object}
+use Rattle.protocol_spec.proofs.Equality.{digest_same}
 use Rattle.protocol_spec.specs.Member.Versions.{Execution, execution_of}
 use Rattle.schedule_text.specs.declared.words.Event.{Event}
 use Rattle.protocol_spec.specs.Chain.Words.{Has, first_some, where_true, refused_or, unless_refused}
 use Rattle.protocol_spec.specs.Chain.Certificates.{Rules, read_signed}
-use Rattle.protocol_spec.proofs.ListLemmas.{find-test}
+use Rattle.protocol_spec.proofs.ListLemmas.{find-test, find_has, has_left, push_has}
 use Rattle.protocol_spec.specs.Member.Votes.{Cast, vote_origins}
 use Rattle.protocol_spec.specs.Member.Member.{Member, ballot, vote_for, cast_of, after, state}
 use Rattle.protocol_spec.specs.Member.Calls.{Call, votes, holds, sees, runs, closes, ends, turns, acks, new_vote_cases, voted_as, new_vote, vote_again, unsealed_of, vote_read, vote_stopped, vote_answer, see_answer, run_answer, end_answer, ack_answer, end_cases, acknowledged, halted, vote_record, due}
@@ -37,7 +38,7 @@ use Rattle.world_spec.specs.Run.{world_after}
 use Rattle.safety_law.proofs.Apart.{state-push, due-free}
 use Rattle.world_spec.specs.Assumptions.{signed_read}
 use Rattle.safety_law.proofs.InWorld.{each-any}
-use Rattle.safety_law.proofs.Once.{equal, has-push, has-left, has-last}
+use Rattle.safety_law.proofs.Once.{has-push}
 use Rattle.safety_law.proofs.Backed.{backed}
 
 -- a record of a vote of this epoch for this digest, with these origins
@@ -56,7 +57,7 @@ abbrev AreCastKept : List Record → ℕ → List Cast → Type 0
 AreCastKept records epoch vs = (v : Cast) → Has vs v → IsKept records epoch v.digest v.origins
 
 kept-more : (records : List Record) (x : Record) (epoch : ℕ) (tx : Digest) (o : List (Option Digest)) → IsKept records epoch tx o → IsKept (records ++ x ∷ []) epoch tx o
-kept-more records x epoch tx o (t, h, e, d) = (t, has-left records (x ∷ []) (record_as.Vote t o) h, e, d)
+kept-more records x epoch tx o (t, h, e, d) = (t, has_left records (x ∷ []) (record_as.Vote t o) h, e, d)
 
 keeps-more : (records : List Record) (x : Record) (st : Statement) → KeepsVote records st → KeepsVote (records ++ x ∷ []) st
 keeps-more records x (statement.Vote epoch tx origins) kept = kept-more records x epoch tx origins kept
@@ -69,7 +70,7 @@ cast-vote records epoch vs tx o same kept v h = go (has-push vs (cast_of tx o) v
   where
     go : Has vs v ⊎ (cast_of tx o ≡ v) → IsKept (records ++ record_as.Vote tx o ∷ []) epoch v.digest v.origins
     go (inl h) = kept-more records (record_as.Vote tx o) epoch v.digest v.origins (kept v h)
-    go (inr e) = subst (λ (c : Cast). IsKept (records ++ record_as.Vote tx o ∷ []) epoch c.digest c.origins) e (tx, has-last records (record_as.Vote tx o), same, refl)
+    go (inr e) = subst (λ (c : Cast). IsKept (records ++ record_as.Vote tx o ∷ []) epoch c.digest c.origins) e (tx, push_has records (record_as.Vote tx o), same, refl)
 
 cast-after : (r : Rules) (m : Member) (records : List Record) (call : Call) (x : Record) → due r m call ≡ Some x → AreCastKept records m.epoch m.votes → AreCastKept (records ++ x ∷ []) (after r m x).epoch (after r m x).votes
 unfolding after
@@ -82,17 +83,6 @@ cast-after r m records call record_as.Turn d kept = λ v h. absurd h
 cast-after r m records call (record_as.Ran2 items) d kept = λ v h. kept-more records (record_as.Ran2 items) m.epoch v.digest v.origins (kept v h)
 
 -- ---- a stated vote is kept, or was
-
-pub find-has : {A : Type 0} (test : A → Bool) (xs : List A) (x : A) → find test xs ≡ Some x → Has xs x
-find-has test [] x e = absurd (cc)
-find-has test (y ∷ ys) x e = go (test y) e (find-has test ys x)
-  where
-    same : Some y ≡ Some x → y ≡ x
-    same e = cc
-
-    go : (b : Bool) → cond b (Some y) (find test ys) ≡ Some x → (find test ys ≡ Some x → Has ys x) → Has (y ∷ ys) x
-    go true e rest = inl (same e)
-    go false e rest = inr (rest e)
 
 -- no other call states a vote
 module _ (m : Member) (epoch : ℕ) (d : Digest) (o : List (Option Digest)) where
@@ -139,7 +129,7 @@ module _ (r : Rules) (m : Member) (records : List Record) (kept : AreCastKept re
       go None (inl q) =
           subst (λ (p : List (Option Digest)). IsKept (records ++ record_as.Vote s.tx (vote_origins (ballot m) s.tx) ∷ []) epoch d p) (of-origins m.epoch (transaction_digest s.tx) (vote_origins (ballot m) s.tx) q) (
             s.tx,
-            has-last records (record_as.Vote s.tx (vote_origins (ballot m) s.tx)),
+            push_has records (record_as.Vote s.tx (vote_origins (ballot m) s.tx)),
             eqb-true s.tx.epoch m.epoch same ∙ of-epoch m.epoch (transaction_digest s.tx) (vote_origins (ballot m) s.tx) q,
             of-digest m.epoch (transaction_digest s.tx) (vote_origins (ballot m) s.tx) q,
           )
@@ -149,8 +139,8 @@ module _ (r : Rules) (m : Member) (records : List Record) (kept : AreCastKept re
   again-told s unsealed (Some v) e same (inr h) = absurd h
   again-told s unsealed (Some v) e same (inl q) =
       subst (λ (p : List (Option Digest)). IsKept records epoch d p) (of-origins m.epoch (transaction_digest s.tx) v.origins q)
-      (subst (λ (c : Digest). IsKept records epoch c v.origins) (equal v.digest (transaction_digest s.tx) (find-test (λ (w : Cast). digest_eq w.digest (transaction_digest s.tx)) m.votes v e) ∙ of-digest m.epoch (transaction_digest s.tx) v.origins q)
-      (subst (λ (n : ℕ). IsKept records n v.digest v.origins) (of-epoch m.epoch (transaction_digest s.tx) v.origins q) (kept v (find-has (λ (w : Cast). digest_eq w.digest (transaction_digest s.tx)) m.votes v e))))
+      (subst (λ (c : Digest). IsKept records epoch c v.origins) (digest_same v.digest (transaction_digest s.tx) (find-test (λ (w : Cast). digest_eq w.digest (transaction_digest s.tx)) m.votes v e) ∙ of-digest m.epoch (transaction_digest s.tx) v.origins q)
+      (subst (λ (n : ℕ). IsKept records n v.digest v.origins) (of-epoch m.epoch (transaction_digest s.tx) v.origins q) (kept v (find_has (λ (w : Cast). digest_eq w.digest (transaction_digest s.tx)) m.votes v e))))
 
   on-told : (s : SignedTx) (unsealed : Option VoteRefusal) (same : Bool) → (s.tx.epoch == m.epoch) ≡ same
       → Has (voted_statement (refused_or (where_true (not same) (no_vote.WrongEpoch s.tx.epoch m.epoch)) (vote_again m s.tx unsealed (vote_for m (transaction_digest s.tx))))) (statement.Vote epoch d o)

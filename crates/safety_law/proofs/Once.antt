@@ -1,7 +1,7 @@
 -- Over a whole journal the votes of one epoch are apart.
 use Rattle.std.proofs.Common.{inl, inr, refl, sym, subst, ap, ◌∙◌}
 use Rattle.std.proofs.lemmas.Bool.{eqb-true, eq-eqb}
-use Rattle.std.specs.Prelude.{◌≡◌, ◌⊎◌, ◌≤◌, ◌+◌, ℕ, Bool, true, false, ◌&&◌, ◌||◌, ◌==◌, List, [], ◌∷◌, ◌++◌, find, slice_get, Option, Some, None, bytes_eq}
+use Rattle.std.specs.Prelude.{◌≡◌, ◌⊎◌, ◌≤◌, ◌+◌, ℕ, Bool, true, false, ◌||◌, List, [], ◌∷◌, ◌++◌, find, slice_get, Option, Some, None, bytes_eq}
 use native.Mathlib.Omega.{arith}
 use Rattle.digest_core.specs.declared.Digest.{Digest}
 use Rattle.chain_types.specs.Equal.{digest_eq, key_eq}
@@ -11,6 +11,8 @@ use Rattle.chain_types.specs.declared.transactions.Transaction.{Transaction}
 use Rattle.journal_core.specs.declared.records.Record.{Record}
 use Rattle.journal_core.specs.declared.records.Record.TheVariants as record_as
 use Rattle.schedule_text.specs.declared.words.Event.{Event}
+use Rattle.protocol_spec.proofs.Equality.{digest_same}
+use Rattle.protocol_spec.proofs.ListLemmas.{push_has, has_left, each_has}
 use Rattle.protocol_spec.specs.Chain.Words.{Has, Each}
 use Rattle.protocol_spec.specs.Chain.Tests.{has_key}
 use Rattle.protocol_spec.specs.Chain.Certificates.{Rules}
@@ -38,20 +40,6 @@ has-push [] x y (inr h) = absurd h
 has-push (z ∷ zs) x y (inl e) = inl (inl e)
 has-push (z ∷ zs) x y (inr h) = either-way z x y zs (has-push zs x y h)
 
-pub has-left : {A : Type 0} (xs ys : List A) (y : A) → Has xs y → Has (xs ++ ys) y
-has-left [] ys y h = absurd h
-has-left (x ∷ xs) ys y (inl e) = inl e
-has-left (x ∷ xs) ys y (inr h) = inr (has-left xs ys y h)
-
-pub has-last : {A : Type 0} (xs : List A) (x : A) → Has (xs ++ x ∷ []) x
-has-last [] x = inl refl
-has-last (y ∷ ys) x = inr (has-last ys x)
-
-pub each-has : {A : Type 0} (P : A → Type 0) (xs : List A) (x : A) → Each P xs → Has xs x → P x
-each-has P [] x each h = absurd h
-each-has P (y ∷ ys) x each (inl e) = subst P e each.0
-each-has P (y ∷ ys) x each (inr h) = each-has P ys x each.1 h
-
 -- ---- tests of equality
 
 bytes-same : (xs : List ℕ) → bytes_eq xs xs ≡ true
@@ -61,25 +49,12 @@ bytes-same (x ∷ xs) = go x (bytes-same xs)
     go : (x : ℕ) → bytes_eq xs xs ≡ true → bytes_eq (x ∷ xs) (x ∷ xs) ≡ true
     go x e = rw (eq-eqb x x refl, e) refl
 
-pub bytes-equal : (xs ys : List ℕ) → bytes_eq xs ys ≡ true → xs ≡ ys
-bytes-equal [] [] e = refl
-bytes-equal [] (y ∷ ys) e = absurd (cc)
-bytes-equal (x ∷ xs) [] e = absurd (cc)
-bytes-equal (x ∷ xs) (y ∷ ys) e = go (x == y) refl e (bytes-equal xs ys)
-  where
-    go : (b : Bool) → (x == y) ≡ b → (b && bytes_eq xs ys) ≡ true → (bytes_eq xs ys ≡ true → xs ≡ ys) → x ∷ xs ≡ y ∷ ys
-    go true q e rest = subst (λ (z : ℕ). x ∷ xs ≡ z ∷ ys) (eqb-true x y q) (ap (λ (zs : List ℕ). x ∷ zs) (rest e))
-    go false q e rest = absurd (cc)
-
-pub equal : (a b : Digest) → digest_eq a b ≡ true → a ≡ b
-equal a b e = ap (λ (bytes : List ℕ). record { 0 = bytes }) (bytes-equal a.0 b.0 e)
-
 pub differ : (a b : Digest) → (a ≡ b → ⊥) → digest_eq a b ≡ false
 differ a b other = go (digest_eq a b) refl
   where
     go : (x : Bool) → digest_eq a b ≡ x → digest_eq a b ≡ false
     go false e = e
-    go true e = absurd (other (equal a b e))
+    go true e = absurd (other (digest_same a b e))
 
 pub digest-same : (d : Digest) → digest_eq d d ≡ true
 digest-same d = bytes-same d.0
@@ -154,7 +129,7 @@ module _ (records : List Record) (epoch : ℕ) (votes : List Cast) (once : IsOnc
     -- an earlier vote and the new one
     earlier : (t : Transaction) (o : List (Option Digest)) → Has records (record_as.Vote t o) → t.epoch ≡ epoch → (transaction_digest t ≡ transaction_digest tx → ⊥) → (key : ObjectKey) → Has (consumed_keys t) key → Has (consumed_keys tx) key → ⊥
     earlier t o h e other key k l =
-        let no = each-has (IsApartFrom (cast_of tx origins)) votes (cast_of t o) free (once.cast t o h e) (differ (transaction_digest t) (transaction_digest tx) other) key l in
+        let no = each_has (IsApartFrom (cast_of tx origins)) votes (cast_of t o) free (once.cast t o h e) (differ (transaction_digest t) (transaction_digest tx) other) key l in
         let has = has-key (consumed_keys t) key k in cc
 
     -- no earlier vote is for its transaction
@@ -174,9 +149,9 @@ module _ (records : List Record) (epoch : ℕ) (votes : List Cast) (once : IsOnc
         epochs t o (inr e) = subst (λ (y : Transaction). y.epoch ≤ epoch) (now t o e) (omega (arith, same))
 
         cast : (t : Transaction) (o : List (Option Digest)) → t.epoch ≡ epoch → Has records (record_as.Vote t o) ⊎ (record_as.Vote tx origins ≡ record_as.Vote t o) → Has (votes ++ cast_of tx origins ∷ []) (cast_of t o)
-        cast t o e (inl h) = has-left votes (cast_of tx origins ∷ []) (cast_of t o) (once.cast t o h e)
+        cast t o e (inl h) = has_left votes (cast_of tx origins ∷ []) (cast_of t o) (once.cast t o h e)
         cast t o e (inr q) = subst (λ (y : Transaction). Has (votes ++ cast_of tx origins ∷ []) (cast_of y o)) (now t o q)
-            (subst (λ (os : List (Option Digest)). Has (votes ++ cast_of tx origins ∷ []) (cast_of tx os)) (named t o q) (has-last votes (cast_of tx origins)))
+            (subst (λ (os : List (Option Digest)). Has (votes ++ cast_of tx origins ∷ []) (cast_of tx os)) (named t o q) (push_has votes (cast_of tx origins)))
 
         apart : (t u : Transaction) (o p : List (Option Digest)) → Has records (record_as.Vote t o) ⊎ (record_as.Vote tx origins ≡ record_as.Vote t o) → Has records (record_as.Vote u p) ⊎ (record_as.Vote tx origins ≡ record_as.Vote u p)
             → t.epoch ≡ u.epoch → (transaction_digest t ≡ transaction_digest u → ⊥) → (key : ObjectKey) → Has (consumed_keys t) key → Has (consumed_keys u) key → ⊥

@@ -13,6 +13,7 @@ use Rattle.chain_messages.specs.declared.messages.MemberSeal.{MemberSeal}
 use Rattle.chain_messages.specs.declared.messages.Certificate.{Certificate}
 use Rattle.journal_core.specs.declared.records.Record.TheVariants as record_as
 use Rattle.schedule_text.specs.declared.words.Event.{Event}
+use Rattle.protocol_spec.proofs.Equality.{digest_same}
 use Rattle.protocol_spec.specs.Chain.Words.{Has}
 use Rattle.protocol_spec.specs.Chain.Committee.{is_among}
 use Rattle.protocol_spec.specs.Chain.Certificates.{accepts_sender, members_of}
@@ -21,7 +22,7 @@ use Rattle.world_spec.specs.World.{Seat, new_seat, new_world, honest_seat, is_ho
 use Rattle.world_spec.specs.Run.{world_after}
 use Rattle.world_spec.specs.Assumptions.{IsHonestRun, is_faulty_in}
 use Rattle.safety_law.proofs.Meeting.{two_meet}
-use Rattle.safety_law.proofs.Once.{equal, digest-same, voted-once, voted-alike}
+use Rattle.safety_law.proofs.Once.{digest-same, voted-once, voted-alike}
 use Rattle.safety_law.specs.Owners.{IsFormedOrValid, HasStated, all_handed}
 use Rattle.safety_law.proofs.Grown.{grown-run}
 use Rattle.safety_law.proofs.Handed.{WasHanded, voted-handed}
@@ -40,7 +41,7 @@ among-seal (x ∷ xs) m e = go (x.member == m) refl e (among-seal xs m)
     go false q e rest = longer (rest e)
 
 -- who is not faulty is honest
-honest-in : (honest : List Bool) (m : ℕ) → is_faulty_in honest m ≡ false → honest_seat (slice_get (map new_seat honest) m) ≡ true
+pub honest-in : (honest : List Bool) (m : ℕ) → is_faulty_in honest m ≡ false → honest_seat (slice_get (map new_seat honest) m) ≡ true
 honest-in [] m e = absurd (cc)
 honest-in (true ∷ honest) zero e = refl
 honest-in (false ∷ honest) zero e = absurd (cc)
@@ -50,7 +51,7 @@ honest-first : (s : Setting) (m : ℕ) → is_faulty_in s.honest m ≡ false →
 unfolding new_world
 honest-first s m e = honest-in s.honest m e
 
-honest-after : (s : Setting) (events : List Event) (m : ℕ) → is_faulty_in s.honest m ≡ false → is_honest (world_after s events) m ≡ true
+pub honest-after : (s : Setting) (events : List Event) (m : ℕ) → is_faulty_in s.honest m ≡ false → is_honest (world_after s events) m ≡ true
 unfolding world_after
 honest-after s events m e = (grown-run s events (new_world s)).honest m ∙ honest-first s m e
 
@@ -98,7 +99,7 @@ module _ (s : Setting) (events : List Event) (run_is : IsHonestRun s events) whe
       differ other e = let is = subst (λ (x : Digest). digest_eq (transaction_digest c.tx) x ≡ true) e (digest-same (transaction_digest c.tx)) in cc
 
       go : (b : Bool) → digest_eq (transaction_digest c.tx) (transaction_digest d.tx) ≡ b → c.tx ≡ d.tx
-      go true e = run_is.transactions c.tx d.tx (certified-among s events run_is c is_c) (certified-among s events run_is d is_d) (equal (transaction_digest c.tx) (transaction_digest d.tx) e)
+      go true e = run_is.transactions c.tx d.tx (certified-among s events run_is c is_c) (certified-among s events run_is d is_d) (digest_same (transaction_digest c.tx) (transaction_digest d.tx) e)
       go false e = absurd (voted-once s events both.member both.seat both.at c.tx d.tx c.origins d.origins both.first both.second same (differ e) key k l)
 
   pub origins : (c d : Certificate) → IsFormedOrValid s events c → IsFormedOrValid s events d → transaction_digest c.tx ≡ transaction_digest d.tx → c.origins ≡ d.origins

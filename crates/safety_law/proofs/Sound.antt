@@ -17,11 +17,13 @@ use Rattle.chain_messages.specs.declared.messages.Entry.TheVariants as entry
 use Rattle.answer_types.specs.declared.refusals.VoteRefusal.{VoteRefusal}
 use Rattle.answer_types.specs.declared.refusals.VoteRefusal.TheVariants as no_vote
 use Rattle.answer_types.specs.declared.refusals.AckRefusal.TheVariants as no_ack
+use Rattle.protocol_spec.proofs.Equality.{origins_same, digest_same}
 use Rattle.protocol_spec.specs.Chain.Words.{Has, Each, first_some, first_of, where_true, refused_or, unless_refused}
-use Rattle.protocol_spec.specs.Chain.Tests.{origin_eq, origins_eq, list_eq}
+use Rattle.protocol_spec.specs.Chain.Tests.{origins_eq}
 use Rattle.protocol_spec.specs.Chain.Committee.{weight, total_of, is_quorum}
 use Rattle.protocol_spec.specs.Chain.Certificates.{Rules, read_signed}
-use Rattle.protocol_spec.proofs.ListLemmas.{and-first, and-second}
+use Rattle.protocol_spec.proofs.ListLemmas.{has_parts, has_left}
+use Rattle.protocol_spec.proofs.Truth.{where_not_true}
 use Rattle.protocol_spec.specs.Member.Versions.{execution_of}
 use Rattle.protocol_spec.specs.Member.Votes.{Cast, vote_origins}
 use Rattle.protocol_spec.specs.Member.Member.{Member, ballot, vote_for}
@@ -31,29 +33,14 @@ use Rattle.world_spec.specs.World.{Seat, Said, Made, Formed, World, Reached, fin
 use Rattle.world_spec.specs.Step.{says, vote_in, last_said, first_origins, vote_statement, sealed_by, Collected, short, differ, whole, lacks_where, differ_from, differs_among, too_short, whole_or, votes_collected, appended_entry, open_entries, risen_if}
 use Rattle.world_spec.specs.Making.{TxLine, with_made}
 use Rattle.world_spec.specs.Assumptions.{read_list, signed_read}
-use Rattle.safety_law.proofs.Apart.{none-of, accepted}
-use Rattle.safety_law.proofs.Backed.{has-either, has-said}
-use Rattle.safety_law.proofs.Once.{equal, has-left, has-push}
+use Rattle.safety_law.proofs.Apart.{none-of}
+use Rattle.safety_law.proofs.Backed.{has-said}
+use Rattle.safety_law.proofs.Once.{has-push}
 use Rattle.safety_law.proofs.Kept.{no-seen, no-ran, no-end, no-ack}
 use Rattle.safety_law.proofs.Steps.{Keeps, IsBacked, IsOfMade, last-said, with_formed}
 use Rattle.safety_law.proofs.Grown.{IsGrown, grown-same, grown-seat, grown-behind, grown-keeps}
 
 -- ---- equal origins
-
-origin-equal : (a b : Option Digest) → origin_eq a b ≡ true → a ≡ b
-origin-equal None None e = refl
-origin-equal None (Some b) e = absurd (cc)
-origin-equal (Some a) None e = absurd (cc)
-origin-equal (Some a) (Some b) e = ap (λ (d : Digest). Some d) (equal a b e)
-
-pub origins-equal : (xs ys : List (Option Digest)) → origins_eq xs ys ≡ true → xs ≡ ys
-origins-equal [] [] e = refl
-origins-equal [] (y ∷ ys) e = absurd (cc)
-origins-equal (x ∷ xs) [] e = absurd (cc)
-origins-equal (x ∷ xs) (y ∷ ys) e = both (origin-equal x y (and-first (origin_eq x y) (list_eq origin_eq xs ys) e)) (origins-equal xs ys (and-second (origin_eq x y) (list_eq origin_eq xs ys) e))
-  where
-    both : x ≡ y → xs ≡ ys → x ∷ xs ≡ y ∷ ys
-    both p q = cc
 
 -- ---- what collecting the whole says
 
@@ -113,7 +100,7 @@ module _ (reads : ℕ → Option (List (Option Digest))) where
   alike : (a m : ℕ) (o p : Option (List (Option Digest))) (x y : List (Option Digest)) → o ≡ Some x → p ≡ Some y → differ_from origins_eq a o m p ≡ None → x ≡ y
   alike a m None p x y eo ep e = absurd (cc)
   alike a m (Some u) None x y eo ep e = absurd (cc)
-  alike a m (Some u) (Some v) x y eo ep e = sym (same u x eo) ∙ (origins-equal u v (accepted (origins_eq u v) (differ a m) e) ∙ same v y ep)
+  alike a m (Some u) (Some v) x y eo ep e = sym (same u x eo) ∙ (origins_same u v (where_not_true (origins_eq u v) (differ a m) e) ∙ same v y ep)
     where
       same : (u x : List (Option Digest)) → Some u ≡ Some x → u ≡ x
       same u x e = cc
@@ -143,7 +130,7 @@ is-vote tx (statement.Vote e t p) o q = go (digest_eq t tx) refl q
     named a b = cc
 
     go : (b : Bool) → digest_eq t tx ≡ b → where_true b p ≡ Some o → (n : ℕ) × (statement.Vote e t p ≡ statement.Vote n tx o)
-    go true d q = (e, named (equal t tx d) q)
+    go true d q = (e, named (digest_same t tx d) q)
     go false d q = absurd (cc)
 
 module _ (s : Setting) (w : World) (tx : Digest) where
@@ -161,7 +148,7 @@ module _ (s : Setting) (w : World) (tx : Digest) where
   firsts (a ∷ ms) m e h = let none = free (a ∷ ms) e in agreed said_of a ms none.0 none.2 m h
 
   pub collected-quorum : (ms : List ℕ) → votes_collected s w tx ms ≡ whole → is_quorum s.rules.stakes (weight s.rules.stakes ms) ≡ true
-  collected-quorum ms e = accepted (is_quorum s.rules.stakes (weight s.rules.stakes ms)) (short (weight s.rules.stakes ms) (total_of s.rules.stakes)) (free ms e).1
+  collected-quorum ms e = where_not_true (is_quorum s.rules.stakes (weight s.rules.stakes ms)) (short (weight s.rules.stakes ms) (total_of s.rules.stakes)) (free ms e).1
 
   pub collected-said : (ms : List ℕ) (m : ℕ) → votes_collected s w tx ms ≡ whole → Has ms m → (e : ℕ) × Has w.said (said_by m (statement.Vote e tx (first_origins w tx ms)))
   collected-said ms m e h = go (last-said (vote_in tx) m w.said (first_origins w tx ms) (firsts ms m e h))
@@ -308,7 +295,7 @@ module _ (s : Setting) (total : List SignedTx) where
       sound-as total w (behind s w m call seat (answers before x)) (grown-behind s w m call seat (answers before x) at) refl refl refl spoken sound
     where
       spoken : (y : Said) → Has (w.said ++ map (said_by m) (stated s.rules before call)) y → IsSpoken total w.txs y.statement
-      spoken y h = go (has-either w.said (map (said_by m) (stated s.rules before call)) y h)
+      spoken y h = go (has_parts w.said (map (said_by m) (stated s.rules before call)) y h)
         where
           go : Has w.said y ⊎ Has (map (said_by m) (stated s.rules before call)) y → IsSpoken total w.txs y.statement
           go (inl h) = sound.spoken y h
@@ -363,7 +350,7 @@ module _ (s : Setting) (total : List SignedTx) where
   sound-makes : (w : World) (l : TxLine) (t : Made) → t.digest ≡ transaction_digest t.signed.tx → IsSound total w → IsSound total (with_made w l t)
   sound-makes w l t digest sound = record {
     made = λ x h. made x (has-push w.txs t x h);
-    spoken = λ x h. spoken-more total w.txs (w.txs ++ t ∷ []) (λ y k. has-left w.txs (t ∷ []) y k) x.statement (sound.spoken x h);
+    spoken = λ x h. spoken-more total w.txs (w.txs ++ t ∷ []) (λ y k. has_left w.txs (t ∷ []) y k) x.statement (sound.spoken x h);
     voted = sound.voted;
     backed = λ es h e k. backed-grown w (with_made w l t) ((grown-keeps s w).makes w l t digest (grown-same w)) e (sound.backed es h e k);
   }

@@ -13,6 +13,7 @@ use Rattle.chain_messages.specs.declared.messages.Entry.{Entry}
 use Rattle.chain_messages.specs.declared.messages.Entry.TheVariants as entry
 use Rattle.schedule_text.specs.declared.words.Event.{Event}
 use Rattle.schedule_text.specs.declared.words.Event.TheVariants as event
+use Rattle.protocol_spec.proofs.ListLemmas.{each_front, each_back, find_has}
 use Rattle.protocol_spec.specs.Chain.Words.{Has, Each, first_some, where_true, last_where}
 use Rattle.protocol_spec.specs.Member.Calls.{Call, votes, holds, runs, closes, ends, turns, acks}
 use Rattle.world_spec.specs.Setting.{Name, Setting}
@@ -22,8 +23,6 @@ use Rattle.world_spec.specs.Making.{TxLine, made_by_line, made_as, transaction_o
 use Rattle.world_spec.specs.Step.{happens, says, voted_on, fvoted, fvote_origins, formed, formed_as, first_origins, certificate_of, votes_collected, Collected, lacks, short, differ, whole, sent, ordered, honest_end, ordered_end, risen_if, has_ended, appended_entry, sealed_end, acked, false_ack, on_seat, armed_seat, started_seat, entries_left, end_in, says_of, last_said}
 use Rattle.world_spec.specs.Run.{run}
 use Rattle.world_spec.specs.Assumptions.{vote_call, send_call, call_list, see_calls, ack_call, calls_of}
-use Rattle.safety_law.proofs.InWorld.{each-front, each-back}
-use Rattle.safety_law.proofs.Kept.{find-has}
 use Rattle.safety_law.specs.Owners.{callee}
 
 -- what was found last is an element
@@ -108,7 +107,7 @@ module _ (s : Setting) (Given : Option ℕ → Call → Type 0) (Q : World → T
 
   step-sees : (n : ℕ) (w : World) (m : ℕ) → Each (Given (Some m)) (see_calls s n w m) → Q w → Q (sees_on s n w m)
   step-sees zero w m g q = q
-  step-sees (suc n) w m g q = step-sees n (called_if s w m (next_call s w m)) m (each-back (Given (Some m)) (call_list (next_call s w m)) _ g) (step-called_if w m (next_call s w m) (each-front (Given (Some m)) (call_list (next_call s w m)) _ g) q)
+  step-sees (suc n) w m g q = step-sees n (called_if s w m (next_call s w m)) m (each_back (Given (Some m)) (call_list (next_call s w m)) _ g) (step-called_if w m (next_call s w m) (each_front (Given (Some m)) (call_list (next_call s w m)) _ g) q)
 
   step-voted : (w : World) (m : ℕ) (t : Option Made) → Each (Given (Some m)) (vote_call t) → Q w → Q (voted_on s w m t)
   step-voted w m None g q = q
@@ -164,7 +163,7 @@ module _ (s : Setting) (Given : Option ℕ → Call → Type 0) (Q : World → T
   -- ---- what the lines name is there
 
   named-has : (w : World) (name : Name) (x : Made) → made_named w name ≡ Some x → Has w.txs x
-  named-has w name x e = find-has (λ (t : Made). bytes_eq t.name name) w.txs x e
+  named-has w name x e = find_has (λ (t : Made). bytes_eq t.name name) w.txs x e
 
   is-end : (st : Statement) (epoch : ℕ) → end_in st ≡ Some epoch → st ≡ statement.End epoch
   is-end (statement.Vote e t origins) epoch q = absurd (cc)

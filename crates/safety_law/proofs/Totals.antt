@@ -1,5 +1,5 @@
 -- What a whole run hands to its members is given of each call; and what each world of it is sound for.
-use Rattle.std.proofs.Common.{inl, inr, refl, sym, subst, ap}
+use Rattle.std.proofs.Common.{inl, inr, refl, sym, subst}
 use Rattle.std.proofs.lemmas.Bool.{eq-eqb}
 use Rattle.std.specs.Prelude.{◌≡◌, ◌⊎◌, ℕ, Bool, true, false, cond, List, [], ◌∷◌, ◌++◌, map, flat_map, Option, Some, None}
 use Rattle.chain_types.specs.declared.transactions.Transaction.{Transaction}
@@ -7,6 +7,7 @@ use Rattle.chain_types.specs.declared.transactions.SignedTx.{SignedTx}
 use Rattle.chain_messages.specs.declared.messages.Certificate.{Certificate}
 use Rattle.chain_messages.specs.declared.messages.Entry.{Entry}
 use Rattle.schedule_text.specs.declared.words.Event.{Event}
+use Rattle.protocol_spec.proofs.ListLemmas.{has_right, has_map, has_parts, has_left}
 use Rattle.protocol_spec.specs.Chain.Words.{Has, Each}
 use Rattle.protocol_spec.specs.Member.Calls.{Call}
 use Rattle.world_spec.specs.Setting.{Setting}
@@ -14,29 +15,10 @@ use Rattle.world_spec.specs.World.{Made, World, new_world}
 use Rattle.world_spec.specs.Step.{happens}
 use Rattle.world_spec.specs.Run.{world_after}
 use Rattle.world_spec.specs.Assumptions.{calls_of, signed_read, asked, all_of, all_formed, all_delivered, all_transactions}
-use Rattle.safety_law.proofs.Backed.{has-either}
 use Rattle.safety_law.proofs.InWorld.{each-any}
-use Rattle.safety_law.proofs.Once.{has-left}
 use Rattle.safety_law.specs.Owners.{callee, is_member, handed}
 use Rattle.safety_law.proofs.Steps.{IsBacked, AllGiven, step-run}
 use Rattle.safety_law.proofs.Sound.{IsSound, IsGiven, IsGivenCall, sound-keeps}
-
-pub has-right : {A : Type 0} (xs ys : List A) (y : A) → Has ys y → Has (xs ++ ys) y
-has-right [] ys y h = h
-has-right (x ∷ xs) ys y h = inr (has-right xs ys y h)
-
-pub has-map : {A B : Type 0} (f : A → B) (xs : List A) (x : A) → Has xs x → Has (map f xs) (f x)
-has-map f [] x h = absurd h
-has-map f (y ∷ ys) x (inl e) = inl (ap f e)
-has-map f (y ∷ ys) x (inr h) = inr (has-map f ys x h)
-
-pub has-mapped : {A B : Type 0} (f : A → B) (xs : List A) (y : B) → Has (map f xs) y → (x : A) × Has xs x × (f x ≡ y)
-has-mapped f [] y h = absurd h
-has-mapped f (x ∷ xs) y (inl e) = (x, inl refl, e)
-has-mapped {A} f (x ∷ xs) y (inr h) = go (has-mapped f xs y h)
-  where
-    go : (z : A) × Has xs z × (f z ≡ y) → (z : A) × Has (x ∷ xs) z × (f z ≡ y)
-    go (z, h, e) = (z, inr h, e)
 
 pub each-all : {A : Type 0} (P : A → Type 0) (xs : List A) → ((x : A) → Has xs x → P x) → Each P xs
 each-all P [] all = tt
@@ -45,7 +27,7 @@ each-all P (x ∷ xs) all = (all x (inl refl), each-all P xs (λ y h. all y (inr
 -- what holds of all that the elements give
 pub flat-each : {A B : Type 0} (f : A → List B) (P : B → Type 0) (xs : List A) → ((y : B) → Has (flat_map f xs) y → P y) → Each (λ (x : A). Each P (f x)) xs
 flat-each f P [] all = tt
-flat-each f P (x ∷ xs) all = (each-all P (f x) (λ y h. all y (has-left (f x) (flat_map f xs) y h)), flat-each f P xs (λ y h. all y (has-right (f x) (flat_map f xs) y h)))
+flat-each f P (x ∷ xs) all = (each-all P (f x) (λ y h. all y (has_left (f x) (flat_map f xs) y h)), flat-each f P xs (λ y h. all y (has_right (f x) (flat_map f xs) y h)))
 
 -- ---- what a run hands to its members
 
@@ -54,8 +36,8 @@ module _ (s : Setting) where
   unfolding asked
   asked-given total [] w sub = tt
   asked-given total (e ∷ events) w sub = (
-    flat-each (signed_read s.rules) (Has total) (calls_of s w e) (λ y h. sub y (has-left (flat_map (signed_read s.rules) (calls_of s w e)) _ y h)),
-    asked-given total events (happens s w e) (λ y h. sub y (has-right (flat_map (signed_read s.rules) (calls_of s w e)) _ y h)),
+    flat-each (signed_read s.rules) (Has total) (calls_of s w e) (λ y h. sub y (has_left (flat_map (signed_read s.rules) (calls_of s w e)) _ y h)),
+    asked-given total events (happens s w e) (λ y h. sub y (has_right (flat_map (signed_read s.rules) (calls_of s w e)) _ y h)),
   )
 
   -- a call is on a member that was handed what is read from it
@@ -84,11 +66,11 @@ module _ (s : Setting) where
 
   pub handed-among : (m : ℕ) (events : List Event) (w : World) (x : SignedTx) → Has (all_of (handed m) s events w) x → Has (all_of asked s events w) x
   handed-among m [] w x h = h
-  handed-among m (e ∷ events) w x h = go (has-either (handed m s w e) (all_of (handed m) s events (happens s w e)) x h) (handed-among m events (happens s w e) x)
+  handed-among m (e ∷ events) w x h = go (has_parts (handed m s w e) (all_of (handed m) s events (happens s w e)) x h) (handed-among m events (happens s w e) x)
     where
       go : Has (handed m s w e) x ⊎ Has (all_of (handed m) s events (happens s w e)) x → (Has (all_of (handed m) s events (happens s w e)) x → Has (all_of asked s events (happens s w e)) x) → Has (all_of asked s (e ∷ events) w) x
-      go (inl h) rest = has-left (asked s w e) (all_of asked s events (happens s w e)) x (handed-asked m w e x h)
-      go (inr h) rest = has-right (asked s w e) (all_of asked s events (happens s w e)) x (rest h)
+      go (inl h) rest = has_left (asked s w e) (all_of asked s events (happens s w e)) x (handed-asked m w e x h)
+      go (inr h) rest = has_right (asked s w e) (all_of asked s events (happens s w e)) x (rest h)
 
   line-given : (total : ℕ → List SignedTx) (w : World) (e : Event) → ((m : ℕ) (x : SignedTx) → Has (handed m s w e) x → Has (total m) x) → Each (IsHandedCall total (callee e)) (calls_of s w e)
   unfolding asked
@@ -101,8 +83,8 @@ module _ (s : Setting) where
   pub handed-given : (total : ℕ → List SignedTx) (events : List Event) (w : World) → ((m : ℕ) (x : SignedTx) → Has (all_of (handed m) s events w) x → Has (total m) x) → AllGiven s (IsHandedCall total) events w
   handed-given total [] w sub = tt
   handed-given total (e ∷ events) w sub = (
-    line-given total w e (λ m x h. sub m x (has-left (handed m s w e) (all_of (handed m) s events (happens s w e)) x h)),
-    handed-given total events (happens s w e) (λ m x h. sub m x (has-right (handed m s w e) (all_of (handed m) s events (happens s w e)) x h)),
+    line-given total w e (λ m x h. sub m x (has_left (handed m s w e) (all_of (handed m) s events (happens s w e)) x h)),
+    handed-given total events (happens s w e) (λ m x h. sub m x (has_right (handed m s w e) (all_of (handed m) s events (happens s w e)) x h)),
   )
 
   -- ---- the world at the end
@@ -125,13 +107,13 @@ module _ (s : Setting) where
 
 pub given-among : (s : Setting) (events : List Event) (t : Transaction) → IsGiven (all_of asked s events (new_world s)) (world_after s events).txs t → Has (all_transactions s events) t
 unfolding all_transactions
-given-among s events t (inl (x, h, e)) = has-left _ _ t (subst (Has (map (λ (y : Made). y.signed.tx) (world_after s events).txs)) e (has-map (λ (y : Made). y.signed.tx) (world_after s events).txs x h))
+given-among s events t (inl (x, h, e)) = has_left _ _ t (subst (Has (map (λ (y : Made). y.signed.tx) (world_after s events).txs)) e (has_map (λ (y : Made). y.signed.tx) (world_after s events).txs x h))
 given-among s events t (inr (x, h, e)) =
-    has-right (map (λ (y : Made). y.signed.tx) (world_after s events).txs) _ t
-    (has-left (map (λ (y : SignedTx). y.tx) (all_of asked s events (new_world s))) _ t (subst (Has (map (λ (y : SignedTx). y.tx) (all_of asked s events (new_world s)))) e (has-map (λ (y : SignedTx). y.tx) (all_of asked s events (new_world s)) x h)))
+    has_right (map (λ (y : Made). y.signed.tx) (world_after s events).txs) _ t
+    (has_left (map (λ (y : SignedTx). y.tx) (all_of asked s events (new_world s))) _ t (subst (Has (map (λ (y : SignedTx). y.tx) (all_of asked s events (new_world s)))) e (has_map (λ (y : SignedTx). y.tx) (all_of asked s events (new_world s)) x h)))
 
 pub certificate-among : (s : Setting) (events : List Event) (c : Certificate) → Has (all_formed s events ++ all_delivered s events) c → Has (all_transactions s events) c.tx
 unfolding all_transactions
 certificate-among s events c h =
-    has-right (map (λ (y : Made). y.signed.tx) (world_after s events).txs) _ c.tx
-    (has-right (map (λ (y : SignedTx). y.tx) (all_of asked s events (new_world s))) _ c.tx (has-map (λ (d : Certificate). d.tx) (all_formed s events ++ all_delivered s events) c h))
+    has_right (map (λ (y : Made). y.signed.tx) (world_after s events).txs) _ c.tx
+    (has_right (map (λ (y : SignedTx). y.tx) (all_of asked s events (new_world s))) _ c.tx (has_map (λ (d : Certificate). d.tx) (all_formed s events ++ all_delivered s events) c h))

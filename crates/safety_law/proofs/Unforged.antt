@@ -13,6 +13,7 @@ use Rattle.chain_messages.specs.declared.messages.Entry.{Entry}
 use Rattle.chain_messages.specs.declared.messages.Entry.TheVariants as entry
 use Rattle.schedule_text.specs.declared.words.Event.{Event}
 use Rattle.schedule_text.specs.declared.words.Event.TheVariants as event
+use Rattle.protocol_spec.proofs.ListLemmas.{each_has, has_left, has_map, each_join}
 use Rattle.protocol_spec.specs.Chain.Words.{Has, Each}
 use Rattle.protocol_spec.specs.Chain.Certificates.{read_as, read_certificate, read_entry, vote_of}
 use Rattle.protocol_spec.specs.Member.Member.{Member}
@@ -24,17 +25,15 @@ use Rattle.world_spec.specs.Step.{happens, open_entries, entries_left}
 use Rattle.world_spec.specs.Run.{run, world_after}
 use Rattle.world_spec.specs.Assumptions.{vote_call, send_call, call_list, see_calls, ack_call, calls_of, read_list, entry_certificates, entry_ends, certificates_read, ends_read, asked, delivered, delivered_ends, all_of, all_formed, all_delivered, all_transactions, IsStated, IsUnforged, IsUnforgedEnd, NoForgery, TransactionsApart}
 use Rattle.safety_law.proofs.InWorld.{each-any}
-use Rattle.safety_law.proofs.Once.{each-has, has-left}
 use Rattle.safety_law.specs.Owners.{is_raw_hold, AreSpellable}
 use Rattle.safety_law.proofs.Steps.{Keeps, IsBacked, AllGiven, step-line, named-backed}
 use Rattle.safety_law.proofs.Grown.{IsGrown, grown-run}
 use Rattle.safety_law.proofs.Sound.{IsSound, IsSpoken, IsGivenCall, sound-keeps, entry-in, given-more, get-has}
-use Rattle.safety_law.proofs.Totals.{each-all, asked-given, sound-new, has-map, given-among, certificate-among}
-use Rattle.safety_law.proofs.Forks.{each-join}
+use Rattle.safety_law.proofs.Totals.{each-all, asked-given, sound-new, given-among, certificate-among}
 
 each-flat : {A B : Type 0} (f : A → List B) (P : B → Type 0) (xs : List A) → Each (λ (x : A). Each P (f x)) xs → Each P (flat_map f xs)
 each-flat f P [] each = tt
-each-flat f P (x ∷ xs) each = each-join P (f x) (flat_map f xs) each.0 (each-flat f P xs each.1)
+each-flat f P (x ∷ xs) each = each_join P (f x) (flat_map f xs) each.0 (each-flat f P xs each.1)
 
 -- ---- what is spelled is read back
 
@@ -86,7 +85,7 @@ module _ (s : Setting) where
     calls = λ w m call _ g n x h. subst (λ (qs : List (List Entry)). Has (entries_at qs n) x) (sym (same-called w m call)) (g n x h);
     lies = λ w m st _ _ g. g;
     seats = λ w m seat new _ _ _ g. g;
-    enters = λ w e _ g n x h. entries-set w.sequences w.epoch (open_entries w ++ e ∷ []) (λ y k. has-left (open_entries w) (e ∷ []) y k) n x (g n x h);
+    enters = λ w e _ g n x h. entries-set w.sequences w.epoch (open_entries w ++ e ∷ []) (λ y k. has_left (open_entries w) (e ∷ []) y k) n x (g n x h);
     rises = λ w g n x h. entries-more w.sequences n x (g n x h);
     makes = λ w l t _ g. g;
     forms = λ w t ms _ _ g. g;
@@ -105,7 +104,7 @@ module _ (s : Setting) (all : List Event) (apart : TransactionsApart (all_transa
     (sound : IsSound (all_of asked s all (new_world s)) w) (grown : IsGrown w (world_after s all)) (longer : IsLonger w (world_after s all)) where
   formed-among : (f : Formed) → Has w.certs f → Has (all_formed s all) f.cert
   unfolding all_formed
-  formed-among f h = has-map (λ (g : Formed). g.cert) (world_after s all).certs f (grown.certs f h)
+  formed-among f h = has_map (λ (g : Formed). g.cert) (world_after s all).certs f (grown.certs f h)
 
   backed-unforged : (c : Certificate) → IsBacked w (entry.Cert c) → IsUnforged s w c
   backed-unforged c (f, h, q) = subst (IsUnforged s w) q (each-all (λ (x : MemberSeal). IsStated s w x.member (vote_of f.cert) x.seal) f.cert.seals (λ x k honest accepted. stated x k))
@@ -118,7 +117,7 @@ module _ (s : Setting) (all : List Event) (apart : TransactionsApart (all_transa
             where
               go : IsSpoken (all_of asked s all (new_world s)) w.txs (statement.Vote e (transaction_digest f.cert.tx) f.cert.origins) → Has w.said (said_by x.member (vote_of f.cert))
               go (t, given, d, n) =
-                  let one = apart t f.cert.tx (given-among s all t (given-more (all_of asked s all (new_world s)) w.txs (world_after s all).txs grown.txs t given)) (certificate-among s all f.cert (has-left (all_formed s all) (all_delivered s all) f.cert (formed-among f h))) d in
+                  let one = apart t f.cert.tx (given-among s all t (given-more (all_of asked s all (new_world s)) w.txs (world_after s all).txs grown.txs t given)) (certificate-among s all f.cert (has_left (all_formed s all) (all_delivered s all) f.cert (formed-among f h))) d in
                   subst (λ (k : ℕ). Has w.said (said_by x.member (statement.Vote k (transaction_digest f.cert.tx) f.cert.origins))) (sym n ∙ ap (λ (y : Transaction). y.epoch) one) told
 
   abbrev pub IsHonestCall : Call → Type 0
@@ -129,7 +128,7 @@ module _ (s : Setting) (all : List Event) (apart : TransactionsApart (all_transa
   honest-hold c backed = (subst (λ (read : Result Certificate WireFault). Each (IsUnforged s w) (read_list read)) (sym (back-certificate c (fits backed))) (backed-unforged c backed, tt), tt)
     where
       fits : IsBacked w (entry.Cert c) → messages.certificate.fits c
-      fits (f, h, q) = subst (λ (d : Certificate). messages.certificate.fits d) q (each-has (λ (d : Certificate). messages.certificate.fits d) (all_formed s all) f.cert spellable.certificates (formed-among f h))
+      fits (f, h, q) = subst (λ (d : Certificate). messages.certificate.fits d) q (each_has (λ (d : Certificate). messages.certificate.fits d) (all_formed s all) f.cert spellable.certificates (formed-among f h))
 
   -- an entry that is seen
   honest-entry : (e : Entry) → IsBacked w e → Each (IsUnforged s w) (entry_certificates e) × Each (IsUnforgedEnd s w) (entry_ends e)
@@ -141,12 +140,12 @@ module _ (s : Setting) (all : List Event) (apart : TransactionsApart (all_transa
   honest-read e backed read q =
       let both = honest-entry e backed in
       subst (λ (r : Result Entry WireFault). Each (IsUnforged s w) (flat_map entry_certificates (read_list r)) × Each (IsUnforgedEnd s w) (flat_map entry_ends (read_list r))) (sym q)
-      (each-join (IsUnforged s w) (entry_certificates e) [] both.0 tt, each-join (IsUnforgedEnd s w) (entry_ends e) [] both.1 tt)
+      (each_join (IsUnforged s w) (entry_certificates e) [] both.0 tt, each_join (IsUnforgedEnd s w) (entry_ends e) [] both.1 tt)
 
   honest-see : (number n : ℕ) (e : Entry) → Has (entries_at w.sequences n) e → IsHonestCall (sees number (messages.entry.spell e))
   honest-see number n e h =
       let at = entry-in w.sequences n e h in
-      honest-read e (sound.backed at.0 at.1 e at.2) (read_entry (messages.entry.spell e)) (back-entry e (each-has (λ (x : Entry). messages.entry.fits x) (entries_at (world_after s all).sequences n) e (spellable.entries n) (longer n e h)))
+      honest-read e (sound.backed at.0 at.1 e at.2) (read_entry (messages.entry.spell e)) (back-entry e (each_has (λ (x : Entry). messages.entry.fits x) (entries_at (world_after s all).sequences n) e (spellable.entries n) (longer n e h)))
 
   -- the next entry of a member, in a world with the same sequences
   honest-next : (v : World) → v.sequences ≡ w.sequences → (m : ℕ) → Each IsHonestCall (call_list (next_call s v m))
@@ -166,7 +165,7 @@ module _ (s : Setting) (all : List Event) (apart : TransactionsApart (all_transa
 
   honest-sees : (n : ℕ) (v : World) → v.sequences ≡ w.sequences → (m : ℕ) → Each IsHonestCall (see_calls s n v m)
   honest-sees zero v same m = tt
-  honest-sees (suc n) v same m = each-join IsHonestCall (call_list (next_call s v m)) _ (honest-next v same m) (honest-sees n (called_if s v m (next_call s v m)) (same-called_if s v m (next_call s v m) ∙ same) m)
+  honest-sees (suc n) v same m = each_join IsHonestCall (call_list (next_call s v m)) _ (honest-next v same m) (honest-sees n (called_if s v m (next_call s v m)) (same-called_if s v m (next_call s v m) ∙ same) m)
 
   honest-vote : (t : Option Made) → Each IsHonestCall (vote_call t)
   honest-vote None = tt

@@ -11,6 +11,8 @@ use Rattle.chain_messages.specs.declared.messages.MemberSeal.{MemberSeal}
 use Rattle.chain_messages.specs.declared.messages.Certificate.{Certificate}
 use Rattle.journal_core.specs.declared.records.Record.TheVariants as record_as
 use Rattle.schedule_text.specs.declared.words.Event.{Event}
+use Rattle.protocol_spec.proofs.ListLemmas.{has_parts, each_has, has_left, has_right, has_mapped}
+use Rattle.protocol_spec.proofs.Truth.{where_not_true}
 use Rattle.protocol_spec.specs.Chain.Words.{Has, Each}
 use Rattle.protocol_spec.specs.Chain.Committee.{weight, total_of, is_quorum}
 use Rattle.protocol_spec.specs.Chain.Certificates.{Rules, accepts_statement, vote_of, members_of, bad_seal, cert_cases, cert_refusal}
@@ -19,14 +21,12 @@ use Rattle.world_spec.specs.World.{Seat, Formed, World, new_world, said_by, hone
 use Rattle.world_spec.specs.Step.{happens}
 use Rattle.world_spec.specs.Run.{run, world_after}
 use Rattle.world_spec.specs.Assumptions.{asked, delivered, all_of, all_formed, all_delivered, all_transactions, IsCertified, IsUnforged, NoForgery, TransactionsApart, IsHonestRun, IsStated}
-use Rattle.safety_law.proofs.Apart.{none-each, none-of, accepted}
-use Rattle.safety_law.proofs.Backed.{has-either}
-use Rattle.safety_law.proofs.Once.{each-has, has-left}
+use Rattle.safety_law.proofs.Apart.{none-each, none-of}
 use Rattle.safety_law.proofs.Kept.{IsKept, every-vote}
 use Rattle.safety_law.specs.Owners.{IsFormedOrValid, HasStated, HasKept, all_handed}
 use Rattle.safety_law.proofs.Grown.{IsGrown, grown-run}
 use Rattle.safety_law.proofs.Sound.{IsSpoken}
-use Rattle.safety_law.proofs.Totals.{each-all, has-right, has-mapped, sound-after, given-among, certificate-among, handed-among}
+use Rattle.safety_law.proofs.Totals.{each-all, sound-after, given-among, certificate-among, handed-among}
 use Rattle.safety_law.proofs.Quorate.{quorate-after}
 use Rattle.safety_law.proofs.Handed.{WasHanded, voted-handed}
 
@@ -34,17 +34,17 @@ use Rattle.safety_law.proofs.Handed.{WasHanded, voted-handed}
 
 pub valid-quorum : (r : Rules) (c : Certificate) → cert_refusal r c ≡ None → is_quorum r.stakes (weight r.stakes (members_of c)) ≡ true
 unfolding cert_refusal
-valid-quorum r c e = accepted (is_quorum r.stakes (weight r.stakes (members_of c))) (refused.ShortStake (weight r.stakes (members_of c)) (total_of r.stakes)) (none-each (cert_cases r c) e).1.1.1.0
+valid-quorum r c e = where_not_true (is_quorum r.stakes (weight r.stakes (members_of c))) (refused.ShortStake (weight r.stakes (members_of c)) (total_of r.stakes)) (none-each (cert_cases r c) e).1.1.1.0
 
 pub valid-sealed : (r : Rules) (c : Certificate) → cert_refusal r c ≡ None → (x : MemberSeal) → Has c.seals x → accepts_statement r x.member (vote_of c) x.seal ≡ true
 unfolding cert_refusal
-valid-sealed r c e x h = accepted (accepts_statement r x.member (vote_of c) x.seal) (refused.BadSeal x.member) (none-of (bad_seal r c) c.seals x (none-each (cert_cases r c) e).1.1.1.1.0 h)
+valid-sealed r c e x h = where_not_true (accepts_statement r x.member (vote_of c) x.seal) (refused.BadSeal x.member) (none-of (bad_seal r c) c.seals x (none-each (cert_cases r c) e).1.1.1.1.0 h)
 
 -- ---- formed certificates
 
 formed-of : (s : Setting) (events : List Event) (c : Certificate) → Has (all_formed s events) c → (f : Formed) × Has (world_after s events).certs f × (f.cert ≡ c)
 unfolding all_formed
-formed-of s events c h = has-mapped (λ (f : Formed). f.cert) (world_after s events).certs c h
+formed-of s events c h = has_mapped (λ (f : Formed). f.cert) (world_after s events).certs c h
 
 module _ (s : Setting) (events : List Event) (apart : TransactionsApart (all_transactions s events)) where
   -- a vote that was stated for a transaction of the run is of its epoch
@@ -61,7 +61,7 @@ module _ (s : Setting) (events : List Event) (apart : TransactionsApart (all_tra
       go (f, l, q) =
           let v = (sound-after s events).voted f l x (subst (λ (d : Certificate). Has d.seals x) (sym q) k) in
           let told : Has (world_after s events).said (said_by x.member (statement.Vote v.0 (transaction_digest c.tx) c.origins)) = subst (λ (d : Certificate). Has (world_after s events).said (said_by x.member (statement.Vote v.0 (transaction_digest d.tx) d.origins))) q v.1 in
-          let same = stated-epoch c.tx (certificate-among s events c (has-left (all_formed s events) (all_delivered s events) c h)) x.member v.0 c.origins told in
+          let same = stated-epoch c.tx (certificate-among s events c (has_left (all_formed s events) (all_delivered s events) c h)) x.member v.0 c.origins told in
           subst (λ (n : ℕ). Has (world_after s events).said (said_by x.member (statement.Vote n (transaction_digest c.tx) c.origins))) same told
 
 pub each-formed : (s : Setting) (events : List Event) → TransactionsApart (all_transactions s events) → (c : Certificate) → Has (all_formed s events) c → Each (λ (x : MemberSeal). HasStated (world_after s events) c x.member) c.seals
@@ -72,10 +72,10 @@ each-formed s events apart c h = each-all (λ (x : MemberSeal). HasStated (world
 -- where it was delivered it was unforged, and the world grew on
 unforged-at : (s : Setting) (c : Certificate) (events : List Event) (w : World) → NoForgery s events w → Has (all_of delivered s events w) c → (v : World) × IsUnforged s v c × IsGrown v (run s events w)
 unforged-at s c [] w none h = absurd h
-unforged-at s c (e ∷ events) w none h = go (has-either (delivered s w e) (all_of delivered s events (happens s w e)) c h) (unforged-at s c events (happens s w e) none.2)
+unforged-at s c (e ∷ events) w none h = go (has_parts (delivered s w e) (all_of delivered s events (happens s w e)) c h) (unforged-at s c events (happens s w e) none.2)
   where
     go : Has (delivered s w e) c ⊎ Has (all_of delivered s events (happens s w e)) c → (Has (all_of delivered s events (happens s w e)) c → (v : World) × IsUnforged s v c × IsGrown v (run s events (happens s w e))) → (v : World) × IsUnforged s v c × IsGrown v (run s (e ∷ events) w)
-    go (inl h) rest = (w, each-has (IsUnforged s w) (delivered s w e) c none.0 h, grown-run s (e ∷ events) w)
+    go (inl h) rest = (w, each_has (IsUnforged s w) (delivered s w e) c none.0 h, grown-run s (e ∷ events) w)
     go (inr h) rest = rest h
 
 pub delivered-stated : (s : Setting) (events : List Event) → NoForgery s events (new_world s) → (c : Certificate) → Has (all_delivered s events) c → cert_refusal s.rules c ≡ None
@@ -84,14 +84,14 @@ unfolding all_delivered world_after
 delivered-stated s events none c h valid x k honest = go (unforged-at s c events (new_world s) none h)
   where
     go : (v : World) × IsUnforged s v c × IsGrown v (run s events (new_world s)) → HasStated (run s events (new_world s)) c x.member
-    go (v, each, grown) = grown.said (said_by x.member (vote_of c)) (each-has (λ (y : MemberSeal). IsStated s v y.member (vote_of c) y.seal) c.seals x each k (sym (grown.honest x.member) ∙ honest) (valid-sealed s.rules c valid x k))
+    go (v, each, grown) = grown.said (said_by x.member (vote_of c)) (each_has (λ (y : MemberSeal). IsStated s v y.member (vote_of c) y.seal) c.seals x each k (sym (grown.honest x.member) ∙ honest) (valid-sealed s.rules c valid x k))
 
 -- ---- certified transactions
 
 module _ (s : Setting) (events : List Event) (run_is : IsHonestRun s events) where
   pub certified-among : (c : Certificate) → IsFormedOrValid s events c → Has (all_transactions s events) c.tx
-  certified-among c (inl h) = certificate-among s events c (has-left (all_formed s events) (all_delivered s events) c h)
-  certified-among c (inr d) = certificate-among s events c (has-right (all_formed s events) (all_delivered s events) c d.0)
+  certified-among c (inl h) = certificate-among s events c (has_left (all_formed s events) (all_delivered s events) c h)
+  certified-among c (inr d) = certificate-among s events c (has_right (all_formed s events) (all_delivered s events) c d.0)
 
   pub certified-quorum : (c : Certificate) → IsFormedOrValid s events c → is_quorum s.rules.stakes (weight s.rules.stakes (members_of c)) ≡ true
   certified-quorum c (inr d) = valid-quorum s.rules c d.1
@@ -129,7 +129,7 @@ module _ (s : Setting) (events : List Event) (run_is : IsHonestRun s events) whe
       (told, (at.0, at.1, stated-kept c certified x.member at.0 at.1 at.2 told))
 
 pub certified-is : (s : Setting) (events : List Event) (c : Certificate) → IsCertified s events c → IsFormedOrValid s events c
-certified-is s events c certified = go (has-either (all_formed s events) (all_delivered s events) c certified.comes)
+certified-is s events c certified = go (has_parts (all_formed s events) (all_delivered s events) c certified.comes)
   where
     go : Has (all_formed s events) c ⊎ Has (all_delivered s events) c → IsFormedOrValid s events c
     go (inl h) = inl h

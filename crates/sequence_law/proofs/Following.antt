@@ -17,6 +17,7 @@ use Rattle.chain_types.specs.Equal.{digest_eq, id_eq}
 use Rattle.chain_types.specs.Digests.{transaction_digest, digest_of_object}
 use Rattle.effects_core.specs.declared.effects.Effects.{Effects}
 use Rattle.effects_core.specs.declared.effects.Written.{Written}
+use Rattle.protocol_spec.proofs.Equality.{id_same}
 use Rattle.protocol_spec.specs.Chain.Words.{Each, all_some, onto_some, numbers_below, repeats}
 use Rattle.protocol_spec.specs.Chain.Keys.{fits, fits_input, fit_inputs, pays_gas, objects_of, version_of, version_limit, money_of, currency_sum, is_owned_by, is_immutable, is_shared_since}
 use Rattle.protocol_spec.proofs.ListLemmas.{and-first, and-second}
@@ -26,12 +27,11 @@ use Rattle.protocol_spec.specs.Member.Sequential.{Objects, at_version, named_in,
 use Rattle.block_law.specs.Money.{supply_of, caps_of, cap_count}
 use Rattle.block_law.specs.Names.{drawn_id, drawn_ids}
 use Rattle.block_law.specs.Keeping.{objects_before, gas_in}
-use Rattle.block_law.proofs.Counts.{id_same}
 use Rattle.block_law.proofs.Slots.{Every}
 use Rattle.block_law.proofs.Kept.{Good}
 use Rattle.block_law.proofs.Steps.{map-append}
 use Rattle.block_law.proofs.Blocks.{done-is}
-use Rattle.block_law.proofs.Effects.{IsOrigin, origins, after-id, left-id, id_of, first_ids, written-ids, written-are, rest-ids, cost-ids, same-ids, name_once}
+use Rattle.block_law.proofs.Effects.{IsOrigin, origins, after-id, left-id, id_of, first_ids, written-ids, written-are, rest-ids, cost-ids, same-ids, name_once, first-of-four}
 use Rattle.block_law.proofs.Sums.{objects_weight, option_weight}
 use Rattle.block_law.proofs.Keeping.{money_moves, caps_kept, no-supply, sum-weight}
 use Rattle.sequence_law.specs.Kept.{held_in, supplied_in, gas_of, MayFollow, Follow, opened_with}
@@ -50,16 +50,13 @@ at-found version (Some p) o e = go (p.version == version) e
     go true e = e
     go false e = absurd (cc)
 
-first-of-four : (a b c d : Bool) → (a && b && c && d) ≡ true → a ≡ true
-first-of-four a b c d e = and-first a b (and-first (a && b) c (and-first (a && b && c) d e))
-
 named-stands : (m : Objects) (t : Transaction) (i : Input) (o : Object) → named_in m i ≡ Some o → fits_input t i o ≡ true → Stands m o
 named-stands m t (inputs.Pure bytes) o e fit = absurd (cc)
 named-stands m t (inputs.Owned r) o e fit = ap (get m) (id_same o.id r.id (first-of-four (id_eq o.id r.id) (o.version == r.version) (digest_eq (digest_of_object o) r.digest) (is_owned_by t.sender o.owner) fit)) ∙ at-found r.version (get m r.id) o e
 named-stands m t (inputs.Immutable r) o e fit = ap (get m) (id_same o.id r.id (first-of-four (id_eq o.id r.id) (o.version == r.version) (digest_eq (digest_of_object o) r.digest) (is_immutable o.owner) fit)) ∙ at-found r.version (get m r.id) o e
 named-stands m t (inputs.Shared id initial mutable) o e fit = ap (get m) (id_same o.id id (and-first (id_eq o.id id) (is_shared_since initial o.owner) fit)) ∙ e
 
-onto-parts : (x : Object) (rest : Option (List Object)) (o : Object) (os : List Object) → onto_some x rest ≡ Some (o ∷ os) → (x ≡ o) × (rest ≡ Some os)
+pub onto-parts : (x : Object) (rest : Option (List Object)) (o : Object) (os : List Object) → onto_some x rest ≡ Some (o ∷ os) → (x ≡ o) × (rest ≡ Some os)
 onto-parts x None o os e = absurd (cc)
 onto-parts x (Some xs) o os e = (cc, cc)
 

@@ -1,24 +1,27 @@
 -- The live objects are those of one thread's map.
 use Rattle.std.proofs.Common.{inl, inr, refl, ap, subst, sym, ◌∙◌, append_assoc, append-nil, arith}
-use Rattle.std.specs.Prelude.{◌≡◌, ◌⊎◌, ◌<◌, Bool, true, false, cond, ◌||◌, List, [], ◌∷◌, ◌++◌, map, fold, filter, flat_map, zip, Option, Some, None}
+use Rattle.std.specs.Prelude.{◌≡◌, ◌⊎◌, ◌<◌, Bool, true, false, cond, ◌||◌, List, [], ◌∷◌, ◌++◌, map, fold, filter, flat_map, Option, Some, None}
 use Rattle.std.specs.List.{list_any}
 use Rattle.std.specs.FinMap.{get}
 use Rattle.chain_types.specs.declared.objects.ObjectId.{ObjectId}
 use Rattle.chain_types.specs.declared.objects.Object.{Object}
 use Rattle.answer_types.specs.declared.pieces.Executed.{Executed}
 use Rattle.chain_types.specs.Equal.{id_eq}
+use Rattle.protocol_spec.proofs.Equality.{id_same}
+use Rattle.protocol_spec.proofs.ListLemmas.{flat_has, has_map, has_parts, has_mapped, has_left, has_right}
+use Rattle.protocol_spec.proofs.Truth.{or_false_right}
 use Rattle.protocol_spec.specs.Chain.Words.{Has, Along}
 use Rattle.protocol_spec.specs.Chain.Tests.{has_id}
 use Rattle.protocol_spec.specs.Chain.Keys.{objects_of}
-use Rattle.protocol_spec.proofs.ListLemmas.{or-second}
 use Rattle.protocol_spec.specs.Member.Versions.{Execution, Version, opened, written, written_by, versions, is_id, object_in, newer, newest, is_deleted, live}
 use Rattle.protocol_spec.specs.Member.Sequential.{Objects, map_of, map_after, Folded, fold_all}
-use Rattle.block_law.proofs.Counts.{id_same, id_refl}
+use Rattle.block_law.proofs.Counts.{id_refl}
+use Rattle.block_law.proofs.Written.{second}
 use Rattle.sequence_law.specs.Orderly.{Step, gave, tx_of, id_of, IsKnown, IsOrderly, AreApart, AreOrderly}
 use Rattle.sequence_law.specs.Leaving.{IsOfSteps}
 use Rattle.sequence_law.proofs.Standing.{stays-after, stands-after, stands-opening, gone-after, none-opening}
-use Rattle.sequence_law.proofs.Touched.{has-parts, has-mapped, IsReplaced, IsTouched, touched-object, written-version, above}
-use Rattle.sequence_law.proofs.Reading.{has-left, has-right, has-id, has-mapped-id, given_ids, object-given, after_steps, after-push, WroteKnown, IsGoneOver, given-once, finds-next, over-next, thread-is, goes-over, known-more}
+use Rattle.sequence_law.proofs.Touched.{IsReplaced, IsTouched, touched-object, written-version, above}
+use Rattle.sequence_law.proofs.Reading.{has-id, has-mapped-id, given_ids, object-given, after_steps, after-push, WroteKnown, IsGoneOver, given-once, finds-next, over-next, thread-is, goes-over, known-more}
 use Rattle.sequence_law.proofs.Newest.{IsUpTo, newest-is}
 
 -- ---- elements
@@ -36,15 +39,9 @@ object-with [] id h = absurd h
 object-with (o ∷ os) id (inl e) = (o, inl refl, e)
 object-with (o ∷ os) id (inr h) = let r = object-with os id h in (r.0, inr r.1, r.2)
 
-has-first : {A B : Type 0} (xs : List A) (ys : List B) (x : A) (y : B) → Has (zip xs ys) (x, y) → Has ys y
-has-first [] ys x y h = absurd h
-has-first (a ∷ xs) [] x y h = absurd h
-has-first {A = A} {B = B} (a ∷ xs) (b ∷ ys) x y (inl e) = inl (ap (λ (z : A × B). z.1) e)
-has-first (a ∷ xs) (b ∷ ys) x y (inr h) = inr (has-first xs ys x y h)
-
 any-joined : (id : ObjectId) (xs ys : List ObjectId) → has_id xs id ≡ false → has_id ys id ≡ false → has_id (xs ++ ys) id ≡ false
 any-joined id [] ys none more = more
-any-joined id (x ∷ xs) ys none more = go (id_eq id x) none (any-joined id xs ys (or-second (id_eq id x) (has_id xs id) none) more)
+any-joined id (x ∷ xs) ys none more = go (id_eq id x) none (any-joined id xs ys (or_false_right (id_eq id x) (has_id xs id) none) more)
   where
     go : (b : Bool) → (b || has_id xs id) ≡ false → has_id (xs ++ ys) id ≡ false → (b || has_id (xs ++ ys) id) ≡ false
     go true e rest = absurd (cc)
@@ -59,7 +56,7 @@ has-passed {A = A} test (y ∷ xs) x h = go (test y) refl h (has-passed test xs 
     go true e (inr h) rest = let r = rest h in (inr r.0, r.1)
     go false e h rest = let r = rest h in (inr r.0, r.1)
 
-passed-has : {A : Type 0} (test : A → Bool) (xs : List A) (x : A) → Has xs x → test x ≡ true → Has (filter test xs) x
+pub passed-has : {A : Type 0} (test : A → Bool) (xs : List A) (x : A) → Has xs x → test x ≡ true → Has (filter test xs) x
 passed-has test [] x h e = absurd h
 passed-has {A = A} test (y ∷ xs) x (inl q) e = go (test y) (ap test q ∙ e)
   where
@@ -72,25 +69,15 @@ passed-has {A = A} test (y ∷ xs) x (inr h) e = go (test y) (passed-has test xs
     go true h = inr h
     go false h = h
 
-map-has : {A B : Type 0} (f : A → B) (xs : List A) (x : A) → Has xs x → Has (map f xs) (f x)
-map-has f [] x h = absurd h
-map-has f (y ∷ xs) x (inl e) = inl (ap f e)
-map-has f (y ∷ xs) x (inr h) = inr (map-has f xs x h)
-
-has-flat : {A B : Type 0} (f : A → List B) (xs : List A) (y : B) → Has (flat_map f xs) y → (x : A) × Has xs x × Has (f x) y
+pub has-flat : {A B : Type 0} (f : A → List B) (xs : List A) (y : B) → Has (flat_map f xs) y → (x : A) × Has xs x × Has (f x) y
 has-flat f [] y h = absurd h
-has-flat {A = A} f (x ∷ xs) y h = go (has-parts (f x) (flat_map f xs) y h) (has-flat f xs y)
+has-flat {A = A} f (x ∷ xs) y h = go (has_parts (f x) (flat_map f xs) y h) (has-flat f xs y)
   where
     go : Has (f x) y ⊎ Has (flat_map f xs) y → (Has (flat_map f xs) y → (z : A) × Has xs z × Has (f z) y) → (z : A) × Has (x ∷ xs) z × Has (f z) y
     go (inl h) rest = (x, inl refl, h)
     go (inr h) rest = let r = rest h in (r.0, inr r.1, r.2)
 
-flat-has : {A B : Type 0} (f : A → List B) (xs : List A) (x : A) (y : B) → Has xs x → Has (f x) y → Has (flat_map f xs) y
-flat-has f [] x y h k = absurd h
-flat-has {A = A} f (z ∷ xs) x y (inl e) k = has-left (f z) (flat_map f xs) y (subst (λ (w : A). Has (f w) y) (sym e) k)
-flat-has f (z ∷ xs) x y (inr h) k = has-right (f z) (flat_map f xs) y (flat-has f xs x y h k)
-
-any-has : {A : Type 0} (test : A → Bool) (xs : List A) → list_any test xs ≡ true → (x : A) × Has xs x × (test x ≡ true)
+pub any-has : {A : Type 0} (test : A → Bool) (xs : List A) → list_any test xs ≡ true → (x : A) × Has xs x × (test x ≡ true)
 any-has test [] e = absurd (cc)
 any-has {A = A} test (y ∷ xs) e = go (test y) refl e (any-has test xs)
   where
@@ -98,7 +85,7 @@ any-has {A = A} test (y ∷ xs) e = go (test y) refl e (any-has test xs)
     go true t e rest = (y, inl refl, t)
     go false t e rest = let r = rest e in (r.0, inr r.1, r.2)
 
-has-any : {A : Type 0} (test : A → Bool) (xs : List A) (x : A) → Has xs x → test x ≡ true → list_any test xs ≡ true
+pub has-any : {A : Type 0} (test : A → Bool) (xs : List A) (x : A) → Has xs x → test x ≡ true → list_any test xs ≡ true
 has-any test [] x h e = absurd h
 has-any test (y ∷ xs) x (inl q) e = go (test y) (ap test q ∙ e)
   where
@@ -181,7 +168,7 @@ module _ (opening : List Object) where
 
     split-there : (p : Object) → IsThere (before ++ x ∷ []) id p → IsThere before id p ⊎ Has (gave x).objects p
     split-there p (e, inl h) = inl (e, inl h)
-    split-there p (e, inr (y, h, w)) = go (has-parts before (x ∷ []) y h)
+    split-there p (e, inr (y, h, w)) = go (has_parts before (x ∷ []) y h)
       where
         go : Has before y ⊎ Has (x ∷ []) y → IsThere before id p ⊎ Has (gave x).objects p
         go (inl h) = inl (e, inr (y, h, w))
@@ -190,10 +177,10 @@ module _ (opening : List Object) where
 
     more-there : (p : Object) → IsThere before id p → IsThere (before ++ x ∷ []) id p
     more-there p (e, inl h) = (e, inl h)
-    more-there p (e, inr (y, h, w)) = (e, inr (y, has-left before (x ∷ []) y h, w))
+    more-there p (e, inr (y, h, w)) = (e, inr (y, has_left before (x ∷ []) y h, w))
 
     split-deleted : IsDeletedIn (before ++ x ∷ []) id → IsDeletedIn before id ⊎ Has (gave x).effects.deleted id
-    split-deleted (y, h, d) = go (has-parts before (x ∷ []) y h)
+    split-deleted (y, h, d) = go (has_parts before (x ∷ []) y h)
       where
         go : Has before y ⊎ Has (x ∷ []) y → IsDeletedIn before id ⊎ Has (gave x).effects.deleted id
         go (inl h) = inl (y, h, d)
@@ -205,7 +192,7 @@ module _ (opening : List Object) where
     there-known p (e, inr (y, h, w)) = along-known before [] y id over.known h (subst (Has (given_ids y)) e (object-given y p w))
 
     deleted-known : IsDeletedIn before id → IsKnown opening before id
-    deleted-known (y, h, d) = along-known before [] y id over.known h (has-right (map id_of (gave y).objects) (gave y).effects.deleted id d)
+    deleted-known (y, h, d) = along-known before [] y id over.known h (has_right (map id_of (gave y).objects) (gave y).effects.deleted id d)
 
     -- the step wrote the id
     module _ (q : Object) (h : Has (gave x).objects q) (e : q.id ≡ id) (alive : Has (gave x).effects.deleted id → ⊥) (fact : Fact before id (get map_before id)) where
@@ -224,7 +211,7 @@ module _ (opening : List Object) where
       old-top it = subst (Fact before id) (ap (get map_before) (sym (it.same ∙ e)) ∙ finds-next opening distinct before over x next it.of it.old it.named) fact
 
       lower : (it : IsReplaced x q.id) → it.old.version < q.version
-      lower it = subst (λ n. it.old.version < n) (sym (written-version x q h)) (above x.inputs it.old (has-first (objects_of x.tx) x.inputs it.of it.old it.named))
+      lower it = subst (λ n. it.old.version < n) (sym (written-version x q h)) (above x.inputs it.old (second (objects_of x.tx) x.inputs it.of it.old it.named))
 
       below-old : (old p : Object) → old.version < q.version → IsUpTo old p → p.version < q.version
       below-old old p less (inl k) = omega (arith, less, k)
@@ -240,7 +227,7 @@ module _ (opening : List Object) where
 
       wrote-top : IsTop (before ++ x ∷ []) id q
       wrote-top = record {
-        there = (e, inr (x, has-right before (x ∷ []) x (inl refl), h));
+        there = (e, inr (x, has_right before (x ∷ []) x (inl refl), h));
         highest = λ p t. up p t (split-there p t);
         kept = λ d. down (split-deleted d);
       }
@@ -268,7 +255,7 @@ module _ (opening : List Object) where
         down : IsDeletedIn before id ⊎ Has (gave x).effects.deleted id → ⊥
         down (inl d) = top.kept d
         down (inr d) = alive d
-    same-fact None none alive (inl (y, h, d)) = inl (y, has-left before (x ∷ []) y h, d)
+    same-fact None none alive (inl (y, h, d)) = inl (y, has_left before (x ∷ []) y h, d)
     same-fact None none alive (inr never) = inr (λ p t. go p t (split-there p t))
       where
         go : (p : Object) → IsThere (before ++ x ∷ []) id p → IsThere before id p ⊎ Has (gave x).objects p → ⊥
@@ -282,7 +269,7 @@ module _ (opening : List Object) where
     next-fact fact = go (has_id (gave x).effects.deleted id) refl (has_id (map id_of (gave x).objects) id) refl
       where
         go : (d : Bool) → has_id (gave x).effects.deleted id ≡ d → (w : Bool) → has_id (map id_of (gave x).objects) id ≡ w → Fact (before ++ x ∷ []) id (get map_then id)
-        go true d w e = subst (Fact (before ++ x ∷ []) id) (sym (gone-after map_before (gave x) id (id-has (gave x).effects.deleted id d))) (inl (x, has-right before (x ∷ []) x (inl refl), id-has (gave x).effects.deleted id d))
+        go true d w e = subst (Fact (before ++ x ∷ []) id) (sym (gone-after map_before (gave x) id (id-has (gave x).effects.deleted id d))) (inl (x, has_right before (x ∷ []) x (inl refl), id-has (gave x).effects.deleted id d))
         go false d true e =
             let r = object-with (gave x).objects id (id-has (map id_of (gave x).objects) id e) in
             subst (Fact (before ++ x ∷ []) id) (sym (at r.0 r.1 r.2 (not-has (gave x).effects.deleted d) fact)) (wrote-top r.0 r.1 r.2 (not-has (gave x).effects.deleted d) fact)
@@ -306,31 +293,31 @@ module _ (opening : List Object) where
     candidate-there : (p : Object) → Has candidates p → IsThere steps id p
     unfolding versions
     candidate-there p h =
-        let v = has-mapped object_in (filter (is_id id) (versions opening executed)) p h in
+        let v = has_mapped object_in (filter (is_id id) (versions opening executed)) p h in
         let kept = has-passed (is_id id) (versions opening executed) v.0 v.1 in
-        (ap id_of (sym v.2) ∙ id_same v.0.object.id id kept.1, from v.0 v.2 (has-parts (map opened opening) (flat_map written_by executed) v.0 kept.0))
+        (ap id_of (sym v.2) ∙ id_same v.0.object.id id kept.1, from v.0 v.2 (has_parts (map opened opening) (flat_map written_by executed) v.0 kept.0))
       where
         from : (v : Version) → v.object ≡ p → Has (map opened opening) v ⊎ Has (flat_map written_by executed) v → Has opening p ⊎ IsWroteIn steps p
-        from v e (inl h) = let o = has-mapped opened opening v h in inl (subst (Has opening) (ap object_in o.2 ∙ e) o.1)
+        from v e (inl h) = let o = has_mapped opened opening v h in inl (subst (Has opening) (ap object_in o.2 ∙ e) o.1)
         from v e (inr h) =
             let x = has-flat written_by executed v h in
-            let o = has-mapped (written x.0.digest) x.0.gave.objects v x.2 in
+            let o = has_mapped (written x.0.digest) x.0.gave.objects v x.2 in
             let y = of.only x.0 x.1 in
             inr (y.0, y.1, subst (λ (g : Executed). Has g.objects p) y.2 (subst (Has x.0.gave.objects) (ap object_in o.2 ∙ e) o.1))
 
     there-candidate : (p : Object) → IsThere steps id p → Has candidates p
     unfolding versions
-    there-candidate p (e, inl h) = passes (opened p) refl (has-left (map opened opening) (flat_map written_by executed) (opened p) (map-has opened opening p h))
+    there-candidate p (e, inl h) = passes (opened p) refl (has_left (map opened opening) (flat_map written_by executed) (opened p) (has_map opened opening p h))
       where
         passes : (v : Version) → v.object ≡ p → Has (versions opening executed) v → Has candidates p
-        passes v q k = subst (Has candidates) q (map-has object_in (filter (is_id id) (versions opening executed)) v (passed-has (is_id id) (versions opening executed) v k (subst (λ (z : ObjectId). id_eq z id ≡ true) (sym (ap id_of q ∙ e)) (id_refl id))))
+        passes v q k = subst (Has candidates) q (has_map object_in (filter (is_id id) (versions opening executed)) v (passed-has (is_id id) (versions opening executed) v k (subst (λ (z : ObjectId). id_eq z id ≡ true) (sym (ap id_of q ∙ e)) (id_refl id))))
     there-candidate p (e, inr (y, h, w)) =
         let x = of.whole y h in
-        passes (written x.0.digest p) refl (has-right (map opened opening) (flat_map written_by executed) (written x.0.digest p)
-        (flat-has written_by executed x.0 (written x.0.digest p) x.1 (map-has (written x.0.digest) x.0.gave.objects p (subst (λ (g : Executed). Has g.objects p) (sym x.2) w))))
+        passes (written x.0.digest p) refl (has_right (map opened opening) (flat_map written_by executed) (written x.0.digest p)
+        (flat_has written_by executed x.0 (written x.0.digest p) x.1 (has_map (written x.0.digest) x.0.gave.objects p (subst (λ (g : Executed). Has g.objects p) (sym x.2) w))))
       where
         passes : (v : Version) → v.object ≡ p → Has (versions opening executed) v → Has candidates p
-        passes v q k = subst (Has candidates) q (map-has object_in (filter (is_id id) (versions opening executed)) v (passed-has (is_id id) (versions opening executed) v k (subst (λ (z : ObjectId). id_eq z id ≡ true) (sym (ap id_of q ∙ e)) (id_refl id))))
+        passes v q k = subst (Has candidates) q (has_map object_in (filter (is_id id) (versions opening executed)) v (passed-has (is_id id) (versions opening executed) v k (subst (λ (z : ObjectId). id_eq z id ≡ true) (sym (ap id_of q ∙ e)) (id_refl id))))
 
     deleted-in : is_deleted executed id ≡ true → IsDeletedIn steps id
     deleted-in e =
@@ -380,4 +367,4 @@ live-there opening steps executed distinct orderly of id o e = (top.there.0, (v.
     top = subst (Fact opening steps id) (sym (live-fact opening steps executed of id (get (after_steps opening steps) id) fact) ∙ e) fact
 
     v : (v : Version) × Has (filter (is_id id) (versions opening executed)) v × (v.object ≡ o)
-    v = has-mapped object_in (filter (is_id id) (versions opening executed)) o (there-candidate opening steps executed of id o top.there)
+    v = has_mapped object_in (filter (is_id id) (versions opening executed)) o (there-candidate opening steps executed of id o top.there)

@@ -1,17 +1,19 @@
 -- The list of live objects is that of one thread's map.
 use Rattle.std.proofs.Common.{inl, inr, refl, ap, subst, sym, ◌∙◌}
-use Rattle.std.specs.Prelude.{◌≡◌, ◌⊎◌, Bool, true, false, List, [], ◌∷◌, map, fold, length, Option, Some, None}
+use Rattle.std.specs.Prelude.{◌≡◌, ◌⊎◌, Bool, true, false, List, [], ◌∷◌, map, fold, Option, Some, None}
 use Rattle.std.specs.FinMap.{get, empty, entries, values, entries-insert, len-empty, len-entries, get-empty, same_map}
 use Rattle.chain_types.specs.declared.objects.ObjectId.{ObjectId}
 use Rattle.chain_types.specs.declared.objects.Object.{Object}
 use Rattle.chain_types.specs.Equal.{id_eq}
+use Rattle.protocol_spec.proofs.Equality.{id_same, ids_unique}
+use Rattle.protocol_spec.proofs.ListLemmas.{nil_of}
 use Rattle.protocol_spec.specs.Chain.Words.{Has}
 use Rattle.protocol_spec.specs.Member.Versions.{Execution, Version, id_cmp, with_live, versions, live, live_list}
 use Rattle.protocol_spec.specs.Member.Sequential.{Objects, with_object, map_of, fold_all}
-use Rattle.block_law.proofs.Counts.{id_same, id_refl}
+use Rattle.block_law.proofs.Counts.{id_refl}
 use Rattle.sequence_law.specs.Orderly.{tx_of, Step, AreApart, AreOrderly}
 use Rattle.sequence_law.specs.Leaving.{IsOfSteps}
-use Rattle.sequence_law.proofs.Standing.{ids-total, ids-unique, here, elsewhere}
+use Rattle.sequence_law.proofs.Standing.{ids-total, here, elsewhere}
 use Rattle.sequence_law.proofs.Live.{live-is-map, live-there}
 
 -- ---- the list is the entries of a map
@@ -20,12 +22,8 @@ abbrev with_live_object : Objects → Option Object → Objects
 with_live_object m None = m
 with_live_object m (Some o) = with_object m o
 
-none-long : {A : Type 0} (xs : List A) → length xs ≡ 0 → xs ≡ []
-none-long [] e = refl
-none-long (x ∷ xs) e = absurd (cc)
-
-entries-empty : entries (empty {X = Object} {R = id_cmp}) ≡ []
-entries-empty = none-long (entries (empty {X = Object} {R = id_cmp})) (sym (len-entries (empty {X = Object} {R = id_cmp})) ∙ len-empty id_cmp Object)
+pub entries-empty : entries (empty {X = Object} {R = id_cmp}) ≡ []
+entries-empty = nil_of (entries (empty {X = Object} {R = id_cmp})) (sym (len-entries (empty {X = Object} {R = id_cmp})) ∙ len-empty id_cmp Object)
 
 entries-with : (os : List (Option Object)) (m : Objects) → fold with_live (entries m) os ≡ entries (fold with_live_object m os)
 entries-with [] m = refl
@@ -92,6 +90,6 @@ live-list-is-map opening steps executed distinct orderly of =
     comes id (Some o) e = inl (live-there opening steps executed distinct orderly of id o e).1
 
     whole : fold with_live_object empty all ≡ (fold_all (map_of opening) (map tx_of steps)).map
-    whole = same_map ids-total ids-unique (fold with_live_object empty all) (fold_all (map_of opening) (map tx_of steps)).map (λ id.
+    whole = same_map ids-total ids_unique (fold with_live_object empty all) (fold_all (map_of opening) (map tx_of steps)).map (λ id.
         comes-in (live opening executed) (λ id o e. (live-there opening steps executed distinct orderly of id o e).0) id (versions opening executed) empty (get-empty id_cmp id) (comes id (live opening executed id) refl)
         ∙ live-is-map opening steps executed distinct orderly of id)

@@ -12,14 +12,14 @@ use Rattle.chain_types.specs.declared.objects.ObjectId.{ObjectId}
 use Rattle.chain_types.specs.declared.objects.Object.{Object}
 use Rattle.chain_types.specs.declared.objects.Content.{Content}
 use Rattle.chain_types.specs.Equal.{id_eq}
+use Rattle.protocol_spec.proofs.Equality.{id_back, ids_unique}
+use Rattle.protocol_spec.proofs.Truth.{or_false_left, or_false_right}
 use Rattle.protocol_spec.specs.Chain.Words.{repeats}
-use Rattle.protocol_spec.proofs.ListLemmas.{or-first, or-second}
 use Rattle.protocol_spec.specs.Member.Versions.{id_cmp}
 use Rattle.protocol_spec.specs.Member.Sequential.{Objects, with_object, without_id}
-use Rattle.block_law.proofs.Counts.{id_back}
 use Rattle.block_law.proofs.Effects.{id_of}
 use Rattle.block_law.proofs.Sums.{objects_weight, option_weight}
-use Rattle.sequence_law.proofs.Staying.{ids-total, ids-antisymmetric, ids-apart}
+use Rattle.sequence_law.proofs.Staying.{ids-total, ids-apart}
 
 -- ---- the entries of a map without one key
 
@@ -49,11 +49,11 @@ entries-removed m k = ap entries same ∙ entries-from_sorted id_cmp (where_key 
         ∙ turned (eq_by_cmp id_cmp q k) None (get m q)
         ∙ ap (λ b. cond (not b) (get m q) None) (back q)
         ∙ ap (λ g. cond (differs q) g None) (get-entries m q)
-        ∙ sym (find-where_key id_cmp differs q (λ x e. ap differs (sym (ids-antisymmetric q x e))) (entries m))
+        ∙ sym (find-where_key id_cmp differs q (λ x e. ap differs (sym (ids_unique q x e))) (entries m))
         ∙ sym (get-from_sorted id_cmp (where_key id_cmp differs (entries m)) q sorted)
 
     same : remove m k ≡ from_sorted {R = id_cmp} (where_key id_cmp differs (entries m))
-    same = same_map ids-total ids-antisymmetric (remove m k) (from_sorted {R = id_cmp} (where_key id_cmp differs (entries m))) at
+    same = same_map ids-total ids_unique (remove m k) (from_sorted {R = id_cmp} (where_key id_cmp differs (entries m))) at
 
 -- ---- sums over the entries of a map
 
@@ -160,8 +160,8 @@ module _ (f : Content → ℕ) where
   insert-others : (m : Objects) (o : Object) (ids : List ObjectId) → list_any (id_eq o.id) ids ≡ false → ids_at (with_object m o) ids ≡ ids_at m ids
   insert-others m o [] none = refl
   insert-others m o (id ∷ ids) none =
-      let rest = insert-others m o ids (or-second (id_eq o.id id) (list_any (id_eq o.id) ids) none) in
-      let apart = ids-apart id o.id (other-apart o.id id (or-first (id_eq o.id id) (list_any (id_eq o.id) ids) none)) in
+      let rest = insert-others m o ids (or_false_right (id_eq o.id id) (list_any (id_eq o.id) ids) none) in
+      let apart = ids-apart id o.id (other-apart o.id id (or_false_left (id_eq o.id id) (list_any (id_eq o.id) ids) none)) in
       let here : get (with_object m o) id ≡ get m id = get-insert ids-total m o.id o id ∙ ap (λ b. cond b (Some o) (get m id)) apart in
       let same = ap (option_weight f) here in
       omega (arith, rest, same)
@@ -169,8 +169,8 @@ module _ (f : Content → ℕ) where
   remove-others : (m : Objects) (i : ObjectId) (ids : List ObjectId) → list_any (id_eq i) ids ≡ false → ids_at (without_id m i) ids ≡ ids_at m ids
   remove-others m i [] none = refl
   remove-others m i (id ∷ ids) none =
-      let rest = remove-others m i ids (or-second (id_eq i id) (list_any (id_eq i) ids) none) in
-      let apart = ids-apart id i (other-apart i id (or-first (id_eq i id) (list_any (id_eq i) ids) none)) in
+      let rest = remove-others m i ids (or_false_right (id_eq i id) (list_any (id_eq i) ids) none) in
+      let apart = ids-apart id i (other-apart i id (or_false_left (id_eq i id) (list_any (id_eq i) ids) none)) in
       let here : get (without_id m i) id ≡ get m id = get-remove ids-total m i id ∙ ap (λ b. cond b None (get m id)) apart in
       let same = ap (option_weight f) here in
       omega (arith, rest, same)
@@ -178,8 +178,8 @@ module _ (f : Content → ℕ) where
   remove-all : (m : Objects) (ids : List ObjectId) → repeats id_eq ids ≡ false → map_weight (fold without_id m ids) + ids_at m ids ≡ map_weight m
   remove-all m [] apart = omega arith
   remove-all m (i ∷ ids) apart =
-      let rest = remove-all (without_id m i) ids (or-second (list_any (id_eq i) ids) (repeats id_eq ids) apart) in
-      let others = remove-others m i ids (or-first (list_any (id_eq i) ids) (repeats id_eq ids) apart) in
+      let rest = remove-all (without_id m i) ids (or_false_right (list_any (id_eq i) ids) (repeats id_eq ids) apart) in
+      let others = remove-others m i ids (or_false_left (list_any (id_eq i) ids) (repeats id_eq ids) apart) in
       let here = remove-weight m i in
       omega (arith, rest, others, here)
 
@@ -187,7 +187,7 @@ module _ (f : Content → ℕ) where
   pub change-weight : (m : Objects) (os : List Object) (ids : List ObjectId) → repeats id_eq (map id_of os ++ ids) ≡ false → map_weight (fold without_id (fold with_object m os) ids) + ids_at m (map id_of os ++ ids) ≡ map_weight m + objects_weight f os
   change-weight m [] ids apart = let rest = remove-all m ids apart in omega (arith, rest)
   change-weight m (o ∷ os) ids apart =
-      let rest = change-weight (with_object m o) os ids (or-second (list_any (id_eq o.id) (map id_of os ++ ids)) (repeats id_eq (map id_of os ++ ids)) apart) in
-      let others = insert-others m o (map id_of os ++ ids) (or-first (list_any (id_eq o.id) (map id_of os ++ ids)) (repeats id_eq (map id_of os ++ ids)) apart) in
+      let rest = change-weight (with_object m o) os ids (or_false_right (list_any (id_eq o.id) (map id_of os ++ ids)) (repeats id_eq (map id_of os ++ ids)) apart) in
+      let others = insert-others m o (map id_of os ++ ids) (or_false_left (list_any (id_eq o.id) (map id_of os ++ ids)) (repeats id_eq (map id_of os ++ ids)) apart) in
       let here = insert-weight m o in
       omega (arith, rest, others, here)

@@ -1,8 +1,7 @@
 -- One thread over orderly steps reads at each step that step's objects.
 use Rattle.std.proofs.Common.{inl, inr, refl, ap, subst, sym, ◌∙◌, append_assoc, append-nil}
 use Rattle.std.proofs.lemmas.Bool.{eqb-true}
-use Rattle.std.specs.Prelude.{◌≡◌, ◌⊎◌, ℕ, Bool, true, false, cond, ◌&&◌, ◌||◌, ◌==◌, nat_lt, List, [], ◌∷◌, ◌++◌, map, fold, zip, filter, filter_map, Option, Some, None}
-use Rattle.std.specs.List.{cons_option}
+use Rattle.std.specs.Prelude.{◌≡◌, ◌⊎◌, ℕ, Bool, true, false, cond, ◌&&◌, ◌||◌, ◌==◌, List, [], ◌∷◌, ◌++◌, map, fold, zip, filter, filter_map, Option, Some, None}
 use Rattle.std.specs.FinMap.{get}
 use Rattle.chain_types.specs.declared.objects.ObjectId.{ObjectId}
 use Rattle.chain_types.specs.declared.objects.ObjectKey.{ObjectKey}
@@ -17,29 +16,23 @@ use Rattle.chain_types.specs.declared.transactions.Transaction.{Transaction}
 use Rattle.effects_core.specs.declared.effects.Written.{Written}
 use Rattle.chain_types.specs.Equal.{digest_eq, id_eq}
 use Rattle.chain_types.specs.Digests.{is_object, key_of, consumed_key, consumed_keys, digest_of_object}
+use Rattle.protocol_spec.proofs.Equality.{id_same}
 use Rattle.protocol_spec.specs.Chain.Words.{Has, Along, repeats, all_some, onto_some}
 use Rattle.protocol_spec.specs.Chain.Tests.{has_id}
-use Rattle.protocol_spec.specs.Chain.Keys.{object_key, objects_of, mutable_id, is_owned_by, is_shared_since, is_immutable, fits_input, fit_inputs, pays_gas, fits, version_of, version_limit}
-use Rattle.protocol_spec.proofs.ListLemmas.{along-push, and-first, and-second}
+use Rattle.protocol_spec.specs.Chain.Keys.{object_key, objects_of, mutable_id, is_owned_by, is_shared_since, is_immutable, fits_input, fit_inputs, fits}
+use Rattle.protocol_spec.proofs.ListLemmas.{along-push, and-first, and-second, has_left, has_right, has_parts}
 use Rattle.protocol_spec.specs.Block.Execution.{execution, is_written}
 use Rattle.protocol_spec.specs.Member.Sequential.{Objects, map_of, at_version, named_in, read_by, map_after, Folded, without_effects, with_execution, executed_on, fold_one, fold_all}
 use Rattle.block_law.specs.Names.{touched_ids}
-use Rattle.block_law.proofs.Counts.{id_same, id_refl}
-use Rattle.block_law.proofs.Effects.{written-ids, written-are, name_once}
+use Rattle.block_law.proofs.Counts.{id_refl}
+use Rattle.block_law.proofs.Effects.{written-ids, written-are, name_once, first-of-four}
+use Rattle.block_law.proofs.Places.{has-chosen}
+use Rattle.block_law.proofs.Written.{fit-at, fits-first}
 use Rattle.sequence_law.specs.Orderly.{Step, gave, tx_of, id_of, Makes, IsKnown, IsLeftAlone, IsOpened, IsWritten, IsSource, IsOrderly, AreApart, ReadsSame, effects_in, IsOneThread}
 use Rattle.sequence_law.proofs.Standing.{stays-after, stands-after, stands-opening}
-use Rattle.sequence_law.proofs.Touched.{has-parts, IsTouched, touched-object, touched-deleted}
+use Rattle.sequence_law.proofs.Touched.{IsTouched, touched-object, touched-deleted}
 
 -- ---- elements
-
-pub has-left : {A : Type 0} (xs ys : List A) (y : A) → Has xs y → Has (xs ++ ys) y
-has-left [] ys y h = absurd h
-has-left (x ∷ xs) ys y (inl e) = inl e
-has-left (x ∷ xs) ys y (inr h) = inr (has-left xs ys y h)
-
-pub has-right : {A : Type 0} (xs ys : List A) (y : A) → Has ys y → Has (xs ++ ys) y
-has-right [] ys y h = h
-has-right (x ∷ xs) ys y h = inr (has-right xs ys y h)
 
 pub has-zip : {A B : Type 0} (xs : List A) (ys : List B) (x : A) (y : B) → Has (zip xs ys) (x, y) → Has xs x
 has-zip [] ys x y h = absurd h
@@ -47,7 +40,7 @@ has-zip (a ∷ xs) [] x y h = absurd h
 has-zip {A = A} {B = B} (a ∷ xs) (b ∷ ys) x y (inl e) = inl (ap (λ (z : A × B). z.0) e)
 has-zip (a ∷ xs) (b ∷ ys) x y (inr h) = inr (has-zip xs ys x y h)
 
-has-kept : {A : Type 0} (test : A → Bool) (xs : List A) (x : A) → Has (filter test xs) x → Has xs x
+pub has-kept : {A : Type 0} (test : A → Bool) (xs : List A) (x : A) → Has (filter test xs) x → Has xs x
 has-kept test [] x h = absurd h
 has-kept {A = A} test (y ∷ xs) x h = go (test y) h (has-kept test xs x)
   where
@@ -55,22 +48,6 @@ has-kept {A = A} test (y ∷ xs) x h = go (test y) h (has-kept test xs x)
     go true (inl e) rest = inl e
     go true (inr h) rest = inr (rest h)
     go false h rest = inr (rest h)
-
-has-picked : {A B : Type 0} (f : A → Option B) (xs : List A) (x : A) (y : B) → Has xs x → f x ≡ Some y → Has (filter_map f xs) y
-has-picked f [] x y h e = absurd h
-has-picked f (z ∷ xs) x y (inl q) e = go (f z) (ap f q ∙ e)
-  where
-    go : (o : Option _) → o ≡ Some y → Has (cons_option o (filter_map f xs)) y
-    go None e = absurd (cc)
-    go (Some w) e = inl (same w e)
-      where
-        same : (w : _) → Some w ≡ Some y → w ≡ y
-        same w e = cc
-has-picked f (z ∷ xs) x y (inr h) e = go (f z) (has-picked f xs x y h e)
-  where
-    go : (o : Option _) → Has (filter_map f xs) y → Has (cons_option o (filter_map f xs)) y
-    go None h = h
-    go (Some w) h = inr h
 
 pub has-id : (ids : List ObjectId) (id : ObjectId) → Has ids id → has_id ids id ≡ true
 has-id [] id h = absurd h
@@ -92,15 +69,12 @@ no-id (i ∷ ids) id none = go (id_eq id i) refl (no-id ids id (λ j h e. none j
 
 -- ---- what fits
 
-four-first : (a b c d : Bool) → (a && b && c && d) ≡ true → a ≡ true
-four-first a b c d e = and-first a b (and-first (a && b) c (and-first (a && b && c) d e))
-
 four-second : (a b c d : Bool) → (a && b && c && d) ≡ true → b ≡ true
 four-second a b c d e = and-second a b (and-first (a && b) c (and-first (a && b && c) d e))
 
 module _ (t : Transaction) (o : Object) where
   owned-id : (r : ObjectRef) → fits_input t (inputs.Owned r) o ≡ true → o.id ≡ r.id
-  owned-id r e = id_same o.id r.id (four-first (id_eq o.id r.id) (o.version == r.version) (digest_eq (digest_of_object o) r.digest) (is_owned_by t.sender o.owner) e)
+  owned-id r e = id_same o.id r.id (first-of-four (id_eq o.id r.id) (o.version == r.version) (digest_eq (digest_of_object o) r.digest) (is_owned_by t.sender o.owner) e)
 
   owned-version : (r : ObjectRef) → fits_input t (inputs.Owned r) o ≡ true → (o.version == r.version) ≡ true
   owned-version r e = four-second (id_eq o.id r.id) (o.version == r.version) (digest_eq (digest_of_object o) r.digest) (is_owned_by t.sender o.owner) e
@@ -109,7 +83,7 @@ module _ (t : Transaction) (o : Object) where
   owned-owner r e = and-second (id_eq o.id r.id && (o.version == r.version) && digest_eq (digest_of_object o) r.digest) (is_owned_by t.sender o.owner) e
 
   frozen-id : (r : ObjectRef) → fits_input t (inputs.Immutable r) o ≡ true → o.id ≡ r.id
-  frozen-id r e = id_same o.id r.id (four-first (id_eq o.id r.id) (o.version == r.version) (digest_eq (digest_of_object o) r.digest) (is_immutable o.owner) e)
+  frozen-id r e = id_same o.id r.id (first-of-four (id_eq o.id r.id) (o.version == r.version) (digest_eq (digest_of_object o) r.digest) (is_immutable o.owner) e)
 
   frozen-version : (r : ObjectRef) → fits_input t (inputs.Immutable r) o ≡ true → (o.version == r.version) ≡ true
   frozen-version r e = four-second (id_eq o.id r.id) (o.version == r.version) (digest_eq (digest_of_object o) r.digest) (is_immutable o.owner) e
@@ -141,21 +115,10 @@ frozen-shared initial (owner.Address a) e f = cc
 frozen-shared initial (owner.Shared n) e f = cc
 frozen-shared initial owner.Immutable e f = cc
 
--- each named object fits its input
-fits-each : (t : Transaction) (is : List Input) (os : List Object) (i : Input) (o : Object) → fit_inputs t is os ≡ true → Has (zip is os) (i, o) → fits_input t i o ≡ true
-fits-each t [] os i o e h = absurd h
-fits-each t (j ∷ is) [] i o e h = absurd h
-fits-each t (j ∷ is) (p ∷ os) i o e (inl q) = subst (λ (x : Input × Object). fits_input t x.0 x.1 ≡ true) q (and-first (fits_input t j p) (fit_inputs t is os) e)
-fits-each t (j ∷ is) (p ∷ os) i o e (inr h) = fits-each t is os i o (and-second (fits_input t j p) (fit_inputs t is os) e) h
-
-pub fits-inputs : (t : Transaction) (os : List Object) → fits t os ≡ true → fit_inputs t (objects_of t) os ≡ true
-unfolding fits
-fits-inputs t os e = and-first (fit_inputs t (objects_of t) os) (pays_gas t os) (and-first (fit_inputs t (objects_of t) os && pays_gas t os) (nat_lt (version_of os) version_limit) e)
-
 -- an owned object is consumed
 consumes-owned : (t : Transaction) (r : ObjectRef) → Has (objects_of t) (inputs.Owned r) → Has (consumed_keys t) (key_of r)
 unfolding consumed_keys
-consumes-owned t r h = has-picked consumed_key (inputs.Owned t.gas ∷ t.inputs) (inputs.Owned r) (key_of r) (go h) refl
+consumes-owned t r h = has-chosen consumed_key (inputs.Owned t.gas ∷ t.inputs) (inputs.Owned r) (key_of r) (go h) refl
   where
     go : Has (objects_of t) (inputs.Owned r) → Has (inputs.Owned t.gas ∷ t.inputs) (inputs.Owned r)
     go (inl e) = inl e
@@ -163,7 +126,7 @@ consumes-owned t r h = has-picked consumed_key (inputs.Owned t.gas ∷ t.inputs)
 
 mutates : (t : Transaction) (id : ObjectId) (initial : ℕ) → Has (objects_of t) (inputs.Shared id initial true) → has_id (filter_map mutable_id t.inputs) id ≡ true
 mutates t id initial (inl e) = absurd (cc)
-mutates t id initial (inr h) = has-id (filter_map mutable_id t.inputs) id (has-picked mutable_id t.inputs (inputs.Shared id initial true) id (has-kept is_object t.inputs (inputs.Shared id initial true) h) refl)
+mutates t id initial (inr h) = has-id (filter_map mutable_id t.inputs) id (has-chosen mutable_id t.inputs (inputs.Shared id initial true) id (has-kept is_object t.inputs (inputs.Shared id initial true) h) refl)
 
 -- ---- one step leaves what a later one reads
 
@@ -227,7 +190,7 @@ object-id P (o ∷ os) id each (inl e) = subst P e (each o (inl refl))
 object-id P (o ∷ os) id each (inr h) = object-id P os id (λ q k. each q (inr k)) h
 
 pub given-touched : (y : Step) (id : ObjectId) → Has (given_ids y) id → IsTouched y id
-given-touched y id h = go (has-parts (map id_of (gave y).objects) (gave y).effects.deleted id h)
+given-touched y id h = go (has_parts (map id_of (gave y).objects) (gave y).effects.deleted id h)
   where
     go : Has (map id_of (gave y).objects) id ⊎ Has (gave y).effects.deleted id → IsTouched y id
     go (inl h) = object-id (IsTouched y) (gave y).objects id (touched-object y) h
@@ -239,7 +202,7 @@ has-mapped-id (p ∷ os) o (inl e) = inl (ap id_of e)
 has-mapped-id (p ∷ os) o (inr h) = inr (has-mapped-id os o h)
 
 pub object-given : (y : Step) (o : Object) → Has (gave y).objects o → Has (given_ids y) o.id
-object-given y o h = has-left (map id_of (gave y).objects) (gave y).effects.deleted o.id (has-mapped-id (gave y).objects o h)
+object-given y o h = has_left (map id_of (gave y).objects) (gave y).effects.deleted o.id (has-mapped-id (gave y).objects o h)
 
 -- an object that stands, and that a later step reads, still stands behind this one
 still-stands : (m : Objects) (y x : Step) (i : Input) (o : Object) → Reads m y → fits y.tx y.inputs ≡ true → fits_input x.tx i o ≡ true → Has (objects_of x.tx) i → NoSharedKey y x → AloneOf i y → (Makes y o.id → ⊥) → get m o.id ≡ Some o → get (map_after m (gave y)) o.id ≡ Some o
@@ -252,7 +215,7 @@ still-stands m y x i o reads fit fitting needs keys alone fresh stands = stays-a
     apart (inr makes) = fresh makes
     apart (inl it) =
         let one : it.old ≡ o = same it.old (sym (reads it.of it.old it.named) ∙ ap (get m) it.same ∙ stands) in
-        not-both y x it.of i it.old keys (fits-each y.tx (objects_of y.tx) y.inputs it.of it.old (fits-inputs y.tx y.inputs fit) it.named)
+        not-both y x it.of i it.old keys (fit-at y.tx (objects_of y.tx) y.inputs it.of it.old (fits-first y.tx y.inputs fit) it.named)
         (subst (λ (q : Object). fits_input x.tx i q ≡ true) (sym one) fitting) (has-zip (objects_of y.tx) y.inputs it.of it.old it.named) needs it.may_write alone
 
 -- ---- a list of steps
@@ -275,7 +238,7 @@ module _ (opening : List Object) where
 
   pub known-more : (before more : List Step) (id : ObjectId) → IsKnown opening before id → IsKnown opening (before ++ more) id
   known-more before more id (inl o) = inl o
-  known-more before more id (inr (y, h, makes)) = inr (y, has-left before more y h, makes)
+  known-more before more id (inr (y, h, makes)) = inr (y, has_left before more y h, makes)
 
   alone-first : (i : Input) (y : Step) (back : List Step) → IsLeftAlone i (y ∷ back) → AloneOf i y
   alone-first (inputs.Pure bytes) y back alone = tt
@@ -322,7 +285,7 @@ module _ (opening : List Object) where
 
     module _ (i : Input) (o : Object) (named : Has (zip (objects_of x.tx) x.inputs) (i, o)) where
       fitting : fits_input x.tx i o ≡ true
-      fitting = fits-each x.tx (objects_of x.tx) x.inputs i o (fits-inputs x.tx x.inputs next.fit) named
+      fitting = fit-at x.tx (objects_of x.tx) x.inputs i o (fits-first x.tx x.inputs next.fit) named
 
       from-opening : IsOpened opening before i o → get (after_steps before) o.id ≡ Some o
       from-opening from = stays x i o fitting (has-zip (objects_of x.tx) x.inputs i o named) [] before over.orderly over.finds next.apart from.alone (inl (o, from.opened, refl)) (stands-opening opening o distinct from.opened)
@@ -335,7 +298,7 @@ module _ (opening : List Object) where
           let known = along-back WroteKnown [] from.front (from.writer ∷ from.back) (subst (λ (ys : List Step). Along WroteKnown [] ys) from.split over.known) in
           subst (λ (ys : List Step). get (after_steps ys) o.id ≡ Some o) (sym whole)
           (stays x i o fitting (has-zip (objects_of x.tx) x.inputs i o named) (from.front ++ from.writer ∷ []) from.back orderly.1 finds.1
-          (λ y h. next.apart y (subst (λ (ys : List Step). Has ys y) (sym from.split) (has-right from.front (from.writer ∷ from.back) y (inr h)))) from.alone
+          (λ y h. next.apart y (subst (λ (ys : List Step). Has ys y) (sym from.split) (has_right from.front (from.writer ∷ from.back) y (inr h)))) from.alone
           (known.0 o.id (object-given from.writer o from.written))
           (subst (λ (m : Objects). get m o.id ≡ Some o) (sym (after-push (map_of opening) from.front from.writer))
           (stands-after (after_steps from.front) (gave from.writer) o (given-once from.writer orderly.0.fit orderly.0.once) from.written)))
@@ -351,7 +314,7 @@ module _ (opening : List Object) where
     known-next id h = go (given-touched x id h)
       where
         go : IsTouched x id → IsKnown opening (before ++ x ∷ []) id
-        go (inr makes) = inr (x, has-right before (x ∷ []) x (inl refl), makes)
+        go (inr makes) = inr (x, has_right before (x ∷ []) x (inl refl), makes)
         go (inl it) = subst (IsKnown opening (before ++ x ∷ [])) it.same (known-more before (x ∷ []) it.old.id (source-known it.of it.old (next.sources it.of it.old it.named)))
 
     pub over-next : IsGoneOver (before ++ x ∷ [])
@@ -396,7 +359,7 @@ module _ (opening : List Object) where
       one (inputs.Shared id initial mutable) f = ap (get m) (sym (shared-id t o id initial mutable f)) ∙ stands
 
   reads-inputs : (m : Objects) (x : Step) → fits x.tx x.inputs ≡ true → Reads m x → read_by m x.tx ≡ Some x.inputs
-  reads-inputs m x fit reads = read-all m x.tx (objects_of x.tx) x.inputs (fits-inputs x.tx x.inputs fit) reads
+  reads-inputs m x fit reads = read-all m x.tx (objects_of x.tx) x.inputs (fits-first x.tx x.inputs fit) reads
 
   thread-step : (f : Folded) (x : Step) → fits x.tx x.inputs ≡ true → read_by f.map x.tx ≡ Some x.inputs → fold_one f x.tx ≡ with_execution f (gave x)
   unfolding fold_one

@@ -1,29 +1,28 @@
 -- What a list of transactions neither names nor draws stays in the map.
 use Rattle.std.proofs.Common.{refl, ap, subst, ◌∙◌}
-use Rattle.std.specs.Prelude.{◌≡◌, ℕ, Bool, true, false, cond, ◌||◌, List, [], ◌∷◌, ◌++◌, map, fold, Option, Some, None}
-use Rattle.std.specs.FinMap.{get, get-insert, get-remove, nat_cmp-IsAntisymmetric, slice_cmp-IsAntisymmetric}
-use Rattle.std.specs.Ordering.{is_eq, eq_by_cmp}
-use Rattle.std.specs.declared.cmp.Ordering.{Ordering}
-use Rattle.std.specs.declared.cmp.Ordering.TheVariants.{Less, Equal, Greater}
+use Rattle.std.specs.Prelude.{◌≡◌, Bool, true, false, cond, ◌||◌, List, [], ◌∷◌, ◌++◌, map, fold, Option, Some, None}
+use Rattle.std.specs.FinMap.{get, get-insert, get-remove}
+use Rattle.std.specs.Ordering.{eq_by_cmp}
 use Rattle.std.specs.Cmp.{IsTotalOrder}
 use Rattle.std.specs.Cmp.Lexicographic.{nat_list_cmp_total}
-use Rattle.digest_core.specs.declared.Digest.{Digest}
 use Rattle.chain_types.specs.declared.objects.ObjectId.{ObjectId}
 use Rattle.chain_types.specs.declared.objects.Object.{Object}
 use Rattle.chain_types.specs.declared.transactions.Transaction.{Transaction}
 use Rattle.effects_core.specs.declared.effects.Effects.{Effects}
 use Rattle.effects_core.specs.declared.effects.Written.{Written}
 use Rattle.chain_types.specs.Equal.{id_eq}
+use Rattle.protocol_spec.proofs.ListLemmas.{each_front}
+use Rattle.protocol_spec.proofs.Truth.{or_false_left, or_false_right}
 use Rattle.protocol_spec.specs.Chain.Words.{Each}
 use Rattle.protocol_spec.specs.Chain.Tests.{has_id}
 use Rattle.protocol_spec.specs.Chain.Keys.{fits, named_ids}
-use Rattle.protocol_spec.proofs.ListLemmas.{or-first, or-second}
 use Rattle.protocol_spec.specs.Block.Execution.{execution}
 use Rattle.protocol_spec.specs.Member.Versions.{id_cmp}
 use Rattle.protocol_spec.specs.Member.Sequential.{Objects, with_object, without_id, read_by, map_after, Folded, without_effects, with_execution, executed_on, fold_one, fold_all}
 use Rattle.block_law.specs.Names.{drawn_ids}
 use Rattle.block_law.proofs.Counts.{id_equal}
 use Rattle.block_law.proofs.Effects.{id_of, written-ids, written-are, name_touched}
+use Rattle.sequence_law.proofs.Standing.{ids-tie}
 use Rattle.sequence_law.specs.Untouched.{NamesNot, DrawsNot}
 
 -- ---- the order of ids
@@ -34,19 +33,6 @@ ids-total = record {
   trans = λ x y z. nat_list_cmp_total.trans x.0.0 y.0.0 z.0.0;
   congr = λ x y z. nat_list_cmp_total.congr x.0.0 y.0.0 z.0.0;
 }
-
-is-equal : (r : Ordering) → is_eq r ≡ true → r ≡ Equal
-is-equal Less e = absurd (cc)
-is-equal Equal e = refl
-is-equal Greater e = absurd (cc)
-
-pub ids-antisymmetric : (a b : ObjectId) → id_cmp a b ≡ Equal → a ≡ b
-ids-antisymmetric a b e =
-    let bytes : a.0.0 ≡ b.0.0 = slice_cmp-IsAntisymmetric nat_cmp-IsAntisymmetric a.0.0 b.0.0 e in
-    ap (λ (x : List ℕ). let d : Digest = record { 0 = x } in let id : ObjectId = record { 0 = d } in id) bytes
-
-ids-tie : (a b : ObjectId) → eq_by_cmp id_cmp a b ≡ true → a ≡ b
-ids-tie a b e = ids-antisymmetric a b (is-equal (id_cmp a b) e)
 
 pub ids-apart : (a b : ObjectId) → id_eq a b ≡ false → eq_by_cmp id_cmp a b ≡ false
 ids-apart a b e = go (eq_by_cmp id_cmp a b) refl
@@ -60,22 +46,22 @@ ids-apart a b e = go (eq_by_cmp id_cmp a b) refl
 stays-with : (m : Objects) (os : List Object) (id : ObjectId) → has_id (map id_of os) id ≡ false → get (fold with_object m os) id ≡ get m id
 stays-with m [] id none = refl
 stays-with m (o ∷ os) id none =
-    stays-with (with_object m o) os id (or-second (id_eq id o.id) (has_id (map id_of os) id) none)
+    stays-with (with_object m o) os id (or_false_right (id_eq id o.id) (has_id (map id_of os) id) none)
     ∙ get-insert ids-total m o.id o id
-    ∙ ap (λ b. cond b (Some o) (get m id)) (ids-apart id o.id (or-first (id_eq id o.id) (has_id (map id_of os) id) none))
+    ∙ ap (λ b. cond b (Some o) (get m id)) (ids-apart id o.id (or_false_left (id_eq id o.id) (has_id (map id_of os) id) none))
 
 stays-without : (m : Objects) (ids : List ObjectId) (id : ObjectId) → has_id ids id ≡ false → get (fold without_id m ids) id ≡ get m id
 stays-without m [] id none = refl
 stays-without m (i ∷ ids) id none =
-    stays-without (without_id m i) ids id (or-second (id_eq id i) (has_id ids id) none)
+    stays-without (without_id m i) ids id (or_false_right (id_eq id i) (has_id ids id) none)
     ∙ get-remove ids-total m i id
-    ∙ ap (λ b. cond b None (get m id)) (ids-apart id i (or-first (id_eq id i) (has_id ids id) none))
+    ∙ ap (λ b. cond b None (get m id)) (ids-apart id i (or_false_left (id_eq id i) (has_id ids id) none))
 
 -- ---- tests of joined lists
 
 any-joined : (id : ObjectId) (xs ys : List ObjectId) → has_id xs id ≡ false → has_id ys id ≡ false → has_id (xs ++ ys) id ≡ false
 any-joined id [] ys none more = more
-any-joined id (x ∷ xs) ys none more = go (id_eq id x) none (any-joined id xs ys (or-second (id_eq id x) (has_id xs id) none) more)
+any-joined id (x ∷ xs) ys none more = go (id_eq id x) none (any-joined id xs ys (or_false_right (id_eq id x) (has_id xs id) none) more)
   where
     go : (b : Bool) → (b || has_id xs id) ≡ false → has_id (xs ++ ys) id ≡ false → (b || has_id (xs ++ ys) id) ≡ false
     go true e rest = absurd (cc)
@@ -83,7 +69,7 @@ any-joined id (x ∷ xs) ys none more = go (id_eq id x) none (any-joined id xs y
 
 any-parts : (id : ObjectId) (xs ys : List ObjectId) → has_id (xs ++ ys) id ≡ false → (has_id xs id ≡ false) × (has_id ys id ≡ false)
 any-parts id [] ys none = (refl, none)
-any-parts id (x ∷ xs) ys none = go (id_eq id x) none (any-parts id xs ys (or-second (id_eq id x) (has_id (xs ++ ys) id) none))
+any-parts id (x ∷ xs) ys none = go (id_eq id x) none (any-parts id xs ys (or_false_right (id_eq id x) (has_id (xs ++ ys) id) none))
   where
     go : (b : Bool) → (b || has_id (xs ++ ys) id) ≡ false → (has_id xs id ≡ false) × (has_id ys id ≡ false) → ((b || has_id xs id) ≡ false) × (has_id ys id ≡ false)
     go true e rest = absurd (cc)
@@ -102,10 +88,6 @@ stays-executed m t objects id fit names draws =
 
 -- ---- all of them
 
-each-front : {A : Type 0} (P : A → Type 0) (xs ys : List A) → Each P (xs ++ ys) → Each P xs
-each-front P [] ys each = tt
-each-front P (x ∷ xs) ys each = (each.0, each-front P xs ys each.1)
-
 each-last : {A : Type 0} (P : A → Type 0) (xs : List A) (y : A) → Each P (xs ++ y ∷ []) → P y
 each-last P [] y each = each.0
 each-last P (x ∷ xs) y each = each-last P xs y each.1
@@ -116,11 +98,11 @@ unfolding fold_one
 effects-front P f t each = go (read_by f.map t) each
   where
     fitting : (b : Bool) (objects : List Object) → Each P (cond b (with_execution f (execution t objects)) (without_effects f)).effects → Each P f.effects
-    fitting true objects each = each-front P f.effects (Some (execution t objects).effects ∷ []) each
-    fitting false objects each = each-front P f.effects (None ∷ []) each
+    fitting true objects each = each_front P f.effects (Some (execution t objects).effects ∷ []) each
+    fitting false objects each = each_front P f.effects (None ∷ []) each
 
     go : (read : Option (List Object)) → Each P (executed_on f t read).effects → Each P f.effects
-    go None each = each-front P f.effects (None ∷ []) each
+    go None each = each_front P f.effects (None ∷ []) each
     go (Some objects) each = fitting (fits t objects) objects each
 
 all-front : (P : Option Effects → Type 0) (txs : List Transaction) (f : Folded) → Each P (fold fold_one f txs).effects → Each P f.effects

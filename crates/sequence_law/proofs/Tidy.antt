@@ -15,7 +15,8 @@ use Rattle.answer_types.specs.declared.answers.Held.{Held}
 use Rattle.answer_types.specs.declared.answers.Ignore.{Ignore}
 use Rattle.protocol_spec.specs.Chain.Words.{Each, Along, first_some, where_true}
 use Rattle.protocol_spec.specs.Chain.Certificates.{Rules, read_entry, cert_refusal}
-use Rattle.protocol_spec.proofs.ListLemmas.{along-push, find-test, find-each, filter-each, each-push, any-push, and-first, or-first, not-true}
+use Rattle.protocol_spec.proofs.ListLemmas.{along-push, find-test, find-each, filter-each, any-push, and-first, not-true, each_push}
+use Rattle.protocol_spec.proofs.Truth.{or_false_left}
 use Rattle.protocol_spec.specs.Member.Admission.{Admitted, Admission, is_admitted, is_known, is_free, is_origin_admitted, has_room, mutable_ids, admit, not_of, taken_as, taken, is_dropped, taken_next, take_free, entered, passed_mark}
 use Rattle.protocol_spec.specs.Member.Sequence.{Sequence, nothing_seen, What, takes, commits, counts, ignores, ignored_or, certificate_cases, end_cases, what_stated, what_read, what_of, with_what, with_entry, counted_as, ends_with_member, saw, seen, held_as}
 use Rattle.chain_types.specs.Equal.{digest_eq}
@@ -70,7 +71,7 @@ tidy-free writers opening (suc n) a tidy = tidy-next writers opening (take_free 
 tidy-entered : (writers : Option ℕ) (opening : List Object) (a : Admission) (h : Held) → IsTidy opening a → IsNew a.admitted h → IsTidy opening (entered writers opening a h)
 unfolding entered
 tidy-entered writers opening a h tidy new = tidy-free writers opening (length (a.pending ++ h ∷ [])) (record a { pending = a.pending ++ h ∷ [] })
-    (record { ordered = tidy.ordered; waiting = each-push (IsNew a.admitted) a.pending h tidy.waiting new })
+    (record { ordered = tidy.ordered; waiting = each_push (IsNew a.admitted) a.pending h tidy.waiting new })
 
 tidy-mark : (writers : Option ℕ) (opening : List Object) (a : Admission) → IsTidy opening a → IsTidy opening (passed_mark writers opening a)
 unfolding passed_mark
@@ -109,8 +110,8 @@ read-new r epoch q (Ok entry.Commit) h e = absurd (cc)
 
 what-new : (r : Rules) (epoch : ℕ) (q : Sequence) (bytes : List ℕ) (h : Held) → what_of r epoch q bytes ≡ takes h → IsNew q.admission.admitted h
 unfolding what_of
-what-new r epoch q bytes h e = or-first (is_admitted q.admission.admitted h.digest) (list_any (digest_eq h.digest) q.admission.dropped)
-    (or-first (is_admitted q.admission.admitted h.digest || list_any (digest_eq h.digest) q.admission.dropped) (list_any (λ (x : Held). digest_eq x.digest h.digest) q.admission.pending)
+what-new r epoch q bytes h e = or_false_left (is_admitted q.admission.admitted h.digest) (list_any (digest_eq h.digest) q.admission.dropped)
+    (or_false_left (is_admitted q.admission.admitted h.digest || list_any (digest_eq h.digest) q.admission.dropped) (list_any (λ (x : Held). digest_eq x.digest h.digest) q.admission.pending)
     (read-new r epoch q (read_entry bytes) h e))
 
 tidy-counted : (opening : List Object) (b : Bool) (q : Sequence) (m : ℕ) → IsTidy opening q.admission → IsTidy opening (counted_as b q m).admission

@@ -1,7 +1,6 @@
 -- An execution touches the objects of the inputs that it may write, and what it creates, and nothing else.
 use Rattle.std.proofs.Common.{inl, inr, refl, ap, subst, sym, ◌∙◌, arith}
-use Rattle.std.specs.Prelude.{◌≡◌, ◌⊎◌, ◌<◌, ◌≤◌, max, ℕ, zero, suc, Bool, true, false, cond, List, [], ◌∷◌, ◌++◌, map, zip, filter, filter_map, find, fold, option_map, Option, Some, None, Result, Ok, Err}
-use Rattle.std.specs.List.{cons_option}
+use Rattle.std.specs.Prelude.{◌≡◌, ◌⊎◌, ◌<◌, ◌≤◌, max, ℕ, suc, Bool, true, false, cond, List, [], ◌∷◌, map, zip, filter, filter_map, find, fold, option_map, Option, Some, None, Result, Ok, Err}
 use Rattle.digest_core.specs.declared.Digest.{Digest}
 use Rattle.chain_types.specs.declared.objects.ObjectId.{ObjectId}
 use Rattle.chain_types.specs.declared.objects.Object.{Object}
@@ -12,54 +11,19 @@ use Rattle.chain_types.specs.Digests.{transaction_digest, is_object, lamport_ver
 use Rattle.chain_types.specs.Equal.{id_eq}
 use Rattle.answer_types.specs.declared.pieces.Item.{Item}
 use Rattle.answer_types.specs.declared.pieces.Placed.{Placed}
+use Rattle.protocol_spec.proofs.ListLemmas.{each_has, has_parts, has_mapped}
 use Rattle.protocol_spec.specs.Block.Commands.{piece_of}
-use Rattle.protocol_spec.specs.Chain.Words.{Has, Each, numbers_below}
+use Rattle.protocol_spec.specs.Chain.Words.{Has, numbers_below}
 use Rattle.protocol_spec.specs.Chain.Keys.{objects_of, version_of}
 use Rattle.protocol_spec.specs.Block.Block.{Place, Block, value_in}
 use Rattle.protocol_spec.specs.Block.Execution.{Failure, first_slots, outcome, left_in, object_at, now_in, after_block, is_written, written_inputs, written_places, created_objects, with_rest_first, is_none_left, deleted_id, same_object, less_cost_first, execution, executed_by}
 use Rattle.block_law.specs.Names.{drawn_id}
 use Rattle.block_law.proofs.Blocks.{done-is}
 use Rattle.block_law.proofs.Effects.{IsOrigin, origins, left-id, after-id}
+use Rattle.block_law.proofs.Written.{chosen-from, below}
 use Rattle.sequence_law.specs.Orderly.{Step, gave, Makes}
 
 -- ---- elements
-
-pub has-parts : {A : Type 0} (xs ys : List A) (y : A) → Has (xs ++ ys) y → Has xs y ⊎ Has ys y
-has-parts [] ys y h = inr h
-has-parts (x ∷ xs) ys y (inl e) = inl (inl e)
-has-parts (x ∷ xs) ys y (inr h) = go (has-parts xs ys y h)
-  where
-    go : Has xs y ⊎ Has ys y → Has (x ∷ xs) y ⊎ Has ys y
-    go (inl h) = inl (inr h)
-    go (inr h) = inr h
-
-has-chosen : {A B : Type 0} (f : A → Option B) (xs : List A) (y : B) → Has (filter_map f xs) y → (x : A) × Has xs x × (f x ≡ Some y)
-has-chosen f [] y h = absurd h
-has-chosen {A = A} {B = B} f (x ∷ xs) y h = go (f x) refl h (has-chosen f xs y)
-  where
-    go : (o : Option B) → f x ≡ o → Has (cons_option o (filter_map f xs)) y → (Has (filter_map f xs) y → (z : A) × Has xs z × (f z ≡ Some y)) → (z : A) × Has (x ∷ xs) z × (f z ≡ Some y)
-    go None e h rest = let r = rest h in (r.0, inr r.1, r.2)
-    go (Some z) e (inl q) rest = (x, inl refl, e ∙ ap Some q)
-    go (Some z) e (inr h) rest = let r = rest h in (r.0, inr r.1, r.2)
-
-pub has-mapped : {A B : Type 0} (f : A → B) (xs : List A) (y : B) → Has (map f xs) y → (x : A) × Has xs x × (f x ≡ y)
-has-mapped f [] y h = absurd h
-has-mapped f (x ∷ xs) y (inl e) = (x, inl refl, e)
-has-mapped f (x ∷ xs) y (inr h) = let r = has-mapped f xs y h in (r.0, inr r.1, r.2)
-
-each-has : {A : Type 0} (P : A → Type 0) (xs : List A) (x : A) → Each P xs → Has xs x → P x
-each-has P [] x each h = absurd h
-each-has P (y ∷ ys) x each (inl e) = subst P e each.0
-each-has P (y ∷ ys) x each (inr h) = each-has P ys x each.1 h
-
-pub below : (k n : ℕ) → Has (numbers_below k) n → n < k
-below zero n h = absurd h
-below (suc k) n h = go (has-parts (numbers_below k) (k ∷ []) n h) (below k n)
-  where
-    go : Has (numbers_below k) n ⊎ Has (k ∷ []) n → (Has (numbers_below k) n → n < k) → n < suc k
-    go (inl h) rest = let less = rest h in omega (arith, less)
-    go (inr (inl e)) rest = omega (arith, e)
-    go (inr (inr h)) rest = absurd h
 
 -- ---- the places that are written are those of inputs that may be written
 
@@ -125,8 +89,8 @@ module _ (x : Step) where
   -- in or from a place that is written
   after-touched : (b : Block) → outcome x.tx (transaction_digest x.tx) x.inputs ≡ Ok b → (o : Object) → Has (filter_map (λ (y : Place × Object). after_block (version_of x.inputs) b y.0 y.1) (written_places x.tx x.inputs)) o → IsReplaced x o.id
   after-touched b e o h =
-      let from = has-chosen (λ (y : Place × Object). after_block (version_of x.inputs) b y.0 y.1) (written_places x.tx x.inputs) o h in
-      let origin = each-has (IsOrigin (first_slots x.tx x.inputs)) (written_places x.tx x.inputs) from.0 (origins x.tx x.inputs) from.1 in
+      let from = chosen-from (λ (y : Place × Object). after_block (version_of x.inputs) b y.0 y.1) (written_places x.tx x.inputs) o h in
+      let origin = each_has (IsOrigin (first_slots x.tx x.inputs)) (written_places x.tx x.inputs) from.0 (origins x.tx x.inputs) from.1 in
       replaced x from.0.1 o.id (places x.tx x.inputs from.0 from.1)
       (sym (after-id x.tx (first_slots x.tx x.inputs) (version_of x.inputs) b from.0 o origin (done-is x.tx (transaction_digest x.tx) x.inputs b e).kept.good from.2))
 
@@ -137,13 +101,13 @@ module _ (x : Step) where
 
   made-by : (b : Block) (o : Object) → Has (created_objects (transaction_digest x.tx) (version_of x.inputs) b) o → (n : ℕ) × (n < b.made) × (drawn_id (transaction_digest x.tx) n ≡ o.id)
   made-by b o h =
-      let from = has-chosen (λ n. left_in (version_of x.inputs) b.placed (drawn_id (transaction_digest x.tx) n)) (numbers_below b.made) o h in
+      let from = chosen-from (λ n. left_in (version_of x.inputs) b.placed (drawn_id (transaction_digest x.tx) n)) (numbers_below b.made) o h in
       (from.0, below b.made from.0 from.1, sym (left-id (version_of x.inputs) b.placed (drawn_id (transaction_digest x.tx) from.0) o from.2))
 
   failed-touched : (o : Object) → Has (less_cost_first x.tx (map (λ (y : Place × Object). same_object (version_of x.inputs) y.1) (written_places x.tx x.inputs))) o → IsReplaced x o.id
   failed-touched o h =
       let r = has-cost x.tx (map (λ (y : Place × Object). same_object (version_of x.inputs) y.1) (written_places x.tx x.inputs)) o h in
-      let from = has-mapped (λ (y : Place × Object). same_object (version_of x.inputs) y.1) (written_places x.tx x.inputs) r.0 r.1 in
+      let from = has_mapped (λ (y : Place × Object). same_object (version_of x.inputs) y.1) (written_places x.tx x.inputs) r.0 r.1 in
       replaced x from.0.1 o.id (places x.tx x.inputs from.0 from.1) (ap (λ (y : Object). y.id) from.2 ∙ r.2)
 
   -- it has the id of an input that may be written, or of a created object
@@ -160,7 +124,7 @@ module _ (x : Step) where
       parts b e (inr h) = inr (made-by b o h)
 
       go : (r : Result Block Failure) → outcome x.tx (transaction_digest x.tx) x.inputs ≡ r → Has (executed_by x.tx (transaction_digest x.tx) x.inputs r).objects o → Touches r o.id
-      go (Ok b) e h = parts b e (has-parts (with_rest_first x.tx (filter_map (λ (y : Place × Object). after_block (version_of x.inputs) b y.0 y.1) (written_places x.tx x.inputs))) (created_objects (transaction_digest x.tx) (version_of x.inputs) b) o h)
+      go (Ok b) e h = parts b e (has_parts (with_rest_first x.tx (filter_map (λ (y : Place × Object). after_block (version_of x.inputs) b y.0 y.1) (written_places x.tx x.inputs))) (created_objects (transaction_digest x.tx) (version_of x.inputs) b) o h)
       go (Err failure) e h = inl (failed-touched o h)
 
   pub touched-deleted : (id : ObjectId) → Has (gave x).effects.deleted id → IsTouched x id
@@ -174,7 +138,7 @@ module _ (x : Step) where
       go : (r : Result Block Failure) → Has (executed_by x.tx (transaction_digest x.tx) x.inputs r).effects.deleted id → Touches r id
       go (Err failure) h = absurd h
       go (Ok b) h =
-          let from = has-chosen (deleted_id (version_of x.inputs) b) (written_places x.tx x.inputs) id h in
+          let from = chosen-from (deleted_id (version_of x.inputs) b) (written_places x.tx x.inputs) id h in
           inl (replaced x from.0.1 id (places x.tx x.inputs from.0 from.1) (which (is_none_left (after_block (version_of x.inputs) b from.0.0 from.0.1)) from.0 from.2))
 
 -- ---- what is written has the version of the transaction
@@ -216,17 +180,17 @@ written-version x o h = go (outcome x.tx (transaction_digest x.tx) x.inputs) h
     parts : (b : Block) → Has (with_rest_first x.tx (filter_map (λ (y : Place × Object). after_block (version_of x.inputs) b y.0 y.1) (written_places x.tx x.inputs))) o ⊎ Has (created_objects (transaction_digest x.tx) (version_of x.inputs) b) o → o.version ≡ version_of x.inputs
     parts b (inl h) =
         let r = rest-version x.tx (filter_map (λ (y : Place × Object). after_block (version_of x.inputs) b y.0 y.1) (written_places x.tx x.inputs)) o h in
-        let from = has-chosen (λ (y : Place × Object). after_block (version_of x.inputs) b y.0 y.1) (written_places x.tx x.inputs) r.0 r.1 in
+        let from = chosen-from (λ (y : Place × Object). after_block (version_of x.inputs) b y.0 y.1) (written_places x.tx x.inputs) r.0 r.1 in
         sym r.2 ∙ after-version (version_of x.inputs) b from.0.0 from.0.1 r.0 from.2
     parts b (inr h) =
-        let from = has-chosen (λ n. left_in (version_of x.inputs) b.placed (drawn_id (transaction_digest x.tx) n)) (numbers_below b.made) o h in
+        let from = chosen-from (λ n. left_in (version_of x.inputs) b.placed (drawn_id (transaction_digest x.tx) n)) (numbers_below b.made) o h in
         left-version (version_of x.inputs) b.placed (drawn_id (transaction_digest x.tx) from.0) o from.2
 
     go : (r : Result Block Failure) → Has (executed_by x.tx (transaction_digest x.tx) x.inputs r).objects o → o.version ≡ version_of x.inputs
-    go (Ok b) h = parts b (has-parts (with_rest_first x.tx (filter_map (λ (y : Place × Object). after_block (version_of x.inputs) b y.0 y.1) (written_places x.tx x.inputs))) (created_objects (transaction_digest x.tx) (version_of x.inputs) b) o h)
+    go (Ok b) h = parts b (has_parts (with_rest_first x.tx (filter_map (λ (y : Place × Object). after_block (version_of x.inputs) b y.0 y.1) (written_places x.tx x.inputs))) (created_objects (transaction_digest x.tx) (version_of x.inputs) b) o h)
     go (Err failure) h =
         let r = cost-version x.tx (map (λ (y : Place × Object). same_object (version_of x.inputs) y.1) (written_places x.tx x.inputs)) o h in
-        let from = has-mapped (λ (y : Place × Object). same_object (version_of x.inputs) y.1) (written_places x.tx x.inputs) r.0 r.1 in
+        let from = has_mapped (λ (y : Place × Object). same_object (version_of x.inputs) y.1) (written_places x.tx x.inputs) r.0 r.1 in
         sym r.2 ∙ sym (ap (λ (y : Object). y.version) from.2)
 
 -- it is above the version of each object

@@ -27,6 +27,7 @@ use Rattle.schedule_text.specs.declared.words.ArgWord.{ArgWord}
 use Rattle.schedule_text.specs.declared.words.ArgWord.TheVariants as arg_word
 use Rattle.schedule_text.specs.declared.words.CommandWord.{CommandWord}
 use Rattle.schedule_text.specs.declared.words.CommandWord.TheVariants as command_word
+use Rattle.protocol_spec.proofs.ListLemmas.{each_has, find_has}
 use Rattle.protocol_spec.specs.Chain.Words.{Each, first_some}
 use Rattle.protocol_spec.specs.Member.Member.{Member}
 use Rattle.protocol_spec.specs.Member.Versions.{Version, versions, version_at}
@@ -35,8 +36,6 @@ use Rattle.world_spec.specs.World.{Seat, World, Made, says_first, member_in}
 use Rattle.world_spec.specs.Names.{made_named}
 use Rattle.world_spec.specs.Making.{spoiled_bytes, spoiled_if, thing_at, digest_at, digest_named, id_of, digest_in, held_digest, digest_or_zero, reference_digest, reference_of, input_of, argument_of, first_word, words_behind, last_word, words_before, kinds, kind_or, command_of, TxLine, transaction_of}
 use Rattle.text_law.specs.Sayable.{IsNumber, IsRef, IsInput, IsArg, IsCommand}
-use Rattle.safety_law.proofs.Once.{each-has}
-use Rattle.safety_law.proofs.Kept.{find-has}
 use Rattle.text_law.proofs.Members.{IsDigest, IsOrigin, AreOrigins, tagged-digest}
 use Rattle.text_law.proofs.Texts.{most_words, IsShortInput, IsShortCommand}
 
@@ -77,7 +76,7 @@ named-digest w name txs = go (made_named w name) refl
   where
     go : (o : Option Made) → made_named w name ≡ o → IsDigest (digest_at o)
     go None e = refl
-    go (Some t) e = (each-has IsFitMade w.txs t txs (find-has (λ (x : Made). bytes_eq x.name name) w.txs t e)).1
+    go (Some t) e = (each_has IsFitMade w.txs t txs (find_has (λ (x : Made). bytes_eq x.name name) w.txs t e)).1
 
 -- what the first member says, where each says digests
 first-said : (s : Setting) (says : Member → Option Digest) (seats : List Seat) → ((m : Member) → IsOrigin (says m)) → IsOrigin (says_first s says seats)
@@ -112,7 +111,7 @@ module _ (s : Setting) (w : World) (things : AreThings s.things) (txs : Each IsF
     where
       go : (o : Option Thing) → find (λ (t : Thing). bytes_eq t.name name) s.things ≡ o → IsDigest (thing_at o).0
       go None e = refl
-      go (Some t) e = each-has (λ (x : Thing). IsDigest x.id.0) s.things t things (find-has (λ (x : Thing). bytes_eq x.name name) s.things t e)
+      go (Some t) e = each_has (λ (x : Thing). IsDigest x.id.0) s.things t things (find_has (λ (x : Thing). bytes_eq x.name name) s.things t e)
   id-digest (object_word.Created tx number) = created-digest (digest_named w tx) number
 
   reference-fits : (r : RefWord) → IsRef r → object_ref.fits (reference_of s w r)

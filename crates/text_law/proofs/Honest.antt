@@ -32,11 +32,11 @@ keyed-seals : (secret : List ℕ) → AreSeals (keyed_seal secret)
 unfolding keyed_seal
 keyed-seals secret signer bytes = tagged-digest _ _
 
-setting-seals : (secret : List ℕ) (t : Schedule) → AreSeals (keyed_setting secret t).seal
+pub setting-seals : (secret : List ℕ) (t : Schedule) → AreSeals (keyed_setting secret t).seal
 unfolding setting_of
 setting-seals secret t = keyed-seals secret
 
-line-things : (n : ℕ) (lines : List Setup) → AreThings (things_from n lines)
+pub line-things : (n : ℕ) (lines : List Setup) → AreThings (things_from n lines)
 line-things n [] = tt
 line-things n (line.Member stake honest ∷ lines) = line-things n lines
 line-things n (line.Coin name who balance ∷ lines) = (genesis-digest n, line-things (n + 1) lines)
@@ -44,17 +44,17 @@ line-things n (line.Counter name value ∷ lines) = (genesis-digest n, line-thin
 line-things n (line.Cap name who currency ∷ lines) = (genesis-digest n, line-things (n + 1) lines)
 line-things n (line.Writers w ∷ lines) = line-things n lines
 
-setting-things : (secret : List ℕ) (t : Schedule) → AreThings (keyed_setting secret t).things
+pub setting-things : (secret : List ℕ) (t : Schedule) → AreThings (keyed_setting secret t).things
 unfolding setting_of
 setting-things secret t = line-things 0 t.setup
 
 -- ---- the events
 
-all-back : {A : Type 0} (P : A → Type 0) (xs ys : List A) → AllByRecursion P (xs ++ ys) → AllByRecursion P ys
+pub all-back : {A : Type 0} (P : A → Type 0) (xs ys : List A) → AllByRecursion P (xs ++ ys) → AllByRecursion P ys
 all-back P [] ys all = all
 all-back P (x ∷ xs) ys all = all-back P xs ys all.1
 
-fit-events : (events : List Event) → AllByRecursion IsStatement (map (λ e. statement.Event e) events) → AllByRecursion (IsShortEvent most_words) events → AllByRecursion IsFitEvent events
+pub fit-events : (events : List Event) → AllByRecursion IsStatement (map (λ e. statement.Event e) events) → AllByRecursion (IsShortEvent most_words) events → AllByRecursion IsFitEvent events
 fit-events [] said short = tt
 fit-events (e ∷ events) said short = ((said.0, short.0), fit-events events said.1 short.1)
 

@@ -1,8 +1,7 @@
 -- What a member's state names are digests of 32 bytes, and the origins of its votes can be spelled; so can those of
 -- each vote that it states.
 use Rattle.std.proofs.Common.{refl, sym, subst, arith}
-use Rattle.std.proofs.lemmas.Bool.{ltb-false}
-use Rattle.std.specs.Prelude.{◌≡◌, ℕ, ◌≤◌, ◌<◌, zero, suc, Bool, true, false, cond, not, ◌&&◌, ◌==◌, nat_lt, List, [], ◌∷◌, ◌++◌, map, flat_map, filter, length, Option, Some, None, is_some, Result, Ok, Err}
+use Rattle.std.specs.Prelude.{◌≡◌, ℕ, ◌≤◌, ◌<◌, zero, suc, Bool, true, false, cond, not, ◌&&◌, ◌==◌, List, [], ◌∷◌, ◌++◌, map, flat_map, filter, length, Option, Some, None, is_some, Result, Ok, Err}
 use Rattle.sha2.proofs.Facts256.{length-sha256}
 use Rattle.wire_bcs.specs.declared.fault.WireFault.{WireFault}
 use Rattle.wire_bcs.specs.Items.{length_limit}
@@ -42,8 +41,11 @@ use Rattle.answer_types.specs.declared.refusals.EndRefusal.{EndRefusal}
 use Rattle.answer_types.specs.declared.refusals.TurnRefusal.{TurnRefusal}
 use Rattle.answer_types.specs.declared.refusals.AckRefusal.{AckRefusal}
 use Rattle.answer_types.specs.declared.refusals.AckRefusal.TheVariants as no_ack
+use Rattle.protocol_spec.proofs.Checked.{few_inputs}
+use Rattle.protocol_spec.proofs.ListLemmas.{each_has, find_has, each_join}
+use Rattle.protocol_spec.proofs.Truth.{map_none}
 use Rattle.protocol_spec.specs.Chain.Words.{Each, first_some, where_true, refused_or, unless_refused}
-use Rattle.protocol_spec.specs.Chain.Shape.{shape_cases, shape_fault}
+use Rattle.protocol_spec.specs.Chain.Shape.{shape_fault}
 use Rattle.protocol_spec.specs.Chain.Keys.{objects_of, fits}
 use Rattle.protocol_spec.specs.Chain.Certificates.{Rules, read_signed, read_certificate, read_entry}
 use Rattle.protocol_spec.specs.Block.Execution.{execution, written_keys}
@@ -53,13 +55,10 @@ use Rattle.protocol_spec.specs.Member.Sequence.{Sequence, What, takes, commits, 
 use Rattle.protocol_spec.specs.Member.Rounds.{Books, may_run, writes_new, executes_as, ready_as, ready_on, present, ready, clashes, round_add, round_among, round_of, rounds_within, rounds}
 use Rattle.protocol_spec.specs.Member.Checkpoints.{held_of}
 use Rattle.protocol_spec.specs.Member.Member.{Member, ballot, books, vote_for, cast_of, held_with, after, state}
-use Rattle.protocol_spec.specs.Member.Calls.{Call, votes, holds, sees, runs, closes, ends, turns, acks, Voted, new_vote_cases, voted_as, new_vote, vote_again, unsealed_of, vote_on, vote_read, vote_stopped, vote_answer, hold_answer, is_hold_kept, see_cases, see_answer, run_answer, close_answer, turn_answer, end_answer, ack_answer, acknowledged, halted, kept_vote, vote_record, hold_record, see_record, ran_items, ran_record, run_record, close_record, turn_record, due}
+use Rattle.protocol_spec.specs.Member.Calls.{Call, votes, holds, sees, runs, closes, ends, turns, acks, Voted, new_vote_cases, voted_as, new_vote, vote_again, unsealed_of, vote_read, vote_stopped, vote_answer, hold_answer, is_hold_kept, see_cases, see_answer, run_answer, close_answer, turn_answer, end_answer, ack_answer, acknowledged, halted, kept_vote, vote_record, hold_record, see_record, ran_items, ran_record, run_record, close_record, turn_record, due}
 use Rattle.protocol_spec.specs.Member.Calls as calls
 use Rattle.world_spec.specs.World.{stated, voted_statement, built_statements, ran_statements, answered_statement, checkpoint_statement}
-use Rattle.safety_law.proofs.Apart.{none-each, none-map, state-push}
-use Rattle.safety_law.proofs.Once.{each-has}
-use Rattle.safety_law.proofs.Kept.{find-has}
-use Rattle.safety_law.proofs.Forks.{each-join}
+use Rattle.safety_law.proofs.Apart.{none-each, state-push}
 
 abbrev pub IsDigest : Digest → Type 0
 IsDigest d = length d.0 ≡ 32
@@ -109,18 +108,18 @@ written-made d (o ∷ objects) is = (is, written-made d objects is)
 
 all-written : (executed : List Execution) → Each (λ (x : Execution). IsDigest x.digest) executed → Each IsMade (flat_map written_by executed)
 all-written [] each = tt
-all-written (x ∷ executed) each = each-join IsMade (written_by x) (flat_map written_by executed) (written-made x.digest x.gave.objects each.0) (all-written executed each.1)
+all-written (x ∷ executed) each = each_join IsMade (written_by x) (flat_map written_by executed) (written-made x.digest x.gave.objects each.0) (all-written executed each.1)
 
 all-made : (opening : List Object) (executed : List Execution) → Each (λ (x : Execution). IsDigest x.digest) executed → Each IsMade (versions opening executed)
 unfolding versions
-all-made opening executed each = each-join IsMade (map opened opening) (flat_map written_by executed) (opened-made opening) (all-written executed each)
+all-made opening executed each = each_join IsMade (map opened opening) (flat_map written_by executed) (opened-made opening) (all-written executed each)
 
 at-made : (held : List Version) (key : ObjectKey) → Each IsMade held → IsOrigin (made_by (version_at held key))
 at-made held key each = go (version_at held key) refl
   where
     go : (o : Option Version) → version_at held key ≡ o → IsOrigin (made_by o)
     go None e = tt
-    go (Some v) e = each-has IsMade held v each (find-has (is_key key) held v e)
+    go (Some v) e = each_has IsMade held v each (find_has (is_key key) held v e)
 
 one-origin : (b : Ballot) (i : Input) → Each IsMade (versions b.opening b.executed) → IsOrigin (origin_of b i)
 one-origin b (input.Pure bytes) each = tt
@@ -140,22 +139,13 @@ filter-short test (x ∷ xs) = go (test x) (filter-short test xs)
     go true le = omega (arith, le)
     go false le = omega (arith, le)
 
--- a transaction of valid shape has few inputs
-few-inputs : (t : Transaction) → shape_fault t ≡ None → length t.inputs ≤ 256
-unfolding shape_fault
-few-inputs t e = go (nat_lt 256 (length t.inputs)) refl (none-each (shape_cases t) e).1.1.1.0
-  where
-    go : (b : Bool) → nat_lt 256 (length t.inputs) ≡ b → where_true {A = ℕ} b 4 ≡ None → length t.inputs ≤ 256
-    go true q e = absurd (cc)
-    go false q e = ltb-false 256 (length t.inputs) q
-
 named-origins : (b : Ballot) (t : Transaction) → Each (λ (x : Execution). IsDigest x.digest) b.executed → shape_fault t ≡ None → AreOrigins (vote_origins b t)
 unfolding vote_origins
 named-origins b t each shape =
     let all = all-origins b (objects_of t) (all-made b.opening b.executed each) in
     let same = all.1 in
     let short = filter-short is_object t.inputs in
-    let few = few-inputs t shape in
+    let few = few_inputs t shape in
     (omega (arith, same, short, few), all.0)
 
 -- ---- votes
@@ -170,11 +160,11 @@ module _ (r : Rules) (m : Member) (fit : IsFitMember m) where
     where
       go : (refusal : Option VoteRefusal) → first_some (new_vote_cases m t unsealed) ≡ refusal → IsFitVote (unless_refused refusal (voted_as m t (vote_origins (ballot m) t) true))
       go (Some refusal) e = tt
-      go None e = named-origins (ballot m) t fit.executed (none-map no_vote.Invalid (shape_fault t) (none-each (new_vote_cases m t unsealed) e).1.0)
+      go None e = named-origins (ballot m) t fit.executed (map_none no_vote.Invalid (shape_fault t) (none-each (new_vote_cases m t unsealed) e).1.0)
 
   again-vote : (t : Transaction) (unsealed : Option VoteRefusal) (v : Option Cast) → vote_for m (transaction_digest t) ≡ v → IsFitVote (vote_again m t unsealed v)
   again-vote t unsealed None e = new-vote t unsealed
-  again-vote t unsealed (Some v) e = each-has (λ (w : Cast). AreOrigins w.origins) m.votes v fit.votes (find-has (λ (w : Cast). digest_eq w.digest (transaction_digest t)) m.votes v e)
+  again-vote t unsealed (Some v) e = each_has (λ (w : Cast). AreOrigins w.origins) m.votes v fit.votes (find_has (λ (w : Cast). digest_eq w.digest (transaction_digest t)) m.votes v e)
 
   on-vote : (t : Transaction) (unsealed : Option VoteRefusal) (same : Bool)
       → IsFitVote (refused_or (where_true (not same) (no_vote.WrongEpoch t.epoch m.epoch)) (vote_again m t unsealed (vote_for m (transaction_digest t))))
@@ -332,7 +322,7 @@ held-more held (takes h) fit each = go (is_some (held_of held h.digest))
   where
     go : (b : Bool) → Each (λ (h : Held). IsDigest h.digest) (cond b held (held ++ h ∷ []))
     go true = each
-    go false = each-join (λ (h : Held). IsDigest h.digest) held (h ∷ []) each (fit, tt)
+    go false = each_join (λ (h : Held). IsDigest h.digest) held (h ∷ []) each (fit, tt)
 held-more held commits fit each = each
 held-more held (counts member) fit each = each
 held-more held (ignores cause) fit each = each
@@ -371,7 +361,7 @@ round-more round (Some x) is each = go (clashes round x)
   where
     go : (b : Bool) → AreDigests (cond b round (round ++ x ∷ []))
     go true = each
-    go false = each-join (λ (y : Execution). IsDigest y.digest) round (x ∷ []) each (is, tt)
+    go false = each_join (λ (y : Execution). IsDigest y.digest) round (x ∷ []) each (is, tt)
 
 round-held : (b : Books) (executed round : List Execution) (hs : List Held) → Each (λ (h : Held). IsDigest h.digest) hs → AreDigests round → AreDigests (round_among b executed round hs)
 round-held b executed round [] held each = each
@@ -384,7 +374,7 @@ one-round b executed held = round-held b executed [] b.held held tt
 some-rounds : (n : ℕ) (b : Books) (executed : List Execution) → Each (λ (h : Held). IsDigest h.digest) b.held → AreDigests (rounds_within n b executed)
 some-rounds zero b executed held = tt
 some-rounds (suc n) b executed held =
-    each-join (λ (x : Execution). IsDigest x.digest) (round_of b executed) (rounds_within n b (executed ++ round_of b executed)) (one-round b executed held)
+    each_join (λ (x : Execution). IsDigest x.digest) (round_of b executed) (rounds_within n b (executed ++ round_of b executed)) (one-round b executed held)
     (some-rounds n b (executed ++ round_of b executed) held)
 
 all-rounds : (b : Books) (executed : List Execution) → Each (λ (h : Held). IsDigest h.digest) b.held → AreDigests (rounds b executed)
@@ -394,12 +384,12 @@ all-rounds b executed held = some-rounds (length b.held) b executed held
 -- ---- each record
 
 ran-after : (m : Member) → IsFitMember m → AreDigests (m.executed ++ rounds (books m) m.executed)
-ran-after m fit = each-join (λ (x : Execution). IsDigest x.digest) m.executed (rounds (books m) m.executed) fit.executed (all-rounds (books m) m.executed fit.held)
+ran-after m fit = each_join (λ (x : Execution). IsDigest x.digest) m.executed (rounds (books m) m.executed) fit.executed (all-rounds (books m) m.executed fit.held)
 
 fit-after : (r : Rules) (m : Member) (x : Record) → IsFitRecord x → IsFitMember m → IsFitMember (after r m x)
 unfolding after
-fit-after r m (record_as.Vote tx origins) is fit = record { executed = fit.executed; held = fit.held; votes = each-join (λ (v : Cast). AreOrigins v.origins) m.votes (cast_of tx origins ∷ []) fit.votes (is, tt) }
-fit-after r m (record_as.Hold c) is fit = record { executed = fit.executed; held = each-join (λ (h : Held). IsDigest h.digest) m.held (held_as c ∷ []) fit.held (digest-of c.tx, tt); votes = fit.votes }
+fit-after r m (record_as.Vote tx origins) is fit = record { executed = fit.executed; held = fit.held; votes = each_join (λ (v : Cast). AreOrigins v.origins) m.votes (cast_of tx origins ∷ []) fit.votes (is, tt) }
+fit-after r m (record_as.Hold c) is fit = record { executed = fit.executed; held = each_join (λ (h : Held). IsDigest h.digest) m.held (held_as c ∷ []) fit.held (digest-of c.tx, tt); votes = fit.votes }
 fit-after r m (record_as.See bytes) is fit = record { executed = fit.executed; held = held-more m.held (what_of r m.epoch m.sequence bytes) (fit-what r m.epoch m.sequence bytes) fit.held; votes = fit.votes }
 fit-after r m record_as.Close is fit = record { executed = fit.executed; held = fit.held; votes = fit.votes }
 fit-after r m (record_as.Ran txs) is fit = record { executed = ran-after m fit; held = fit.held; votes = fit.votes }

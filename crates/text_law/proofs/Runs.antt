@@ -24,6 +24,7 @@ use Rattle.chain_messages.specs.declared.messages.Entry.TheVariants as entry
 use Rattle.journal_core.specs.declared.records.Record.{Record}
 use Rattle.schedule_text.specs.declared.words.Event.{Event}
 use Rattle.schedule_text.specs.declared.words.Event.TheVariants as event
+use Rattle.protocol_spec.proofs.ListLemmas.{each_at, each_has, find_has, each_join}
 use Rattle.protocol_spec.specs.Chain.Words.{Each, first_some, first_of, where_true, last_where}
 use Rattle.protocol_spec.specs.Chain.Keys.{objects_of}
 use Rattle.protocol_spec.specs.Member.Member.{Member, state}
@@ -35,11 +36,8 @@ use Rattle.world_spec.specs.Making.{made_by_line, made_as, transaction_of, spoil
 use Rattle.world_spec.specs.Step.{happens, says, vote_in, end_in, last_said, voted_on, origin_word, no_origins, origins_or, honest_vote, fvote_origins, fvoted, first_origins, vote_statement, sealed_by, certificate_of, votes_collected, Collected, lacks, short, differ, whole, formed_as, formed, sent, open_entries, ordered, sealed_end, appended_entry, has_ended, risen_if, ordered_end, honest_end, end_ordered, on_seat, armed_seat, started_seat, entries_left, false_ack, acked}
 use Rattle.world_spec.specs.Run.{run, world_after}
 use Rattle.text_law.specs.Sayable.{IsMember, IsEvent}
-use Rattle.safety_law.proofs.InWorld.{each-set, each-get, kept-called, new-seats}
-use Rattle.safety_law.proofs.Once.{each-has}
-use Rattle.safety_law.proofs.Kept.{find-has}
+use Rattle.safety_law.proofs.InWorld.{each-set, kept-called, new-seats}
 use Rattle.safety_law.proofs.Steps.{last-said, last-has}
-use Rattle.safety_law.proofs.Forks.{each-join}
 use Rattle.text_law.proofs.Members.{IsDigest, IsOrigin, AreOrigins, IsFitStatement, IsFitMember, digest-of, filter-short, stated-fit, fit-step, fit-none}
 use Rattle.text_law.proofs.Texts.{most_words, IsShortEvent}
 use Rattle.text_law.proofs.Fits.{IsFitMade, AreThings, IsFitLine, spoiled-digest, named-digest, few-made, transaction-fits, signed-fits, origins-fit}
@@ -94,7 +92,7 @@ module _ (s : Setting) (seals : AreSeals s.seal) (things : AreThings s.things) w
   behind-fit n w m call seat (stops kept x) e fit f seats = record { txs = f.txs; said = f.said; certs = f.certs; entries = f.entries; seats = seats; epoch = f.epoch }
   behind-fit n w m call seat (answers before x) e fit f seats = record {
     txs = f.txs;
-    said = each-join (λ (y : Said). IsFitStatement y.statement) w.said (map (said_by m) (stated s.rules before call)) f.said
+    said = each_join (λ (y : Said). IsFitStatement y.statement) w.said (map (said_by m) (stated s.rules before call)) f.said
         (each-said m (stated s.rules before call) (stated-fit s.rules before call (subst IsFitMember (answers-as seat call before x e) fit)));
     certs = f.certs;
     entries = f.entries;
@@ -105,7 +103,7 @@ module _ (s : Setting) (seals : AreSeals s.seal) (things : AreThings s.things) w
   seat-fit : (n : ℕ) (w : World) (m : ℕ) (call : Call) (seat : Option Seat) → slice_get w.seats m ≡ seat → IsFit s n w → Seats (called_seat s w m call seat) → IsFit s n (called_seat s w m call seat)
   seat-fit n w m call None e f seats = f
   seat-fit n w m call (Some seat) e f seats =
-      behind-fit n w m call seat (reached_seat s call seat) refl (each-get (λ (y : Seat). IsFitMember (state s.rules s.opening y.records)) w.seats m seat f.seats e) f seats
+      behind-fit n w m call seat (reached_seat s call seat) refl (each_at (λ (y : Seat). IsFitMember (state s.rules s.opening y.records)) w.seats m seat f.seats e) f seats
 
   call-fit : (n : ℕ) (w : World) (m : ℕ) (call : Call) → IsFit s n w → IsFit s n (called_in s w m call)
   unfolding called_in
@@ -126,7 +124,7 @@ module _ (s : Setting) (seals : AreSeals s.seal) (things : AreThings s.things) w
   says-fit : (n : ℕ) (w : World) (m : ℕ) (st : Statement) → IsFitStatement st → IsFit s n w → IsFit s n (says w m st)
   says-fit n w m st is f = record {
     txs = f.txs;
-    said = each-join (λ (y : Said). IsFitStatement y.statement) w.said (said_by m st ∷ []) f.said (is, tt);
+    said = each_join (λ (y : Said). IsFitStatement y.statement) w.said (said_by m st ∷ []) f.said (is, tt);
     certs = f.certs;
     entries = f.entries;
     seats = f.seats;
@@ -154,7 +152,7 @@ module _ (s : Setting) (seals : AreSeals s.seal) (things : AreThings s.things) w
   last-origins : (said : List Said) (tx : Digest) (m : ℕ) (os : List (Option Digest)) → Each (λ (x : Said). IsFitStatement x.statement) said → last_said (vote_in tx) m said ≡ Some os → AreOrigins os
   last-origins said tx m os each e =
       let last = last-said (vote_in tx) m said os e in
-      voted-origins tx last.0 os last.2 (each-has (λ (x : Said). IsFitStatement x.statement) said (said_by m last.0) each last.1)
+      voted-origins tx last.0 os last.2 (each_has (λ (x : Said). IsFitStatement x.statement) said (said_by m last.0) each last.1)
 
   -- ---- fvote
 
@@ -238,7 +236,7 @@ module _ (s : Setting) (seals : AreSeals s.seal) (things : AreThings s.things) w
   formed-as-fit n w t ms whole made is few f = record {
     txs = f.txs;
     said = f.said;
-    certs = each-join (λ (x : Formed). certificate.fits x.cert) w.certs (record { name = t.name; cert = certificate_of s t (first_origins w t.digest ms) ms } ∷ []) f.certs
+    certs = each_join (λ (x : Formed). certificate.fits x.cert) w.certs (record { name = t.name; cert = certificate_of s t (first_origins w t.digest ms) ms } ∷ []) f.certs
         (certificate-fits t (first_origins w t.digest ms) ms made (first-origins w t.digest ms f.said) is few, tt);
     entries = f.entries;
     seats = f.seats;
@@ -256,7 +254,7 @@ module _ (s : Setting) (seals : AreSeals s.seal) (things : AreThings s.things) w
     where
       go : (o : Option (List Entry)) → slice_get qs n ≡ o → Each entry_codec.fits (list_or_none o)
       go None e = tt
-      go (Some es) e = each-get (λ (x : List Entry). Each entry_codec.fits x) qs n es each e
+      go (Some es) e = each_at (λ (x : List Entry). Each entry_codec.fits x) qs n es each e
 
   enter-fit : (n : ℕ) (w : World) (e : Entry) → entry_codec.fits e → IsFit s n w → IsFit s n (appended_entry w e)
   enter-fit n w e is f = record {
@@ -264,7 +262,7 @@ module _ (s : Setting) (seals : AreSeals s.seal) (things : AreThings s.things) w
     said = f.said;
     certs = f.certs;
     entries = each-set (λ (es : List Entry). Each entry_codec.fits es) w.sequences w.epoch (open_entries w ++ e ∷ []) f.entries
-        (each-join entry_codec.fits (open_entries w) (e ∷ []) (at-fit w.sequences w.epoch f.entries) (is, tt));
+        (each_join entry_codec.fits (open_entries w) (e ∷ []) (at-fit w.sequences w.epoch f.entries) (is, tt));
     seats = f.seats;
     epoch = f.epoch;
   }
@@ -292,7 +290,7 @@ module _ (s : Setting) (seals : AreSeals s.seal) (things : AreThings s.things) w
         txs = f.txs;
         said = f.said;
         certs = f.certs;
-        entries = each-join (λ (es : List Entry). Each entry_codec.fits es) w.sequences ([] ∷ []) f.entries (tt, tt);
+        entries = each_join (λ (es : List Entry). Each entry_codec.fits es) w.sequences ([] ∷ []) f.entries (tt, tt);
         seats = f.seats;
         epoch = omega (arith, le);
       }
@@ -324,7 +322,7 @@ module _ (s : Setting) (seals : AreSeals s.seal) (things : AreThings s.things) w
   make-fit n w l is f =
       let t = made_as s l.name l.spoiled (transaction_of s w l) in
       record {
-        txs = each-join IsFitMade w.txs (t ∷ []) f.txs (made-fits w l is f.txs, tt);
+        txs = each_join IsFitMade w.txs (t ∷ []) f.txs (made-fits w l is f.txs, tt);
         said = f.said;
         certs = f.certs;
         entries = f.entries;
@@ -346,7 +344,7 @@ module _ (s : Setting) (seals : AreSeals s.seal) (things : AreThings s.things) w
         said = f.said;
         certs = f.certs;
         entries = f.entries;
-        seats = each-set P w.seats m (change seat) f.seats (subst (λ (rs : List Record). IsFitMember (state s.rules s.opening rs)) (sym (same seat)) (each-get P w.seats m seat f.seats e));
+        seats = each-set P w.seats m (change seat) f.seats (subst (λ (rs : List Record). IsFitMember (state s.rules s.opening rs)) (sym (same seat)) (each_at P w.seats m seat f.seats e));
         epoch = f.epoch;
       }
 
@@ -364,7 +362,7 @@ module _ (s : Setting) (seals : AreSeals s.seal) (things : AreThings s.things) w
       if-fit n (is_honest w m) (called_in s w m (acks t.digest)) (says w m (false_ack s w t spoiled)) (call-fit n w m (acks t.digest) f) (says-fit n w m (false_ack s w t spoiled) tt f)
 
   made-named : (n : ℕ) (w : World) (name : Name) (x : Made) → IsFit s n w → made_named w name ≡ Some x → IsFitMade x
-  made-named n w name x f e = each-has IsFitMade w.txs x f.txs (find-has (λ (t : Made). bytes_eq t.name name) w.txs x e)
+  made-named n w name x f e = each_has IsFitMade w.txs x f.txs (find_has (λ (t : Made). bytes_eq t.name name) w.txs x e)
 
   cert-named : (n : ℕ) (w : World) (name : Name) (x : Certificate) → IsFit s n w → cert_named w name ≡ Some x → certificate.fits x
   cert-named n w name x f e = go (last_where (λ (y : Formed). bytes_eq y.name name) w.certs) refl e
@@ -374,7 +372,7 @@ module _ (s : Setting) (seals : AreSeals s.seal) (things : AreThings s.things) w
 
       go : (o : Option Formed) → last_where (λ (y : Formed). bytes_eq y.name name) w.certs ≡ o → option_map cert_in o ≡ Some x → certificate.fits x
       go None q e = absurd (cc)
-      go (Some y) q e = subst (λ (c : Certificate). certificate.fits c) (same y e) (each-has (λ (z : Formed). certificate.fits z.cert) w.certs y f.certs (last-has (λ (z : Formed). bytes_eq z.name name) w.certs y q))
+      go (Some y) q e = subst (λ (c : Certificate). certificate.fits c) (same y e) (each_has (λ (z : Formed). certificate.fits z.cert) w.certs y f.certs (last-has (λ (z : Formed). bytes_eq z.name name) w.certs y q))
 
   -- ---- each line, and all
 

@@ -9,11 +9,9 @@ use Rattle.schedule_text.specs.Bytes.{is_digits, is_name, has_leading_zero, valu
 use Rattle.schedule_text.specs.Refs.{is_object, object_of, object_form, object_value, is_ref, ref_of, ref_form, ref_value, is_shared, shared_form}
 use Rattle.schedule_text.specs.Lines.{if_form, then_make, member_number}
 use Rattle.text_law.specs.Sayable.{IsNumber, IsMember, IsBetween, IsObject, IsRef}
+use Rattle.protocol_spec.proofs.Truth.{some_same}
 
 -- ---- what stood behind an answer
-
-some_same : {A : Type 0} → (x y : A) → Some x ≡ Some y → x ≡ y
-some_same x y h = cc
 
 pub cond_said : {A : Type 0} → (b : Bool) (v n : A) → cond b (Some v) None ≡ Some n → (b ≡ true) × (v ≡ n)
 cond_said true v n h = (refl, some_same v n h)

@@ -19,6 +19,7 @@ use Rattle.schedule_text.specs.Lines.{then_make, member_number, role_of, member_
 use Rattle.text_law.specs.Sayable.{IsName, IsNumber, IsMember, IsBetween, IsInput, IsCommand, IsOrigin, AreMembers, AreBytes, IsEvent, IsStatement}
 use Rattle.text_law.proofs.Said.{map_said, then_said, both_said, form_said, make_said, number_said, range_said, member_said, ref_said}
 use Rattle.text_law.proofs.SaidWords.{choose, each_said, hex_said, input_said, command_said}
+use Rattle.protocol_spec.proofs.Truth.{some_same}
 
 -- a refusal is no answer
 none : {A : Type 0} → (P : Type 0) (c : Cause) (x : A) → Err c ≡ Ok x → P
@@ -26,9 +27,6 @@ none P c x h = absurd (cc)
 
 ok_said : {A : Type 0} → (x y : A) (r q : Result A Cause) → r ≡ Ok x → q ≡ Ok y → r ≡ q → x ≡ y
 ok_said x y r q a b h = cc
-
-some_same : {A : Type 0} → (x y : A) → Some x ≡ Some y → x ≡ y
-some_same x y h = cc
 
 -- ---- set-up lines
 

@@ -40,10 +40,10 @@ record IsGood (t : Schedule) : Type 0 where
 abbrev read_ok : Schedule → Result Schedule Cause
 read_ok s = Ok s
 
-same : (s t : Schedule) → read_ok s ≡ read_ok t → s ≡ t
+pub same : (s t : Schedule) → read_ok s ≡ read_ok t → s ≡ t
 same s t h = cc
 
-after_said : (c : Check) (v u : Schedule) → after_check c v ≡ Ok u → (c ≡ Ok tt) × (v ≡ u)
+pub after_said : (c : Check) (v u : Schedule) → after_check c v ≡ Ok u → (c ≡ Ok tt) × (v ≡ u)
 after_said (Ok tt) v u h = (refl, same v u h)
 after_said (Err c) v u h = absurd (cc)
 
@@ -51,7 +51,7 @@ first_said : (a b : Check) → also a b ≡ Ok tt → a ≡ Ok tt
 first_said (Ok u) b h = refl
 first_said (Err c) b h = absurd (cc)
 
-check_said : (b : Bool) (c : Cause) → check b c ≡ Ok tt → b ≡ true
+pub check_said : (b : Bool) (c : Cause) → check b c ≡ Ok tt → b ≡ true
 check_said true c h = refl
 check_said false c h = absurd (cc)
 

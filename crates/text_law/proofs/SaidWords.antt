@@ -22,9 +22,7 @@ use Rattle.schedule_text.specs.Inputs.{hex_of, of_kind, input_kind, input_parts,
 use Rattle.schedule_text.specs.Commands.{place_of, result_value, place_value, arg_of, comma_parts, call_words, native_names, native_of, kind_names, kind_of, command_kind, of_command_kind, command_parts, vector_value, command_parts_value, command_of}
 use Rattle.text_law.specs.Sayable.{IsByte, IsInput, IsArg, AreArgs, IsCommand}
 use Rattle.text_law.proofs.Said.{map_said, both_said, number_said, range_said, ref_said, shared_said}
-
-some_same : {A : Type 0} → (x y : A) → Some x ≡ Some y → x ≡ y
-some_same x y h = cc
+use Rattle.protocol_spec.proofs.Truth.{some_same}
 
 -- ---- bytes
 

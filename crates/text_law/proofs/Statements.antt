@@ -26,6 +26,7 @@ use Rattle.text_law.proofs.Pieces.{Passes, EachPasses, wider, passes-append, mar
 use Rattle.text_law.proofs.Numbers.{decimal_form, number_read, range_read, member_read}
 use Rattle.text_law.proofs.Words.{is_word_byte, name_in_word, input_in_word, call_in_word, ref_in_input, is_ref_byte, is_input_byte, is_call_byte, name_passes, number_passes, ref_passes, ref_is, ref_read, hex_names, hex_is, hex_read, input_passes, input_is, input_read}
 use Rattle.text_law.proofs.Calls.{command_passes, command_is, command_read, not_input}
+use Rattle.protocol_spec.proofs.Truth.{both_true}
 
 -- ---- the bytes of the words
 
@@ -129,9 +130,6 @@ statement_passes (statement.Event e) h = each_passes (event_words e) (event_pass
 form_read : {A : Type 0} → (b : Bool) (o : Option A) (a : A) → b ≡ true → o ≡ Some a → if_form b o ≡ Ok a
 form_read b o a h e = rw (h, e) refl
 
-two : (a b : Bool) → a ≡ true → b ≡ true → (a && b) ≡ true
-two a b h k = and_from a b h k
-
 three : (a b c : Bool) → a ≡ true → b ≡ true → c ≡ true → (a && b && c) ≡ true
 three a b c h k l = and_from (a && b) c (and_from a b h k) l
 
@@ -147,7 +145,7 @@ setup_read (setup.Coin name owner balance) h =
     form_read _ _ _ (three (is_name name) (is_name owner) (is_digits (decimal balance)) h.0 h.1 (decimal_form balance h.2))
     (ap (option_map (λ n. statement.Setup (setup.Coin name owner n))) (number_read balance h.2))
 setup_read (setup.Counter name value) h =
-    form_read _ _ _ (two (is_name name) (is_digits (decimal value)) h.0 (decimal_form value h.1))
+    form_read _ _ _ (both_true (is_name name) (is_digits (decimal value)) h.0 (decimal_form value h.1))
     (ap (option_map (λ n. statement.Setup (setup.Counter name n))) (number_read value h.1))
 setup_read (setup.Cap name owner currency) h =
     let fits = within 1 18446744073709551615 currency (omega arith) h.2 in
@@ -163,7 +161,7 @@ member_form m h = decimal_form m (wide m h)
 member_and_tx_read : (m : ℕ) (tx : List ℕ) → IsMember m → IsName tx → member_and_tx (decimal m ∷ tx ∷ []) ≡ Ok (m, tx)
 unfolding member_and_tx
 member_and_tx_read m tx hm ht =
-    form_read _ _ _ (two (is_digits (decimal m)) (is_name tx) (member_form m hm) ht) (ap (option_map (λ n. (n, tx))) (member_read m hm))
+    form_read _ _ _ (both_true (is_digits (decimal m)) (is_name tx) (member_form m hm) ht) (ap (option_map (λ n. (n, tx))) (member_read m hm))
 
 member_alone_read : (m : ℕ) → IsMember m → member_alone (decimal m ∷ []) ≡ Ok m
 unfolding member_alone
@@ -173,12 +171,12 @@ member_and_number_read : (most m n : ℕ) → most < 2 ^ 64 → IsMember m → I
 unfolding member_and_number
 member_and_number_read most m n small hm hn =
     let fits = within 1 most n small hn in
-    form_read _ _ _ (two (is_digits (decimal m)) (is_digits (decimal n)) (member_form m hm) (decimal_form n fits))
+    form_read _ _ _ (both_true (is_digits (decimal m)) (is_digits (decimal n)) (member_form m hm) (decimal_form n fits))
     (rw (member_read m hm, range_read 1 most n fits hn.0 hn.1) refl)
 
 members_form : (ms : List ℕ) → AllByRecursion IsMember ms → list_all is_digits (map decimal ms) ≡ true
 members_form [] h = refl
-members_form (m ∷ ms) h = two (is_digits (decimal m)) (list_all is_digits (map decimal ms)) (member_form m h.0) (members_form ms h.1)
+members_form (m ∷ ms) h = both_true (is_digits (decimal m)) (list_all is_digits (map decimal ms)) (member_form m h.0) (members_form ms h.1)
 
 members_read : (ms : List ℕ) → AllByRecursion IsMember ms → each_of member_number (map decimal ms) ≡ Some ms
 unfolding each_of
@@ -217,7 +215,7 @@ origin_read (Some tx) h = rw (no_dash tx h) refl
 
 origins_are : (os : List (Option (List ℕ))) → AllByRecursion IsOrigin os → list_all is_origin (map origin_word os) ≡ true
 origins_are [] h = refl
-origins_are (o ∷ os) h = two (is_origin (origin_word o)) (list_all is_origin (map origin_word os)) (origin_is o h.0) (origins_are os h.1)
+origins_are (o ∷ os) h = both_true (is_origin (origin_word o)) (list_all is_origin (map origin_word os)) (origin_is o h.0) (origins_are os h.1)
 
 origins_read : (os : List (Option (List ℕ))) → AllByRecursion IsOrigin os → origins_of (map origin_word os) ≡ os
 unfolding origins_of
@@ -228,7 +226,7 @@ origins_read (o ∷ os) h = rw (origin_read o h.0, origins_read os h.1) refl
 
 commands_are : (cs : List CommandWord) → AllByRecursion IsCommand cs → list_all is_command (map command_word cs) ≡ true
 commands_are [] h = refl
-commands_are (c ∷ cs) h = two (is_command (command_word c)) (list_all is_command (map command_word cs)) (command_is c h.0) (commands_are cs h.1)
+commands_are (c ∷ cs) h = both_true (is_command (command_word c)) (list_all is_command (map command_word cs)) (command_is c h.0) (commands_are cs h.1)
 
 commands_read : (cs : List CommandWord) → AllByRecursion IsCommand cs → each_of command_of (map command_word cs) ≡ Some cs
 unfolding each_of
@@ -278,7 +276,7 @@ tx_read name sender spoiled epoch gas budget is cs hn hs he hg hb hi hc =
     let words = ref_word gas ∷ decimal budget ∷ (map input_word is ++ map command_word cs) in
     let bare = mark_taken is_name_byte 63 refl sender spoiled (name_passes sender hs) in
     form_read _ _ _
-    (two (is_name name && is_name (without_mark 63 (sender ++ sign spoiled (63 ∷ []))) && is_digits (decimal epoch)) (block_form words)
+    (both_true (is_name name && is_name (without_mark 63 (sender ++ sign spoiled (63 ∷ []))) && is_digits (decimal epoch)) (block_form words)
     (three (is_name name) (is_name (without_mark 63 (sender ++ sign spoiled (63 ∷ [])))) (is_digits (decimal epoch)) hn (ap is_name bare ∙ hs) (decimal_form epoch he))
     (block_is gas budget is cs hg hb hi hc))
     (rw (number_read epoch he) (block_read name sender spoiled epoch gas budget is cs hs hg hb hi hc))
@@ -333,9 +331,9 @@ event_read (event.Restart member) h = made_one (λ m. event.Restart m) _ member 
 event_read (event.RawVote member bytes) h = made _ (event.RawVote member bytes) (raw_read true member bytes h.0 h.1)
 event_read (event.RawHold member bytes) h = made _ (event.RawHold member bytes) (raw_read false member bytes h.0 h.1)
 event_read (event.Ack member tx true) h =
-    made _ (event.Ack member tx true) (form_read _ _ (event.Ack member tx true) (two (is_digits (decimal member)) (is_name tx) (member_form member h.0) h.1) (ap (option_map (λ m. event.Ack m tx true)) (member_read member h.0)))
+    made _ (event.Ack member tx true) (form_read _ _ (event.Ack member tx true) (both_true (is_digits (decimal member)) (is_name tx) (member_form member h.0) h.1) (ap (option_map (λ m. event.Ack m tx true)) (member_read member h.0)))
 event_read (event.Ack member tx false) h =
-    made _ (event.Ack member tx false) (form_read _ _ (event.Ack member tx false) (two (is_digits (decimal member)) (is_name tx) (member_form member h.0) h.1) (ap (option_map (λ m. event.Ack m tx false)) (member_read member h.0)))
+    made _ (event.Ack member tx false) (form_read _ _ (event.Ack member tx false) (both_true (is_digits (decimal member)) (is_name tx) (member_form member h.0) h.1) (ap (option_map (λ m. event.Ack m tx false)) (member_read member h.0)))
 event_read (event.Final tx members) h = made_pair (λ p. event.Final p.0 p.1) _ (tx, members) (tx_and_members_read tx members h)
 
 pub statement_read : (x : Statement) → IsStatement x → statement_of (statement_words x) ≡ Ok x

@@ -23,14 +23,13 @@ use Rattle.schedule_text.specs.Lines.{words_of, if_form, then_make, member_numbe
 use Rattle.schedule_text.specs.Schedule.{Refused, longest_text, lines_of, is_skipped, is_member_line, add_statement, read_line, or_refuse, read_lines, schedule_of}
 use Rattle.text_law.proofs.Ranges.{all-append}
 use Rattle.text_law.proofs.Said.{map_said, then_said, both_said, form_said, make_said}
+use Rattle.text_law.proofs.SaidWhole.{same}
 use Rattle.text_law.proofs.SaidWords.{choose}
 use Rattle.text_law.proofs.Texts.{most_words, IsShortCommand, IsShortEvent, AreWords, more-words, parts-short, inputs-short, after-short, each-short, each-many, command-short}
+use Rattle.protocol_spec.proofs.Truth.{some_same}
 
 none : {A : Type 0} → (P : Type 0) (c : Cause) (x : A) → Err c ≡ Ok x → P
 none P c x h = absurd (cc)
-
-some_same : {A : Type 0} → (x y : A) → Some x ≡ Some y → x ≡ y
-some_same x y h = cc
 
 -- the words of a line behind the first: at most so many, each of less bytes
 abbrev Words : ℕ → List (List ℕ) → Type 0
@@ -256,9 +255,6 @@ statement-short n (word ∷ words) x within h =
 
 abbrev read_ok : Schedule → Result Schedule Cause
 read_ok s = Ok s
-
-same : (s t : Schedule) → read_ok s ≡ read_ok t → s ≡ t
-same s t h = cc
 
 after-same : (c : Check) (v u : Schedule) → after_check c v ≡ Ok u → v ≡ u
 after-same (Ok tt) v u h = same v u h

@@ -19,6 +19,7 @@ use Rattle.schedule_text.specs.Lines.{after_inputs, front_inputs}
 use Rattle.schedule_text.specs.Schedule.{longest_text}
 use Rattle.text_law.proofs.Said.{map_said, both_said}
 use Rattle.text_law.proofs.SaidWords.{hex_said}
+use Rattle.protocol_spec.proofs.Truth.{some_same}
 
 -- the words of a line of the longest text, at most
 abbrev pub most_words : ℕ
@@ -50,9 +51,6 @@ IsShortEvent n (event.Tx name sender spoiled epoch gas budget inputs commands) =
 IsShortEvent n (event.Fvote member tx origins) = length origins ≤ n
 IsShortEvent n (event.Cert tx members) = length members ≤ n
 IsShortEvent n e = Unit {0}
-
-some_same : {A : Type 0} → (x y : A) → Some x ≡ Some y → x ≡ y
-some_same x y h = cc
 
 -- ---- parts
 

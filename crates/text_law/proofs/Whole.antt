@@ -18,6 +18,7 @@ use Rattle.schedule_text.specs.Schedule.{longest_text, lines_of, is_skipped, is_
 use Rattle.text_law.specs.Canonical.{statement_words, line_text, statements, text_of, canonical}
 use Rattle.text_law.specs.Sayable.{IsStatement, then_read, added, makes_member, IsSayable}
 use Rattle.text_law.proofs.Pieces.{Passes, EachPasses, passes-join, split_yes, split_join}
+use Rattle.text_law.proofs.SaidWhole.{same}
 use Rattle.text_law.proofs.Words.{is_word_byte, word_printable}
 use Rattle.text_law.proofs.Statements.{statement_passes, statement_read}
 
@@ -105,9 +106,6 @@ lines_split (x ∷ xs) h =
 
 abbrev read_ok : Schedule → Result Schedule Cause
 read_ok s = Ok s
-
-same : (s t : Schedule) → read_ok s ≡ read_ok t → s ≡ t
-same s t h = cc
 
 go_on : (n : ℕ) (t : Schedule) (xs : List Statement) (lines : List (List ℕ)) (r : Result Schedule Cause)
     → ((u : Schedule) → added u xs ≡ Ok t → read_lines (n + 1) u lines ≡ Ok t)

@@ -245,7 +245,7 @@ hex_is bytes h =
     let even : length (encode_lower bytes) % 2 ≡ 0 = omega (arith, long) in
     and_from (length (encode_lower bytes) % 2 == 0) (list_all is_hex_byte (encode_lower bytes)) (eq-eqb _ _ even) (hex_passes bytes h)
 
-bytes_by_index : (bytes : List ℕ) → AllByRecursion IsByte bytes → IsBytes bytes
+pub bytes_by_index : (bytes : List ℕ) → AllByRecursion IsByte bytes → IsBytes bytes
 bytes_by_index [] h i = omega arith
 bytes_by_index (b ∷ bytes) h zero = h.0
 bytes_by_index (b ∷ bytes) h (suc i) = bytes_by_index bytes h.1 i

@@ -1,12 +1,13 @@
 -- The least fault, from the first five cases and the others.
-use Rattle.std.proofs.Common.{◌≡◌, ◌≤◌, ℕ, zero, suc, Bool, true, false, length, get_or, List, [], ◌∷◌, Option, Some, None, refl, ap, sym, ◌∙◌}
+use Rattle.std.proofs.Common.{◌≡◌, ℕ, zero, Bool, true, false, length, List, [], ◌∷◌, Option, Some, None, refl, ap, sym, ◌∙◌}
 use Rattle.chain_types.specs.declared.transactions.Transaction.{Transaction}
+use Rattle.protocol_spec.proofs.ListLemmas.{none_at}
+use Rattle.protocol_spec.proofs.Truth.{where_false_number}
 use Rattle.protocol_spec.specs.Chain.Shape.{shape_cases, shape_fault}
 use Rattle.chain_types.specs.Transactions.{transaction}
 use Rattle.std.specs.Prelude.{nat_lt}
-use Rattle.std.proofs.lemmas.Bool.{ltb-false}
 use Rattle.tx_check.proofs.Long.{long_lists, short_lists}
-use Rattle.protocol_spec.specs.Chain.Words.{first_some, where_true}
+use Rattle.protocol_spec.specs.Chain.Words.{first_some}
 use Rattle.tx_check.specs.Parts.{behind_five, command_fault, first_five, has_long_list, list_fault}
 
 abbrev or_else : Option ℕ → Option ℕ → Option ℕ
@@ -43,17 +44,6 @@ in_lists t n e = whole t ∙ ap (λ x. or_else x (command_fault t)) e
 pub in_commands : (t : Transaction) (x : Option ℕ) → list_fault t ≡ None → command_fault t ≡ x → shape_fault t ≡ x
 in_commands t x e f = whole t ∙ ap (λ y. or_else y (command_fault t)) e ∙ f
 
--- where there is no fault, no case has one
-none_at : (cases : List (Option ℕ)) (place : ℕ) → first_some cases ≡ None → get_or cases place None ≡ None
-none_at [] place e = refl
-none_at (Some n ∷ cases) place e = absurd (cc)
-none_at (None ∷ cases) zero e = refl
-none_at (None ∷ cases) (suc place) e = none_at cases place e
-
-not_so : (b : Bool) (n : ℕ) → where_true b n ≡ None → b ≡ false
-not_so true n e = absurd (cc)
-not_so false n e = refl
-
 none_long : (t : Transaction) → nat_lt 131072 (length (transaction.spell t)) ≡ false → has_long_list t ≡ false
 none_long t e = go (has_long_list t) refl
   where
@@ -64,9 +54,4 @@ none_long t e = go (has_long_list t) refl
 -- a transaction of valid shape can be spelled
 pub valid_short : (t : Transaction) → shape_fault t ≡ None → transaction.short t
 unfolding shape_fault
-valid_short t e = short_lists t (none_long t (not_so (nat_lt 131072 (length (transaction.spell t))) 1 (none_at (shape_cases t) zero e)))
-
--- and has few inputs
-pub valid_few : (t : Transaction) → shape_fault t ≡ None → length t.inputs ≤ 256
-unfolding shape_fault
-valid_few t e = ltb-false 256 (length t.inputs) (not_so (nat_lt 256 (length t.inputs)) 4 (none_at (shape_cases t) (suc (suc (suc zero))) e))
+valid_short t e = short_lists t (none_long t (where_false_number (nat_lt 131072 (length (transaction.spell t))) 1 (none_at (shape_cases t) zero e)))

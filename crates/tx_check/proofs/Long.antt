@@ -1,5 +1,5 @@
 -- Long lists make long spellings, and short lists can be spelled.
-use Rattle.std.proofs.Common.{◌≡◌, ℕ, suc, zero, ◌+◌, ◌<◌, ◌≤◌, Bool, true, false, ◌||◌, List, [], ◌∷◌, ◌++◌, length, refl, arith, length-append}
+use Rattle.std.proofs.Common.{◌≡◌, ℕ, ◌+◌, ◌<◌, ◌≤◌, Bool, true, false, ◌||◌, List, [], ◌∷◌, ◌++◌, length, refl, arith, length-append}
 use Rattle.std.specs.Prelude.{nat_lt, All, flat_map, slice_index_or}
 use Rattle.std.specs.List.{list_any}
 use Rattle.std.proofs.lemmas.Bool.{ltb-true, ltb-false, lt-ltb}
@@ -19,6 +19,8 @@ use Rattle.chain_types.specs.declared.transactions.Input.TheVariants as input
 use Rattle.chain_types.specs.declared.transactions.Transaction.{Transaction}
 use Rattle.chain_types.specs.Transactions as codecs
 use Rattle.tx_check.specs.Parts.{has_long_list, is_long_command, is_long_input, is_long_list}
+use Rattle.protocol_spec.proofs.Checked.{argument_short}
+use Rattle.protocol_spec.proofs.ListLemmas.{none_of}
 
 behind : (xs ys : List ℕ) → length ys ≤ length (xs ++ ys)
 behind xs ys = let e = length-append xs ys in omega arith
@@ -38,18 +40,6 @@ within one test n long (x ∷ xs) e = go (test x) refl e (within one test n long
     go : (b : Bool) → test x ≡ b → (b || list_any test xs) ≡ true → (list_any test xs ≡ true → n < length (flat_map one xs)) → n < length (one x ++ flat_map one xs)
     go true is h more = let a = long x is in let b = before (one x) (flat_map one xs) in omega arith
     go false is h more = let a = more h in let b = behind (one x) (flat_map one xs) in omega arith
-
-none_of : {A : Type 0} (test : A → Bool) (P : A → Type 0) → ((x : A) → test x ≡ false → P x) → (xs : List A) → list_any test xs ≡ false → All P xs
-none_of test P holds [] e = λ k d l. absurd (omega arith)
-none_of {A = A} test P holds (x ∷ xs) e = go (test x) refl e (none_of test P holds xs)
-  where
-    go : (b : Bool) → test x ≡ b → (b || list_any test xs) ≡ false → (list_any test xs ≡ false → All P xs) → All P (x ∷ xs)
-    go true is h more = absurd (cc)
-    go false is h more = λ k d l. at k d l
-      where
-        at : (k : ℕ) → (d : A) → k < length (x ∷ xs) → P (slice_index_or (x ∷ xs) k d)
-        at zero d l = holds x is
-        at (suc k) d l = more h k d (omega arith)
 
 argument_some : (a : Argument) → 1 ≤ length (codecs.argument.spell a)
 unfolding codecs.argument uleb
@@ -129,13 +119,6 @@ long_lists t e = go (is_long_list t.inputs) refl (list_any is_long_input t.input
     go false p false q true r d s e = done (let x = ltb-true 131072 (length t.commands) r in let y = seq_long codecs.command.spell command_some t.commands in omega arith)
     go false p false q false r true s e = done (let x = seq_within codecs.command.spell is_long_command command_long t.commands s in omega arith)
     go false p false q false r false s e = absurd (cc)
-
-argument_short : (a : Argument) → codecs.argument.short a
-unfolding codecs.argument
-argument_short argument.Gas = tt
-argument_short (argument.Input n) = tt
-argument_short (argument.Result c) = tt
-argument_short (argument.Nested c k) = (tt, tt)
 
 kind_short : (k : Kind) → kind.short k
 unfolding kind

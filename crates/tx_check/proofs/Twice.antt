@@ -1,29 +1,17 @@
 -- Whether an element comes twice, seen from the elements that came before.
-use Rattle.std.proofs.Common.{◌≡◌, Bool, true, false, cond, ◌||◌, ℕ, List, [], ◌∷◌, ◌++◌, refl, ap, sym, ◌∙◌, append-nil, append_assoc}
+use Rattle.std.proofs.Common.{◌≡◌, Bool, true, false, cond, ◌||◌, List, [], ◌∷◌, ◌++◌, refl, ap, sym, ◌∙◌, append-nil, append_assoc}
 use Rattle.std.specs.List.{list_any}
-use Rattle.std.specs.Prelude.{bytes_eq}
-use Rattle.std.proofs.lemmas.Slice.Eq.{bytes_eq-Decides}
 use Rattle.chain_types.specs.declared.objects.ObjectId.{ObjectId}
 use Rattle.chain_types.specs.Equal.{id_eq}
+use Rattle.protocol_spec.proofs.Equality.{id_turned}
+use Rattle.protocol_spec.proofs.Truth.{or_right, or_false_left, or_false_right}
 use Rattle.protocol_spec.specs.Chain.Words.{repeats}
 use Rattle.tx_check.specs.Parts.{repeats_after}
-
-or_true : (a b : Bool) → b ≡ true → (a || b) ≡ true
-or_true true b e = refl
-or_true false b e = e
-
-or_left : (a b : Bool) → (a || b) ≡ false → a ≡ false
-or_left true b e = absurd (cc)
-or_left false b e = refl
-
-or_right : (a b : Bool) → (a || b) ≡ false → b ≡ false
-or_right true b e = absurd (cc)
-or_right false b e = e
 
 module _ {A : Type 0} (same : A → A → Bool) (symmetric : (x y : A) → same x y ≡ same y x) where
   any_later : (x y : A) (xs rest : List A) → same x y ≡ true → list_any (same x) (xs ++ y ∷ rest) ≡ true
   any_later x y [] rest e = ap (λ b. b || list_any (same x) rest) e
-  any_later x y (z ∷ zs) rest e = or_true (same x z) (list_any (same x) (zs ++ y ∷ rest)) (any_later x y zs rest e)
+  any_later x y (z ∷ zs) rest e = or_right (same x z) (list_any (same x) (zs ++ y ∷ rest)) (any_later x y zs rest e)
 
   -- an element that came before comes twice
   pub found_twice : (y : A) (xs rest : List A) → list_any (same y) xs ≡ true → repeats same (xs ++ y ∷ rest) ≡ true
@@ -33,36 +21,25 @@ module _ {A : Type 0} (same : A → A → Bool) (symmetric : (x y : A) → same 
       go : (b : Bool) → same y x ≡ b → (b || list_any (same y) xs) ≡ true → (list_any (same y) xs ≡ true → repeats same (xs ++ y ∷ rest) ≡ true)
           → (list_any (same x) (xs ++ y ∷ rest) || repeats same (xs ++ y ∷ rest)) ≡ true
       go true is h more = ap (λ b. b || repeats same (xs ++ y ∷ rest)) (any_later x y xs rest (symmetric x y ∙ is))
-      go false is h more = or_true (list_any (same x) (xs ++ y ∷ rest)) (repeats same (xs ++ y ∷ rest)) (more h)
+      go false is h more = or_right (list_any (same x) (xs ++ y ∷ rest)) (repeats same (xs ++ y ∷ rest)) (more h)
 
   none_later : (x y : A) (xs : List A) → list_any (same x) xs ≡ false → same x y ≡ false → list_any (same x) (xs ++ y ∷ []) ≡ false
   none_later x y [] none e = ap (λ b. b || false) e
-  none_later x y (z ∷ zs) none e = ap (λ b. b || list_any (same x) (zs ++ y ∷ [])) (or_left (same x z) (list_any (same x) zs) none) ∙ none_later x y zs (or_right (same x z) (list_any (same x) zs) none) e
+  none_later x y (z ∷ zs) none e = ap (λ b. b || list_any (same x) (zs ++ y ∷ [])) (or_false_left (same x z) (list_any (same x) zs) none) ∙ none_later x y zs (or_false_right (same x z) (list_any (same x) zs) none) e
 
   -- a new element behind a list without repeats makes none
   pub still_once : (y : A) (xs : List A) → list_any (same y) xs ≡ false → repeats same xs ≡ false → repeats same (xs ++ y ∷ []) ≡ false
   still_once y [] new once = refl
   still_once y (x ∷ xs) new once =
-      ap (λ b. b || repeats same (xs ++ y ∷ [])) (none_later x y xs (or_left (list_any (same x) xs) (repeats same xs) once) (symmetric x y ∙ or_left (same y x) (list_any (same y) xs) new))
-      ∙ still_once y xs (or_right (same y x) (list_any (same y) xs) new) (or_right (list_any (same x) xs) (repeats same xs) once)
-
-bytes_back : (xs ys : List ℕ) → bytes_eq xs ys ≡ bytes_eq ys xs
-bytes_back xs ys = go (bytes_eq xs ys) refl (bytes_eq ys xs) refl
-  where
-    go : (a : Bool) → bytes_eq xs ys ≡ a → (b : Bool) → bytes_eq ys xs ≡ b → bytes_eq xs ys ≡ bytes_eq ys xs
-    go true e b f = e ∙ sym ((bytes_eq-Decides ys xs).1 (sym ((bytes_eq-Decides xs ys).0 e)))
-    go false e false f = e ∙ sym f
-    go false e true f = (bytes_eq-Decides xs ys).1 (sym ((bytes_eq-Decides ys xs).0 f)) ∙ sym f
-
-pub id_back : (x y : ObjectId) → id_eq x y ≡ id_eq y x
-id_back x y = bytes_back x.0.0 y.0.0
+      ap (λ b. b || repeats same (xs ++ y ∷ [])) (none_later x y xs (or_false_left (list_any (same x) xs) (repeats same xs) once) (symmetric x y ∙ or_false_left (same y x) (list_any (same y) xs) new))
+      ∙ still_once y xs (or_false_right (same y x) (list_any (same y) xs) new) (or_false_right (list_any (same x) xs) (repeats same xs) once)
 
 -- the same of ids
 pub id_found : (id : ObjectId) (seen rest : List ObjectId) → list_any (id_eq id) seen ≡ true → repeats id_eq (seen ++ id ∷ rest) ≡ true
-id_found id seen rest e = found_twice id_eq id_back id seen rest e
+id_found id seen rest e = found_twice id_eq id_turned id seen rest e
 
 pub id_once : (id : ObjectId) (seen : List ObjectId) → list_any (id_eq id) seen ≡ false → repeats id_eq seen ≡ false → repeats id_eq (seen ++ id ∷ []) ≡ false
-id_once id seen new once = still_once id_eq id_back id seen new once
+id_once id seen new once = still_once id_eq id_turned id seen new once
 
 after_is : (seen rest : List ObjectId) → repeats id_eq seen ≡ false → repeats_after seen rest ≡ repeats id_eq (seen ++ rest)
 after_is seen [] once = sym once ∙ ap (repeats id_eq) (sym (append-nil seen))

@@ -1,16 +1,16 @@
 -- How the course of an epoch stays sound where an entry of its sequence is taken.
-use Rattle.std.proofs.Common.{◌≡◌, ◌∙◌, arith, ℕ, ◌+◌, ◌-◌, ◌≤◌, Bool, true, false, cond, List, [], ◌∷◌, ◌++◌, map, length, take, drop, refl, sym, ap, subst, length-append}
+use Rattle.std.proofs.Common.{◌≡◌, ◌∙◌, arith, ℕ, ◌+◌, ◌-◌, ◌≤◌, Bool, true, false, cond, List, [], ◌∷◌, ◌++◌, map, length, take, drop, refl, sym, ap, subst}
 use Rattle.std.specs.Prelude.{Option, Some, None, is_some, ◌==◌}
 use Rattle.std.proofs.lemmas.List.{length-map}
 use Rattle.std.proofs.lemmas.Bool.{eqb-true}
 use Rattle.digest_core.specs.declared.Digest.{Digest}
 use Rattle.chain_types.specs.declared.objects.ObjectId.{ObjectId}
-use Rattle.chain_types.specs.declared.objects.Object.{Object}
 use Rattle.chain_types.specs.Equal.{digest_eq}
 use Rattle.quorum_core.specs.Committee.{is_among, is_quorum, weight}
 use Rattle.answer_types.specs.declared.answers.Held.{Held}
 use Rattle.answer_types.specs.declared.answers.SeenWhat.{SeenWhat}
 use Rattle.answer_types.specs.declared.answers.SeenWhat.TheVariants as seen_as
+use Rattle.protocol_spec.proofs.ListLemmas.{front_length, drop_all}
 use Rattle.protocol_spec.specs.Chain.Certificates.{Rules}
 use Rattle.protocol_spec.specs.Chain.Words.{IsFront}
 use Rattle.protocol_spec.specs.Member.Admission.{Admission, Admitted, deferred_on, digest_of_admitted, entered, passed_mark, pending_on, since_mark}
@@ -44,18 +44,11 @@ take_all : {A : Type 0} (xs ys : List A) → take (length xs) (xs ++ ys) ≡ xs
 take_all [] ys = refl
 take_all (x ∷ xs) ys = ap (λ zs. x ∷ zs) (take_all xs ys)
 
-drop_all : {A : Type 0} (xs ys : List A) → drop (length xs) (xs ++ ys) ≡ ys
-drop_all [] ys = refl
-drop_all (x ∷ xs) ys = drop_all xs ys
-
 rest_of : {A : Type 0} (xs ys : List A) → IsFront xs ys → ys ≡ xs ++ drop (length xs) ys
 rest_of xs ys (rest, e) = e ∙ ap (λ zs. xs ++ zs) (sym (drop_all xs rest) ∙ sym (ap (drop (length xs)) e))
 
 front_of : {A : Type 0} (xs ys : List A) → IsFront xs ys → take (length xs) ys ≡ xs
 front_of xs ys (rest, e) = ap (take (length xs)) e ∙ take_all xs rest
-
-front_most : {A : Type 0} (xs ys : List A) → IsFront xs ys → length xs ≤ length ys
-front_most xs ys (rest, e) = let l = ap length e in let m = length-append xs rest in omega (arith, l, m)
 
 -- ---- sizes of cuts
 
@@ -132,7 +125,7 @@ module _ (c : Course) (sound : IsSound c) where
           known = entered_held c.admission.writers c.admission.opening c.held a u.known h here;
           marked = λ unended. entered_marked c.admission.writers c.admission.opening c.held a u.known h here ∙ u.marked unended;
           few = u.few;
-          within = front_most a.admitted now.admitted front;
+          within = front_length a.admitted now.admitted front;
           told = u.told ∙ sym (ap (map (due_of c.held)) (front_of a.admitted now.admitted front));
           behind = u.behind;
         }
@@ -178,7 +171,7 @@ module _ (c : Course) (sound : IsSound c) where
       known = passed_held c.admission.writers c.admission.opening c.held a u.known;
       marked = λ _. passed_marked c.admission.writers c.admission.opening c.held a u.known ∙ sym told_length ∙ sym size;
       few = few;
-      within = front_most a.admitted passed.admitted passes;
+      within = front_length a.admitted passed.admitted passes;
       told = due ∙ u.told ∙ sym (ap (map (due_of c.held)) (front_of a.admitted passed.admitted passes));
       behind = stays c.epoch c.store.executed u.behind;
     })

@@ -1,17 +1,17 @@
 -- The cases of each call, one lemma for each way through it.
 use Rattle.std.proofs.Common.{◌≡◌, ◌≤◌, ℕ, Bool, true, false, List, [], ◌∷◌, ◌++◌, length, Option, Some, None, refl, ap, sym, ◌∙◌, subst}
-use Rattle.std.specs.Prelude.{Result, Ok, Err, ◌==◌, not, find, option_map, is_ok, IfSome}
-use Rattle.std.proofs.lemmas.Bool.{eqb-true}
+use Rattle.std.specs.Prelude.{Result, Ok, Err, not, find, option_map, is_ok, IfSome}
 use Rattle.digest_core.specs.declared.Digest.{Digest}
 use Rattle.chain_types.specs.declared.objects.ObjectKey.{ObjectKey}
 use Rattle.chain_types.specs.Digests.{consumed_keys, transaction_digest}
 use Rattle.chain_messages.specs.declared.messages.Certificate.{Certificate}
 use Rattle.wire_bcs.specs.Whole.{whole}
 use Rattle.chain_messages.specs.Messages as messages
+use Rattle.protocol_spec.proofs.Checked.{valid_shape, valid_length}
 use Rattle.protocol_spec.specs.Chain.Certificates.{Rules, cert_refusal, read_as, read_certificate}
 use Rattle.protocol_spec.specs.Chain.Words.{Each, first_of, first_some, refused_or, unless_refused, where_true}
 use Rattle.std.proofs.lemmas.List.{length-map}
-use Rattle.protocol_spec.proofs.ListLemmas.{each-push, find-each}
+use Rattle.protocol_spec.proofs.ListLemmas.{find-each, each_push}
 use Rattle.answer_types.specs.declared.answers.Held.{Held}
 use Rattle.chain_types.specs.declared.refusals.CertRefusal.{CertRefusal}
 use Rattle.chain_types.specs.declared.refusals.CertRefusal.TheVariants as refused
@@ -88,24 +88,14 @@ shape_part : (o : Option ℕ) (rest : List (Option CertRefusal)) → first_some 
 shape_part None rest h = refl
 shape_part (Some n) rest h = absurd (cc)
 
--- a valid certificate has a transaction of valid shape
-pub valid_shape : (r : Rules) (c : Certificate) → cert_refusal r c ≡ None → shape_fault c.tx ≡ None
-unfolding cert_refusal
-valid_shape r c e = shape_part (shape_fault c.tx) _ e
-
 each_origin : (o : Option ℕ) (same : Bool) (rest : List (Option CertRefusal)) → first_some (option_map refused.Shape o ∷ where_true (not same) (refused.Shape 13) ∷ rest) ≡ None → same ≡ true
 each_origin None true rest h = refl
 each_origin None false rest h = absurd (cc)
 each_origin (Some n) same rest h = absurd (cc)
 
--- and one origin for each object
-pub valid_origins : (r : Rules) (c : Certificate) → cert_refusal r c ≡ None → length c.origins ≡ length (objects_of c.tx)
-unfolding cert_refusal
-valid_origins r c e = eqb-true (length c.origins) (length (objects_of c.tx)) (each_origin (shape_fault c.tx) (length c.origins == length (objects_of c.tx)) _ e)
-
 -- so a valid one that is not in the sequence can be admitted
 pub arriving : (r : Rules) (q : Sequence) (c : Certificate) (digest : Digest) → digest ≡ transaction_digest c.tx → cert_refusal r c ≡ None → is_known q.admission digest ≡ false → IsArriving q (record { digest = digest; cert = c })
-arriving r q c digest is valid new = record { is = is; shape = valid_shape r c valid; origins = valid_origins r c valid; new = new }
+arriving r q c digest is valid new = record { is = is; shape = valid_shape r c valid; origins = valid_length r c valid; new = new }
 
 -- what is refused before it is kept has no record
 refused_unkept : (c : Certificate) (said : Result Bool HoldRefusal) (e : HoldRefusal) → HoldsAs said (Err e) → HoldDue (where_true (is_hold_kept said) (record_as.Hold c)) (Err e)
@@ -178,4 +168,4 @@ goes_alike None answer ran e = ap (λ (a : Result (Unit {0}) RunRefusal). is_ok 
 goes_alike (Some refusal) answer ran e = ap (λ (a : Result (Unit {0}) RunRefusal). is_ok a) e
 
 pub one_more_sound : (held : List Held) (h : Held) → Each IsSound held → shape_fault h.cert.tx ≡ None → h.digest ≡ transaction_digest h.cert.tx → Each IsSound (held ++ h ∷ [])
-one_more_sound held h sound shape digest = each-push IsSound held h sound (shape, digest)
+one_more_sound held h sound shape digest = each_push IsSound held h sound (shape, digest)

@@ -1,11 +1,11 @@
 -- How what a member has of its epoch stays sound.
 use Rattle.std.proofs.Common.{◌≡◌, ◌∙◌, arith, ℕ, ◌+◌, ◌-◌, ◌≤◌, Bool, true, false, cond, List, [], ◌∷◌, ◌++◌, map, length, refl, sym, ap, subst, append-nil}
-use Rattle.std.specs.Prelude.{Some, filter, IfOk, OnOk, Result, Ok, Err, find, is_some}
+use Rattle.std.specs.Prelude.{Some, filter, IfOk, Result, Ok, Err, find, is_some}
 use Rattle.chain_types.specs.declared.objects.Object.{Object}
 use Rattle.chain_types.specs.Equal.{digest_eq}
 use Rattle.answer_types.specs.declared.answers.Held.{Held}
+use Rattle.protocol_spec.proofs.ListLemmas.{each_as, each_push}
 use Rattle.protocol_spec.specs.Chain.Words.{Each}
-use Rattle.protocol_spec.proofs.ListLemmas.{each-push}
 use Rattle.protocol_spec.specs.Member.Admission.{Admission, Admitted, nothing_admitted}
 use Rattle.protocol_spec.specs.Member.Versions.{Execution}
 use Rattle.epoch_turn.specs.Chains.{BuildsAll, Chaining, IsAhead, IsBehind, IsTold, StartsBehind, StaysBehind, advanced, nothing_built, turned}
@@ -73,10 +73,6 @@ stays_held held h a is = found_more held h (λ (x : Held). digest_eq x.digest a.
 stays_waiting : (held : List Held) (h g : Held) → WaitsIn held g → WaitsIn (held ++ h ∷ []) g
 stays_waiting held h g is = found_more held h (λ (x : Held). digest_eq x.digest g.digest) is
 
-each_as : {A : Type 0} (P Q : A → Type 0) (xs : List A) → ((x : A) → P x → Q x) → Each P xs → Each Q xs
-each_as P Q [] to each = tt
-each_as P Q (x ∷ xs) to each = (to x each.0, each_as P Q xs to each.1)
-
 known_more : (held : List Held) (h : Held) (a : Admission) → AreHeld held a → AreHeld (held ++ h ∷ []) a
 known_more held h a known = record {
   admitted = each_as (IsHeldIn held) (IsHeldIn (held ++ h ∷ [])) a.admitted (stays_held held h) known.admitted;
@@ -95,7 +91,7 @@ hold_sound c h held waiting sound one is waits = subst (λ (hs : List Held). IsS
     all_sound : IsSound (with_held_now c (c.held ++ h ∷ []) waiting)
     all_sound = record {
       unbuilt = record {
-        held = each-push IsSoundHeld c.held h u.held one;
+        held = each_push IsSoundHeld c.held h u.held one;
         waits = waits;
         opening = u.opening;
         shared = u.shared;
@@ -175,10 +171,6 @@ run_sound c store waiting more sound is waits = record {
     opened = ap (λ (s : Stored). s.opening) is
 
 -- ---- a result
-
-pub ok_then : {A E : Type 0} (result : Result A E) (P Q : Type 0) → (P → Q) → OnOk result P → OnOk result Q
-ok_then (Ok a) P Q to h = to h
-ok_then (Err e) P Q to h = tt
 
 pub ok_as : {A E : Type 0} (result : Result A E) (P Q : A → Type 0) → ((x : A) → P x → Q x) → IfOk result P → IfOk result Q
 ok_as (Ok a) P Q to h = to a h

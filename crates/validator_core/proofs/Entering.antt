@@ -1,23 +1,12 @@
 -- What an entry leaves of an admission: what was admitted stays in front, and whatever is admitted or waits is held.
-use Rattle.std.proofs.Common.{◌≡◌, ◌∙◌, ℕ, zero, suc, Bool, true, false, cond, List, [], ◌∷◌, ◌++◌, filter, length, refl, sym, ap, append_assoc, append-nil}
+use Rattle.std.proofs.Common.{◌≡◌, ◌∙◌, ℕ, zero, suc, Bool, true, false, List, [], ◌∷◌, ◌++◌, length, refl, sym, append-nil}
 use Rattle.std.specs.Prelude.{Option, Some, None, find}
 use Rattle.chain_types.specs.declared.objects.Object.{Object}
 use Rattle.answer_types.specs.declared.answers.Held.{Held}
 use Rattle.protocol_spec.specs.Chain.Words.{Each, IsFront}
-use Rattle.protocol_spec.proofs.ListLemmas.{each-push, find-each}
+use Rattle.protocol_spec.proofs.ListLemmas.{find-each, front_then, each_filter, each_push}
 use Rattle.protocol_spec.specs.Member.Admission.{Admission, admit, entered, is_dropped, is_free, not_of, passed_mark, take_free, taken, taken_as, taken_next}
 use Rattle.validator_core.specs.Courses.{AreHeld, IsHeldIn, WaitsIn}
-
-front_then : {A : Type 0} (xs ys zs : List A) → IsFront xs ys → IsFront ys zs → IsFront xs zs
-front_then {A} xs ys zs (us, e) (vs, f) = (us ++ vs, f ∙ ap (λ (ws : List A). ws ++ vs) e ∙ append_assoc xs us vs)
-
-each_filter : {A : Type 0} (P : A → Type 0) (test : A → Bool) (xs : List A) → Each P xs → Each P (filter test xs)
-each_filter P test [] each = tt
-each_filter {A} P test (x ∷ xs) each = by (test x) (each_filter P test xs each.1)
-  where
-    by : (b : Bool) → Each P (filter test xs) → Each P (cond b (x ∷ filter test xs) (filter test xs))
-    by true rest = (each.0, rest)
-    by false rest = rest
 
 -- what one certificate that is taken leaves
 record Leaves (held : List Held) (old new : Admission) : Type 0 where
@@ -42,7 +31,7 @@ one_taken opening held a h known here = by (is_dropped opening a.admitted h.cert
     }
       where
         last : Each (IsHeldIn held) (a.admitted ++ admit opening a.admitted h ∷ [])
-        last = each-push (IsHeldIn held) a.admitted (admit opening a.admitted h) known.admitted here
+        last = each_push (IsHeldIn held) a.admitted (admit opening a.admitted h) known.admitted here
 
 all_taken : (writers : Option ℕ) (opening : List Object) (held : List Held) (n : ℕ) (a : Admission) → AreHeld held a → Leaves held a (take_free writers opening n a)
 all_taken writers opening held zero a known = record { front = ([], sym (append-nil a.admitted)); marked = refl; known = known }
@@ -63,7 +52,7 @@ module _ (writers : Option ℕ) (opening : List Object) (held : List Held) (a : 
   module _ (h : Held) (here : WaitsIn held h) where
     leaves : Leaves held (record a { pending = a.pending ++ h ∷ [] }) (entered writers opening a h)
     unfolding entered
-    leaves = all_taken writers opening held _ (record a { pending = a.pending ++ h ∷ [] }) (record { admitted = known.admitted; pending = each-push (WaitsIn held) a.pending h known.pending here })
+    leaves = all_taken writers opening held _ (record a { pending = a.pending ++ h ∷ [] }) (record { admitted = known.admitted; pending = each_push (WaitsIn held) a.pending h known.pending here })
 
     pub entered_front : IsFront a.admitted (entered writers opening a h).admitted
     entered_front = leaves.front

@@ -1,26 +1,27 @@
 -- Held certificates whose transactions are in the sequence: how many at the front, and the first that is not.
-use Rattle.std.proofs.Common.{◌≡◌, ◌∙◌, refl, arith, ap, sym, subst, ℕ, zero, suc, ◌+◌, ◌≤◌, Bool, true, false, cond, not, ◌||◌, List, [], ◌∷◌, ◌++◌, filter, length, take, drop, inl, inr}
+use Rattle.std.proofs.Common.{◌≡◌, ◌∙◌, refl, arith, ap, sym, subst, ℕ, zero, suc, ◌+◌, ◌≤◌, Bool, true, false, cond, not, ◌||◌, List, [], ◌∷◌, ◌++◌, filter, length, drop, inl, inr}
 use Rattle.std.specs.Prelude.{◌⊎◌, Option, Some, None, find, is_some, option_map, slice_get}
 use Rattle.std.specs.List.{list_any}
 use Rattle.digest_core.specs.declared.Digest.{Digest}
 use Rattle.chain_types.specs.declared.objects.Object.{Object}
 use Rattle.chain_types.specs.Equal.{digest_eq}
 use Rattle.answer_types.specs.declared.answers.Held.{Held}
-use Rattle.answer_types.specs.declared.refusals.EndRefusal.{EndRefusal}
-use Rattle.answer_types.specs.declared.refusals.EndRefusal.TheVariants as no_end
+use Rattle.protocol_spec.proofs.Equality.{digest_same}
+use Rattle.protocol_spec.proofs.ListLemmas.{any_front}
+use Rattle.protocol_spec.proofs.Truth.{or_right, or_left, or_true}
 use Rattle.protocol_spec.specs.Chain.Committee.{is_quorum, weight}
 use Rattle.protocol_spec.specs.Chain.Words.{first_of, first_some, where_true}
 use Rattle.protocol_spec.specs.Member.Admission.{Admission, Admitted, admit, entered, is_admitted, is_dropped, is_free, is_known, not_of, passed_mark, take_free, taken, taken_as, taken_next}
 use Rattle.protocol_spec.specs.Member.Checkpoints.{held_of}
-use Rattle.protocol_spec.specs.Member.Sequence.{counted_as, takes}
-use Rattle.protocol_spec.specs.Member.Member.{held_with}
+use Rattle.protocol_spec.specs.Member.Sequence.{counted_as}
 use Rattle.epoch_turn.specs.Dues.{front_length}
 use Rattle.epoch_turn.proofs.Fronts.{front_behind, front_most}
-use Rattle.version_store.proofs.Equality.{digest_same, digest_self}
+use Rattle.version_store.proofs.Equality.{digest_self}
 use Rattle.validator_core.specs.declared.entries.Arrival.{Arrival}
 use Rattle.validator_core.specs.declared.entries.Arrival.TheVariants as arrivals
 use Rattle.validator_core.specs.Courses.{Coursed, arrives, numbered_in, ran, with_held}
 use Rattle.validator_core.specs.Sound.{is_ordered, ordered_front, unordered}
+use Rattle.version_assign.proofs.Freeing.{alone}
 
 -- ---- fronts of lists
 
@@ -57,26 +58,6 @@ first_behind {A} {B} test of (x ∷ xs) = by (test x) (first_behind test of xs)
 
 -- ---- what is in the sequence stays there
 
-or_left : (a b : Bool) → a ≡ true → (a || b) ≡ true
-or_left true b e = refl
-or_left false b e = absurd (cc)
-
-or_right : (a b : Bool) → b ≡ true → (a || b) ≡ true
-or_right true b e = refl
-or_right false b e = e
-
-one_of : (a b : Bool) → (a || b) ≡ true → (a ≡ true) ⊎ (b ≡ true)
-one_of true b e = inl refl
-one_of false b e = inr e
-
-any_front : {A : Type 0} (test : A → Bool) (xs ys : List A) → list_any test xs ≡ true → list_any test (xs ++ ys) ≡ true
-any_front test [] ys e = absurd (cc)
-any_front test (x ∷ xs) ys e = by (test x) e (any_front test xs ys)
-  where
-    by : (b : Bool) → (b || list_any test xs) ≡ true → (list_any test xs ≡ true → list_any test (xs ++ ys) ≡ true) → (b || list_any test (xs ++ ys)) ≡ true
-    by true h rest = refl
-    by false h rest = rest h
-
 any_last : {A : Type 0} (test : A → Bool) (xs : List A) (y : A) → test y ≡ true → list_any test (xs ++ y ∷ []) ≡ true
 any_last test [] y e = or_left (test y) false e
 any_last test (x ∷ xs) y e = or_right (test x) (list_any test (xs ++ y ∷ [])) (any_last test xs y e)
@@ -87,7 +68,7 @@ is_of tx g = digest_eq g.digest tx
 -- it still waits, or is the one that is taken
 waits_or_is : (h : Held) (tx : Digest) (gs : List Held) → list_any (is_of tx) gs ≡ true → (list_any (is_of tx) (filter (not_of h) gs) ≡ true) ⊎ (digest_eq h.digest tx ≡ true)
 waits_or_is h tx [] e = absurd (cc)
-waits_or_is h tx (g ∷ gs) e = by (digest_eq h.digest g.digest) refl (one_of (is_of tx g) (list_any (is_of tx) gs) e) (waits_or_is h tx gs)
+waits_or_is h tx (g ∷ gs) e = by (digest_eq h.digest g.digest) refl (or_true (is_of tx g) (list_any (is_of tx) gs) e) (waits_or_is h tx gs)
   where
     by : (b : Bool) → digest_eq h.digest g.digest ≡ b → (is_of tx g ≡ true) ⊎ (list_any (is_of tx) gs ≡ true)
         → (list_any (is_of tx) gs ≡ true → (list_any (is_of tx) (filter (not_of h) gs) ≡ true) ⊎ (digest_eq h.digest tx ≡ true))
@@ -109,7 +90,7 @@ known_with : (tx : Digest) (h : Held) (old new : Admission) → (is_admitted old
     → (list_any (digest_eq tx) old.dropped ≡ true → list_any (digest_eq tx) new.dropped ≡ true) → new.pending ≡ filter (not_of h) old.pending
     → (digest_eq h.digest tx ≡ true → is_known new tx ≡ true) → StaysKnown tx old new
 known_with tx h old new admits drops waits gone known =
-    by (one_of (is_admitted old.admitted tx || list_any (digest_eq tx) old.dropped) (list_any (is_of tx) old.pending) known)
+    by (or_true (is_admitted old.admitted tx || list_any (digest_eq tx) old.dropped) (list_any (is_of tx) old.pending) known)
   where
     settled : (is_admitted new.admitted tx || list_any (digest_eq tx) new.dropped) ≡ true → is_known new tx ≡ true
     settled e = or_left (is_admitted new.admitted tx || list_any (digest_eq tx) new.dropped) (list_any (is_of tx) new.pending) e
@@ -123,7 +104,7 @@ known_with tx h old new admits drops waits gone known =
     waiting (inr is) = gone is
 
     by : ((is_admitted old.admitted tx || list_any (digest_eq tx) old.dropped) ≡ true) ⊎ (list_any (is_of tx) old.pending ≡ true) → is_known new tx ≡ true
-    by (inl e) = before (one_of (is_admitted old.admitted tx) (list_any (digest_eq tx) old.dropped) e)
+    by (inl e) = before (or_true (is_admitted old.admitted tx) (list_any (digest_eq tx) old.dropped) e)
     by (inr e) = waiting (waits_or_is h tx old.pending e)
 
 same_turned : (a b : Digest) → digest_eq a b ≡ true → digest_eq b a ≡ true
@@ -153,7 +134,7 @@ known_taken writers opening (suc n) a tx known = by (find (is_free writers a) a.
 
 known_entered : (writers : Option ℕ) (opening : List Object) (a : Admission) (h : Held) (tx : Digest) → StaysKnown tx a (entered writers opening a h)
 unfolding entered
-known_entered writers opening a h tx known = known_taken writers opening (length (a.pending ++ h ∷ [])) (record a { pending = a.pending ++ h ∷ [] }) tx (waits (one_of settled (list_any (is_of tx) a.pending) known))
+known_entered writers opening a h tx known = known_taken writers opening (length (a.pending ++ h ∷ [])) (record a { pending = a.pending ++ h ∷ [] }) tx (waits (or_true settled (list_any (is_of tx) a.pending) known))
   where
     settled : Bool
     settled = is_admitted a.admitted tx || list_any (digest_eq tx) a.dropped
@@ -214,10 +195,6 @@ pub ordered_within : (n : ℕ) (cs : Coursed) → n ≤ ordered_front cs → n �
 ordered_within n cs front = let most = front_most (is_ordered cs.sequence.admission) cs.held in omega (arith, front, most)
 
 -- ---- the first that is not in the sequence
-
-alone : {A : Type 0} (o : Option A) → first_some (o ∷ []) ≡ o
-alone None = refl
-alone (Some x) = refl
 
 first_dropped : (a : Admission) (n : ℕ) (held : List Held) → n ≤ front_length (is_ordered a) held → first_of (unordered a) (drop n held) ≡ first_of (unordered a) held
 first_dropped a zero held few = refl

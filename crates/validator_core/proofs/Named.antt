@@ -1,18 +1,16 @@
 -- Each transaction of a run is executed under the digest that its effects name.
 use Rattle.std.proofs.Common.{◌≡◌, ℕ, zero, suc, Bool, true, false, cond, not, ◌&&◌, List, [], ◌∷◌, ◌++◌, map, Option, Some, None, refl, ap, sym, ◌∙◌}
-use Rattle.std.specs.Prelude.{IfSome, Result, Ok, Err}
+use Rattle.std.specs.Prelude.{IfSome}
 use Rattle.digest_core.specs.declared.Digest.{Digest}
 use Rattle.chain_types.specs.declared.objects.Object.{Object}
-use Rattle.chain_types.specs.declared.transactions.Transaction.{Transaction}
-use Rattle.chain_types.specs.Digests.{transaction_digest}
 use Rattle.effects_core.specs.Effects.{digest_of_effects}
 use Rattle.answer_types.specs.declared.pieces.Executed.{Executed}
 use Rattle.answer_types.specs.declared.answers.Held.{Held}
+use Rattle.protocol_spec.proofs.Executions.{effects_tx}
+use Rattle.protocol_spec.proofs.ListLemmas.{each_push}
 use Rattle.protocol_spec.specs.Chain.Words.{Each, where_true}
 use Rattle.protocol_spec.specs.Chain.Keys.{fits}
-use Rattle.protocol_spec.proofs.ListLemmas.{each-push}
-use Rattle.protocol_spec.specs.Block.Block.{Block}
-use Rattle.protocol_spec.specs.Block.Execution.{Failure, executed_by, execution, outcome, written_keys}
+use Rattle.protocol_spec.specs.Block.Execution.{execution, written_keys}
 use Rattle.protocol_spec.specs.Member.Versions.{Execution, is_executed, versions}
 use Rattle.protocol_spec.specs.Member.Rounds.{Books, clashes, executes_as, may_run, present, ready, ready_as, ready_on, round_add, round_among, round_of, rounds, rounds_within, writes_new}
 use Rattle.protocol_spec.specs.Member.Member.{Member, books}
@@ -23,14 +21,6 @@ use Rattle.validator_core.specs.Steps.{items_of}
 -- its effects name its digest
 abbrev pub IsNamed : Execution → Type 0
 IsNamed x = x.gave.effects.tx ≡ x.digest
-
-effects_tx : (t : Transaction) (objects : List Object) → (execution t objects).effects.tx ≡ transaction_digest t
-unfolding execution
-effects_tx t objects = go (outcome t (transaction_digest t) objects)
-  where
-    go : (r : Result Block Failure) → (executed_by t (transaction_digest t) objects r).effects.tx ≡ transaction_digest t
-    go (Ok b) = refl
-    go (Err f) = refl
 
 ready_named : (b : Books) (executed : List Execution) (h : Held) → IsSound h → IfSome (ready b executed h) IsNamed
 unfolding ready
@@ -56,7 +46,7 @@ add_named round (Some x) named is = go (clashes round x)
   where
     go : (c : Bool) → Each IsNamed (cond c round (round ++ x ∷ []))
     go true = named
-    go false = each-push IsNamed round x named is
+    go false = each_push IsNamed round x named is
 
 round_named : (b : Books) (executed round : List Execution) (hs : List Held) → Each IsNamed round → Each IsSound hs → Each IsNamed (round_among b executed round hs)
 round_named b executed round [] named sound = named

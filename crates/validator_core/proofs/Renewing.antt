@@ -7,24 +7,25 @@ use Rattle.chain_types.specs.declared.objects.ObjectId.{ObjectId}
 use Rattle.chain_types.specs.Equal.{digest_eq, id_eq}
 use Rattle.checkpoint_core.specs.declared.checkpoints.Checkpoint.{Checkpoint}
 use Rattle.answer_types.specs.declared.answers.Held.{Held}
+use Rattle.protocol_spec.proofs.Equality.{id_same}
 use Rattle.protocol_spec.specs.Chain.Words.{Each}
 use Rattle.protocol_spec.specs.Member.Admission.{Admission, nothing_admitted, opening_object}
 use Rattle.protocol_spec.specs.Member.Checkpoints.{cut_digests, is_cut}
 use Rattle.protocol_spec.specs.Member.Sequence.{Sequence}
 use Rattle.protocol_spec.specs.Member.Versions.{Execution, live, live_list}
-use Rattle.epoch_turn.specs.Chains.{AreCut, Chaining, cut_of_chain, turned}
+use Rattle.epoch_turn.specs.Chains.{AreCut, Chaining, turned}
 use Rattle.epoch_turn.specs.Dues.{cuts_of}
+use Rattle.version_assign.proofs.Changing.{found_has}
 use Rattle.version_assign.specs.declared.changes.Change.{Change}
 use Rattle.version_assign.specs.Calls.{Admitting}
 use Rattle.version_assign.specs.Changes.{HasId, IsOwn, Renews, changed_by}
 use Rattle.version_assign.specs.Sharing.{if_shared}
-use Rattle.version_store.specs.Changed.{AreChanged, IsSingle}
+use Rattle.version_store.specs.Changed.{AreChanged}
 use Rattle.version_store.specs.Reverts.{is_kept, reverted_to, undone}
 use Rattle.version_store.specs.Stores.{Stored, next_epoch}
-use Rattle.version_store.proofs.Equality.{id_same}
 use Rattle.version_store.proofs.Openings.{opening_live, single_live}
 use Rattle.validator_core.specs.declared.course.Course.{Course}
-use Rattle.validator_core.specs.Courses.{Coursed, IsSound, Opens, built_in, coursed, reverted_in, sequence_in, turned_in}
+use Rattle.validator_core.specs.Courses.{Coursed, IsSound, Opens, coursed, reverted_in, sequence_in, turned_in}
 use Rattle.validator_core.specs.Renewals.{change_in, changes_after}
 use Rattle.validator_core.proofs.Coursing.{built_is}
 
@@ -33,14 +34,6 @@ use Rattle.validator_core.proofs.Coursing.{built_is}
 changes_behind : (s : Stored) (changes : List Change) (ids : List ObjectId) → changes_after s changes ids ≡ changes ++ map (change_in s) ids
 changes_behind s changes [] = sym (append-nil changes)
 changes_behind s changes (id ∷ ids) = changes_behind s (changes ++ change_in s id ∷ []) ids ∙ append_assoc changes (change_in s id ∷ []) (map (change_in s) ids)
-
-found_has : (os : List Object) (id : ObjectId) (o : Object) → opening_object os id ≡ Some o → o.id ≡ id
-found_has [] id o is = absurd (cc)
-found_has (x ∷ xs) id o is = by (id_eq x.id id) refl is (found_has xs id o)
-  where
-    by : (b : Bool) → id_eq x.id id ≡ b → cond b (Some x) (opening_object xs id) ≡ Some o → (opening_object xs id ≡ Some o → o.id ≡ id) → o.id ≡ id
-    by true here is more = let same : o ≡ x = cc in ap (λ (y : Object). y.id) same ∙ id_same x.id id here
-    by false here is more = more is
 
 module _ (s : Stored) where
   abbrev lives : ObjectId → Option Object

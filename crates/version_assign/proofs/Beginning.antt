@@ -9,10 +9,10 @@ use Rattle.chain_types.specs.declared.transactions.Input.TheVariants as inputs
 use Rattle.chain_types.specs.Digests.{is_object}
 use Rattle.chain_messages.specs.declared.messages.Certificate.{Certificate}
 use Rattle.answer_types.specs.declared.answers.Assigned.{Assigned}
+use Rattle.protocol_spec.proofs.ListLemmas.{tail_is}
 use Rattle.protocol_spec.specs.Member.Admission.{assigned_to, begins}
 use Rattle.version_assign.specs.Books.{begun_of}
 use Rattle.version_assign.specs.Lines.{begun, begun_after, begun_behind}
-use Rattle.version_assign.proofs.Lining.{tail_is}
 
 behind : (opening : List Object) (is : List Input) (all : List Assigned) (os : List (Option Digest)) → begun_after opening all is os ≡ all ++ filter_map (begun opening) (zip (filter is_object is) os)
 behind opening [] all os = sym (ap (λ xs. all ++ xs) (nothing os) ∙ append-nil all)

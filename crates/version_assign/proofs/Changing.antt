@@ -1,6 +1,5 @@
 -- Tables of shared objects behind changes.
 use Rattle.std.proofs.Common.{◌≡◌, ◌∙◌, refl, arith, ap, sym, subst, ℕ, ◌-◌, ◌≤◌, length, take, drop, get_or, Bool, true, false, cond, List, [], ◌∷◌, Option, Some, None, is_some, map}
-use Rattle.std.specs.Prelude.{Result, Ok, Err, OnOk}
 use Rattle.std.specs.List.{AllByRecursion, IsDistinct}
 use Rattle.std.specs.Map.{lookup, keys_of}
 use Rattle.std.proofs.lemmas.Map.Keys.{IsDistinct-head, IsDistinct-tail}
@@ -8,17 +7,18 @@ use Rattle.indexmap.specs.IndexMap.{insert_entry}
 use Rattle.chain_types.specs.declared.objects.Object.{Object}
 use Rattle.chain_types.specs.declared.objects.ObjectId.{ObjectId}
 use Rattle.chain_types.specs.Equal.{id_eq}
+use Rattle.protocol_spec.proofs.Equality.{id_same, id_turned}
+use Rattle.protocol_spec.proofs.ListLemmas.{tail_is}
 use Rattle.protocol_spec.specs.Chain.Keys.{is_shared}
 use Rattle.protocol_spec.specs.Member.Admission.{Admission, Admitted, is_shared_object, opening_object}
 use Rattle.version_assign.specs.declared.changes.Change.{Change}
 use Rattle.version_assign.specs.Books.{AreLines, AreRows, IsOpening, object_in, stands}
 use Rattle.version_assign.specs.declared.book.Row.{Row}
 use Rattle.version_assign.specs.Lines.{LineMap}
-use Rattle.version_assign.specs.Changes.{AreShared, Changes, ChangesOn, HasId, IsOwn, IsSharedUnder, Puts, Shelved, changed_at, changed_by}
+use Rattle.version_assign.specs.Changes.{AreShared, Changes, ChangesOn, HasId, IsOwn, IsSharedUnder, Puts, Shelved, changed_by}
 use Rattle.version_assign.specs.Sharing.{if_shared}
 use Rattle.version_assign.proofs.Maps.{lookup_insert}
-use Rattle.version_assign.proofs.Names.{id_same, id_self}
-use Rattle.version_assign.proofs.Naming.{id_turned}
+use Rattle.version_assign.proofs.Names.{id_self}
 use Rattle.version_assign.proofs.Opening.{none_at}
 
 -- ---- one table step
@@ -46,13 +46,6 @@ shared_step old new c own shared puts id = subst (IsSharedUnder id) (sym (puts i
     by true is = subst (λ (i : ObjectId). IsSharedUnder i (if_shared c.lives)) (sym (id_same id c.id is)) (shared_own c.id c.lives own)
     by false is = shared id
 
-all_taken : {A : Type 0} (xs : List A) → take (length xs) xs ≡ xs
-all_taken [] = refl
-all_taken (x ∷ xs) = ap (λ ys. x ∷ ys) (all_taken xs)
-
-tail_is : {A : Type 0} (x : A) (xs : List A) → take (length (x ∷ xs) - 1) (drop 1 (x ∷ xs)) ≡ xs
-tail_is x xs = let less : length (x ∷ xs) - 1 ≡ length xs = omega arith in rw less (all_taken xs)
-
 pub change_step : (old mid new : Shelved) (all rest : List Change) (d : Change) → 1 ≤ length rest → ChangesOn old mid all rest → Puts mid new (get_or rest 0 d).id (if_shared (get_or rest 0 d).lives) → ChangesOn old new all (take (length rest - 1) (drop 1 rest))
 change_step old mid new all [] d some so puts = absurd (omega (arith, some))
 change_step old mid new all (x ∷ rest) d some so puts = subst (ChangesOn old new all) (sym (tail_is x rest)) (record {
@@ -64,7 +57,7 @@ change_step old mid new all (x ∷ rest) d some so puts = subst (ChangesOn old n
 -- ---- as an opening
 
 -- what a search among the objects finds has the id
-found_has : (os : List Object) (id : ObjectId) (o : Object) → opening_object os id ≡ Some o → o.id ≡ id
+pub found_has : (os : List Object) (id : ObjectId) (o : Object) → opening_object os id ≡ Some o → o.id ≡ id
 found_has [] id o is = absurd (cc)
 found_has (x ∷ xs) id o is = by (id_eq x.id id) refl is (found_has xs id o)
   where
@@ -136,7 +129,3 @@ pub reopens : (old : List Object) (mid new : Shelved) (changes : List Change) �
     → (id : ObjectId) → opening_object (map object_in new) id ≡ changed_by changes id (opening_object old id)
 reopens old mid new changes was opens opens_new by id =
     sym (opens_new.at id) ∙ by id ∙ ap (changed_by changes id) (opens.at id ∙ ap (λ (os : List Object). opening_object os id) was)
-
-pub on_ok : {A E : Type 0} (result : Result A E) (P Q : Type 0) → (P → Q) → OnOk result P → OnOk result Q
-on_ok (Ok a) P Q to h = to h
-on_ok (Err e) P Q to h = tt

@@ -11,6 +11,7 @@ use Rattle.digest_core.specs.declared.Digest.{Digest}
 use Rattle.chain_types.specs.declared.objects.ObjectId.{ObjectId}
 use Rattle.chain_types.specs.Equal.{id_eq}
 use Rattle.answer_types.specs.declared.answers.Assigned.{Assigned}
+use Rattle.protocol_spec.proofs.Equality.{id_same}
 use Rattle.protocol_spec.specs.Chain.Words.{Each}
 use Rattle.protocol_spec.specs.Member.Admission.{writes}
 use Rattle.version_assign.specs.declared.book.Admit.{Admit}
@@ -22,7 +23,6 @@ use Rattle.version_assign.specs.Lines.{LineMap, clear_all, clear_one, cleared, l
 use Rattle.version_assign.specs.Steps.{Marks, clear_each, clear_found}
 use Rattle.version_assign.proofs.Lining.{KeepsLines, clear_step, line_put, lined_more}
 use Rattle.version_assign.proofs.Listing.{next_at, some_at}
-use Rattle.version_assign.proofs.Names.{id_same}
 use Rattle.version_assign.proofs.Naming.{of_id}
 use Rattle.version_assign.proofs.Parts.{AreKept, Has, Parts, kept_as, parts_of, shown_as}
 use Rattle.version_assign.proofs.Taking.{lets_more}

@@ -11,10 +11,12 @@ use Rattle.std.proofs.lemmas.Simd.{map-map}
 use Rattle.digest_core.specs.declared.Digest.{Digest}
 use Rattle.chain_types.specs.Equal.{digest_eq}
 use Rattle.answer_types.specs.declared.answers.Held.{Held}
-use Rattle.protocol_spec.specs.Chain.Words.{Each, repeats}
+use Rattle.protocol_spec.proofs.Equality.{still_apart, digest_turned}
+use Rattle.protocol_spec.proofs.ListLemmas.{each_push}
+use Rattle.protocol_spec.proofs.Truth.{or_false_left}
+use Rattle.protocol_spec.specs.Chain.Words.{Each}
 use Rattle.protocol_spec.specs.Chain.Keys.{objects_of}
 use Rattle.protocol_spec.specs.Chain.Shape.{shape_fault}
-use Rattle.protocol_spec.proofs.ListLemmas.{each-push, or-first}
 use Rattle.protocol_spec.specs.Member.Admission.{Admission, digest_of_admitted, entered, is_admitted, is_known, passed_mark, take_all}
 use Rattle.version_assign.specs.declared.book.Admit.{Admit}
 use Rattle.version_assign.specs.declared.book.Book.{Book}
@@ -24,7 +26,6 @@ use Rattle.version_assign.specs.Calls.{Admitting, admitted_since, settled, with_
 use Rattle.version_assign.specs.Lines.{begun_behind}
 use Rattle.version_assign.specs.Steps.{AddsRow, HasRowRoom, MakesRoom, digest_in}
 use Rattle.version_assign.proofs.Beginning.{begun_is}
-use Rattle.version_assign.proofs.Finding.{turned}
 use Rattle.version_assign.proofs.Lining.{KeepsLines, lined_more}
 use Rattle.version_assign.proofs.Parts.{AreKept, Has, Parts, kept_as, parts_of, shown_as}
 use Rattle.version_assign.proofs.Rows.{of_tx, skipped_push}
@@ -103,19 +104,6 @@ aligned_push (y ∷ rows) [] r all = absurd all
 aligned_push (None ∷ rows) (k ∷ ks) r all = aligned_push rows ks r all
 aligned_push (Some y ∷ rows) (k ∷ ks) r all = (all.0, aligned_push rows ks r all.1)
 
-still_apart : (ds : List Digest) (d : Digest) → repeats digest_eq ds ≡ false → list_any (digest_eq d) ds ≡ false → repeats digest_eq (ds ++ d ∷ []) ≡ false
-still_apart [] d apart new = refl
-still_apart (x ∷ xs) d apart new =
-    ap (λ b. b || repeats digest_eq (xs ++ d ∷ [])) (list_any-append (digest_eq x) xs (d ∷ []) ∙ ap (λ b. list_any (digest_eq x) xs || (b || false)) (turned x d))
-    ∙ by (list_any (digest_eq x) xs) (repeats digest_eq xs) (digest_eq d x) (list_any (digest_eq d) xs) apart new (still_apart xs d)
-  where
-    by : (a b c e : Bool) → (a || b) ≡ false → (c || e) ≡ false → (b ≡ false → e ≡ false → repeats digest_eq (xs ++ d ∷ []) ≡ false)
-        → ((a || (c || false)) || repeats digest_eq (xs ++ d ∷ [])) ≡ false
-    by true b c e apart new more = absurd (cc)
-    by false b true e apart new more = absurd (cc)
-    by false true false e apart new more = absurd (cc)
-    by false false false e apart new more = more refl new
-
 or_nothing : (b : Bool) → (b || false) ≡ b
 or_nothing true = refl
 or_nothing false = refl
@@ -165,15 +153,15 @@ module _ (old new : Book) (r : Row) (kept : IsKept old) (m : AddsRow old new r) 
     known = λ tx.
         list_any-append (digest_eq tx) old.known.keys (r.held.digest ∷ [])
         ∙ ap (λ b. b || (digest_eq tx r.held.digest || false)) (kept.known tx)
-        ∙ ap (λ b. is_known a tx || b) (or_nothing (digest_eq tx r.held.digest) ∙ turned tx r.held.digest)
+        ∙ ap (λ b. is_known a tx || b) (or_nothing (digest_eq tx r.held.digest) ∙ digest_turned tx r.held.digest)
         ∙ regrouped (is_admitted a.admitted tx) (list_any (digest_eq tx) a.dropped) (list_any (of_tx tx) a.pending) (digest_eq r.held.digest tx)
         ∙ ap (λ b. is_admitted a.admitted tx || list_any (digest_eq tx) a.dropped || b)
         (sym (ap (list_any (of_tx tx)) pending_more ∙ list_any-append (of_tx tx) a.pending (r.held ∷ []) ∙ ap (λ b. list_any (of_tx tx) a.pending || b) (or_nothing (digest_eq r.held.digest tx))));
     new =
         subst (Each (IsNew a.admitted)) (sym pending_more)
-        (each-push (IsNew a.admitted) a.pending r.held kept.new
-        (or-first (is_admitted a.admitted r.held.digest) (list_any (digest_eq r.held.digest) a.dropped)
-        (or-first (is_admitted a.admitted r.held.digest || list_any (digest_eq r.held.digest) a.dropped) (list_any (of_tx r.held.digest) a.pending) fresh)));
+        (each_push (IsNew a.admitted) a.pending r.held kept.new
+        (or_false_left (is_admitted a.admitted r.held.digest) (list_any (digest_eq r.held.digest) a.dropped)
+        (or_false_left (is_admitted a.admitted r.held.digest || list_any (digest_eq r.held.digest) a.dropped) (list_any (of_tx r.held.digest) a.pending) fresh)));
     waiting = ap (λ n. n + 1) kept.waiting ∙ sym (ap length pending_more ∙ length-append a.pending (r.held ∷ []));
     within = kept.within;
   }

@@ -11,6 +11,9 @@ use Rattle.chain_types.specs.declared.transactions.Input.{Input}
 use Rattle.chain_types.specs.declared.transactions.Input.TheVariants as inputs
 use Rattle.chain_types.specs.Equal.{id_eq}
 use Rattle.answer_types.specs.declared.answers.Held.{Held}
+use Rattle.protocol_spec.proofs.Equality.{id_same}
+use Rattle.protocol_spec.proofs.ListLemmas.{tail_is}
+use Rattle.protocol_spec.proofs.Truth.{or_right, or_left, or_true}
 use Rattle.protocol_spec.specs.Chain.Words.{Has, first_of, first_some, where_true}
 use Rattle.protocol_spec.specs.Chain.Keys.{mutable_id}
 use Rattle.protocol_spec.specs.Chain.Tests.{has_id}
@@ -23,7 +26,7 @@ use Rattle.version_assign.specs.Steps.{full_one, is_free_one}
 use Rattle.version_assign.specs.Waiting.{Grows, HasNext, IsFiled, Opens, Passes, PopsPlace, Reason, Turn, TurnsOn, has_turn, is_awake, is_full, is_id, is_open, is_queued, is_under, may_be_free, none_open, or_one_of, stands_behind, writes_at, writes_input, writes_row}
 use Rattle.version_assign.proofs.Freeing.{alone, free_is, place_found, place_passed}
 use Rattle.version_assign.proofs.Moving.{all_at}
-use Rattle.version_assign.proofs.Names.{id_same, id_self}
+use Rattle.version_assign.proofs.Names.{id_self}
 use Rattle.version_assign.proofs.Rows.{clash}
 
 -- ---- what an input writes
@@ -42,18 +45,6 @@ or_none false = refl
 
 pub written_is : (is : List Input) (id : ObjectId) → or_one_of is none_open id ≡ has_id (filter_map mutable_id is) id
 written_is is id = or_none (list_any (λ (i : Input). writes_input i id) is) ∙ sym (all_written is id)
-
-or_cases : (a b : Bool) → (a || b) ≡ true → (a ≡ true) ⊎ (b ≡ true)
-or_cases true b e = inl refl
-or_cases false b e = inr e
-
-or_first : (a b : Bool) → a ≡ true → (a || b) ≡ true
-or_first true b e = refl
-or_first false b e = absurd (cc)
-
-or_second : (a b : Bool) → b ≡ true → (a || b) ≡ true
-or_second true b e = refl
-or_second false b e = e
 
 -- ---- one step after the other
 
@@ -89,7 +80,7 @@ module _ (rows : List (Option Row)) (admits : Digest → Bool) (room : ObjectId 
       turn_of : new.whole ≡ true → (x : ObjectId) (q : ℕ) → is_under new.queues.entries x.0 q ≡ true → Turn rows old room (λ y. id_eq y id || due y) x q → Turn rows new room due x q
       turn_of whole x q under (is_full full) = is_full full
       turn_of whole x q under (has_turn p awake before writes) = has_turn p (t.awake p awake) before writes
-      turn_of whole x q under (is_open open_) = by (or_cases (id_eq x id) (due x) open_)
+      turn_of whole x q under (is_open open_) = by (or_true (id_eq x id) (due x) open_)
         where
           by : (id_eq x id ≡ true) ⊎ (due x ≡ true) → Turn rows new room due x q
           by (inl same) = taken x q (t.next whole q (subst (λ (y : ObjectId). is_under new.queues.entries y.0 q ≡ true) (id_same x id same) under)) same
@@ -162,13 +153,6 @@ opened_none rows room w i rest none = record {
 pub opens_then : (rows : List (Option Row)) (room : ObjectId → Bool) (a b c : Waits) (all some rest : List Input) → Opens rows room a b all some → Opens rows room b c some rest → Opens rows room a c all rest
 opens_then rows room a b c all some rest x y = record { at = λ admits due filed. y.at admits due (x.at admits due filed) }
 
-tail_is : {A : Type 0} → (x : A) (xs : List A) → take (length (x ∷ xs) - 1) (drop 1 (x ∷ xs)) ≡ xs
-tail_is x xs = let n : length (x ∷ xs) - 1 ≡ length xs = omega arith in ap (λ k. take k xs) n ∙ whole xs
-  where
-    whole : {B : Type 0} → (ys : List B) → take (length ys) ys ≡ ys
-    whole [] = refl
-    whole (y ∷ ys) = ap (λ zs. y ∷ zs) (whole ys)
-
 -- ---- a queue
 
 pub nothing_passed : (rows : List (Option Row)) (w : Waits) (id : ObjectId) → Passes rows w w id
@@ -205,9 +189,9 @@ full_has writers a (inputs.Shared x initial true ∷ is) id e = go (has_room wri
         → ((id_eq id x || has_id (filter_map mutable_id is) id) ≡ true) × (has_room writers a id ≡ false)
     go true room f more =
         let m : (has_id (filter_map mutable_id is) id ≡ true) × (has_room writers a id ≡ false) = more (sym (alone (first_of (full_one writers a) is)) ∙ f) in
-        (or_second (id_eq id x) (has_id (filter_map mutable_id is) id) m.0, m.1)
+        (or_right (id_eq id x) (has_id (filter_map mutable_id is) id) m.0, m.1)
     go false room f more =
-        (or_first (id_eq id x) (has_id (filter_map mutable_id is) id) (ap (id_eq id) (same f) ∙ id_self id), ap (has_room writers a) (sym (same f)) ∙ room)
+        (or_left (id_eq id x) (has_id (filter_map mutable_id is) id) (ap (id_eq id) (same f) ∙ id_self id), ap (has_room writers a) (sym (same f)) ∙ room)
 
 -- what a filed certificate waits for keeps it from being free
 pub origin_holds : (a : Admission) (os : List (Option Digest)) (tx : Digest) → Has os (Some tx) → is_admitted a.admitted tx ≡ false → list_all (is_origin_admitted a) os ≡ false

@@ -7,28 +7,18 @@ use Rattle.std.specs.Map.{lookup}
 use Rattle.digest_core.specs.declared.Digest.{Digest}
 use Rattle.chain_types.specs.Equal.{digest_eq}
 use Rattle.answer_types.specs.declared.answers.Held.{Held}
+use Rattle.protocol_spec.proofs.Equality.{digest_turned, digest_same}
+use Rattle.protocol_spec.proofs.Truth.{or_false_left, or_false_right}
 use Rattle.protocol_spec.specs.Chain.Words.{repeats}
 use Rattle.protocol_spec.specs.Member.Admission.{Admission, Admitted, assigned_in, assigned_of, digest_of_admitted, is_admitted}
 use Rattle.version_assign.specs.declared.book.Admit.{Admit}
 use Rattle.version_assign.specs.declared.book.Row.{Row}
 use Rattle.version_assign.specs.Books.{Aligned, admitted_as, held_in, pending_in, placed, row_at, row_in}
 use Rattle.version_assign.specs.Steps.{digest_in}
-use Rattle.version_assign.proofs.Names.{digest_same, digest_self, turn}
-
-first_false : (b c : Bool) → (b || c) ≡ false → b ≡ false
-first_false true c e = absurd (cc)
-first_false false c e = refl
-
-second_false : (b c : Bool) → (b || c) ≡ false → c ≡ false
-second_false true c e = absurd (cc)
-second_false false c e = e
-
-pub turned : (a b : Digest) → digest_eq a b ≡ digest_eq b a
-turned a b = turn digest_eq digest_same digest_self a b
 
 pub admitted_is : (es : List (Digest × Admit)) (tx : Digest) → is_some (lookup (digest_eq tx) es) ≡ is_admitted (map admitted_as es) tx
 admitted_is [] tx = refl
-admitted_is (e ∷ es) tx = by (digest_eq tx e.0) (admitted_is es tx) ∙ ap (λ b. b || is_admitted (map admitted_as es) tx) (turned tx e.0)
+admitted_is (e ∷ es) tx = by (digest_eq tx e.0) (admitted_is es tx) ∙ ap (λ b. b || is_admitted (map admitted_as es) tx) (digest_turned tx e.0)
   where
     by : (b : Bool) → is_some (lookup (digest_eq tx) es) ≡ is_admitted (map admitted_as es) tx → is_some (cond b (Some e.1) (lookup (digest_eq tx) es)) ≡ (b || is_admitted (map admitted_as es) tx)
     by true more = refl
@@ -38,7 +28,7 @@ admitted_is (e ∷ es) tx = by (digest_eq tx e.0) (admitted_is es tx) ∙ ap (λ
 found_admitted : {A : Type 0} → (says : Admitted → A) (told : Admit → A) → ((e : Digest × Admit) → told e.1 ≡ says (admitted_as e)) → (es : List (Digest × Admit)) (tx : Digest)
     → option_map told (lookup (digest_eq tx) es) ≡ option_map says (find (λ (x : Admitted). digest_eq x.digest tx) (map admitted_as es))
 found_admitted says told same [] tx = refl
-found_admitted says told same (e ∷ es) tx = by (digest_eq tx e.0) (found_admitted says told same es tx) ∙ ap (λ b. option_map says (cond b (Some (admitted_as e)) (find (λ (x : Admitted). digest_eq x.digest tx) (map admitted_as es)))) (turned tx e.0)
+found_admitted says told same (e ∷ es) tx = by (digest_eq tx e.0) (found_admitted says told same es tx) ∙ ap (λ b. option_map says (cond b (Some (admitted_as e)) (find (λ (x : Admitted). digest_eq x.digest tx) (map admitted_as es)))) (digest_turned tx e.0)
   where
     by : (b : Bool) → option_map told (lookup (digest_eq tx) es) ≡ option_map says (find (λ (x : Admitted). digest_eq x.digest tx) (map admitted_as es))
         → option_map told (cond b (Some e.1) (lookup (digest_eq tx) es)) ≡ option_map says (cond b (Some (admitted_as e)) (find (λ (x : Admitted). digest_eq x.digest tx) (map admitted_as es)))
@@ -77,7 +67,7 @@ none_waits (Some x ∷ rows) (k ∷ ks) tx all away = go (digest_eq tx k) refl a
         → cond (digest_eq x.held.digest tx) (Some x.held) (find (λ (h : Held). digest_eq h.digest tx) (pending_in rows)) ≡ None
     go true is e more = absurd (cc)
     go false is e more =
-        ap (λ b. cond b (Some x.held) (find (λ (h : Held). digest_eq h.digest tx) (pending_in rows))) (turned x.held.digest tx ∙ ap (digest_eq tx) all.0 ∙ is)
+        ap (λ b. cond b (Some x.held) (find (λ (h : Held). digest_eq h.digest tx) (pending_in rows))) (digest_turned x.held.digest tx ∙ ap (digest_eq tx) all.0 ∙ is)
         ∙ more e
 
 one_more : (n : ℕ) → 1 + n ≡ suc n
@@ -88,21 +78,21 @@ waits_at : (rows : List (Option Row)) (keys : List Digest) (tx : Digest) → Ali
 waits_at [] [] tx all apart = refl
 waits_at [] (k ∷ ks) tx all apart = absurd all
 waits_at (r ∷ rows) [] tx all apart = absurd all
-waits_at (None ∷ rows) (k ∷ ks) tx all apart = go (digest_eq tx k) refl (waits_at rows ks tx all (second_false (list_any (digest_eq k) ks) (repeats digest_eq ks) apart))
+waits_at (None ∷ rows) (k ∷ ks) tx all apart = go (digest_eq tx k) refl (waits_at rows ks tx all (or_false_right (list_any (digest_eq k) ks) (repeats digest_eq ks) apart))
   where
     go : (b : Bool) → digest_eq tx k ≡ b → held_in (row_at rows (position_or_len (digest_eq tx) ks)) ≡ find (λ (h : Held). digest_eq h.digest tx) (pending_in rows)
         → held_in (row_at (None ∷ rows) (cond (not b) (1 + position_or_len (digest_eq tx) ks) 0)) ≡ find (λ (h : Held). digest_eq h.digest tx) (pending_in rows)
     go true is more =
-        sym (none_waits rows ks tx all (ap (λ (d : Digest). list_any (digest_eq d) ks) (digest_same tx k is) ∙ first_false (list_any (digest_eq k) ks) (repeats digest_eq ks) apart))
+        sym (none_waits rows ks tx all (ap (λ (d : Digest). list_any (digest_eq d) ks) (digest_same tx k is) ∙ or_false_left (list_any (digest_eq k) ks) (repeats digest_eq ks) apart))
     go false is more = ap (λ n. held_in (row_at (None ∷ rows) n)) (one_more (position_or_len (digest_eq tx) ks)) ∙ more
-waits_at (Some x ∷ rows) (k ∷ ks) tx all apart = go (digest_eq tx k) refl (waits_at rows ks tx all.1 (second_false (list_any (digest_eq k) ks) (repeats digest_eq ks) apart))
+waits_at (Some x ∷ rows) (k ∷ ks) tx all apart = go (digest_eq tx k) refl (waits_at rows ks tx all.1 (or_false_right (list_any (digest_eq k) ks) (repeats digest_eq ks) apart))
   where
     go : (b : Bool) → digest_eq tx k ≡ b → held_in (row_at rows (position_or_len (digest_eq tx) ks)) ≡ find (λ (h : Held). digest_eq h.digest tx) (pending_in rows)
         → held_in (row_at (Some x ∷ rows) (cond (not b) (1 + position_or_len (digest_eq tx) ks) 0)) ≡ cond (digest_eq x.held.digest tx) (Some x.held) (find (λ (h : Held). digest_eq h.digest tx) (pending_in rows))
-    go true is more = sym (ap (λ b. cond b (Some x.held) (find (λ (h : Held). digest_eq h.digest tx) (pending_in rows))) (turned x.held.digest tx ∙ ap (digest_eq tx) all.0 ∙ is))
+    go true is more = sym (ap (λ b. cond b (Some x.held) (find (λ (h : Held). digest_eq h.digest tx) (pending_in rows))) (digest_turned x.held.digest tx ∙ ap (digest_eq tx) all.0 ∙ is))
     go false is more =
         ap (λ n. held_in (row_at (Some x ∷ rows) n)) (one_more (position_or_len (digest_eq tx) ks)) ∙ more
-        ∙ sym (ap (λ b. cond b (Some x.held) (find (λ (h : Held). digest_eq h.digest tx) (pending_in rows))) (turned x.held.digest tx ∙ ap (digest_eq tx) all.0 ∙ is))
+        ∙ sym (ap (λ b. cond b (Some x.held) (find (λ (h : Held). digest_eq h.digest tx) (pending_in rows))) (digest_turned x.held.digest tx ∙ ap (digest_eq tx) all.0 ∙ is))
 
 past_rows : (rows : List (Option Row)) (keys : List Digest) (n : ℕ) → Aligned rows keys → length keys ≤ n → row_at rows n ≡ None
 past_rows [] keys n all past = ap row_in (none n)

@@ -16,7 +16,7 @@ pub mod Entering
 pub mod Opening
 pub mod Listing
 pub mod Sharing
-mod Changing
+pub mod Changing
 pub mod Shelving
 pub mod Filed
 pub mod Moved

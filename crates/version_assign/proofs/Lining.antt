@@ -10,8 +10,10 @@ use Rattle.chain_types.specs.Equal.{id_eq}
 use Rattle.answer_types.specs.declared.answers.Assigned.{Assigned}
 use Rattle.version_assign.specs.declared.lines.Line.{Line}
 use Rattle.version_assign.specs.Lines.{LineMap, are_lined, clear_one, cleared, has_line, line_at, move_one, moved, no_line}
-use Rattle.version_assign.proofs.Names.{id_same, id_self}
+use Rattle.version_assign.proofs.Names.{id_self}
 use Rattle.version_assign.proofs.Maps.{lookup_insert}
+use Rattle.protocol_spec.proofs.Equality.{id_same}
+use Rattle.protocol_spec.proofs.ListLemmas.{tail_is}
 
 -- ---- reads behind a write
 
@@ -60,15 +62,6 @@ pub record IsMade (old new : LineMap) (rest all : List Assigned) : Type 0 where
   pub same : (q : ObjectId) → line_at new q ≡ line_at old q
   pub kept : (q : ObjectId) → has_line old q ≡ true → has_line new q ≡ true
   pub made : (es : LineMap) → KeepsLines new es → are_lined es rest ≡ true → are_lined es all ≡ true
-
-pub tail_is : {A : Type 0} → (x : A) (xs : List A) → take (length (x ∷ xs) - 1) (drop 1 (x ∷ xs)) ≡ xs
-tail_is x xs =
-    let n : length (x ∷ xs) - 1 ≡ length xs = omega arith in
-    ap (λ k. take k xs) n ∙ whole xs
-  where
-    whole : {B : Type 0} → (ys : List B) → take (length ys) ys ≡ ys
-    whole [] = refl
-    whole (y ∷ ys) = ap (λ zs. y ∷ zs) (whole ys)
 
 pub one_made : (old mid new : LineMap) (rest all : List Assigned) (x : Assigned) → x ≡ get_or rest 0 x → 1 ≤ length rest → IsMade old mid rest all
     → ((q : ObjectId) → line_at new q ≡ line_at mid q) → ((q : ObjectId) → has_line mid q ≡ true → has_line new q ≡ true) → has_line new x.id ≡ true

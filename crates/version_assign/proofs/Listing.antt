@@ -1,7 +1,6 @@
 -- Lists that are collected from a place on.
-use Rattle.std.proofs.Common.{◌≡◌, ℕ, zero, suc, List, [], ◌∷◌, ◌++◌, Option, Some, None, length, map, refl, ap, sym, subst, ◌∙◌, ◌+◌, ◌≤◌, ◌<◌, arith, add-one, append_assoc, append-nil, drop, slice_get, option_map}
+use Rattle.std.proofs.Common.{◌≡◌, ℕ, zero, suc, List, [], ◌∷◌, ◌++◌, Option, Some, None, length, map, refl, ap, sym, ◌∙◌, ◌+◌, ◌≤◌, ◌<◌, arith, add-one, append_assoc, append-nil, drop, slice_get, option_map}
 use Rattle.std.proofs.Math.ListN.{drop_of_length-le, get_or}
-use Rattle.protocol_spec.specs.Chain.Words.{Each}
 
 -- the next one, and those behind it
 pub next_at : {A : Type 0} → (xs : List A) (i : ℕ) (x : A) → slice_get xs i ≡ Some x → drop i xs ≡ x ∷ drop (suc i) xs
@@ -34,18 +33,6 @@ pub get_at : {A : Type 0} → (xs : List A) (i : ℕ) (d : A) → i < length xs 
 get_at [] i d within = absurd (omega (arith, within))
 get_at (x ∷ xs) zero d within = refl
 get_at (x ∷ xs) (suc i) d within = get_at xs i d (omega arith)
-
-pub each_at : {A : Type 0} (P : A → Type 0) (xs : List A) (i : ℕ) (x : A) → Each P xs → slice_get xs i ≡ Some x → P x
-each_at P [] zero x all at = absurd (cc)
-each_at P [] (suc i) x all at = absurd (cc)
-each_at P (y ∷ ys) zero x all at = go (same at) all.0
-  where
-    same : Some y ≡ Some x → y ≡ x
-    same f = cc
-
-    go : y ≡ x → P y → P x
-    go e p = subst P e p
-each_at P (y ∷ ys) (suc i) x all at = each_at P ys i x all.1 at
 
 pub next_listed : {A B : Type 0} → (f : A → B) (xs : List A) (i : ℕ) (y : B) (list more all : List B) → option_map f (slice_get xs i) ≡ Some y → more ≡ list ++ y ∷ [] → list ++ map f (drop i xs) ≡ all → more ++ map f (drop (i + 1) xs) ≡ all
 next_listed {A} {B} f xs i y list more all at is same = go (slice_get xs i) refl at

@@ -7,6 +7,7 @@ use Rattle.chain_types.specs.declared.transactions.Input.{Input}
 use Rattle.chain_types.specs.Equal.{digest_eq}
 use Rattle.chain_messages.specs.declared.messages.Certificate.{Certificate}
 use Rattle.answer_types.specs.declared.answers.Held.{Held}
+use Rattle.protocol_spec.proofs.Equality.{digest_same}
 use Rattle.protocol_spec.specs.Chain.Words.{Has}
 use Rattle.protocol_spec.specs.Member.Admission.{has_room, is_admitted, writes}
 use Rattle.version_assign.specs.declared.book.Admit.{Admit}
@@ -18,20 +19,7 @@ use Rattle.version_assign.specs.Steps.{TakesOut}
 use Rattle.version_assign.specs.Waiting.{Aside, Frees, IsFiled, IsFiledIn, Opens, OpensFound, OpensSince, Reason, Rests, Turn, admits_also, admits_in, aside_behind, aside_queued, has_turn, is_awake, is_full, is_open, is_queued, is_under, may_be_free, none_open, or_one_of, room_in, stands_behind, writes_at, writes_row, wrote_one}
 use Rattle.version_assign.proofs.Filed.{all_written, filed_due, written_is}
 use Rattle.version_assign.proofs.Listing.{next_at, some_at}
-use Rattle.version_assign.proofs.Names.{digest_same}
 use Rattle.version_assign.proofs.Rows.{clash}
-
-or_cases : (a b : Bool) → (a || b) ≡ true → (a ≡ true) ⊎ (b ≡ true)
-or_cases true b e = inl refl
-or_cases false b e = inr e
-
-or_left : (a b : Bool) → (a || b) ≡ false → a ≡ false
-or_left true b e = absurd (cc)
-or_left false b e = refl
-
-or_right : (a b : Bool) → (a || b) ≡ false → b ≡ false
-or_right true b e = absurd (cc)
-or_right false b e = e
 
 -- ---- one is put aside
 

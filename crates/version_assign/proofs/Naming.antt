@@ -12,13 +12,16 @@ use Rattle.chain_types.specs.Equal.{id_eq}
 use Rattle.chain_types.specs.Digests.{is_object}
 use Rattle.chain_messages.specs.declared.messages.Certificate.{Certificate}
 use Rattle.answer_types.specs.declared.answers.Assigned.{Assigned}
+use Rattle.protocol_spec.proofs.Equality.{id_turned, id_same}
+use Rattle.protocol_spec.proofs.ListLemmas.{all_none}
+use Rattle.protocol_spec.proofs.Truth.{or_false, where_false}
 use Rattle.protocol_spec.specs.Chain.Words.{Each, first_of, first_some, repeats, where_true}
 use Rattle.protocol_spec.specs.Chain.Tests.{has_id}
 use Rattle.protocol_spec.specs.Chain.Keys.{mutable_id, named_id, named_ids, objects_of}
 use Rattle.protocol_spec.specs.Chain.Shape.{shape_cases, shape_fault}
 use Rattle.protocol_spec.specs.Member.Admission.{Standing, assigned_to, beginning, begins, joined_inputs, mutable_ids}
 use Rattle.version_assign.specs.Lines.{begun}
-use Rattle.version_assign.proofs.Names.{id_same, id_self, turn}
+use Rattle.version_assign.proofs.Names.{id_self}
 use Rattle.version_assign.proofs.Freeing.{alone}
 
 abbrev pub Joined : Type 0
@@ -35,14 +38,6 @@ mutables_of js = filter_map (λ (j : Input × Option Digest). mutable_id j.0) js
 
 abbrev pub of_id : ObjectId → Assigned → Bool
 of_id id x = id_eq id x.id
-
-pub id_turned : (a b : ObjectId) → id_eq a b ≡ id_eq b a
-id_turned a b = turn id_eq id_same id_self a b
-
-or_both : (a b : Bool) → (a || b) ≡ false → (a ≡ false) × (b ≡ false)
-or_both false false h = (refl, refl)
-or_both false true h = absurd (cc)
-or_both true b h = absurd (cc)
 
 -- ---- it is not named
 
@@ -79,9 +74,9 @@ module _ (opening : List Object) (id : ObjectId) where
   pub absent : (js : Joined) → has_id (names_of js) id ≡ false → Absent opening id js
   absent [] off = record { begins = refl; writes = refl; assigned = refl }
   absent ((inputs.Pure bytes, o) ∷ js) off = plain_absent js (inputs.Pure bytes) o refl refl refl (absent js off)
-  absent ((inputs.Owned r, o) ∷ js) off = plain_absent js (inputs.Owned r) o refl refl refl (absent js (or_both (id_eq id r.id) (has_id (names_of js) id) off).1)
-  absent ((inputs.Immutable r, o) ∷ js) off = plain_absent js (inputs.Immutable r) o refl refl refl (absent js (or_both (id_eq id r.id) (has_id (names_of js) id) off).1)
-  absent ((inputs.Shared y n m, o) ∷ js) off = shared_absent js y n m o (or_both (id_eq id y) (has_id (names_of js) id) off).0 (absent js (or_both (id_eq id y) (has_id (names_of js) id) off).1)
+  absent ((inputs.Owned r, o) ∷ js) off = plain_absent js (inputs.Owned r) o refl refl refl (absent js (or_false (id_eq id r.id) (has_id (names_of js) id) off).1)
+  absent ((inputs.Immutable r, o) ∷ js) off = plain_absent js (inputs.Immutable r) o refl refl refl (absent js (or_false (id_eq id r.id) (has_id (names_of js) id) off).1)
+  absent ((inputs.Shared y n m, o) ∷ js) off = shared_absent js y n m o (or_false (id_eq id y) (has_id (names_of js) id) off).0 (absent js (or_false (id_eq id y) (has_id (names_of js) id) off).1)
 
 -- ---- it is named once
 
@@ -143,10 +138,10 @@ module _ (opening : List Object) (id : ObjectId) where
   pub spot : (js : Joined) → repeats id_eq (names_of js) ≡ false → Spot opening id js
   spot [] once = is_absent (record { begins = refl; writes = refl; assigned = refl })
   spot ((inputs.Pure bytes, o) ∷ js) once = plain_spot js (inputs.Pure bytes) o refl refl refl (spot js once)
-  spot ((inputs.Owned r, o) ∷ js) once = plain_spot js (inputs.Owned r) o refl refl refl (spot js (or_both (has_id (names_of js) r.id) (repeats id_eq (names_of js)) once).1)
-  spot ((inputs.Immutable r, o) ∷ js) once = plain_spot js (inputs.Immutable r) o refl refl refl (spot js (or_both (has_id (names_of js) r.id) (repeats id_eq (names_of js)) once).1)
+  spot ((inputs.Owned r, o) ∷ js) once = plain_spot js (inputs.Owned r) o refl refl refl (spot js (or_false (has_id (names_of js) r.id) (repeats id_eq (names_of js)) once).1)
+  spot ((inputs.Immutable r, o) ∷ js) once = plain_spot js (inputs.Immutable r) o refl refl refl (spot js (or_false (has_id (names_of js) r.id) (repeats id_eq (names_of js)) once).1)
   spot ((inputs.Shared y n m, o) ∷ js) once =
-      go (id_eq id y) refl (or_both (has_id (names_of js) y) (repeats id_eq (names_of js)) once).0 (spot js (or_both (has_id (names_of js) y) (repeats id_eq (names_of js)) once).1)
+      go (id_eq id y) refl (or_false (has_id (names_of js) y) (repeats id_eq (names_of js)) once).0 (spot js (or_false (has_id (names_of js) y) (repeats id_eq (names_of js)) once).1)
     where
       go : (b : Bool) → id_eq id y ≡ b → has_id (names_of js) y ≡ false → Spot opening id js → Spot opening id ((inputs.Shared y n m, o) ∷ js)
       go true is first rest = here_spot js y n m o (sym (id_same id y is)) (absent opening id js (ap (has_id (names_of js)) (id_same id y is) ∙ first))
@@ -165,18 +160,18 @@ module _ (opening : List Object) where
   shared_begins : (js : Joined) (y : ObjectId) (n : ℕ) (m : Bool) (o : Option Digest) (xs : List Assigned) → list_any (of_id y) xs ≡ false → Each (Begins opening js) xs → Each (Begins opening ((inputs.Shared y n m, o) ∷ js)) xs
   shared_begins js y n m o [] off all = tt
   shared_begins js y n m o (x ∷ xs) off all =
-      let b : (id_eq y x.id ≡ false) × (list_any (of_id y) xs ≡ false) = or_both (id_eq y x.id) (list_any (of_id y) xs) off in
+      let b : (id_eq y x.id ≡ false) × (list_any (of_id y) xs ≡ false) = or_false (id_eq y x.id) (list_any (of_id y) xs) off in
       (skip opening x.id js (inputs.Shared y n m) o (other opening x.id y n m o (id_turned x.id y ∙ b.0)) ∙ all.0, shared_begins js y n m o xs b.1 all.1)
 
   pub each_begins : (js : Joined) → repeats id_eq (names_of js) ≡ false → Each (Begins opening js) (filter_map (begun opening) js)
   each_begins [] once = tt
   each_begins ((inputs.Pure bytes, o) ∷ js) once = plain_begins js (inputs.Pure bytes) o (λ id. refl) (filter_map (begun opening) js) (each_begins js once)
   each_begins ((inputs.Owned r, o) ∷ js) once =
-      plain_begins js (inputs.Owned r) o (λ id. refl) (filter_map (begun opening) js) (each_begins js (or_both (has_id (names_of js) r.id) (repeats id_eq (names_of js)) once).1)
+      plain_begins js (inputs.Owned r) o (λ id. refl) (filter_map (begun opening) js) (each_begins js (or_false (has_id (names_of js) r.id) (repeats id_eq (names_of js)) once).1)
   each_begins ((inputs.Immutable r, o) ∷ js) once =
-      plain_begins js (inputs.Immutable r) o (λ id. refl) (filter_map (begun opening) js) (each_begins js (or_both (has_id (names_of js) r.id) (repeats id_eq (names_of js)) once).1)
+      plain_begins js (inputs.Immutable r) o (λ id. refl) (filter_map (begun opening) js) (each_begins js (or_false (has_id (names_of js) r.id) (repeats id_eq (names_of js)) once).1)
   each_begins ((inputs.Shared y n m, o) ∷ js) once =
-      let b : (has_id (names_of js) y ≡ false) × (repeats id_eq (names_of js) ≡ false) = or_both (has_id (names_of js) y) (repeats id_eq (names_of js)) once in (
+      let b : (has_id (names_of js) y ≡ false) × (repeats id_eq (names_of js) ≡ false) = or_false (has_id (names_of js) y) (repeats id_eq (names_of js)) once in (
         ap (λ c. first_some (where_true c (begins opening y n o) ∷ first_of (beginning opening y) js ∷ [])) (id_self y),
         shared_begins js y n m o (filter_map (begun opening) js) (absent opening y js b.0).assigned (each_begins js b.1),
       )
@@ -203,15 +198,6 @@ objects_write (inputs.Owned r ∷ is) = objects_write is
 objects_write (inputs.Immutable r ∷ is) = objects_write is
 objects_write (inputs.Shared y n true ∷ is) = ap (λ xs. y ∷ xs) (objects_write is)
 objects_write (inputs.Shared y n false ∷ is) = objects_write is
-
-all_none : {A : Type 0} (cases : List (Option A)) → first_some cases ≡ None → Each (λ (x : Option A). x ≡ None) cases
-all_none [] e = tt
-all_none (None ∷ cases) e = (refl, all_none cases e)
-all_none (Some x ∷ cases) e = absurd (cc)
-
-where_false : {A : Type 0} (b : Bool) (x : A) → where_true b x ≡ None → b ≡ false
-where_false true x e = absurd (cc)
-where_false false x e = refl
 
 names_once : (t : Transaction) → shape_fault t ≡ None → repeats id_eq (named_ids t) ≡ false
 unfolding shape_fault

@@ -8,6 +8,8 @@ use Rattle.indexmap.specs.IndexMap.{insert_entry}
 use Rattle.chain_types.specs.declared.objects.Object.{Object}
 use Rattle.chain_types.specs.declared.objects.ObjectId.{ObjectId}
 use Rattle.chain_types.specs.Equal.{id_eq}
+use Rattle.protocol_spec.proofs.Equality.{id_turned}
+use Rattle.protocol_spec.proofs.Truth.{or_false}
 use Rattle.protocol_spec.specs.Chain.Words.{Each, repeats}
 use Rattle.protocol_spec.specs.Member.Admission.{is_shared_object, nothing_admitted, opening_object}
 use Rattle.tables.proofs.Lookups.{goes_last}
@@ -16,7 +18,6 @@ use Rattle.version_assign.specs.declared.book.Row.{Row}
 use Rattle.version_assign.specs.Books.{HasRoom, IsKept, IsOpening, object_in, row_at, shown}
 use Rattle.version_assign.specs.Calls.{Admitting, id_of, is_shared_one, opened}
 use Rattle.version_assign.specs.Steps.{with_all_shared}
-use Rattle.version_assign.proofs.Naming.{id_turned}
 use Rattle.version_assign.proofs.Parts.{AreKept, Has, Parts, kept_as, shown_as}
 
 abbrev pub keyed : Object → ObjectId × Object
@@ -31,11 +32,6 @@ looked_up (o ∷ os) id = by (id_eq id o.id) (looked_up os id)
     by true more = refl
     by false more = more
 
-or_both : (a b : Bool) → (a || b) ≡ false → (a ≡ false) × (b ≡ false)
-or_both false false h = (refl, refl)
-or_both false true h = absurd (cc)
-or_both true b h = absurd (cc)
-
 -- no id of the rest is among these
 abbrev Apart : List Object → List Object → Type 0
 Apart front rest = Each (λ (o : Object). list_any (id_eq o.id) (map id_of front) ≡ false) rest
@@ -43,7 +39,7 @@ Apart front rest = Each (λ (o : Object). list_any (id_eq o.id) (map id_of front
 apart_more : (front rest : List Object) (o : Object) → Apart front rest → list_any (id_eq o.id) (map id_of rest) ≡ false → Apart (front ++ o ∷ []) rest
 apart_more front [] o apart off = tt
 apart_more front (x ∷ xs) o apart off =
-    let b : (id_eq o.id x.id ≡ false) × (list_any (id_eq o.id) (map id_of xs) ≡ false) = or_both (id_eq o.id x.id) (list_any (id_eq o.id) (map id_of xs)) off in (
+    let b : (id_eq o.id x.id ≡ false) × (list_any (id_eq o.id) (map id_of xs) ≡ false) = or_false (id_eq o.id x.id) (list_any (id_eq o.id) (map id_of xs)) off in (
       ap (list_any (id_eq x.id)) (maps front)
           ∙ list_any-append (id_eq x.id) (map id_of front) (o.id ∷ [])
           ∙ ap (λ c. c || (id_eq x.id o.id || false)) apart.0
@@ -58,7 +54,7 @@ apart_more front (x ∷ xs) o apart off =
 all_shared : (front rest : List Object) → Apart front rest → repeats id_eq (map id_of rest) ≡ false → with_all_shared (map keyed front) rest ≡ map keyed (front ++ filter is_shared_one rest)
 all_shared front [] apart once = ap (map keyed) (sym (append-nil front))
 all_shared front (o ∷ os) apart once =
-    let b : (list_any (id_eq o.id) (map id_of os) ≡ false) × (repeats id_eq (map id_of os) ≡ false) = or_both (list_any (id_eq o.id) (map id_of os)) (repeats id_eq (map id_of os)) once in
+    let b : (list_any (id_eq o.id) (map id_of os) ≡ false) × (repeats id_eq (map id_of os) ≡ false) = or_false (list_any (id_eq o.id) (map id_of os)) (repeats id_eq (map id_of os)) once in
     go (is_shared_one o) (all_shared front os apart.1 b.1) (all_shared (front ++ o ∷ []) os (apart_more front os o apart.1 b.0) b.1)
   where
     maps : (xs : List Object) → map keyed (xs ++ o ∷ []) ≡ map keyed xs ++ keyed o ∷ []

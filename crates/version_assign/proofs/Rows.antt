@@ -6,13 +6,15 @@ use Rattle.std.specs.List.{list_any}
 use Rattle.digest_core.specs.declared.Digest.{Digest}
 use Rattle.chain_types.specs.Equal.{digest_eq}
 use Rattle.answer_types.specs.declared.answers.Held.{Held}
+use Rattle.protocol_spec.proofs.Equality.{digest_same}
+use Rattle.protocol_spec.proofs.Truth.{or_false_left, or_false_right}
 use Rattle.protocol_spec.specs.Chain.Words.{Each, repeats}
 use Rattle.protocol_spec.specs.Member.Admission.{not_of}
 use Rattle.version_assign.specs.declared.book.Row.{Row}
 use Rattle.version_assign.specs.Books.{Aligned, IsSkipped, held_in, pending_in, row_at}
 use Rattle.version_assign.specs.Calls.{Admitting}
 use Rattle.version_assign.specs.Steps.{is_free_one}
-use Rattle.version_assign.proofs.Names.{digest_same, digest_self}
+use Rattle.version_assign.proofs.Names.{digest_self}
 
 pub clash : true ≡ false → ⊥
 clash f = cc
@@ -93,14 +95,6 @@ none_same (Some x ∷ rows) (k ∷ ks) h all off = go (digest_eq h.digest k) ref
         ap (λ b. cond (not b) (x.held ∷ filter (not_of h) (pending_in rows)) (filter (not_of h) (pending_in rows))) (ap (digest_eq h.digest) all.0 ∙ is)
         ∙ ap (λ hs. x.held ∷ hs) (more e)
 
-first_false : (b c : Bool) → (b || c) ≡ false → b ≡ false
-first_false true c e = absurd (cc)
-first_false false c e = refl
-
-second_false : (b c : Bool) → (b || c) ≡ false → c ≡ false
-second_false true c e = absurd (cc)
-second_false false c e = e
-
 pub out_pending : (rows : List (Option Row)) (keys : List Digest) (p : ℕ) (r : Row) → Aligned rows keys → repeats digest_eq keys ≡ false → row_at rows p ≡ Some r
     → pending_in (slice_set rows p None) ≡ filter (not_of r.held) (pending_in rows)
 out_pending [] keys zero r all apart at = absurd (cc)
@@ -110,18 +104,18 @@ out_pending (None ∷ rows) (k ∷ ks) zero r all apart at = absurd (cc)
 out_pending (Some x ∷ rows) (k ∷ ks) zero r all apart at =
     sym (
     ap (λ b. cond (not b) (x.held ∷ filter (not_of r.held) (pending_in rows)) (filter (not_of r.held) (pending_in rows))) (ap (λ (y : Row). digest_eq r.held.digest y.held.digest) (same at) ∙ digest_self r.held.digest)
-    ∙ none_same rows ks r.held all.1 (ap (λ (d : Digest). list_any (digest_eq d) ks) (ap (λ (y : Row). y.held.digest) (sym (same at)) ∙ all.0) ∙ first_false (list_any (digest_eq k) ks) (repeats digest_eq ks) apart))
+    ∙ none_same rows ks r.held all.1 (ap (λ (d : Digest). list_any (digest_eq d) ks) (ap (λ (y : Row). y.held.digest) (sym (same at)) ∙ all.0) ∙ or_false_left (list_any (digest_eq k) ks) (repeats digest_eq ks) apart))
   where
     same : Some x ≡ Some r → x ≡ r
     same f = cc
-out_pending (None ∷ rows) (k ∷ ks) (suc p) r all apart at = out_pending rows ks p r all (second_false (list_any (digest_eq k) ks) (repeats digest_eq ks) apart) at
+out_pending (None ∷ rows) (k ∷ ks) (suc p) r all apart at = out_pending rows ks p r all (or_false_right (list_any (digest_eq k) ks) (repeats digest_eq ks) apart) at
 out_pending (Some x ∷ rows) (k ∷ ks) (suc p) r all apart at =
-    go (digest_eq r.held.digest x.held.digest) refl (has_key rows ks p r all.1 at) (out_pending rows ks p r all.1 (second_false (list_any (digest_eq k) ks) (repeats digest_eq ks) apart) at)
+    go (digest_eq r.held.digest x.held.digest) refl (has_key rows ks p r all.1 at) (out_pending rows ks p r all.1 (or_false_right (list_any (digest_eq k) ks) (repeats digest_eq ks) apart) at)
   where
     go : (b : Bool) → digest_eq r.held.digest x.held.digest ≡ b → list_any (digest_eq r.held.digest) ks ≡ true → pending_in (slice_set rows p None) ≡ filter (not_of r.held) (pending_in rows)
         → x.held ∷ pending_in (slice_set rows p None) ≡ filter (not_of r.held) (x.held ∷ pending_in rows)
     go true is has more =
-        absurd (clash (sym has ∙ ap (λ (d : Digest). list_any (digest_eq d) ks) (digest_same r.held.digest x.held.digest is ∙ all.0) ∙ first_false (list_any (digest_eq k) ks) (repeats digest_eq ks) apart))
+        absurd (clash (sym has ∙ ap (λ (d : Digest). list_any (digest_eq d) ks) (digest_same r.held.digest x.held.digest is ∙ all.0) ∙ or_false_left (list_any (digest_eq k) ks) (repeats digest_eq ks) apart))
     go false is has more = ap (λ hs. x.held ∷ hs) more ∙ sym (ap (λ b. cond (not b) (x.held ∷ filter (not_of r.held) (pending_in rows)) (filter (not_of r.held) (pending_in rows))) is)
 
 -- ---- what is known

@@ -13,17 +13,16 @@ use Rattle.chain_types.specs.Equal.{id_eq}
 use Rattle.chain_messages.specs.declared.messages.Certificate.{Certificate}
 use Rattle.answer_types.specs.declared.answers.Assigned.{Assigned}
 use Rattle.answer_types.specs.declared.answers.Held.{Held}
+use Rattle.protocol_spec.proofs.Equality.{id_same, id_turned}
+use Rattle.protocol_spec.proofs.ListLemmas.{each_push}
+use Rattle.protocol_spec.proofs.Truth.{or_false}
 use Rattle.protocol_spec.specs.Chain.Certificates.{Rules}
 use Rattle.protocol_spec.specs.Chain.Keys.{is_shared, objects_of, version_limit}
 use Rattle.protocol_spec.specs.Chain.Words.{Each, first_of, first_some, last_where, repeats, where_true}
-use Rattle.protocol_spec.proofs.ListLemmas.{each-push}
 use Rattle.protocol_spec.specs.Member.Admission.{Admission, Admitted, Standing, admit, assigned_to, assignment, assignments, beginning, beginning_by, cert_of, current, entered, is_dropped, is_free, is_shared_object, joined_inputs, lacks_shared, not_of, opening_object, passed_mark, since_mark, standing_after, standing_or, take_free, taken, taken_as, taken_next, taken_version, version_at_admission, version_in, writes}
 use Rattle.protocol_spec.specs.Member.Sequence.{Sequence, What, commits, counted_as, counts, cut_of, ends_with_member, ignores, nothing_seen, numbered, saw, seen, takes, what_of, with_entry, with_what}
 use Rattle.version_assign.specs.Calls.{id_of, is_shared_one}
 use Rattle.version_assign.specs.Sharing.{HasShared, IsServed, KeepsShared, ServesAs, SharedServe, if_shared, lacks_any_shared, shared_of}
-use Rattle.version_assign.proofs.Maps.{or_false}
-use Rattle.version_assign.proofs.Names.{id_same}
-use Rattle.version_assign.proofs.Naming.{id_turned}
 
 -- ---- the objects that are found
 
@@ -153,7 +152,7 @@ module _ (shared opening : List Object) (found : KeepsShared shared opening) whe
   either a h all off true = (refl, all)
   either a h all off false = (
     ap (λ (x : Admitted). let y : Admission = record a { admitted = a.admitted ++ x ∷ []; pending = filter (not_of h) a.pending } in y) (same_admit a.admitted h all off),
-    each-push (IsServed opening) a.admitted (admit opening a.admitted h) all (one_served a h off),
+    each_push (IsServed opening) a.admitted (admit opening a.admitted h) all (one_served a h off),
   )
 
   one_taken : (a : Admission) (h : Held) → HasShared opening a → Same (taken shared a h) (taken opening a h)

@@ -15,10 +15,11 @@ use Rattle.chain_types.specs.Equal.{digest_eq, id_eq}
 use Rattle.chain_messages.specs.declared.messages.Certificate.{Certificate}
 use Rattle.answer_types.specs.declared.answers.Assigned.{Assigned}
 use Rattle.answer_types.specs.declared.answers.Held.{Held}
+use Rattle.protocol_spec.proofs.Equality.{digest_turned}
 use Rattle.protocol_spec.specs.Chain.Words.{Each}
 use Rattle.protocol_spec.specs.Chain.Tests.{has_id}
 use Rattle.protocol_spec.specs.Chain.Keys.{version_limit}
-use Rattle.protocol_spec.proofs.ListLemmas.{and-second, any-push, each-push, filter-each, not-true}
+use Rattle.protocol_spec.proofs.ListLemmas.{and-second, any-push, filter-each, not-true, each_push}
 use Rattle.protocol_spec.specs.Member.Admission.{Admission, Admitted, admit, assignments, has_room, is_admitted, is_dropped, is_free, is_known, is_origin_admitted, joined_inputs, lacks_shared, mutable_ids, not_of, opening_object, is_shared_object, since_mark, taken_as, version_at_admission, writes}
 use Rattle.tables.proofs.Lookups.{goes_last}
 use Rattle.version_assign.specs.declared.book.Admit.{Admit}
@@ -28,7 +29,7 @@ use Rattle.version_assign.specs.Books.{stands, AreRows, HasRoom, IsKept, IsLet, 
 use Rattle.version_assign.specs.Calls.{Admitting, with_taken}
 use Rattle.version_assign.specs.Lines.{LineMap, begun, filled, greatest_of, line_at, move_all}
 use Rattle.version_assign.specs.Steps.{Admits, Drops, Gives, Skips, TakesOut, is_free_one, judged}
-use Rattle.version_assign.proofs.Finding.{admitted_is, turned}
+use Rattle.version_assign.proofs.Finding.{admitted_is}
 use Rattle.version_assign.proofs.Lining.{KeepsLines, lined_more}
 use Rattle.version_assign.proofs.Moving.{move_keeps, names_all, standing_after_one, writers_after_one, lined_filled, all_at}
 use Rattle.version_assign.proofs.Naming.{Joined, Spot, each_begins, mutables_of, once, spot, writes_are}
@@ -179,7 +180,7 @@ module _ (old : Book) (kept : IsKept old) (p : ℕ) (r : Row) (at : row_at old.r
     known = λ tx.
         kept.known tx ∙ sym (
         ap (λ b. is_admitted a.admitted tx || b || list_any (of_tx tx) (pending_in left))
-        (list_any-append (digest_eq tx) old.dropped.items (r.held.digest ∷ []) ∙ ap (λ b. list_any (digest_eq tx) old.dropped.items || b) (or_nothing (digest_eq tx r.held.digest) ∙ turned tx r.held.digest))
+        (list_any-append (digest_eq tx) old.dropped.items (r.held.digest ∷ []) ∙ ap (λ b. list_any (digest_eq tx) old.dropped.items || b) (or_nothing (digest_eq tx r.held.digest) ∙ digest_turned tx r.held.digest))
         ∙ (knows tx).1);
     new = subst (Each (IsNew a.admitted)) (sym pending_left) (filter-each (IsNew a.admitted) (IsNew a.admitted) (not_of r.held) a.pending (λ x t q. q) kept.new);
     waiting = waiting_left n is;
@@ -274,7 +275,7 @@ module _ (old : Book) (kept : IsKept old) (p : ℕ) (r : Row) (at : row_at old.r
 
   all_lets : Each (IsLet moved_lines) (old.admitted.entries ++ let_in ∷ [])
   all_lets =
-      each-push (IsLet moved_lines) old.admitted.entries let_in
+      each_push (IsLet moved_lines) old.admitted.entries let_in
       (lets_more old.lines.entries moved_lines (move_keeps version r.held.digest assigned old.lines.entries) old.admitted.entries kept.lets)
       (record {
         lined = lined_more old.lines.entries moved_lines assigned (move_keeps version r.held.digest assigned old.lines.entries) (lined_filled old.lines.entries old.lines.entries r.assigned.items row.lined);

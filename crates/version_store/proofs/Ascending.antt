@@ -3,21 +3,22 @@ use Rattle.std.proofs.Common.{◌≡◌, Bool, true, false, cond, ◌&&◌, ◌|
 use Rattle.std.specs.Prelude.{fold}
 use Rattle.std.specs.List.{AllByRecursion, IsDistinct, list_any}
 use Rattle.std.specs.Map.{lookup, keys_of}
-use Rattle.std.specs.Ordering.{eq_by_cmp, is_eq, is_lt}
+use Rattle.std.specs.Ordering.{is_eq, is_lt}
 use Rattle.std.specs.declared.cmp.Ordering.{Ordering}
 use Rattle.std.specs.declared.cmp.Ordering.TheVariants.{Less, Equal, Greater}
 use Rattle.std.specs.Cmp.{IsTotalOrder}
-use Rattle.std.specs.Cmp.Lexicographic.{on_texts, texts_ties}
+use Rattle.std.specs.Cmp.Lexicographic.{on_texts}
 use Rattle.std.specs.FinMap.Entries.{below_all, by_order, find, find-put, is_sorted, is_sorted-put, put, same_entries}
 use Rattle.std.proofs.lemmas.Map.Keys.{IsDistinct-tail}
 use Rattle.chain_types.specs.declared.objects.Object.{Object}
 use Rattle.chain_types.specs.declared.objects.ObjectId.{ObjectId}
 use Rattle.chain_types.specs.Equal.{id_eq}
+use Rattle.protocol_spec.proofs.Equality.{ids_unique, ids_tie, id_same}
+use Rattle.protocol_spec.proofs.Truth.{or_else}
 use Rattle.protocol_spec.specs.Chain.Words.{Each}
 use Rattle.protocol_spec.specs.Member.Versions.{id_cmp, with_live}
 use Rattle.version_store.specs.Bases.{object_under}
-use Rattle.version_store.proofs.Equality.{id_same, id_self}
-use Rattle.version_store.proofs.Lists.{or_else}
+use Rattle.version_store.proofs.Equality.{id_self}
 use Rattle.version_store.proofs.Merging.{HasId}
 use Rattle.version_store.proofs.Rows.{AreApart, IsOwn, none_behind}
 
@@ -28,12 +29,6 @@ Entries = List (ObjectId × Object)
 
 ids_total : IsTotalOrder id_cmp
 ids_total = on_texts (λ (i : ObjectId). i.0.0)
-
-ids_tie : (a b : ObjectId) → id_eq a b ≡ eq_by_cmp id_cmp a b
-ids_tie a b = texts_ties a.0.0 b.0.0
-
-equal_ids : (a b : ObjectId) → id_cmp a b ≡ Equal → a ≡ b
-equal_ids a b is = id_same a b (ids_tie a b ∙ ap is_eq is)
 
 -- a search in order is a look-up
 pub found_under : (id : ObjectId) (entries : Entries) → find id_cmp id entries ≡ lookup (id_eq id) entries
@@ -52,7 +47,7 @@ own_put o (e ∷ es) own = by (id_cmp o.id e.0) refl (own_put o es own.1)
   where
     by : (r : Ordering) → id_cmp o.id e.0 ≡ r → Each IsOwn (put id_cmp o.id o es) → Each IsOwn (by_order r ((o.id, o) ∷ e ∷ es) ((e.0, o) ∷ es) (e ∷ put id_cmp o.id o es))
     by Less is more = (refl, own)
-    by Equal is more = (equal_ids o.id e.0 is, own.1)
+    by Equal is more = (ids_unique o.id e.0 is, own.1)
     by Greater is more = (own.0, more)
 
 one_more : (entries : Entries) (o : Option Object) → InOrder entries → InOrder (with_live entries o)
@@ -128,7 +123,7 @@ twice (Some o) rest = refl
 
 -- two lists in order are one where the same is found
 pub same_found : (xs ys : List (Option Object)) → ((id : ObjectId) → find id_cmp id (fold with_live [] xs) ≡ find id_cmp id (fold with_live [] ys)) → fold with_live [] xs ≡ fold with_live [] ys
-same_found xs ys same = same_entries id_cmp ids_total equal_ids (fold with_live [] xs) (fold with_live [] ys) (in_order xs).sorted (in_order ys).sorted same
+same_found xs ys same = same_entries id_cmp ids_total ids_unique (fold with_live [] xs) (fold with_live [] ys) (in_order xs).sorted (in_order ys).sorted same
 
 -- behind the objects of these ids
 module _ (object_of : ObjectId → Option Object) (has : (id : ObjectId) → HasId id (object_of id)) where

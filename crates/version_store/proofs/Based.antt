@@ -10,6 +10,7 @@ use Rattle.chain_types.specs.declared.objects.ObjectKey.{ObjectKey}
 use Rattle.chain_types.specs.declared.objects.Producer.{Producer}
 use Rattle.chain_types.specs.declared.objects.Producer.TheVariants as producers
 use Rattle.chain_types.specs.Equal.{id_eq, key_eq}
+use Rattle.protocol_spec.proofs.Truth.{or_else, or_false, and_true, some_mapped}
 use Rattle.protocol_spec.specs.Chain.Tests.{producer_eq}
 use Rattle.protocol_spec.specs.Chain.Words.{repeats}
 use Rattle.protocol_spec.specs.Chain.Keys.{object_key}
@@ -22,9 +23,8 @@ use Rattle.version_store.specs.Makers.{made_by}
 use Rattle.version_store.specs.Kept.{stored}
 use Rattle.version_store.specs.Bases.{IsHeld, at_version, based, over, stored_over}
 use Rattle.version_store.proofs.Held.{got, kept_of}
-use Rattle.version_store.proofs.Lists.{or_else, or_false, and_true, not_true}
+use Rattle.version_store.proofs.Lists.{not_true}
 use Rattle.version_store.proofs.Merging.{merge, newest_both, some_merged}
-use Rattle.version_store.proofs.Executions.{some_mapped}
 use Rattle.version_store.proofs.Makers.{found_in, found_opened}
 
 -- the versions of a store are those of the objects, and then those of the maps
@@ -42,7 +42,7 @@ find_both test (x ∷ xs) ys = by (test x) (find_both test xs ys)
     by true more = refl
     by false more = more
 
-any_both : {A : Type 0} → (test : A → Bool) (xs ys : List A) → list_any test (xs ++ ys) ≡ (list_any test xs || list_any test ys)
+pub any_both : {A : Type 0} → (test : A → Bool) (xs ys : List A) → list_any test (xs ++ ys) ≡ (list_any test xs || list_any test ys)
 any_both test [] ys = refl
 any_both test (x ∷ xs) ys = by (test x) (any_both test xs ys)
   where

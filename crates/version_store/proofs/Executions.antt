@@ -8,11 +8,13 @@ use Rattle.chain_types.specs.declared.objects.Object.{Object}
 use Rattle.chain_types.specs.Equal.{digest_eq}
 use Rattle.effects_core.specs.declared.effects.Effects.{Effects}
 use Rattle.effects_core.specs.Effects.{digest_of_effects}
+use Rattle.protocol_spec.proofs.Equality.{digest_same, test_turned}
+use Rattle.protocol_spec.proofs.Truth.{some_mapped}
 use Rattle.protocol_spec.specs.Member.Versions.{Execution, execution_of}
 use Rattle.version_store.specs.declared.maps.Ran.{Ran}
 use Rattle.version_store.specs.Stores.{Stored, with_execution}
 use Rattle.version_store.specs.Kept.{executions, ran_as, stored_as, written_in}
-use Rattle.version_store.proofs.Equality.{digest_same, digest_self, turn}
+use Rattle.version_store.proofs.Equality.{digest_self}
 
 none_left : (objects : List Object) → 0 ≡ length objects → objects ≡ []
 none_left [] h = refl
@@ -52,7 +54,7 @@ pub lookup_ran : (ran : List (Digest × Ran)) (objects : List Object) (tx : Dige
     → option_map (λ (r : Ran). r.effects) (lookup (digest_eq tx) ran) ≡ known_as (execution_of (executions ran objects) tx)
 lookup_ran [] objects tx = refl
 lookup_ran (e ∷ es) objects tx =
-    ap (λ b. option_map (λ (r : Ran). r.effects) (cond b (Some e.1) (lookup (digest_eq tx) es))) (turn digest_eq digest_same digest_self tx e.0)
+    ap (λ b. option_map (λ (r : Ran). r.effects) (cond b (Some e.1) (lookup (digest_eq tx) es))) (test_turned digest_eq digest_same digest_self tx e.0)
     ∙ by (digest_eq e.0 tx) (lookup_ran es (drop e.1.written objects) tx)
   where
     by : (b : Bool) → option_map (λ (r : Ran). r.effects) (lookup (digest_eq tx) es) ≡ known_as (execution_of (executions es (drop e.1.written objects)) tx)
@@ -67,10 +69,6 @@ digest_found None None h = refl
 digest_found (Some r) (Some x) h = cc
 digest_found None (Some x) h = absurd (cc)
 digest_found (Some r) None h = absurd (cc)
-
-pub some_mapped : {A B : Type 0} → (f : A → B) (o : Option A) → is_some (option_map f o) ≡ is_some o
-some_mapped f None = refl
-some_mapped f (Some x) = refl
 
 -- a transaction is kept where it was executed
 pub has_ran : (ran : List (Digest × Ran)) (objects : List Object) (tx : Digest) → is_some (lookup (digest_eq tx) ran) ≡ is_some (execution_of (executions ran objects) tx)

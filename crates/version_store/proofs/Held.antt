@@ -11,6 +11,9 @@ use Rattle.chain_types.specs.declared.objects.ObjectKey.{ObjectKey}
 use Rattle.chain_types.specs.declared.objects.Producer.{Producer}
 use Rattle.chain_types.specs.declared.objects.Producer.TheVariants as producers
 use Rattle.chain_types.specs.Equal.{key_eq}
+use Rattle.protocol_spec.proofs.Equality.{key_same, test_turned}
+use Rattle.protocol_spec.proofs.ListLemmas.{any_last}
+use Rattle.protocol_spec.proofs.Truth.{or_false, and_true}
 use Rattle.protocol_spec.specs.Chain.Words.{repeats}
 use Rattle.protocol_spec.specs.Chain.Keys.{object_key}
 use Rattle.protocol_spec.specs.Member.Versions.{Execution, Version, versions, is_key, version_at, object_in, opened, written_by}
@@ -19,8 +22,8 @@ use Rattle.version_store.specs.declared.maps.Kept.{Kept}
 use Rattle.version_store.specs.Stores.{are_new}
 use Rattle.version_store.specs.Kept.{kept_as, kept_object}
 use Rattle.version_store.specs.Steps.{with_versions}
-use Rattle.version_store.proofs.Equality.{key_same, key_self, turn}
-use Rattle.version_store.proofs.Lists.{any_push, or_false, and_true, not_true}
+use Rattle.version_store.proofs.Equality.{key_self}
+use Rattle.version_store.proofs.Lists.{not_true}
 
 abbrev pub kept_of : Version → Kept
 kept_of v = (kept_as v).1
@@ -29,7 +32,7 @@ kept_of v = (kept_as v).1
 pub lookup_kept : (held : List Version) (key : ObjectKey) → lookup (key_eq key) (map kept_as held) ≡ option_map kept_of (version_at held key)
 lookup_kept [] key = refl
 lookup_kept (v ∷ vs) key =
-    ap (λ b. cond b (Some (kept_of v)) (lookup (key_eq key) (map kept_as vs))) (turn key_eq key_same key_self key (object_key v.object))
+    ap (λ b. cond b (Some (kept_of v)) (lookup (key_eq key) (map kept_as vs))) (test_turned key_eq key_same key_self key (object_key v.object))
     ∙ by (is_key key v) (lookup_kept vs key)
   where
     by : (b : Bool) → lookup (key_eq key) (map kept_as vs) ≡ option_map kept_of (version_at vs key)
@@ -47,7 +50,7 @@ absent : (held : List Version) (key : ObjectKey) → holds_key held key ≡ fals
 absent [] key h = refl
 absent (v ∷ vs) key h =
     let p : (is_key key v ≡ false) × (holds_key vs key ≡ false) = or_false (is_key key v) (holds_key vs key) h in
-    ap (λ b. is_some (cond b (Some (kept_of v)) (lookup (key_eq key) (map kept_as vs)))) (turn key_eq key_same key_self key (object_key v.object) ∙ p.0)
+    ap (λ b. is_some (cond b (Some (kept_of v)) (lookup (key_eq key) (map kept_as vs)))) (test_turned key_eq key_same key_self key (object_key v.object) ∙ p.0)
     ∙ absent vs key p.1
 
 -- keys that no version has, and that differ from the key of one more, are still new behind it
@@ -57,7 +60,7 @@ still_new held v [] h i = refl
 still_new held v (k ∷ ks) h i =
     let p : (holds_key held k ≡ false) × (list_any (holds_key held) ks ≡ false) = or_false (holds_key held k) (list_any (holds_key held) ks) h in
     let q : (key_eq (object_key v.object) k ≡ false) × (list_any (key_eq (object_key v.object)) ks ≡ false) = or_false (key_eq (object_key v.object) k) (list_any (key_eq (object_key v.object)) ks) i in
-    ap (λ b. b || list_any (holds_key (held ++ v ∷ [])) ks) (any_push (is_key k) held v ∙ ap (λ b. b || is_key k v) p.0 ∙ q.0)
+    ap (λ b. b || list_any (holds_key (held ++ v ∷ [])) ks) (any_last (is_key k) held v ∙ ap (λ b. b || is_key k v) p.0 ∙ q.0)
     ∙ still_new held v ks p.1 q.1
 
 abbrev pub made : Producer → Object → Version

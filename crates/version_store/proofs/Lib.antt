@@ -10,7 +10,7 @@ mod Makers
 mod Reverted
 mod Merging
 mod Rows
-mod Based
+pub mod Based
 mod Ascending
 mod Turned
 mod Opened

@@ -1,17 +1,13 @@
 -- Look-ups and searches in lists that grow at their end.
-use Rattle.std.proofs.Common.{◌≡◌, Bool, true, false, cond, ◌&&◌, ◌||◌, not, List, [], ◌∷◌, ◌++◌, Option, Some, None, refl, ap, sym, ◌∙◌}
-use Rattle.std.specs.Prelude.{find}
+use Rattle.std.proofs.Common.{◌≡◌, Bool, true, false, cond, ◌||◌, not, List, [], ◌∷◌, ◌++◌, Some, refl, ap, sym, ◌∙◌}
 use Rattle.std.specs.List.{list_any}
 use Rattle.std.specs.Map.{lookup}
 use Rattle.indexmap.specs.IndexMap.{insert_entry}
 use Rattle.indexmap.specs.IndexSet.{insert_all, insert_key}
+use Rattle.protocol_spec.proofs.ListLemmas.{any_last}
 
 pub clash : true ≡ false → ⊥
 clash h = cc
-
-abbrev pub or_else : {A : Type 0} → Option A → Option A → Option A
-or_else None y = y
-or_else (Some x) y = Some x
 
 -- a look-up behind an insertion
 module _ {K V : Type 0} (same : K → K → Bool) (one : (a b : K) → same a b ≡ true → a ≡ b) (self : (a : K) → same a a ≡ true) where
@@ -47,38 +43,6 @@ module _ {K V : Type 0} (same : K → K → Bool) (one : (a b : K) → same a b 
               ap (λ b. cond b (Some e.1) (cond (same q k) (Some v) (lookup (same q) es))) h
               ∙ sym (ap (λ b. cond (same q k) (Some v) (cond b (Some e.1) (lookup (same q) es))) h)
 
--- searches behind one more element
-pub find_push : {A : Type 0} → (test : A → Bool) (xs : List A) (x : A) → find test (xs ++ x ∷ []) ≡ or_else (find test xs) (cond (test x) (Some x) None)
-find_push test [] x = refl
-find_push test (y ∷ ys) x = by (test y) (find_push test ys x)
-  where
-    by : (b : Bool) → find test (ys ++ x ∷ []) ≡ or_else (find test ys) (cond (test x) (Some x) None)
-        → cond b (Some y) (find test (ys ++ x ∷ [])) ≡ or_else (cond b (Some y) (find test ys)) (cond (test x) (Some x) None)
-    by true more = refl
-    by false more = more
-
-pub any_push : {A : Type 0} → (test : A → Bool) (xs : List A) (x : A) → list_any test (xs ++ x ∷ []) ≡ (list_any test xs || test x)
-any_push test [] x = by (test x)
-  where
-    by : (b : Bool) → (b || false) ≡ b
-    by true = refl
-    by false = refl
-any_push test (y ∷ ys) x = by (test y) (any_push test ys x)
-  where
-    by : (b : Bool) → list_any test (ys ++ x ∷ []) ≡ (list_any test ys || test x) → (b || list_any test (ys ++ x ∷ [])) ≡ ((b || list_any test ys) || test x)
-    by true more = refl
-    by false more = more
-
-pub or_false : (a b : Bool) → (a || b) ≡ false → (a ≡ false) × (b ≡ false)
-or_false false false h = (refl, refl)
-or_false false true h = absurd (cc)
-or_false true b h = absurd (cc)
-
-pub and_true : (a b : Bool) → (a && b) ≡ true → (a ≡ true) × (b ≡ true)
-and_true true true h = (refl, refl)
-and_true true false h = absurd (cc)
-and_true false b h = absurd (cc)
-
 pub not_true : (a : Bool) → not a ≡ true → a ≡ false
 not_true false h = refl
 not_true true h = absurd (cc)
@@ -101,7 +65,7 @@ module _ {K : Type 0} (same : K → K → Bool) (one : (a b : K) → same a b �
       by true there =
           ap (λ b. list_any (same q) (cond b ks (ks ++ k ∷ []))) there
           ∙ absorb (list_any (same q) ks) (same q k) (λ h. has ks h there)
-      by false there = ap (λ b. list_any (same q) (cond b ks (ks ++ k ∷ []))) there ∙ any_push (same q) ks k
+      by false there = ap (λ b. list_any (same q) (cond b ks (ks ++ k ∷ []))) there ∙ any_last (same q) ks k
 
   -- a key is among those that were put in, or was there before
   pub any_insert_all : (more ks : List K) (q : K) → list_any (same q) (insert_all same ks more) ≡ (list_any (same q) ks || list_any (same q) more)

@@ -9,6 +9,7 @@ use Rattle.chain_types.specs.declared.objects.ObjectKey.{ObjectKey}
 use Rattle.chain_types.specs.declared.objects.Producer.{Producer}
 use Rattle.chain_types.specs.declared.objects.Producer.TheVariants as producers
 use Rattle.chain_types.specs.Equal.{key_eq}
+use Rattle.protocol_spec.proofs.Equality.{key_same, test_turned}
 use Rattle.protocol_spec.specs.Chain.Tests.{producer_eq}
 use Rattle.protocol_spec.specs.Chain.Keys.{object_key}
 use Rattle.protocol_spec.specs.Member.Versions.{Version, is_key, object_in, opened, version_at}
@@ -16,7 +17,7 @@ use Rattle.protocol_spec.specs.Member.Rounds.{is_wanted}
 use Rattle.version_store.specs.declared.maps.Kept.{Kept}
 use Rattle.version_store.specs.Kept.{kept_as}
 use Rattle.version_store.specs.Makers.{made_by}
-use Rattle.version_store.proofs.Equality.{key_same, key_self, turn}
+use Rattle.version_store.proofs.Equality.{key_self}
 use Rattle.version_store.proofs.Held.{kept_of, lookup_kept}
 
 -- no version of the key is behind one of this key
@@ -25,7 +26,7 @@ none_behind : (key : ObjectKey) (p : Producer) (v : Version) (vs : List Version)
 none_behind key p v [] is apart = refl
 none_behind key p v (w ∷ vs) is apart =
     ap (λ b. cond (b && producer_eq w.producer p) (Some w) (find (is_wanted key (Some p)) vs))
-    (ap (λ k. key_eq (object_key w.object) k) (sym is) ∙ turn key_eq key_same key_self (object_key w.object) (object_key v.object) ∙ apart.0)
+    (ap (λ k. key_eq (object_key w.object) k) (sym is) ∙ test_turned key_eq key_same key_self (object_key w.object) (object_key v.object) ∙ apart.0)
     ∙ none_behind key p v vs is apart.1
 
 found_among : (key : ObjectKey) (p : Producer) (held : List Version) → IsDistinct key_eq (keys_of (map kept_as held))

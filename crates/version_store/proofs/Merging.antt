@@ -9,9 +9,10 @@ use Rattle.std.proofs.lemmas.Bool.Decides.{nat_tests}
 use Rattle.chain_types.specs.declared.objects.Object.{Object}
 use Rattle.chain_types.specs.declared.objects.ObjectId.{ObjectId}
 use Rattle.chain_types.specs.Equal.{id_eq}
+use Rattle.protocol_spec.proofs.Equality.{id_same, test_turned}
+use Rattle.protocol_spec.proofs.Truth.{or_false}
 use Rattle.protocol_spec.specs.Member.Versions.{Version, is_id, newer, newest, object_in}
-use Rattle.version_store.proofs.Equality.{id_same, id_self, turn}
-use Rattle.version_store.proofs.Lists.{or_false}
+use Rattle.version_store.proofs.Equality.{id_self}
 
 -- the newer of two that may be there
 abbrev pub merge : Option Object → Option Object → Option Object
@@ -97,7 +98,7 @@ none_of : (id : ObjectId) (held : List Version) → list_any (id_eq id) (map ver
 none_of id [] h = refl
 none_of id (v ∷ vs) h =
     let p : (id_eq id v.object.id ≡ false) × (list_any (id_eq id) (map version_id vs) ≡ false) = or_false (id_eq id v.object.id) (list_any (id_eq id) (map version_id vs)) h in
-    ap (λ b. cond b (v ∷ filter (is_id id) vs) (filter (is_id id) vs)) (turn id_eq id_same id_self v.object.id id ∙ p.0) ∙ none_of id vs p.1
+    ap (λ b. cond b (v ∷ filter (is_id id) vs) (filter (is_id id) vs)) (test_turned id_eq id_same id_self v.object.id id ∙ p.0) ∙ none_of id vs p.1
 
 pub newest_none : (id : ObjectId) (held : List Version) → list_any (id_eq id) (map version_id held) ≡ false → newest id held ≡ None
 newest_none id held h = ap (λ vs. fold newer None (map object_in vs)) (none_of id held h)

@@ -14,12 +14,15 @@ use Rattle.chain_types.specs.declared.objects.ObjectId.{ObjectId}
 use Rattle.chain_types.specs.declared.objects.ObjectKey.{ObjectKey}
 use Rattle.chain_types.specs.declared.objects.Producer.{Producer}
 use Rattle.chain_types.specs.Equal.{id_eq, key_eq}
+use Rattle.protocol_spec.proofs.Equality.{id_same, key_same, test_turned}
+use Rattle.protocol_spec.proofs.ListLemmas.{find_last, any_last}
+use Rattle.protocol_spec.proofs.Truth.{or_else}
 use Rattle.protocol_spec.specs.Chain.Tests.{has_id, has_key}
 use Rattle.protocol_spec.specs.Member.Versions.{Execution, Version, is_id, newer, newest, object_in, is_deleted, consumer_of}
 use Rattle.version_store.specs.Steps.{newer_of, with_newer, with_all_newer, with_consumer, with_consumers}
-use Rattle.version_store.proofs.Equality.{id_same, id_self, key_same, key_self, turn}
+use Rattle.version_store.proofs.Equality.{id_self, key_self}
 use Rattle.version_store.proofs.Held.{made}
-use Rattle.version_store.proofs.Lists.{or_else, lookup_insert, find_push, any_insert_all, any_push}
+use Rattle.version_store.proofs.Lists.{lookup_insert, any_insert_all}
 
 -- ---- the newest version
 
@@ -48,7 +51,7 @@ pub newest_step : (live : List (ObjectId × Object)) (held : List Version) (prod
 newest_step live held producer o is id =
     lookup_insert id_eq id_same id_self live o.id (newer_of (lookup (id_eq o.id) live) o) id
     ∙ at (id_eq id o.id) refl
-    ∙ ap (λ b. cond b (newer (newest id held) o) (newest id held)) (turn id_eq id_same id_self id o.id)
+    ∙ ap (λ b. cond b (newer (newest id held) o) (newest id held)) (test_turned id_eq id_same id_self id o.id)
     ∙ sym (newest_push id held (made producer o))
   where
     at : (b : Bool) → id_eq id o.id ≡ b → cond (id_eq id o.id) (Some (newer_of (lookup (id_eq o.id) live) o)) (lookup (id_eq id) live) ≡ cond (id_eq id o.id) (newer (newest id held) o) (newest id held)
@@ -79,7 +82,7 @@ pub deleted_more : (ids : List ObjectId) (executed : List Execution) (x : Execut
 deleted_more ids executed x is id =
     any_insert_all id_eq id_same x.gave.effects.deleted ids id
     ∙ ap (λ b. b || has_id x.gave.effects.deleted id) (is id)
-    ∙ sym (any_push (λ (y : Execution). has_id y.gave.effects.deleted id) executed x)
+    ∙ sym (any_last (λ (y : Execution). has_id y.gave.effects.deleted id) executed x)
 
 -- ---- who consumed a key
 
@@ -138,7 +141,7 @@ consumed_more consumers executed x is key =
     consumed_all x.digest x.consumed consumers key
     ∙ ap (λ o. or_else o (cond (has_key x.consumed key) (Some x.digest) None)) (is key)
     ∙ joined (consumer_of executed key) (has_key x.consumed key)
-    ∙ sym (ap (option_map (λ (y : Execution). y.digest)) (find_push (λ (y : Execution). has_key y.consumed key) executed x))
+    ∙ sym (ap (option_map (λ (y : Execution). y.digest)) (find_last (λ (y : Execution). has_key y.consumed key) executed x))
   where
     joined : (o : Option Execution) (b : Bool) → or_else (option_map (λ (y : Execution). y.digest) o) (cond b (Some x.digest) None) ≡ option_map (λ (y : Execution). y.digest) (or_else o (cond b (Some x) None))
     joined (Some y) b = refl

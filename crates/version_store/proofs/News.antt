@@ -4,6 +4,8 @@ use Rattle.std.specs.List.{list_any}
 use Rattle.chain_types.specs.declared.objects.Object.{Object}
 use Rattle.chain_types.specs.declared.objects.ObjectKey.{ObjectKey}
 use Rattle.chain_types.specs.Equal.{key_eq}
+use Rattle.protocol_spec.proofs.Equality.{key_same, test_turned}
+use Rattle.protocol_spec.proofs.ListLemmas.{any_last}
 use Rattle.protocol_spec.specs.Chain.Words.{repeats}
 use Rattle.protocol_spec.specs.Chain.Tests.{has_key}
 use Rattle.protocol_spec.specs.Chain.Keys.{object_key}
@@ -11,8 +13,7 @@ use Rattle.protocol_spec.specs.Member.Versions.{Version}
 use Rattle.protocol_spec.specs.Member.Rounds.{holds_key}
 use Rattle.version_store.specs.Stores.{are_new}
 use Rattle.version_store.specs.Fresh.{all_fresh}
-use Rattle.version_store.proofs.Equality.{key_same, key_self, turn}
-use Rattle.version_store.proofs.Lists.{any_push}
+use Rattle.version_store.proofs.Equality.{key_self}
 
 -- of the keys, some were seen
 abbrev seen_among : List ObjectKey → List ObjectKey → Bool
@@ -22,7 +23,7 @@ seen_among seen keys = list_any (has_key seen) keys
 seen_more : (seen : List ObjectKey) (k : ObjectKey) (keys : List ObjectKey) → seen_among (seen ++ k ∷ []) keys ≡ (seen_among seen keys || list_any (key_eq k) keys)
 seen_more seen k [] = refl
 seen_more seen k (q ∷ qs) =
-    ap (λ b. b || seen_among (seen ++ k ∷ []) qs) (any_push (key_eq q) seen k ∙ ap (λ b. has_key seen q || b) (turn key_eq key_same key_self q k))
+    ap (λ b. b || seen_among (seen ++ k ∷ []) qs) (any_last (key_eq q) seen k ∙ ap (λ b. has_key seen q || b) (test_turned key_eq key_same key_self q k))
     ∙ ap (λ b. (has_key seen q || key_eq k q) || b) (seen_more seen k qs)
     ∙ shuffle (has_key seen q) (key_eq k q) (seen_among seen qs) (list_any (key_eq k) qs)
   where

@@ -12,6 +12,8 @@ use Rattle.chain_types.specs.declared.objects.ObjectKey.{ObjectKey}
 use Rattle.chain_types.specs.declared.objects.Producer.TheVariants as producers
 use Rattle.chain_types.specs.Equal.{digest_eq, id_eq, key_eq}
 use Rattle.effects_core.specs.declared.effects.Effects.{Effects}
+use Rattle.protocol_spec.proofs.Equality.{none_held}
+use Rattle.protocol_spec.proofs.Truth.{or_false, and_true}
 use Rattle.protocol_spec.specs.Chain.Words.{Each, repeats}
 use Rattle.protocol_spec.specs.Chain.Keys.{object_key}
 use Rattle.protocol_spec.specs.Member.Versions.{is_executed, opened}
@@ -24,7 +26,7 @@ use Rattle.version_store.specs.Changes.{Adds, Holds, IsEmpty, Keeps, SameEntries
 use Rattle.version_store.specs.Reverts.{reverted_to}
 use Rattle.version_store.proofs.Based.{held_is, new_behind}
 use Rattle.version_store.proofs.Kept.{opening_of, opens, written as written_in}
-use Rattle.version_store.proofs.Lists.{or_false, and_true, not_true}
+use Rattle.version_store.proofs.Lists.{not_true}
 use Rattle.version_store.proofs.Reverted.{reverted}
 use Rattle.version_store.proofs.Rows.{AreApart, IsOwn, newest_under, version_under}
 
@@ -95,10 +97,6 @@ slice_rest n xs = ap (λ k. take k (drop n xs)) (sym (length-drop n xs)) ∙ tak
 no_repeat_behind : (xs ys : List Object) → repeats key_eq (map object_key (xs ++ ys)) ≡ false → repeats key_eq (map object_key ys) ≡ false
 no_repeat_behind [] ys h = h
 no_repeat_behind (x ∷ xs) ys h = no_repeat_behind xs ys (or_false (list_any (key_eq (object_key x)) (map object_key (xs ++ ys))) (repeats key_eq (map object_key (xs ++ ys))) h).1
-
-none_held : (keys : List ObjectKey) → list_any (holds_key []) keys ≡ false
-none_held [] = refl
-none_held (k ∷ ks) = none_held ks
 
 -- a part of new objects is new
 new_part : (xs ys : List Object) → are_new [] (xs ++ ys) ≡ true → are_new [] ys ≡ true

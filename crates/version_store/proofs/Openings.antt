@@ -1,5 +1,5 @@
 -- What an epoch opens with, and what it left of that.
-use Rattle.std.proofs.Common.{◌≡◌, ◌∙◌, refl, ap, sym, subst, ℕ, Bool, true, false, cond, ◌||◌, List, [], ◌∷◌, ◌++◌, Option, Some, None, map}
+use Rattle.std.proofs.Common.{◌≡◌, ◌∙◌, refl, ap, sym, subst, ℕ, Bool, true, false, cond, List, [], ◌∷◌, ◌++◌, Option, Some, None, map}
 use Rattle.std.specs.Prelude.{flat_map, fold, nat_lt}
 use Rattle.std.specs.List.{list_any}
 use Rattle.std.specs.Map.{lookup}
@@ -7,9 +7,11 @@ use Rattle.std.proofs.lemmas.List.{map-append}
 use Rattle.chain_types.specs.declared.objects.Object.{Object}
 use Rattle.chain_types.specs.declared.objects.ObjectId.{ObjectId}
 use Rattle.chain_types.specs.Equal.{id_eq}
+use Rattle.protocol_spec.proofs.Equality.{id_same, test_turned}
+use Rattle.protocol_spec.proofs.Truth.{or_false}
 use Rattle.protocol_spec.specs.Chain.Words.{Each, repeats}
 use Rattle.protocol_spec.specs.Member.Admission.{opening_object}
-use Rattle.protocol_spec.specs.Member.Versions.{Version, is_deleted, live, live_list, newer, newest, object_in, opened, versions, with_live, written_by}
+use Rattle.protocol_spec.specs.Member.Versions.{live, live_list, newer, newest, object_in, opened, versions, with_live, written_by}
 use Rattle.version_store.specs.declared.maps.Maps.{Maps}
 use Rattle.version_store.specs.Bases.{IsHeld, based, object_under, over, stored_over}
 use Rattle.version_store.specs.Changed.{AreChanged, IsSingle}
@@ -18,7 +20,7 @@ use Rattle.version_store.specs.Kept.{stored}
 use Rattle.version_store.specs.Stores.{Stored, held_in}
 use Rattle.version_store.proofs.Ascending.{apart, found_as, found_under, owned}
 use Rattle.version_store.proofs.Based.{deleted_is, merge_none, newest_is}
-use Rattle.version_store.proofs.Equality.{id_same, id_self, turn}
+use Rattle.version_store.proofs.Equality.{id_self}
 use Rattle.version_store.proofs.Kept.{kept_empty, stored_empty}
 use Rattle.version_store.proofs.Merging.{merge, newest_both, newest_none, version_id}
 use Rattle.version_store.proofs.Rows.{IsOwn, newest_under}
@@ -30,7 +32,7 @@ use Rattle.version_store.proofs.Turned.{any_parts, live_by_ids, live_has, live_i
 object_found : (rows : List (ObjectId × Object)) → Each IsOwn rows → (id : ObjectId) → opening_object (map object_under rows) id ≡ lookup (id_eq id) rows
 object_found [] own id = refl
 object_found (e ∷ es) own id =
-    ap (λ b. cond b (Some e.1) (opening_object (map object_under es) id)) (ap (λ i. id_eq i id) own.0 ∙ turn id_eq id_same id_self e.0 id)
+    ap (λ b. cond b (Some e.1) (opening_object (map object_under es) id)) (ap (λ i. id_eq i id) own.0 ∙ test_turned id_eq id_same id_self e.0 id)
     ∙ ap (cond (id_eq id e.0) (Some e.1)) (object_found es own.1 id)
 
 module _ (s : Stored) where
@@ -56,17 +58,12 @@ module _ (s : Stored) where
       ∙ sym (object_found rows (owned (map (live_in s) ids)) id)
       ∙ sym (ap (λ os. opening_object os id) (live_by_ids s))
 
-or_parts : (a b : Bool) → (a || b) ≡ false → (a ≡ false) × (b ≡ false)
-or_parts false false h = (refl, refl)
-or_parts false true h = absurd (cc)
-or_parts true b h = absurd (cc)
-
 -- so does an epoch whose opening objects have distinct ids
 pub single_apart : (os : List Object) → repeats id_eq (map (λ (o : Object). o.id) os) ≡ false → IsSingle os
 single_apart [] once id = refl
 single_apart (o ∷ os) once id =
     newest_both id (opened o ∷ []) (map opened os)
-    ∙ by (id_eq o.id id) refl (or_parts (list_any (id_eq o.id) (map (λ (x : Object). x.id) os)) (repeats id_eq (map (λ (x : Object). x.id) os)) once) (single_apart os)
+    ∙ by (id_eq o.id id) refl (or_false (list_any (id_eq o.id) (map (λ (x : Object). x.id) os)) (repeats id_eq (map (λ (x : Object). x.id) os)) once) (single_apart os)
   where
     ids_of : (xs : List Object) → map version_id (map opened xs) ≡ map (λ (x : Object). x.id) xs
     ids_of [] = refl

@@ -14,6 +14,7 @@ use Rattle.chain_types.specs.declared.objects.Object.{Object}
 use Rattle.chain_types.specs.declared.objects.ObjectId.{ObjectId}
 use Rattle.chain_types.specs.declared.objects.ObjectKey.{ObjectKey}
 use Rattle.chain_types.specs.Equal.{digest_eq, id_eq, key_eq}
+use Rattle.protocol_spec.proofs.Equality.{digest_same}
 use Rattle.protocol_spec.specs.Member.Versions.{Execution, Version, versions, opened, written, written_by, newest, is_deleted, consumer_of, object_in}
 use Rattle.version_store.specs.declared.maps.Kept.{Kept}
 use Rattle.version_store.specs.declared.maps.Maps.{Maps}
@@ -23,7 +24,6 @@ use Rattle.version_store.specs.Kept.{IsKept, kept_as, kept_object, ran_as, store
 use Rattle.version_store.specs.Steps.{with_consumers, with_newer}
 use Rattle.version_store.specs.Changes.{Keeps}
 use Rattle.version_store.specs.Reverts.{consumers_staying, deleted_staying, is_among, is_kept, newest_staying, ran_stays, reverted_to, stays, undone, version_stays}
-use Rattle.version_store.proofs.Equality.{digest_same}
 use Rattle.version_store.proofs.Held.{kept_of, objects_kept}
 use Rattle.version_store.proofs.Lists.{any_insert_all}
 use Rattle.version_store.proofs.Newest.{newest_step, deleted_more, consumed_more}

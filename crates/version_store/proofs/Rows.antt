@@ -8,10 +8,11 @@ use Rattle.chain_types.specs.declared.objects.Object.{Object}
 use Rattle.chain_types.specs.declared.objects.ObjectId.{ObjectId}
 use Rattle.chain_types.specs.declared.objects.ObjectKey.{ObjectKey}
 use Rattle.chain_types.specs.Equal.{id_eq}
+use Rattle.protocol_spec.proofs.Equality.{id_same, test_turned}
 use Rattle.protocol_spec.specs.Chain.Words.{Each}
 use Rattle.protocol_spec.specs.Member.Versions.{Version, is_id, is_key, newer, newest, object_in, opened, version_at}
 use Rattle.version_store.specs.Bases.{at_version, object_under}
-use Rattle.version_store.proofs.Equality.{id_same, id_self, turn}
+use Rattle.version_store.proofs.Equality.{id_self}
 use Rattle.version_store.proofs.Merging.{HasId}
 
 -- an object stands under its id
@@ -43,7 +44,7 @@ newest_behind id [] own none = refl
 newest_behind id (e ∷ es) own none = by (id_eq id e.0) refl none (newest_behind id es own.1)
   where
     test : (b : Bool) → id_eq id e.0 ≡ b → is_id id (opened e.1) ≡ b
-    test b is = ap (λ i. id_eq i id) own.0 ∙ turn id_eq id_same id_self e.0 id ∙ is
+    test b is = ap (λ i. id_eq i id) own.0 ∙ test_turned id_eq id_same id_self e.0 id ∙ is
 
     by : (b : Bool) → id_eq id e.0 ≡ b → cond b (Some e.1) (lookup (id_eq id) es) ≡ None → (lookup (id_eq id) es ≡ None → filter (is_id id) (versions_of es) ≡ []) → filter (is_id id) (versions_of (e ∷ es)) ≡ []
     by true is none more = absurd (cc)
@@ -54,7 +55,7 @@ newest_under id [] own apart = refl
 newest_under id (e ∷ es) own apart = by (id_eq id e.0) refl (newest_under id es own.1 (tail e es apart))
   where
     test : (b : Bool) → id_eq id e.0 ≡ b → is_id id (opened e.1) ≡ b
-    test b is = ap (λ i. id_eq i id) own.0 ∙ turn id_eq id_same id_self e.0 id ∙ is
+    test b is = ap (λ i. id_eq i id) own.0 ∙ test_turned id_eq id_same id_self e.0 id ∙ is
 
     by : (b : Bool) → id_eq id e.0 ≡ b → newest id (versions_of es) ≡ lookup (id_eq id) es → newest id (versions_of (e ∷ es)) ≡ cond b (Some e.1) (lookup (id_eq id) es)
     by true is more =
@@ -70,7 +71,7 @@ version_under key [] own apart = refl
 version_under key (e ∷ es) own apart = by (id_eq key.id e.0) refl (version_under key es own.1 (tail e es apart))
   where
     test : (b : Bool) → id_eq key.id e.0 ≡ b → is_key key (opened e.1) ≡ (b && (e.1.version == key.version))
-    test b is = ap (λ i. id_eq i key.id && (e.1.version == key.version)) own.0 ∙ ap (λ c. c && (e.1.version == key.version)) (turn id_eq id_same id_self e.0 key.id ∙ is)
+    test b is = ap (λ i. id_eq i key.id && (e.1.version == key.version)) own.0 ∙ ap (λ c. c && (e.1.version == key.version)) (test_turned id_eq id_same id_self e.0 key.id ∙ is)
 
     here : (c : Bool) → version_at (versions_of es) key ≡ None → cond c (Some (opened e.1)) (version_at (versions_of es) key) ≡ option_map opened (cond c (Some e.1) None)
     here true none = refl

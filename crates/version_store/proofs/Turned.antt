@@ -9,6 +9,8 @@ use Rattle.chain_types.specs.declared.objects.ObjectId.{ObjectId}
 use Rattle.chain_types.specs.declared.objects.ObjectKey.{ObjectKey}
 use Rattle.chain_types.specs.declared.objects.Producer.TheVariants as producers
 use Rattle.chain_types.specs.Equal.{id_eq}
+use Rattle.protocol_spec.proofs.Equality.{id_same, test_turned}
+use Rattle.protocol_spec.proofs.Truth.{or_false}
 use Rattle.protocol_spec.specs.Chain.Words.{Each}
 use Rattle.protocol_spec.specs.Member.Versions.{Version, is_deleted, live, live_list, newest, opened, version_at, with_live}
 use Rattle.version_store.specs.declared.maps.Kept.{Kept}
@@ -21,7 +23,7 @@ use Rattle.version_store.specs.Live.{add_live, all_live, kept_id}
 use Rattle.version_store.specs.Steps.{with_all_newer}
 use Rattle.version_store.proofs.Ascending.{apart, found_as, found_under, owned, placed, placed_under, same_found, same_live}
 use Rattle.version_store.proofs.Based.{deleted_is, newest_is}
-use Rattle.version_store.proofs.Equality.{id_same, id_self, turn}
+use Rattle.version_store.proofs.Equality.{id_self}
 use Rattle.version_store.proofs.Kept.{kept_empty, opening_of, stored_empty}
 use Rattle.version_store.proofs.Merging.{HasId, merge, newest_both, newest_has, newest_none, version_id}
 use Rattle.version_store.proofs.Newest.{newest_more}
@@ -86,22 +88,17 @@ live_rows s rows own separate same =
 
 -- ---- what the list of the live objects is made of
 
-any_none : (a b : Bool) → (a || b) ≡ false → (a ≡ false) × (b ≡ false)
-any_none false false h = (refl, refl)
-any_none false true h = absurd (cc)
-any_none true b h = absurd (cc)
-
 pub any_parts : (id : ObjectId) (xs ys : List ObjectId) → list_any (id_eq id) (xs ++ ys) ≡ false → (list_any (id_eq id) xs ≡ false) × (list_any (id_eq id) ys ≡ false)
 any_parts id [] ys h = (refl, h)
 any_parts id (x ∷ xs) ys h =
-    let p : (id_eq id x ≡ false) × (list_any (id_eq id) (xs ++ ys) ≡ false) = any_none (id_eq id x) (list_any (id_eq id) (xs ++ ys)) h in
+    let p : (id_eq id x ≡ false) × (list_any (id_eq id) (xs ++ ys) ≡ false) = or_false (id_eq id x) (list_any (id_eq id) (xs ++ ys)) h in
     let q : (list_any (id_eq id) xs ≡ false) × (list_any (id_eq id) ys ≡ false) = any_parts id xs ys p.1 in
     (ap (λ b. b || list_any (id_eq id) xs) p.0 ∙ q.0, q.1)
 
 pub no_row : (id : ObjectId) (rows : List (ObjectId × Object)) → list_any (id_eq id) (map (λ (e : ObjectId × Object). e.0) rows) ≡ false → lookup (id_eq id) rows ≡ None
 no_row id [] h = refl
 no_row id (e ∷ es) h =
-    let p : (id_eq id e.0 ≡ false) × (list_any (id_eq id) (map (λ (f : ObjectId × Object). f.0) es) ≡ false) = any_none (id_eq id e.0) (list_any (id_eq id) (map (λ (f : ObjectId × Object). f.0) es)) h in
+    let p : (id_eq id e.0 ≡ false) × (list_any (id_eq id) (map (λ (f : ObjectId × Object). f.0) es) ≡ false) = or_false (id_eq id e.0) (list_any (id_eq id) (map (λ (f : ObjectId × Object). f.0) es)) h in
     ap (λ b. cond b (Some e.1) (lookup (id_eq id) es)) p.0 ∙ no_row id es p.1
 
 ids_kept : (held : List Version) → map kept_id (map (λ (e : ObjectKey × Kept). e.1) (map kept_as held)) ≡ map version_id held
@@ -185,7 +182,7 @@ module _ {turned : Bool} {entries more left : List (ObjectId × Object)} {opened
 pub takes_one : (id k : ObjectId) (rest : List ObjectId) (new old : Option Object) → new ≡ cond (id_eq k id) None old
     → cond (list_any (id_eq id) rest) None new ≡ cond (list_any (id_eq id) (k ∷ rest)) None old
 takes_one id k rest new old is =
-    ap (cond (list_any (id_eq id) rest) None) (is ∙ ap (λ b. cond b None old) (turn id_eq id_same id_self k id))
+    ap (cond (list_any (id_eq id) rest) None) (is ∙ ap (λ b. cond b None old) (test_turned id_eq id_same id_self k id))
     ∙ by (id_eq id k) (list_any (id_eq id) rest)
   where
     by : (a b : Bool) → let none : Option Object = None in cond b none (cond a none old) ≡ cond (a || b) none old

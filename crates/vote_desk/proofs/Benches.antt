@@ -1,5 +1,5 @@
 -- One call of the member behind a vote desk, and the desk's clauses from those of the general one.
-use Rattle.std.proofs.Common.{◌≡◌, ℕ, true, false, Bool, cond, List, [], ◌∷◌, ◌++◌, None, is_some, Result, Ok, Err, IsErrOf, refl, sym, ap, ◌∙◌, subst, append-nil}
+use Rattle.std.proofs.Common.{◌≡◌, ℕ, true, false, Bool, cond, List, [], ◌∷◌, ◌++◌, None, is_some, Result, Ok, Err, IsErrOf, refl, sym, ap, ◌∙◌, subst}
 use Rattle.outside.specs.declared.keeper.Keeper.{Ghosts as Keeping}
 use Rattle.quorum_core.specs.declared.sealer.Sealer.{Ghosts as Sealing}
 use Rattle.quorum_core.specs.declared.signer.Signer.{Signer}
@@ -67,10 +67,6 @@ same_seen v w is = ap (λ (u : View _ _). u.seen) is
 
 pub same_mine : {S E : Type 0} (v w : View S E) → v ≡ w → v.mine ≡ w.mine
 same_mine v w is = ap (λ (u : View _ _). u.mine) is
-
--- a list begins itself
-pub front_whole : {A : Type 0} (xs : List A) → IsFront xs xs
-front_whole xs = ([], sym (append-nil xs))
 
 -- calls leave the sealer
 pub sealer_stays : {S : Type 0} (accepts : S → Signer → List ℕ → Digest → Bool) (old new : Standing S) (entries : List DeskEntry) → IsHistory (Follows accepts) old entries new → new.sealer ≡ old.sealer

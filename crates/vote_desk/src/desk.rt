@@ -116,7 +116,7 @@ impl<D: Keeper + Drop, S: Sealer + Drop> Desk<D, S> {
     /// The entry of the call stands behind all that the pass had seen and at a place that is the pass's own; it has these
     /// bytes and this answer, which is one that the member may give there. Where room for the entry, which is the bytes
     /// and 257 origins, is refused, the member was not asked, and no entry is added. Waits for other callers.
-    #[tactic(auto, using(crate::proofs::Benches::waited_of, crate::proofs::Benches::front_whole))]
+    #[tactic(auto, using(crate::proofs::Benches::waited_of, protocol_spec::proofs::ListLemmas::front_whole))]
     pub fn vote<W: Wait>(
         &self,
         rt: &W,

@@ -10,9 +10,9 @@ use Rattle.digest_core.specs.declared.Digest.{Digest}
 use Rattle.chain_types.specs.declared.objects.ObjectKey.{ObjectKey}
 use Rattle.chain_types.specs.Equal.{key_eq}
 use Rattle.chain_types.specs.Digests.{consumed_keys}
+use Rattle.protocol_spec.proofs.Equality.{key_same}
 use Rattle.protocol_spec.specs.Chain.Words.{first_of, first_some}
 use Rattle.protocol_spec.specs.Chain.Tests.{has_key}
-use Rattle.lock_table.proofs.Keys.{key_same}
 use Rattle.answer_types.specs.declared.answers.Held.{Held}
 use Rattle.protocol_spec.specs.Member.Member.{Fork, consumes, fork_at, fork_in, fork_with}
 use Rattle.vote_rules.specs.Holders.{digest_of, fork_by, meets, sides, with_holder, with_holders}

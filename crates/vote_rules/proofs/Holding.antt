@@ -5,14 +5,13 @@ use Rattle.std.specs.List.{list_any, position_or_len}
 use Rattle.std.specs.Map.{lookup}
 use Rattle.std.proofs.lemmas.Bool.{ltb-false}
 use Rattle.std.proofs.lemmas.List.{length-map, map-append}
-use Rattle.std.proofs.lemmas.List.Folds.{find_at, list_any-append}
+use Rattle.std.proofs.lemmas.List.Folds.{find_at}
 use Rattle.std.proofs.lemmas.Option.{slice_get_past}
-use Rattle.std.proofs.lemmas.Slice.Eq.{bytes_eq-Decides}
-use Rattle.std.proofs.lemmas.Bool.Decides.{same_from_decides}
 use Rattle.digest_core.specs.declared.Digest.{Digest}
 use Rattle.chain_types.specs.declared.objects.ObjectKey.{ObjectKey}
 use Rattle.chain_types.specs.Equal.{digest_eq, key_eq}
 use Rattle.chain_types.specs.Digests.{consumed_keys}
+use Rattle.protocol_spec.proofs.Equality.{digest_turned, still_apart}
 use Rattle.protocol_spec.specs.Chain.Words.{first_of, first_some, repeats}
 use Rattle.answer_types.specs.declared.answers.Held.{Held}
 use Rattle.protocol_spec.specs.Member.Checkpoints.{held_of}
@@ -23,13 +22,10 @@ use Rattle.vote_rules.proofs.Forks.{fork_more, holder_more}
 
 -- ---- look-ups
 
-turned : (a b : Digest) → digest_eq a b ≡ digest_eq b a
-turned a b = same_from_decides (digest_eq a b) (digest_eq b a) (bytes_eq-Decides a.0 b.0) ((λ h. sym ((bytes_eq-Decides b.0 a.0).0 h)), (λ e. (bytes_eq-Decides b.0 a.0).1 (sym e)))
-
 -- a digest is among those of what is held where a search finds it
 listed : (hs : List Held) (tx : Digest) → list_any (digest_eq tx) (map digest_of hs) ≡ is_some (held_of hs tx)
 listed [] tx = refl
-listed (h ∷ hs) tx = ap (λ b. b || list_any (digest_eq tx) (map digest_of hs)) (turned tx h.digest) ∙ by (digest_eq h.digest tx) (listed hs tx)
+listed (h ∷ hs) tx = ap (λ b. b || list_any (digest_eq tx) (map digest_of hs)) (digest_turned tx h.digest) ∙ by (digest_eq h.digest tx) (listed hs tx)
   where
     by : (b : Bool) → list_any (digest_eq tx) (map digest_of hs) ≡ is_some (held_of hs tx)
         → (b || list_any (digest_eq tx) (map digest_of hs)) ≡ is_some (cond b (Some h) (held_of hs tx))
@@ -50,7 +46,7 @@ same_search : (hs : List Held) (tx : Digest) → find (is_of tx) hs ≡ held_of 
 same_search [] tx = refl
 same_search (h ∷ hs) tx =
     ap (λ o. cond (digest_eq tx h.digest) (Some h) o) (same_search hs tx)
-    ∙ ap (λ b. cond b (Some h) (held_of hs tx)) (turned tx h.digest)
+    ∙ ap (λ b. cond b (Some h) (held_of hs tx)) (digest_turned tx h.digest)
 
 same_place : (hs : List Held) (tx : Digest) → position_or_len (digest_eq tx) (map digest_of hs) ≡ position_or_len (is_of tx) hs
 same_place [] tx = refl
@@ -74,19 +70,6 @@ pub found_cert : (hs : List Held) (tx : Digest) → option_map cert_of (at_place
 found_cert hs tx = ap (option_map cert_of) (found hs tx)
 
 -- ---- one more certificate
-
--- distinct digests, and behind them one that is not among them
-still_apart : (ds : List Digest) (d : Digest) → repeats digest_eq ds ≡ false → list_any (digest_eq d) ds ≡ false → repeats digest_eq (ds ++ d ∷ []) ≡ false
-still_apart [] d apart new = refl
-still_apart (x ∷ xs) d apart new =
-    ap (λ b. b || repeats digest_eq (xs ++ d ∷ [])) (list_any-append (digest_eq x) xs (d ∷ []) ∙ ap (λ b. list_any (digest_eq x) xs || (b || false)) (turned x d))
-    ∙ by (list_any (digest_eq x) xs) (repeats digest_eq xs) (digest_eq d x) (list_any (digest_eq d) xs) apart new (still_apart xs d)
-  where
-    by : (a b c e : Bool) → (a || b) ≡ false → (c || e) ≡ false → (b ≡ false → e ≡ false → repeats digest_eq (xs ++ d ∷ []) ≡ false)
-        → ((a || (c || false)) || repeats digest_eq (xs ++ d ∷ [])) ≡ false
-    by true b c e apart new more = absurd (cc)
-    by false b true e apart new more = absurd (cc)
-    by false b false e apart new more = more apart new
 
 -- of a transaction of which none is held: what is held behind it, and that all is kept
 module _ (items : List Held) (digests : List Digest) (holders : List (ObjectKey × Digest)) (held : List Held) (h : Held) {after : List Held} {noted : List Digest} {holding : List (ObjectKey × Digest)} {fork now : Option Sides}

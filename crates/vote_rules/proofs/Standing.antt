@@ -8,11 +8,12 @@ use Rattle.digest_core.specs.declared.Digest.{Digest}
 use Rattle.chain_types.specs.declared.objects.ObjectKey.{ObjectKey}
 use Rattle.chain_types.specs.declared.refusals.DecideRefusal.TheVariants as refused
 use Rattle.chain_types.specs.Equal.{digest_eq, key_eq}
+use Rattle.protocol_spec.proofs.Equality.{key_same}
+use Rattle.protocol_spec.proofs.Truth.{or_false}
 use Rattle.protocol_spec.specs.Chain.Words.{first_of, first_some}
 use Rattle.protocol_spec.specs.Chain.Tests.{has_key}
 use Rattle.lock_table.specs.Locks.{Locks, locked_by, or_other, other_lock, unless_own, with_locks}
-use Rattle.lock_table.proofs.Keys.{key_same}
-use Rattle.lock_table.proofs.Locking.{Among, IsFree, all_locked, free_from}
+use Rattle.lock_table.proofs.Locking.{Among, IsFree, all_locked, free_from, put_other}
 use Rattle.protocol_spec.specs.Member.Votes.{Cast, is_lock, locked}
 use Rattle.vote_rules.specs.Decide.{StandFor}
 
@@ -26,28 +27,12 @@ among (k ∷ ks) q h = by (key_eq q k) refl h (among ks q)
     by true is h more = inl (key_same q k is)
     by false is h more = inr (more h)
 
--- the lock of a key stays where another key is locked
-beside : (locks : Locks) (k : ObjectKey) (tx : Digest) (q : ObjectKey) → key_eq q k ≡ false → locked_by (insert_entry key_eq locks k tx) q ≡ locked_by locks q
-beside [] k tx q apart = ap (λ b. cond b (Some tx) None) apart
-beside (l ∷ ls) k tx q apart = by (key_eq k l.0) refl (beside ls k tx q apart)
-  where
-    by : (b : Bool) → key_eq k l.0 ≡ b → locked_by (insert_entry key_eq ls k tx) q ≡ locked_by ls q → locked_by (cond b ((l.0, tx) ∷ ls) (l ∷ insert_entry key_eq ls k tx)) q ≡ locked_by (l ∷ ls) q
-    by true is more =
-        let e : key_eq q l.0 ≡ false = ap (key_eq q) (sym (key_same k l.0 is)) ∙ apart in
-        ap (λ b. cond b (Some tx) (locked_by ls q)) e ∙ sym (ap (λ b. cond b (Some l.1) (locked_by ls q)) e)
-    by false is more = ap (λ o. cond (key_eq q l.0) (Some l.1) o) more
-
-or_false : (a b : Bool) → (a || b) ≡ false → (a ≡ false) × (b ≡ false)
-or_false false false h = (refl, refl)
-or_false false true h = absurd (cc)
-or_false true b h = absurd (cc)
-
 -- the lock of a key that is not among the keys stays
 untouched : (keys : List ObjectKey) (locks : Locks) (tx : Digest) (q : ObjectKey) → has_key keys q ≡ false → locked_by (with_locks locks keys tx) q ≡ locked_by locks q
 untouched [] locks tx q h = refl
 untouched (k ∷ ks) locks tx q h =
     let p : (key_eq q k ≡ false) × (has_key ks q ≡ false) = or_false (key_eq q k) (has_key ks q) h in
-    untouched ks (insert_entry key_eq locks k tx) tx q p.1 ∙ beside locks k tx q p.0
+    untouched ks (insert_entry key_eq locks k tx) tx q p.1 ∙ put_other locks k tx q p.0
 
 -- ---- votes that leave the keys free
 

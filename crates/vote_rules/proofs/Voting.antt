@@ -3,8 +3,6 @@ use Rattle.std.proofs.Common.{◌≡◌, Bool, true, false, cond, List, [], ◌�
 use Rattle.std.specs.Prelude.{Result, find}
 use Rattle.std.specs.Map.{lookup}
 use Rattle.std.proofs.lemmas.List.{map-append}
-use Rattle.std.proofs.lemmas.Slice.Eq.{bytes_eq-Decides}
-use Rattle.std.proofs.lemmas.Bool.Decides.{same_from_decides}
 use Rattle.indexmap.specs.IndexMap.{insert_entry}
 use Rattle.tables.proofs.Lookups.{goes_last}
 use Rattle.digest_core.specs.declared.Digest.{Digest}
@@ -14,6 +12,8 @@ use Rattle.chain_types.specs.declared.transactions.Input.{Input}
 use Rattle.chain_types.specs.declared.transactions.Input.TheVariants as inputs
 use Rattle.chain_types.specs.declared.transactions.Transaction.{Transaction}
 use Rattle.chain_types.specs.Equal.{digest_eq}
+use Rattle.protocol_spec.proofs.Equality.{digest_turned}
+use Rattle.protocol_spec.proofs.Truth.{some_mapped}
 use Rattle.protocol_spec.specs.Chain.Words.{first_of}
 use Rattle.protocol_spec.specs.Chain.Keys.{objects_of}
 use Rattle.lock_table.specs.Locks.{Locks, locked_by, other_lock, unless_own, with_locks}
@@ -28,14 +28,11 @@ use Rattle.vote_rules.proofs.Standing.{no_other, stands}
 
 -- ---- look-ups
 
-turned : (a b : Digest) → digest_eq a b ≡ digest_eq b a
-turned a b = same_from_decides (digest_eq a b) (digest_eq b a) (bytes_eq-Decides a.0 b.0) ((λ h. sym ((bytes_eq-Decides b.0 a.0).0 h)), (λ e. (bytes_eq-Decides b.0 a.0).1 (sym e)))
-
 -- a look-up in the map is a search among the votes
 found_as : (given : List (Digest × Given)) (tx : Digest) → option_map (λ (g : Given). g.origins) (lookup (digest_eq tx) given) ≡ option_map (λ (v : Cast). v.origins) (find (λ (v : Cast). digest_eq v.digest tx) (casts given))
 found_as [] tx = refl
 found_as (e ∷ es) tx =
-    ap (λ b. option_map (λ (g : Given). g.origins) (cond b (Some e.1) (lookup (digest_eq tx) es))) (turned tx e.0) ∙ by (digest_eq e.0 tx) (found_as es tx)
+    ap (λ b. option_map (λ (g : Given). g.origins) (cond b (Some e.1) (lookup (digest_eq tx) es))) (digest_turned tx e.0) ∙ by (digest_eq e.0 tx) (found_as es tx)
   where
     by : (b : Bool) → option_map (λ (g : Given). g.origins) (lookup (digest_eq tx) es) ≡ option_map (λ (v : Cast). v.origins) (find (λ (v : Cast). digest_eq v.digest tx) (casts es))
         → option_map (λ (g : Given). g.origins) (cond b (Some e.1) (lookup (digest_eq tx) es)) ≡ option_map (λ (v : Cast). v.origins) (cond b (Some (cast_as e)) (find (λ (v : Cast). digest_eq v.digest tx) (casts es)))
@@ -47,10 +44,6 @@ pub found : (given : List (Digest × Given)) (votes : List Cast) (tx : Digest) (
     → option_map (λ (g : Given). g.origins) o ≡ option_map (λ (v : Cast). v.origins) (find (λ (v : Cast). digest_eq v.digest tx) votes)
 found given votes tx o is view =
     ap (option_map (λ (g : Given). g.origins)) is ∙ found_as given tx ∙ ap (λ vs. option_map (λ (v : Cast). v.origins) (find (λ (v : Cast). digest_eq v.digest tx) vs)) view
-
-some_mapped : {A B : Type 0} → (f : A → B) (o : Option A) → is_some (option_map f o) ≡ is_some o
-some_mapped f None = refl
-some_mapped f (Some x) = refl
 
 has_as : (given : List (Digest × Given)) (tx : Digest) → is_some (lookup (digest_eq tx) given) ≡ is_some (find (λ (v : Cast). digest_eq v.digest tx) (casts given))
 has_as given tx =

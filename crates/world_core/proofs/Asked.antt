@@ -1,12 +1,12 @@
 -- What is found of the transactions that lines made can be spelled.
-use Rattle.std.proofs.Common.{◌≡◌, ℕ, zero, suc, Bool, true, false, cond, List, [], ◌∷◌, Option, Some, None, option_map, subst, sym, refl}
-use Rattle.std.specs.Prelude.{find, slice_get}
+use Rattle.std.proofs.Common.{◌≡◌, ℕ, List, Option, Some, None, option_map, subst, sym, refl}
+use Rattle.std.specs.Prelude.{slice_get}
 use Rattle.chain_messages.specs.declared.messages.Certificate.{Certificate}
 use Rattle.chain_messages.specs.Messages as messages
 use Rattle.chain_types.specs.Equal.{digest_eq}
 use Rattle.chain_types.specs.Transactions as transactions
-use Rattle.chain_types.specs.declared.transactions.SignedTx.{SignedTx}
 use Rattle.digest_core.specs.declared.Digest.{Digest}
+use Rattle.protocol_spec.proofs.ListLemmas.{each_at, find-each}
 use Rattle.protocol_spec.specs.Chain.Words.{Each}
 use Rattle.scene_spec.specs.Known.{Known}
 use Rattle.world_core.specs.Sound.{IsSpelled, IsSpelledCert}
@@ -16,29 +16,16 @@ use Rattle.world_names.specs.declared.rows.MadeTx.{MadeTx}
 use Rattle.world_spec.specs.Names.{cert_in}
 use Rattle.world_spec.specs.World.{Formed, Made}
 
-found_each : {A : Type 0} → (P : A → Type 0) (test : A → Bool) (xs : List A) (x : A) → Each P xs → find test xs ≡ Some x → P x
-found_each P test [] x all e = absurd (cc)
-found_each P test (y ∷ ys) x all e = by (test y) e (λ is. found_each P test ys x all.1 is)
-  where
-    by : (b : Bool) → cond b (Some y) (find test ys) ≡ Some x → (find test ys ≡ Some x → P x) → P x
-    by true is behind = let same : y ≡ x = cc in subst P same all.0
-    by false is behind = behind is
-
-got_each : {A : Type 0} → (P : A → Type 0) (xs : List A) (k : ℕ) (x : A) → Each P xs → slice_get xs k ≡ Some x → P x
-got_each P [] k x all e = absurd (cc)
-got_each P (y ∷ ys) zero x all e = let same : y ≡ x = cc in subst P same all.0
-got_each P (y ∷ ys) (suc k) x all e = got_each P ys k x all.1 e
-
 pub short_of : (k : Known) (tx : Digest) (made : MadeTx) → Each IsSpelled k.txs → Some (made_as made) ≡ made_of k tx → transactions.transaction.short made.signed.tx
 unfolding transactions.signed
-short_of k tx made all e = (found_each IsSpelled (λ (t : Made). digest_eq t.digest tx) k.txs (made_as made) all (sym e)).0
+short_of k tx made all e = (find-each IsSpelled (λ (t : Made). digest_eq t.digest tx) k.txs (made_as made) all (sym e)).0
 
 pub short_at : (k : Known) (place : ℕ) (made : MadeTx) → Each IsSpelled k.txs → Some (made_as made) ≡ made_at k place → transactions.signed.short made.signed
-short_at k place made all e = got_each IsSpelled k.txs place (made_as made) all (sym e)
+short_at k place made all e = each_at IsSpelled k.txs place (made_as made) all (sym e)
 
 pub formed_short : (certs : List Formed) (place : ℕ) (c : Certificate) → Each IsSpelledCert certs → Some c ≡ option_map cert_in (slice_get certs place) → messages.certificate.short c
 formed_short certs place c all e = by (slice_get certs place) refl e
   where
     by : (o : Option Formed) → slice_get certs place ≡ o → Some c ≡ option_map cert_in o → messages.certificate.short c
     by None is found = absurd (cc)
-    by (Some f) is found = let same : cert_in f ≡ c = cc in subst messages.certificate.short same (got_each IsSpelledCert certs place f all is)
+    by (Some f) is found = let same : cert_in f ≡ c = cc in subst messages.certificate.short same (each_at IsSpelledCert certs place f all is)

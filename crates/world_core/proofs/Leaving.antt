@@ -11,8 +11,8 @@ use Rattle.world_spec.specs.Names.{made_named}
 use Rattle.scene_spec.specs.Scene.{Scene, bare_world, rules_in}
 use Rattle.scene_spec.specs.Steps.{ack_work, asks, idle, work_of}
 use Rattle.world_core.specs.Kept.{LeavesAs, is_quiet}
-use Rattle.world_core.proofs.Lines.{keeps_same}
 use Rattle.world_core.proofs.Silent.{ack_leaves, end_leaves}
+use Rattle.validator_core.proofs.Settling.{keeps_same}
 
 idle_leaves : {A E : Type 0} (r : Rules) (sc : Scene) (told : Option Journals) (result : Result A E) → LeavesAs r sc idle told told result
 idle_leaves r sc told (Ok a) = keeps_same told

@@ -1,6 +1,6 @@
 -- A line that names a transaction or a certificate, by what is spelled.
 use Rattle.std.proofs.Common.{◌≡◌, ◌∙◌, ap, refl, sym, subst, ℕ, List, [], ◌∷◌, Option, Some, None, Result, Ok, Err, option_map, append-nil, inl, inr}
-use Rattle.outside.specs.Lists.{Journals, KeepsJournals}
+use Rattle.outside.specs.Lists.{Journals}
 use Rattle.chain_messages.specs.declared.messages.Certificate.{Certificate}
 use Rattle.protocol_spec.specs.Chain.Certificates.{Rules}
 use Rattle.protocol_spec.specs.Member.Calls.{Call, holds, votes}
@@ -19,6 +19,7 @@ use Rattle.scene_spec.specs.Steps.{MayAddLine, asked, asks, called_scene, held_c
 use Rattle.world_core.specs.Replies.{Leaves}
 use Rattle.world_core.specs.Kept.{LeavesAs}
 use Rattle.world_core.specs.Texts.{spelled_cert, spelled_tx}
+use Rattle.validator_core.proofs.Settling.{keeps_same}
 
 -- ---- told lists behind a call
 
@@ -33,10 +34,6 @@ pub adds_front : (before now : Option Journals) (m : ℕ) (x : Option Record) �
 adds_front before now m x (inl adds) = record { front = list_of x; rest = []; is = sym (append-nil (list_of x)); adds = adds_all before now m x adds }
 adds_front None now m x (inr keeps) = record { front = []; rest = list_of x; is = refl; adds = tt }
 adds_front (Some lists) now m x (inr keeps) = record { front = []; rest = list_of x; is = refl; adds = keeps }
-
-pub keeps_same : (told : Option Journals) → KeepsJournals told told
-keeps_same None = tt
-keeps_same (Some lists) = refl
 
 -- ---- vote
 

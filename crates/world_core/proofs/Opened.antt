@@ -6,8 +6,11 @@ use Rattle.std.proofs.lemmas.List.{map-append}
 use Rattle.chain_types.specs.declared.objects.Object.{Object}
 use Rattle.chain_types.specs.declared.objects.ObjectId.{ObjectId}
 use Rattle.chain_types.specs.Equal.{id_eq}
+use Rattle.protocol_spec.proofs.Equality.{id_same, test_turned}
+use Rattle.protocol_spec.proofs.ListLemmas.{any_last}
+use Rattle.protocol_spec.proofs.Truth.{or_false}
 use Rattle.protocol_spec.specs.Chain.Words.{repeats}
-use Rattle.version_store.proofs.Equality.{id_same, id_self, turn}
+use Rattle.version_store.proofs.Equality.{id_self}
 use Rattle.schedule_text.specs.declared.words.Setup.{Setup}
 use Rattle.world_spec.specs.Setting.{objects_from, with_new}
 use Rattle.world_core.specs.Openings.{has_id, object_id}
@@ -15,7 +18,7 @@ use Rattle.world_core.specs.Openings.{has_id, object_id}
 -- an id is among those of the objects
 seen_as : (objects : List Object) (o : Object) → has_id (map object_id objects) o.id ≡ list_any (λ (p : Object). id_eq p.id o.id) objects
 seen_as [] o = refl
-seen_as (p ∷ ps) o = ap (λ b. b || has_id (map object_id ps) o.id) (turn id_eq id_same id_self o.id p.id) ∙ ap (λ b. id_eq p.id o.id || b) (seen_as ps o)
+seen_as (p ∷ ps) o = ap (λ b. b || has_id (map object_id ps) o.id) (test_turned id_eq id_same id_self o.id p.id) ∙ ap (λ b. id_eq p.id o.id || b) (seen_as ps o)
 
 new_if : (objects : List Object) (o : Object) (ids : List ObjectId) (b : Bool) → ids ≡ map object_id objects → has_id ids o.id ≡ b → with_new objects o ≡ cond b objects (objects ++ o ∷ [])
 new_if objects o ids b same has = ap (λ c. cond c objects (objects ++ o ∷ [])) (sym (seen_as objects o) ∙ ap (λ xs. has_id xs o.id) (sym same) ∙ has)
@@ -31,28 +34,12 @@ id_added objects new o ids more same is now = is ∙ ap (λ xs. xs ++ o.id ∷ [
 
 -- ---- no id twice
 
-either_false : (a b : Bool) → (a || b) ≡ false → (a ≡ false) × (b ≡ false)
-either_false true b e = absurd (cc)
-either_false false b e = (refl, e)
-
-any_push : {A : Type 0} (test : A → Bool) (xs : List A) (x : A) → list_any test (xs ++ x ∷ []) ≡ (list_any test xs || test x)
-any_push test [] x = go (test x)
-  where
-    go : (b : Bool) → (b || false) ≡ (false || b)
-    go true = refl
-    go false = refl
-any_push test (y ∷ ys) x = go (test y) (any_push test ys x)
-  where
-    go : (b : Bool) → list_any test (ys ++ x ∷ []) ≡ (list_any test ys || test x) → (b || list_any test (ys ++ x ∷ [])) ≡ ((b || list_any test ys) || test x)
-    go true e = refl
-    go false e = e
-
 repeats_push : (ids : List ObjectId) (k : ObjectId) → repeats id_eq ids ≡ false → list_any (λ q. id_eq q k) ids ≡ false → repeats id_eq (ids ++ k ∷ []) ≡ false
 repeats_push [] k apart others = refl
 repeats_push (q ∷ qs) k apart others =
-    let n : (list_any (id_eq q) qs ≡ false) × (repeats id_eq qs ≡ false) = either_false (list_any (id_eq q) qs) (repeats id_eq qs) apart in
-    let o : (id_eq q k ≡ false) × (list_any (λ p. id_eq p k) qs ≡ false) = either_false (id_eq q k) (list_any (λ p. id_eq p k) qs) others in
-    ap (λ b. b || repeats id_eq (qs ++ k ∷ [])) (any_push (id_eq q) qs k ∙ ap (λ b. b || id_eq q k) n.0 ∙ o.0)
+    let n : (list_any (id_eq q) qs ≡ false) × (repeats id_eq qs ≡ false) = or_false (list_any (id_eq q) qs) (repeats id_eq qs) apart in
+    let o : (id_eq q k ≡ false) × (list_any (λ p. id_eq p k) qs ≡ false) = or_false (id_eq q k) (list_any (λ p. id_eq p k) qs) others in
+    ap (λ b. b || repeats id_eq (qs ++ k ∷ [])) (any_last (id_eq q) qs k ∙ ap (λ b. b || id_eq q k) n.0 ∙ o.0)
     ∙ repeats_push qs k n.1 o.1
 
 among_ids : (objects : List Object) (o : Object) → list_any (λ q. id_eq q o.id) (map object_id objects) ≡ list_any (λ (p : Object). id_eq p.id o.id) objects

@@ -4,11 +4,12 @@ use Rattle.std.specs.Prelude.{Bool, Result, Ok, Err, slice_get}
 use Rattle.std.proofs.lemmas.List.{get_or-set_same, length-replicate, get_or-replicate}
 use Rattle.journal_core.specs.declared.records.Record.{Record}
 use Rattle.journal_core.specs.Records.{journal_record}
-use Rattle.outside.specs.Lists.{Journals, KeepsJournals, journal_of, with_record}
+use Rattle.outside.specs.Lists.{Journals, journal_of, with_record}
 use Rattle.protocol_spec.specs.Member.Member.{Member}
 use Rattle.world_spec.specs.World.{stops, reached_up}
 use Rattle.scene_spec.specs.Posts.{AddsLeft, MayAddLeft, record_left}
 use Rattle.world_core.specs.Replies.{KeptWhere, Leaves, Met, spelled_due}
+use Rattle.validator_core.proofs.Settling.{keeps_same}
 
 -- ---- the record on paper
 
@@ -39,10 +40,6 @@ something_due (Some x) o bytes e some_ = (x, refl, cc)
 
 -- ---- a member that is up, with an armed stop
 
-pub same_lists : (lists : Option Journals) → KeepsJournals lists lists
-same_lists None = tt
-same_lists (Some lists) = refl
-
 pub met_idle : {A : Type 0} (Says : Member → A → Type 0) (state : Member) (kept : Bool) (x : Option Record) (o : Option (List ℕ)) (a : A) → o ≡ spelled_due x → o ≡ None → Says state a → Met Says (reached_up state (Some kept) x) (Some a)
 met_idle Says state kept x o a e none_ said = record { before = state; due = None; is = ap (reached_up state (Some kept)) (nothing_due x o e none_); says = said }
 
@@ -50,7 +47,7 @@ pub met_stop : {A : Type 0} (Says : Member → A → Type 0) (state : Member) (k
 met_stop Says state kept x o bytes e some_ = let d = something_due x o bytes e some_ in record { kept = kept; due = d.0; is = ap (reached_up state (Some kept)) d.1 }
 
 pub left_idle : (lists : Option Journals) (m : ℕ) (state : Member) (kept : Bool) (x : Option Record) (o : Option (List ℕ)) → o ≡ spelled_due x → o ≡ None → AddsLeft lists lists m (record_left (reached_up state (Some kept) x))
-left_idle lists m state kept x o e none_ = subst (λ (y : Option Record). AddsLeft lists lists m (record_left (reached_up state (Some kept) y))) (sym (nothing_due x o e none_)) (same_lists lists)
+left_idle lists m state kept x o e none_ = subst (λ (y : Option Record). AddsLeft lists lists m (record_left (reached_up state (Some kept) y))) (sym (nothing_due x o e none_)) (keeps_same lists)
 
 stopped : {A E : Type 0} (kept : Bool) (before now : Option Journals) (m : ℕ) (x : Record) (result : Result A E) → KeptWhere kept before now m (journal_record.spell x) result → Leaves before now m (record_left (stops kept x)) result
 stopped true before now m x (Ok a) h = h
@@ -67,4 +64,4 @@ left_stop before now m state kept x o bytes result e some_ h =
     (stopped kept before now m d.0 result (subst (λ (b : List ℕ). KeptWhere kept before now m b result) d.2 h))
 
 pub left_same : (lists : Option Journals) (m : ℕ) (x : Option Record) → MayAddLeft lists lists m x
-left_same lists m x = inr (same_lists lists)
+left_same lists m x = inr (keeps_same lists)

@@ -1,22 +1,22 @@
 -- A member that is handed entries, one after the other: behind the first that it does not take, nothing changes.
-use Rattle.std.proofs.Common.{◌≡◌, ◌∙◌, ap, sym, refl, subst, ℕ, zero, suc, Bool, true, false, cond, List, [], ◌∷◌, ◌++◌, map, length, Option, Some, None, option_map, Result, Ok, Err, append_assoc, append-nil, arith}
-use Rattle.std.specs.Prelude.{◌<◌, ◌-◌, slice_get, slice_set, option_and_then, min, is_some, nat_le, fold}
+use Rattle.std.proofs.Common.{◌≡◌, ◌∙◌, ap, sym, refl, subst, ℕ, zero, suc, Bool, true, false, List, [], ◌∷◌, ◌++◌, map, length, Option, Some, None, option_map, append_assoc, append-nil, arith}
+use Rattle.std.specs.Prelude.{◌<◌, ◌-◌, slice_get, slice_set, option_and_then, fold}
 use Rattle.chain_messages.specs.declared.messages.Entry.{Entry}
 use Rattle.chain_messages.specs.Messages as messages
 use Rattle.journal_core.specs.declared.records.Record.{Record}
 use Rattle.journal_core.specs.declared.records.Record.TheVariants as record_as
-use Rattle.answer_types.specs.declared.answers.Seen.{Seen}
 use Rattle.answer_types.specs.declared.refusals.SeeRefusal.{SeeRefusal}
 use Rattle.answer_types.specs.declared.refusals.SeeRefusal.TheVariants as no_see
 use Rattle.journal_core.specs.Records as journals
 use Rattle.outside.specs.Lists.{Journals, with_record}
 use Rattle.report_text.specs.declared.lines.Line.{Line}
+use Rattle.protocol_spec.proofs.ListLemmas.{set_get, set_same}
 use Rattle.protocol_spec.specs.Chain.Words.{first_some, refused_or, unless_refused}
 use Rattle.protocol_spec.specs.Chain.Certificates.{Rules}
 use Rattle.protocol_spec.specs.Member.Member.{Fork, Member, after, fork_of}
-use Rattle.protocol_spec.specs.Member.Calls.{Call, called, due, halted, see_after, see_answer, see_cases, see_fork, see_record, seen_as, sees}
+use Rattle.protocol_spec.specs.Member.Calls.{Call, called, due, see_after, see_answer, see_cases, see_record, seen_as, sees}
 use Rattle.world_spec.specs.Setting.{Trust}
-use Rattle.world_spec.specs.World.{Said, Reached, answers, built_statements, finds_down, next_call_of, next_entry, numbered_call, reached_up, said_by, stated, stops}
+use Rattle.world_spec.specs.World.{Said, Reached, answers, built_statements, next_call_of, next_entry, numbered_call, reached_up, said_by, stated, stops}
 use Rattle.world_spec.specs.Report.{Lines, and_lines, entry_lines, entry_reached}
 use Rattle.scene_spec.specs.Seats.{Seat}
 use Rattle.scene_spec.specs.Terms.{Terms, rules_for}
@@ -24,16 +24,6 @@ use Rattle.scene_spec.specs.Posts.{AddsAll, AddsFront, Post, list_of, post_behin
 use Rattle.scene_spec.specs.Scene.{Scene, bare_setting, bare_world, rules_in}
 use Rattle.scene_spec.specs.Steps.{call_lines_in, called_if, called_scene, entries_lines_in, left_if, next_on, seat_state, sees_left, sees_to, standing_at}
 use Rattle.world_core.specs.Sees.{HasSeen}
-
-pub set_same : {A : Type 0} (xs : List A) (m : ℕ) (x : A) → slice_get xs m ≡ Some x → slice_set xs m x ≡ xs
-set_same [] m x e = refl
-set_same {A} (y ∷ ys) zero x e = ap (λ (z : A). z ∷ ys) (let same : Some y ≡ Some x = e in sym (cc))
-set_same {A} (y ∷ ys) (suc m) x e = ap (λ (zs : List A). y ∷ zs) (set_same ys m x e)
-
-set_get : {A : Type 0} (xs : List A) (m : ℕ) (x y : A) → slice_get xs m ≡ Some x → slice_get (slice_set xs m y) m ≡ Some y
-set_get [] m x y e = absurd (cc)
-set_get (z ∷ zs) zero x y e = refl
-set_get (z ∷ zs) (suc m) x y e = set_get zs m x y e
 
 module _ (r : Rules) (m : ℕ) where
   -- nothing changes, however many entries are handed in

@@ -6,6 +6,7 @@ use Rattle.digest_core.specs.declared.Digest.{Digest}
 use Rattle.chain_messages.specs.declared.messages.Statement.{Statement}
 use Rattle.journal_core.specs.declared.records.Record.{Record}
 use Rattle.outside.specs.Lists.{Journals}
+use Rattle.protocol_spec.proofs.ListLemmas.{set_same}
 use Rattle.protocol_spec.specs.Chain.Certificates.{Rules}
 use Rattle.report_text.specs.declared.lines.EndText.{EndText}
 use Rattle.report_text.specs.declared.lines.Line.{Line}
@@ -13,7 +14,7 @@ use Rattle.report_text.specs.declared.lines.Line.TheVariants as line
 use Rattle.protocol_spec.specs.Member.Member.{Member}
 use Rattle.protocol_spec.specs.Member.Calls.{Call, ack_answer, acks, due, end_answer, ends}
 use Rattle.world_spec.specs.Setting.{Trust}
-use Rattle.world_spec.specs.World.{Reached, Said, answered_statement, answers, finds_down, reached_up, said_by, stated}
+use Rattle.world_spec.specs.World.{Reached, Said, answers, finds_down, reached_up, said_by, stated}
 use Rattle.world_spec.specs.Report.{ack_reached, end_reached}
 use Rattle.scene_spec.proofs.LineWorlds.{ack_same, end_same}
 use Rattle.scene_spec.specs.Seats.{Seat}
@@ -22,9 +23,9 @@ use Rattle.scene_spec.specs.Scene.{Scene, bare_setting, bare_world, rules_in}
 use Rattle.scene_spec.specs.Steps.{asks, called_scene, comes_to, seat_state, standing_at, state_at}
 use Rattle.world_core.specs.Epochs.{ack_statements, ack_text_by, end_statements, end_text_by}
 use Rattle.world_core.specs.Kept.{LeavesAs}
-use Rattle.world_core.proofs.Lines.{keeps_same, left_on}
-use Rattle.world_core.proofs.Seeing.{set_same}
+use Rattle.world_core.proofs.Lines.{left_on}
 use Rattle.world_core.proofs.Sound.{on_ok}
+use Rattle.validator_core.proofs.Settling.{keeps_same}
 
 -- a member in this state answers in it; one that is down finds nobody
 abbrev pub reached_of : Option Member → Reached

@@ -7,6 +7,7 @@ use Rattle.chain_types.specs.Transactions as transactions
 use Rattle.chain_messages.specs.Messages as messages
 use Rattle.chain_messages.specs.declared.messages.Certificate.{Certificate}
 use Rattle.chain_messages.specs.declared.messages.Entry.{Entry}
+use Rattle.protocol_spec.proofs.ListLemmas.{each_push}
 use Rattle.protocol_spec.specs.Chain.Words.{Each}
 use Rattle.quorum_core.specs.Committee.{committee_of, without_zero, zero_from}
 use Rattle.quorum_core.specs.declared.committee.CommitteeRefusal.TheVariants as refusal
@@ -23,10 +24,6 @@ use Rattle.world_lines.specs.Orders.{Orders, no_orders}
 use Rattle.scene_spec.specs.Steps.{held_in, with_tx}
 use Rattle.world_core.specs.Sound.{IsSound, IsSpelled, IsSpelledCert}
 use Rattle.world_core.proofs.Opened.{opening_apart}
-
-each_push : {A : Type 0} (P : A → Type 0) (xs : List A) (x : A) → Each P xs → P x → Each P (xs ++ x ∷ [])
-each_push P [] x all one = (one, tt)
-each_push P (y ∷ ys) x all one = (all.0, each_push P ys x all.1 one)
 
 -- the first world
 pub sound_first : (lines : List Setup) (opening : List Object) (known : Known) (orders : Orders) (certs : List Formed) → opening ≡ fold with_new [] (objects_from 0 lines) → known ≡ known_by lines → orders ≡ no_orders → certs ≡ [] → IsSound opening known certs orders.sequences
@@ -83,7 +80,7 @@ few_stakes stakes c is = go (length stakes == 0) (nat_lt 64 (length stakes)) ref
     go false true n e = absurd (cc)
     go false false n e = let a = ltb-false 64 (length stakes) n in omega arith
 
-as_many : (lines : List Setup) → length (honest_of lines) ≡ length (stakes_of lines)
+pub as_many : (lines : List Setup) → length (honest_of lines) ≡ length (stakes_of lines)
 as_many [] = refl
 as_many (line.Member stake honest ∷ lines) = ap suc (as_many lines)
 as_many (line.Coin name who balance ∷ lines) = as_many lines

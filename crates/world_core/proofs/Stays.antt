@@ -1,7 +1,8 @@
 -- A step leaves the number of members and the terms as they are.
 use Rattle.std.proofs.Common.{◌≡◌, ◌∙◌, ap, sym, refl, subst, ℕ, zero, suc, Bool, true, false, cond, List, [], ◌∷◌, ◌++◌, length, Option, Some, None, Result, Ok, Err}
-use Rattle.std.specs.Prelude.{OnOk, slice_get, slice_set}
+use Rattle.std.specs.Prelude.{OnOk, slice_get}
 use Rattle.outside.specs.Lists.{Journals}
+use Rattle.protocol_spec.proofs.ListLemmas.{set_length}
 use Rattle.protocol_spec.specs.Chain.Certificates.{Rules}
 use Rattle.protocol_spec.specs.Member.Calls.{Call, acks, closes, ends, holds, runs, turns, votes}
 use Rattle.schedule_text.specs.declared.words.Event.{Event}
@@ -17,18 +18,13 @@ use Rattle.world_core.specs.Restarts.{Accepting, RestartsAs}
 use Rattle.world_core.specs.Stays.{Stays}
 use Rattle.world_core.specs.declared.world.WorldFault.{WorldFault}
 
-set_many : {A : Type 0} (xs : List A) (k : ℕ) (x : A) → length (slice_set xs k x) ≡ length xs
-set_many [] k x = refl
-set_many (y ∷ ys) zero x = refl
-set_many (y ∷ ys) (suc k) x = ap suc (set_many ys k x)
-
 changed_many : (posts : List Post) (m : ℕ) (change : Post → Post) (p : Option Post) → length (changed_at posts m change p) ≡ length posts
 changed_many posts m change None = refl
-changed_many posts m change (Some p) = set_many posts m (change p)
+changed_many posts m change (Some p) = set_length posts m (change p)
 
 called_many : (r : Rules) (call : Call) (posts : List Post) (m : ℕ) (p : Option Post) → length (posts_with r call posts m p) ≡ length posts
 called_many r call posts m None = refl
-called_many r call posts m (Some p) = set_many posts m _
+called_many r call posts m (Some p) = set_length posts m _
 
 one_call : (r : Rules) (sc : Scene) (m : ℕ) (call : Call) → Stays sc (called_scene r sc m call)
 one_call r sc m call = record { many = called_many r call sc.posts m (slice_get sc.posts m); terms = refl }

@@ -1,18 +1,18 @@
 -- False votes and certificates of a scene.
 use Rattle.std.proofs.Common.{arith, ◌≡◌, ◌∙◌, ap, sym, refl, subst, ◌≤◌, ◌<◌, ℕ, zero, suc, Bool, true, false, cond, List, [], ◌∷◌, ◌++◌, map, length, append_assoc, append-nil, Option, Some, None, option_map}
-use Rattle.std.specs.Prelude.{IfSome, bytes_eq, filter, find, fold, slice_get}
+use Rattle.std.specs.Prelude.{bytes_eq, filter, find, fold, slice_get}
 use Rattle.digest_core.specs.declared.Digest.{Digest}
 use Rattle.quorum_core.specs.declared.signer.Signer.{Signer}
 use Rattle.wire_bcs.specs.Digests.{digest}
 use Rattle.chain_types.specs.declared.transactions.Input.{Input}
 use Rattle.chain_types.specs.declared.transactions.Input.TheVariants as input
 use Rattle.chain_types.specs.declared.transactions.Transaction.{Transaction}
-use Rattle.chain_types.specs.declared.transactions.SignedTx.{SignedTx}
 use Rattle.chain_types.specs.Digests.{is_object}
 use Rattle.chain_types.specs.Transactions as transactions
 use Rattle.chain_messages.specs.declared.messages.Certificate.{Certificate}
 use Rattle.chain_messages.specs.declared.messages.Statement.TheVariants as statement
 use Rattle.chain_messages.specs.Messages as messages
+use Rattle.protocol_spec.proofs.Checked.{origin_short, tx_short}
 use Rattle.protocol_spec.specs.Chain.Tests.{origins_eq}
 use Rattle.protocol_spec.specs.Chain.Words.{Each, first_some, last_where, where_true}
 use Rattle.report_text.specs.declared.lines.Line.{Line}
@@ -126,15 +126,6 @@ named_spelled (x ∷ xs) name t all e = go (bytes_eq x.name name) refl (λ h. na
 -- a transaction of a name can be spelled
 pub spelled_named : (k : Known) (name : Name) (made : MadeTx) → Each IsSpelled k.txs → Some (made_as made) ≡ made_named (world_with k) name → transactions.signed.short made.signed
 spelled_named k name made all e = named_spelled k.txs name (made_as made) all (sym e)
-
-origin_short : (o : Option Digest) → IfSome o digest.short
-unfolding digest
-origin_short None = tt
-origin_short (Some d) = tt
-
-tx_short : (x : SignedTx) → transactions.signed.short x → transactions.transaction.short x.tx
-unfolding transactions.signed
-tx_short x is = is.0
 
 -- a certificate whose lists are not too long
 pub certificate_short : (seal : Signer → List ℕ → Digest) (t : MadeTx) (origins : List (Option Digest)) (ms : List ℕ) (c : Certificate)

@@ -12,6 +12,8 @@ use Rattle.chain_types.specs.Equal.{digest_eq}
 use Rattle.chain_messages.specs.declared.messages.Certificate.{Certificate}
 use Rattle.chain_messages.specs.declared.messages.Statement.{Statement}
 use Rattle.chain_messages.specs.declared.messages.Statement.TheVariants as statement
+use Rattle.protocol_spec.proofs.Equality.{digest_same, bytes_turned}
+use Rattle.protocol_spec.proofs.Truth.{and_true}
 use Rattle.protocol_spec.specs.Chain.Words.{first_some, last_where, where_true}
 use Rattle.world_spec.specs.World.{Said, Formed}
 use Rattle.world_spec.specs.Names.{cert_in}
@@ -25,9 +27,6 @@ use Rattle.world_lines.specs.Places.{LastPlaced, last_place}
 use Rattle.world_lines.specs.Keys.{AreLast, Notes, ack_key, ack_key_eq, is_key, is_keyed, key_of_ack, key_of_end, key_of_vote, vote_key, vote_key_eq, with_place}
 use Rattle.world_lines.specs.Rows.{formed_as, formed_list, is_named, row_cert, row_effects, row_end, row_origins, said_as, said_list}
 use Rattle.world_lines.proofs.Places.{found, placed_more, placed_same}
-
-turned : (a b : List ℕ) → bytes_eq a b ≡ bytes_eq b a
-turned a b = same_from_decides (bytes_eq a b) (bytes_eq b a) (bytes_eq-Decides a b) ((λ h. sym ((bytes_eq-Decides b a).0 h)), (λ e. (bytes_eq-Decides b a).1 (sym e)))
 
 silent : {A : Type 0} → (b : Bool) → cond b (let o : Option A = None in o) None ≡ None
 silent true = refl
@@ -189,32 +188,24 @@ module _ {K : Type 0} (equal : K → K → Bool) (one : (a b : K) → equal a b 
           placed_more equal equal respects meets (is_keyed equal key_of) rows places (record { member = m; statement = st }) placed puts last adds
           (λ k. both_ways k x ∙ sym (ap (is_key equal k) is))
 
-both_true : (a b : Bool) → (a && b) ≡ true → (a ≡ true) × (b ≡ true)
-both_true true true h = (refl, refl)
-both_true true false h = absurd (cc)
-both_true false b h = absurd (cc)
-
-one_digest : (a b : Digest) → digest_eq a b ≡ true → a ≡ b
-one_digest a b h = ap (λ (x : List ℕ). record { 0 = x }) ((bytes_eq-Decides a.0 b.0).0 h)
-
 digest_itself : (a : Digest) → digest_eq a a ≡ true
 digest_itself a = (bytes_eq-Decides a.0 a.0).1 refl
 
 one_vote_key : (a b : VoteKey) → vote_key_eq a b ≡ true → a ≡ b
 one_vote_key a b h =
-    let parts = both_true (a.member == b.member) (digest_eq a.tx b.tx) h in
-    ap (λ (m : ℕ). vote_key m a.tx) (eqb-true a.member b.member parts.0) ∙ ap (vote_key b.member) (one_digest a.tx b.tx parts.1)
+    let parts = and_true (a.member == b.member) (digest_eq a.tx b.tx) h in
+    ap (λ (m : ℕ). vote_key m a.tx) (eqb-true a.member b.member parts.0) ∙ ap (vote_key b.member) (digest_same a.tx b.tx parts.1)
 
 vote_key_itself : (a : VoteKey) → vote_key_eq a a ≡ true
 vote_key_itself a = ap (λ b. b && digest_eq a.tx a.tx) (eq-eqb a.member a.member refl) ∙ digest_itself a.tx
 
 one_ack_key : (a b : AckKey) → ack_key_eq a b ≡ true → a ≡ b
 one_ack_key a b h =
-    let parts = both_true ((a.member == b.member) && (a.epoch == b.epoch)) (digest_eq a.tx b.tx) h in
-    let numbers = both_true (a.member == b.member) (a.epoch == b.epoch) parts.0 in
+    let parts = and_true ((a.member == b.member) && (a.epoch == b.epoch)) (digest_eq a.tx b.tx) h in
+    let numbers = and_true (a.member == b.member) (a.epoch == b.epoch) parts.0 in
     ap (λ (m : ℕ). ack_key m a.epoch a.tx) (eqb-true a.member b.member numbers.0)
     ∙ ap (λ (e : ℕ). ack_key b.member e a.tx) (eqb-true a.epoch b.epoch numbers.1)
-    ∙ ap (ack_key b.member b.epoch) (one_digest a.tx b.tx parts.1)
+    ∙ ap (ack_key b.member b.epoch) (digest_same a.tx b.tx parts.1)
 
 ack_key_itself : (a : AckKey) → ack_key_eq a a ≡ true
 ack_key_itself a =
@@ -275,7 +266,7 @@ pub formed_more : (rows : List FormedRow) (places : List (Vec ℕ Global × ℕ)
     → LastPlaced name_same is_named rows places → fs ≡ insert_entry names_equal places key n → key.items ≡ r.name → n ≡ length rows → ys ≡ rows ++ r ∷ []
     → LastPlaced name_same is_named ys fs
 formed_more rows places r key placed puts of last adds =
-    placed_more name_same names_equal names_respect names_meet is_named rows places r placed puts last adds (λ k. ap (bytes_eq k) of ∙ turned k r.name)
+    placed_more name_same names_equal names_respect names_meet is_named rows places r placed puts last adds (λ k. ap (bytes_eq k) of ∙ bytes_turned k r.name)
 
 pub formed_behind : (rows : List FormedRow) (formed : List Formed) (name : List ℕ) (cert : Certificate) {ys : List FormedRow} → formed_list rows ≡ formed → ys ≡ rows ++ record { name = name; cert = cert } ∷ []
     → formed_list ys ≡ formed ++ record { name = name; cert = cert } ∷ []

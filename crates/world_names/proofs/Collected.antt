@@ -2,8 +2,9 @@
 use Rattle.std.proofs.Common.{◌≡◌, ◌∙◌, ap, sym, ℕ, suc, ◌+◌, List, [], ◌∷◌, ◌++◌, length, Option, Some, None, map, append_assoc, append-nil, arith}
 use Rattle.std.specs.Prelude.{filter_map}
 use Rattle.std.specs.List.{cons_option}
-use Rattle.std.proofs.lemmas.List.{map-append, length-append}
+use Rattle.std.proofs.lemmas.List.{map-append}
 use Rattle.digest_core.specs.declared.Digest.{Digest}
+use Rattle.protocol_spec.proofs.ListLemmas.{push_length}
 use Rattle.protocol_spec.specs.Chain.Words.{numbers_below}
 use Rattle.world_spec.specs.World.{Drawn}
 use Rattle.world_spec.specs.Names.{drawn_as}
@@ -29,9 +30,6 @@ pub words_added : {W : Type 0} → (says : W → Option Drawn) (o : Option Drawn
 words_added says None words = all_added says [] words
 words_added says (Some d) words = all_added says (d ∷ []) words
 
-pub one_longer : {A : Type 0} → (xs : List A) (x : A) → length (xs ++ x ∷ []) ≡ length xs + 1
-one_longer xs x = length-append xs (x ∷ [])
-
 -- one more id
 pub one_drawn : (tx : Digest) (rows : List DrawnRow) (row : DrawnRow) → AreDrawn tx rows → drawn_of row ≡ drawn_as tx (length rows) → AreDrawn tx (rows ++ row ∷ [])
 one_drawn tx rows row drawn is =
@@ -39,7 +37,7 @@ one_drawn tx rows row drawn is =
     ∙ ap (λ xs. xs ++ drawn_of row ∷ []) drawn
     ∙ ap (λ x. map (drawn_as tx) (numbers_below (length rows)) ++ x ∷ []) is
     ∙ sym (map_push (drawn_as tx) (numbers_below (length rows)) (length rows))
-    ∙ ap (λ n. map (drawn_as tx) (numbers_below n)) (sym (one_longer rows row ∙ later (length rows)))
+    ∙ ap (λ n. map (drawn_as tx) (numbers_below n)) (sym (push_length rows row ∙ later (length rows)))
   where
     later : (n : ℕ) → n + 1 ≡ suc n
     later n = omega arith

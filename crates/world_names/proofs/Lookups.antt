@@ -1,28 +1,9 @@
 -- Look-ups in lists, by what their rows stand for.
-use Rattle.std.proofs.Common.{◌≡◌, ◌∙◌, ap, sym, refl, ℕ, ◌+◌, Bool, true, false, cond, not, List, [], ◌∷◌, length, Option, Some, None, option_map, map, nat_lt}
-use Rattle.std.specs.Prelude.{position, find, bytes_eq}
+use Rattle.std.proofs.Common.{◌≡◌, ◌∙◌, ap, refl, ◌+◌, Bool, true, false, cond, not, List, [], ◌∷◌, length, Option, Some, None, option_map, map, nat_lt}
+use Rattle.std.specs.Prelude.{position, find}
 use Rattle.std.specs.List.{position_or_len}
-use Rattle.std.proofs.lemmas.Slice.Eq.{bytes_eq-Decides}
 use Rattle.std.proofs.lemmas.List.{length-map}
-use Rattle.digest_core.specs.declared.Digest.{Digest}
-use Rattle.chain_types.specs.Equal.{digest_eq}
 use Rattle.protocol_spec.specs.Chain.Words.{first_of, first_some, where_true}
-
--- a test of names does not depend on the order
-pub turn : (a b : List ℕ) → bytes_eq a b ≡ bytes_eq b a
-turn a b = go (bytes_eq a b) (bytes_eq b a) refl refl
-  where
-    clash : true ≡ false → ⊥
-    clash h = cc
-
-    go : (x y : Bool) → bytes_eq a b ≡ x → bytes_eq b a ≡ y → bytes_eq a b ≡ bytes_eq b a
-    go true true p q = p ∙ sym q
-    go false false p q = p ∙ sym q
-    go true false p q = absurd (clash (sym ((bytes_eq-Decides b a).1 (sym ((bytes_eq-Decides a b).0 p))) ∙ q))
-    go false true p q = absurd (clash (sym ((bytes_eq-Decides a b).1 (sym ((bytes_eq-Decides b a).0 q))) ∙ p))
-
-pub turn_digest : (a b : Digest) → digest_eq a b ≡ digest_eq b a
-turn_digest a b = turn a.0 b.0
 
 -- searches by another test that says the same
 pub find_same : {A : Type 0} → (p q : A → Bool) → ((x : A) → p x ≡ q x) → (xs : List A) → find p xs ≡ find q xs

@@ -1,5 +1,5 @@
 -- Transactions whose lists are short enough can be spelled.
-use Rattle.std.proofs.Common.{◌≡◌, ℕ, suc, zero, ◌<◌, Bool, true, false, ◌||◌, List, [], ◌∷◌, length, refl, arith}
+use Rattle.std.proofs.Common.{◌≡◌, ◌<◌, Bool, true, false, ◌||◌, List, length, refl, arith}
 use Rattle.std.specs.Prelude.{All, slice_index_or}
 use Rattle.std.specs.List.{list_any}
 use Rattle.std.proofs.lemmas.Bool.{ltb-false}
@@ -17,25 +17,8 @@ use Rattle.chain_types.specs.declared.transactions.Input.TheVariants as input
 use Rattle.chain_types.specs.declared.transactions.Transaction.{Transaction}
 use Rattle.chain_types.specs.Transactions as codecs
 use Rattle.world_names.specs.Short.{has_long_list, is_long_command, is_long_input, is_long_list}
-
-none_of : {A : Type 0} (test : A → Bool) (P : A → Type 0) → ((x : A) → test x ≡ false → P x) → (xs : List A) → list_any test xs ≡ false → All P xs
-none_of test P holds [] e = λ k d l. absurd (omega arith)
-none_of {A = A} test P holds (x ∷ xs) e = go (test x) refl e (none_of test P holds xs)
-  where
-    go : (b : Bool) → test x ≡ b → (b || list_any test xs) ≡ false → (list_any test xs ≡ false → All P xs) → All P (x ∷ xs)
-    go true is h more = absurd (cc)
-    go false is h more = λ k d l. at k d l
-      where
-        at : (k : ℕ) → (d : A) → k < length (x ∷ xs) → P (slice_index_or (x ∷ xs) k d)
-        at zero d l = holds x is
-        at (suc k) d l = more h k d (omega arith)
-
-argument_short : (a : Argument) → codecs.argument.short a
-unfolding codecs.argument
-argument_short argument.Gas = tt
-argument_short (argument.Input n) = tt
-argument_short (argument.Result c) = tt
-argument_short (argument.Nested c k) = (tt, tt)
+use Rattle.protocol_spec.proofs.Checked.{argument_short}
+use Rattle.protocol_spec.proofs.ListLemmas.{none_of}
 
 kind_short : (k : Kind) → kind.short k
 unfolding kind

@@ -8,6 +8,7 @@ use Rattle.chain_types.specs.declared.objects.Address.{Address}
 use Rattle.chain_types.specs.declared.objects.Object.{Object}
 use Rattle.chain_types.specs.declared.objects.ObjectId.{ObjectId}
 use Rattle.chain_types.specs.Equal.{digest_eq, id_eq}
+use Rattle.protocol_spec.proofs.Equality.{bytes_turned, digest_turned}
 use Rattle.protocol_spec.specs.Chain.Words.{first_of, first_some}
 use Rattle.world_spec.specs.Setting.{Name, Thing, User}
 use Rattle.world_spec.specs.World.{Made, Drawn}
@@ -18,7 +19,7 @@ use Rattle.world_names.specs.declared.rows.MadeTx.{MadeTx}
 use Rattle.world_names.specs.declared.rows.DrawnRow.{DrawnRow}
 use Rattle.scene_spec.specs.Known.{Known, setting_with, world_with}
 use Rattle.world_names.specs.Rows.{drawn_of, known_as, made_as, thing_as, user_as}
-use Rattle.world_names.proofs.Lookups.{find_map, find_same, first_where, position_map, turn, turn_digest}
+use Rattle.world_names.proofs.Lookups.{find_map, find_same, first_where, position_map}
 
 row_name : MadeTx → Name
 row_name r = r.name
@@ -31,7 +32,7 @@ module _ (things : List ThingRow) (users : List UserRow) (txs : List MadeTx) (dr
   tx_found : (tx : Digest) → find (λ (t : Made). digest_eq t.digest tx) k.txs ≡ option_map made_as (find (λ (r : MadeTx). digest_eq tx r.digest) txs)
   tx_found tx =
       ap (find (λ (t : Made). digest_eq t.digest tx)) (sym txs_are) ∙ find_map made_as (λ (t : Made). digest_eq t.digest tx) txs
-      ∙ ap (option_map made_as) (find_same (λ (r : MadeTx). digest_eq r.digest tx) (λ (r : MadeTx). digest_eq tx r.digest) (λ r. turn_digest r.digest tx) txs)
+      ∙ ap (option_map made_as) (find_same (λ (r : MadeTx). digest_eq r.digest tx) (λ (r : MadeTx). digest_eq tx r.digest) (λ r. digest_turned r.digest tx) txs)
 
   pub tx_named : (tx : Digest) (o : Option MadeTx) → o ≡ find (λ (r : MadeTx). digest_eq tx r.digest) txs → name_or (option_map made_name (option_map made_as o)) ≡ tx_name (world_with k) tx
   tx_named tx o is = ap (λ x. name_or (option_map made_name (option_map made_as x))) is ∙ sym (ap (λ x. name_or (option_map made_name x)) (tx_found tx))
@@ -44,7 +45,7 @@ module _ (things : List ThingRow) (users : List UserRow) (txs : List MadeTx) (dr
 
   pub made_found : (name : Name) (o : Option MadeTx) → o ≡ find (λ (r : MadeTx). bytes_eq name r.name) txs → option_map made_as o ≡ made_named (world_with k) name
   made_found name o is =
-      ap (option_map made_as) (is ∙ find_same (λ (r : MadeTx). bytes_eq name r.name) (λ (r : MadeTx). bytes_eq r.name name) (λ r. turn name r.name) txs)
+      ap (option_map made_as) (is ∙ find_same (λ (r : MadeTx). bytes_eq name r.name) (λ (r : MadeTx). bytes_eq r.name name) (λ r. bytes_turned name r.name) txs)
       ∙ sym (find_map made_as (λ (t : Made). bytes_eq t.name name) txs)
       ∙ ap (find (λ (t : Made). bytes_eq t.name name)) txs_are
 
@@ -53,13 +54,13 @@ module _ (things : List ThingRow) (users : List UserRow) (txs : List MadeTx) (dr
 
   pub thing_found : (name : Name) (o : Option ThingRow) → o ≡ find (λ (r : ThingRow). bytes_eq name r.name) things → option_map thing_as o ≡ find (λ (t : Thing). bytes_eq t.name name) k.things
   thing_found name o is =
-      ap (option_map thing_as) (is ∙ find_same (λ (r : ThingRow). bytes_eq name r.name) (λ (r : ThingRow). bytes_eq r.name name) (λ r. turn name r.name) things)
+      ap (option_map thing_as) (is ∙ find_same (λ (r : ThingRow). bytes_eq name r.name) (λ (r : ThingRow). bytes_eq r.name name) (λ r. bytes_turned name r.name) things)
       ∙ sym (find_map thing_as (λ (t : Thing). bytes_eq t.name name) things)
       ∙ ap (find (λ (t : Thing). bytes_eq t.name name)) things_are
 
   thing_with : (id : ObjectId) (o : Option ThingRow) → o ≡ find (λ (r : ThingRow). digest_eq id.0 r.id.0) things → option_map thing_as o ≡ find (λ (t : Thing). id_eq t.id id) k.things
   thing_with id o is =
-      ap (option_map thing_as) (is ∙ find_same (λ (r : ThingRow). digest_eq id.0 r.id.0) (λ (r : ThingRow). digest_eq r.id.0 id.0) (λ r. turn_digest id.0 r.id.0) things)
+      ap (option_map thing_as) (is ∙ find_same (λ (r : ThingRow). digest_eq id.0 r.id.0) (λ (r : ThingRow). digest_eq r.id.0 id.0) (λ r. digest_turned id.0 r.id.0) things)
       ∙ sym (find_map thing_as (λ (t : Thing). id_eq t.id id) things)
       ∙ ap (find (λ (t : Thing). id_eq t.id id)) things_are
 
@@ -68,7 +69,7 @@ module _ (things : List ThingRow) (users : List UserRow) (txs : List MadeTx) (dr
 
   drawn_with : (id : ObjectId) (o : Option DrawnRow) → o ≡ find (λ (r : DrawnRow). digest_eq id.0 r.id.0) drawn → option_map drawn_of o ≡ find (λ (d : Drawn). id_eq d.id id) k.drawn
   drawn_with id o is =
-      ap (option_map drawn_of) (is ∙ find_same (λ (r : DrawnRow). digest_eq id.0 r.id.0) (λ (r : DrawnRow). digest_eq r.id.0 id.0) (λ r. turn_digest id.0 r.id.0) drawn)
+      ap (option_map drawn_of) (is ∙ find_same (λ (r : DrawnRow). digest_eq id.0 r.id.0) (λ (r : DrawnRow). digest_eq r.id.0 id.0) (λ r. digest_turned id.0 r.id.0) drawn)
       ∙ sym (find_map drawn_of (λ (d : Drawn). id_eq d.id id) drawn)
       ∙ ap (find (λ (d : Drawn). id_eq d.id id)) drawn_are
 
@@ -76,7 +77,7 @@ module _ (things : List ThingRow) (users : List UserRow) (txs : List MadeTx) (dr
       → name_or (option_map (λ (u : User). u.name) (option_map user_as o)) ≡ address_name (world_with k) a
   user_named a o is =
       ap (λ x. name_or (option_map (λ (u : User). u.name) x))
-      (ap (option_map user_as) (is ∙ find_same (λ (r : UserRow). digest_eq a.0 r.address) (λ (r : UserRow). digest_eq r.address a.0) (λ r. turn_digest a.0 r.address) users)
+      (ap (option_map user_as) (is ∙ find_same (λ (r : UserRow). digest_eq a.0 r.address) (λ (r : UserRow). digest_eq r.address a.0) (λ r. digest_turned a.0 r.address) users)
       ∙ sym (find_map user_as (λ (u : User). digest_eq u.address a.0) users)
       ∙ ap (find (λ (u : User). digest_eq u.address a.0)) (ap (λ (j : Known). j.users) view))
       ∙ sym (ap name_or (first_where (λ (u : User). digest_eq u.address a.0) (λ (u : User). u.name) k.users))
@@ -107,7 +108,7 @@ module _ (things : List ThingRow) (users : List UserRow) (txs : List MadeTx) (dr
   -- ranks
   pub line_found : (tx : Digest) → position (λ (r : MadeTx). digest_eq tx r.digest) txs ≡ position (λ (t : Made). digest_eq t.digest tx) k.txs
   line_found tx =
-      sym (position_map made_as (λ (t : Made). digest_eq t.digest tx) (λ (r : MadeTx). digest_eq tx r.digest) (λ r. turn_digest r.digest tx) txs)
+      sym (position_map made_as (λ (t : Made). digest_eq t.digest tx) (λ (r : MadeTx). digest_eq tx r.digest) (λ r. digest_turned r.digest tx) txs)
       ∙ ap (position (λ (t : Made). digest_eq t.digest tx)) txs_are
 
   pub count_txs : length txs ≡ length k.txs
@@ -115,7 +116,7 @@ module _ (things : List ThingRow) (users : List UserRow) (txs : List MadeTx) (dr
 
   thing_place : (id : ObjectId) → position (λ (r : ThingRow). digest_eq id.0 r.id.0) things ≡ position (λ (t : Thing). id_eq t.id id) k.things
   thing_place id =
-      sym (position_map thing_as (λ (t : Thing). id_eq t.id id) (λ (r : ThingRow). digest_eq id.0 r.id.0) (λ r. turn_digest r.id.0 id.0) things)
+      sym (position_map thing_as (λ (t : Thing). id_eq t.id id) (λ (r : ThingRow). digest_eq id.0 r.id.0) (λ r. digest_turned r.id.0 id.0) things)
       ∙ ap (position (λ (t : Thing). id_eq t.id id)) things_are
 
   pub thing_rank : (o : Object) (n : ℕ) → Some n ≡ position (λ (r : ThingRow). digest_eq o.id.0 r.id.0) things → ((0, n), 0) ≡ rank (setting_with k) (world_with k) o

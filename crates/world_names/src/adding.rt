@@ -90,7 +90,7 @@ fn draws_of(command: &Command) -> usize
 }
 
 /// Adds the id of the next creation number.
-#[tactic(auto, using(crate::proofs::Collected::one_drawn, crate::proofs::Collected::one_longer))]
+#[tactic(auto, using(crate::proofs::Collected::one_drawn, protocol_spec::proofs::ListLemmas::push_length))]
 fn add_next(rows: &mut Vec<DrawnRow>, tx: &Digest) -> Result<(), OutOfMemory>
     requires { AreDrawn tx.now rows.old.items }
     ensures drawn { OnOk result (AreDrawn tx.now rows.new.items) }

@@ -1,7 +1,8 @@
 use Rattle.std.proofs.Common.{sym, ◌∙◌}
 use Rattle.world_core.specs.Trusts.{trust_by}
-use Rattle.committee_core.proofs.Replays.{cut_none, keeps_lists, known_honest, known_none, none_not_six, whole_honest, whole_none}
+use Rattle.committee_core.proofs.Replays.{cut_none, known_honest, known_none, none_not_six, whole_honest, whole_none}
 use Rattle.committee_core.proofs.replay.replay_member.Goals as goal
+use Rattle.validator_core.proofs.Settling.{keeps_same}
 
 pub returns-then-is_honest-clause-whole : goal.returns-then-is_honest-clause-whole
 returns-then-is_honest-clause-whole g c = λ is. whole_honest _ c.args.member _ _ _ c.replay_honest.result c.replay_honest.ensures.known c.replay_honest.ensures.whole is
@@ -37,7 +38,7 @@ pub returns-then-is_honest-clause-write_fault : goal.returns-then-is_honest-clau
 returns-then-is_honest-clause-write_fault g c = c.replay_honest.ensures.write_fault
 
 pub returns-clause-stays : goal.returns-clause-stays
-returns-clause-stays g c = keeps_lists (g.D.Keeper.lists c.args.keeper.now)
+returns-clause-stays g c = keeps_same (g.D.Keeper.lists c.args.keeper.now)
 
 pub returns-clause-write_fault : goal.returns-clause-write_fault
 returns-clause-write_fault g c = c.say_no_member.ensures.write_fault

@@ -1,6 +1,7 @@
 use Rattle.std.proofs.Common.{inl}
-use Rattle.committee_core.proofs.Replays.{keeps_held, keeps_lists, seven_not_six, seven_not_whole}
+use Rattle.committee_core.proofs.Replays.{keeps_held, seven_not_six, seven_not_whole}
 use Rattle.committee_core.proofs.replay.replay_schedule.Goals as goal
+use Rattle.validator_core.proofs.Settling.{keeps_same}
 
 pub returns-in-Ok-clause-known : goal.returns-in-Ok-clause-known
 returns-in-Ok-clause-known g c = c.replay_member.ensures.known
@@ -21,7 +22,7 @@ pub returns-in-Ok-clause-cut : goal.returns-in-Ok-clause-cut
 returns-in-Ok-clause-cut g c = c.replay_member.ensures.cut
 
 pub returns-in-Err-clause-stays : goal.returns-in-Err-clause-stays
-returns-in-Err-clause-stays g c = keeps_lists (g.D.Keeper.lists c.args.keeper.now)
+returns-in-Err-clause-stays g c = keeps_same (g.D.Keeper.lists c.args.keeper.now)
 
 pub returns-in-Err-clause-whole : goal.returns-in-Err-clause-whole
 returns-in-Err-clause-whole g c = λ is. seven_not_whole is

@@ -3,8 +3,9 @@ use Rattle.std.specs.Option.{option_copied_mut}
 use Rattle.std.specs.Prelude.{unwrap_or}
 use Rattle.std.proofs.lemmas.Result.{on_ok_weaker}
 use Rattle.exec_plan.specs.Behind.{KeepsListed, Lists, listed}
-use Rattle.exec_plan.proofs.Filing.{grows, kept_listed, now_listed, push_has}
+use Rattle.exec_plan.proofs.Filing.{grows, kept_listed, now_listed}
 use Rattle.exec_plan.proofs.behind.add_behind.Goals as goal
+use Rattle.protocol_spec.proofs.ListLemmas.{push_has}
 
 pub returns-in-Some-clause-kept : goal.returns-in-Some-clause-kept
 returns-in-Some-clause-kept c =

@@ -1,6 +1,7 @@
 use Rattle.std.proofs.Common.{◌∙◌, ap, sym, is_some}
-use Rattle.exec_plan.proofs.Growing.{let_is, some_mapped}
+use Rattle.exec_plan.proofs.Growing.{let_is}
 use Rattle.exec_plan.proofs.inputs.is_let.Goals as goal
+use Rattle.protocol_spec.proofs.Truth.{some_mapped}
 
 pub returns-else-not-has_shared_input : goal.returns-else-not-has_shared_input
 returns-else-not-has_shared_input c =

@@ -1,9 +1,10 @@
 use Rattle.std.proofs.Common.{refl, sym}
-use Rattle.inspect_core.proofs.Ended.{never_two, no_words, obeyed, unused}
+use Rattle.inspect_core.proofs.Ended.{no_words, obeyed, unused}
 use Rattle.inspect_core.proofs.top.inspect.Goals as goal
+use Rattle.committee_core.proofs.Usage.{replayed}
 
 pub returns-in-Some-clause-usage : goal.returns-in-Some-clause-usage
-returns-in-Some-clause-usage g c = (λ two. absurd (never_two _ c.ask.ensures.known two), λ none. no_words _ _ c.in-Some.ensures none)
+returns-in-Some-clause-usage g c = (λ two. absurd (replayed _ c.ask.ensures.known two), λ none. no_words _ _ c.in-Some.ensures none)
 
 pub returns-in-Some-clause-ends : goal.returns-in-Some-clause-ends
 returns-in-Some-clause-ends g c = obeyed _ c.in-Some.question _ _ _ c.in-Some.ensures (record {

@@ -1,6 +1,7 @@
 use Rattle.std.proofs.Common.{Some, None}
-use Rattle.tx_check.proofs.Least.{in_lists, in_commands, valid_few, valid_short}
+use Rattle.tx_check.proofs.Least.{in_lists, in_commands, valid_short}
 use Rattle.tx_check.proofs.shape.check_shape.Goals as goal
+use Rattle.protocol_spec.proofs.Checked.{few_inputs}
 
 pub returns-in-Some-clause-fault : goal.returns-in-Some-clause-fault
 returns-in-Some-clause-fault c = in_lists c.args.tx.now c.in-Some.number (cc (c.in-Some.is, c.in_ok-number.ensures))
@@ -18,4 +19,4 @@ returns-in-None-clause-short c =
 
 pub returns-in-None-clause-few : goal.returns-in-None-clause-few
 returns-in-None-clause-few c =
-    valid_few c.args.tx.now (in_commands c.args.tx.now None (cc (c.in_default.is, c.in_ok-number.ensures)) (cc (c.in-None.is, c.command_fault.ensures)))
+    few_inputs c.args.tx.now (in_commands c.args.tx.now None (cc (c.in_default.is, c.in_ok-number.ensures)) (cc (c.in-None.is, c.command_fault.ensures)))

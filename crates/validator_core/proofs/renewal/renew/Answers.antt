@@ -1,15 +1,15 @@
 use Rattle.std.proofs.Common.{◌∙◌, [], ap}
 use Rattle.version_assign.specs.Changes.{Renews}
 use Rattle.validator_core.specs.Renewals.{changes_after}
-use Rattle.validator_core.proofs.Coursing.{ok_then}
 use Rattle.validator_core.proofs.Renewing.{renewed}
 use Rattle.validator_core.proofs.renewal.renew.Goals as goal
+use Rattle.protocol_spec.proofs.Truth.{on_ok_then}
 
 pub returns-clause-opens : goal.returns-clause-opens
 returns-clause-opens c =
     let s = c.args.store.now in
     let changes = c.as_slice-2.result.now in
-    ok_then c.renew.result (Renews c.args.admission.now c.renew.new.self changes) _
+    on_ok_then c.renew.result (Renews c.args.admission.now c.renew.new.self changes) _
     (λ by. renewed s c.args.admission.now c.renew.new.self c.in_ok-ids.ids changes c.requires c.in_ok-ids.ensures
     (c.as_slice-2.ensures.value ∙ c.in_ok-changes.ensures ∙ ap (changes_after s []) c.as_slice.ensures.value) by)
     c.renew.ensures.ok

@@ -1,25 +1,26 @@
 use Rattle.std.proofs.Common.{◌≡◌, ◌∙◌, ◌++◌, ◌∷◌, [], List, true, false, ap, sym, subst, length}
 use Rattle.answer_types.specs.declared.answers.Held.{Held}
 use Rattle.exec_plan.specs.Waits.{IsWaiting}
+use Rattle.protocol_spec.proofs.Truth.{on_ok_then}
 use Rattle.protocol_spec.specs.Member.Admission.{entered}
 use Rattle.version_assign.specs.Calls.{with_entry}
 use Rattle.validator_core.specs.Courses.{IsAdmitting, IsSound, WaitsIn, brings, coursed}
 use Rattle.validator_core.proofs.Bringing.{bring_is, bring_sound, brings_with, held_last}
-use Rattle.validator_core.proofs.Coursing.{hold_sound, ok_then, with_held_now}
+use Rattle.validator_core.proofs.Coursing.{hold_sound, with_held_now}
 use Rattle.validator_core.proofs.course.Course.bring.Goals as goal
 
 pub returns-then-has-clause-admitting : goal.returns-then-has-clause-admitting
 returns-then-has-clause-admitting c =
     let old = c.args.self.now in
     let here : WaitsIn old.held c.args.new = cc (c.has.ensures, c.if-has.true) in
-    ok_then c.push.result (c.push.new.self ≡ with_entry old.admission c.args.new) (IsAdmitting (length old.admission.admission.admitted) (record old { admission = c.push.new.self }))
+    on_ok_then c.push.result (c.push.new.self ≡ with_entry old.admission c.args.new) (IsAdmitting (length old.admission.admission.admitted) (record old { admission = c.push.new.self }))
     (bring_sound old c.requires.sound c.args.new c.push.new.self here) c.push.ensures.entered
 
 pub returns-then-has-clause-value : goal.returns-then-has-clause-value
 returns-then-has-clause-value c =
     let old = c.args.self.now in
     let here : WaitsIn old.held c.args.new = cc (c.has.ensures, c.if-has.true) in
-    ok_then c.push.result (c.push.new.self ≡ with_entry old.admission c.args.new) (coursed (record old { admission = c.push.new.self }) ≡ brings (coursed old) c.args.new)
+    on_ok_then c.push.result (c.push.new.self ≡ with_entry old.admission c.args.new) (coursed (record old { admission = c.push.new.self }) ≡ brings (coursed old) c.args.new)
     (λ is. bring_is old c.requires.sound c.args.new c.push.new.self here is ∙ brings_with (coursed old) c.args.new true here) c.push.ensures.entered
 
 pub returns-clause-admitting : goal.returns-clause-admitting

@@ -1,8 +1,9 @@
 use Rattle.std.proofs.Common.{◌∙◌, sym}
 use Rattle.scene_spec.specs.Terms.{rules_for}
 use Rattle.validator_core.specs.Limits.{terms_at}
-use Rattle.validator_core.proofs.Cases.{hold_meets, hold_new, valid_shape}
+use Rattle.validator_core.proofs.Cases.{hold_meets, hold_new}
 use Rattle.validator_core.proofs.state.State.new_hold.Goals as goal
+use Rattle.protocol_spec.proofs.Checked.{valid_shape}
 
 pub returns-in-Some-clause-answer : goal.returns-in-Some-clause-answer
 returns-in-Some-clause-answer g c =

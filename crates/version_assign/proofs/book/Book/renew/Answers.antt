@@ -1,10 +1,9 @@
-use Rattle.std.proofs.Common.{◌≡◌, List, [], ap, map}
-use Rattle.chain_types.specs.declared.objects.Object.{Object}
-use Rattle.protocol_spec.specs.Member.Admission.{Admission, Admitted}
-use Rattle.version_assign.specs.Books.{IsOpening, admission_of, object_in, opening_of, shown}
+use Rattle.std.proofs.Common.{◌≡◌, [], ap, map}
+use Rattle.protocol_spec.proofs.Truth.{on_ok_then}
+use Rattle.version_assign.specs.Books.{admission_of, object_in, opening_of, shown}
 use Rattle.version_assign.specs.Calls.{Admitting}
-use Rattle.version_assign.specs.Changes.{Changes, Renews}
-use Rattle.version_assign.proofs.Changing.{lines_alike, no_rows, on_ok, opening_shares, reopens, shares_opening}
+use Rattle.version_assign.specs.Changes.{Changes}
+use Rattle.version_assign.proofs.Changing.{lines_alike, no_rows, opening_shares, reopens, shares_opening}
 use Rattle.version_assign.proofs.book.Book.renew.Goals as goal
 
 pub change_all-answer-requires-clause-shared : goal.change_all-answer-requires-clause-shared
@@ -36,7 +35,7 @@ pub returns-clause-value : goal.returns-clause-value
 returns-clause-value c =
     let b = c.clear.new.self in
     let entries = c.change_all-answer.new.opening.entries in
-    on_ok c.change_all-answer.result (Changes b.opening.entries entries c.args.changes.now) _
+    on_ok_then c.change_all-answer.result (Changes b.opening.entries entries c.args.changes.now) _
     (λ by. record {
       nothing = ap (λ (a : Admitting). a.admission) c.clear.ensures.value;
       opening =

@@ -2,8 +2,8 @@ use Rattle.std.proofs.Common.{◌∙◌, Bor, option_copied, sym}
 use Rattle.chain_types.specs.declared.objects.Object.{Object}
 use Rattle.version_store.specs.Stores.{held_in}
 use Rattle.version_store.proofs.Based.{held_where}
-use Rattle.version_store.proofs.Executions.{some_mapped}
 use Rattle.version_store.proofs.store.Store.holds.Goals as goal
+use Rattle.protocol_spec.proofs.Truth.{some_mapped}
 
 pub returns : goal.returns
 returns c =
