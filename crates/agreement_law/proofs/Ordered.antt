@@ -12,7 +12,7 @@ use Rattle.chain_types.specs.Equal.{id_eq, digest_eq}
 use Rattle.chain_types.specs.Digests.{transaction_digest, consumed_keys}
 use Rattle.chain_messages.specs.declared.messages.Certificate.{Certificate}
 use Rattle.schedule_text.specs.declared.words.Event.{Event}
-use Rattle.protocol_spec.proofs.Equality.{id_same}
+use Rattle.protocol_spec.proofs.Equality.{id_same, digest_self}
 use Rattle.protocol_spec.proofs.Executions.{effects_tx}
 use Rattle.protocol_spec.specs.Chain.Words.{Has, Along, numbers_below, repeats}
 use Rattle.protocol_spec.specs.Chain.Keys.{objects_of, named_ids}
@@ -28,7 +28,6 @@ use Rattle.world_spec.specs.World.{Seat, member_in}
 use Rattle.world_spec.specs.Names.{draws}
 use Rattle.world_spec.specs.Run.{world_after}
 use Rattle.world_spec.specs.Assumptions.{IsHonestRun, all_delivered, all_transactions}
-use Rattle.safety_law.proofs.Once.{digest-same}
 use Rattle.safety_law.proofs.Apart.{none-each}
 use Rattle.sequence_law.proofs.Live.{has-any}
 use Rattle.sequence_law.specs.Admitted.{IsInOrder}
@@ -127,7 +126,7 @@ module _ (s : Setting) (events : List Event) (honest : IsHonestRun s events) (n 
     digests-apart : (b : Admitted) → Has before b → transaction_digest b.cert.tx ≡ transaction_digest a.cert.tx → ⊥
     digests-apart b h e =
         let same : b.digest ≡ a.digest = (given-of b (b-there b h)).digest_is ∙ e ∙ sym (given-of a a-there).digest_is in
-        let there = has-any (λ (x : Admitted). digest_eq x.digest a.digest) before b h (subst (λ (d : Digest). digest_eq b.digest d ≡ true) same (digest-same b.digest)) in
+        let there = has-any (λ (x : Admitted). digest_eq x.digest a.digest) before b h (subst (λ (d : Digest). digest_eq b.digest d ≡ true) same (digest_self b.digest)) in
         let new = next.new in
         cc
 

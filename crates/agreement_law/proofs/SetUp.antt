@@ -6,10 +6,10 @@ use Rattle.chain_types.specs.declared.objects.ObjectId.{ObjectId}
 use Rattle.chain_types.specs.declared.objects.Object.{Object}
 use Rattle.chain_types.specs.Equal.{id_eq}
 use Rattle.schedule_text.specs.declared.words.Setup.{Setup}
+use Rattle.protocol_spec.proofs.Equality.{id_self}
 use Rattle.protocol_spec.proofs.ListLemmas.{has_mapped}
 use Rattle.protocol_spec.specs.Chain.Words.{Has, repeats}
 use Rattle.world_spec.specs.Setting.{Trust, objects_from, with_new, setting_of}
-use Rattle.block_law.proofs.Counts.{id_refl}
 use Rattle.block_law.proofs.Steps.{map-append}
 use Rattle.sequence_law.proofs.Live.{has-any}
 use Rattle.sequence_law.specs.Orderly.{id_of, AreApart}
@@ -22,7 +22,7 @@ one-more objects o apart new = subst (λ (ids : List ObjectId). repeats id_eq id
     other x y h (inr k) e = k
     other x y h (inl q) e =
         let p = has_mapped id_of objects x h in
-        let there = has-any (λ (z : Object). id_eq z.id o.id) objects p.0 p.1 (subst (λ (i : ObjectId). id_eq p.0.id i ≡ true) (p.2 ∙ e ∙ sym q) (id_refl p.0.id)) in
+        let there = has-any (λ (z : Object). id_eq z.id o.id) objects p.0 p.1 (subst (λ (i : ObjectId). id_eq p.0.id i ≡ true) (p.2 ∙ e ∙ sym q) (id_self p.0.id)) in
         cc
 
 with-apart : (objects : List Object) (o : Object) → AreApart objects → AreApart (with_new objects o)

@@ -6,7 +6,7 @@ use Rattle.digest_core.specs.declared.Digest.{Digest}
 use Rattle.chain_types.specs.declared.transactions.Transaction.{Transaction}
 use Rattle.chain_types.specs.Equal.{digest_eq}
 use Rattle.schedule_text.specs.declared.words.Event.{Event}
-use Rattle.protocol_spec.proofs.Equality.{digest_same}
+use Rattle.protocol_spec.proofs.Equality.{digest_same, digest_self}
 use Rattle.protocol_spec.proofs.ListLemmas.{has_mapped, has_map}
 use Rattle.protocol_spec.specs.Chain.Words.{Has, Each}
 use Rattle.protocol_spec.specs.Member.Versions.{Execution}
@@ -20,7 +20,6 @@ use Rattle.world_spec.specs.Setting.{Setting}
 use Rattle.world_spec.specs.World.{Seat, member_in}
 use Rattle.world_spec.specs.Run.{world_after}
 use Rattle.world_spec.specs.Assumptions.{IsHonestRun}
-use Rattle.safety_law.proofs.Once.{digest-same}
 use Rattle.sequence_law.proofs.Live.{any-has, has-any}
 use Rattle.sequence_law.specs.Admitted.{held_again}
 use Rattle.block_law.proofs.Steps.{map-append}
@@ -42,7 +41,7 @@ cut-digests [] = refl
 cut-digests (c ∷ cuts) = ap (λ (ds : List Digest). map (λ (a : Admitted). a.digest) c.txs ++ ds) (cut-digests cuts) ∙ sym (map-append (λ (a : Admitted). a.digest) c.txs (flat_map admitted_in cuts))
 
 is-cut : (cuts : List Cut) (a : Admitted) → Has (flat_map admitted_in cuts) a → is_cut cuts a.digest ≡ true
-is-cut cuts a h = has-any (digest_eq a.digest) (cut_digests cuts) a.digest (subst (λ (ds : List Digest). Has ds a.digest) (sym (cut-digests cuts)) (has_map (λ (x : Admitted). x.digest) (flat_map admitted_in cuts) a h)) (digest-same a.digest)
+is-cut cuts a h = has-any (digest_eq a.digest) (cut_digests cuts) a.digest (subst (λ (ds : List Digest). Has ds a.digest) (sym (cut-digests cuts)) (has_map (λ (x : Admitted). x.digest) (flat_map admitted_in cuts) a h)) (digest_self a.digest)
 
 cut-is : (cuts : List Cut) (tx : Digest) → is_cut cuts tx ≡ true → (a : Admitted) × Has (flat_map admitted_in cuts) a × (a.digest ≡ tx)
 cut-is cuts tx e =

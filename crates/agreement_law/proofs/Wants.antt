@@ -13,7 +13,7 @@ use Rattle.chain_types.specs.declared.transactions.Input.TheVariants as inputs
 use Rattle.chain_types.specs.Equal.{id_eq, key_eq, digest_eq}
 use Rattle.chain_messages.specs.declared.messages.Certificate.{Certificate}
 use Rattle.answer_types.specs.declared.answers.Assigned.{Assigned}
-use Rattle.protocol_spec.proofs.Equality.{id_same}
+use Rattle.protocol_spec.proofs.Equality.{id_same, digest_self, id_self}
 use Rattle.protocol_spec.specs.Chain.Words.{Has, all_some}
 use Rattle.protocol_spec.specs.Chain.Tests.{producer_eq}
 use Rattle.protocol_spec.specs.Chain.Keys.{object_key, objects_of}
@@ -22,9 +22,7 @@ use Rattle.protocol_spec.proofs.Truth.{some_same}
 use Rattle.protocol_spec.specs.Member.Versions.{Execution, Version, opened, versions, object_in}
 use Rattle.protocol_spec.specs.Member.Admission.{Admitted, Admission, assigned_in, assigned_of, assigned_to, assignment, assignments, current, admit}
 use Rattle.protocol_spec.specs.Member.Rounds.{Wanted, wanted_by, wanted_as, is_of_id, is_wanted, found}
-use Rattle.safety_law.proofs.Once.{digest-same}
 use Rattle.sequence_law.specs.Admitted.{IsInOrder}
-use Rattle.block_law.proofs.Counts.{id_refl}
 use Rattle.agreement_law.proofs.Executing.{some-parts}
 use Rattle.agreement_law.proofs.Agreeing.{IsFrom, never-found, among-opening, among-written}
 use Rattle.agreement_law.proofs.Lists.{find-past}
@@ -107,7 +105,7 @@ module _ (opening : List Object) (before : List Admitted) (c : Certificate) (id 
           → IsAssigned (cond t (Some (assigned_to (current opening before c x) x b)) (find (is_of_id id) (filter_map (assignment opening before c) is)))
       go true t h rest = (b, ap (λ (z : ObjectId). Some (assigned_to (current opening before c z) z b)) (id_same x id t))
       go false t (inr h) rest = rest h
-      go false t (inl e) rest = absurd (let s = subst (λ (z : ObjectId). id_eq z id ≡ true) (sym (same-id e)) (id_refl id) in cc)
+      go false t (inl e) rest = absurd (let s = subst (λ (z : ObjectId). id_eq z id ≡ true) (sym (same-id e)) (id_self id) in cc)
 
 module _ (opening : List Object) (front back : List Admitted) (adm : Admission) (a : Admitted) (split : adm.admitted ≡ front ++ (a ∷ back)) (next : IsInOrder opening front a) where
   -- what is assigned to an admitted transaction is what admission assigned behind those before it
@@ -115,7 +113,7 @@ module _ (opening : List Object) (front back : List Admitted) (adm : Admission) 
   unfolding assigned_of admit
   assigned-is =
       ap (λ (admitted : List Admitted). option_map assigned_in (find (λ (x : Admitted). digest_eq x.digest a.digest) admitted)) split
-      ∙ ap (option_map assigned_in) (find-past (λ (x : Admitted). digest_eq x.digest a.digest) front a back next.new (digest-same a.digest))
+      ∙ ap (option_map assigned_in) (find-past (λ (x : Admitted). digest_eq x.digest a.digest) front a back next.new (digest_self a.digest))
       ∙ ap (λ (x : Admitted). Some x.assigned) next.versions
 
   pub shared-wanted : (id : ObjectId) (initial : ℕ) (mutable : Bool) (d : Option Digest) → Has (objects_of a.cert.tx) (inputs.Shared id initial mutable)

@@ -2,13 +2,12 @@
 use Rattle.std.proofs.Common.{◌≡◌, ◌∙◌, ℕ, Bool, true, false, List, [], ◌∷◌, Option, Some, None, refl, sym, ap, subst, inl, inr, filter, cond}
 use Rattle.std.specs.Prelude.{◌==◌, not, option_map}
 use Rattle.std.proofs.lemmas.Bool.{eqb-true}
-use Rattle.std.proofs.lemmas.Slice.Eq.{bytes_eq-Decides}
-use Rattle.digest_core.specs.declared.Digest.{Digest}
 use Rattle.chain_types.specs.declared.objects.ObjectKey.{ObjectKey}
 use Rattle.chain_types.specs.Equal.{digest_eq}
 use Rattle.chain_types.specs.Digests.{consumed_keys, transaction_digest}
 use Rattle.chain_messages.specs.declared.messages.Certificate.{Certificate}
 use Rattle.quorum_core.specs.Committee.{is_among}
+use Rattle.protocol_spec.proofs.Equality.{digest_self}
 use Rattle.protocol_spec.specs.Chain.Words.{Has, where_true}
 use Rattle.protocol_spec.specs.Chain.Tests.{has_key}
 use Rattle.protocol_spec.proofs.ListLemmas.{and-first, and-second, not-true}
@@ -41,9 +40,6 @@ pub record IsDouble (c d : Certificate) (b : DoubleVote) : Type 0 where
   pub first : Has (consumed_keys c.tx) b.key
   pub second : Has (consumed_keys d.tx) b.key
   pub members : b.members ≡ sealed_both c d
-
-digest_self : (d : Digest) → digest_eq d d ≡ true
-digest_self d = (bytes_eq-Decides d.0 d.0).1 refl
 
 rivals : (c d : Certificate) → are_rivals c d ≡ true → (c.tx.epoch ≡ d.tx.epoch) × (transaction_digest c.tx ≡ transaction_digest d.tx → ⊥)
 rivals c d e = (

@@ -7,11 +7,10 @@ use Rattle.std.specs.Ordering.{eq_by_cmp, is_lt}
 use Rattle.chain_types.specs.declared.objects.Object.{Object}
 use Rattle.chain_types.specs.declared.objects.ObjectId.{ObjectId}
 use Rattle.chain_types.specs.Equal.{id_eq}
-use Rattle.protocol_spec.proofs.Equality.{id_same, ids_unique}
+use Rattle.protocol_spec.proofs.Equality.{id_same, ids_unique, id_self}
 use Rattle.protocol_spec.specs.Chain.Words.{Each, Has}
 use Rattle.protocol_spec.specs.Member.Versions.{id_cmp}
 use Rattle.protocol_spec.specs.Member.Sequential.{Objects, map_after, map_of, with_object, without_id}
-use Rattle.block_law.proofs.Counts.{id_refl}
 use Rattle.sequence_law.specs.Orderly.{Step, gave}
 use Rattle.sequence_law.proofs.Standing.{elsewhere, here, ids-total, ids-tie, ids-same}
 use Rattle.sequence_law.proofs.Reading.{after_steps}
@@ -146,7 +145,7 @@ module _ (m : Objects) (own : IsOwn m) where
         later other (inl (p, inr h, e)) = inl (p, h, e)
 
         apart : id_eq id o.id ≡ false → o.id ≡ id → ⊥
-        apart e q = let t : id_eq id o.id ≡ true = subst (λ (z : ObjectId). id_eq id z ≡ true) (sym q) (id_refl id) in cc
+        apart e q = let t : id_eq id o.id ≡ true = subst (λ (z : ObjectId). id_eq id z ≡ true) (sym q) (id_self id) in cc
 
         go : (b : Bool) → id_eq id o.id ≡ b → (get (with_object n o) id ≡ None → Comes os → get (fold with_object (with_object n o) os) id ≡ get m id) → get (fold with_object (with_object n o) os) id ≡ get m id
         go true e rest = stays os (with_object n o) each.1 (ap (get (with_object n o)) (id_same id o.id e) ∙ here n o ∙ sym each.0 ∙ ap (get m) (sym (id_same id o.id e)))

@@ -12,7 +12,7 @@ use Rattle.checkpoint_core.specs.declared.checkpoints.Item.{Item}
 use Rattle.answer_types.specs.declared.pieces.Executed.{Executed}
 use Rattle.schedule_text.specs.declared.words.Event.{Event}
 use Rattle.protocol_spec.proofs.Checked.{valid_shape}
-use Rattle.protocol_spec.proofs.Equality.{digest_same}
+use Rattle.protocol_spec.proofs.Equality.{digest_same, digest_self}
 use Rattle.protocol_spec.specs.Chain.Words.{Along, Each, Has, IsFront}
 use Rattle.protocol_spec.specs.Chain.Shape.{shape_fault}
 use Rattle.protocol_spec.proofs.ListLemmas.{find-test, find_has, each_has, has_left, has_mapped}
@@ -27,7 +27,6 @@ use Rattle.world_spec.specs.World.{Seat, member_in}
 use Rattle.world_spec.specs.Run.{world_after}
 use Rattle.world_spec.specs.Assumptions.{IsHonestRun, all_delivered}
 use Rattle.block_law.proofs.Steps.{map-append}
-use Rattle.safety_law.proofs.Once.{digest-same}
 use Rattle.sequence_law.proofs.Live.{has-any}
 use Rattle.sequence_law.specs.Admitted.{IsInOrder, held_again}
 use Rattle.sequence_law.specs.Orderly.{AreApart, AreOrderly, IsOrderly, ReadsSame, Step, gave}
@@ -78,7 +77,7 @@ module _ (m : Member) (opening : List Object) where
 
       clash : (b : Admitted) → Has before b → b.digest ≡ a.digest → ⊥
       clash b h e =
-          let there = has-any (λ (x : Admitted). digest_eq x.digest a.digest) before b h (subst (λ (d : Digest). digest_eq b.digest d ≡ true) e (digest-same b.digest)) in
+          let there = has-any (λ (x : Admitted). digest_eq x.digest a.digest) before b h (subst (λ (d : Digest). digest_eq b.digest d ≡ true) e (digest_self b.digest)) in
           let new = order.0.new in
           cc
 

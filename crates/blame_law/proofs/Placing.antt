@@ -5,8 +5,8 @@ use Rattle.chain_types.specs.declared.objects.Object.{Object}
 use Rattle.chain_types.specs.Digests.{transaction_digest}
 use Rattle.effects_core.specs.Effects.{digest_of_effects}
 use Rattle.checkpoint_core.specs.declared.checkpoints.Item.{Item}
+use Rattle.protocol_spec.proofs.Equality.{digest_self}
 use Rattle.protocol_spec.specs.Chain.Words.{Along}
-use Rattle.safety_law.proofs.Once.{digest-same}
 use Rattle.sequence_law.specs.Orderly.{AreApart, Step, gave, tx_of}
 use Rattle.sequence_law.proofs.Reading.{IsGoneOver}
 use Rattle.follower_core.specs.Courses.{Course, behind, behind_all, first_bad, place_refusal}
@@ -20,8 +20,8 @@ module _ (opening : List Object) (distinct : AreApart opening) where
   stands : (before : List Step) → IsGoneOver opening before → (x : Step) → MayStand opening before x → (m : Course) → IsBehind opening m before → (place : ℕ) → place_refusal m place (item_in x) x.tx ≡ None
   unfolding place_refusal
   stands before over x may m is place =
-      rw (digest-same (transaction_digest x.tx), not-stuck opening distinct before over x may m is, gives opening distinct before over x may m is)
-      (rw (digest-same (digest_of_effects (gave x).effects)) refl)
+      rw (digest_self (transaction_digest x.tx), not-stuck opening distinct before over x may m is, gives opening distinct before over x may m is)
+      (rw (digest_self (digest_of_effects (gave x).effects)) refl)
 
   -- behind all of them
   pub record AllStand (m : Course) (place : ℕ) (before xs : List Step) : Type 0 where

@@ -1,20 +1,16 @@
 -- How often an id stands in a list; a list without repeats has each at most once.
 use Rattle.std.proofs.Common.{refl, ap, subst}
-use Rattle.std.proofs.lemmas.Slice.Eq.{bytes_eq-Decides}
 use Rattle.std.specs.Prelude.{◌≡◌, ◌≤◌, ◌+◌, ℕ, Bool, true, false, ◌||◌, List, [], ◌∷◌, ◌++◌}
 use Rattle.std.specs.List.{list_any}
 use native.Mathlib.Omega.{arith}
 use Rattle.chain_types.specs.declared.objects.ObjectId.{ObjectId}
 use Rattle.chain_types.specs.Equal.{id_eq}
-use Rattle.protocol_spec.proofs.Equality.{id_same, id_back}
+use Rattle.protocol_spec.proofs.Equality.{id_same, id_back, id_self}
 use Rattle.protocol_spec.proofs.Truth.{or_false_left, or_false_right}
 use Rattle.protocol_spec.specs.Chain.Words.{repeats}
 
-pub id_refl : (a : ObjectId) → id_eq a a ≡ true
-id_refl a = (bytes_eq-Decides a.0.0 a.0.0).1 refl
-
 pub id_equal : (a b : ObjectId) → a ≡ b → id_eq a b ≡ true
-id_equal a b e = subst (λ x. id_eq a x ≡ true) e (id_refl a)
+id_equal a b e = subst (λ x. id_eq a x ≡ true) e (id_self a)
 
 abbrev pub hit : Bool → ℕ
 hit true = 1
@@ -63,7 +59,7 @@ each-once [] once = refl
 each-once (y ∷ ys) once = go (list_any (id_eq y) ys) (times-none y ys here) (each-once ys below)
   where
     here : times y ys ≡ 0
-    here = let one : hit (id_eq y y) + times y ys ≤ 1 = once y in let same = ap hit (id_refl y) in omega (arith, one, same)
+    here = let one : hit (id_eq y y) + times y ys ≤ 1 = once y in let same = ap hit (id_self y) in omega (arith, one, same)
 
     below : (x : ObjectId) → times x ys ≤ 1
     below x = let one : hit (id_eq y x) + times x ys ≤ 1 = once x in omega (arith, one)

@@ -12,7 +12,7 @@ use Rattle.chain_types.specs.declared.transactions.Transaction.{Transaction}
 use Rattle.chain_types.specs.Equal.{id_eq}
 use Rattle.chain_types.specs.Digests.{transaction_digest}
 use Rattle.answer_types.specs.declared.pieces.Placed.{Placed}
-use Rattle.protocol_spec.proofs.Equality.{id_same}
+use Rattle.protocol_spec.proofs.Equality.{id_same, id_self}
 use Rattle.protocol_spec.specs.Chain.Words.{Each, Has, repeats}
 use Rattle.protocol_spec.specs.Chain.Keys.{fits, money_of, currency_sum, version_of, named_ids}
 use Rattle.protocol_spec.specs.Chain.Shape.{cost}
@@ -23,7 +23,7 @@ use Rattle.protocol_spec.specs.Block.Execution.{Failure, first_slots, first_bloc
 use Rattle.block_law.specs.Money.{supply_of, supply_sum, caps_of, cap_count}
 use Rattle.block_law.specs.Names.{drawn_ids, touched_ids}
 use Rattle.block_law.specs.Keeping.{MayRun, objects_before, gas_in}
-use Rattle.block_law.proofs.Counts.{hit, times, times-append, id_equal, id_refl, once-each}
+use Rattle.block_law.proofs.Counts.{hit, times, times-append, id_equal, once-each}
 use Rattle.block_law.proofs.Slots.{placed_weight, block_weight, value_weight, Every}
 use Rattle.block_law.proofs.Amounts.{cond-part, part-plus, sum-cons}
 use Rattle.block_law.proofs.Kept.{Stands}
@@ -38,7 +38,7 @@ use Rattle.block_law.proofs.Sums.{places_weight, unwritten, whole-weight, holds,
 
 has-count : (placed : List Placed) (p : Placed) → Has placed p → 1 ≤ placed_weight (counts p.item.id) placed
 has-count [] p has = absurd has
-has-count (q ∷ placed) p (inl e) = let here = ap hit (subst (λ (r : Placed). id_eq r.item.id p.item.id ≡ true) (sym e) (id_refl p.item.id)) in omega (arith, here)
+has-count (q ∷ placed) p (inl e) = let here = ap hit (subst (λ (r : Placed). id_eq r.item.id p.item.id ≡ true) (sym e) (id_self p.item.id)) in omega (arith, here)
 has-count (q ∷ placed) p (inr has) = let rest = has-count placed p has in omega (arith, rest)
 
 -- an object that left is the one that is found

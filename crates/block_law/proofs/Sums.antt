@@ -15,14 +15,14 @@ use Rattle.chain_types.specs.declared.transactions.Transaction.{Transaction}
 use Rattle.chain_types.specs.Equal.{id_eq}
 use Rattle.answer_types.specs.declared.pieces.Item.{Item}
 use Rattle.answer_types.specs.declared.pieces.Placed.{Placed}
-use Rattle.protocol_spec.proofs.Equality.{id_same}
+use Rattle.protocol_spec.proofs.Equality.{id_same, id_self}
 use Rattle.protocol_spec.proofs.Truth.{or_false_left, or_false_right}
 use Rattle.protocol_spec.specs.Chain.Words.{Each, numbers_below}
 use Rattle.protocol_spec.specs.Block.Block.{Place, gas, input, result, Value, pure, object, vector, Slot, Block, value_in}
 use Rattle.protocol_spec.specs.Block.Commands.{is_common, is_read_only, piece_of}
 use Rattle.protocol_spec.specs.Block.Execution.{is_unused, is_left, item_of, input_slots, first_slots, first_block, object_at, left_in, now_in, after_block, written_inputs, written_places, created_objects}
 use Rattle.block_law.specs.Names.{drawn_id, drawn_ids}
-use Rattle.block_law.proofs.Counts.{hit, times, times-append, id_equal, id_refl}
+use Rattle.block_law.proofs.Counts.{hit, times, times-append, id_equal}
 use Rattle.block_law.proofs.Slots.{value_weight, slots_weight, placed_weight, block_weight, Every, value-every}
 use Rattle.block_law.proofs.Kept.{Turned, Good, is_result, Stands}
 use Rattle.block_law.proofs.Steps.{counts}
@@ -287,7 +287,7 @@ module _ (f : Content → ℕ) where
   pub find-sum : (version : ℕ) (placed : List Placed) (ids : List ObjectId) → ((x : ObjectId) → placed_weight (counts x) placed ≤ times x ids) → ((x : ObjectId) → times x ids ≤ 1) → ids_weight version placed ids ≡ placed_weight holds placed
   find-sum version [] ids there once = nothing-left version ids
   find-sum version (p ∷ placed) ids there once =
-      let self = ap hit (id_refl p.item.id) in
+      let self = ap hit (id_self p.item.id) in
       let here : hit (id_eq p.item.id p.item.id) + placed_weight (counts p.item.id) placed ≤ times p.item.id ids = there p.item.id in
       let most = once p.item.id in
       let one = adds-one p ids (omega (arith, self, here, most)) in

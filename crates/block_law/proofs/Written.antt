@@ -14,7 +14,7 @@ use Rattle.chain_types.specs.Equal.{digest_eq, id_eq}
 use Rattle.chain_types.specs.Digests.{transaction_digest, digest_of_object, is_object}
 use Rattle.answer_types.specs.declared.pieces.Item.{Item}
 use Rattle.answer_types.specs.declared.pieces.Placed.{Placed}
-use Rattle.protocol_spec.proofs.Equality.{id_same}
+use Rattle.protocol_spec.proofs.Equality.{id_same, id_self}
 use Rattle.protocol_spec.specs.Chain.Words.{Has, numbers_below, repeats}
 use Rattle.protocol_spec.specs.Chain.Keys.{objects_of, named_ids, version_of, version_limit, is_owned_by, fits_input, fit_inputs, pays_gas, fits}
 use Rattle.protocol_spec.proofs.ListLemmas.{find-test, and-first, and-second, is_below, has_parts, has_mapped, find_has, has_map, each_has}
@@ -22,7 +22,7 @@ use Rattle.protocol_spec.specs.Block.Block.{Place, input, Block, value_in}
 use Rattle.protocol_spec.specs.Block.Commands.{piece_of}
 use Rattle.protocol_spec.specs.Block.Execution.{Failure, first_slots, outcome, object_at, left_in, now_in, after_block, is_written, written_inputs, written_places, created_objects, with_rest_first, same_object, less_cost_first, execution, executed_by}
 use Rattle.block_law.specs.Names.{drawn_id, drawn_ids, touched_ids}
-use Rattle.block_law.proofs.Counts.{hit, times, times-append, id_refl, once-each}
+use Rattle.block_law.proofs.Counts.{hit, times, times-append, once-each}
 use Rattle.block_law.proofs.Blocks.{done-is}
 use Rattle.block_law.proofs.Effects.{id_of, IsOrigin, origins, left-id, after-id, objects-ids}
 use Rattle.block_law.specs.Shared.{shared_since, IsAsNamed, IsSharedFrom, IsNew}
@@ -59,7 +59,7 @@ below (suc k) n h = go (has_parts (numbers_below k) (k ∷ []) n h) (below k n)
 
 has-times : (xs : List ObjectId) (y : ObjectId) → Has xs y → 1 ≤ times y xs
 has-times [] y h = absurd h
-has-times (x ∷ xs) y (inl e) = let one : hit (id_eq x y) ≡ 1 = ap hit (subst (λ z. id_eq x z ≡ true) e (id_refl x)) in omega (arith, one)
+has-times (x ∷ xs) y (inl e) = let one : hit (id_eq x y) ≡ 1 = ap hit (subst (λ z. id_eq x z ≡ true) e (id_self x)) in omega (arith, one)
 has-times (x ∷ xs) y (inr h) = let rest = has-times xs y h in omega (arith, rest)
 
 not-both : (xs ys : List ObjectId) (y : ObjectId) → repeats id_eq (xs ++ ys) ≡ false → Has xs y → Has ys y → ⊥

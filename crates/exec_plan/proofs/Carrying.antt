@@ -11,7 +11,7 @@ use Rattle.chain_types.specs.declared.objects.Producer.TheVariants as producers
 use Rattle.answer_types.specs.declared.pieces.Executed.{Executed}
 use Rattle.answer_types.specs.declared.answers.Held.{Held}
 use Rattle.chain_types.specs.Equal.{digest_eq, key_eq}
-use Rattle.protocol_spec.proofs.Equality.{digest_same}
+use Rattle.protocol_spec.proofs.Equality.{digest_same, digest_self}
 use Rattle.protocol_spec.proofs.Executions.{effects_tx, versions_more}
 use Rattle.protocol_spec.specs.Chain.Words.{Along, Each, all_some, first_of, first_some, onto_some, where_true}
 use Rattle.protocol_spec.specs.Chain.Keys.{fits, object_key}
@@ -21,7 +21,6 @@ use Rattle.protocol_spec.specs.Block.Execution.{execution, written_keys}
 use Rattle.protocol_spec.specs.Member.Versions.{Execution, Version, is_executed, object_in, opened, versions, written, written_by}
 use Rattle.protocol_spec.specs.Member.Admission.{Admission}
 use Rattle.protocol_spec.specs.Member.Rounds.{Books, Wanted, executes_as, found, is_maker_done, is_wanted, may_run, present, ready, ready_as, ready_on, wants_of, writes_new}
-use Rattle.version_store.proofs.Equality.{digest_self}
 use Rattle.version_store.specs.Stores.{Stored}
 use Rattle.exec_plan.specs.declared.task.Carry.{Carry}
 use Rattle.exec_plan.specs.declared.task.Carry.TheVariants as carries

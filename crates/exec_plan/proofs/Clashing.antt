@@ -7,13 +7,13 @@ use Rattle.chain_types.specs.declared.objects.Object.{Object}
 use Rattle.chain_types.specs.declared.objects.ObjectKey.{ObjectKey}
 use Rattle.answer_types.specs.declared.answers.Held.{Held}
 use Rattle.chain_types.specs.Equal.{digest_eq}
+use Rattle.protocol_spec.proofs.Equality.{digest_self}
 use Rattle.protocol_spec.proofs.Truth.{or_right, or_left}
 use Rattle.protocol_spec.specs.Chain.Tests.{has_key}
 use Rattle.protocol_spec.specs.Block.Execution.{written_keys}
 use Rattle.protocol_spec.specs.Member.Versions.{Execution, is_executed, versions}
 use Rattle.protocol_spec.specs.Member.Rounds.{Books, clashes, holds_key, ready, round_add, round_among}
 use Rattle.version_store.proofs.Based.{any_both}
-use Rattle.version_store.proofs.Equality.{digest_self}
 use Rattle.exec_plan.specs.Written.{writes}
 use Rattle.exec_plan.proofs.Following.{executed_join, holds_join}
 use Rattle.exec_plan.proofs.Readying.{is_ready}

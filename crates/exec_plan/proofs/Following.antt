@@ -7,7 +7,7 @@ use Rattle.chain_types.specs.declared.objects.Object.{Object}
 use Rattle.chain_types.specs.declared.objects.ObjectKey.{ObjectKey}
 use Rattle.answer_types.specs.declared.answers.Held.{Held}
 use Rattle.chain_types.specs.Equal.{digest_eq, key_eq}
-use Rattle.protocol_spec.proofs.Equality.{key_same, test_turned}
+use Rattle.protocol_spec.proofs.Equality.{key_same, test_turned, key_self}
 use Rattle.protocol_spec.proofs.Executions.{versions_more}
 use Rattle.protocol_spec.specs.Chain.Words.{Each, repeats}
 use Rattle.protocol_spec.specs.Chain.Tests.{has_key}
@@ -18,7 +18,6 @@ use Rattle.protocol_spec.specs.Block.Execution.{written_keys}
 use Rattle.protocol_spec.specs.Member.Versions.{Execution, Version, is_executed, versions, written, written_by}
 use Rattle.protocol_spec.specs.Member.Rounds.{holds_key, writes_new}
 use Rattle.version_store.proofs.Based.{any_both}
-use Rattle.version_store.proofs.Equality.{key_self}
 use Rattle.exec_plan.specs.Written.{writes}
 
 -- ---- tests of lists that are joined

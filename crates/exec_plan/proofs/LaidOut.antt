@@ -15,13 +15,12 @@ use Rattle.chain_types.specs.declared.objects.Producer.{Producer}
 use Rattle.chain_types.specs.declared.objects.Producer.TheVariants as producers
 use Rattle.answer_types.specs.declared.answers.Held.{Held}
 use Rattle.chain_types.specs.Equal.{digest_eq}
-use Rattle.protocol_spec.proofs.Equality.{digest_same, test_turned}
+use Rattle.protocol_spec.proofs.Equality.{digest_same, test_turned, digest_self}
 use Rattle.protocol_spec.proofs.ListLemmas.{tail_is}
 use Rattle.protocol_spec.specs.Chain.Words.{Along, Each}
 use Rattle.protocol_spec.specs.Member.Versions.{Version}
 use Rattle.protocol_spec.specs.Member.Admission.{Admission}
 use Rattle.protocol_spec.specs.Member.Rounds.{Wanted, found, wants_of}
-use Rattle.version_store.proofs.Equality.{digest_self}
 use Rattle.dag_core.specs.declared.plan.Edge.{Edge}
 use Rattle.dag_core.specs.Values.{count_in, count_out, first_bad, is_forward, source, target}
 use Rattle.dag_core.proofs.Fixed.{IsPlan}

@@ -9,7 +9,7 @@ use Rattle.chain_types.specs.declared.objects.Producer.TheVariants as producers
 use Rattle.answer_types.specs.declared.pieces.Executed.{Executed}
 use Rattle.answer_types.specs.declared.answers.Held.{Held}
 use Rattle.chain_types.specs.Equal.{digest_eq, key_eq}
-use Rattle.protocol_spec.proofs.Equality.{digest_same, test_turned}
+use Rattle.protocol_spec.proofs.Equality.{digest_same, test_turned, digest_self}
 use Rattle.protocol_spec.proofs.Executions.{versions_more, ready_once}
 use Rattle.protocol_spec.specs.Chain.Words.{Along, Each, all_some, repeats, where_true}
 use Rattle.protocol_spec.specs.Chain.Keys.{fits}
@@ -19,7 +19,6 @@ use Rattle.protocol_spec.specs.Block.Execution.{execution, written_keys}
 use Rattle.protocol_spec.specs.Member.Versions.{Execution, Version, is_executed, object_in, versions, written_by}
 use Rattle.protocol_spec.specs.Member.Rounds.{Books, Wanted, clashes, executes_as, found, is_maker_done, is_wanted, may_run, present, ready, ready_as, ready_on, round_add, round_among, round_of, rounds, rounds_within, wants_of, writes_new}
 use Rattle.version_store.proofs.Based.{any_both}
-use Rattle.version_store.proofs.Equality.{digest_self}
 use Rattle.version_store.specs.Stores.{Stored}
 use Rattle.exec_plan.specs.Books.{AreApart, digest_of_held}
 use Rattle.exec_plan.specs.Layers.{in_turn, is_maker_planned, is_of, is_planned, is_supplied, joins_layer, layer_of, layers_within, onto_kept, planned_of}

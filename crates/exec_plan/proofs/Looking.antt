@@ -11,7 +11,7 @@ use Rattle.chain_types.specs.declared.objects.Producer.{Producer}
 use Rattle.chain_types.specs.declared.objects.Producer.TheVariants as producers
 use Rattle.answer_types.specs.declared.answers.Held.{Held}
 use Rattle.chain_types.specs.Equal.{digest_eq}
-use Rattle.protocol_spec.proofs.Equality.{digest_same, test_turned}
+use Rattle.protocol_spec.proofs.Equality.{digest_same, test_turned, digest_self}
 use Rattle.protocol_spec.proofs.ListLemmas.{has_left, has_right, tail_is}
 use Rattle.protocol_spec.proofs.Truth.{or_assoc, or_true, or_left, or_right}
 use Rattle.protocol_spec.specs.Chain.Words.{Each, Has}
@@ -20,7 +20,6 @@ use Rattle.protocol_spec.specs.Member.Versions.{Execution, is_executed}
 use Rattle.protocol_spec.specs.Member.Admission.{Admission}
 use Rattle.protocol_spec.specs.Member.Rounds.{Books, Wanted, is_maker_done, wants_of}
 use Rattle.version_store.proofs.Based.{any_both}
-use Rattle.version_store.proofs.Equality.{digest_self}
 use Rattle.version_store.specs.Stores.{Stored}
 use Rattle.exec_plan.specs.declared.waiting.Waiting.{Waiting}
 use Rattle.exec_plan.specs.Ahead.{Agrees, AreParked, AreTaken, Parked, has_run, joining, joins_now, joins_of, lacks_admission, layer_places, waits_behind, was_taken, with_digest}

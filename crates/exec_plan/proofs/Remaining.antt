@@ -10,7 +10,7 @@ use Rattle.chain_types.specs.declared.objects.Producer.TheVariants as producers
 use Rattle.chain_types.specs.declared.transactions.Transaction.{Transaction}
 use Rattle.answer_types.specs.declared.answers.Held.{Held}
 use Rattle.chain_types.specs.Equal.{digest_eq}
-use Rattle.protocol_spec.proofs.Equality.{digest_same, test_turned}
+use Rattle.protocol_spec.proofs.Equality.{digest_same, test_turned, digest_self}
 use Rattle.protocol_spec.specs.Chain.Words.{Along, Each, first_of, first_some, repeats, where_true}
 use Rattle.protocol_spec.specs.Chain.Keys.{fits}
 use Rattle.protocol_spec.proofs.ListLemmas.{and-first, and-second}
@@ -18,7 +18,6 @@ use Rattle.protocol_spec.proofs.Truth.{or_false_left, or_false_right, or_true, o
 use Rattle.protocol_spec.specs.Block.Execution.{execution}
 use Rattle.protocol_spec.specs.Member.Versions.{Execution, Version, is_executed, versions}
 use Rattle.protocol_spec.specs.Member.Rounds.{Books, Wanted, found, is_due, is_maker_done, is_origin_done, left, left_as, may_run, missing, wants_of}
-use Rattle.version_store.proofs.Equality.{digest_self}
 use Rattle.exec_plan.specs.declared.task.Carry.{Carry}
 use Rattle.exec_plan.specs.declared.task.Outcome.{Outcome}
 use Rattle.exec_plan.specs.declared.task.Outcome.TheVariants as outcomes

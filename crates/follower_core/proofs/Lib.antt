@@ -1,4 +1,3 @@
-mod Equality
 mod Objects
 mod Changing
 mod Settling

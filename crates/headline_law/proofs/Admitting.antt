@@ -14,6 +14,7 @@ use Rattle.chain_messages.specs.Messages as messages
 use Rattle.answer_types.specs.declared.answers.Held.{Held}
 use Rattle.schedule_text.specs.declared.words.Event.{Event}
 use Rattle.protocol_spec.proofs.Checked.{valid_length}
+use Rattle.protocol_spec.proofs.Equality.{digest_self}
 use Rattle.protocol_spec.proofs.ListLemmas.{each_has, has_map}
 use Rattle.protocol_spec.specs.Chain.Words.{Has, Along, all_some}
 use Rattle.protocol_spec.specs.Chain.Keys.{has_shared_input, is_shared_input, mutable_id, objects_of}
@@ -27,7 +28,7 @@ use Rattle.world_spec.specs.World.{Seat, member_in}
 use Rattle.world_spec.specs.Run.{world_after}
 use Rattle.world_spec.specs.Assumptions.{IsHonestRun, all_delivered}
 use Rattle.safety_law.proofs.Apart.{none-found}
-use Rattle.safety_law.proofs.Once.{digest-same, has-push}
+use Rattle.safety_law.proofs.Once.{has-push}
 use Rattle.sequence_law.proofs.Live.{has-any}
 use Rattle.sequence_law.proofs.Reading.{has-zip}
 use Rattle.agreement_law.specs.Agreed.{IsHeldAsGiven}
@@ -142,7 +143,7 @@ module _ (s : Setting) (events : List Event) (honest : IsHonestRun s events) (n 
     unshared-taken = go (in-known admission h.digest (settled.known h there))
       where
         go : IsIn admission h.digest → IsTaken h.digest
-        go (inl x) = has-any (λ y. digest_eq y.digest h.digest) admission.admitted x.0 x.1 (subst (λ (d : Digest). digest_eq d h.digest ≡ true) (sym x.2) (digest-same h.digest))
+        go (inl x) = has-any (λ y. digest_eq y.digest h.digest) admission.admitted x.0 x.1 (subst (λ (d : Digest). digest_eq d h.digest ≡ true) (sym x.2) (digest_self h.digest))
         go (inr (inl k)) = absurd (not-dropped k)
         go (inr (inr k)) = absurd (not-waiting k.0 k.1 k.2)
 

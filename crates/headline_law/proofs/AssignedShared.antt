@@ -15,7 +15,7 @@ use Rattle.chain_types.specs.Digests.{is_object}
 use Rattle.chain_messages.specs.declared.messages.Certificate.{Certificate}
 use Rattle.answer_types.specs.declared.answers.Held.{Held}
 use Rattle.schedule_text.specs.declared.words.Event.{Event}
-use Rattle.protocol_spec.proofs.Equality.{digest_same, id_same}
+use Rattle.protocol_spec.proofs.Equality.{digest_same, id_same, digest_self, id_self}
 use Rattle.protocol_spec.specs.Chain.Words.{Has, Along, first_some, first_of, where_true, last_where}
 use Rattle.protocol_spec.specs.Chain.Keys.{object_key, objects_of, mutable_id, is_shared_since, is_shared_input, version_limit, fits_input, fit_inputs}
 use Rattle.protocol_spec.proofs.ListLemmas.{find-test, and-first, and-second, each_has, has_left, find_has, has_parts, has_mapped}
@@ -30,10 +30,8 @@ use Rattle.world_spec.specs.World.{Seat, member_in}
 use Rattle.world_spec.specs.Run.{world_after}
 use Rattle.world_spec.specs.Assumptions.{IsHonestRun, all_delivered}
 use Rattle.safety_law.proofs.Apart.{none-of}
-use Rattle.safety_law.proofs.Once.{digest-same}
 use Rattle.sequence_law.proofs.Live.{passed-has, any-has}
 use Rattle.sequence_law.specs.Admitted.{held_again, IsInOrder}
-use Rattle.block_law.proofs.Counts.{id_refl}
 use Rattle.block_law.proofs.Places.{shared-written}
 use Rattle.block_law.proofs.Written.{chosen-from, fits-first}
 use Rattle.agreement_law.specs.Agreed.{IsHeldAsGiven}
@@ -84,7 +82,7 @@ module _ (m : Member) where
 
   key-same : (o : Object) (id : ObjectId) (version : ℕ) → o.id ≡ id → o.version ≡ version → key_eq (object_key o) (shared_key id version) ≡ true
   key-same o id version e f =
-      let ids : id_eq o.id id ≡ true = subst (λ (i : ObjectId). id_eq o.id i ≡ true) e (id_refl o.id) in
+      let ids : id_eq o.id id ≡ true = subst (λ (i : ObjectId). id_eq o.id i ≡ true) e (id_self o.id) in
       let versions : (o.version == version) ≡ true = eq-eqb o.version version f in
       rw (ids, versions) refl
 
@@ -98,7 +96,7 @@ module _ (m : Member) where
   written-there id version x o h w e f =
       let key = key-same o id version e f in
       some-mapped object_in (find (is_wanted (shared_key id version) (Some (producers.Tx x.digest))) there)
-      (has-find (is_wanted (shared_key id version) (Some (producers.Tx x.digest))) there (written x.digest o) (written-in m.opening m.executed x o h w) (rw (key, digest-same x.digest) refl))
+      (has-find (is_wanted (shared_key id version) (Some (producers.Tx x.digest))) there (written x.digest o) (written-in m.opening m.executed x o h w) (rw (key, digest_self x.digest) refl))
 
 -- ---- in a run
 
@@ -215,7 +213,7 @@ module _ (s : Setting) (events : List Event) (honest : IsHonestRun s events) (di
         let here : beginning_by m.opening id a.cert ≡ None = none-of (beginning_by m.opening id) certs a.cert none (last-there (map cert_of front)) in
         let says : beginning m.opening id (inputs.Shared id initial mutable, d) ≡ None = none-of (beginning m.opening id) (joined_inputs a.cert) (inputs.Shared id initial mutable, d) here joined in
         let apart = where_false (id_eq id id) (begins m.opening id initial d) says in
-        let same = id_refl id in
+        let same = id_self id in
         cc
       where
         last-there : (cs : List Certificate) → Has (cs ++ a.cert ∷ []) a.cert

@@ -14,7 +14,7 @@ use Rattle.answer_types.specs.declared.answers.Ran.{Ran}
 use Rattle.answer_types.specs.declared.refusals.TurnRefusal.{TurnRefusal}
 use Rattle.answer_types.specs.declared.refusals.TurnRefusal.TheVariants as no_turn
 use Rattle.schedule_text.specs.declared.words.Event.{Event}
-use Rattle.protocol_spec.proofs.Equality.{digest_same}
+use Rattle.protocol_spec.proofs.Equality.{digest_same, digest_self}
 use Rattle.protocol_spec.proofs.ListLemmas.{each_has, has_left, has_parts, has_mapped, flat_has}
 use Rattle.protocol_spec.proofs.Truth.{or_right, some_same}
 use Rattle.protocol_spec.specs.Chain.Words.{Has, Each, Along, first_some, first_of, where_true, last_where, unless_refused}
@@ -30,7 +30,7 @@ use Rattle.world_spec.specs.Setting.{Setting}
 use Rattle.world_spec.specs.World.{Seat, member_in}
 use Rattle.world_spec.specs.Run.{world_after}
 use Rattle.world_spec.specs.Assumptions.{IsHonestRun, all_delivered}
-use Rattle.safety_law.proofs.Once.{digest-same, has-push}
+use Rattle.safety_law.proofs.Once.{has-push}
 use Rattle.safety_law.proofs.Totals.{each-all}
 use Rattle.sequence_law.proofs.Live.{any-has, has-any}
 use Rattle.sequence_law.specs.Admitted.{IsInOrder, is_origin_in}
@@ -57,7 +57,7 @@ along-at {A = A} P before (y ∷ front) x back along = subst (λ (b : List A). P
 same-origins : (xs : List (Option Digest)) → origins_eq xs xs ≡ true
 same-origins [] = refl
 same-origins (None ∷ xs) = same-origins xs
-same-origins (Some d ∷ xs) = rw (digest-same d) (same-origins xs)
+same-origins (Some d ∷ xs) = rw (digest_self d) (same-origins xs)
 
 -- ---- what was executed of an admitted transaction and of what it comes from
 
@@ -179,7 +179,7 @@ module _ (s : Setting) (events : List Event) (honest : IsHonestRun s events) (di
       unfolding wants_of
       waits-for-nothing = record {
         may = or_right (not (has_shared_input h.cert.tx)) (is_admitted admitted h.digest)
-            (has-any (λ (x : Admitted). digest_eq x.digest h.digest) admitted a there (subst (λ (d : Digest). digest_eq a.digest d ≡ true) (sym held.under.digest) (digest-same a.digest)));
+            (has-any (λ (x : Admitted). digest_eq x.digest h.digest) admitted a there (subst (λ (d : Digest). digest_eq a.digest d ≡ true) (sym held.under.digest) (digest_self a.digest)));
         origins = has-all (is_origin_done executed) h.cert.origins held-origins;
         writers = has-all (λ (w : Wanted). is_maker_done executed w.producer) (map (wanted_by (assigned_of m.sequence.admission h.digest)) (joined_inputs h.cert)) (λ w k.
             let x = has_mapped (wanted_by (assigned_of m.sequence.admission h.digest)) (joined_inputs h.cert) w k in

@@ -12,7 +12,7 @@ use Rattle.chain_types.specs.Digests.{transaction_digest}
 use Rattle.answer_types.specs.declared.pieces.Executed.{Executed}
 use Rattle.answer_types.specs.declared.answers.Held.{Held}
 use Rattle.schedule_text.specs.declared.words.Event.{Event}
-use Rattle.protocol_spec.proofs.Equality.{id_same}
+use Rattle.protocol_spec.proofs.Equality.{id_same, digest_self}
 use Rattle.protocol_spec.specs.Chain.Words.{Has, repeats, where_true}
 use Rattle.protocol_spec.specs.Chain.Keys.{object_key, fits}
 use Rattle.protocol_spec.proofs.ListLemmas.{and-first, and-second, has_mapped}
@@ -25,7 +25,6 @@ use Rattle.world_spec.specs.Setting.{Setting}
 use Rattle.world_spec.specs.World.{Seat, member_in}
 use Rattle.world_spec.specs.Run.{world_after}
 use Rattle.world_spec.specs.Assumptions.{IsHonestRun}
-use Rattle.safety_law.proofs.Once.{digest-same}
 use Rattle.sequence_law.proofs.Live.{any-has}
 use Rattle.sequence_law.specs.Orderly.{Step, gave, id_of, AreApart}
 use Rattle.agreement_law.specs.Orderly.{OpensApart}
@@ -52,7 +51,7 @@ none-any test (x ∷ xs) none = go (test x) refl (none-any test xs (λ y h. none
     go false e rest = rest
 
 pub was-executed : (executed : List Execution) (y : Execution) (d : Digest) → Has executed y → y.digest ≡ d → is_executed executed d ≡ true
-was-executed executed y d h e = has-find (λ (x : Execution). digest_eq x.digest d) executed y h (subst (λ (z : Digest). digest_eq y.digest z ≡ true) e (digest-same y.digest))
+was-executed executed y d h e = has-find (λ (x : Execution). digest_eq x.digest d) executed y h (subst (λ (z : Digest). digest_eq y.digest z ≡ true) e (digest_self y.digest))
 
 -- objects with different ids have different keys
 other-keys : (o : Object) (os : List Object) (more : List ObjectId) → list_any (id_eq o.id) (map id_of os ++ more) ≡ false → list_any (key_eq (object_key o)) (map object_key os) ≡ false

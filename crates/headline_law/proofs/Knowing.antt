@@ -6,13 +6,12 @@ use Rattle.digest_core.specs.declared.Digest.{Digest}
 use Rattle.chain_types.specs.declared.objects.Object.{Object}
 use Rattle.chain_types.specs.Equal.{digest_eq}
 use Rattle.answer_types.specs.declared.answers.Held.{Held}
-use Rattle.protocol_spec.proofs.Equality.{digest_same}
+use Rattle.protocol_spec.proofs.Equality.{digest_same, digest_self}
 use Rattle.protocol_spec.proofs.ListLemmas.{push_has, has_left}
 use Rattle.protocol_spec.specs.Chain.Words.{Has}
 use Rattle.protocol_spec.specs.Chain.Certificates.{Rules}
 use Rattle.protocol_spec.specs.Member.Admission.{Admitted, Admission, admit, entered, is_admitted, is_dropped, is_free, is_known, not_of, passed_mark, take_free, taken, taken_as, taken_next}
 use Rattle.protocol_spec.specs.Member.Sequence.{Sequence, What, takes, commits, counts, ignores, what_of, counted_as, ends_with_member, with_what, with_entry, saw}
-use Rattle.safety_law.proofs.Once.{digest-same}
 use Rattle.sequence_law.proofs.Live.{passed-has, any-has, has-any}
 
 -- it was admitted, dropped, or waits
@@ -47,11 +46,11 @@ module _ (a : Admission) (tx : Digest) where
   or-right false y e = e
 
   same-as : (d : Digest) → d ≡ tx → digest_eq d tx ≡ true
-  same-as d e = subst (λ (c : Digest). digest_eq c tx ≡ true) (sym e) (digest-same tx)
+  same-as d e = subst (λ (c : Digest). digest_eq c tx ≡ true) (sym e) (digest_self tx)
 
   pub known-in : IsIn a tx → is_known a tx ≡ true
   known-in (inl x) = or-left (is_admitted a.admitted tx || list_any (digest_eq tx) a.dropped) (list_any is_waiting a.pending) (or-left (is_admitted a.admitted tx) (list_any (digest_eq tx) a.dropped) (has-any is_this a.admitted x.0 x.1 (same-as x.0.digest x.2)))
-  known-in (inr (inl d)) = or-left (is_admitted a.admitted tx || list_any (digest_eq tx) a.dropped) (list_any is_waiting a.pending) (or-right (is_admitted a.admitted tx) (list_any (digest_eq tx) a.dropped) (has-any (digest_eq tx) a.dropped tx d (digest-same tx)))
+  known-in (inr (inl d)) = or-left (is_admitted a.admitted tx || list_any (digest_eq tx) a.dropped) (list_any is_waiting a.pending) (or-right (is_admitted a.admitted tx) (list_any (digest_eq tx) a.dropped) (has-any (digest_eq tx) a.dropped tx d (digest_self tx)))
   known-in (inr (inr h)) = or-right (is_admitted a.admitted tx || list_any (digest_eq tx) a.dropped) (list_any is_waiting a.pending) (has-any is_waiting a.pending h.0 h.1 (same-as h.0.digest h.2))
 
 -- ---- what is taken, and what an entry does

@@ -15,6 +15,7 @@ use Rattle.answer_types.specs.declared.pieces.Executed.{Executed}
 use Rattle.chain_messages.specs.declared.messages.Certificate.{Certificate}
 use Rattle.answer_types.specs.declared.answers.Held.{Held}
 use Rattle.schedule_text.specs.declared.words.Event.{Event}
+use Rattle.protocol_spec.proofs.Equality.{digest_self}
 use Rattle.protocol_spec.specs.Chain.Words.{Has}
 use Rattle.protocol_spec.specs.Chain.Keys.{object_key, objects_of}
 use Rattle.protocol_spec.proofs.ListLemmas.{find-test, has_parts, each_has, has_left, find_has, has_mapped, has_right, has_map, flat_has}
@@ -29,7 +30,6 @@ use Rattle.world_spec.specs.World.{Seat, member_in}
 use Rattle.world_spec.specs.Run.{world_after}
 use Rattle.world_spec.specs.Assumptions.{IsHonestRun, all_delivered}
 use Rattle.safety_law.proofs.Apart.{none-each, none-of}
-use Rattle.safety_law.proofs.Once.{digest-same}
 use Rattle.safety_law.proofs.Owner.{voter}
 use Rattle.agreement_law.specs.Agreed.{IsGiven, IsHeldAsGiven}
 use Rattle.agreement_law.proofs.Supply.{every-held}
@@ -109,7 +109,7 @@ module _ (b : Ballot) (m : Member) (openings : b.opening ≡ m.opening) (same : 
       some-mapped object_in (find (is_wanted key (Some (producers.Tx x.digest))) there)
       (has-find (is_wanted key (Some (producers.Tx x.digest))) there (written y.0.digest o)
       (written-in m.opening m.executed y.0 o y.1 (subst (λ (g : Executed). Has g.objects o) gave w))
-      (subst (λ (d : Digest). (key_eq (object_key o) key && digest_eq d x.digest) ≡ true) (sym y.2) (rw k (digest-same x.digest))))
+      (subst (λ (d : Digest). (key_eq (object_key o) key && digest_eq d x.digest) ≡ true) (sym y.2) (rw k (digest_self x.digest))))
 
   version-found : (u : Version) → Has (versions b.opening b.executed) u → key_eq (object_key u.object) key ≡ true → is_origin_done m.executed (maker u.producer) ≡ true → Found (maker u.producer)
   version-found u h k done = go (version-from b.opening b.executed u h)

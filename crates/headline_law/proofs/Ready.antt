@@ -19,7 +19,7 @@ use Rattle.chain_types.specs.Digests.{key_of, transaction_digest, is_object, lam
 use Rattle.answer_types.specs.declared.answers.Assigned.{Assigned}
 use Rattle.answer_types.specs.declared.answers.Held.{Held}
 use Rattle.schedule_text.specs.declared.words.Event.{Event}
-use Rattle.protocol_spec.proofs.Equality.{id_same}
+use Rattle.protocol_spec.proofs.Equality.{id_same, id_self}
 use Rattle.protocol_spec.specs.Chain.Words.{Has, all_some}
 use Rattle.protocol_spec.specs.Chain.Tests.{producer_eq}
 use Rattle.protocol_spec.specs.Chain.Keys.{object_key, objects_of, is_shared_since, is_shared_input, has_shared_input, version_of, version_limit, fits_input, fit_inputs, fits}
@@ -35,7 +35,6 @@ use Rattle.world_spec.specs.World.{Seat, member_in}
 use Rattle.world_spec.specs.Run.{world_after}
 use Rattle.world_spec.specs.Assumptions.{IsHonestRun, all_delivered}
 use Rattle.safety_law.proofs.Apart.{none-each, none-of}
-use Rattle.block_law.proofs.Counts.{id_refl}
 use Rattle.block_law.proofs.Written.{second}
 use Rattle.block_law.specs.Shared.{shared_since}
 use Rattle.agreement_law.specs.Agreed.{IsGiven, IsHeldAsGiven}
@@ -189,7 +188,7 @@ module _ (s : Setting) (events : List Event) (honest : IsHonestRun s events) (di
       let u = found-as (versions m.opening m.executed) w o e in
       let same : u.0.object.id ≡ id = found-id w.key w.producer u.0 (find-test (is_wanted w.key w.producer) (versions m.opening m.executed) u.0 u.1) ∙ wanted-id (assigned_of m.sequence.admission h.digest) id initial mutable d in
       let since = shared-since h held id initial mutable (has-zip (objects_of h.cert.tx) h.cert.origins (inputs.Shared id initial mutable) d joined) u.0 (find_has (is_wanted w.key w.producer) (versions m.opening m.executed) u.0 u.1) same in
-      let ids : id_eq o.id id ≡ true = subst (λ (z : ObjectId). id_eq o.id z ≡ true) (sym (ap (λ (p : Object). p.id) u.2) ∙ same) (id_refl o.id) in
+      let ids : id_eq o.id id ≡ true = subst (λ (z : ObjectId). id_eq o.id z ≡ true) (sym (ap (λ (p : Object). p.id) u.2) ∙ same) (id_self o.id) in
       let owners : is_shared_since initial o.owner ≡ true = is-since initial o.owner (sym (ap (λ (p : Object). shared_since p.owner) u.2) ∙ since) in
       rw (ids, owners) refl
 

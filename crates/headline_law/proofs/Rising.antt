@@ -8,14 +8,13 @@ use Rattle.chain_types.specs.declared.transactions.Input.TheVariants as inputs
 use Rattle.chain_types.specs.Equal.{id_eq}
 use Rattle.chain_types.specs.Digests.{is_object, lamport_version}
 use Rattle.chain_messages.specs.declared.messages.Certificate.{Certificate}
-use Rattle.protocol_spec.proofs.Equality.{id_same}
+use Rattle.protocol_spec.proofs.Equality.{id_same, id_self}
 use Rattle.protocol_spec.proofs.ListLemmas.{has_parts, has_map}
 use Rattle.protocol_spec.specs.Chain.Words.{Has, Along, first_some, first_of, where_true, last_where}
 use Rattle.protocol_spec.specs.Chain.Tests.{has_id}
 use Rattle.protocol_spec.specs.Chain.Keys.{objects_of, mutable_id}
 use Rattle.protocol_spec.specs.Member.Admission.{Admitted, writes, cert_of, beginning_by, standing_after, standing_or, current, taken_version, admit}
 use Rattle.sequence_law.specs.Admitted.{IsInOrder}
-use Rattle.block_law.proofs.Counts.{id_refl}
 use Rattle.agreement_law.proofs.Lists.{has-split, along-front}
 
 -- ---- the last of which a test holds
@@ -92,7 +91,7 @@ named-mutable (inputs.Shared x n true ∷ is) id initial h = go (id_eq id x) ref
 
     go : (b : Bool) → id_eq id x ≡ b → Has (inputs.Shared x n true ∷ filter is_object is) (inputs.Shared id initial true) → (Has (filter is_object is) (inputs.Shared id initial true) → has_id (filter_map mutable_id is) id ≡ true) → (b || has_id (filter_map mutable_id is) id) ≡ true
     go true q h rest = refl
-    go false q (inl e) rest = absurd (let s = subst (λ (z : ObjectId). id_eq id z ≡ true) (sym (same e)) (id_refl id) in cc)
+    go false q (inl e) rest = absurd (let s = subst (λ (z : ObjectId). id_eq id z ≡ true) (sym (same e)) (id_self id) in cc)
     go false q (inr h) rest = rest h
 
 pub writes-it : (a : Admitted) (id : ObjectId) (initial : ℕ) → Has (objects_of a.cert.tx) (inputs.Shared id initial true) → writes id a ≡ true

@@ -12,6 +12,7 @@ use Rattle.chain_messages.specs.declared.messages.Certificate.{Certificate}
 use Rattle.answer_types.specs.declared.pieces.Executed.{Executed}
 use Rattle.answer_types.specs.declared.answers.Held.{Held}
 use Rattle.schedule_text.specs.declared.words.Event.{Event}
+use Rattle.protocol_spec.proofs.Equality.{digest_self}
 use Rattle.protocol_spec.proofs.Executions.{effects_tx}
 use Rattle.protocol_spec.proofs.ListLemmas.{each_has, has_left, has_parts, has_mapped, has_right}
 use Rattle.protocol_spec.specs.Chain.Words.{Has, Along, numbers_below, repeats}
@@ -25,7 +26,6 @@ use Rattle.world_spec.specs.World.{Seat, member_in}
 use Rattle.world_spec.specs.Names.{draws}
 use Rattle.world_spec.specs.Run.{world_after}
 use Rattle.world_spec.specs.Assumptions.{IsHonestRun, all_delivered, all_transactions}
-use Rattle.safety_law.proofs.Once.{digest-same}
 use Rattle.block_law.specs.Names.{drawn_id, drawn_ids, touched_ids}
 use Rattle.block_law.proofs.Steps.{map-append}
 use Rattle.block_law.proofs.Effects.{objects-ids}
@@ -177,7 +177,7 @@ module _ (s : Setting) (events : List Event) (honest : IsHonestRun s events) (n 
         let same = (honest.ids.drawn x.cert.tx t (of-run s events x.cert x.comes) in-run r.number k (omega (arith, drew, most)) (few k less)
         (ap (λ (d : Digest). drawn_id d r.number) (sym x.digest) ∙ r.drawn ∙ e)).0 in
         let digests : r.by.digest ≡ y.digest = x.digest ∙ same ∙ sym y-digest in
-        not-new (has-find (λ (z : Execution). digest_eq z.digest y.digest) before r.by r.there (subst (λ (d : Digest). digest_eq r.by.digest d ≡ true) digests (digest-same r.by.digest))) new
+        not-new (has-find (λ (z : Execution). digest_eq z.digest y.digest) before r.by r.there (subst (λ (d : Digest). digest_eq r.by.digest d ≡ true) digests (digest_self r.by.digest))) new
       where
         not-new : is_executed before y.digest ≡ true → is_executed before y.digest ≡ false → ⊥
         not-new e f = cc

@@ -7,7 +7,7 @@ use Rattle.chain_types.specs.Equal.{digest_eq}
 use Rattle.journal_core.specs.declared.records.Record.{Record}
 use Rattle.journal_core.specs.declared.records.Record.TheVariants as record_as
 use Rattle.answer_types.specs.declared.answers.Held.{Held}
-use Rattle.protocol_spec.proofs.Equality.{digest_same}
+use Rattle.protocol_spec.proofs.Equality.{digest_same, digest_self}
 use Rattle.protocol_spec.specs.Chain.Words.{Has, Each}
 use Rattle.protocol_spec.specs.Chain.Certificates.{Rules}
 use Rattle.protocol_spec.proofs.ListLemmas.{find-each, find-test, filter-each, each_push, each_has, push_has, find_has, each_as}
@@ -15,7 +15,6 @@ use Rattle.protocol_spec.specs.Member.Admission.{Admitted, Admission, is_free, n
 use Rattle.protocol_spec.specs.Member.Sequence.{Sequence, What, takes, commits, counts, ignores, what_of, counted_as, ends_with_member, with_what, with_entry, saw, held_as}
 use Rattle.protocol_spec.specs.Member.Checkpoints.{held_of}
 use Rattle.protocol_spec.specs.Member.Member.{Member, fresh, held_with, after, state}
-use Rattle.safety_law.proofs.Once.{digest-same}
 use Rattle.headline_law.proofs.Present.{has-find}
 use Rattle.headline_law.proofs.Rounds.{some-more}
 
@@ -87,7 +86,7 @@ held-new held what h e = subst (λ (w : What). IsHeldIn (held_with held w) h.dig
   where
     go : (b : Bool) → is_some (held_of held h.digest) ≡ b → IsHeldIn (cond b held (held ++ h ∷ [])) h.digest
     go true e = e
-    go false e = has-find (is_of_digest h.digest) (held ++ h ∷ []) h (push_has held h) (digest-same h.digest)
+    go false e = has-find (is_of_digest h.digest) (held ++ h ∷ []) h (push_has held h) (digest_self h.digest)
 
 more-of : (P Q : Digest → Type 0) (a : Admission) → ((tx : Digest) → P tx → Q tx) → AllOf P a → AllOf Q a
 more-of P Q a more all = record {

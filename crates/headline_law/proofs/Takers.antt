@@ -15,7 +15,7 @@ use Rattle.chain_types.specs.Digests.{transaction_digest, consumed_keys}
 use Rattle.chain_messages.specs.declared.messages.Certificate.{Certificate}
 use Rattle.answer_types.specs.declared.answers.Held.{Held}
 use Rattle.schedule_text.specs.declared.words.Event.{Event}
-use Rattle.protocol_spec.proofs.Equality.{digest_same, id_same}
+use Rattle.protocol_spec.proofs.Equality.{digest_same, id_same, digest_self}
 use Rattle.protocol_spec.specs.Chain.Words.{Has, Along, IsFront, numbers_below, repeats}
 use Rattle.protocol_spec.specs.Chain.Keys.{objects_of, is_shared_since, named_ids, fits_input}
 use Rattle.protocol_spec.proofs.ListLemmas.{and-first, has_mapped}
@@ -25,7 +25,6 @@ use Rattle.protocol_spec.specs.Member.Member.{Member}
 use Rattle.world_spec.specs.Setting.{Setting}
 use Rattle.world_spec.specs.Names.{draws}
 use Rattle.world_spec.specs.Assumptions.{IsHonestRun, all_delivered, all_transactions}
-use Rattle.safety_law.proofs.Once.{digest-same}
 use Rattle.sequence_law.specs.Admitted.{IsInOrder}
 use Rattle.block_law.specs.Names.{drawn_id, drawn_ids}
 use Rattle.block_law.proofs.Steps.{map-append}
@@ -224,7 +223,7 @@ module _ (s : Setting) (events : List Event) (honest : IsHonestRun s events) whe
     one-taker o (i, h, may) (j, g, also_may) = go (digest_eq (transaction_digest x.tx) (transaction_digest y.tx)) refl
       where
         other : digest_eq (transaction_digest x.tx) (transaction_digest y.tx) ≡ false → transaction_digest x.tx ≡ transaction_digest y.tx → ⊥
-        other e same = let is = subst (λ (d : Digest). digest_eq (transaction_digest x.tx) d ≡ true) same (digest-same (transaction_digest x.tx)) in cc
+        other e same = let is = subst (λ (d : Digest). digest_eq (transaction_digest x.tx) d ≡ true) same (digest_self (transaction_digest x.tx)) in cc
 
         go : (b : Bool) → digest_eq (transaction_digest x.tx) (transaction_digest y.tx) ≡ b → transaction_digest x.tx ≡ transaction_digest y.tx
         go true e = digest_same (transaction_digest x.tx) (transaction_digest y.tx) e

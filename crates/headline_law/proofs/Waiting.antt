@@ -3,12 +3,12 @@ use Rattle.std.proofs.Common.{inl, inr, refl, ap, arith}
 use Rattle.std.specs.Prelude.{◌≡◌, ◌≤◌, ◌<◌, ℕ, zero, suc, Bool, true, false, cond, List, [], ◌∷◌, ◌++◌, filter, find, fold, length, Option, Some, None}
 use Rattle.chain_types.specs.declared.objects.Object.{Object}
 use Rattle.answer_types.specs.declared.answers.Held.{Held}
+use Rattle.protocol_spec.proofs.Equality.{digest_self}
 use Rattle.protocol_spec.proofs.ListLemmas.{find_has}
 use Rattle.protocol_spec.specs.Chain.Words.{Has}
 use Rattle.protocol_spec.specs.Chain.Certificates.{Rules}
 use Rattle.protocol_spec.specs.Member.Admission.{Admission, is_free, not_of, taken_as, taken, is_dropped, taken_next, take_free, entered, passed_mark, admit}
 use Rattle.protocol_spec.specs.Member.Sequence.{Sequence, What, takes, commits, counts, ignores, nothing_seen, what_of, counted_as, ends_with_member, with_what, with_entry, saw, seen}
-use Rattle.safety_law.proofs.Once.{digest-same}
 
 -- ---- a filter leaves no more, and fewer where one element fails
 
@@ -41,7 +41,7 @@ IsIdle writers a = find (is_free writers a) a.pending ≡ None
 
 module _ (writers : Option ℕ) (opening : List Object) where
   not-itself : (h : Held) → not_of h h ≡ false
-  not-itself h = rw (digest-same h.digest) refl
+  not-itself h = rw (digest_self h.digest) refl
 
   pending-fewer : (b : Bool) (a : Admission) (h : Held) → Has a.pending h → length (taken_as b opening a h).pending < length a.pending
   unfolding admit

@@ -9,6 +9,7 @@ use Rattle.chain_types.specs.Equal.{key_eq}
 use Rattle.chain_messages.specs.Messages as messages
 use Rattle.chain_messages.specs.declared.messages.Certificate.{Certificate}
 use Rattle.quorum_core.specs.Committee.{all_known, ascends, is_among, is_roll}
+use Rattle.protocol_spec.proofs.Equality.{key_self}
 use Rattle.protocol_spec.proofs.Truth.{and_true, or_right, or_left, both_true}
 use Rattle.protocol_spec.specs.Chain.Tests.{has_key}
 use Rattle.protocol_spec.specs.Chain.Words.{Each, first_of, first_some, where_true}
@@ -16,7 +17,7 @@ use Rattle.light_check.specs.declared.rivals.DoubleVote.{DoubleVote}
 use Rattle.light_check.specs.Blamed.{are_rivals, blame_for, blamed, sealers, shared_key}
 use Rattle.inspect_core.specs.Blame.{Names, double_text, pair_text}
 use Rattle.inspect_core.specs.Found.{IsSound}
-use Rattle.inspect_core.proofs.Shared.{IsQuiet, key_refl}
+use Rattle.inspect_core.proofs.Shared.{IsQuiet}
 use Rattle.committee_core.proofs.Agreeing.{clash}
 
 -- ---- some members of a roll
@@ -95,7 +96,7 @@ none_shared keys (k ∷ others) apart =
   where
     go : (b : Bool) → has_key keys k ≡ b → (has_key keys k ≡ true → has_key (k ∷ others) k ≡ true → ⊥) → first_of (λ key. where_true (has_key keys key) key) others ≡ None
         → first_some (where_true b k ∷ first_of (λ key. where_true (has_key keys key) key) others ∷ []) ≡ None
-    go true is no_more rest = absurd (no_more is (or_left (key_eq k k) (has_key others k) (key_refl k)))
+    go true is no_more rest = absurd (no_more is (or_left (key_eq k k) (has_key others k) (key_self k)))
     go false is no_more rest = ap (λ (o : Option ObjectKey). first_some (o ∷ [])) rest
 
 pub quiet_pairs : (names : Names) (stakes : List ℕ) → IsQuiet (pair_text names stakes)

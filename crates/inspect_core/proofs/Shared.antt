@@ -1,9 +1,6 @@
 -- Certificates that share a version with none of the others are left out, and no line goes.
 use Rattle.std.proofs.Common.{◌≡◌, ◌∙◌, ◌⊎◌, inl, inr, ℕ, Bool, true, false, cond, List, [], ◌∷◌, ◌++◌, filter, fold, Option, Some, None, is_some, refl, sym, ap, subst}
-use Rattle.std.specs.Prelude.{◌==◌, ◌&&◌}
 use Rattle.std.specs.List.{flat_map, list_any}
-use Rattle.std.proofs.lemmas.Slice.Eq.{bytes_eq-Decides}
-use Rattle.std.proofs.lemmas.Bool.Decides.{Decides-eqb}
 use Rattle.indexmap.specs.IndexMap.{insert_entry}
 use Rattle.chain_types.specs.declared.objects.ObjectKey.{ObjectKey}
 use Rattle.chain_types.specs.Digests.{consumed_keys}
@@ -20,9 +17,6 @@ use Rattle.inspect_core.specs.Uses.{Uses, is_more, is_shared, is_suspect, use_of
 
 apart : true ≡ false → ⊥
 apart h = absurd (cc)
-
-pub key_refl : (a : ObjectKey) → key_eq a a ≡ true
-key_refl a = ap (λ b. b && (a.version == a.version)) ((bytes_eq-Decides a.id.0.0 a.id.0.0).1 refl) ∙ (Decides-eqb a.version a.version).1 refl
 
 -- what holds of a key that is there holds of one of them
 any_of : (p : ObjectKey → Bool) (keys : List ObjectKey) (q : ObjectKey) → has_key keys q ≡ true → p q ≡ true → list_any p keys ≡ true

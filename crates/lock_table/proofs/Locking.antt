@@ -6,8 +6,7 @@ use Rattle.digest_core.specs.declared.Digest.{Digest}
 use Rattle.chain_types.specs.declared.objects.ObjectKey.{ObjectKey}
 use Rattle.chain_types.specs.Equal.{digest_eq, key_eq}
 use Rattle.lock_table.specs.Locks.{Locks, locked_by, or_other, other_lock, unless_own, with_locks}
-use Rattle.lock_table.proofs.Keys.{key_refl}
-use Rattle.protocol_spec.proofs.Equality.{digest_same, key_same}
+use Rattle.protocol_spec.proofs.Equality.{digest_same, key_same, key_self}
 
 -- the key is among the keys
 abbrev pub Among : ObjectKey → List ObjectKey → Type 0
@@ -20,7 +19,7 @@ IsFree locks keys tx = (key : ObjectKey) → Among key keys → (by : Digest) �
 
 -- after a key was locked, it is the transaction's
 put_same : (locks : Locks) (key : ObjectKey) (tx : Digest) → locked_by (insert_entry key_eq locks key tx) key ≡ Some tx
-put_same [] key tx = ap (λ b. cond b (Some tx) None) (key_refl key)
+put_same [] key tx = ap (λ b. cond b (Some tx) None) (key_self key)
 put_same (l ∷ ls) key tx = by (key_eq key l.0) refl (put_same ls key tx)
   where
     by : (b : Bool) → key_eq key l.0 ≡ b → locked_by (insert_entry key_eq ls key tx) key ≡ Some tx → locked_by (insert_entry key_eq (l ∷ ls) key tx) key ≡ Some tx

@@ -21,6 +21,15 @@ use Rattle.protocol_spec.specs.Chain.Words.{repeats}
 use Rattle.protocol_spec.specs.Member.Rounds.{holds_key}
 use Rattle.protocol_spec.specs.Member.Versions.{id_cmp}
 
+pub digest_self : (a : Digest) → digest_eq a a ≡ true
+digest_self a = (bytes_eq-Decides a.0 a.0).1 refl
+
+pub id_self : (a : ObjectId) → id_eq a a ≡ true
+id_self a = digest_self a.0
+
+pub key_self : (a : ObjectKey) → key_eq a a ≡ true
+key_self a = ap (λ b. b && (a.version == a.version)) (id_self a.id) ∙ (Decides-eqb a.version a.version).1 refl
+
 pub digest_same : (a b : Digest) → digest_eq a b ≡ true → a ≡ b
 digest_same a b h = ap (λ (x : List ℕ). record { 0 = x }) ((bytes_eq-Decides a.0 b.0).0 h)
 

@@ -13,6 +13,7 @@ use Rattle.chain_types.specs.Digests.{transaction_digest}
 use Rattle.schedule_text.specs.declared.words.Event.{Event}
 use Rattle.schedule_text.specs.declared.words.Schedule.{Schedule}
 use Rattle.schedule_text.specs.Schedule.{schedule_of}
+use Rattle.protocol_spec.proofs.Equality.{digest_self}
 use Rattle.protocol_spec.proofs.ListLemmas.{flat_has, is_below, has_parts, has_map, has_mapped, has_right}
 use Rattle.protocol_spec.proofs.Truth.{or_false_left, or_false_right}
 use Rattle.protocol_spec.specs.Chain.Words.{Each, Has, numbers_below, repeats}
@@ -23,7 +24,6 @@ use Rattle.world_spec.specs.Names.{draws}
 use Rattle.world_spec.specs.Run.{world_after}
 use Rattle.world_spec.specs.Assumptions.{FewFaulty, IdsApart, IsHonestRun, TransactionsApart, all_delivered, all_formed, all_of, all_transactions, asked, created}
 use Rattle.safety_law.specs.Owners.{is_raw_hold}
-use Rattle.safety_law.proofs.Once.{digest-same}
 use Rattle.safety_law.proofs.Sound.{get-has}
 use Rattle.text_law.proofs.Honest.{read-unforged}
 
@@ -95,7 +95,7 @@ pub record IsComputed (s : Setting) (events : List Event) : Type 0 where
 
 module _ (s : Setting) (events : List Event) (it : IsComputed s events) where
   id-self : (x : ObjectId) → id_eq x x ≡ true
-  id-self x = digest-same x.0
+  id-self x = digest_self x.0
 
   is-known : (t : Transaction) → Has (all_transactions s events) t → Has it.known t
   unfolding all_transactions
@@ -117,7 +117,7 @@ module _ (s : Setting) (events : List Event) (it : IsComputed s events) where
       go (inr k) = rest (has_parts (map (λ (x : SignedTx). x.tx) (all_of asked s events (new_world s))) (map (λ (c : Certificate). c.tx) (all_formed s events ++ all_delivered s events)) t k)
 
   transactions-apart : TransactionsApart (all_transactions s events)
-  transactions-apart t u h k e = one-of transaction_digest digest_eq digest-same it.known it.digests t u (is-known t h) (is-known u k) e
+  transactions-apart t u h k e = one-of transaction_digest digest_eq digest_self it.known it.digests t u (is-known t h) (is-known u k) e
 
   drawn : (t : Transaction) → Has (all_transactions s events) t → (n : ℕ) → n < draws t.commands → Has (flat_map numbered it.known) (t, n)
   drawn t h n less = flat_has numbered it.known t (t, n) (is-known t h) (has_map (λ (n : ℕ). (t, n)) (numbers_below (draws t.commands)) n (is_below (draws t.commands) n less))

@@ -9,6 +9,7 @@ use Rattle.answer_types.specs.declared.pieces.Executed.{Executed}
 use Rattle.journal_core.specs.declared.records.Record.{Record}
 use Rattle.journal_core.specs.declared.records.Record.TheVariants as record_as
 use Rattle.answer_types.specs.declared.answers.Held.{Held}
+use Rattle.protocol_spec.proofs.Equality.{digest_self}
 use Rattle.protocol_spec.proofs.Executions.{ready_once, stays_executed}
 use Rattle.protocol_spec.specs.Chain.Words.{where_true}
 use Rattle.protocol_spec.specs.Chain.Certificates.{Rules}
@@ -19,12 +20,11 @@ use Rattle.protocol_spec.specs.Member.Sequence.{What, takes, commits, counts, ig
 use Rattle.protocol_spec.specs.Member.Checkpoints.{held_of}
 use Rattle.protocol_spec.specs.Member.Rounds.{Books, clashes, executes_as, may_run, present, ready, ready_as, ready_on, round_add, round_among, round_of, rounds, rounds_within, writes_new}
 use Rattle.protocol_spec.specs.Member.Member.{Member, after, fresh, held_with, state}
-use Rattle.safety_law.proofs.Once.{digest-same}
 
 -- ---- what is executed stays so
 
 last-executed : (xs : List Execution) (x : Execution) → is_executed (xs ++ x ∷ []) x.digest ≡ true
-last-executed [] x = rw (digest-same x.digest) refl
+last-executed [] x = rw (digest_self x.digest) refl
 last-executed (y ∷ xs) x = go (digest_eq y.digest x.digest) (last-executed xs x)
   where
     go : (b : Bool) → is_executed (xs ++ x ∷ []) x.digest ≡ true → is_some (cond b (Some y) (execution_of (xs ++ x ∷ []) x.digest)) ≡ true

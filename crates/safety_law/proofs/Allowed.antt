@@ -23,6 +23,7 @@ use Rattle.answer_types.specs.declared.refusals.RunRefusal.{RunRefusal}
 use Rattle.answer_types.specs.declared.refusals.CloseRefusal.{CloseRefusal}
 use Rattle.answer_types.specs.declared.refusals.TurnRefusal.{TurnRefusal}
 use Rattle.schedule_text.specs.declared.words.Event.{Event}
+use Rattle.protocol_spec.proofs.Equality.{digest_self}
 use Rattle.protocol_spec.proofs.Truth.{some_same}
 use Rattle.protocol_spec.specs.Chain.Words.{Along, first_some, where_true, unless_refused, refused_or}
 use Rattle.protocol_spec.specs.Chain.Tests.{list_eq, origin_eq}
@@ -36,7 +37,6 @@ use Rattle.world_spec.specs.World.{Seat, member_in}
 use Rattle.world_spec.specs.Run.{world_after}
 use Rattle.protocol_spec.specs.Member.Due.{IsDueBehind}
 use Rattle.safety_law.proofs.Apart.{state-push}
-use Rattle.safety_law.proofs.Once.{digest-same}
 use Rattle.safety_law.proofs.Journals.{every-record}
 
 -- ---- equal lists pass their test
@@ -47,10 +47,10 @@ same-list same one (x ∷ xs) = rw (one x) (same-list same one xs)
 
 same-origin : (o : Option Digest) → origin_eq o o ≡ true
 same-origin None = refl
-same-origin (Some d) = digest-same d
+same-origin (Some d) = digest_self d
 
 same-item : (i : RanItem) → ran_item_eq i i ≡ true
-same-item i = rw (digest-same i.tx) (digest-same i.effects)
+same-item i = rw (digest_self i.tx) (digest_self i.effects)
 
 module _ (r : Rules) (m : Member) (x : Record) where
   abbrev Allows : Record → Type 0

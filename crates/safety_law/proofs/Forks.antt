@@ -33,7 +33,7 @@ use Rattle.answer_types.specs.declared.refusals.RunRefusal.{RunRefusal}
 use Rattle.answer_types.specs.declared.refusals.CloseRefusal.{CloseRefusal}
 use Rattle.answer_types.specs.declared.refusals.TurnRefusal.{TurnRefusal}
 use Rattle.schedule_text.specs.declared.words.Event.{Event}
-use Rattle.protocol_spec.proofs.Equality.{bytes_same}
+use Rattle.protocol_spec.proofs.Equality.{bytes_same, digest_self}
 use Rattle.protocol_spec.specs.Chain.Words.{Has, Each, Along, first_some, first_of, where_true, refused_or, unless_refused}
 use Rattle.protocol_spec.specs.Chain.Tests.{has_key}
 use Rattle.protocol_spec.specs.Chain.Certificates.{Rules, read_signed, read_certificate, read_entry, cert_refusal}
@@ -50,7 +50,7 @@ use Rattle.world_spec.specs.Run.{run, world_after}
 use Rattle.world_spec.specs.Assumptions.{calls_of, read_list, entry_certificates, certificates_read, delivered, all_of, all_delivered, IsHonestRun}
 use Rattle.safety_law.proofs.InWorld.{in_world_given}
 use Rattle.safety_law.proofs.Apart.{none-each, none-found, state-push}
-use Rattle.safety_law.proofs.Once.{digest-same, has-push}
+use Rattle.safety_law.proofs.Once.{has-push}
 use Rattle.safety_law.specs.Owners.{IsFormedOrValid}
 use Rattle.safety_law.proofs.Totals.{each-all, flat-each}
 use Rattle.safety_law.proofs.Owner.{owner}
@@ -385,7 +385,7 @@ module _ (s : Setting) (events : List Event) (run_is : IsHonestRun s events) (ep
 
       go : (b : Bool) → has_key (consumed_keys e.cert.tx) key ≡ b → has_key (consumed_keys e.cert.tx) key ≡ false
       go false q = q
-      go true q = absurd (let is = subst (λ (d : Digest). digest_eq e.digest d ≡ true) (one q) (digest-same e.digest) in cc)
+      go true q = absurd (let is = subst (λ (d : Digest). digest_eq e.digest d ≡ true) (one q) (digest_self e.digest) in cc)
 
   no-fork-with : (earlier : List Held) (h : Held) → ((e : Held) → Has earlier e → Good e) → Good h → IsOther earlier h → fork_with earlier h ≡ None
   no-fork-with earlier h good good_h other = none-first (fork_at earlier h) (consumed_keys h.cert.tx) (λ key k. none key (none-find (consumes key) earlier (λ e l. no-key e h (good e l) good_h (each_has (λ (x : Held). digest_eq x.digest h.digest ≡ false) earlier e other l) key k)))

@@ -11,7 +11,7 @@ use Rattle.chain_types.specs.declared.transactions.Transaction.{Transaction}
 use Rattle.journal_core.specs.declared.records.Record.{Record}
 use Rattle.journal_core.specs.declared.records.Record.TheVariants as record_as
 use Rattle.schedule_text.specs.declared.words.Event.{Event}
-use Rattle.protocol_spec.proofs.Equality.{digest_same}
+use Rattle.protocol_spec.proofs.Equality.{digest_same, digest_self, key_self}
 use Rattle.protocol_spec.proofs.ListLemmas.{push_has, has_left, each_has}
 use Rattle.protocol_spec.specs.Chain.Words.{Has, Each}
 use Rattle.protocol_spec.specs.Chain.Tests.{has_key}
@@ -56,23 +56,17 @@ differ a b other = go (digest_eq a b) refl
     go false e = e
     go true e = absurd (other (digest_same a b e))
 
-pub digest-same : (d : Digest) → digest_eq d d ≡ true
-digest-same d = bytes-same d.0
-
 -- what is not found is not among them
 not-found : (tx : Digest) (vs : List Cast) (v : Cast) → find (λ (w : Cast). digest_eq w.digest tx) vs ≡ None → Has vs v → v.digest ≡ tx → ⊥
 not-found tx [] v e h d = h
 not-found tx (w ∷ vs) v e (inl q) d =
-    let same = digest-same tx in
+    let same = digest_self tx in
     let other = subst (λ (x : Digest). digest_eq x tx ≡ false) (ap (λ (y : Cast). y.digest) q ∙ d) (none-found (λ (y : Cast). digest_eq y.digest tx) w vs e).0 in cc
 not-found tx (w ∷ vs) v e (inr h) d = not-found tx vs v (none-found (λ (y : Cast). digest_eq y.digest tx) w vs e).1 h d
 
-key-same : (k : ObjectKey) → key_eq k k ≡ true
-key-same k = rw (bytes-same k.id.0.0) (eq-eqb k.version k.version refl)
-
 pub has-key : (keys : List ObjectKey) (key : ObjectKey) → Has keys key → has_key keys key ≡ true
 has-key [] key h = absurd h
-has-key (k ∷ keys) key (inl e) = subst (λ (z : ObjectKey). (key_eq key z || has_key keys key) ≡ true) (sym e) (rw (key-same key) refl)
+has-key (k ∷ keys) key (inl e) = subst (λ (z : ObjectKey). (key_eq key z || has_key keys key) ≡ true) (sym e) (rw (key_self key) refl)
 has-key (k ∷ keys) key (inr h) = go (key_eq key k) (has-key keys key h)
   where
     go : (b : Bool) → has_key keys key ≡ true → (b || has_key keys key) ≡ true

@@ -13,7 +13,7 @@ use Rattle.chain_messages.specs.declared.messages.MemberSeal.{MemberSeal}
 use Rattle.chain_messages.specs.declared.messages.Certificate.{Certificate}
 use Rattle.journal_core.specs.declared.records.Record.TheVariants as record_as
 use Rattle.schedule_text.specs.declared.words.Event.{Event}
-use Rattle.protocol_spec.proofs.Equality.{digest_same}
+use Rattle.protocol_spec.proofs.Equality.{digest_same, digest_self}
 use Rattle.protocol_spec.specs.Chain.Words.{Has}
 use Rattle.protocol_spec.specs.Chain.Committee.{is_among}
 use Rattle.protocol_spec.specs.Chain.Certificates.{accepts_sender, members_of}
@@ -22,7 +22,7 @@ use Rattle.world_spec.specs.World.{Seat, new_seat, new_world, honest_seat, is_ho
 use Rattle.world_spec.specs.Run.{world_after}
 use Rattle.world_spec.specs.Assumptions.{IsHonestRun, is_faulty_in}
 use Rattle.safety_law.proofs.Meeting.{two_meet}
-use Rattle.safety_law.proofs.Once.{digest-same, voted-once, voted-alike}
+use Rattle.safety_law.proofs.Once.{voted-once, voted-alike}
 use Rattle.safety_law.specs.Owners.{IsFormedOrValid, HasStated, all_handed}
 use Rattle.safety_law.proofs.Grown.{grown-run}
 use Rattle.safety_law.proofs.Handed.{WasHanded, voted-handed}
@@ -96,7 +96,7 @@ module _ (s : Setting) (events : List Event) (run_is : IsHonestRun s events) whe
       both = voter c d is_c is_d
 
       differ : digest_eq (transaction_digest c.tx) (transaction_digest d.tx) ≡ false → transaction_digest c.tx ≡ transaction_digest d.tx → ⊥
-      differ other e = let is = subst (λ (x : Digest). digest_eq (transaction_digest c.tx) x ≡ true) e (digest-same (transaction_digest c.tx)) in cc
+      differ other e = let is = subst (λ (x : Digest). digest_eq (transaction_digest c.tx) x ≡ true) e (digest_self (transaction_digest c.tx)) in cc
 
       go : (b : Bool) → digest_eq (transaction_digest c.tx) (transaction_digest d.tx) ≡ b → c.tx ≡ d.tx
       go true e = run_is.transactions c.tx d.tx (certified-among s events run_is c is_c) (certified-among s events run_is d is_d) (digest_same (transaction_digest c.tx) (transaction_digest d.tx) e)

@@ -7,7 +7,7 @@ use Rattle.chain_types.specs.declared.objects.ObjectId.{ObjectId}
 use Rattle.chain_types.specs.declared.objects.Object.{Object}
 use Rattle.answer_types.specs.declared.pieces.Executed.{Executed}
 use Rattle.chain_types.specs.Equal.{id_eq}
-use Rattle.protocol_spec.proofs.Equality.{id_same}
+use Rattle.protocol_spec.proofs.Equality.{id_same, id_self}
 use Rattle.protocol_spec.proofs.ListLemmas.{flat_has, has_map, has_parts, has_mapped, has_left, has_right}
 use Rattle.protocol_spec.proofs.Truth.{or_false_right}
 use Rattle.protocol_spec.specs.Chain.Words.{Has, Along}
@@ -15,7 +15,6 @@ use Rattle.protocol_spec.specs.Chain.Tests.{has_id}
 use Rattle.protocol_spec.specs.Chain.Keys.{objects_of}
 use Rattle.protocol_spec.specs.Member.Versions.{Execution, Version, opened, written, written_by, versions, is_id, object_in, newer, newest, is_deleted, live}
 use Rattle.protocol_spec.specs.Member.Sequential.{Objects, map_of, map_after, Folded, fold_all}
-use Rattle.block_law.proofs.Counts.{id_refl}
 use Rattle.block_law.proofs.Written.{second}
 use Rattle.sequence_law.specs.Orderly.{Step, gave, tx_of, id_of, IsKnown, IsOrderly, AreApart, AreOrderly}
 use Rattle.sequence_law.specs.Leaving.{IsOfSteps}
@@ -310,14 +309,14 @@ module _ (opening : List Object) where
     there-candidate p (e, inl h) = passes (opened p) refl (has_left (map opened opening) (flat_map written_by executed) (opened p) (has_map opened opening p h))
       where
         passes : (v : Version) → v.object ≡ p → Has (versions opening executed) v → Has candidates p
-        passes v q k = subst (Has candidates) q (has_map object_in (filter (is_id id) (versions opening executed)) v (passed-has (is_id id) (versions opening executed) v k (subst (λ (z : ObjectId). id_eq z id ≡ true) (sym (ap id_of q ∙ e)) (id_refl id))))
+        passes v q k = subst (Has candidates) q (has_map object_in (filter (is_id id) (versions opening executed)) v (passed-has (is_id id) (versions opening executed) v k (subst (λ (z : ObjectId). id_eq z id ≡ true) (sym (ap id_of q ∙ e)) (id_self id))))
     there-candidate p (e, inr (y, h, w)) =
         let x = of.whole y h in
         passes (written x.0.digest p) refl (has_right (map opened opening) (flat_map written_by executed) (written x.0.digest p)
         (flat_has written_by executed x.0 (written x.0.digest p) x.1 (has_map (written x.0.digest) x.0.gave.objects p (subst (λ (g : Executed). Has g.objects p) (sym x.2) w))))
       where
         passes : (v : Version) → v.object ≡ p → Has (versions opening executed) v → Has candidates p
-        passes v q k = subst (Has candidates) q (has_map object_in (filter (is_id id) (versions opening executed)) v (passed-has (is_id id) (versions opening executed) v k (subst (λ (z : ObjectId). id_eq z id ≡ true) (sym (ap id_of q ∙ e)) (id_refl id))))
+        passes v q k = subst (Has candidates) q (has_map object_in (filter (is_id id) (versions opening executed)) v (passed-has (is_id id) (versions opening executed) v k (subst (λ (z : ObjectId). id_eq z id ≡ true) (sym (ap id_of q ∙ e)) (id_self id))))
 
     deleted-in : is_deleted executed id ≡ true → IsDeletedIn steps id
     deleted-in e =

@@ -5,12 +5,11 @@ use Rattle.std.specs.FinMap.{get, empty, entries, values, entries-insert, len-em
 use Rattle.chain_types.specs.declared.objects.ObjectId.{ObjectId}
 use Rattle.chain_types.specs.declared.objects.Object.{Object}
 use Rattle.chain_types.specs.Equal.{id_eq}
-use Rattle.protocol_spec.proofs.Equality.{id_same, ids_unique}
+use Rattle.protocol_spec.proofs.Equality.{id_same, ids_unique, id_self}
 use Rattle.protocol_spec.proofs.ListLemmas.{nil_of}
 use Rattle.protocol_spec.specs.Chain.Words.{Has}
 use Rattle.protocol_spec.specs.Member.Versions.{Execution, Version, id_cmp, with_live, versions, live, live_list}
 use Rattle.protocol_spec.specs.Member.Sequential.{Objects, with_object, map_of, fold_all}
-use Rattle.block_law.proofs.Counts.{id_refl}
 use Rattle.sequence_law.specs.Orderly.{tx_of, Step, AreApart, AreOrderly}
 use Rattle.sequence_law.specs.Leaving.{IsOfSteps}
 use Rattle.sequence_law.proofs.Standing.{ids-total, here, elsewhere}
@@ -68,7 +67,7 @@ module _ (alive : ObjectId → Option Object) (own : (id : ObjectId) (o : Object
       next o false e f at rest = rest (with_object m o) (elsewhere m o id e ∙ none) (later v vs (λ q. absurd (other (f ∙ q))) comes)
         where
           other : o.id ≡ id → ⊥
-          other q = let t : id_eq id o.id ≡ true = subst (λ (z : ObjectId). id_eq id z ≡ true) (sym q) (id_refl id) in cc
+          other q = let t : id_eq id o.id ≡ true = subst (λ (z : ObjectId). id_eq id z ≡ true) (sym q) (id_self id) in cc
 
       go : (o : Option Object) → alive v.object.id ≡ o → ((n : Objects) → get n id ≡ None → Comes vs → get (fold with_live_object n (lives vs)) id ≡ alive id) → get (fold with_live_object (with_live_object m o) (lives vs)) id ≡ alive id
       go None e rest = rest m none (later v vs (λ q. ap alive (sym q) ∙ e) comes)

@@ -16,7 +16,7 @@ use Rattle.chain_types.specs.declared.transactions.Transaction.{Transaction}
 use Rattle.effects_core.specs.declared.effects.Written.{Written}
 use Rattle.chain_types.specs.Equal.{digest_eq, id_eq}
 use Rattle.chain_types.specs.Digests.{is_object, key_of, consumed_key, consumed_keys, digest_of_object}
-use Rattle.protocol_spec.proofs.Equality.{id_same}
+use Rattle.protocol_spec.proofs.Equality.{id_same, id_self}
 use Rattle.protocol_spec.specs.Chain.Words.{Has, Along, repeats, all_some, onto_some}
 use Rattle.protocol_spec.specs.Chain.Tests.{has_id}
 use Rattle.protocol_spec.specs.Chain.Keys.{object_key, objects_of, mutable_id, is_owned_by, is_shared_since, is_immutable, fits_input, fit_inputs, fits}
@@ -24,7 +24,6 @@ use Rattle.protocol_spec.proofs.ListLemmas.{along-push, and-first, and-second, h
 use Rattle.protocol_spec.specs.Block.Execution.{execution, is_written}
 use Rattle.protocol_spec.specs.Member.Sequential.{Objects, map_of, at_version, named_in, read_by, map_after, Folded, without_effects, with_execution, executed_on, fold_one, fold_all}
 use Rattle.block_law.specs.Names.{touched_ids}
-use Rattle.block_law.proofs.Counts.{id_refl}
 use Rattle.block_law.proofs.Effects.{written-ids, written-are, name_once, first-of-four}
 use Rattle.block_law.proofs.Places.{has-chosen}
 use Rattle.block_law.proofs.Written.{fit-at, fits-first}
@@ -51,7 +50,7 @@ has-kept {A = A} test (y ∷ xs) x h = go (test y) h (has-kept test xs x)
 
 pub has-id : (ids : List ObjectId) (id : ObjectId) → Has ids id → has_id ids id ≡ true
 has-id [] id h = absurd h
-has-id (i ∷ ids) id (inl e) = subst (λ (z : ObjectId). (id_eq id z || has_id ids id) ≡ true) (sym e) (rw (id_refl id) refl)
+has-id (i ∷ ids) id (inl e) = subst (λ (z : ObjectId). (id_eq id z || has_id ids id) ≡ true) (sym e) (rw (id_self id) refl)
 has-id (i ∷ ids) id (inr h) = go (id_eq id i) (has-id ids id h)
   where
     go : (b : Bool) → has_id ids id ≡ true → (b || has_id ids id) ≡ true

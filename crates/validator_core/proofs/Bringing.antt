@@ -10,6 +10,7 @@ use Rattle.quorum_core.specs.Committee.{is_among, is_quorum, weight}
 use Rattle.answer_types.specs.declared.answers.Held.{Held}
 use Rattle.answer_types.specs.declared.answers.SeenWhat.{SeenWhat}
 use Rattle.answer_types.specs.declared.answers.SeenWhat.TheVariants as seen_as
+use Rattle.protocol_spec.proofs.Equality.{digest_self}
 use Rattle.protocol_spec.proofs.ListLemmas.{front_length, drop_all}
 use Rattle.protocol_spec.specs.Chain.Certificates.{Rules}
 use Rattle.protocol_spec.specs.Chain.Words.{IsFront}
@@ -24,7 +25,6 @@ use Rattle.epoch_turn.specs.Ends.{counted_after, said_of_end}
 use Rattle.epoch_turn.specs.declared.ends.Counted.TheVariants as counted
 use Rattle.epoch_turn.specs.Dues.{cuts_of, due_of, size_of}
 use Rattle.epoch_turn.proofs.Told.{keeps_cuts}
-use Rattle.version_store.proofs.Equality.{digest_self}
 use Rattle.version_assign.specs.declared.taken.Taken.{Taken}
 use Rattle.version_assign.specs.Calls.{Admitting, with_entry as with_certificate, with_mark as with_mark_passed}
 use Rattle.version_assign.specs.Sharing.{HasShared, ServesAs}

@@ -7,7 +7,7 @@ use Rattle.indexmap.specs.IndexMap.{insert_entry}
 use Rattle.chain_types.specs.declared.objects.Object.{Object}
 use Rattle.chain_types.specs.declared.objects.ObjectId.{ObjectId}
 use Rattle.chain_types.specs.Equal.{id_eq}
-use Rattle.protocol_spec.proofs.Equality.{id_same, id_turned}
+use Rattle.protocol_spec.proofs.Equality.{id_same, id_turned, id_self}
 use Rattle.protocol_spec.proofs.ListLemmas.{tail_is}
 use Rattle.protocol_spec.specs.Chain.Keys.{is_shared}
 use Rattle.protocol_spec.specs.Member.Admission.{Admission, Admitted, is_shared_object, opening_object}
@@ -18,7 +18,6 @@ use Rattle.version_assign.specs.Lines.{LineMap}
 use Rattle.version_assign.specs.Changes.{AreShared, Changes, ChangesOn, HasId, IsOwn, IsSharedUnder, Puts, Shelved, changed_by}
 use Rattle.version_assign.specs.Sharing.{if_shared}
 use Rattle.version_assign.proofs.Maps.{lookup_insert}
-use Rattle.version_assign.proofs.Names.{id_self}
 use Rattle.version_assign.proofs.Opening.{none_at}
 
 -- ---- one table step

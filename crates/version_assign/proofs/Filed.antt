@@ -11,7 +11,7 @@ use Rattle.chain_types.specs.declared.transactions.Input.{Input}
 use Rattle.chain_types.specs.declared.transactions.Input.TheVariants as inputs
 use Rattle.chain_types.specs.Equal.{id_eq}
 use Rattle.answer_types.specs.declared.answers.Held.{Held}
-use Rattle.protocol_spec.proofs.Equality.{id_same}
+use Rattle.protocol_spec.proofs.Equality.{id_same, id_self}
 use Rattle.protocol_spec.proofs.ListLemmas.{tail_is}
 use Rattle.protocol_spec.proofs.Truth.{or_right, or_left, or_true}
 use Rattle.protocol_spec.specs.Chain.Words.{Has, first_of, first_some, where_true}
@@ -26,7 +26,6 @@ use Rattle.version_assign.specs.Steps.{full_one, is_free_one}
 use Rattle.version_assign.specs.Waiting.{Grows, HasNext, IsFiled, Opens, Passes, PopsPlace, Reason, Turn, TurnsOn, has_turn, is_awake, is_full, is_id, is_open, is_queued, is_under, may_be_free, none_open, or_one_of, stands_behind, writes_at, writes_input, writes_row}
 use Rattle.version_assign.proofs.Freeing.{alone, free_is, place_found, place_passed}
 use Rattle.version_assign.proofs.Moving.{all_at}
-use Rattle.version_assign.proofs.Names.{id_self}
 use Rattle.version_assign.proofs.Rows.{clash}
 
 -- ---- what an input writes

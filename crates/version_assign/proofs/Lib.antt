@@ -1,4 +1,3 @@
-mod Names
 mod Maps
 pub mod Finding
 pub mod Lining

@@ -11,7 +11,7 @@ use Rattle.chain_types.specs.declared.objects.Producer.TheVariants as producers
 use Rattle.chain_types.specs.Equal.{id_eq}
 use Rattle.chain_messages.specs.declared.messages.Certificate.{Certificate}
 use Rattle.answer_types.specs.declared.answers.Assigned.{Assigned}
-use Rattle.protocol_spec.proofs.Equality.{id_same}
+use Rattle.protocol_spec.proofs.Equality.{id_same, id_self}
 use Rattle.protocol_spec.specs.Chain.Words.{first_some}
 use Rattle.protocol_spec.specs.Chain.Tests.{has_id}
 use Rattle.protocol_spec.specs.Member.Admission.{Admitted, Standing, beginning_by, joined_inputs, writes}
@@ -19,7 +19,6 @@ use Rattle.version_assign.specs.declared.lines.Line.{Line}
 use Rattle.version_assign.specs.Books.{begun_of, stands}
 use Rattle.version_assign.specs.Lines.{LineMap, are_lined, filled, has_line, line_at, move_all, move_one, moved, one_more, standing_as}
 use Rattle.version_assign.proofs.Lining.{KeepsLines, has_put, line_put}
-use Rattle.version_assign.proofs.Names.{id_self}
 use Rattle.version_assign.proofs.Naming.{Absent, Only, Spot, There, is_absent, is_there, mutables_of, of_id, standing_in}
 use Rattle.version_assign.proofs.Standing.{now_stands, stands_push}
 

@@ -12,7 +12,7 @@ use Rattle.chain_types.specs.Equal.{id_eq}
 use Rattle.chain_types.specs.Digests.{is_object}
 use Rattle.chain_messages.specs.declared.messages.Certificate.{Certificate}
 use Rattle.answer_types.specs.declared.answers.Assigned.{Assigned}
-use Rattle.protocol_spec.proofs.Equality.{id_turned, id_same}
+use Rattle.protocol_spec.proofs.Equality.{id_turned, id_same, id_self}
 use Rattle.protocol_spec.proofs.ListLemmas.{all_none}
 use Rattle.protocol_spec.proofs.Truth.{or_false, where_false}
 use Rattle.protocol_spec.specs.Chain.Words.{Each, first_of, first_some, repeats, where_true}
@@ -21,7 +21,6 @@ use Rattle.protocol_spec.specs.Chain.Keys.{mutable_id, named_id, named_ids, obje
 use Rattle.protocol_spec.specs.Chain.Shape.{shape_cases, shape_fault}
 use Rattle.protocol_spec.specs.Member.Admission.{Standing, assigned_to, beginning, begins, joined_inputs, mutable_ids}
 use Rattle.version_assign.specs.Lines.{begun}
-use Rattle.version_assign.proofs.Names.{id_self}
 use Rattle.version_assign.proofs.Freeing.{alone}
 
 abbrev pub Joined : Type 0

@@ -6,7 +6,7 @@ use Rattle.std.specs.List.{list_any}
 use Rattle.digest_core.specs.declared.Digest.{Digest}
 use Rattle.chain_types.specs.Equal.{digest_eq}
 use Rattle.answer_types.specs.declared.answers.Held.{Held}
-use Rattle.protocol_spec.proofs.Equality.{digest_same}
+use Rattle.protocol_spec.proofs.Equality.{digest_same, digest_self}
 use Rattle.protocol_spec.proofs.Truth.{or_false_left, or_false_right}
 use Rattle.protocol_spec.specs.Chain.Words.{Each, repeats}
 use Rattle.protocol_spec.specs.Member.Admission.{not_of}
@@ -14,7 +14,6 @@ use Rattle.version_assign.specs.declared.book.Row.{Row}
 use Rattle.version_assign.specs.Books.{Aligned, IsSkipped, held_in, pending_in, row_at}
 use Rattle.version_assign.specs.Calls.{Admitting}
 use Rattle.version_assign.specs.Steps.{is_free_one}
-use Rattle.version_assign.proofs.Names.{digest_self}
 
 pub clash : true ≡ false → ⊥
 clash f = cc

@@ -3,10 +3,10 @@ use Rattle.std.proofs.Common.{◌≡◌, ℕ, zero, suc, Bool, true, false, cond
 use Rattle.std.specs.Prelude.{find, filter}
 use Rattle.chain_types.specs.declared.objects.Object.{Object}
 use Rattle.answer_types.specs.declared.answers.Held.{Held}
+use Rattle.protocol_spec.proofs.Equality.{digest_self}
 use Rattle.protocol_spec.specs.Member.Admission.{Admission, is_dropped, is_free, not_of, take_all, take_free, taken, taken_as, taken_next}
 use Rattle.version_assign.specs.Calls.{Admitting, settled, with_taken}
 use Rattle.version_assign.specs.Steps.{is_free_one}
-use Rattle.version_assign.proofs.Names.{digest_self}
 
 filter_le : (p : Held → Bool) (xs : List Held) → length (filter p xs) ≤ length xs
 filter_le p [] = omega arith

@@ -13,8 +13,7 @@ use Rattle.std.proofs.lemmas.Map.Lookups.{exact_unsigned}
 use Rattle.digest_core.specs.declared.Digest.{Digest}
 use Rattle.chain_types.specs.Equal.{digest_eq}
 use Rattle.version_assign.specs.Waiting.{KeepsShelf, Pops, Shelf, count_in, count_under, is_in, is_under}
-use Rattle.version_assign.proofs.Names.{digest_self}
-use Rattle.protocol_spec.proofs.Equality.{digest_same}
+use Rattle.protocol_spec.proofs.Equality.{digest_same, digest_self}
 
 -- ---- sets
 

@@ -13,12 +13,11 @@ use Rattle.std.proofs.lemmas.Map.Keys.{IsDistinct-tail}
 use Rattle.chain_types.specs.declared.objects.Object.{Object}
 use Rattle.chain_types.specs.declared.objects.ObjectId.{ObjectId}
 use Rattle.chain_types.specs.Equal.{id_eq}
-use Rattle.protocol_spec.proofs.Equality.{ids_unique, ids_tie, id_same}
+use Rattle.protocol_spec.proofs.Equality.{ids_unique, ids_tie, id_same, id_self}
 use Rattle.protocol_spec.proofs.Truth.{or_else}
 use Rattle.protocol_spec.specs.Chain.Words.{Each}
 use Rattle.protocol_spec.specs.Member.Versions.{id_cmp, with_live}
 use Rattle.version_store.specs.Bases.{object_under}
-use Rattle.version_store.proofs.Equality.{id_self}
 use Rattle.version_store.proofs.Merging.{HasId}
 use Rattle.version_store.proofs.Rows.{AreApart, IsOwn, none_behind}
 

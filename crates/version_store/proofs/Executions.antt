@@ -8,13 +8,12 @@ use Rattle.chain_types.specs.declared.objects.Object.{Object}
 use Rattle.chain_types.specs.Equal.{digest_eq}
 use Rattle.effects_core.specs.declared.effects.Effects.{Effects}
 use Rattle.effects_core.specs.Effects.{digest_of_effects}
-use Rattle.protocol_spec.proofs.Equality.{digest_same, test_turned}
+use Rattle.protocol_spec.proofs.Equality.{digest_same, test_turned, digest_self}
 use Rattle.protocol_spec.proofs.Truth.{some_mapped}
 use Rattle.protocol_spec.specs.Member.Versions.{Execution, execution_of}
 use Rattle.version_store.specs.declared.maps.Ran.{Ran}
 use Rattle.version_store.specs.Stores.{Stored, with_execution}
 use Rattle.version_store.specs.Kept.{executions, ran_as, stored_as, written_in}
-use Rattle.version_store.proofs.Equality.{digest_self}
 
 none_left : (objects : List Object) → 0 ≡ length objects → objects ≡ []
 none_left [] h = refl

@@ -11,7 +11,7 @@ use Rattle.chain_types.specs.declared.objects.ObjectKey.{ObjectKey}
 use Rattle.chain_types.specs.declared.objects.Producer.{Producer}
 use Rattle.chain_types.specs.declared.objects.Producer.TheVariants as producers
 use Rattle.chain_types.specs.Equal.{key_eq}
-use Rattle.protocol_spec.proofs.Equality.{key_same, test_turned}
+use Rattle.protocol_spec.proofs.Equality.{key_same, test_turned, key_self}
 use Rattle.protocol_spec.proofs.ListLemmas.{any_last}
 use Rattle.protocol_spec.proofs.Truth.{or_false, and_true}
 use Rattle.protocol_spec.specs.Chain.Words.{repeats}
@@ -22,7 +22,6 @@ use Rattle.version_store.specs.declared.maps.Kept.{Kept}
 use Rattle.version_store.specs.Stores.{are_new}
 use Rattle.version_store.specs.Kept.{kept_as, kept_object}
 use Rattle.version_store.specs.Steps.{with_versions}
-use Rattle.version_store.proofs.Equality.{key_self}
 use Rattle.version_store.proofs.Lists.{not_true}
 
 abbrev pub kept_of : Version → Kept

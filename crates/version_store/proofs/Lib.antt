@@ -1,4 +1,3 @@
-pub mod Equality
 mod Lists
 mod Held
 mod Newest

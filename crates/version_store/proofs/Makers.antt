@@ -9,7 +9,7 @@ use Rattle.chain_types.specs.declared.objects.ObjectKey.{ObjectKey}
 use Rattle.chain_types.specs.declared.objects.Producer.{Producer}
 use Rattle.chain_types.specs.declared.objects.Producer.TheVariants as producers
 use Rattle.chain_types.specs.Equal.{key_eq}
-use Rattle.protocol_spec.proofs.Equality.{key_same, test_turned}
+use Rattle.protocol_spec.proofs.Equality.{key_same, test_turned, key_self}
 use Rattle.protocol_spec.specs.Chain.Tests.{producer_eq}
 use Rattle.protocol_spec.specs.Chain.Keys.{object_key}
 use Rattle.protocol_spec.specs.Member.Versions.{Version, is_key, object_in, opened, version_at}
@@ -17,7 +17,6 @@ use Rattle.protocol_spec.specs.Member.Rounds.{is_wanted}
 use Rattle.version_store.specs.declared.maps.Kept.{Kept}
 use Rattle.version_store.specs.Kept.{kept_as}
 use Rattle.version_store.specs.Makers.{made_by}
-use Rattle.version_store.proofs.Equality.{key_self}
 use Rattle.version_store.proofs.Held.{kept_of, lookup_kept}
 
 -- no version of the key is behind one of this key

@@ -9,10 +9,9 @@ use Rattle.std.proofs.lemmas.Bool.Decides.{nat_tests}
 use Rattle.chain_types.specs.declared.objects.Object.{Object}
 use Rattle.chain_types.specs.declared.objects.ObjectId.{ObjectId}
 use Rattle.chain_types.specs.Equal.{id_eq}
-use Rattle.protocol_spec.proofs.Equality.{id_same, test_turned}
+use Rattle.protocol_spec.proofs.Equality.{id_same, test_turned, id_self}
 use Rattle.protocol_spec.proofs.Truth.{or_false}
 use Rattle.protocol_spec.specs.Member.Versions.{Version, is_id, newer, newest, object_in}
-use Rattle.version_store.proofs.Equality.{id_self}
 
 -- the newer of two that may be there
 abbrev pub merge : Option Object → Option Object → Option Object

@@ -14,13 +14,12 @@ use Rattle.chain_types.specs.declared.objects.ObjectId.{ObjectId}
 use Rattle.chain_types.specs.declared.objects.ObjectKey.{ObjectKey}
 use Rattle.chain_types.specs.declared.objects.Producer.{Producer}
 use Rattle.chain_types.specs.Equal.{id_eq, key_eq}
-use Rattle.protocol_spec.proofs.Equality.{id_same, key_same, test_turned}
+use Rattle.protocol_spec.proofs.Equality.{id_same, key_same, test_turned, id_self, key_self}
 use Rattle.protocol_spec.proofs.ListLemmas.{find_last, any_last}
 use Rattle.protocol_spec.proofs.Truth.{or_else}
 use Rattle.protocol_spec.specs.Chain.Tests.{has_id, has_key}
 use Rattle.protocol_spec.specs.Member.Versions.{Execution, Version, is_id, newer, newest, object_in, is_deleted, consumer_of}
 use Rattle.version_store.specs.Steps.{newer_of, with_newer, with_all_newer, with_consumer, with_consumers}
-use Rattle.version_store.proofs.Equality.{id_self, key_self}
 use Rattle.version_store.proofs.Held.{made}
 use Rattle.version_store.proofs.Lists.{lookup_insert, any_insert_all}
 

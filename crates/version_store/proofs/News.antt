@@ -4,7 +4,7 @@ use Rattle.std.specs.List.{list_any}
 use Rattle.chain_types.specs.declared.objects.Object.{Object}
 use Rattle.chain_types.specs.declared.objects.ObjectKey.{ObjectKey}
 use Rattle.chain_types.specs.Equal.{key_eq}
-use Rattle.protocol_spec.proofs.Equality.{key_same, test_turned}
+use Rattle.protocol_spec.proofs.Equality.{key_same, test_turned, key_self}
 use Rattle.protocol_spec.proofs.ListLemmas.{any_last}
 use Rattle.protocol_spec.specs.Chain.Words.{repeats}
 use Rattle.protocol_spec.specs.Chain.Tests.{has_key}
@@ -13,7 +13,6 @@ use Rattle.protocol_spec.specs.Member.Versions.{Version}
 use Rattle.protocol_spec.specs.Member.Rounds.{holds_key}
 use Rattle.version_store.specs.Stores.{are_new}
 use Rattle.version_store.specs.Fresh.{all_fresh}
-use Rattle.version_store.proofs.Equality.{key_self}
 
 -- of the keys, some were seen
 abbrev seen_among : List ObjectKey → List ObjectKey → Bool

@@ -7,7 +7,7 @@ use Rattle.std.proofs.lemmas.List.{map-append}
 use Rattle.chain_types.specs.declared.objects.Object.{Object}
 use Rattle.chain_types.specs.declared.objects.ObjectId.{ObjectId}
 use Rattle.chain_types.specs.Equal.{id_eq}
-use Rattle.protocol_spec.proofs.Equality.{id_same, test_turned}
+use Rattle.protocol_spec.proofs.Equality.{id_same, test_turned, id_self}
 use Rattle.protocol_spec.proofs.Truth.{or_false}
 use Rattle.protocol_spec.specs.Chain.Words.{Each, repeats}
 use Rattle.protocol_spec.specs.Member.Admission.{opening_object}
@@ -20,7 +20,6 @@ use Rattle.version_store.specs.Kept.{stored}
 use Rattle.version_store.specs.Stores.{Stored, held_in}
 use Rattle.version_store.proofs.Ascending.{apart, found_as, found_under, owned}
 use Rattle.version_store.proofs.Based.{deleted_is, merge_none, newest_is}
-use Rattle.version_store.proofs.Equality.{id_self}
 use Rattle.version_store.proofs.Kept.{kept_empty, stored_empty}
 use Rattle.version_store.proofs.Merging.{merge, newest_both, newest_none, version_id}
 use Rattle.version_store.proofs.Rows.{IsOwn, newest_under}

@@ -8,11 +8,10 @@ use Rattle.chain_types.specs.declared.objects.Object.{Object}
 use Rattle.chain_types.specs.declared.objects.ObjectId.{ObjectId}
 use Rattle.chain_types.specs.declared.objects.ObjectKey.{ObjectKey}
 use Rattle.chain_types.specs.Equal.{id_eq}
-use Rattle.protocol_spec.proofs.Equality.{id_same, test_turned}
+use Rattle.protocol_spec.proofs.Equality.{id_same, test_turned, id_self}
 use Rattle.protocol_spec.specs.Chain.Words.{Each}
 use Rattle.protocol_spec.specs.Member.Versions.{Version, is_id, is_key, newer, newest, object_in, opened, version_at}
 use Rattle.version_store.specs.Bases.{at_version, object_under}
-use Rattle.version_store.proofs.Equality.{id_self}
 use Rattle.version_store.proofs.Merging.{HasId}
 
 -- an object stands under its id

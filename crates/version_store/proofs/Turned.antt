@@ -9,7 +9,7 @@ use Rattle.chain_types.specs.declared.objects.ObjectId.{ObjectId}
 use Rattle.chain_types.specs.declared.objects.ObjectKey.{ObjectKey}
 use Rattle.chain_types.specs.declared.objects.Producer.TheVariants as producers
 use Rattle.chain_types.specs.Equal.{id_eq}
-use Rattle.protocol_spec.proofs.Equality.{id_same, test_turned}
+use Rattle.protocol_spec.proofs.Equality.{id_same, test_turned, id_self}
 use Rattle.protocol_spec.proofs.Truth.{or_false}
 use Rattle.protocol_spec.specs.Chain.Words.{Each}
 use Rattle.protocol_spec.specs.Member.Versions.{Version, is_deleted, live, live_list, newest, opened, version_at, with_live}
@@ -23,7 +23,6 @@ use Rattle.version_store.specs.Live.{add_live, all_live, kept_id}
 use Rattle.version_store.specs.Steps.{with_all_newer}
 use Rattle.version_store.proofs.Ascending.{apart, found_as, found_under, owned, placed, placed_under, same_found, same_live}
 use Rattle.version_store.proofs.Based.{deleted_is, newest_is}
-use Rattle.version_store.proofs.Equality.{id_self}
 use Rattle.version_store.proofs.Kept.{kept_empty, opening_of, stored_empty}
 use Rattle.version_store.proofs.Merging.{HasId, merge, newest_both, newest_has, newest_none, version_id}
 use Rattle.version_store.proofs.Newest.{newest_more}

@@ -6,11 +6,10 @@ use Rattle.std.proofs.lemmas.List.{map-append}
 use Rattle.chain_types.specs.declared.objects.Object.{Object}
 use Rattle.chain_types.specs.declared.objects.ObjectId.{ObjectId}
 use Rattle.chain_types.specs.Equal.{id_eq}
-use Rattle.protocol_spec.proofs.Equality.{id_same, test_turned}
+use Rattle.protocol_spec.proofs.Equality.{id_same, test_turned, id_self}
 use Rattle.protocol_spec.proofs.ListLemmas.{any_last}
 use Rattle.protocol_spec.proofs.Truth.{or_false}
 use Rattle.protocol_spec.specs.Chain.Words.{repeats}
-use Rattle.version_store.proofs.Equality.{id_self}
 use Rattle.schedule_text.specs.declared.words.Setup.{Setup}
 use Rattle.world_spec.specs.Setting.{objects_from, with_new}
 use Rattle.world_core.specs.Openings.{has_id, object_id}

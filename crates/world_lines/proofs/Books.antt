@@ -12,7 +12,7 @@ use Rattle.chain_types.specs.Equal.{digest_eq}
 use Rattle.chain_messages.specs.declared.messages.Certificate.{Certificate}
 use Rattle.chain_messages.specs.declared.messages.Statement.{Statement}
 use Rattle.chain_messages.specs.declared.messages.Statement.TheVariants as statement
-use Rattle.protocol_spec.proofs.Equality.{digest_same, bytes_turned}
+use Rattle.protocol_spec.proofs.Equality.{digest_same, bytes_turned, digest_self}
 use Rattle.protocol_spec.proofs.Truth.{and_true}
 use Rattle.protocol_spec.specs.Chain.Words.{first_some, last_where, where_true}
 use Rattle.world_spec.specs.World.{Said, Formed}
@@ -188,16 +188,13 @@ module _ {K : Type 0} (equal : K → K → Bool) (one : (a b : K) → equal a b 
           placed_more equal equal respects meets (is_keyed equal key_of) rows places (record { member = m; statement = st }) placed puts last adds
           (λ k. both_ways k x ∙ sym (ap (is_key equal k) is))
 
-digest_itself : (a : Digest) → digest_eq a a ≡ true
-digest_itself a = (bytes_eq-Decides a.0 a.0).1 refl
-
 one_vote_key : (a b : VoteKey) → vote_key_eq a b ≡ true → a ≡ b
 one_vote_key a b h =
     let parts = and_true (a.member == b.member) (digest_eq a.tx b.tx) h in
     ap (λ (m : ℕ). vote_key m a.tx) (eqb-true a.member b.member parts.0) ∙ ap (vote_key b.member) (digest_same a.tx b.tx parts.1)
 
 vote_key_itself : (a : VoteKey) → vote_key_eq a a ≡ true
-vote_key_itself a = ap (λ b. b && digest_eq a.tx a.tx) (eq-eqb a.member a.member refl) ∙ digest_itself a.tx
+vote_key_itself a = ap (λ b. b && digest_eq a.tx a.tx) (eq-eqb a.member a.member refl) ∙ digest_self a.tx
 
 one_ack_key : (a b : AckKey) → ack_key_eq a b ≡ true → a ≡ b
 one_ack_key a b h =
@@ -211,7 +208,7 @@ ack_key_itself : (a : AckKey) → ack_key_eq a a ≡ true
 ack_key_itself a =
     ap (λ b. b && (a.epoch == a.epoch) && digest_eq a.tx a.tx) (eq-eqb a.member a.member refl)
     ∙ ap (λ b. b && digest_eq a.tx a.tx) (eq-eqb a.epoch a.epoch refl)
-    ∙ digest_itself a.tx
+    ∙ digest_self a.tx
 
 pub said_more : (rows : List SaidRow) (places : LastPlaces) (m : ℕ) (st : Statement) {ys : List SaidRow} {now : LastPlaces} {n : ℕ}
     → AreLast rows places → Notes places m st n now → n ≡ length rows → ys ≡ rows ++ record { member = m; statement = st } ∷ [] → AreLast ys now

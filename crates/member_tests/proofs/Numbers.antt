@@ -1,1 +1,0 @@
--- A member keeps its number.
