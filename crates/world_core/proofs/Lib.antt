@@ -4,8 +4,6 @@ pub mod Calling
 pub mod Reading
 pub mod Holders
 pub mod Restarting
-pub mod SetUp
-pub mod Opened
 pub mod Sound
 pub mod Texts
 pub mod Lines

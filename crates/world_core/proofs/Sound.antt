@@ -23,7 +23,7 @@ use Rattle.scene_spec.specs.Worlds.{AreKeepable}
 use Rattle.world_lines.specs.Orders.{Orders, no_orders}
 use Rattle.scene_spec.specs.Steps.{held_in, with_tx}
 use Rattle.world_core.specs.Sound.{IsSound, IsSpelled, IsSpelledCert}
-use Rattle.world_core.proofs.Opened.{opening_apart}
+use Rattle.world_names.proofs.Opened.{opening_apart}
 
 -- the first world
 pub sound_first : (lines : List Setup) (opening : List Object) (known : Known) (orders : Orders) (certs : List Formed) → opening ≡ fold with_new [] (objects_from 0 lines) → known ≡ known_by lines → orders ≡ no_orders → certs ≡ [] → IsSound opening known certs orders.sequences

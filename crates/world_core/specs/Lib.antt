@@ -1,7 +1,6 @@
 pub mod Replies
 pub mod Crews
 pub mod SeatRestarts
-pub mod Openings
 pub mod Trusts
 pub mod Sound
 pub mod Texts

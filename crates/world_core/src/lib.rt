@@ -22,7 +22,6 @@ mod closes;
 mod ends;
 mod epoch_requests;
 mod looks;
-mod opening;
 mod orders;
 mod quiet;
 mod replay;

@@ -5,11 +5,10 @@ ghost use Rattle.quorum_core.specs.Committee.{committee_of};
 ghost use Rattle.world_spec.specs.Setting.{setting_of, stakes_of};
 ghost use Rattle.scene_spec.specs.Scene.{new_scene};
 ghost use Rattle.world_core.specs.declared.world.WorldRefusal.TheVariants as refusal;
-ghost use Rattle.world_core.specs.Openings.{IsRefused};
+ghost use Rattle.world_names.specs.Openings.{IsRefused};
 ghost use Rattle.world_core.specs.Trusts.{trust_by};
 
 use crate::Seats;
-use crate::opening::{honest_of, opening_of, stakes_of, writers_of};
 use crate::terms::Terms;
 use chain_types::Object;
 use quorum_core::Committee;
@@ -19,7 +18,7 @@ use std::alloc::Global;
 use std::marker::Model;
 use wire_bcs::{OutOfMemory, Seq};
 use world_lines::{CertBook, OrderBook, SaidBook};
-use world_names::{Directory, MakesSeals};
+use world_names::{Directory, MakesSeals, honest_of, opening_of, stakes_of, writers_of};
 
 /// Why a set-up opens no world.
 #[derive(Clone, Copy, Debug, PartialEq, Eq)]
@@ -73,7 +72,7 @@ pub(crate) fn one_line(alloc: Global, line: Line) -> Result<Seq<Line>, OutOfMemo
 
 impl World {
     /// The world of a set-up whose members are this committee.
-    #[tactic(auto, unfolding(world_spec::specs::Setting::setting_of), using(crate::proofs::Sound::few_flags, crate::proofs::Sound::sound_first, crate::proofs::Opened::opening_apart))]
+    #[tactic(auto, unfolding(world_spec::specs::Setting::setting_of), using(crate::proofs::Sound::few_flags, crate::proofs::Sound::sound_first, world_names::proofs::Opened::opening_apart))]
     fn open<S: MakesSeals>(
         alloc: Global,
         setup: &[Setup],

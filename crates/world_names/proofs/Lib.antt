@@ -6,3 +6,5 @@ pub mod ShownOrder
 pub mod Pushed
 pub mod Words
 pub mod MadeSpelled
+pub mod SetUpLines
+pub mod Opened

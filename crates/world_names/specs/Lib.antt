@@ -7,3 +7,4 @@ pub mod Pushed
 pub mod Short
 pub mod MakeAnswers
 pub mod Looks
+pub mod Openings

@@ -5,6 +5,9 @@
 //! see the four lists, and each answer is that of the definitions on them. Look-ups are by maps: none scans
 //! what is known. [`Directory::shown_order`] puts objects into the order in which a report shows them.
 //!
+//! [`stakes_of`], [`honest_of`], [`writers_of`] and [`opening_of`] read the set-up lines: the stakes, who is honest, the
+//! limit of writers, and the objects with which epoch 0 opens.
+//!
 //! [`make`] turns the words of a `tx` line into a signed transaction: the objects are named by a [`Directory`], the
 //! digests of versions are those that are held ([`HeldDigests`]), and the seal is the sender's ([`MakesSeals`]). A
 //! mark behind a version or the sender spoils the digest or the seal.
@@ -19,6 +22,7 @@ mod looks;
 mod making;
 mod making_law;
 mod names_law;
+mod opening;
 mod printed;
 mod rows;
 mod short;
@@ -30,4 +34,5 @@ pub use line::TxLine;
 pub use making::{MakeRefusal, MakesSeals, make};
 pub use making_law::made_in_a_world;
 pub use names_law::names_of_a_world;
+pub use opening::{honest_of, opening_of, stakes_of, writers_of};
 pub use rows::MadeTx;

@@ -2,7 +2,7 @@ use Rattle.std.proofs.Common.{◌∙◌, ap, ℕ, Option}
 use Rattle.scene_spec.specs.Terms.{Terms}
 use Rattle.world_core.specs.Trusts.{trust_by}
 use Rattle.world_core.proofs.First.{crew_of, scene_first}
-use Rattle.world_core.proofs.Opened.{opening_apart}
+use Rattle.world_names.proofs.Opened.{opening_apart}
 use Rattle.world_core.proofs.Sound.{sound_first}
 use Rattle.world_core.proofs.world.World.open.Goals as goal
 

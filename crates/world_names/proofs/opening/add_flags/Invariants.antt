@@ -1,7 +1,7 @@
 use Rattle.std.proofs.Common.{◌≡◌, drop}
 use Rattle.std.specs.Prelude.{fold}
-use Rattle.world_core.specs.Openings.{with_flag}
-use Rattle.world_core.proofs.opening.add_flags.Given as goal
+use Rattle.world_names.specs.Openings.{with_flag}
+use Rattle.world_names.proofs.opening.add_flags.Given as goal
 
 -- the lines that are left add what is missing
 abbrev pub invariant-loop-line : goal.invariant-loop-line

@@ -12,7 +12,7 @@ use Rattle.protocol_spec.proofs.Truth.{or_false}
 use Rattle.protocol_spec.specs.Chain.Words.{repeats}
 use Rattle.schedule_text.specs.declared.words.Setup.{Setup}
 use Rattle.world_spec.specs.Setting.{objects_from, with_new}
-use Rattle.world_core.specs.Openings.{has_id, object_id}
+use Rattle.world_names.specs.Openings.{has_id, object_id}
 
 -- an id is among those of the objects
 seen_as : (objects : List Object) (o : Object) → has_id (map object_id objects) o.id ≡ list_any (λ (p : Object). id_eq p.id o.id) objects

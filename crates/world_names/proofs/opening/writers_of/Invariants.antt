@@ -1,6 +1,6 @@
 use Rattle.std.proofs.Common.{◌≡◌, length}
 use Rattle.world_spec.specs.Setting.{writers_of}
-use Rattle.world_core.proofs.opening.writers_of.Given as goal
+use Rattle.world_names.proofs.opening.writers_of.Given as goal
 
 -- what is left gives what all give
 abbrev pub invariant-loop-rest : goal.invariant-loop-rest

@@ -2,7 +2,7 @@
 
 ghost use Rattle.std.specs.Prelude.{◌≡◌, ◌++◌, ◌∷◌, [], IfOk, OnOk, false, fold, map, true};
 ghost use Rattle.world_spec.specs.Setting.{honest_of, objects_from, owned_thing, shared_thing, stakes_of, with_new, writers_of};
-ghost use Rattle.world_core.specs.Openings.{has_id, object_id, with_flag, with_object, with_stake};
+ghost use Rattle.world_names.specs.Openings.{has_id, object_id, with_flag, with_object, with_stake};
 
 use chain_types::{Address, Content, Object, ObjectId, Owner};
 use digest_core::{address_of, genesis_id};
@@ -37,8 +37,8 @@ fn add_stakes(stakes: &mut Vec<u32>, setup: &[Setup]) -> Result<(), OutOfMemory>
 }
 
 /// The stakes of the members, by their numbers.
-#[tactic(auto, using(crate::proofs::SetUp::all_stakes))]
-pub(crate) fn stakes_of(alloc: Global, setup: &[Setup]) -> Result<Vec<u32>, OutOfMemory>
+#[tactic(auto, using(crate::proofs::SetUpLines::all_stakes))]
+pub fn stakes_of(alloc: Global, setup: &[Setup]) -> Result<Vec<u32>, OutOfMemory>
     ensures { IfOk result (λ stakes. stakes.items ≡ stakes_of setup.now) }
 {
     let mut stakes = Vec::new(alloc);
@@ -47,7 +47,7 @@ pub(crate) fn stakes_of(alloc: Global, setup: &[Setup]) -> Result<Vec<u32>, OutO
 }
 
 /// The limit of writers, if a line gives one. Takes no memory.
-pub(crate) fn writers_of(setup: &[Setup]) -> Option<u32>
+pub fn writers_of(setup: &[Setup]) -> Option<u32>
     ensures { result ≡ writers_of setup.now }
 {
     let mut rest = setup;
@@ -86,8 +86,8 @@ fn add_flags(flags: &mut Vec<bool>, setup: &[Setup]) -> Result<(), OutOfMemory>
 }
 
 /// Which members are honest, by their numbers.
-#[tactic(auto, using(crate::proofs::SetUp::all_flags))]
-pub(crate) fn honest_of(alloc: Global, setup: &[Setup]) -> Result<Vec<bool>, OutOfMemory>
+#[tactic(auto, using(crate::proofs::SetUpLines::all_flags))]
+pub fn honest_of(alloc: Global, setup: &[Setup]) -> Result<Vec<bool>, OutOfMemory>
     ensures { IfOk result (λ flags. flags.items ≡ honest_of setup.now) }
 {
     let mut flags = Vec::new(alloc);
@@ -163,7 +163,7 @@ fn add_objects(objects: &mut Vec<Object>, setup: &[Setup]) -> Result<(), OutOfMe
 }
 
 /// The objects of the lines, in their order.
-#[tactic(auto, using(crate::proofs::SetUp::all_objects))]
+#[tactic(auto, using(crate::proofs::SetUpLines::all_objects))]
 fn objects_of(alloc: Global, setup: &[Setup]) -> Result<Vec<Object>, OutOfMemory>
     ensures { IfOk result (λ objects. objects.items ≡ objects_from 0 setup.now) }
 {
@@ -233,7 +233,7 @@ fn without_repeats(alloc: Global, objects: &[Object]) -> Result<Vec<Object>, Out
 }
 
 /// The objects with which epoch 0 opens: of objects with one id the first.
-pub(crate) fn opening_of(alloc: Global, setup: &[Setup]) -> Result<Seq<Object>, OutOfMemory>
+pub fn opening_of(alloc: Global, setup: &[Setup]) -> Result<Seq<Object>, OutOfMemory>
     ensures { IfOk result (λ objects. objects ≡ fold with_new [] (objects_from 0 setup.now)) }
 {
     let objects = objects_of(alloc, setup)?;

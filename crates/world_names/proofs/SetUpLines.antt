@@ -7,7 +7,7 @@ use Rattle.chain_types.specs.declared.objects.Content.TheVariants as content
 use Rattle.schedule_text.specs.declared.words.Setup.{Setup}
 use Rattle.schedule_text.specs.declared.words.Setup.TheVariants as line
 use Rattle.world_spec.specs.Setting.{honest_of, objects_from, owned_thing, shared_thing, stakes_of}
-use Rattle.world_core.specs.Openings.{with_flag, with_object, with_stake}
+use Rattle.world_names.specs.Openings.{with_flag, with_object, with_stake}
 
 stakes_go_on : (stakes : List ℕ) (lines : List Setup) → fold with_stake stakes lines ≡ stakes ++ stakes_of lines
 stakes_go_on stakes [] = sym (append-nil stakes)

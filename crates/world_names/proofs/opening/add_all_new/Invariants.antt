@@ -1,8 +1,8 @@
 use Rattle.std.proofs.Common.{◌≡◌, drop, map}
 use Rattle.std.specs.Prelude.{fold}
 use Rattle.world_spec.specs.Setting.{with_new}
-use Rattle.world_core.specs.Openings.{object_id}
-use Rattle.world_core.proofs.opening.add_all_new.Given as goal
+use Rattle.world_names.specs.Openings.{object_id}
+use Rattle.world_names.proofs.opening.add_all_new.Given as goal
 
 -- the objects that are left add what is missing, and the ids are those of the objects
 abbrev pub invariant-loop-object : goal.invariant-loop-object
