@@ -1,14 +1,11 @@
 -- Orderly steps are links of chains.
-use Rattle.std.proofs.Common.{inl, inr, sym, subst, ap, ◌∙◌}
-use Rattle.std.specs.Prelude.{◌≡◌, ◌<◌, ℕ, true, List, [], ◌∷◌, ◌++◌, map, zip, slice_get, Some}
+use Rattle.std.proofs.Common.{sym, subst, ap, ◌∙◌}
+use Rattle.std.specs.Prelude.{◌≡◌, ◌<◌, ℕ, List, [], ◌∷◌, ◌++◌, map, slice_get, Some}
 use Rattle.std.specs.FinMap.{get}
 use Rattle.chain_types.specs.declared.objects.Object.{Object}
-use Rattle.chain_types.specs.declared.transactions.Input.{Input}
-use Rattle.chain_types.specs.declared.transactions.Transaction.{Transaction}
 use Rattle.schedule_text.specs.declared.words.Event.{Event}
 use Rattle.protocol_spec.specs.Chain.Words.{Has, Along}
-use Rattle.protocol_spec.specs.Chain.Keys.{objects_of, fits_input, fit_inputs}
-use Rattle.protocol_spec.proofs.ListLemmas.{and-second}
+use Rattle.protocol_spec.specs.Chain.Keys.{objects_of}
 use Rattle.protocol_spec.specs.Member.Admission.{Admitted}
 use Rattle.protocol_spec.specs.Member.Sequential.{Objects, map_of, Folded}
 use Rattle.world_spec.specs.Setting.{Setting}
@@ -21,17 +18,10 @@ use Rattle.sequence_law.proofs.Touched.{written-version, above}
 use Rattle.sequence_law.proofs.Reading.{after_steps, after-push, IsGoneOver, given-once, finds-next, over-next, thread-is}
 use Rattle.agreement_law.specs.Steps.{step_of}
 use Rattle.agreement_law.specs.Orderly.{IsExecutedFront}
-use Rattle.agreement_law.proofs.Ordered.{steps-orderly}
+use Rattle.agreement_law.proofs.Ordered.{steps-orderly, input-of}
 use Rattle.agreement_law.proofs.Known.{opens-apart}
 use Rattle.agreement_law.specs.Chains.{standing, IsLink}
 use Rattle.block_law.proofs.Written.{fits-first}
-
--- each object is there for an input
-pub input-of : (t : Transaction) (is : List Input) (os : List Object) (o : Object) → fit_inputs t is os ≡ true → Has os o → (i : Input) × Has (zip is os) (i, o)
-input-of t is [] o e h = absurd h
-input-of t [] (p ∷ os) o e h = absurd (cc)
-input-of t (i ∷ is) (p ∷ os) o e (inl q) = (i, inl (ap (λ (z : Object). (i, z)) q))
-input-of t (i ∷ is) (p ∷ os) o e (inr h) = let r = input-of t is os o (and-second (fits_input t i p) (fit_inputs t is os) e) h in (r.0, inr r.1)
 
 module _ (opening : List Object) (distinct : AreApart opening) where
   standing-is : (before : List Step) → IsGoneOver opening before → standing opening before ≡ after_steps opening before

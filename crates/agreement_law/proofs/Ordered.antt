@@ -15,10 +15,10 @@ use Rattle.schedule_text.specs.declared.words.Event.{Event}
 use Rattle.protocol_spec.proofs.Equality.{id_same, digest_self}
 use Rattle.protocol_spec.proofs.Executions.{effects_tx}
 use Rattle.protocol_spec.specs.Chain.Words.{Has, Along, numbers_below, repeats}
-use Rattle.protocol_spec.specs.Chain.Keys.{objects_of, named_ids}
+use Rattle.protocol_spec.specs.Chain.Keys.{objects_of, named_ids, fits_input, fit_inputs}
 use Rattle.protocol_spec.specs.Chain.Shape.{shape_cases, shape_fault}
 use Rattle.protocol_spec.specs.Chain.Certificates.{Rules, cert_cases, cert_refusal}
-use Rattle.protocol_spec.proofs.ListLemmas.{along-push, each_has, has_left, has_parts, has_mapped}
+use Rattle.protocol_spec.proofs.ListLemmas.{along-push, each_has, has_left, has_parts, has_mapped, and-second}
 use Rattle.protocol_spec.proofs.Truth.{or_false_left, or_false_right, map_none, where_false}
 use Rattle.protocol_spec.specs.Member.Versions.{is_executed}
 use Rattle.protocol_spec.specs.Member.Admission.{Admitted}
@@ -35,7 +35,6 @@ use Rattle.block_law.specs.Names.{drawn_id, drawn_ids, touched_ids}
 use Rattle.block_law.proofs.Effects.{objects-ids}
 use Rattle.block_law.proofs.Steps.{map-append}
 use Rattle.block_law.proofs.Written.{fits-first, below}
-use Rattle.agreement_law.proofs.Chains.{input-of}
 use Rattle.agreement_law.specs.Agreed.{IsGiven}
 use Rattle.agreement_law.proofs.Supply.{every-admission}
 use Rattle.agreement_law.proofs.Same.{of-run}
@@ -76,6 +75,12 @@ repeats-append (x ∷ xs) ys one two apart =
     go : (b : Bool) → b ≡ false → repeats id_eq (xs ++ ys) ≡ false → (b || repeats id_eq (xs ++ ys)) ≡ false
     go true e rest = absurd (cc)
     go false e rest = rest
+
+pub input-of : (t : Transaction) (is : List Input) (os : List Object) (o : Object) → fit_inputs t is os ≡ true → Has os o → (i : Input) × Has (zip is os) (i, o)
+input-of t is [] o e h = absurd h
+input-of t [] (p ∷ os) o e h = absurd (cc)
+input-of t (i ∷ is) (p ∷ os) o e (inl q) = (i, inl (ap (λ (z : Object). (i, z)) q))
+input-of t (i ∷ is) (p ∷ os) o e (inr h) = let r = input-of t is os o (and-second (fits_input t i p) (fit_inputs t is os) e) h in (r.0, inr r.1)
 
 pub names-once : (r : Rules) (c : Certificate) → cert_refusal r c ≡ None → repeats id_eq (named_ids c.tx) ≡ false
 unfolding cert_refusal shape_fault

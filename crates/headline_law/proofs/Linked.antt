@@ -23,8 +23,7 @@ use Rattle.sequence_law.specs.Orderly.{Step, gave, id_of, Makes, AreApart}
 use Rattle.sequence_law.proofs.Standing.{stands-after, stands-opening}
 use Rattle.sequence_law.proofs.Touched.{IsReplaced, IsTouched, touched-object, written-version, above}
 use Rattle.sequence_law.proofs.Reading.{given-once}
-use Rattle.agreement_law.proofs.Chains.{input-of}
-use Rattle.agreement_law.proofs.Ordered.{repeats-append}
+use Rattle.agreement_law.proofs.Ordered.{repeats-append, input-of}
 use Rattle.agreement_law.proofs.Versions.{effects-version}
 use Rattle.headline_law.specs.Chained.{MayWrite}
 use Rattle.headline_law.proofs.Family.{IsSame, IsThere, IsFamily}
