@@ -1,5 +1,6 @@
-//! Who sealed for two transactions of one epoch that consume one version is faulty, and has more than a third of the
-//! stake; a certified chain is made of what honest members have built; and what a member has built a follower applies.
+//! Who sealed for two transactions of one epoch that consume one version is faulty, where no seal is forged and no digests
+//! collide; those who sealed two valid certificates of such have more than a third of the stake. A certified chain is made
+//! of what honest members have built, and what a member has built a follower applies.
 #![tactic(auto)]
 
 mod chains;

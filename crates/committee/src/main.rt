@@ -1,7 +1,7 @@
-//! `committee run` reads a schedule from standard input, runs it, and writes the report. `committee make N` runs a
-//! schedule of N transactions that it makes, and writes one line. `committee replay M` starts member M of a schedule's
-//! set-up from records that were kept, and writes what it holds. Behind a command `in FILE` keeps the records in a file,
-//! and not in memory alone.
+//! `committee run` reads a schedule from standard input, runs it, and writes the report. `make N` makes one of N
+//! transactions and sums its run up, `replay M` starts member M from records that were kept, `check`, `follow` and `desk`
+//! are a client, a follower and callers of a vote desk. Behind a command `in FILE` keeps the records in a file, and not in
+//! memory alone.
 //!
 //! [`committee_core::committee`] is the program over any source, sink and keeper, and [`committee_core::committee_in`] over
 //! a journal file; their clauses are what is promised. `main` hands it the real standard streams, and a keeper in memory or

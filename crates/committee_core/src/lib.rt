@@ -1,4 +1,4 @@
-//! The program `committee` over any source, sink and keeper: reading a schedule, running it, and writing its report.
+//! The program `committee` over any source, sink and keeper: its six commands, from the bytes read to the bytes written.
 //!
 //! The clauses of [`committee`] are what is promised. [`fresh_keeper`] is a keeper in memory for its members.
 //! [`committee_in`] is the program over a journal file. [`world_behind`] runs a schedule with no report. [`agrees`] holds a

@@ -1,4 +1,4 @@
-//! Tests of the program over sources, sinks and keepers in memory.
+//! Tests of the program over sources, sinks and keepers in memory, and over a journal file on a disk in memory.
 #![tactic(auto)]
 
 #[cfg(test)]

@@ -15,7 +15,7 @@
 //! where what it wants is lacking or does not fit it, and where it writes a version that is there. [`run_planned`] does
 //! all three on the caller's thread, [`run_pooled`] on workers in threads of their own. That what is kept is the
 //! rounds, and what is left is what the rounds leave, are [`plan_keeps_the_rounds`] and [`plan_leaves_the_left`], laws
-//! over the definitions. A block is executed by a task, and nowhere else.
+//! over the definitions. No member executes a block but by a task.
 #![tactic(auto)]
 
 mod behind;

@@ -1,4 +1,4 @@
-//! Worked runs of the definitions, each from the words of a schedule to the lines of its report, with every
+//! Worked runs of the definitions, most of them from the words of a schedule to the lines of its report, with every
 //! digest computed: the review of the definitions. And two whose runs meet all run assumptions.
 #![tactic(auto)]
 

@@ -1,4 +1,4 @@
-//! Tests of the rules: tables, shapes, locks, stores, votes, certificates, rounds and checkpoints.
+//! Tests of the rules: tables, shapes, locks, stores, votes, certificates, admission, rounds, checkpoints and Ends.
 #![tactic(auto)]
 
 #[cfg(test)]

@@ -8,8 +8,8 @@
 //! epoch, and turns to the next one.
 //!
 //! Within, a [`State`] has the votes given in the epoch, and a `Course`: its versions, the certificates held, the
-//! sequence as it was seen, and the checkpoints. A call is first decided, which changes nothing; then its record is
-//! appended; then the state takes the record. A start takes the same records through the same two steps.
+//! sequence as it was seen, and the checkpoints. A call is decided, its record is appended, and the state takes it before
+//! the call answers; a run's effects stand when its record is appended. A start takes the records in the same way.
 #![tactic(auto)]
 
 mod calls;
