@@ -152,8 +152,8 @@ fn over_log<R: Threads + Wait + Sync, S: Source, K: Sink, F: Disk>(
 ///
 /// | Status | Comes | Written, kept |
 /// |---|---|---|
-/// | 8 | exactly where a record that counts is of no member below 64 | `journal: bad member at A`, the place of the first such record's gate |
-/// | 8 | exactly where a record counts, and the first word is not `replay` | `journal: not empty` |
+/// | 8 | where a record that counts is of no member below 64, and the line was written | `journal: bad member at A`, the place of the first such record's gate |
+/// | 8 | else where a record counts, and the first word is not `replay`, and the line was written | `journal: not empty` |
 /// | 5, 7 | only where the sink's count of faults rose, or for want of memory | a front of such a line |
 /// | 6 | only where the disk's count of faults rose in the opening | nothing |
 ///

@@ -121,7 +121,7 @@ fn obey<R: Threads + Wait + Sync, S: Source, K: Sink, D: Keeper>(
 /// | 5 | only where the sink's count of faults rose | a front of what was to be written |
 /// | 6 | where a record is bad, or where the keeper's count of faults rose | `restart M: bad record PLACE`; nothing behind a fault |
 /// | 7 | for want of memory | as at 5 |
-/// | 8 | exactly where the set-up has no honest member M | `replay M: no honest member` |
+/// | 8 | exactly where the set-up has no honest member M, and the line was written | `replay M: no honest member` |
 ///
 /// Status 2 comes exactly where the words are no command: nothing is read, written and kept then.
 #[tactic(auto, using(crate::proofs::Obeying::unused, crate::proofs::Obeying::obeyed, crate::proofs::Obeying::starved))]
