@@ -1,6 +1,6 @@
 -- What is said of a world, and how a question ends.
 use Rattle.std.proofs.Common.{◌≡◌, ◌⊎◌, inl, inr, ℕ, zero, suc, Bool, true, false, List, [], ◌∷◌, map, Option, Some, None, Result, Ok, Err, if◌then◌else◌, refl, sym, ap, subst, ◌∙◌}
-use Rattle.std.specs.Prelude.{option_and_then, option_map, slice_get}
+use Rattle.std.specs.Prelude.{option_map, slice_get}
 use Rattle.std.specs.Io.KnownBytes.{Appends, Keeps}
 use Rattle.outside.specs.Lists.{Journals, KeepsJournals}
 use Rattle.outside.specs.Streams.{AppendsFront, ReadsText}
@@ -31,12 +31,13 @@ use Rattle.inspect_core.specs.Chain.{SaysChain, nobody, sealed, unsealed}
 use Rattle.inspect_core.specs.Digests.{SaysDigests, alone, standing}
 use Rattle.inspect_core.specs.Ends.{CutsText, KeepsSome, OfText, RunsAndSays, Says, SaysBehind, SaysOf, SaysSome, Writing}
 use Rattle.inspect_core.specs.Sight.{Sight, events_in, sight_in, sight_of}
-use Rattle.inspect_core.specs.Standing.{States, state_of}
+use Rattle.committee_core.specs.Follow.{state_in}
+use Rattle.inspect_core.specs.Standing.{States}
 use Rattle.inspect_core.proofs.Statuses.{IsSaid, said_or_fault}
 
 -- ---- the members as the code sees them are those of the world
 
-state_same : (s : Setting) (n : ℕ) (seats : List worlds.Seat) (m : ℕ) → option_map (λ (seat : Seat). seat.state) (honest_at (slice_get (posts_from s n seats) m)) ≡ option_and_then (state_of s) (slice_get seats m)
+state_same : (s : Setting) (n : ℕ) (seats : List worlds.Seat) (m : ℕ) → option_map (λ (seat : Seat). seat.state) (honest_at (slice_get (posts_from s n seats) m)) ≡ state_in s (slice_get seats m)
 state_same s n [] m = refl
 state_same s n (seat ∷ seats) zero = go seat.honest seat.up
   where
