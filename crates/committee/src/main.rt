@@ -9,7 +9,7 @@
 //! means.
 #![tactic(auto)]
 
-use command_words::place_of;
+use command_words::{command_of, place_of};
 use committee_core::{committee, committee_in, fresh_keeper};
 use outside::{Sink, Source};
 use outside_std::{FileDisk, InSource, OutSink};
@@ -57,7 +57,8 @@ fn in_memory<R: Threads + Wait + Sync, S: Source, K: Sink>(
     committee(threads, rt.alloc(), words, source, sink, &mut keeper)
 }
 
-/// Runs the words before `in` with the records in the file that the word at `place` names.
+/// Runs the words before `in` with the records in the file that the word at `place` names. Words that are no command open
+/// no file.
 fn in_file<R: Threads + Wait + Sync, S: Source, K: Sink>(
     threads: &R,
     rt: &HostRuntime,
@@ -70,6 +71,9 @@ fn in_file<R: Threads + Wait + Sync, S: Source, K: Sink>(
     else {
         return 2;
     };
+    if command_of(command).is_none() {
+        return 2;
+    }
     let Ok(disk) = FileDisk::open(rt, path.as_str()) else {
         return 6;
     };
