@@ -95,13 +95,16 @@ impl<T: Wire> Wire for Option<T> {
     }
 }
 
+/// The room with which a spelling begins: most statements, transactions and effects fit, so they never move.
+const FIRST_ROOM: usize = 256;
+
 /// The one spelling of a value.
 #[tactic(auto)]
 pub fn encode<T: Wire>(alloc: Global, value: &T) -> Result<Seq<u8>, OutOfMemory>
     requires { T.codec.short value.now }
     ensures { IfOk result (λ bytes. bytes ≡ T.codec.spell value.now) }
 {
-    let mut writer = Writer::new(alloc);
+    let mut writer = Writer::with_room(alloc, FIRST_ROOM)?;
     value.write_into(&mut writer)?;
     Ok(writer.finish())
 }

@@ -1,6 +1,6 @@
 //! Writing BCS items.
 
-ghost use Rattle.std.specs.Prelude.{◌≡◌, ◌<◌, ◌≤◌, [], ◌++◌, length, take};
+ghost use Rattle.std.specs.Prelude.{◌≡◌, ◌<◌, ◌≤◌, [], ◌++◌, IfOk, length, take};
 ghost use Rattle.wire_bcs.specs.Items.{number_spell, bool_spell, bytes_spell, length_limit};
 ghost use Rattle.wire_bcs.specs.Uleb.{uleb};
 ghost use Rattle.wire_bcs.specs.Wrote.{Appends};
@@ -31,6 +31,15 @@ impl Writer {
         Writer {
             bytes: Vec::new(alloc),
         }
+    }
+
+    /// A writer with nothing in it, and room for some bytes.
+    pub fn with_room(alloc: Global, bytes: usize) -> Result<Writer, OutOfMemory>
+        ensures { IfOk result (λ w. w ≡ []) }
+    {
+        Ok(Writer {
+            bytes: Vec::with_capacity(alloc, bytes)?,
+        })
     }
 
     /// What was written. Takes no memory.
