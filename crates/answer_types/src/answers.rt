@@ -2,9 +2,9 @@
 
 use chain_messages::{Certificate, Sealed};
 use chain_types::{ObjectId, ObjectKey, Producer};
-use checkpoint_core::Checkpoint;
+use checkpoint_core::HashedCheckpoint;
 use digest_core::Digest;
-use effects_core::Effects;
+use effects_core::HashedEffects;
 use wire_bcs::Seq;
 
 /// The version that admission assigned to a shared object, and who wrote it.
@@ -79,7 +79,7 @@ pub enum SeenWhat {
 #[derive(Debug, Drop)]
 pub struct Seen {
     pub what: SeenWhat,
-    pub built: Seq<Checkpoint>,
+    pub built: Seq<HashedCheckpoint>,
 }
 
 /// A held certificate that a run left although what it waited for is executed: the first version
@@ -93,9 +93,9 @@ pub struct Left {
 /// What a run did: what it executed, what it left, and the checkpoints that it completed.
 #[derive(Debug, Drop)]
 pub struct Ran {
-    pub executed: Seq<Effects>,
+    pub executed: Seq<HashedEffects>,
     pub left: Seq<Left>,
-    pub built: Seq<Checkpoint>,
+    pub built: Seq<HashedCheckpoint>,
 }
 
 /// A certificate that a member holds, with its transaction's digest.

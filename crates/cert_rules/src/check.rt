@@ -1,7 +1,7 @@
 //! Which certificates are valid.
 
 ghost use Rattle.std.specs.Prelude.{◌≡◌, ◌==◌, ◌≤◌, ℕ, Option, IfOk, length};
-ghost use Rattle.chain_types.specs.Transactions.{transaction};
+ghost use Rattle.chain_types.specs.Digests.{transaction_digest};
 ghost use Rattle.chain_messages.specs.Messages.{statement};
 ghost use Rattle.protocol_spec.specs.Chain.Words.{first_of, unless_refused};
 ghost use Rattle.protocol_spec.specs.Chain.Keys.{objects_of};
@@ -10,7 +10,8 @@ ghost use Rattle.cert_rules.specs.Answers.{Checks};
 ghost use Rattle.cert_rules.specs.Parts.{member_refusal, object_refusal, refused_seal};
 
 use chain_messages::{Certificate, MemberSeal, Statement, encode_statement, members_of};
-use chain_types::{CertRefusal, object_count, tx_digest};
+use chain_types::{CertRefusal, object_count};
+use digest_core::Digest;
 use quorum_core::{Committee, Sealer, Signer};
 use std::alloc::Global;
 use tx_check::{ShapeRefusal, check_shape};
@@ -29,7 +30,6 @@ fn has_each_origin(cert: &Certificate) -> bool
 #[tactic(auto, unfolding(crate::specs::Parts::object_refusal))]
 fn check_objects(alloc: Global, cert: &Certificate) -> Result<(), CertRefusal>
     ensures refusal { Checks result (object_refusal cert.now) }
-    ensures short { IfOk result (λ _. transaction.short cert.now.tx) }
     ensures few { IfOk result (λ _. length cert.now.origins ≤ 257) }
 {
     match check_shape(alloc, &cert.tx) {
@@ -64,14 +64,18 @@ fn check_members(committee: &Committee, members: &[u32]) -> Result<(), CertRefus
 }
 
 /// The spelling of the vote that the seals are over.
-fn vote_bytes(alloc: Global, cert: &Certificate) -> Result<Seq<u8>, OutOfMemory>
-    requires short { transaction.short cert.now.tx }
+fn vote_bytes(
+    alloc: Global,
+    cert: &Certificate,
+    digest: &Digest,
+) -> Result<Seq<u8>, OutOfMemory>
+    requires digest { digest.now ≡ transaction_digest cert.now.tx }
     requires few { length cert.now.origins ≤ 257 }
     ensures { IfOk result (λ bytes. bytes ≡ statement.spell (vote_of cert.now)) }
 {
     let vote = Statement::Vote {
         epoch: cert.tx.epoch,
-        tx: tx_digest(alloc, &cert.tx)?,
+        tx: *digest,
         origins: cert.origins.copy()?,
     };
     encode_statement(alloc, &vote)
@@ -92,14 +96,16 @@ fn check_seals<S: Sealer>(sealer: &S, bytes: &[u8], seals: &[MemberSeal]) -> Res
     Ok(())
 }
 
-/// Whether a certificate of the committee is valid, or the first reason why it is not. The limit of
-/// writers plays no part. A transaction of any size may be given.
+/// Whether a certificate of the committee is valid, or the first reason why it is not; `digest` is its
+/// transaction's. The limit of writers plays no part. A transaction of any size may be given.
 pub fn check_cert<S: Sealer>(
     alloc: Global,
     cert: &Certificate,
+    digest: &Digest,
     committee: &Committee,
     sealer: &S,
 ) -> Result<(), CertRefusal>
+    requires { digest.now ≡ transaction_digest cert.now.tx }
     ensures { (writers : Option ℕ) → Checks result (cert_refusal (rules_of committee.now writers (S.accepts sealer.now)) cert.now) }
 {
     check_objects(alloc, cert)?;
@@ -107,7 +113,7 @@ pub fn check_cert<S: Sealer>(
         return Err(CertRefusal::OutOfMemory);
     };
     check_members(committee, &members)?;
-    let Ok(bytes) = vote_bytes(alloc, cert) else {
+    let Ok(bytes) = vote_bytes(alloc, cert, digest) else {
         return Err(CertRefusal::OutOfMemory);
     };
     check_seals(sealer, bytes.as_slice(), cert.seals.as_slice())

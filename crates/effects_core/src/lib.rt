@@ -3,8 +3,10 @@
 
 mod effects;
 mod effects_wire;
+mod hashed;
 mod money;
 
 pub use effects::{Effects, Status, Written};
 pub use effects_wire::effects_digest;
+pub use hashed::HashedEffects;
 pub use money::currency_sum;

@@ -7,7 +7,7 @@ ghost use Rattle.epoch_turn.specs.Chains.{AddsCuts, AreCut, BuildsAll, FindsFirs
 
 use crate::due::Due;
 use crate::rows::Rows;
-use checkpoint_core::Checkpoint;
+use checkpoint_core::{Checkpoint, HashedCheckpoint};
 use digest_core::Digest;
 use std::alloc::Global;
 use std::marker::Model;
@@ -79,7 +79,7 @@ impl Chain {
 
     /// Builds the checkpoints of the epoch's cuts, up to the first that has a transaction which is not done, and
     /// answers those that are new (Sui Lutris). A refusal changes nothing.
-    pub fn advance(&mut self, epoch: u64, store: &Store) -> Result<Seq<Checkpoint>, OutOfMemory>
+    pub fn advance(&mut self, epoch: u64, store: &Store) -> Result<Seq<HashedCheckpoint>, OutOfMemory>
         requires { IsBehind epoch store.now.executed self.old }
         ensures ok { OnOk result (self.new ≡ advanced epoch store.now.executed self.old) }
         ensures all { OnOk result (BuildsAll epoch store.now.executed self.new) }
@@ -124,7 +124,10 @@ impl Chain {
     pub fn checkpoint(&self, number: u64) -> Option<&Checkpoint>
         ensures { option_map (λ (c : _). c.now) result ≡ slice_get self.now.built number }
     {
-        self.rows.items.get(number as usize)
+        match self.rows.items.get(number as usize) {
+            Some(kept) => Some(kept.checkpoint()),
+            None => None,
+        }
     }
 
     /// Goes to the next epoch, in which nothing is admitted yet. Takes no memory.

@@ -8,7 +8,7 @@ ghost use Rattle.epoch_turn.specs.Dues.{due_item, front_length, is_due_done, siz
 ghost use Rattle.epoch_turn.specs.Kept.{grown, grown_all, grown_by, items_after, next_checkpoint, tip_after};
 
 use crate::due::{CutMark, Due};
-use checkpoint_core::{Checkpoint, Item, checkpoint_digest};
+use checkpoint_core::{Checkpoint, HashedCheckpoint, Item};
 use digest_core::Digest;
 use std::alloc::Global;
 use version_store::Store;
@@ -32,7 +32,7 @@ pub(crate) struct Tip {
 /// Checkpoints that are new, and where the chain ends behind them.
 #[derive(Drop)]
 pub(crate) struct Growth {
-    pub(crate) fresh: Seq<Checkpoint>,
+    pub(crate) fresh: Seq<HashedCheckpoint>,
     pub(crate) tip: Tip,
 }
 
@@ -119,11 +119,8 @@ impl Growth {
     fn push(&mut self, alloc: Global, size: usize, next: Checkpoint) -> Result<(), OutOfMemory>
         ensures { OnOk result (self.new ≡ grown_by self.old size next) }
     {
-        if !next.is_short() {
-            return Err(OutOfMemory);
-        }
-        let digest = checkpoint_digest(alloc, &next)?;
-        self.tip = self.tip.behind(size, digest)?;
+        let next = HashedCheckpoint::new(alloc, next)?;
+        self.tip = self.tip.behind(size, next.digest())?;
         self.fresh.push(next)?;
         Ok(())
     }

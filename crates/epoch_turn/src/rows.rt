@@ -8,7 +8,7 @@ ghost use Rattle.epoch_turn.specs.Kept.{IsKept, Keeps, Takes, growth_of, shown};
 
 use crate::due::{CutMark, Due, digests_of, due_from, front_done, marks_from};
 use crate::growth::{Growth, Tip};
-use checkpoint_core::Checkpoint;
+use checkpoint_core::HashedCheckpoint;
 use digest_core::Digest;
 use std::alloc::Global;
 use version_store::Store;
@@ -18,7 +18,7 @@ use wire_bcs::{Duplicate, OutOfMemory, Seq};
 #[derive(Drop)]
 pub(crate) struct Rows {
     /// All checkpoints that were built.
-    pub(crate) items: Vec<Checkpoint>,
+    pub(crate) items: Vec<HashedCheckpoint>,
     /// How many of them the epochs before built.
     pub(crate) opened: usize,
     pub(crate) tip: Tip,
@@ -186,7 +186,7 @@ impl Rows {
         alloc: Global,
         epoch: u64,
         store: &Store,
-    ) -> Result<Seq<Checkpoint>, OutOfMemory>
+    ) -> Result<Seq<HashedCheckpoint>, OutOfMemory>
         requires kept { IsKept self.old }
         requires behind { IsBehind epoch store.now.executed (shown self.old) }
         ensures kept { IsKept self.new }

@@ -16,7 +16,7 @@ use crate::task::{Outcome, Task, Want};
 use answer_types::Executed;
 use chain_types::Producer;
 use digest_core::Digest;
-use effects_core::Effects;
+use effects_core::HashedEffects;
 use std::alloc::Global;
 use version_store::Store;
 use wire_bcs::{Duplicate, OutOfMemory, Seq};
@@ -45,23 +45,6 @@ fn are_kept(store: &Store, wants: &[Want]) -> bool
     true
 }
 
-/// A copy of effects.
-fn copy_of(effects: &Effects) -> Result<Effects, OutOfMemory>
-    ensures { IfOk result (λ copy. copy ≡ effects.now) }
-{
-    let written = effects.written.copy()?;
-    let deleted = effects.deleted.copy()?;
-    Ok(Effects {
-        tx: effects.tx,
-        status: effects.status,
-        version: effects.version,
-        gas: effects.gas,
-        created: effects.created,
-        written,
-        deleted,
-    })
-}
-
 /// Whether what a task gave is kept: all that makes what it wants is executed, and all that it writes is new.
 fn keeps(store: &Store, task: &Task, gave: &Executed) -> Result<bool, OutOfMemory>
     ensures { IfOk result (λ keeps. keeps ≡ (list_all (is_origin_kept store.now.executed) task.now.wants && writes_new (held_in store.now) (written_keys gave.now))) }
@@ -76,7 +59,7 @@ fn keeps(store: &Store, task: &Task, gave: &Executed) -> Result<bool, OutOfMemor
 fn keep_done(
     alloc: Global,
     store: &mut Store,
-    effects: &mut Seq<Effects>,
+    effects: &mut Seq<HashedEffects>,
     task: &Task,
     gave: &Executed,
 ) -> Result<(), OutOfMemory>
@@ -89,18 +72,18 @@ fn keep_done(
     if !keeps(store, task, gave)? {
         return Ok(());
     }
-    effects.push(copy_of(&gave.effects)?)?;
+    let hashed = HashedEffects::new(alloc, gave.effects.copy()?)?;
+    effects.push(hashed.copy()?)?;
     let consumed = task.consumed(alloc)?;
-    let written = copy_of(&gave.effects)?;
     let objects = gave.objects.copy()?;
-    store.write(written, objects, &consumed)
+    store.write(hashed, objects, &consumed)
 }
 
 /// The same of what came of a task.
 fn keep_one(
     alloc: Global,
     store: &mut Store,
-    effects: &mut Seq<Effects>,
+    effects: &mut Seq<HashedEffects>,
     task: &Task,
     output: &(Digest, Outcome),
 ) -> Result<(), OutOfMemory>
@@ -122,7 +105,7 @@ fn keep_one(
 pub(crate) fn keep_all(
     alloc: Global,
     store: &mut Store,
-    effects: &mut Seq<Effects>,
+    effects: &mut Seq<HashedEffects>,
     tasks: &[Task],
     outputs: &[(Digest, Outcome)],
 ) -> Result<(), OutOfMemory>

@@ -12,7 +12,7 @@ use crate::settled::settle;
 use crate::waiting::Waiting;
 use answer_types::Held;
 use dag_pool::{Gate, run_plan};
-use effects_core::Effects;
+use effects_core::HashedEffects;
 use std::alloc::Global;
 use std::thread::Threads;
 use steal_board::Board;
@@ -42,7 +42,7 @@ pub fn run_pooled<R: Threads + Sync, G: Gate + Sync>(
     held: &[Held],
     workers: u32,
     gate: &G,
-) -> Result<Seq<Effects>, OutOfMemory>
+) -> Result<Seq<HashedEffects>, OutOfMemory>
     requires workers { (0 < workers) × (workers ≤ 16) }
     requires sound { Each IsSound held.now }
     requires apart { AreApart held.now }

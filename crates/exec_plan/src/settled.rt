@@ -19,7 +19,7 @@ use crate::waiting::Waiting;
 use answer_types::Held;
 use dag_core::evaluate_plain;
 use digest_core::Digest;
-use effects_core::Effects;
+use effects_core::HashedEffects;
 use indexmap::IndexSet;
 use std::alloc::Global;
 use version_assign::Admission;
@@ -40,7 +40,7 @@ pub fn settle(
     held: &[Held],
     ready: &Ready,
     outputs: &Seq<(Digest, Outcome)>,
-) -> Result<Seq<Effects>, OutOfMemory>
+) -> Result<Seq<HashedEffects>, OutOfMemory>
     requires sound { Each IsSound held.now }
     requires apart { AreApart held.now }
     requires tasks { ready.now.plan.jobs ≡ tasks_of (books_of store.old admission.now.admission held.now) store.old.executed }
@@ -75,7 +75,7 @@ pub fn run_planned(
     admission: &Admission,
     waiting: &mut Waiting,
     held: &[Held],
-) -> Result<Seq<Effects>, OutOfMemory>
+) -> Result<Seq<HashedEffects>, OutOfMemory>
     requires sound { Each IsSound held.now }
     requires apart { AreApart held.now }
     requires waiting { IsWaiting store.old admission.now.admission held.now waiting.old }

@@ -10,6 +10,7 @@ ghost use Rattle.inspect_core.specs.Found.{AreFound};
 
 use cert_rules::{CertRefusal, check_cert};
 use chain_messages::{Certificate, decode_certificate, encode_certificate};
+use chain_types::tx_digest;
 use quorum_core::{Committee, Sealer};
 use schedule_text::Event;
 use std::alloc::Global;
@@ -30,10 +31,12 @@ fn is_valid<S: Sealer>(
     sealer: &S,
     cert: &Certificate,
 ) -> Result<bool, OutOfMemory>
+    requires { certificate.short cert.now }
     ensures value { IfOk result (λ valid. valid ≡ is_valid (rules_of committee.now None (S.accepts sealer.now)) cert.now) }
     ensures roll { IfOk result (λ valid. valid ≡ true → is_roll committee.now (members_of cert.now) ≡ true) }
 {
-    match check_cert(alloc, cert, committee, sealer) {
+    let digest = tx_digest(alloc, &cert.tx)?;
+    match check_cert(alloc, cert, &digest, committee, sealer) {
         Ok(()) => Ok(true),
         Err(CertRefusal::Shape(_)) => Ok(false),
         Err(CertRefusal::Order) => Ok(false),

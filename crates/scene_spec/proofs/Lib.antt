@@ -1,3 +1,4 @@
 pub mod KnownWorlds
 pub mod MadeWorlds
 pub mod LineWorlds
+pub mod RulesAside

@@ -1,4 +1,4 @@
--- Runs and closes: what is answered and due, and the state behind it. The rules play no part.
+-- Runs and closes: what is answered and due, and the state behind it.
 use Rattle.std.proofs.Common.{◌≡◌, ℕ, Bool, true, false, cond, not, List, [], ◌∷◌, ◌++◌, map, Option, Some, None, inr, refl, ap, sym, subst, ◌∙◌, append-nil}
 use Rattle.std.specs.Prelude.{◌⊎◌, Result, Ok, Err}
 use Rattle.outside.specs.Lists.{Journals, KeepsJournals}
@@ -22,52 +22,9 @@ use Rattle.validator_core.specs.declared.keeping.Unkept.{Unkept}
 use Rattle.validator_core.specs.declared.keeping.Unkept.TheVariants as unkept
 use Rattle.validator_core.specs.Calls.{Closes, Runs, close_ended, close_said, run_ended, run_said, unkept_close, unkept_run}
 use Rattle.validator_core.specs.Seats.{Becomes, Behaves, Ended, Journaled, Keeps, answered, fell}
+use Rattle.scene_spec.proofs.RulesAside.{close_answer_alike, close_called_alike, close_due_alike, run_answer_alike, run_called_alike, run_due_alike}
 use Rattle.scene_spec.specs.Seats.{Seat, bare_rules, due_at}
 use Rattle.validator_core.proofs.Settling.{keeps_same, seat_with, settles}
-
--- ---- the rules play no part
-
-pub run_answer_alike : (r r' : Rules) (m : Member) → run_answer r m ≡ run_answer r' m
-unfolding run_answer
-run_answer_alike r r' m = refl
-
-pub run_due_alike : (r r' : Rules) (m : Member) → due r m runs ≡ due r' m runs
-unfolding due run_answer
-run_due_alike r r' m = refl
-
-after_ran : (r r' : Rules) (m : Member) (items : List RanItem) → after_due r m (ran_record items) ≡ after_due r' m (ran_record items)
-unfolding after
-after_ran r r' m [] = refl
-after_ran r r' m (i ∷ is) = refl
-
-after_run : (r r' : Rules) (m : Member) (answer : Result Ran RunRefusal) → after_due r m (run_record m answer) ≡ after_due r' m (run_record m answer)
-after_run r r' m (Ok ran) = after_ran r r' m (ran_items m)
-after_run r r' m (Err refusal) = refl
-
-pub run_called_alike : (r r' : Rules) (m : Member) → called r m runs ≡ called r' m runs
-unfolding due run_answer
-run_called_alike r r' m = after_run r r' m (run_answer r m)
-
-pub close_answer_alike : (r r' : Rules) (m : Member) → close_answer r m ≡ close_answer r' m
-unfolding close_answer
-close_answer_alike r r' m = refl
-
-pub close_due_alike : (r r' : Rules) (m : Member) → due r m closes ≡ due r' m closes
-unfolding due close_answer
-close_due_alike r r' m = refl
-
-after_closing : (r r' : Rules) (m : Member) (new : Bool) → after_due r m (where_true new record_as.Close) ≡ after_due r' m (where_true new record_as.Close)
-unfolding after
-after_closing r r' m true = refl
-after_closing r r' m false = refl
-
-after_close : (r r' : Rules) (m : Member) (answer : Result Bool CloseRefusal) → after_due r m (close_record answer) ≡ after_due r' m (close_record answer)
-after_close r r' m (Ok new) = after_closing r r' m new
-after_close r r' m (Err refusal) = refl
-
-pub close_called_alike : (r r' : Rules) (m : Member) → called r m closes ≡ called r' m closes
-unfolding due close_answer
-close_called_alike r r' m = after_close r r' m (close_answer r m)
 
 -- ---- records that are due
 

@@ -19,6 +19,7 @@ use Rattle.protocol_spec.specs.Chain.Words.{first_of, first_some, unless_refused
 use Rattle.protocol_spec.specs.Member.Versions.{Execution, execution_of, is_executed}
 use Rattle.protocol_spec.specs.Member.Member.{Fork, Member, fork_of}
 use Rattle.protocol_spec.specs.Member.Calls.{ack_answer, acknowledged, acks, due, end_answer, end_cases, ends, unseen}
+use Rattle.scene_spec.proofs.RulesAside.{ack_answer_alike, end_answer_alike}
 use Rattle.scene_spec.specs.Seats.{Seat, behind, due_at, rules_of_seat}
 use Rattle.validator_core.specs.Answers.{bare}
 use Rattle.validator_core.specs.Calls.{Acks, Ends, ack_said, end_said}
@@ -26,10 +27,6 @@ use Rattle.validator_core.specs.Sound.{is_ordered, unordered}
 use Rattle.validator_core.proofs.Refusing.{free, none_stops, stop, stopped_by}
 use Rattle.validator_core.proofs.Settling.{Signing}
 use Rattle.world_spec.specs.Step.{effects_digest_at, executed_digest}
-
-either_way : {A : Type 0} (b : Bool) (x : A) → cond b x x ≡ x
-either_way true x = refl
-either_way false x = refl
 
 -- ---- an acknowledgement
 
@@ -111,32 +108,6 @@ end_as accepts member said no_end.OutOfMemory able h = absurd (able refl)
 
 pub end_refused : (accepts : Signing) (member : ℕ) (m : Member) (refusal : EndRefusal) → (stop refusal ≡ stop no_end.OutOfMemory → ⊥) → stop refusal ≡ unless_refused (first_some (end_cases m)) tt → Ends accepts member (end_answer bare m) (Err refusal)
 end_refused accepts member m refusal able stopped = end_as accepts member (end_answer bare m) refusal able (end_stops m refusal stopped)
-
--- ---- the rules play no part, and nothing changes
-
-pub end_answer_alike : (r r' : Rules) (m : Member) → end_answer r m ≡ end_answer r' m
-unfolding end_answer
-end_answer_alike r r' m = refl
-
-pub no_end_due : (r : Rules) (seat : Seat) → due_at r seat ends ≡ None
-unfolding due
-no_end_due r seat = either_way seat.up None
-
-pub end_stays : (r : Rules) (seat : Seat) → behind r seat ends ≡ seat
-unfolding due
-end_stays r seat = either_way seat.up seat
-
-pub ack_answer_alike : (r r' : Rules) (m : Member) (tx : Digest) → ack_answer r m tx ≡ ack_answer r' m tx
-unfolding ack_answer
-ack_answer_alike r r' m tx = refl
-
-pub no_ack_due : (r : Rules) (seat : Seat) (tx : Digest) → due_at r seat (acks tx) ≡ None
-unfolding due
-no_ack_due r seat tx = either_way seat.up None
-
-pub ack_stays : (r : Rules) (seat : Seat) (tx : Digest) → behind r seat (acks tx) ≡ seat
-unfolding due
-ack_stays r seat tx = either_way seat.up seat
 
 -- ---- at the seat
 

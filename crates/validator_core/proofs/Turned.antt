@@ -1,4 +1,4 @@
--- The turn to the next epoch: what is answered and due, and the state behind it. The rules play no part.
+-- The turn to the next epoch: what is answered and due, and the state behind it.
 use Rattle.std.proofs.Common.{◌≡◌, ◌+◌, ℕ, Bool, true, false, cond, not, List, [], ◌∷◌, Option, Some, None, inl, inr, refl, ap, sym, ◌∙◌, subst}
 use Rattle.std.specs.Prelude.{◌⊎◌, Result, Ok, Err, is_err, is_ok, option_map}
 use Rattle.digest_core.specs.declared.Digest.{Digest}
@@ -23,6 +23,7 @@ use Rattle.validator_core.specs.Sound.{member_with}
 use Rattle.validator_core.specs.Steps.{turning}
 use Rattle.validator_core.specs.declared.keeping.Unkept.{Unkept}
 use Rattle.validator_core.specs.declared.keeping.Unkept.TheVariants as unkept
+use Rattle.scene_spec.proofs.RulesAside.{turn_answer_alike, turn_called_alike, turn_due_alike}
 use Rattle.scene_spec.specs.Seats.{Seat, bare_rules, due_at}
 use Rattle.validator_core.proofs.Refusing.{free, none_stops, stop, stopped_by}
 use Rattle.validator_core.proofs.Running.{journals_same, maybe_kept}
@@ -122,25 +123,6 @@ turn_allowed m result is good = may_turn (first_some (turn_cases m)) (reverted m
 pub turn_not_allowed : (m : Member) (result : Result (Unit {0}) TurnRefusal) → result ≡ unless_refused (first_some (turn_cases m)) tt → is_err result ≡ true → false ≡ is_ok (turn_answer bare m)
 unfolding turn_answer
 turn_not_allowed m result is bad = may_turn (first_some (turn_cases m)) (reverted m) result true is bad
-
--- ---- the rules play no part
-
-pub turn_answer_alike : (r r' : Rules) (m : Member) → turn_answer r m ≡ turn_answer r' m
-unfolding turn_answer
-turn_answer_alike r r' m = refl
-
-pub turn_due_alike : (r r' : Rules) (m : Member) → due r m turns ≡ due r' m turns
-unfolding due turn_answer
-turn_due_alike r r' m = refl
-
-after_turn : (r r' : Rules) (m : Member) (answer : Result (List Digest) TurnRefusal) → after_due r m (turn_record answer) ≡ after_due r' m (turn_record answer)
-unfolding after
-after_turn r r' m (Ok txs) = refl
-after_turn r r' m (Err refusal) = refl
-
-pub turn_called_alike : (r r' : Rules) (m : Member) → called r m turns ≡ called r' m turns
-unfolding due turn_answer
-turn_called_alike r r' m = after_turn r r' m (turn_answer r m)
 
 -- ---- at the seat
 

@@ -14,10 +14,10 @@ ghost use Rattle.validator_core.specs.Courses.{HasOpening, IsAdmitting, IsSound,
 use crate::telling::tell;
 use answer_types::{Held, Left};
 use chain_types::Object;
-use checkpoint_core::Checkpoint;
+use checkpoint_core::HashedCheckpoint;
 use dag_pool::Gate;
 use digest_core::Digest;
-use effects_core::Effects;
+use effects_core::HashedEffects;
 use epoch_turn::{Chain, EndCount};
 use exec_plan::Waiting;
 use std::alloc::Global;
@@ -116,7 +116,7 @@ impl Course {
     }
 
     /// Builds the checkpoints of which all transactions are done (Sui Lutris), and answers those that are new.
-    pub(crate) fn advance(&mut self) -> Result<Seq<Checkpoint>, OutOfMemory>
+    pub(crate) fn advance(&mut self) -> Result<Seq<HashedCheckpoint>, OutOfMemory>
         requires { IsUnbuilt self.old }
         ensures sound { OnOk result (IsSound self.new) }
         ensures value { OnOk result (coursed self.new ≡ coursed self.old) }
@@ -129,7 +129,7 @@ impl Course {
 
     /// Executes on the caller's thread all held certificates that are ready, round after round (Sui Lutris), and answers
     /// their effects in order.
-    fn execute(&mut self) -> Result<Seq<Effects>, OutOfMemory>
+    fn execute(&mut self) -> Result<Seq<HashedEffects>, OutOfMemory>
         requires { IsSound self.old }
         ensures unbuilt { OnOk result (IsUnbuilt self.new) }
         ensures value { OnOk result (coursed self.new ≡ ran (coursed self.old)) }
@@ -153,7 +153,7 @@ impl Course {
         rt: &R,
         workers: u32,
         gate: &G,
-    ) -> Result<Seq<Effects>, OutOfMemory>
+    ) -> Result<Seq<HashedEffects>, OutOfMemory>
         requires workers { (0 < workers) × (workers ≤ 16) }
         requires sound { IsSound self.old }
         ensures unbuilt { OnOk result (IsUnbuilt self.new) }
@@ -177,7 +177,7 @@ impl Course {
 
     /// Runs on the caller's thread, and builds the checkpoints that the run completes: the effects of what was executed,
     /// and these.
-    pub(crate) fn run(&mut self) -> Result<(Seq<Effects>, Seq<Checkpoint>), OutOfMemory>
+    pub(crate) fn run(&mut self) -> Result<(Seq<HashedEffects>, Seq<HashedCheckpoint>), OutOfMemory>
         requires { IsSound self.old }
         ensures sound { OnOk result (IsSound self.new) }
         ensures value { OnOk result (coursed self.new ≡ ran (coursed self.old)) }
@@ -197,7 +197,7 @@ impl Course {
         rt: &R,
         workers: u32,
         gate: &G,
-    ) -> Result<(Seq<Effects>, Seq<Checkpoint>), OutOfMemory>
+    ) -> Result<(Seq<HashedEffects>, Seq<HashedCheckpoint>), OutOfMemory>
         requires workers { (0 < workers) × (workers ≤ 16) }
         requires sound { IsSound self.old }
         ensures sound { OnOk result (IsSound self.new) }

@@ -108,12 +108,12 @@ impl State {
         if cert.tx.epoch != self.epoch() {
             return Ok(Arrival::Ignores(Ignore::Epoch));
         }
-        match check_cert(self.alloc, &cert, committee, sealer) {
+        let digest = tx_digest(self.alloc, &cert.tx)?;
+        match check_cert(self.alloc, &cert, &digest, committee, sealer) {
             Ok(()) => {}
             Err(CertRefusal::OutOfMemory) => return Err(OutOfMemory),
             Err(_refusal) => return Ok(Arrival::Ignores(Ignore::Cert)),
         }
-        let digest = tx_digest(self.alloc, &cert.tx)?;
         if self.is_ordered(&digest) {
             return Ok(Arrival::Ignores(Ignore::Repeat));
         }

@@ -16,7 +16,7 @@ use crate::keeping::{Unkept, append};
 use crate::{State, ran_record};
 use answer_types::{CloseRefusal, Ran, RunRefusal};
 use dag_pool::Gate;
-use effects_core::Effects;
+use effects_core::HashedEffects;
 use journal_core::Record;
 use outside::Keeper;
 use std::thread::Threads;
@@ -28,7 +28,7 @@ fn keep_run<D: Keeper>(
     state: &mut State,
     keeper: &mut D,
     member: u32,
-    effects: &[Effects],
+    effects: &[HashedEffects],
 ) -> Result<(), Unkept>
     requires known { member < D.width keeper.old }
     requires room { nat_le record_limit state.old.member.records ≡ false }

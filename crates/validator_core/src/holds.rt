@@ -70,7 +70,7 @@ impl State {
         if self.is_closed() {
             return Err(HoldRefusal::Closed);
         }
-        match check_cert(self.alloc, cert, committee, sealer) {
+        match check_cert(self.alloc, cert, &digest, committee, sealer) {
             Ok(()) => {}
             Err(CertRefusal::OutOfMemory) => return Err(HoldRefusal::OutOfMemory),
             Err(refusal) => return Err(HoldRefusal::Cert(refusal)),

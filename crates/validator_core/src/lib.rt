@@ -18,7 +18,6 @@ mod entries;
 mod epoch_calls;
 mod holds;
 mod keeping;
-mod laws;
 mod ordered;
 mod renewal;
 mod replay;
@@ -38,10 +37,6 @@ pub use answer_types::{
     Voted,
 };
 pub use holds::Holding;
-pub use laws::{
-    acks_change_nothing, acks_need_no_rules, closes_need_no_rules, ends_change_nothing,
-    ends_need_no_rules, runs_need_no_rules, turns_need_no_rules,
-};
 pub use runs::ran_record;
 pub use state::State;
 pub use validator::Validator;

@@ -12,7 +12,7 @@ ghost use Rattle.validator_core.specs.Steps.{item_of, items_after, items_of};
 use crate::state::State;
 use answer_types::{CloseRefusal, Ran, RunRefusal};
 use dag_pool::Gate;
-use effects_core::{Effects, effects_digest};
+use effects_core::HashedEffects;
 use journal_core::{RanItem, Record};
 use std::alloc::Global;
 use std::thread::Threads;
@@ -21,28 +21,24 @@ use wire_bcs::{OutOfMemory, Seq};
 /// How long a list is at least that cannot be spelled.
 const TOO_LONG: u64 = 2_147_483_648;
 
-/// The item of an executed transaction. A list of 2^31 objects, more than a transaction can write, counts as want
-/// of memory.
-fn item_of(alloc: Global, effects: &Effects) -> Result<RanItem, OutOfMemory>
-    ensures { IfOk result (λ item. item ≡ item_of effects.now) }
+/// The item of an executed transaction. Takes no memory.
+fn item_of(effects: &HashedEffects) -> RanItem
+    ensures { result ≡ item_of effects.now }
 {
-    if !effects.is_short() {
-        return Err(OutOfMemory);
+    RanItem {
+        tx: effects.effects().tx,
+        effects: effects.digest(),
     }
-    Ok(RanItem {
-        tx: effects.tx,
-        effects: effects_digest(alloc, effects)?,
-    })
 }
 
 /// The items, one behind the other.
-fn collect_items(alloc: Global, effects: &[Effects]) -> Result<Seq<RanItem>, OutOfMemory>
+fn collect_items(alloc: Global, effects: &[HashedEffects]) -> Result<Seq<RanItem>, OutOfMemory>
     ensures { IfOk result (λ items. items ≡ items_after [] effects.now) }
 {
     let mut items = Seq::new(alloc);
     let mut rest = effects;
     while let [one, after @ ..] = rest {
-        items.push(item_of(alloc, one)?)?;
+        items.push(item_of(one))?;
         rest = after;
     }
     Ok(items)
@@ -50,7 +46,10 @@ fn collect_items(alloc: Global, effects: &[Effects]) -> Result<Seq<RanItem>, Out
 
 /// The items of executed transactions, in order.
 #[tactic(auto, using(crate::proofs::Spelled::items_all))]
-pub(crate) fn ran_items(alloc: Global, effects: &[Effects]) -> Result<Seq<RanItem>, OutOfMemory>
+pub(crate) fn ran_items(
+    alloc: Global,
+    effects: &[HashedEffects],
+) -> Result<Seq<RanItem>, OutOfMemory>
     ensures { IfOk result (λ items. items ≡ items_of effects.now) }
 {
     collect_items(alloc, effects)
@@ -59,7 +58,10 @@ pub(crate) fn ran_items(alloc: Global, effects: &[Effects]) -> Result<Seq<RanIte
 /// The record of a run that executed transactions with these effects, in order: none where it executed none. A list
 /// of 2^31 items counts as want of memory.
 #[tactic(auto, using(crate::proofs::Spelled::ran_short))]
-pub fn ran_record(alloc: Global, effects: &[Effects]) -> Result<Option<Record>, OutOfMemory>
+pub fn ran_record(
+    alloc: Global,
+    effects: &[HashedEffects],
+) -> Result<Option<Record>, OutOfMemory>
     ensures value { IfOk result (λ r. r ≡ ran_record (items_of effects.now)) }
     ensures short { IfOk result (λ r. IfSome r journals.journal_record.short) }
 {

@@ -31,10 +31,10 @@ use crate::entries::Arrival;
 use crate::ordered::{first_unordered, ordered_on};
 use answer_types::{Held, Left, Seen};
 use chain_types::{DecideRefusal, Object, ObjectKey, Transaction};
-use checkpoint_core::Checkpoint;
+use checkpoint_core::{Checkpoint, HashedCheckpoint};
 use dag_pool::Gate;
 use digest_core::Digest;
-use effects_core::Effects;
+use effects_core::HashedEffects;
 use quorum_core::Committee;
 use std::alloc::Global;
 use std::marker::Model;
@@ -335,7 +335,7 @@ impl State {
     /// their effects in order, and the checkpoints that are complete by it; the record of it is to be counted. The items of
     /// that record are those of the effects. Where memory is refused the state is not to be used.
     #[tactic(auto, unfolding(protocol_spec::specs::Member::Member::built), using(crate::proofs::Named::ran_named))]
-    pub fn execute(&mut self) -> Result<(Seq<Effects>, Seq<Checkpoint>), OutOfMemory>
+    pub fn execute(&mut self) -> Result<(Seq<HashedEffects>, Seq<HashedCheckpoint>), OutOfMemory>
         ensures state { OnOk result (self.new.member ≡ with_rounds self.old.member) }
         ensures effects { IfOk result (λ r. r.0 ≡ map effects_of (rounds (books self.old.member) self.old.member.executed)) }
         ensures items { IfOk result (λ r. items_of r.0 ≡ ran_items self.old.member) }
@@ -359,7 +359,7 @@ impl State {
         rt: &R,
         workers: u32,
         gate: &G,
-    ) -> Result<(Seq<Effects>, Seq<Checkpoint>), OutOfMemory>
+    ) -> Result<(Seq<HashedEffects>, Seq<HashedCheckpoint>), OutOfMemory>
         requires workers { (0 < workers) × (workers ≤ 16) }
         ensures state { OnOk result (self.new.member ≡ with_rounds self.old.member) }
         ensures effects { IfOk result (λ r. r.0 ≡ map effects_of (rounds (books self.old.member) self.old.member.executed)) }

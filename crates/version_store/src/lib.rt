@@ -18,7 +18,6 @@ mod fresh;
 mod live;
 mod maps;
 mod revert;
-mod stated;
 mod store;
 mod turn;
 

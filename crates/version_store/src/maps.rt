@@ -7,9 +7,9 @@ ghost use Rattle.chain_types.specs.Equal.{id_eq};
 ghost use Rattle.version_store.specs.Steps.{newer_of, with_all_newer, with_consumer, with_consumers, with_newer, with_versions};
 ghost use Rattle.version_store.specs.Changes.{Adds, HasRoom, Holds, IsEmpty, SameEntries};
 
-use crate::stated::Stated;
 use chain_types::{Object, ObjectId, ObjectKey, Producer};
 use digest_core::Digest;
+use effects_core::HashedEffects;
 use indexmap::{IndexMap, IndexSet};
 use std::alloc::Global;
 use tables::insert_in_room;
@@ -26,7 +26,7 @@ pub(crate) struct Kept {
 #[derive(Debug, Drop)]
 pub(crate) struct Ran {
     pub(crate) consumed: Seq<ObjectKey>,
-    pub(crate) effects: Stated,
+    pub(crate) effects: HashedEffects,
     pub(crate) written: usize,
 }
 
@@ -183,7 +183,7 @@ impl Maps {
     }
 
     /// Adds an execution; there is room.
-    pub(crate) fn add(&mut self, effects: Stated, objects: &[Object], consumed: Seq<ObjectKey>)
+    pub(crate) fn add(&mut self, effects: HashedEffects, objects: &[Object], consumed: Seq<ObjectKey>)
         requires { HasRoom self.old (length objects.now) (length consumed) (length effects.deleted) }
         ensures { Adds self.old self.new effects objects.now consumed }
     {

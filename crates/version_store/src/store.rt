@@ -7,10 +7,9 @@ ghost use Rattle.version_store.specs.Stores.{are_new, executed_as, held_in, with
 
 use crate::base::{at_version, behind, front_of};
 use crate::maps::{Maps, newer};
-use crate::stated::Stated;
 use chain_types::{Object, ObjectId, ObjectKey, Producer};
 use digest_core::Digest;
-use effects_core::Effects;
+use effects_core::{Effects, HashedEffects};
 use indexmap::IndexMap;
 use std::alloc::Global;
 use std::marker::Model;
@@ -64,9 +63,10 @@ impl Store {
     }
 
     /// Adds an executed transaction: its effects, the objects that it wrote, and the versions that it consumed.
-    fn write_stated(
+    /// The transaction is new, and so is each written version. A refusal changes nothing.
+    pub fn write(
         &mut self,
-        effects: Stated,
+        effects: HashedEffects,
         objects: Seq<Object>,
         consumed: &Seq<ObjectKey>,
     ) -> Result<(), OutOfMemory>
@@ -83,24 +83,6 @@ impl Store {
         )?;
         self.maps.add(effects, objects.as_slice(), consumed);
         Ok(())
-    }
-
-    /// Adds an executed transaction: its effects, the objects that it wrote, and the versions that it consumed.
-    /// The transaction is new, and so is each written version. A list of 2^31 objects in the effects counts as want of
-    /// memory. A refusal changes nothing.
-    pub fn write(
-        &mut self,
-        effects: Effects,
-        objects: Seq<Object>,
-        consumed: &Seq<ObjectKey>,
-    ) -> Result<(), OutOfMemory>
-        requires first { is_executed self.old.executed effects.tx ≡ false }
-        requires new { are_new (held_in self.old) objects ≡ true }
-        ensures ok { OnOk result (self.new ≡ with_execution self.old (executed_as effects objects consumed.now)) }
-        ensures err { OnErr result (self.new ≡ self.old) }
-    {
-        let stated = Stated::new(self.alloc, effects)?;
-        self.write_stated(stated, objects, consumed)
     }
 
     /// The object of this version; none exactly where the version is not held. Takes no memory.

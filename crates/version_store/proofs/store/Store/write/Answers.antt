@@ -1,6 +1,6 @@
 use Rattle.std.proofs.Common.{◌∙◌}
 use Rattle.version_store.proofs.Opened.{written_over}
-use Rattle.version_store.proofs.store.Store.write_stated.Goals as goal
+use Rattle.version_store.proofs.store.Store.write.Goals as goal
 
 pub invariant_of-self-2 : goal.invariant_of-self-2
 invariant_of-self-2 c =
