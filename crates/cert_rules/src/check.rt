@@ -64,11 +64,7 @@ fn check_members(committee: &Committee, members: &[u32]) -> Result<(), CertRefus
 }
 
 /// The spelling of the vote that the seals are over.
-fn vote_bytes(
-    alloc: Global,
-    cert: &Certificate,
-    digest: &Digest,
-) -> Result<Seq<u8>, OutOfMemory>
+fn vote_bytes(alloc: Global, cert: &Certificate, digest: &Digest) -> Result<Seq<u8>, OutOfMemory>
     requires digest { digest.now ≡ transaction_digest cert.now.tx }
     requires few { length cert.now.origins ≤ 257 }
     ensures { IfOk result (λ bytes. bytes ≡ statement.spell (vote_of cert.now)) }

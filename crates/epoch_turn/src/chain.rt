@@ -79,7 +79,11 @@ impl Chain {
 
     /// Builds the checkpoints of the epoch's cuts, up to the first that has a transaction which is not done, and
     /// answers those that are new (Sui Lutris). A refusal changes nothing.
-    pub fn advance(&mut self, epoch: u64, store: &Store) -> Result<Seq<HashedCheckpoint>, OutOfMemory>
+    pub fn advance(
+        &mut self,
+        epoch: u64,
+        store: &Store,
+    ) -> Result<Seq<HashedCheckpoint>, OutOfMemory>
         requires { IsBehind epoch store.now.executed self.old }
         ensures ok { OnOk result (self.new ≡ advanced epoch store.now.executed self.old) }
         ensures all { OnOk result (BuildsAll epoch store.now.executed self.new) }

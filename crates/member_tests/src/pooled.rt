@@ -11,7 +11,7 @@ use answer_types::StartRefusal;
 use chain_types::{Address, Content, Object, ObjectId, Owner};
 use dag_pool::{Gate, OpenGate};
 use digest_core::Digest;
-use effects_core::{Effects, Status};
+use effects_core::{HashedEffects, Status};
 use outside::{Keeper, MemKeeper};
 use quorum_core::{Committee, KeyedSeal};
 use std::alloc::Global;
@@ -147,9 +147,10 @@ fn new_member(alloc: Global) -> Result<Validator, Fail>
 type Outcome = (Digest, Status, u64, u64);
 
 /// What each came to.
-fn outcomes(alloc: Global, effects: &[Effects]) -> Result<Vec<Outcome>, OutOfMemory> {
+fn outcomes(alloc: Global, effects: &[HashedEffects]) -> Result<Vec<Outcome>, OutOfMemory> {
     let mut all = Vec::new(alloc);
     for one in effects {
+        let one = one.effects();
         all.push((one.tx, one.status, one.version, one.gas))?;
     }
     Ok(all)

@@ -31,7 +31,10 @@ fn reference(number: u8, version: u64) -> ObjectRef {
 }
 
 /// A transaction of epoch 7 with two objects; 1100 is its cost.
-fn transaction(alloc: Global, budget: u64) -> Result<Transaction, OutOfMemory> {
+#[tactic(auto, unfolding(chain_types::specs::Transactions::transaction, chain_types::specs::Transactions::input, chain_types::specs::Transactions::command))]
+fn transaction(alloc: Global, budget: u64) -> Result<Transaction, OutOfMemory>
+    ensures { IfOk result transaction.short }
+{
     let mut inputs = Seq::new(alloc);
     inputs.push(Input::Owned(reference(4, 5)))?;
     let mut commands = Seq::new(alloc);
@@ -88,8 +91,11 @@ fn check(
     let Ok(tx) = transaction(alloc, budget) else {
         return Err(CertRefusal::OutOfMemory);
     };
+    let Ok(digest) = tx_digest(alloc, &tx) else {
+        return Err(CertRefusal::OutOfMemory);
+    };
     let cert = Certificate { tx, origins, seals };
-    let checked = check_cert(alloc, &cert, &committee, &KeyedSeal::new([9; 32]));
+    let checked = check_cert(alloc, &cert, &digest, &committee, &KeyedSeal::new([9; 32]));
     drop(cert);
     checked
 }

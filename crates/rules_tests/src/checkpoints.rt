@@ -6,7 +6,7 @@ ghost use Rattle.epoch_turn.specs.Chains.{Chaining, IsBehind};
 
 use checkpoint_core::Checkpoint;
 use digest_core::Digest;
-use effects_core::{Effects, Status};
+use effects_core::{Effects, HashedEffects, Status};
 use epoch_turn::{Chain, Due};
 use std::alloc::Global;
 use std::mem::replace;
@@ -106,8 +106,9 @@ fn executes(alloc: Global, store: &mut Store, number: u8) -> Result<(), OutOfMem
         written: Seq::new(alloc),
         deleted: Seq::new(alloc),
     };
+    let effects = HashedEffects::new(alloc, effects)?;
     let objects = Seq::new(alloc);
-    if store.is_executed(&effects.tx) || !store.are_new(&objects)? {
+    if store.is_executed(&effects.effects().tx) || !store.are_new(&objects)? {
         return Ok(());
     }
     store.write(effects, objects, &Seq::new(alloc))

@@ -5,7 +5,7 @@ use chain_types::{
     Address, Content, Input, Object, ObjectId, ObjectRef, Owner, Transaction, object_digest,
 };
 use digest_core::Digest;
-use effects_core::{Effects, Status};
+use effects_core::{Effects, HashedEffects, Status};
 use lock_table::LockTable;
 use std::alloc::Global;
 use std::process::Abort;
@@ -136,8 +136,8 @@ fn effects(alloc: Global) -> Effects {
 fn spends_gas(alloc: Global, store: &mut Store) -> Result<bool, OutOfMemory> {
     let objects = Seq::from_slice(alloc, [next_gas()].as_slice())?;
     let keys = Seq::from_slice(alloc, [reference(&gas()).key()].as_slice())?;
-    let effects = effects(alloc);
-    if store.is_executed(&effects.tx) || !store.are_new(&objects)? {
+    let effects = HashedEffects::new(alloc, effects(alloc))?;
+    if store.is_executed(&effects.effects().tx) || !store.are_new(&objects)? {
         return Ok(false);
     }
     store.write(effects, objects, &keys)?;

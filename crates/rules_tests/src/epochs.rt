@@ -3,7 +3,7 @@
 use crate::stores::{coin, id, if_taken, key, opened};
 use chain_types::{Object, ObjectId, ObjectKey};
 use digest_core::Digest;
-use effects_core::{Effects, Status};
+use effects_core::{Effects, HashedEffects, Status};
 use std::alloc::Global;
 use std::test::Fail;
 use version_store::Store;
@@ -27,8 +27,9 @@ fn takes(
         written: Seq::new(alloc),
         deleted: Seq::from_slice(alloc, deleted)?,
     };
+    let effects = HashedEffects::new(alloc, effects)?;
     let objects = Seq::from_slice(alloc, objects)?;
-    if store.is_executed(&effects.tx) || !store.are_new(&objects)? {
+    if store.is_executed(&effects.effects().tx) || !store.are_new(&objects)? {
         return Ok(false);
     }
     store.write(effects, objects, &Seq::from_slice(alloc, consumed)?)?;

@@ -5,7 +5,7 @@ ghost use Rattle.version_store.specs.Stores.{are_new};
 
 use chain_types::{Address, Content, Object, ObjectId, ObjectKey, Owner, Producer};
 use digest_core::Digest;
-use effects_core::{Effects, Status};
+use effects_core::{Effects, HashedEffects, Status};
 use std::alloc::Global;
 use std::process::Abort;
 use std::test::Fail;
@@ -75,9 +75,9 @@ fn takes(
     objects: &[Object],
     consumed: &[ObjectKey],
 ) -> Result<bool, OutOfMemory> {
-    let effects = effects(alloc)?;
+    let effects = HashedEffects::new(alloc, effects(alloc)?)?;
     let objects = Seq::from_slice(alloc, objects)?;
-    if store.is_executed(&effects.tx) || !store.are_new(&objects)? {
+    if store.is_executed(&effects.effects().tx) || !store.are_new(&objects)? {
         return Ok(false);
     }
     store.write(effects, objects, &Seq::from_slice(alloc, consumed)?)?;

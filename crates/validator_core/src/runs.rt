@@ -58,10 +58,7 @@ pub(crate) fn ran_items(
 /// The record of a run that executed transactions with these effects, in order: none where it executed none. A list
 /// of 2^31 items counts as want of memory.
 #[tactic(auto, using(crate::proofs::Spelled::ran_short))]
-pub fn ran_record(
-    alloc: Global,
-    effects: &[HashedEffects],
-) -> Result<Option<Record>, OutOfMemory>
+pub fn ran_record(alloc: Global, effects: &[HashedEffects]) -> Result<Option<Record>, OutOfMemory>
     ensures value { IfOk result (λ r. r ≡ ran_record (items_of effects.now)) }
     ensures short { IfOk result (λ r. IfSome r journals.journal_record.short) }
 {

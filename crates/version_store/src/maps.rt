@@ -183,7 +183,12 @@ impl Maps {
     }
 
     /// Adds an execution; there is room.
-    pub(crate) fn add(&mut self, effects: HashedEffects, objects: &[Object], consumed: Seq<ObjectKey>)
+    pub(crate) fn add(
+        &mut self,
+        effects: HashedEffects,
+        objects: &[Object],
+        consumed: Seq<ObjectKey>,
+    )
         requires { HasRoom self.old (length objects.now) (length consumed) (length effects.deleted) }
         ensures { Adds self.old self.new effects objects.now consumed }
     {

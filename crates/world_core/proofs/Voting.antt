@@ -30,40 +30,14 @@ use Rattle.world_lines.specs.declared.certs.Collected.{Collected as Given}
 use Rattle.world_lines.specs.declared.certs.Collected.TheVariants as given
 use Rattle.world_lines.specs.Answers.{collected_as}
 use Rattle.world_lines.specs.Forming.{certificate_by}
+use Rattle.world_lines.specs.FalseVotes.{origins_by}
 use Rattle.world_lines.specs.SaidVotes.{first_vote, flags_of, vote_by}
 use Rattle.world_lines.proofs.SaidWorlds.{first_from}
 use Rattle.scene_spec.specs.Posts.{Post}
 use Rattle.scene_spec.specs.Scene.{Scene, bare_seat, bare_setting, bare_world}
 use Rattle.world_core.specs.Crews.{honest_flags}
 use Rattle.world_core.specs.Sound.{IsSpelled, IsSpelledCert}
-use Rattle.world_core.specs.Votes.{first_origins_by, flag_at, is_whole, origins_by, with_none}
-
--- ---- origins
-
-nones : (origins : List (Option Digest)) (inputs : List Input) → fold with_none origins inputs ≡ origins ++ map (λ (i : Input). let o : Option Digest = None in o) (filter is_object inputs)
-nones origins [] = sym (append-nil origins)
-nones origins (input.Pure bytes ∷ is) = nones origins is
-nones origins (input.Owned r ∷ is) = nones (origins ++ None ∷ []) is ∙ append_assoc origins (None ∷ []) (map (λ (i : Input). let o : Option Digest = None in o) (filter is_object is))
-nones origins (input.Immutable r ∷ is) = nones (origins ++ None ∷ []) is ∙ append_assoc origins (None ∷ []) (map (λ (i : Input). let o : Option Digest = None in o) (filter is_object is))
-nones origins (input.Shared id initial mutable ∷ is) = nones (origins ++ None ∷ []) is ∙ append_assoc origins (None ∷ []) (map (λ (i : Input). let o : Option Digest = None in o) (filter is_object is))
-
-pub all_none : (t : Transaction) → fold with_none (None ∷ []) t.inputs ≡ no_origins t
-all_none t = nones (None ∷ []) t.inputs
-
-pub words_named : (k : Known) (said : List Said) (honest : List Bool) (t : Made) (words : List (Option Name)) (origins : List (Option Digest))
-    → 0 < length words → origins ≡ map (origin_word (world_with k)) words → origins ≡ origins_by k said honest t words
-words_named k said honest t [] origins some is = absurd (omega arith)
-words_named k said honest t (word ∷ words) origins some is = is
-
-pub voted_first : (k : Known) (said : List Said) (honest : List Bool) (t : Made) (words : List (Option Name)) (origins vote : List (Option Digest))
-    → length words ≤ 0 → Some vote ≡ first_vote said t.digest honest → origins ≡ vote → origins ≡ origins_by k said honest t words
-voted_first k said honest t [] origins vote none is o = o ∙ ap (origins_or (no_origins t.signed.tx)) is
-voted_first k said honest t (word ∷ words) origins vote none is o = absurd (omega arith)
-
-pub none_voted : (k : Known) (said : List Said) (honest : List Bool) (t : Made) (words : List (Option Name)) (origins : List (Option Digest))
-    → length words ≤ 0 → None ≡ first_vote said t.digest honest → origins ≡ no_origins t.signed.tx → origins ≡ origins_by k said honest t words
-none_voted k said honest t [] origins none is o = o ∙ ap (origins_or (no_origins t.signed.tx)) is
-none_voted k said honest t (word ∷ words) origins none is o = absurd (omega arith)
+use Rattle.world_core.specs.Votes.{first_origins_by, flag_at, is_whole}
 
 -- ---- a false vote in a scene
 

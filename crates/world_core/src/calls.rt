@@ -10,7 +10,7 @@ ghost use Rattle.protocol_spec.specs.Member.Calls.{holds, runs, votes};
 ghost use Rattle.schedule_text.specs.declared.words.Event.TheVariants as events;
 ghost use Rattle.world_spec.specs.Names.{cert_named, made_named};
 ghost use Rattle.world_spec.specs.Report.{run_answered, run_reached, vote_answered};
-ghost use Rattle.world_spec.specs.World.{checkpoint_statement, ran_statements, said_by, voted_statement};
+ghost use Rattle.world_spec.specs.World.{ran_statements, said_by, voted_statement};
 ghost use Rattle.world_lines.specs.Answers.{vote_as};
 ghost use Rattle.scene_spec.specs.Known.{setting_with, world_with};
 ghost use Rattle.scene_spec.specs.Posts.{posts_behind, reached_in, record_left, stated_in};
@@ -25,9 +25,8 @@ ghost use Rattle.world_core.specs.Trusts.{trust_by};
 use crate::world::{World, one_line};
 use crate::{Reply, SeatFault, Seats};
 use answer_types::{Ran, RunRefusal, VoteRefusal, Voted};
-use chain_messages::{Statement, encode_certificate};
+use chain_messages::encode_certificate;
 use chain_types::encode_signed;
-use checkpoint_core::{Checkpoint, checkpoint_digest};
 use outside::Keeper;
 use quorum_core::Sealer;
 use report_text::{Line, RunText, SendText, VoteText};
@@ -140,46 +139,6 @@ fn run_line(alloc: Global, member: u32, text: RunText) -> Result<Seq<Line>, Seat
     }
 }
 
-/// A member states a checkpoint that it built. One that cannot be spelled counts as want of memory.
-fn say_checkpoint(
-    alloc: Global,
-    said: &mut SaidBook,
-    member: u32,
-    checkpoint: &Checkpoint,
-) -> Result<(), OutOfMemory>
-    ensures { OnOk result (said.new ≡ said.old ++ said_by member (checkpoint_statement checkpoint.now) ∷ []) }
-{
-    if !checkpoint.is_short() {
-        return Err(OutOfMemory);
-    }
-    let digest = checkpoint_digest(alloc, checkpoint)?;
-    said.say(
-        member,
-        Statement::Checkpoint {
-            epoch: checkpoint.epoch,
-            number: checkpoint.number,
-            digest,
-        },
-    )
-}
-
-/// A member states the checkpoints that it built, in order.
-pub(crate) fn say_built(
-    alloc: Global,
-    said: &mut SaidBook,
-    member: u32,
-    built: &[Checkpoint],
-) -> Result<(), OutOfMemory>
-    ensures { OnOk result (said.new ≡ said.old ++ map (said_by member) (map checkpoint_statement built.now)) }
-{
-    let mut rest = built;
-    while let [checkpoint, after @ ..] = rest {
-        say_checkpoint(alloc, said, member, checkpoint)?;
-        rest = after;
-    }
-    Ok(())
-}
-
 /// The lines of a run; its checkpoints are stated.
 fn tell_run(
     directory: &Directory,
@@ -192,7 +151,7 @@ fn tell_run(
 {
     let lines = run_lines(directory, member, answer)?;
     if let Ok(ran) = answer {
-        say_built(directory.allocator(), said, member, ran.built.as_slice())?;
+        said.say_built(member, ran.built.as_slice())?;
     }
     Ok(lines)
 }

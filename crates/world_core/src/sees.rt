@@ -22,7 +22,7 @@ ghost use Rattle.world_spec.specs.Report.{entry_lines};
 ghost use Rattle.world_spec.specs.Step.{entries_left};
 ghost use Rattle.world_spec.specs.World.{built_statements, said_by};
 
-use crate::calls::{say_built, told};
+use crate::calls::told;
 use crate::world::{World, one_line};
 use crate::{Reply, SeatFault, Seats};
 use answer_types::{SeeRefusal, Seen};
@@ -54,7 +54,7 @@ fn tell_entry(
 {
     let goes = add_entry_lines(directory, committee, lines, member, number, answer)?;
     if let Ok(seen) = answer {
-        say_built(directory.allocator(), said, member, seen.built.as_slice())?;
+        said.say_built(member, seen.built.as_slice())?;
     }
     Ok(goes)
 }

@@ -1,118 +1,22 @@
 //! False votes.
 
-ghost use Rattle.std.specs.Prelude.{◌≡◌, ◌∷◌, ◌++◌, [], IfOk, OnOk, fold, map, slice_get};
+ghost use Rattle.std.specs.Prelude.{◌≡◌, ◌∷◌, [], IfOk, OnOk, slice_get};
 ghost use Rattle.report_text.specs.declared.lines.Line.TheVariants as line;
 ghost use Rattle.world_spec.specs.Names.{made_named};
 ghost use Rattle.world_spec.specs.Report.{fvote_lines, origin_names};
-ghost use Rattle.world_spec.specs.Step.{fvoted, no_origins, origin_word};
+ghost use Rattle.world_spec.specs.Step.{fvoted};
 ghost use Rattle.scene_spec.specs.Known.{world_with};
-ghost use Rattle.world_names.specs.Pushed.{each_pushed};
-ghost use Rattle.world_names.specs.Rows.{made_as};
 ghost use Rattle.scene_spec.specs.Scene.{bare_world};
-ghost use Rattle.world_core.specs.Votes.{flag_at, origins_by, with_none};
+ghost use Rattle.world_core.specs.Votes.{flag_at};
 
 use crate::world::{World, one_line};
 use chain_messages::Statement;
-use chain_types::{Input, Transaction};
 use digest_core::Digest;
 use report_text::Line;
 use std::alloc::Global;
 use wire_bcs::{OutOfMemory, Seq};
-use world_lines::{SaidBook, origin_names};
-use world_names::{Directory, MadeTx};
-
-/// Adds an origin, none, for an input that is an object.
-fn add_none(origins: &mut Seq<Option<Digest>>, input: &Input) -> Result<(), OutOfMemory>
-    ensures { OnOk result (origins.new ≡ with_none origins.old input.now) }
-{
-    match input {
-        Input::Pure(_) => Ok(()),
-        Input::Owned(_) | Input::Immutable(_) | Input::Shared { .. } => {
-            origins.push(None)?;
-            Ok(())
-        }
-    }
-}
-
-/// Adds an origin, none, for each input that is an object.
-fn add_nones(origins: &mut Seq<Option<Digest>>, inputs: &[Input]) -> Result<(), OutOfMemory>
-    ensures { OnOk result (origins.new ≡ fold with_none origins.old inputs.now) }
-{
-    for input in inputs {
-        add_none(origins, input)?;
-    }
-    Ok(())
-}
-
-/// No origin for each object of a transaction.
-#[tactic(auto, using(crate::proofs::Voting::all_none))]
-fn no_origins(alloc: Global, tx: &Transaction) -> Result<Seq<Option<Digest>>, OutOfMemory>
-    ensures { IfOk result (λ origins. origins ≡ no_origins tx.now) }
-{
-    let mut origins = Seq::new(alloc);
-    origins.push(None)?;
-    add_nones(&mut origins, tx.inputs.as_slice())?;
-    Ok(origins)
-}
-
-/// The origin that a word names. Takes no memory.
-fn origin_word(directory: &Directory, word: &Option<Seq<u8>>) -> Option<Digest>
-    ensures { result ≡ origin_word (world_with directory.now) word.now }
-{
-    match word {
-        Some(name) => Some(directory.digest_named(name.as_slice())),
-        None => None,
-    }
-}
-
-/// Adds the origins that the words name.
-fn add_words(
-    directory: &Directory,
-    origins: &mut Seq<Option<Digest>>,
-    words: &[Option<Seq<u8>>],
-) -> Result<(), OutOfMemory>
-    ensures { OnOk result (origins.new ≡ each_pushed (origin_word (world_with directory.now)) origins.old words.now) }
-{
-    for word in words {
-        let origin = origin_word(directory, word);
-        origins.push(origin)?;
-    }
-    Ok(())
-}
-
-/// The origins that the words name.
-#[tactic(auto, using(world_names::proofs::Pushed::from_none))]
-fn named_origins(
-    directory: &Directory,
-    words: &[Option<Seq<u8>>],
-) -> Result<Seq<Option<Digest>>, OutOfMemory>
-    ensures { IfOk result (λ origins. origins ≡ map (origin_word (world_with directory.now)) words.now) }
-{
-    let mut origins = Seq::new(directory.allocator());
-    add_words(directory, &mut origins, words)?;
-    Ok(origins)
-}
-
-/// The origins of a false vote: those that are named; where none are, those of the last vote of the first honest
-/// member that has one, else none for each object.
-#[tactic(auto, using(crate::proofs::Voting::words_named, crate::proofs::Voting::voted_first, crate::proofs::Voting::none_voted))]
-fn false_origins(
-    directory: &Directory,
-    said: &SaidBook,
-    honest: &[bool],
-    made: &MadeTx,
-    words: &[Option<Seq<u8>>],
-) -> Result<Seq<Option<Digest>>, OutOfMemory>
-    ensures { IfOk result (λ origins. origins ≡ origins_by directory.now said.now honest.now (made_as made.now) words.now) }
-{
-    if !words.is_empty() {
-        return named_origins(directory, words);
-    }
-    match said.first_vote(honest, &made.digest) {
-        Some(origins) => Seq::from_slice(directory.allocator(), origins.as_slice()),
-        None => no_origins(directory.allocator(), &made.signed.tx),
-    }
-}
+use world_lines::{false_origins, origin_names};
+use world_names::Directory;
 
 /// Whether the member of this number is honest. Takes no memory.
 pub(crate) fn is_honest(honest: &[bool], member: u32) -> bool

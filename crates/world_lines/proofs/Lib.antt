@@ -8,3 +8,4 @@ pub mod Ordering
 pub mod Ending
 pub mod EndTexts
 pub mod KeptEnds
+pub mod Origins

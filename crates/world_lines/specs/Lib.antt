@@ -7,3 +7,4 @@ pub mod Collecting
 pub mod Forming
 pub mod Orders
 pub mod Ends
+pub mod FalseVotes

@@ -9,8 +9,8 @@ ghost use Rattle.world_names.specs.Pushed.{each_pushed};
 
 use crate::words::{tx_text, version_text};
 use answer_types::{Left, Ran, RunRefusal};
-use checkpoint_core::{Checkpoint, Item};
-use effects_core::{Effects, Status};
+use checkpoint_core::{Checkpoint, HashedCheckpoint, Item};
+use effects_core::{Effects, HashedEffects, Status};
 use report_text::{Line, RunText};
 use wire_bcs::{OutOfMemory, Seq};
 use world_names::Directory;
@@ -93,12 +93,12 @@ pub fn checkpoint_line(directory: &Directory, checkpoint: &Checkpoint) -> Result
 fn add_effects(
     directory: &Directory,
     lines: &mut Seq<Line>,
-    executed: &[Effects],
+    executed: &[HashedEffects],
 ) -> Result<(), OutOfMemory>
     ensures { OnOk result (lines.new ≡ each_pushed (effects_line (world_with directory.now)) lines.old executed.now) }
 {
     for effects in executed {
-        let line = effects_line(directory, effects)?;
+        let line = effects_line(directory, effects.effects())?;
         lines.push(line)?;
     }
     Ok(())
@@ -119,12 +119,12 @@ fn add_left(directory: &Directory, lines: &mut Seq<Line>, left: &[Left]) -> Resu
 pub(crate) fn add_checkpoints(
     directory: &Directory,
     lines: &mut Seq<Line>,
-    built: &[Checkpoint],
+    built: &[HashedCheckpoint],
 ) -> Result<(), OutOfMemory>
     ensures { OnOk result (lines.new ≡ each_pushed (checkpoint_line (world_with directory.now)) lines.old built.now) }
 {
     for checkpoint in built {
-        let line = checkpoint_line(directory, checkpoint)?;
+        let line = checkpoint_line(directory, checkpoint.checkpoint())?;
         lines.push(line)?;
     }
     Ok(())

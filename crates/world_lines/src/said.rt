@@ -1,14 +1,15 @@
 //! The book of statements.
 
-ghost use Rattle.std.specs.Prelude.{◌≡◌, ◌<◌, ◌++◌, ◌∷◌, [], OnErr, OnOk, option_and_then, option_copied, option_map, slice_get};
+ghost use Rattle.std.specs.Prelude.{◌≡◌, ◌<◌, ◌++◌, ◌∷◌, [], OnErr, OnOk, map, option_and_then, option_copied, option_map, slice_get};
 ghost use Rattle.std.specs.Vec.{vec_capacity, vec_len};
-ghost use Rattle.world_spec.specs.World.{said_by};
+ghost use Rattle.world_spec.specs.World.{checkpoint_statement, said_by};
 ghost use Rattle.world_spec.specs.Step.{ack_in, end_in, last_said};
 ghost use Rattle.world_lines.specs.Rows.{effects_in, origins_in, row_effects, row_end, row_origins, row_statement};
 ghost use Rattle.world_lines.specs.SaidVotes.{first_vote, vote_by, vote_if};
 
 use crate::stated::LastPlaces;
 use chain_messages::Statement;
+use checkpoint_core::HashedCheckpoint;
 use digest_core::Digest;
 use std::alloc::Global;
 use std::marker::Model;
@@ -136,6 +137,31 @@ impl SaidBook {
         let place = self.rows.as_slice().len();
         self.places.note(member, &statement, place)?;
         push_in_room(&mut self.rows, SaidRow { member, statement });
+        Ok(())
+    }
+
+    /// A member states a checkpoint that it built.
+    fn say_checkpoint(&mut self, member: u32, built: &HashedCheckpoint) -> Result<(), OutOfMemory>
+        ensures { OnOk result (self.new ≡ self.old ++ said_by member (checkpoint_statement built.now) ∷ []) }
+    {
+        let checkpoint = built.checkpoint();
+        let statement = Statement::Checkpoint {
+            epoch: checkpoint.epoch,
+            number: checkpoint.number,
+            digest: built.digest(),
+        };
+        self.say(member, statement)
+    }
+
+    /// A member states the checkpoints that it built, in order.
+    pub fn say_built(&mut self, member: u32, built: &[HashedCheckpoint]) -> Result<(), OutOfMemory>
+        ensures { OnOk result (self.new ≡ self.old ++ map (said_by member) (map checkpoint_statement built.now)) }
+    {
+        let mut rest = built;
+        while let [checkpoint, after @ ..] = rest {
+            self.say_checkpoint(member, checkpoint)?;
+            rest = after;
+        }
         Ok(())
     }
 

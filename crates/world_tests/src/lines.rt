@@ -6,9 +6,9 @@ use answer_types::{
     SeenWhat, TurnRefusal, VoteRefusal,
 };
 use chain_types::{CertRefusal, Content, Object, ObjectId, ObjectKey, Owner};
-use checkpoint_core::{Checkpoint, Item};
+use checkpoint_core::{Checkpoint, HashedCheckpoint, Item};
 use digest_core::{Digest, genesis_id};
-use effects_core::{Effects, Status};
+use effects_core::{Effects, HashedEffects, Status};
 use quorum_core::Committee;
 use report_text::{AckText, EndText, Line, VoteText, print_line};
 use std::alloc::Global;
@@ -56,9 +56,9 @@ fn printed(alloc: Global, lines: &Seq<Line>) -> Result<Seq<u8>, OutOfMemory> {
 }
 
 /// What was executed: one transaction, which was aborted.
-fn executed(alloc: Global) -> Result<Seq<Effects>, OutOfMemory> {
+fn executed(alloc: Global) -> Result<Seq<HashedEffects>, OutOfMemory> {
     let mut executed = Seq::new(alloc);
-    executed.push(Effects {
+    let effects = Effects {
         tx: Digest([9; 32]),
         status: Status::Aborted {
             command: 1,
@@ -69,24 +69,26 @@ fn executed(alloc: Global) -> Result<Seq<Effects>, OutOfMemory> {
         created: 0,
         written: Seq::new(alloc),
         deleted: Seq::new(alloc),
-    })?;
+    };
+    executed.push(HashedEffects::new(alloc, effects)?)?;
     Ok(executed)
 }
 
 /// What was built: one checkpoint, the last.
-fn built(alloc: Global) -> Result<Seq<Checkpoint>, OutOfMemory> {
+fn built(alloc: Global) -> Result<Seq<HashedCheckpoint>, OutOfMemory> {
     let items = [Item {
         tx: Digest([9; 32]),
         effects: Digest([7; 32]),
     }];
     let mut built = Seq::new(alloc);
-    built.push(Checkpoint {
+    let checkpoint = Checkpoint {
         epoch: 0,
         number: 3,
         parent: Digest([0; 32]),
         items: Seq::from_slice(alloc, items.as_slice())?,
         last: true,
-    })?;
+    };
+    built.push(HashedCheckpoint::new(alloc, checkpoint)?)?;
     Ok(built)
 }
 

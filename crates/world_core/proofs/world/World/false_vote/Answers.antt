@@ -5,7 +5,7 @@ use Rattle.world_spec.specs.Report.{origin_names}
 use Rattle.scene_spec.specs.Known.{world_with}
 use Rattle.world_names.specs.Rows.{made_as}
 use Rattle.scene_spec.specs.Scene.{Scene}
-use Rattle.world_core.specs.Votes.{origins_by}
+use Rattle.world_lines.specs.FalseVotes.{origins_by}
 use Rattle.world_core.proofs.Voting.{false_lines}
 use Rattle.world_core.proofs.world.World.false_vote.Goals as goal
 
