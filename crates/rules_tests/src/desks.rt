@@ -16,7 +16,7 @@ use answer_types::{Held, Left};
 use chain_messages::Certificate;
 use chain_types::{Object, Transaction, object_count, tx_digest};
 use digest_core::Digest;
-use effects_core::Effects;
+use effects_core::HashedEffects;
 use exec_plan::Waiting;
 use std::alloc::Global;
 use tx_check::check_shape;
@@ -211,7 +211,7 @@ impl Desk {
     }
 
     /// A run: the effects of what it executed, in order. That a transaction is held twice counts as want of memory.
-    pub(crate) fn run(&mut self) -> Result<Seq<Effects>, OutOfMemory>
+    pub(crate) fn run(&mut self) -> Result<Seq<HashedEffects>, OutOfMemory>
         requires sound { Each IsSound self.old.held }
         requires waits { IsWaiting self.old.store self.old.admission.admission self.old.held self.old.waiting }
         ensures sound { OnOk result (Each IsSound self.new.held) }

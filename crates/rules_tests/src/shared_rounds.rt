@@ -14,7 +14,7 @@ use chain_types::{
     object_digest,
 };
 use digest_core::Digest;
-use effects_core::{Effects, Status};
+use effects_core::{Effects, HashedEffects, Status};
 use std::alloc::Global;
 use std::test::Fail;
 use wire_bcs::{OutOfMemory, Seq};
@@ -170,11 +170,11 @@ fn digits(effects: &Effects) -> u64 {
 }
 
 /// The digits of executed transactions, in order.
-fn all_digits(effects: &[Effects]) -> u64 {
+fn all_digits(effects: &[HashedEffects]) -> u64 {
     let mut all = 0u64;
     let mut rest = effects;
     while let [one, after @ ..] = rest {
-        all = all.wrapping_mul(1000).wrapping_add(digits(one));
+        all = all.wrapping_mul(1000).wrapping_add(digits(one.effects()));
         rest = after;
     }
     all
