@@ -90,7 +90,7 @@ fn ask_see<D: Keeper, S: Sealer>(
 #[derive(Clone, Copy)]
 pub(crate) struct CloseRequest;
 
-#[tactic(auto, using(validator_core::proofs::Running::close_answer_alike, validator_core::proofs::Running::close_due_alike, validator_core::proofs::Running::close_called_alike))]
+#[tactic(auto, using(scene_spec::proofs::RulesAside::close_answer_alike, scene_spec::proofs::RulesAside::close_due_alike, scene_spec::proofs::RulesAside::close_called_alike))]
 impl Asks for CloseRequest {
     type Answer = Result<bool, CloseRefusal>;
 
@@ -146,7 +146,7 @@ fn ask_close<D: Keeper>(
 #[derive(Clone, Copy)]
 pub(crate) struct TurnRequest;
 
-#[tactic(auto, using(validator_core::proofs::Turned::turn_answer_alike, validator_core::proofs::Turned::turn_due_alike, validator_core::proofs::Turned::turn_called_alike))]
+#[tactic(auto, using(scene_spec::proofs::RulesAside::turn_answer_alike, scene_spec::proofs::RulesAside::turn_due_alike, scene_spec::proofs::RulesAside::turn_called_alike))]
 impl Asks for TurnRequest {
     type Answer = Result<Seq<Digest>, TurnRefusal>;
 

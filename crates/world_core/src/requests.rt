@@ -198,7 +198,7 @@ pub(crate) struct RunRequest {
     ghost some: { (0 < workers) × (workers ≤ 16) },
 }
 
-#[tactic(auto, using(validator_core::proofs::Running::run_answer_alike, validator_core::proofs::Running::run_due_alike, validator_core::proofs::Running::run_called_alike))]
+#[tactic(auto, using(scene_spec::proofs::RulesAside::run_answer_alike, scene_spec::proofs::RulesAside::run_due_alike, scene_spec::proofs::RulesAside::run_called_alike))]
 impl Asks for RunRequest {
     type Answer = Result<Ran, RunRefusal>;
 
