@@ -158,4 +158,4 @@ def program_for(words):
     return Program([at]) if at else None
 
 
-NO_PROGRAM = "there is no proved program of these sources: ./prove builds it (about a quarter of an hour), --unproved takes the unproved build"
+NO_PROGRAM = "there is no proved program of these sources: ./prove builds it (an hour or two), --unproved takes the unproved build"

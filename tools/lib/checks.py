@@ -1,0 +1,52 @@
+"""What rattle is told of a crate that is checked over libraries which were built before: for tools/beside and tools/tower."""
+
+import os
+import re
+import shutil
+
+KIT = os.path.dirname(os.path.dirname(os.path.realpath(shutil.which("rt"))))
+RATTLE = f"{KIT}/bin/rattle"
+KEPT = ["--incremental", "out/beside/kept"]
+
+
+def below(uses, name, found=None):
+    """The repository's crates that a crate reaches."""
+    found = {} if found is None else found
+    for use in uses.get(name, []):
+        if use in uses and use not in found:
+            found[use] = None
+            below(uses, use, found)
+    return list(found)
+
+
+def sources(top, name, tests=False):
+    """The texts of a crate that its library is made of, by their path in it; with its tests where they are asked for."""
+    folder, found = f"{top}/crates/{name}", {}
+    for part in ("src", "specs", "proofs"):
+        for at, _, files in os.walk(f"{folder}/{part}"):
+            for file in files:
+                path = os.path.relpath(f"{at}/{file}", folder)
+                if not tests and "tests" in path:
+                    continue
+                with open(f"{at}/{file}", encoding="utf-8") as it:
+                    text = it.read()
+                found[path] = text if tests else re.sub(r"(?m)^#\[cfg\(test\)\]\n.*\n", "", text).rstrip()
+    return found
+
+
+def is_program(top, name):
+    return os.path.exists(f"{top}/crates/{name}/src/main.rt")
+
+
+def words(top, uses, name, libraries, links, jobs=1):
+    """What rattle is told of the crate and of what it stands on. `links` names the crates of which it is said that they link nothing."""
+    root = f"src/{'main' if is_program(top, name) else 'lib'}.rt"
+    told = ["--crate-name", name, root, "--extern", f"std={KIT}/rlibs/std.rlib", "-L", f"dependency={KIT}/rlibs"]
+    for use in uses[name]:
+        told += ["--extern", f"{use}={libraries.get(use, f'{KIT}/rlibs/{use}.rlib')}"]
+    for folder in dict.fromkeys(os.path.dirname(it) for it in libraries.values()):
+        told += ["-L", f"dependency={folder}"]
+    told += ["--antt-project", f"{KIT}/rattle/logic/antt-project.json", "--logic-built", f"{KIT}/logic_built", "--jobs", str(jobs)]
+    for it in links:
+        told += ["--links", f"{it}="]
+    return told
