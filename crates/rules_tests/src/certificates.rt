@@ -31,7 +31,7 @@ fn reference(number: u8, version: u64) -> ObjectRef {
 }
 
 /// A transaction of epoch 7 with two objects; 1100 is its cost.
-#[tactic(auto, unfolding(chain_types::specs::Transactions::transaction, chain_types::specs::Transactions::input, chain_types::specs::Transactions::command))]
+#[tactic(auto, using(crate::proofs::Shorts::one_of_each))]
 fn transaction(alloc: Global, budget: u64) -> Result<Transaction, OutOfMemory>
     ensures { IfOk result transaction.short }
 {
