@@ -25,6 +25,7 @@ pub(crate) struct Found {
 }
 
 /// Whether a certificate is valid. The limit of writers plays no part.
+#[tactic(auto, unfolding(chain_messages::specs::Messages::certificate))]
 fn is_valid<S: Sealer>(
     alloc: Global,
     committee: &Committee,
