@@ -76,6 +76,7 @@ fn sum_up(world: &World) -> Result<Sums, OutOfMemory>
 }
 
 /// Runs the generator's schedule of so many transactions, and sums up its member 0.
+#[tactic(auto, using(crate::proofs::Made::has_sums, crate::proofs::Made::summed, crate::proofs::Made::kept_whole))]
 fn sums_of_made<R: Threads + Sync, D: Keeper>(
     rt: &R,
     alloc: Global,
@@ -91,10 +92,14 @@ fn sums_of_made<R: Threads + Sync, D: Keeper>(
     ensures keep_fault { IsErrOf result unmade.KeepFault → Rose (D.failed keeper.old) (D.failed keeper.new) }
 {
     match made_world(rt, alloc, number, keeper) {
-        Ok(world) => match sum_up(&world) {
-            Ok(sums) => Ok(sums),
-            Err(OutOfMemory) => Err(Unmade::OutOfMemory),
-        },
+        Ok(world) => {
+            let summed = sum_up(&world);
+            drop(world);
+            match summed {
+                Ok(sums) => Ok(sums),
+                Err(OutOfMemory) => Err(Unmade::OutOfMemory),
+            }
+        }
         Err(why) => Err(why),
     }
 }

@@ -103,7 +103,10 @@ pub(crate) fn run_schedule<R: Threads + Sync, S: MakesSeals, K: Sink, D: Keeper>
     match open_world(alloc, schedule, sealer) {
         Ok(mut world) => match run_events(rt, alloc, &mut world, schedule, sealer, sink, keeper) {
             Ok(()) => Ok(world),
-            Err(stop) => Err(stop),
+            Err(stop) => {
+                drop(world);
+                Err(stop)
+            }
         },
         Err(OutOfMemory) => Err(Stop::OutOfMemory),
     }
