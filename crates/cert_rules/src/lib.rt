@@ -14,4 +14,4 @@ mod votes;
 
 pub use chain_types::CertRefusal;
 pub use check::check_cert;
-pub use votes::{CollectRefusal, collect};
+pub use votes::{CollectRefusal, collect, same_origins};

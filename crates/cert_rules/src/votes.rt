@@ -43,8 +43,8 @@ fn voted_origins(statement: &Statement) -> &[Option<Digest>]
     }
 }
 
-/// Whether two votes name the same origins.
-fn same_origins(a: &[Option<Digest>], b: &[Option<Digest>]) -> bool
+/// Whether two votes, or two certificates, name the same origins. Takes no memory.
+pub fn same_origins(a: &[Option<Digest>], b: &[Option<Digest>]) -> bool
     ensures { result ≡ origins_eq a.now b.now }
 {
     a == b

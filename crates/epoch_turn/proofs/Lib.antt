@@ -6,3 +6,4 @@ pub mod Growing
 mod Marking
 pub mod Staying
 pub mod Told
+pub mod Renewing

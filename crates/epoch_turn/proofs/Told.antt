@@ -1,6 +1,6 @@
 -- A chain's checkpoints are those of the definitions.
-use Rattle.std.proofs.Common.{◌≡◌, ◌∙◌, refl, sym, ap, arith, ℕ, zero, suc, ◌+◌, ◌<◌, ◌≤◌, Bool, true, false, not, cond, ◌&&◌, List, [], ◌∷◌, ◌++◌, length, take, drop, length-drop, option_map, take_all}
-use Rattle.std.specs.Prelude.{Option, Some, None, map, slice_get}
+use Rattle.std.proofs.Common.{◌≡◌, ◌∙◌, refl, sym, ap, arith, ℕ, zero, suc, ◌+◌, ◌<◌, ◌≤◌, Bool, true, false, not, cond, ◌&&◌, List, [], ◌∷◌, ◌++◌, length, take, drop, length-drop, option_map, take_all, add-one}
+use Rattle.std.specs.Prelude.{Option, Some, None, OnOk, Result, Ok, Err, map, slice_get}
 use Rattle.std.specs.List.{list_all}
 use Rattle.std.proofs.lemmas.List.{drop-append-le, drop-map, length-map, map-append, take-append-le, take-map}
 use Rattle.digest_core.specs.declared.Digest.{Digest}
@@ -16,7 +16,7 @@ use Rattle.chain_types.specs.Equal.{digest_eq}
 use Rattle.epoch_turn.specs.declared.due.Due.{Due}
 use Rattle.epoch_turn.specs.declared.due.CutMark.{CutMark}
 use Rattle.epoch_turn.specs.Dues.{cuts_of, due_item, due_of, front_length, is_due_done, size_of}
-use Rattle.epoch_turn.specs.Chains.{AddsCuts, AreCut, AreHeld, BuildsAll, Chaining, FindsFirst, KeepsCuts, advanced, cut_of_chain, cuts_with, due_chain, due_checkpoint, tx_of, uncut, waiting_one, with_cut, with_due}
+use Rattle.epoch_turn.specs.Chains.{AddsCuts, AreCut, AreHeld, BuildsAll, Chaining, FindsFirst, IsTold, KeepsCuts, StaysBehind, advanced, cut_of_chain, cuts_with, due_chain, due_checkpoint, tx_of, uncut, waiting_one, with_cut, with_due}
 use Rattle.epoch_turn.proofs.Fronts.{found_stays}
 use Rattle.epoch_turn.proofs.Growing.{drop_more, take_nothing}
 
@@ -155,3 +155,22 @@ digests_cut held admitted (m ∷ ms) =
 
 pub are_cut : (c : Chaining) → AreCut c (cut_of_chain c)
 are_cut c held admitted told = ap (λ (ds : List Due). map tx_of (take (size_of c.marks) ds)) told ∙ digests_cut held admitted c.marks
+
+-- ---- what a chain is told, one admitted transaction after the other
+
+told_push : (held : List Held) (admitted : List Admitted) (place : ℕ) (d : Due) → Some d ≡ option_map (due_of held) (slice_get admitted place) → map (due_of held) (take place admitted) ++ d ∷ [] ≡ map (due_of held) (take (suc place) admitted)
+told_push held [] place d is = absurd (cc)
+told_push held (a ∷ rest) zero d is = let same : d ≡ due_of held a = cc in ap (λ (x : Due). x ∷ []) same
+told_push held (a ∷ rest) (suc place) d is = ap (λ (ds : List Due). due_of held a ∷ ds) (told_push held rest place d is)
+
+pub told_next : {E : Type 0} (result : Result (Unit {0}) E) (held : List Held) (admitted : List Admitted) (place : ℕ) (old new : Chaining) (d : Due) → IsTold held (take place admitted) old → Some d ≡ option_map (due_of held) (slice_get admitted place)
+    → OnOk result (new ≡ with_due old d) → OnOk result (IsTold held (take (place + 1) admitted) new)
+told_next (Ok done) held admitted place old new d told is step =
+    ap (λ (c : Chaining). c.due) step
+    ∙ ap (λ (ds : List Due). ds ++ d ∷ []) told
+    ∙ told_push held admitted place d is
+    ∙ ap (λ (n : ℕ). map (due_of held) (take n admitted)) (sym (add-one place))
+told_next (Err e) held admitted place old new d told is step = tt
+
+pub behind_then : (a b c : Chaining) → StaysBehind a b → StaysBehind b c → StaysBehind a c
+behind_then a b c first then epoch executed is = then epoch executed (first epoch executed is)

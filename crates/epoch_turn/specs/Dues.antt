@@ -1,9 +1,11 @@
 -- What a chain looks at of admitted transactions and of their cuts. Source: Sui Lutris.
-use Rattle.std.specs.Prelude.{ℕ, suc, ◌+◌, Bool, ◌&&◌, List, [], ◌∷◌, take, drop, if◌then◌else◌}
+use Rattle.std.specs.Prelude.{ℕ, suc, ◌+◌, Bool, not, ◌&&◌, Option, List, [], ◌∷◌, take, drop, if◌then◌else◌}
+use Rattle.digest_core.specs.declared.Digest.{Digest}
 use Rattle.checkpoint_core.specs.declared.checkpoints.Item.{Item}
 use Rattle.answer_types.specs.declared.answers.Held.{Held}
 use Rattle.protocol_spec.specs.Member.Versions.{Execution, execution_of, is_executed}
-use Rattle.protocol_spec.specs.Member.Admission.{Admitted}
+use Rattle.protocol_spec.specs.Chain.Words.{where_true}
+use Rattle.protocol_spec.specs.Member.Admission.{Admission, Admitted, is_known}
 use Rattle.protocol_spec.specs.Member.Sequence.{Cut}
 use Rattle.protocol_spec.specs.Member.Checkpoints.{held_of, names_same_origins, effects_digest_of}
 use Rattle.epoch_turn.specs.declared.due.Due.{Due}
@@ -34,3 +36,11 @@ cuts_of admitted (m ∷ ms) = record { txs = take m.size admitted; last = m.last
 abbrev pub size_of : List CutMark → ℕ
 size_of [] = 0
 size_of (m ∷ ms) = m.size + size_of ms
+
+-- a held certificate whose transaction is in the sequence
+abbrev pub is_ordered : Admission → Held → Bool
+is_ordered a h = is_known a h.digest
+
+-- the transaction of one that is not
+abbrev pub unordered : Admission → Held → Option Digest
+unordered a h = where_true (not (is_ordered a h)) h.digest

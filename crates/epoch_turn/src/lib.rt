@@ -3,7 +3,8 @@
 //! An [`EndCount`] tells when the members that said End are a quorum. A [`Chain`] is told what was admitted and where
 //! it was cut, and each [`Chain::advance`] builds the checkpoints of those cuts whose transactions are all done by
 //! then: at constant work for each transaction, since what is done stays done. Its numbers and parents go on over the
-//! epochs.
+//! epochs. [`tell`] tells it what an admission has let in, [`first_unordered`] finds what keeps a member from saying that
+//! its epoch is to end, and [`revert_uncut`] and [`renew`] open the next one.
 #![tactic(auto)]
 
 mod chain;
@@ -11,9 +12,15 @@ mod due;
 mod ends;
 mod growth;
 mod laws;
+mod opening;
+mod ordered;
 mod rows;
+mod telling;
 
 pub use chain::Chain;
 pub use due::{CutMark, Due};
 pub use ends::{Counted, EndCount};
 pub use laws::what_is_built_stays;
+pub use opening::{renew, revert_uncut};
+pub use ordered::{first_unordered, ordered_on};
+pub use telling::tell;

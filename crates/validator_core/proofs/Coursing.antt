@@ -21,7 +21,8 @@ use Rattle.version_store.proofs.Openings.{single_apart}
 use Rattle.scene_spec.specs.Starts.{AreApart}
 use Rattle.version_store.specs.Stores.{Stored}
 use Rattle.validator_core.specs.declared.course.Course.{Course}
-use Rattle.validator_core.specs.Courses.{AreHeld, HasOpening, IsAdmitting, IsHeldIn, IsSound, IsUnbuilt, Opens, WaitsIn, built_in, coursed}
+use Rattle.epoch_turn.specs.Openings.{Opens}
+use Rattle.validator_core.specs.Courses.{AreHeld, HasOpening, IsAdmitting, IsHeldIn, IsSound, IsUnbuilt, WaitsIn, built_in, coursed}
 
 -- all that is built is what the definitions build
 pub built_is : (c : Course) → IsSound c → c.chain.built ≡ built_in (coursed c)

@@ -1,4 +1,4 @@
--- Held certificates whose transactions are in the sequence: how many at the front, and the first that is not.
+-- Held certificates whose transactions are in the sequence: how many at the front, behind each step.
 use Rattle.std.proofs.Common.{◌≡◌, ◌∙◌, refl, arith, ap, sym, subst, ℕ, zero, suc, ◌+◌, ◌≤◌, Bool, true, false, cond, not, ◌||◌, List, [], ◌∷◌, ◌++◌, filter, length, drop, inl, inr}
 use Rattle.std.specs.Prelude.{◌⊎◌, Option, Some, None, find, is_some, option_map, slice_get}
 use Rattle.std.specs.List.{list_any}
@@ -10,17 +10,14 @@ use Rattle.protocol_spec.proofs.Equality.{digest_same, digest_self}
 use Rattle.protocol_spec.proofs.ListLemmas.{any_front}
 use Rattle.protocol_spec.proofs.Truth.{or_right, or_left, or_true}
 use Rattle.protocol_spec.specs.Chain.Committee.{is_quorum, weight}
-use Rattle.protocol_spec.specs.Chain.Words.{first_of, first_some, where_true}
 use Rattle.protocol_spec.specs.Member.Admission.{Admission, Admitted, admit, entered, is_admitted, is_dropped, is_free, is_known, not_of, passed_mark, take_free, taken, taken_as, taken_next}
 use Rattle.protocol_spec.specs.Member.Checkpoints.{held_of}
 use Rattle.protocol_spec.specs.Member.Sequence.{counted_as}
-use Rattle.epoch_turn.specs.Dues.{front_length}
-use Rattle.epoch_turn.proofs.Fronts.{front_behind, front_most}
+use Rattle.epoch_turn.specs.Dues.{front_length, is_ordered}
 use Rattle.validator_core.specs.declared.entries.Arrival.{Arrival}
 use Rattle.validator_core.specs.declared.entries.Arrival.TheVariants as arrivals
 use Rattle.validator_core.specs.Courses.{Coursed, arrives, numbered_in, ran, with_held}
-use Rattle.validator_core.specs.Sound.{is_ordered, ordered_front, unordered}
-use Rattle.version_assign.proofs.Freeing.{alone}
+use Rattle.validator_core.specs.Sound.{ordered_front}
 
 -- ---- fronts of lists
 
@@ -40,20 +37,6 @@ front_more p q (x ∷ xs) to = by (p x) (q x) (to x) (front_more p q xs to)
     by true true h fewer = omega (arith, fewer)
     by true false h fewer = absurd (let e = h refl in cc)
     by false c h fewer = omega arith
-
--- the first that does not pass stands behind the front
-pub first_behind : {A B : Type 0} (test : A → Bool) (of : A → B) (xs : List A) → option_map of (slice_get xs (front_length test xs)) ≡ first_of (λ x. where_true (not (test x)) (of x)) xs
-first_behind test of [] = refl
-first_behind {A} {B} test of (x ∷ xs) = by (test x) (first_behind test of xs)
-  where
-    by : (b : Bool) → option_map of (slice_get xs (front_length test xs)) ≡ first_of (λ y. where_true (not (test y)) (of y)) xs
-        → option_map of (slice_get (x ∷ xs) (cond b (suc (front_length test xs)) 0)) ≡ first_some (where_true (not b) (of x) ∷ first_of (λ y. where_true (not (test y)) (of y)) xs ∷ [])
-    by true rest = rest ∙ alone (first_of (λ y. where_true (not (test y)) (of y)) xs)
-      where
-        alone : (o : Option B) → o ≡ first_some (o ∷ [])
-        alone None = refl
-        alone (Some y) = refl
-    by false rest = refl
 
 -- ---- what is in the sequence stays there
 
@@ -185,29 +168,3 @@ ordered_behind stakes n cs arrival new front is = subst (λ (x : Coursed). n ≤
 
 pub ordered_ran : (n : ℕ) (cs new : Coursed) → n ≤ ordered_front cs → new ≡ ran cs → n ≤ ordered_front new
 ordered_ran n cs new front is = subst (λ (x : Coursed). n ≤ ordered_front x) (sym is) front
-
--- so many more are found behind it
-pub further : (n more : ℕ) (cs : Coursed) → n ≤ ordered_front cs → more ≡ front_length (is_ordered cs.sequence.admission) (drop n cs.held) → n + more ≤ ordered_front cs
-further n more cs front is = let all = front_behind (is_ordered cs.sequence.admission) n cs.held front in omega (arith, is, all)
-
-pub ordered_within : (n : ℕ) (cs : Coursed) → n ≤ ordered_front cs → n ≤ length cs.held
-ordered_within n cs front = let most = front_most (is_ordered cs.sequence.admission) cs.held in omega (arith, front, most)
-
--- ---- the first that is not in the sequence
-
-first_dropped : (a : Admission) (n : ℕ) (held : List Held) → n ≤ front_length (is_ordered a) held → first_of (unordered a) (drop n held) ≡ first_of (unordered a) held
-first_dropped a zero held few = refl
-first_dropped a (suc n) [] few = absurd (omega (arith, few))
-first_dropped a (suc n) (h ∷ hs) few = by (is_ordered a h) few (first_dropped a n hs)
-  where
-    by : (b : Bool) → suc n ≤ cond b (suc (front_length (is_ordered a) hs)) 0 → (n ≤ front_length (is_ordered a) hs → first_of (unordered a) (drop n hs) ≡ first_of (unordered a) hs)
-        → first_of (unordered a) (drop n hs) ≡ first_some (where_true (not b) h.digest ∷ first_of (unordered a) hs ∷ [])
-    by true e more = more (omega (arith, e)) ∙ sym (alone (first_of (unordered a) hs))
-    by false e more = absurd (omega (arith, e))
-
-pub found_first : (n count : ℕ) (cs : Coursed) → n ≤ ordered_front cs → count ≡ front_length (is_ordered cs.sequence.admission) (drop n cs.held)
-    → option_map (λ (h : Held). h.digest) (slice_get (drop n cs.held) count) ≡ first_of (unordered cs.sequence.admission) cs.held
-found_first n count cs front is =
-    ap (λ k. option_map (λ (h : Held). h.digest) (slice_get (drop n cs.held) k)) is
-    ∙ first_behind (is_ordered cs.sequence.admission) (λ (h : Held). h.digest) (drop n cs.held)
-    ∙ first_dropped cs.sequence.admission n cs.held front

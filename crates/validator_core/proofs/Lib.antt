@@ -2,7 +2,6 @@ pub mod Cases
 pub mod Entering
 pub mod Coursing
 pub mod Bringing
-pub mod Told
 pub mod Opening
 pub mod Refusing
 pub mod Seeing

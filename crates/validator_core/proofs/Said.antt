@@ -23,7 +23,7 @@ use Rattle.scene_spec.proofs.RulesAside.{ack_answer_alike, end_answer_alike}
 use Rattle.scene_spec.specs.Seats.{Seat, behind, due_at, rules_of_seat}
 use Rattle.validator_core.specs.Answers.{bare}
 use Rattle.validator_core.specs.Calls.{Acks, Ends, ack_said, end_said}
-use Rattle.validator_core.specs.Sound.{is_ordered, unordered}
+use Rattle.epoch_turn.specs.Dues.{is_ordered, unordered}
 use Rattle.validator_core.proofs.Refusing.{free, none_stops, stop, stopped_by}
 use Rattle.validator_core.proofs.Settling.{Signing}
 use Rattle.world_spec.specs.Step.{effects_digest_at, executed_digest}

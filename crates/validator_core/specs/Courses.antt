@@ -14,10 +14,10 @@ use Rattle.protocol_spec.specs.Member.Rounds.{rounds}
 use Rattle.protocol_spec.specs.Member.Versions.{Execution, live_list}
 use Rattle.epoch_turn.specs.Chains.{BuildsAll, IsAhead, IsBehind, IsTold}
 use Rattle.epoch_turn.specs.Dues.{cuts_of, size_of}
+use Rattle.epoch_turn.specs.Openings.{Opens}
 use Rattle.exec_plan.specs.Books.{IsSound as IsSoundHeld}
 use Rattle.exec_plan.specs.Waits.{IsWaiting, StoodBefore}
-use Rattle.version_assign.specs.Sharing.{HasShared, KeepsShared}
-use Rattle.version_store.specs.Changed.{IsSingle}
+use Rattle.version_assign.specs.Sharing.{HasShared}
 use Rattle.validator_core.specs.declared.course.Course.{Course}
 use Rattle.validator_core.specs.declared.entries.Arrival.{Arrival}
 use Rattle.validator_core.specs.declared.entries.Arrival.TheVariants as arrival
@@ -77,10 +77,6 @@ WaitsIn held h = is_some (held_of held h.digest) ≡ true
 pub record AreHeld (held : List Held) (a : Admission) : Type 0 where
   pub admitted : Each (IsHeldIn held) a.admitted
   pub pending : Each (WaitsIn held) a.pending
-
--- the admission has the shared objects with which the epoch opened, one of each id
-abbrev pub Opens : List Object → List Object → Type 0
-Opens kept opening = KeepsShared kept opening × IsSingle opening
 
 abbrev pub HasOpening : Course → Type 0
 HasOpening c = Opens c.admission.opening c.store.opening

@@ -9,5 +9,4 @@ pub mod Seats
 pub mod Calls
 pub mod Taking
 pub mod Starts
-pub mod Renewals
 pub mod Opened

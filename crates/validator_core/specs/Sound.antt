@@ -1,12 +1,9 @@
 -- What a state is seen as, and what it relies on.
-use Rattle.std.specs.Prelude.{ℕ, ◌≤◌, Bool, not, List, Option, length}
-use Rattle.digest_core.specs.declared.Digest.{Digest}
-use Rattle.answer_types.specs.declared.answers.Held.{Held}
-use Rattle.protocol_spec.specs.Chain.Words.{Each, where_true}
-use Rattle.protocol_spec.specs.Member.Admission.{Admission, is_known}
+use Rattle.std.specs.Prelude.{ℕ, ◌≤◌, Bool, List, length}
+use Rattle.protocol_spec.specs.Chain.Words.{Each}
 use Rattle.protocol_spec.specs.Member.Member.{Member}
 use Rattle.protocol_spec.specs.Member.Votes.{Cast}
-use Rattle.epoch_turn.specs.Dues.{front_length}
+use Rattle.epoch_turn.specs.Dues.{front_length, is_ordered}
 use Rattle.validator_core.specs.Courses.{Coursed, IsSound, coursed}
 use Rattle.validator_core.specs.declared.course.Course.{Course}
 
@@ -31,15 +28,7 @@ HasFew v = length v.origins ≤ 257
 abbrev pub AllFew : List Cast → Type 0
 AllFew votes = Each HasFew votes
 
--- a held certificate whose transaction is in the sequence
-abbrev pub is_ordered : Admission → Held → Bool
-is_ordered a h = is_known a h.digest
-
--- the transaction of one that is not
-abbrev pub unordered : Admission → Held → Option Digest
-unordered a h = where_true (not (is_ordered a h)) h.digest
-
--- how many of those that are held are so, up to the first that is not
+-- how many of the certificates that are held are of transactions in the sequence, up to the first that is not
 abbrev pub ordered_front : Coursed → ℕ
 ordered_front c = front_length (is_ordered c.sequence.admission) c.held
 

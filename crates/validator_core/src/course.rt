@@ -11,14 +11,13 @@ ghost use Rattle.protocol_spec.specs.Member.Rounds.{left, rounds};
 ghost use Rattle.scene_spec.specs.Starts.{AreApart};
 ghost use Rattle.validator_core.specs.Courses.{HasOpening, IsAdmitting, IsSound, IsUnbuilt, Stays, begun, built_in, coursed, newly_built, ran, with_held};
 
-use crate::telling::tell;
 use answer_types::{Held, Left};
 use chain_types::Object;
 use checkpoint_core::HashedCheckpoint;
 use dag_pool::Gate;
 use digest_core::Digest;
 use effects_core::HashedEffects;
-use epoch_turn::{Chain, EndCount};
+use epoch_turn::{Chain, EndCount, tell};
 use exec_plan::Waiting;
 use std::alloc::Global;
 use std::thread::Threads;

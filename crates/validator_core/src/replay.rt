@@ -5,7 +5,7 @@ ghost use Rattle.std.specs.Bool.{OnTrue};
 ghost use Rattle.chain_types.specs.Transactions.{transaction};
 ghost use Rattle.chain_messages.specs.Messages.{certificate};
 ghost use Rattle.chain_types.specs.Equal.{digest_eq};
-ghost use Rattle.protocol_spec.specs.Chain.Tests.{list_eq, origins_eq};
+ghost use Rattle.protocol_spec.specs.Chain.Tests.{list_eq};
 ghost use Rattle.journal_core.specs.declared.records.RanItem.{RanItem as Item};
 ghost use Rattle.journal_core.specs.declared.records.Record.TheVariants as record_as;
 ghost use Rattle.journal_core.specs.Records as journals;
@@ -21,19 +21,13 @@ use crate::holds::Holding;
 use crate::runs::ran_items;
 use crate::state::State;
 use answer_types::{Held, HoldRefusal, VoteRefusal};
+use cert_rules::same_origins;
 use chain_messages::Certificate;
 use chain_types::Transaction;
 use digest_core::Digest;
 use journal_core::{RanItem, Record};
 use quorum_core::{Committee, Sealer};
 use wire_bcs::{OutOfMemory, Seq};
-
-/// Whether two votes name the same origins.
-pub(crate) fn same_origins(a: &[Option<Digest>], b: &[Option<Digest>]) -> bool
-    ensures { result ≡ origins_eq a.now b.now }
-{
-    a == b
-}
 
 /// Whether two runs have the same items.
 fn same_items(a: &[RanItem], b: &[RanItem]) -> bool

@@ -20,7 +20,7 @@ ghost use Rattle.scene_spec.specs.Terms.{rules_for};
 ghost use Rattle.validator_core.specs.Entries.{MayArrive, behind_entry, what_as};
 ghost use Rattle.validator_core.specs.Limits.{Accepting, terms_at};
 ghost use Rattle.validator_core.specs.Opened.{opening_objects};
-ghost use Rattle.validator_core.specs.Sound.{unordered};
+ghost use Rattle.epoch_turn.specs.Dues.{unordered};
 ghost use Rattle.validator_core.specs.Steps.{closing, counted, holding, items_of, turning, voted};
 ghost use Rattle.vote_rules.specs.Decide.{Decides};
 ghost use Rattle.vote_rules.specs.Holders.{sides};
@@ -28,13 +28,13 @@ ghost use Rattle.answer_types.specs.declared.answers.Held.{Held as H};
 
 use crate::course::Course;
 use crate::entries::Arrival;
-use crate::ordered::{first_unordered, ordered_on};
 use answer_types::{Held, Left, Seen};
 use chain_types::{DecideRefusal, Object, ObjectKey, Transaction};
 use checkpoint_core::{Checkpoint, HashedCheckpoint};
 use dag_pool::Gate;
 use digest_core::Digest;
 use effects_core::HashedEffects;
+use epoch_turn::{first_unordered, ordered_on};
 use quorum_core::Committee;
 use std::alloc::Global;
 use std::marker::Model;
@@ -143,7 +143,11 @@ impl State {
     pub(crate) fn first_unordered(&self) -> Option<Digest>
         ensures { result ≡ first_of (unordered self.now.member.sequence.admission) self.now.member.held }
     {
-        first_unordered(&self.course, self.ordered)
+        first_unordered(
+            self.course.held.as_slice(),
+            &self.course.admission,
+            self.ordered,
+        )
     }
 
     /// The number of checkpoints that the member has built, over all its epochs. Takes no memory.
@@ -320,7 +324,11 @@ impl State {
         match self.course.see(committee, arrival) {
             Ok(seen) => {
                 self.records += 1;
-                self.ordered = ordered_on(&self.course, self.ordered);
+                self.ordered = ordered_on(
+                    self.course.held.as_slice(),
+                    &self.course.admission,
+                    self.ordered,
+                );
                 Ok(seen)
             }
             Err(OutOfMemory) => {

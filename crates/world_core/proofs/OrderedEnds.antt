@@ -2,11 +2,7 @@
 use Rattle.std.proofs.Common.{◌≡◌, ◌∙◌, ap, sym, refl, ℕ, Bool, true, false, cond, List, length, Option, Some, None}
 use Rattle.std.specs.Prelude.{slice_get}
 use Rattle.std.proofs.lemmas.Bool.{eq-eqb, ne_eqb}
-use Rattle.digest_core.specs.declared.Digest.{Digest}
-use Rattle.wire_bcs.specs.Digests.{digest}
-use Rattle.chain_messages.specs.declared.messages.Entry.TheVariants as entry
 use Rattle.chain_messages.specs.declared.messages.Statement.TheVariants as statement
-use Rattle.chain_messages.specs.Messages as messages
 use Rattle.report_text.specs.declared.lines.OrderEndText.{OrderEndText}
 use Rattle.report_text.specs.declared.lines.OrderEndText.TheVariants as order_end_text
 use Rattle.world_spec.specs.Setting.{Trust}
@@ -18,10 +14,6 @@ use Rattle.scene_spec.specs.Steps.{with_order}
 use Rattle.world_core.specs.Crews.{honest_flags}
 use Rattle.world_core.specs.Votes.{flag_at}
 use Rattle.world_core.proofs.Voting.{honest_same}
-
-pub short_end : (m epoch : ℕ) (seal : Digest) → messages.entry.short (entry.End (record { member = m; statement = statement.End epoch; seal = seal }))
-unfolding messages.entry messages.sealed messages.statement digest
-short_end m epoch seal = (tt, (tt, tt))
 
 -- ---- whose End it is
 

@@ -1,43 +1,36 @@
 -- False votes and certificates of a scene.
-use Rattle.std.proofs.Common.{arith, ◌≡◌, ◌∙◌, ap, sym, refl, subst, ◌≤◌, ◌<◌, ℕ, zero, suc, Bool, true, false, cond, List, [], ◌∷◌, ◌++◌, map, length, append_assoc, append-nil, Option, Some, None, option_map}
-use Rattle.std.specs.Prelude.{bytes_eq, filter, find, fold, slice_get}
+use Rattle.std.proofs.Common.{◌≡◌, ◌∙◌, ap, sym, refl, subst, ℕ, zero, suc, Bool, true, false, cond, List, [], ◌∷◌, ◌++◌, map, Option, Some, None, option_map}
+use Rattle.std.specs.Prelude.{bytes_eq, find, slice_get}
 use Rattle.digest_core.specs.declared.Digest.{Digest}
-use Rattle.quorum_core.specs.declared.signer.Signer.{Signer}
-use Rattle.wire_bcs.specs.Digests.{digest}
-use Rattle.chain_types.specs.declared.transactions.Input.{Input}
-use Rattle.chain_types.specs.declared.transactions.Input.TheVariants as input
-use Rattle.chain_types.specs.declared.transactions.Transaction.{Transaction}
-use Rattle.chain_types.specs.Digests.{is_object}
 use Rattle.chain_types.specs.Transactions as transactions
 use Rattle.chain_messages.specs.declared.messages.Certificate.{Certificate}
 use Rattle.chain_messages.specs.declared.messages.Statement.TheVariants as statement
 use Rattle.chain_messages.specs.Messages as messages
-use Rattle.protocol_spec.proofs.Checked.{origin_short, tx_short}
 use Rattle.protocol_spec.specs.Chain.Tests.{origins_eq}
 use Rattle.protocol_spec.specs.Chain.Words.{Each, first_some, last_where, where_true}
 use Rattle.report_text.specs.declared.lines.Line.{Line}
 use Rattle.report_text.specs.declared.lines.Line.TheVariants as line
 use Rattle.report_text.specs.declared.lines.CertText.TheVariants as cert_text
 use Rattle.world_spec.specs.Setting.{Name, Trust}
-use Rattle.world_spec.specs.World.{Formed, Made, Said, honest_seat, list_or_none, said_by}
+use Rattle.world_spec.specs.World.{Formed, Made, Said, honest_seat, said_by}
 use Rattle.world_spec.specs.Names.{cert_in, made_named}
 use Rattle.world_spec.specs.Report.{cert_collected, cert_lines, fvote_lines, origin_names}
-use Rattle.world_spec.specs.Step.{Collected, collected, differ, formed, formed_as, fvote_origins, fvoted, first_origins, lacks, last_said, no_origins, origin_word, origins_or, short, vote_in, votes_collected, whole}
+use Rattle.world_spec.specs.Step.{Collected, collected, differ, formed, formed_as, fvote_origins, fvoted, first_origins, lacks, last_said, no_origins, origins_or, short, vote_in, votes_collected, whole}
 use Rattle.scene_spec.specs.Known.{Known, world_with}
 use Rattle.world_names.specs.declared.rows.MadeTx.{MadeTx}
 use Rattle.world_names.specs.Rows.{made_as}
 use Rattle.world_lines.specs.declared.certs.Collected.{Collected as Given}
 use Rattle.world_lines.specs.declared.certs.Collected.TheVariants as given
-use Rattle.world_lines.specs.Answers.{collected_as}
-use Rattle.world_lines.specs.Forming.{certificate_by}
+use Rattle.world_lines.specs.Answers.{collected_as, is_whole}
+use Rattle.world_lines.specs.Forming.{certificate_by, first_origins_by}
 use Rattle.world_lines.specs.FalseVotes.{origins_by}
-use Rattle.world_lines.specs.SaidVotes.{first_vote, flags_of, vote_by}
+use Rattle.world_lines.specs.SaidVotes.{first_vote, flags_of}
 use Rattle.world_lines.proofs.SaidWorlds.{first_from}
 use Rattle.scene_spec.specs.Posts.{Post}
 use Rattle.scene_spec.specs.Scene.{Scene, bare_seat, bare_setting, bare_world}
 use Rattle.world_core.specs.Crews.{honest_flags}
 use Rattle.world_core.specs.Sound.{IsSpelled, IsSpelledCert}
-use Rattle.world_core.specs.Votes.{first_origins_by, flag_at, is_whole}
+use Rattle.world_core.specs.Votes.{flag_at}
 
 -- ---- a false vote in a scene
 
@@ -100,18 +93,6 @@ named_spelled (x ∷ xs) name t all e = go (bytes_eq x.name name) refl (λ h. na
 -- a transaction of a name can be spelled
 pub spelled_named : (k : Known) (name : Name) (made : MadeTx) → Each IsSpelled k.txs → Some (made_as made) ≡ made_named (world_with k) name → transactions.signed.short made.signed
 spelled_named k name made all e = named_spelled k.txs name (made_as made) all (sym e)
-
--- a certificate whose lists are not too long
-pub certificate_short : (seal : Signer → List ℕ → Digest) (t : MadeTx) (origins : List (Option Digest)) (ms : List ℕ) (c : Certificate)
-    → transactions.signed.short t.signed → length origins ≤ 2147483647 → length ms ≤ 2147483647 → c ≡ certificate_by seal (made_as t) origins ms → messages.certificate.short c
-unfolding messages.certificate messages.member_seal digest
-certificate_short seal t origins ms c tx few some is =
-    subst messages.certificate.short (sym is)
-    (tx_short t.signed tx, ((omega arith, λ k d l. origin_short _), (let n = seals_length ms in omega arith, λ k d l. (tt, tt))))
-  where
-    seals_length : (xs : List ℕ) → length (certificate_by seal (made_as t) origins xs).seals ≡ length xs
-    seals_length [] = refl
-    seals_length (x ∷ xs) = ap suc (seals_length xs)
 
 pub unnamed_forms : (trust : Trust) (sc : Scene) (ms : List ℕ) (t : Option Made) → None ≡ t → sc ≡ record sc { certs = (formed (bare_setting trust sc) (bare_world sc) ms t).certs }
 unnamed_forms trust sc ms None e = refl
@@ -182,12 +163,6 @@ pub spelled_cert : (fs : List Formed) (name : Name) (c : Certificate) → Each I
 spelled_cert fs name c all e = last_spelled fs name c all (sym e)
 
 -- the origins of the first of the members
-pub first_of_none : (said : List Said) (tx : Digest) (ms : List ℕ) (origins : List (Option Digest)) → ms ≡ [] → origins ≡ [] → origins ≡ first_origins_by said tx ms
-first_of_none said tx ms origins e o = o ∙ sym (ap (first_origins_by said tx) e)
-
-pub first_of_some : (said : List Said) (tx : Digest) (m : ℕ) (rest ms : List ℕ) (origins : List (Option Digest)) → ms ≡ m ∷ rest → origins ≡ list_or_none (vote_by said tx m) → origins ≡ first_origins_by said tx ms
-first_of_some said tx m rest ms origins e o = o ∙ sym (ap (first_origins_by said tx) e)
-
 -- ---- the same in a scene that is seen from inside
 
 abbrev with_certs : Scene → List Formed → Scene

@@ -11,6 +11,5 @@ pub mod Stays
 pub mod Sums
 pub mod Sees
 pub mod Epochs
-pub mod Ends
 pub mod Replays
 pub mod Looks

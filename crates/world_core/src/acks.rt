@@ -16,7 +16,7 @@ ghost use Rattle.world_spec.specs.World.{answered_statement, said_by};
 
 use crate::seats::Seats;
 use crate::votes::is_honest;
-use crate::world::{World, one_line};
+use crate::world::World;
 use answer_types::AckRefusal;
 use chain_messages::{Sealed, Statement};
 use digest_core::Digest;
@@ -24,7 +24,7 @@ use quorum_core::Sealer;
 use report_text::{AckText, FinalText, Line};
 use std::alloc::Global;
 use wire_bcs::{OutOfMemory, Seq};
-use world_lines::{SaidBook, ack_text, final_text};
+use world_lines::{SaidBook, ack_text, final_text, one_line};
 use world_names::{Directory, MadeTx, MakesSeals, spoiled_if};
 
 /// The ending for a member's answer; its acknowledgement is stated.

@@ -22,7 +22,7 @@ ghost use Rattle.world_core.specs.Kept.{LeavesAs, is_call};
 ghost use Rattle.world_core.specs.Texts.{hold_text_by, run_lines_by, spelled_cert, spelled_tx, vote_text_by};
 ghost use Rattle.world_core.specs.Trusts.{trust_by};
 
-use crate::world::{World, one_line};
+use crate::world::World;
 use crate::{Reply, SeatFault, Seats};
 use answer_types::{Ran, RunRefusal, VoteRefusal, Voted};
 use chain_messages::encode_certificate;
@@ -34,7 +34,7 @@ use schedule_text::Event;
 use std::alloc::Global;
 use std::thread::Threads;
 use wire_bcs::{OutOfMemory, Seq};
-use world_lines::{SaidBook, hold_text, run_lines, vote_text};
+use world_lines::{SaidBook, hold_text, one_line, run_lines, vote_text};
 use world_names::{Directory, MakesSeals};
 
 /// The ending for a member's answer to a request for its vote; its vote is stated.

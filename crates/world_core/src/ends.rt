@@ -13,14 +13,14 @@ ghost use Rattle.world_spec.specs.Report.{end_answered};
 ghost use Rattle.world_spec.specs.World.{answered_statement, said_by};
 
 use crate::seats::Seats;
-use crate::world::{World, one_line};
+use crate::world::World;
 use answer_types::EndRefusal;
 use chain_messages::Sealed;
 use quorum_core::Sealer;
 use report_text::{EndText, Line};
 use std::alloc::Global;
 use wire_bcs::{OutOfMemory, Seq};
-use world_lines::{SaidBook, end_text};
+use world_lines::{SaidBook, end_text, one_line};
 use world_names::{Directory, MakesSeals};
 
 /// The ending for a member's answer; the End that it says is stated.

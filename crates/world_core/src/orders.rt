@@ -1,86 +1,25 @@
 //! Lines that order entries.
 
-ghost use Rattle.std.specs.Prelude.{◌≡◌, ℕ, ◌∷◌, [], IfOk, OnOk, Option, length};
-ghost use Rattle.chain_messages.specs.Messages as codecs;
+ghost use Rattle.std.specs.Prelude.{◌≡◌, ◌∷◌, [], IfOk, OnOk, length};
 ghost use Rattle.chain_messages.specs.declared.messages.Entry.TheVariants as entry;
 ghost use Rattle.chain_messages.specs.declared.messages.Statement.TheVariants as statement;
 ghost use Rattle.report_text.specs.declared.lines.Line.TheVariants as line;
-ghost use Rattle.protocol_spec.specs.Chain.Certificates.{rules_of};
 ghost use Rattle.report_text.specs.declared.lines.OrderEndText.TheVariants as order_end_text;
 ghost use Rattle.scene_spec.specs.Scene.{bare_setting, bare_world};
 ghost use Rattle.scene_spec.specs.Steps.{with_order};
 ghost use Rattle.scene_spec.specs.Worlds.{AreKeepable};
-ghost use Rattle.world_core.specs.Ends.{risen_by, sealed_end_by};
 ghost use Rattle.world_core.specs.Trusts.{trust_by};
-ghost use Rattle.world_lines.specs.Orders.{with_entry};
 ghost use Rattle.world_spec.specs.Names.{cert_named};
 ghost use Rattle.world_spec.specs.Report.{order_end_said, order_said};
 ghost use Rattle.world_spec.specs.Step.{appended_entry, end_ordered, open_entries, ordered, ordered_end, says};
 
 use crate::votes::is_honest;
-use crate::world::{World, one_line};
-use chain_messages::{Certificate, Entry, Sealed, Statement, encode_statement};
-use quorum_core::{Committee, Sealer, Signer};
+use crate::world::World;
+use chain_messages::{Certificate, Entry, Statement};
 use report_text::{Line, OrderEndText, OrderText};
-use std::alloc::Global;
 use wire_bcs::{Duplicate, OutOfMemory, Seq};
-use world_lines::OrderBook;
+use world_lines::{one_line, order_and_rise, order_end_line, order_line, sealed_end};
 use world_names::MakesSeals;
-
-/// The line for what ordering gave.
-fn order_line(alloc: Global, tx: &[u8], text: OrderText) -> Result<Seq<Line>, OutOfMemory>
-    ensures { IfOk result (λ lines. lines ≡ line.Order tx.now text ∷ []) }
-{
-    let tx = Seq::from_slice(alloc, tx)?;
-    one_line(alloc, Line::Order { tx, text })
-}
-
-/// The line for what ordering an End gave.
-fn order_end_line(alloc: Global, member: u32, text: OrderEndText) -> Result<Seq<Line>, OutOfMemory>
-    ensures { IfOk result (λ lines. lines ≡ line.OrderEnd member text ∷ []) }
-{
-    let member = member as u64;
-    one_line(alloc, Line::OrderEnd { member, text })
-}
-
-/// A member's End of an epoch, under its seal.
-#[tactic(auto, unfolding(chain_messages::specs::Messages::statement), using(crate::proofs::OrderedEnds::short_end))]
-fn sealed_end<S: MakesSeals>(
-    alloc: Global,
-    sealer: &S,
-    member: u32,
-    epoch: u64,
-) -> Result<Entry, OutOfMemory>
-    ensures end { IfOk result (λ end. end ≡ sealed_end_by (S.made sealer.now) member epoch) }
-    ensures short { IfOk result (λ end. codecs.entry.short end) }
-{
-    let statement = Statement::End { epoch };
-    let bytes = encode_statement(alloc, &statement)?;
-    Ok(Entry::End(Sealed {
-        member,
-        statement,
-        seal: sealer.make_seal(&Signer::Member(member), bytes.as_slice()),
-    }))
-}
-
-/// Orders an entry at the end of the open epoch's sequence, and opens another epoch where the open one has ended then.
-fn order_and_rise<S: Sealer>(
-    order: &mut OrderBook,
-    committee: &Committee,
-    sealer: &S,
-    entry: &Entry,
-) -> Result<(), OutOfMemory>
-    requires { codecs.entry.short entry.now }
-    ensures order { OnOk result ((writers : Option ℕ) → order.new ≡ risen_by (rules_of committee.now writers (S.accepts sealer.now)) (with_entry order.old entry.now)) }
-    ensures keepable { AreKeepable order.new.sequences }
-{
-    order.push(entry)?;
-    if !order.has_ended(committee, sealer)? {
-        return Ok(());
-    }
-    order.rise()?;
-    Ok(())
-}
 
 impl World {
     /// Each entry that was ordered can be kept, as the book of sequences has it. Nothing runs.

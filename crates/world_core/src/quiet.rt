@@ -9,11 +9,11 @@ ghost use Rattle.world_core.specs.Kept.{is_quiet};
 ghost use Rattle.world_core.specs.Texts.{show_by};
 ghost use Rattle.world_core.specs.Trusts.{trust_by};
 
-use crate::world::{World, one_line};
+use crate::world::World;
 use report_text::{Line, ShowText};
 use schedule_text::Event;
 use wire_bcs::{OutOfMemory, Seq};
-use world_lines::shown_lines;
+use world_lines::{one_line, shown_lines};
 use world_names::{MakeRefusal, MakesSeals, TxLine, make};
 
 impl World {

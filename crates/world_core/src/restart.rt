@@ -7,10 +7,11 @@ ghost use Rattle.world_core.specs.declared.world.WorldFault.TheVariants as fault
 ghost use Rattle.world_core.specs.Restarts.{RestartsAs};
 
 use crate::RestartFault;
-use crate::world::{World, WorldFault, one_line};
+use crate::world::{World, WorldFault};
 use outside::Keeper;
 use report_text::{Line, RestartText};
 use wire_bcs::{OutOfMemory, Seq};
+use world_lines::one_line;
 use world_names::MakesSeals;
 
 impl World {

@@ -23,7 +23,7 @@ ghost use Rattle.world_spec.specs.Step.{entries_left};
 ghost use Rattle.world_spec.specs.World.{built_statements, said_by};
 
 use crate::calls::told;
-use crate::world::{World, one_line};
+use crate::world::World;
 use crate::{Reply, SeatFault, Seats};
 use answer_types::{SeeRefusal, Seen};
 use digest_core::Digest;
@@ -34,7 +34,7 @@ use std::alloc::Global;
 use std::thread::Threads;
 use validator_core::Validator;
 use wire_bcs::{OutOfMemory, Seq};
-use world_lines::{OrderBook, SaidBook, add_entry_lines, tx_text};
+use world_lines::{OrderBook, SaidBook, add_entry_lines, one_line, tx_text};
 use world_names::{Directory, MakesSeals};
 
 /// Adds the lines for a member's answer to an entry, and tells whether the line goes on behind it; the checkpoints that

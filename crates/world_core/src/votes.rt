@@ -1,22 +1,17 @@
 //! False votes.
 
-ghost use Rattle.std.specs.Prelude.{◌≡◌, ◌∷◌, [], IfOk, OnOk, slice_get};
-ghost use Rattle.report_text.specs.declared.lines.Line.TheVariants as line;
+ghost use Rattle.std.specs.Prelude.{◌≡◌, IfOk, OnOk, slice_get};
 ghost use Rattle.world_spec.specs.Names.{made_named};
-ghost use Rattle.world_spec.specs.Report.{fvote_lines, origin_names};
+ghost use Rattle.world_spec.specs.Report.{fvote_lines};
 ghost use Rattle.world_spec.specs.Step.{fvoted};
-ghost use Rattle.scene_spec.specs.Known.{world_with};
 ghost use Rattle.scene_spec.specs.Scene.{bare_world};
 ghost use Rattle.world_core.specs.Votes.{flag_at};
 
-use crate::world::{World, one_line};
+use crate::world::World;
 use chain_messages::Statement;
-use digest_core::Digest;
 use report_text::Line;
-use std::alloc::Global;
 use wire_bcs::{OutOfMemory, Seq};
-use world_lines::{false_origins, origin_names};
-use world_names::Directory;
+use world_lines::{false_origins, false_vote_line, false_vote_lines};
 
 /// Whether the member of this number is honest. Takes no memory.
 pub(crate) fn is_honest(honest: &[bool], member: u32) -> bool
@@ -26,40 +21,6 @@ pub(crate) fn is_honest(honest: &[bool], member: u32) -> bool
         Some(flag) => *flag,
         None => false,
     }
-}
-
-/// The line for a false vote.
-fn vote_line(
-    alloc: Global,
-    member: u32,
-    tx: &[u8],
-    origins: Seq<Option<Seq<u8>>>,
-) -> Result<Seq<Line>, OutOfMemory>
-    ensures { IfOk result (λ lines. lines ≡ line.Fvote member tx.now origins ∷ []) }
-{
-    let tx = Seq::from_slice(alloc, tx)?;
-    let member = member as u64;
-    one_line(
-        alloc,
-        Line::Fvote {
-            member,
-            tx,
-            origins,
-        },
-    )
-}
-
-/// The line for a false vote with these origins.
-fn voted_lines(
-    directory: &Directory,
-    member: u32,
-    tx: &[u8],
-    origins: &[Option<Digest>],
-) -> Result<Seq<Line>, OutOfMemory>
-    ensures { IfOk result (λ lines. lines ≡ line.Fvote member tx.now (origin_names (world_with directory.now) origins.now) ∷ []) }
-{
-    let names = origin_names(directory, origins)?;
-    vote_line(directory.allocator(), member, tx, names)
 }
 
 impl World {
@@ -76,11 +37,11 @@ impl World {
     {
         let Some(made) = self.directory.made(tx) else {
             let none = Seq::new(self.alloc);
-            return vote_line(self.alloc, member, tx, none);
+            return false_vote_line(self.alloc, member, tx, none);
         };
         let honest = self.seats.flags();
         let origins = false_origins(&self.directory, &self.said, honest, made, words)?;
-        let lines = voted_lines(&self.directory, member, tx, origins.as_slice())?;
+        let lines = false_vote_lines(&self.directory, member, tx, origins.as_slice())?;
         if is_honest(honest, member) {
             return Ok(lines);
         }

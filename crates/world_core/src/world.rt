@@ -61,15 +61,6 @@ impl Model for World {
     ghost invariant = { λ w. IsSound w.opening w.directory w.certs w.order.sequences };
 }
 
-/// A list of one line.
-pub(crate) fn one_line(alloc: Global, line: Line) -> Result<Seq<Line>, OutOfMemory>
-    ensures { IfOk result (λ lines. lines ≡ line ∷ []) }
-{
-    let mut lines = Seq::new(alloc);
-    lines.push(line)?;
-    Ok(lines)
-}
-
 impl World {
     /// The world of a set-up whose members are this committee.
     #[tactic(auto, unfolding(world_spec::specs::Setting::setting_of), using(crate::proofs::Sound::few_flags, crate::proofs::Sound::sound_first, world_names::proofs::Opened::opening_apart))]

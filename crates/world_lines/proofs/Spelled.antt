@@ -1,11 +1,45 @@
--- Votes with origins that are not too many can be spelled.
-use Rattle.std.proofs.Common.{ℕ, ◌≤◌, List, length, Option, arith}
-use Rattle.wire_bcs.specs.Digests.{digest}
+-- What lines form and order can be spelled.
+use Rattle.std.proofs.Common.{◌≡◌, ◌∙◌, ap, sym, refl, subst, suc, ℕ, ◌≤◌, List, [], ◌∷◌, length, Option, arith}
 use Rattle.digest_core.specs.declared.Digest.{Digest}
+use Rattle.quorum_core.specs.declared.signer.Signer.{Signer}
+use Rattle.wire_bcs.specs.Digests.{digest}
+use Rattle.chain_types.specs.Transactions as transactions
+use Rattle.chain_messages.specs.declared.messages.Certificate.{Certificate}
+use Rattle.chain_messages.specs.declared.messages.Entry.TheVariants as entry
 use Rattle.chain_messages.specs.declared.messages.Statement.TheVariants as statement
 use Rattle.chain_messages.specs.Messages as messages
-use Rattle.protocol_spec.proofs.Checked.{origin_short}
+use Rattle.protocol_spec.proofs.Checked.{origin_short, tx_short}
+use Rattle.world_spec.specs.World.{Said, list_or_none}
+use Rattle.world_names.specs.declared.rows.MadeTx.{MadeTx}
+use Rattle.world_names.specs.Rows.{made_as}
+use Rattle.world_lines.specs.Forming.{certificate_by, first_origins_by}
+use Rattle.world_lines.specs.SaidVotes.{vote_by}
 
+-- votes with origins that are not too many
 pub vote_short : (epoch : ℕ) (tx : Digest) (origins : List (Option Digest)) → length origins ≤ 2147483647 → messages.statement.short (statement.Vote epoch tx origins)
 unfolding messages.statement digest
 vote_short epoch tx origins few = (tt, (tt, (omega arith, λ k d l. origin_short _)))
+
+-- a certificate whose lists are not too long
+pub certificate_short : (seal : Signer → List ℕ → Digest) (t : MadeTx) (origins : List (Option Digest)) (ms : List ℕ) (c : Certificate)
+    → transactions.signed.short t.signed → length origins ≤ 2147483647 → length ms ≤ 2147483647 → c ≡ certificate_by seal (made_as t) origins ms → messages.certificate.short c
+unfolding messages.certificate messages.member_seal digest
+certificate_short seal t origins ms c tx few some is =
+    subst messages.certificate.short (sym is)
+    (tx_short t.signed tx, ((omega arith, λ k d l. origin_short _), (let n = seals_length ms in omega arith, λ k d l. (tt, tt))))
+  where
+    seals_length : (xs : List ℕ) → length (certificate_by seal (made_as t) origins xs).seals ≡ length xs
+    seals_length [] = refl
+    seals_length (x ∷ xs) = ap suc (seals_length xs)
+
+-- the origins of the first of these members
+pub first_of_none : (said : List Said) (tx : Digest) (ms : List ℕ) (origins : List (Option Digest)) → ms ≡ [] → origins ≡ [] → origins ≡ first_origins_by said tx ms
+first_of_none said tx ms origins e o = o ∙ sym (ap (first_origins_by said tx) e)
+
+pub first_of_some : (said : List Said) (tx : Digest) (m : ℕ) (rest ms : List ℕ) (origins : List (Option Digest)) → ms ≡ m ∷ rest → origins ≡ list_or_none (vote_by said tx m) → origins ≡ first_origins_by said tx ms
+first_of_some said tx m rest ms origins e o = o ∙ sym (ap (first_origins_by said tx) e)
+
+-- an End under its seal
+pub short_end : (m epoch : ℕ) (seal : Digest) → messages.entry.short (entry.End (record { member = m; statement = statement.End epoch; seal = seal }))
+unfolding messages.entry messages.sealed messages.statement digest
+short_end m epoch seal = (tt, (tt, tt))

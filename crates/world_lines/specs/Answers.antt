@@ -1,5 +1,5 @@
 -- The answers of a member, as the definitions have them.
-use Rattle.std.specs.Prelude.{ℕ, [], Result, Ok, Err}
+use Rattle.std.specs.Prelude.{ℕ, Bool, true, false, [], Result, Ok, Err}
 use Rattle.digest_core.specs.declared.Digest.{Digest}
 use Rattle.chain_messages.specs.declared.messages.Sealed.{Sealed as SealedStatement}
 use Rattle.chain_messages.specs.declared.messages.Statement.{Statement}
@@ -42,3 +42,10 @@ collected_as (given.Lacks m) = lacks m
 collected_as (given.Short weight total) = short weight total
 collected_as (given.Differ a b) = differ a b
 collected_as given.Whole = whole
+
+-- all members agree
+abbrev pub is_whole : Given → Bool
+is_whole (given.Lacks m) = false
+is_whole (given.Short weight total) = false
+is_whole (given.Differ a b) = false
+is_whole given.Whole = true

@@ -1,9 +1,14 @@
 -- The sequences of a run, and their entries as rows. Source: one sequence for each epoch is the premise of the Sui Lutris
 -- paper.
-use Rattle.std.specs.Prelude.{◌≡◌, ◌<◌, ◌+◌, ℕ, Bool, List, [], ◌∷◌, ◌++◌, length, map, slice_set}
+use Rattle.std.specs.Prelude.{◌≡◌, ◌<◌, ◌+◌, ℕ, Bool, List, [], ◌∷◌, ◌++◌, length, map, slice_set, if◌then◌else◌}
 use Rattle.std.specs.List.{list_any}
 use Rattle.wire_bcs.specs.Items.{length_limit}
+use Rattle.digest_core.specs.declared.Digest.{Digest}
+use Rattle.quorum_core.specs.declared.signer.Signer.{Signer}
+use Rattle.quorum_core.specs.declared.signer.Signer.TheVariants as signers
 use Rattle.chain_messages.specs.declared.messages.Entry.{Entry}
+use Rattle.chain_messages.specs.declared.messages.Entry.TheVariants as entry
+use Rattle.chain_messages.specs.declared.messages.Statement.TheVariants as statement
 use Rattle.chain_messages.specs.declared.messages.MemberSeal.{MemberSeal}
 use Rattle.chain_messages.specs.Messages as messages
 use Rattle.protocol_spec.specs.Chain.Certificates.{Rules}
@@ -40,6 +45,16 @@ spelled_entry e = messages.entry.spell e
 -- the open epoch has ended where a member that sees its entries sees its end
 abbrev pub has_ended_by : Rules → Orders → Bool
 has_ended_by r o = (seen r [] o.epoch (map spelled_entry (open_in o))).ended
+
+-- ---- Ends
+
+-- a member's End of an epoch, under its seal
+abbrev pub sealed_end_by : (Signer → List ℕ → Digest) → ℕ → ℕ → Entry
+sealed_end_by seal m epoch = entry.End (record { member = m; statement = statement.End epoch; seal = seal (signers.Member m) (messages.statement.spell (statement.End epoch)) })
+
+-- another epoch opens where the open one has ended
+abbrev pub risen_by : Rules → Orders → Orders
+risen_by r o = if has_ended_by r o then risen_orders o else o
 
 -- ---- rows
 

@@ -1,10 +1,12 @@
 //! What collecting votes or acknowledgements gives.
 
-ghost use Rattle.std.specs.Prelude.{◌≡◌, IfOk, map};
+ghost use Rattle.std.specs.Prelude.{◌≡◌, ◌∷◌, [], IfOk, map};
+ghost use Rattle.report_text.specs.declared.lines.Line.TheVariants as line;
 ghost use Rattle.world_spec.specs.Report.{cert_collected, final_collected};
-ghost use Rattle.world_lines.specs.Answers.{collected_as};
+ghost use Rattle.world_lines.specs.Answers.{collected_as, is_whole};
 
-use report_text::{CertText, FinalText};
+use crate::runs::one_line;
+use report_text::{CertText, FinalText, Line};
 use std::alloc::Global;
 use wire_bcs::{OutOfMemory, Seq};
 
@@ -38,11 +40,7 @@ fn numbers(alloc: Global, members: &[u32]) -> Result<Seq<u64>, OutOfMemory>
 }
 
 /// The ending for what collecting the votes of these members gave.
-pub fn cert_text(
-    alloc: Global,
-    members: &[u32],
-    collected: &Collected,
-) -> Result<CertText, OutOfMemory>
+fn cert_text(alloc: Global, members: &[u32], collected: &Collected) -> Result<CertText, OutOfMemory>
     ensures { IfOk result (λ text. text ≡ cert_collected members.now (collected_as collected.now)) }
 {
     match collected {
@@ -89,4 +87,35 @@ pub fn final_text(
             Ok(FinalText::FinalBy { members })
         }
     }
+}
+
+/// Whether all agree. Takes no memory.
+pub fn is_whole(collected: &Collected) -> bool
+    ensures { result ≡ is_whole collected.now }
+{
+    match collected {
+        Collected::Whole => true,
+        Collected::Lacks(_) | Collected::Short { .. } | Collected::Differ { .. } => false,
+    }
+}
+
+/// The line of a `cert` with this ending.
+pub fn cert_lines(alloc: Global, tx: &[u8], text: CertText) -> Result<Seq<Line>, OutOfMemory>
+    ensures { IfOk result (λ lines. lines ≡ line.Cert tx.now text ∷ []) }
+{
+    let tx = Seq::from_slice(alloc, tx)?;
+    one_line(alloc, Line::Cert { tx, text })
+}
+
+/// The line of a `cert` for what collecting the votes of these members gave.
+pub fn collected_lines(
+    alloc: Global,
+    tx: &[u8],
+    members: &[u32],
+    collected: &Collected,
+) -> Result<Seq<Line>, OutOfMemory>
+    ensures { IfOk result (λ lines. lines ≡ line.Cert tx.now (cert_collected members.now (collected_as collected.now)) ∷ []) }
+{
+    let text = cert_text(alloc, members, collected)?;
+    cert_lines(alloc, tx, text)
 }

@@ -111,7 +111,7 @@ fn turned_lines(
         member: member as u64,
         text,
     };
-    let mut lines = one_line(directory, head)?;
+    let mut lines = one_line(directory.allocator(), head)?;
     add_reverted(directory, &mut lines, reverted)?;
     Ok(lines)
 }
@@ -157,7 +157,7 @@ pub fn turn_lines(
         Ok(reverted) => turned_lines(directory, member, epoch, reverted.as_slice()),
         Err(refusal) => {
             let line = no_turn_line(directory, member, refusal)?;
-            one_line(directory, line)
+            one_line(directory.allocator(), line)
         }
     }
 }

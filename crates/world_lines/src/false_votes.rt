@@ -1,15 +1,20 @@
-//! The origins that a false vote names.
+//! The origins that a false vote names, and its line.
 
-ghost use Rattle.std.specs.Prelude.{◌≡◌, [], IfOk, OnOk, fold, map};
+ghost use Rattle.std.specs.Prelude.{◌≡◌, ◌∷◌, [], IfOk, OnOk, fold, map};
+ghost use Rattle.report_text.specs.declared.lines.Line.TheVariants as line;
+ghost use Rattle.world_spec.specs.Report.{origin_names};
 ghost use Rattle.world_spec.specs.Step.{no_origins, origin_word};
 ghost use Rattle.scene_spec.specs.Known.{world_with};
 ghost use Rattle.world_names.specs.Pushed.{each_pushed};
 ghost use Rattle.world_names.specs.Rows.{made_as};
 ghost use Rattle.world_lines.specs.FalseVotes.{origins_by, with_none};
 
+use crate::runs::one_line;
 use crate::said::SaidBook;
+use crate::words::origin_names;
 use chain_types::{Input, Transaction};
 use digest_core::Digest;
+use report_text::Line;
 use std::alloc::Global;
 use wire_bcs::{OutOfMemory, Seq};
 use world_names::{Directory, MadeTx};
@@ -105,4 +110,38 @@ pub fn false_origins(
         Some(origins) => Seq::from_slice(directory.allocator(), origins.as_slice()),
         None => no_origins(directory.allocator(), &made.signed.tx),
     }
+}
+
+/// The line of a `fvote` with these names of origins.
+pub fn false_vote_line(
+    alloc: Global,
+    member: u32,
+    tx: &[u8],
+    origins: Seq<Option<Seq<u8>>>,
+) -> Result<Seq<Line>, OutOfMemory>
+    ensures { IfOk result (λ lines. lines ≡ line.Fvote member tx.now origins ∷ []) }
+{
+    let tx = Seq::from_slice(alloc, tx)?;
+    let member = member as u64;
+    one_line(
+        alloc,
+        Line::Fvote {
+            member,
+            tx,
+            origins,
+        },
+    )
+}
+
+/// The line of a `fvote` with these origins.
+pub fn false_vote_lines(
+    directory: &Directory,
+    member: u32,
+    tx: &[u8],
+    origins: &[Option<Digest>],
+) -> Result<Seq<Line>, OutOfMemory>
+    ensures { IfOk result (λ lines. lines ≡ line.Fvote member tx.now (origin_names (world_with directory.now) origins.now) ∷ []) }
+{
+    let names = origin_names(directory, origins)?;
+    false_vote_line(directory.allocator(), member, tx, names)
 }

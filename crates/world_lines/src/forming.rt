@@ -1,15 +1,23 @@
 //! The certificate of members that vote alike.
 
 ghost use Rattle.std.specs.Prelude.{◌≡◌, IfOk, map};
+ghost use Rattle.chain_messages.specs.Messages as codecs;
+ghost use Rattle.chain_types.specs.Transactions as tx_codecs;
+ghost use Rattle.world_spec.specs.World.{list_or_none};
 ghost use Rattle.world_names.specs.Rows.{made_as};
-ghost use Rattle.world_lines.specs.Forming.{certificate_by, sealed_with, vote_bytes};
+ghost use Rattle.world_lines.specs.Forming.{certificate_by, first_origins_by, sealed_with, vote_bytes};
+ghost use Rattle.world_lines.specs.SaidVotes.{vote_by};
 
+use crate::said::SaidBook;
 use chain_messages::{Certificate, MemberSeal, Statement, encode_statement};
 use digest_core::Digest;
 use quorum_core::Signer;
 use std::alloc::Global;
 use wire_bcs::{Duplicate, OutOfMemory, Seq};
 use world_names::{MadeTx, MakesSeals};
+
+/// The greatest length of a list that can be spelled.
+const LONGEST_LIST: u64 = 2147483647;
 
 /// The bytes that a voter for a transaction seals. More than 2147483647 origins have no spelling, which is told as want
 /// of memory.
@@ -21,7 +29,7 @@ fn vote_bytes(
 ) -> Result<Seq<u8>, OutOfMemory>
     ensures { IfOk result (λ bytes. bytes ≡ vote_bytes (made_as made.now) origins.now) }
 {
-    if origins.len() > 2147483647 {
+    if origins.len() as u64 > LONGEST_LIST {
         return Err(OutOfMemory);
     }
     let vote = Statement::Vote {
@@ -77,4 +85,56 @@ pub fn certificate<S: MakesSeals>(
         origins: Seq::from_slice(alloc, origins)?,
         seals: Seq::from_vec(seals),
     })
+}
+
+/// The origins that a member voted for last; none where it made no such vote.
+fn voted_origins(
+    alloc: Global,
+    said: &SaidBook,
+    tx: &Digest,
+    member: u32,
+) -> Result<Seq<Option<Digest>>, OutOfMemory>
+    ensures { IfOk result (λ origins. origins ≡ list_or_none (vote_by said.now tx.now member)) }
+{
+    match said.last_vote(member, tx) {
+        Some(origins) => Seq::from_slice(alloc, origins.as_slice()),
+        None => Ok(Seq::new(alloc)),
+    }
+}
+
+/// The origins that the first of the members voted for; none where there is no member or no vote.
+#[tactic(auto, using(crate::proofs::Spelled::first_of_none, crate::proofs::Spelled::first_of_some))]
+fn first_origins(
+    alloc: Global,
+    said: &SaidBook,
+    tx: &Digest,
+    members: &[u32],
+) -> Result<Seq<Option<Digest>>, OutOfMemory>
+    ensures { IfOk result (λ origins. origins ≡ first_origins_by said.now tx.now members.now) }
+{
+    match members {
+        [] => Ok(Seq::new(alloc)),
+        [member, ..] => voted_origins(alloc, said, tx, *member),
+    }
+}
+
+/// The certificate of the votes of these members, which can be spelled. Lists that are too long for that count as
+/// want of memory.
+#[tactic(auto, using(crate::proofs::Spelled::certificate_short))]
+pub fn certify<S: MakesSeals>(
+    alloc: Global,
+    sealer: &S,
+    said: &SaidBook,
+    made: &MadeTx,
+    members: &[u32],
+) -> Result<Certificate, OutOfMemory>
+    requires { tx_codecs.signed.short made.now.signed }
+    ensures cert { IfOk result (λ cert. cert ≡ certificate_by (S.made sealer.now) (made_as made.now) (first_origins_by said.now made.now.digest members.now) members.now) }
+    ensures short { IfOk result (λ cert. codecs.certificate.short cert) }
+{
+    let origins = first_origins(alloc, said, &made.digest, members)?;
+    if origins.len() > LONGEST_LIST || members.len() as u64 > LONGEST_LIST {
+        return Err(OutOfMemory);
+    }
+    certificate(alloc, sealer, made, origins.as_slice(), members)
 }

@@ -12,6 +12,7 @@ use answer_types::{Left, Ran, RunRefusal};
 use checkpoint_core::{Checkpoint, HashedCheckpoint, Item};
 use effects_core::{Effects, HashedEffects, Status};
 use report_text::{Line, RunText};
+use std::alloc::Global;
 use wire_bcs::{OutOfMemory, Seq};
 use world_names::Directory;
 
@@ -131,10 +132,10 @@ pub(crate) fn add_checkpoints(
 }
 
 /// A list of one line.
-pub(crate) fn one_line(directory: &Directory, line: Line) -> Result<Seq<Line>, OutOfMemory>
+pub fn one_line(alloc: Global, line: Line) -> Result<Seq<Line>, OutOfMemory>
     ensures { IfOk result (λ lines. lines ≡ line ∷ []) }
 {
-    let mut lines = Seq::new(directory.allocator());
+    let mut lines = Seq::new(alloc);
     lines.push(line)?;
     Ok(lines)
 }
@@ -151,7 +152,7 @@ fn ran_lines(directory: &Directory, member: u32, ran: &Ran) -> Result<Seq<Line>,
         member: member as u64,
         text,
     };
-    let mut lines = one_line(directory, head)?;
+    let mut lines = one_line(directory.allocator(), head)?;
     add_effects(directory, &mut lines, ran.executed.as_slice())?;
     add_left(directory, &mut lines, ran.left.as_slice())?;
     add_checkpoints(directory, &mut lines, ran.built.as_slice())?;
@@ -192,7 +193,7 @@ pub fn run_lines(
         Ok(ran) => ran_lines(directory, member, ran),
         Err(refusal) => {
             let line = refusal_line(directory, member, refusal)?;
-            one_line(directory, line)
+            one_line(directory.allocator(), line)
         }
     }
 }

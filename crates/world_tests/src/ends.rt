@@ -13,7 +13,7 @@ use wire_bcs::{OutOfMemory, Seq};
 use world_lines::OrderBook;
 
 /// A member's End of an epoch, under the seal of this signer.
-#[tactic(auto, unfolding(chain_messages::specs::Messages::statement), using(world_core::proofs::OrderedEnds::short_end))]
+#[tactic(auto, unfolding(chain_messages::specs::Messages::statement), using(world_lines::proofs::Spelled::short_end))]
 fn end(alloc: Global, member: u32, signer: u32, epoch: u64) -> Result<Entry, OutOfMemory>
     ensures { IfOk result (λ end. codecs.entry.short end) }
 {

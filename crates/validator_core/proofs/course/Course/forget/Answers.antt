@@ -1,6 +1,6 @@
 use Rattle.std.proofs.Common.{ap, subst, sym, false}
 use Rattle.version_assign.specs.Calls.{Admitting}
-use Rattle.validator_core.specs.Courses.{Opens}
+use Rattle.epoch_turn.specs.Openings.{Opens}
 use Rattle.validator_core.proofs.Coursing.{empty_sound}
 use Rattle.validator_core.proofs.course.Course.forget.Goals as goal
 

@@ -1,7 +1,7 @@
 use Rattle.std.proofs.Common.{subst, sym, false}
 use Rattle.epoch_turn.specs.Chains.{cut_of_chain}
 use Rattle.version_store.specs.Stores.{Stored}
-use Rattle.validator_core.specs.Courses.{Opens}
+use Rattle.epoch_turn.specs.Openings.{Opens}
 use Rattle.validator_core.proofs.Coursing.{fresh_sound}
 use Rattle.validator_core.proofs.Renewing.{reverted_are, turned_is}
 use Rattle.validator_core.proofs.course.Course.turn.Goals as goal

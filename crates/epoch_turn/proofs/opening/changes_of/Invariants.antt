@@ -1,6 +1,6 @@
 use Rattle.std.proofs.Common.{◌≡◌, [], length}
-use Rattle.validator_core.specs.Renewals.{changes_after}
-use Rattle.validator_core.proofs.renewal.changes_of.Given as goal
+use Rattle.epoch_turn.specs.Openings.{changes_after}
+use Rattle.epoch_turn.proofs.opening.changes_of.Given as goal
 
 -- what is left comes to what all come to
 abbrev pub invariant-loop-rest : goal.invariant-loop-rest

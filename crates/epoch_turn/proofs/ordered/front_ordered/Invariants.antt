@@ -1,7 +1,6 @@
 use Rattle.std.proofs.Common.{◌≡◌, ◌+◌, ◌≤◌, length}
-use Rattle.epoch_turn.specs.Dues.{front_length}
-use Rattle.validator_core.specs.Sound.{is_ordered}
-use Rattle.validator_core.proofs.ordered.front_ordered.Given as goal
+use Rattle.epoch_turn.specs.Dues.{front_length, is_ordered}
+use Rattle.epoch_turn.proofs.ordered.front_ordered.Given as goal
 
 -- those found, and those that will be
 abbrev pub invariant-loop-rest : goal.invariant-loop-rest

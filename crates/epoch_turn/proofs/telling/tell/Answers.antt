@@ -1,6 +1,6 @@
 use Rattle.std.proofs.Common.{◌∙◌, arith}
-use Rattle.validator_core.proofs.Told.{behind_then}
-use Rattle.validator_core.proofs.telling.tell.Goals as goal
+use Rattle.epoch_turn.proofs.Told.{behind_then}
+use Rattle.epoch_turn.proofs.telling.tell.Goals as goal
 
 pub returns-in_err-tell_one-clause-behind : goal.returns-in_err-tell_one-clause-behind
 returns-in_err-tell_one-clause-behind c = behind_then c.args.chain.now c.loop-place.chain c.tell_one.new.chain c.loop-place.invariant.behind c.tell_one.ensures.behind

@@ -1,8 +1,8 @@
 use Rattle.std.proofs.Common.{◌∙◌, [], ap}
 use Rattle.version_assign.specs.Changes.{Renews}
-use Rattle.validator_core.specs.Renewals.{changes_after}
-use Rattle.validator_core.proofs.Renewing.{renewed}
-use Rattle.validator_core.proofs.renewal.renew.Goals as goal
+use Rattle.epoch_turn.specs.Openings.{changes_after}
+use Rattle.epoch_turn.proofs.Renewing.{renewed}
+use Rattle.epoch_turn.proofs.opening.renew.Goals as goal
 use Rattle.protocol_spec.proofs.Truth.{on_ok_then}
 
 pub returns-clause-opens : goal.returns-clause-opens

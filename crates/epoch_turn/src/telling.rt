@@ -6,10 +6,11 @@ ghost use Rattle.protocol_spec.specs.Member.Admission.{Admitted};
 ghost use Rattle.epoch_turn.specs.Chains.{IsTold, StaysBehind};
 ghost use Rattle.epoch_turn.specs.Dues.{due_of};
 
-use crate::replay::same_origins;
+use crate::chain::Chain;
+use crate::due::Due;
+use cert_rules::same_origins;
 use chain_messages::Certificate;
 use digest_core::Digest;
-use epoch_turn::{Chain, Due};
 use version_assign::Admission;
 use vote_rules::HeldBook;
 use wire_bcs::OutOfMemory;
@@ -58,8 +59,9 @@ fn tell_one(
     }
 }
 
-/// Tells the chain of the transactions that were admitted from a place on.
-pub(crate) fn tell(
+/// Tells the chain of the transactions that were admitted from a place on. Where memory is refused it was told of some
+/// of them.
+pub fn tell(
     chain: &mut Chain,
     held: &HeldBook,
     admission: &Admission,

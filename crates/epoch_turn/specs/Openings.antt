@@ -1,9 +1,16 @@
--- What an epoch changed, as the next one opens with it.
+-- How the next epoch opens with what this one changed.
 use Rattle.std.specs.Prelude.{List, [], ◌∷◌, ◌++◌}
+use Rattle.chain_types.specs.declared.objects.Object.{Object}
 use Rattle.chain_types.specs.declared.objects.ObjectId.{ObjectId}
 use Rattle.protocol_spec.specs.Member.Versions.{live}
 use Rattle.version_assign.specs.declared.changes.Change.{Change}
+use Rattle.version_assign.specs.Sharing.{KeepsShared}
+use Rattle.version_store.specs.Changed.{IsSingle}
 use Rattle.version_store.specs.Stores.{Stored}
+
+-- an admission has the shared objects with which the epoch opened, one of each id
+abbrev pub Opens : List Object → List Object → Type 0
+Opens kept opening = KeepsShared kept opening × IsSingle opening
 
 -- an object as it lives
 abbrev pub change_in : Stored → ObjectId → Change

@@ -1,6 +1,6 @@
 use Rattle.std.proofs.Common.{◌≡◌, ◌≤◌, ◌-◌, length, take}
 use Rattle.epoch_turn.specs.Chains.{IsTold, StaysBehind}
-use Rattle.validator_core.proofs.telling.tell.Given as goal
+use Rattle.epoch_turn.proofs.telling.tell.Given as goal
 
 -- the chain was told of all up to a place
 abbrev pub invariant-loop-place : goal.invariant-loop-place

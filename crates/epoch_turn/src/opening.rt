@@ -1,0 +1,64 @@
+//! The opening of the next epoch: what stands in no cut is undone, and admission begins with what lives.
+
+ghost use Rattle.std.specs.Prelude.{◌≡◌, [], IfOk, OnOk};
+ghost use Rattle.protocol_spec.specs.Member.Admission.{nothing_admitted};
+ghost use Rattle.protocol_spec.specs.Member.Versions.{live_list};
+ghost use Rattle.version_store.specs.Reverts.{reverted_to, undone};
+ghost use Rattle.epoch_turn.specs.Chains.{AreCut, cut_of_chain};
+ghost use Rattle.epoch_turn.specs.Openings.{Opens, change_in, changes_after};
+
+use crate::chain::Chain;
+use chain_types::ObjectId;
+use digest_core::Digest;
+use std::alloc::Global;
+use version_assign::{Admission, Change};
+use version_store::Store;
+use wire_bcs::{OutOfMemory, Seq};
+
+/// Undoes what was executed and stands in no cut, and answers the undone transactions, oldest first (epoch change of Sui
+/// Lutris). Where memory is refused the store is not to be used.
+pub fn revert_uncut(chain: &Chain, store: &mut Store) -> Result<Seq<Digest>, OutOfMemory>
+    ensures store { OnOk result (store.new ≡ reverted_to (cut_of_chain chain.now) store.old) }
+    ensures undone { IfOk result (λ txs. txs ≡ undone (cut_of_chain chain.now) store.old) }
+    ensures cut { OnOk result (AreCut chain.now (cut_of_chain chain.now)) }
+{
+    let kept = chain.cut_transactions()?;
+    store.revert_to(&kept)
+}
+
+/// An object as it lives.
+fn change_of(store: &Store, id: &ObjectId) -> Change
+    ensures { result ≡ change_in store.now id.now }
+{
+    Change {
+        id: *id,
+        lives: store.live(id).copied(),
+    }
+}
+
+/// The objects with these ids, as they live.
+fn changes_of(alloc: Global, store: &Store, ids: &[ObjectId]) -> Result<Seq<Change>, OutOfMemory>
+    ensures { IfOk result (λ changes. changes ≡ changes_after store.now [] ids.now) }
+{
+    let mut changes = Seq::new(alloc);
+    let mut rest = ids;
+    while let [id, after @ ..] = rest {
+        changes.push(change_of(store, id))?;
+        rest = after;
+    }
+    Ok(changes)
+}
+
+/// Makes the admission that of the epoch that opens with the live objects of this one's store. Time grows with what the
+/// epoch wrote and deleted. Where memory is refused it is not to be used.
+#[tactic(auto, using(crate::proofs::Renewing::changes_own))]
+pub fn renew(alloc: Global, store: &Store, admission: &mut Admission) -> Result<(), OutOfMemory>
+    requires { Opens admission.old.opening store.now.opening }
+    ensures nothing { OnOk result (admission.new.admission ≡ nothing_admitted) }
+    ensures opens { OnOk result (Opens admission.new.opening (live_list store.now.opening store.now.executed)) }
+    ensures limit { admission.new.writers ≡ admission.old.writers }
+{
+    let ids = store.changed()?;
+    let changes = changes_of(alloc, store, ids.as_slice())?;
+    admission.renew(changes.as_slice())
+}
