@@ -1,4 +1,6 @@
-use Rattle.std.proofs.Common.{◌∙◌, ◌+◌, ap, drop, length}
+use Rattle.std.proofs.Common.{◌∙◌, ◌+◌, ◌≤◌, List, ap, drop, length, subst, sym}
+use Rattle.answer_types.specs.declared.answers.Held.{Held}
+use Rattle.epoch_turn.specs.Dues.{front_length, is_ordered}
 use Rattle.protocol_spec.specs.Member.Member.{built}
 use Rattle.scene_spec.specs.Terms.{rules_for}
 use Rattle.validator_core.specs.Courses.{coursed}
@@ -10,7 +12,10 @@ use Rattle.validator_core.proofs.Fronts.{ordered_behind}
 use Rattle.validator_core.proofs.state.State.take_entry.Goals as goal
 
 pub ordered_on-self-inside-requires : goal.ordered_on-self-inside-requires
-ordered_on-self-inside-requires c = let s = c.self.inside in ordered_behind c.args.committee.now s.ordered (coursed s.course) c.args.arrival (coursed c.see.new.self) c.self.invariant.front c.in-Ok.ensures.value
+ordered_on-self-inside-requires c =
+    let s = c.self.inside in
+    subst (λ (hs : List Held). s.ordered ≤ front_length (is_ordered c.see.new.self.admission.admission) hs) (sym c.as_slice.ensures.value)
+    (ordered_behind c.args.committee.now s.ordered (coursed s.course) c.args.arrival (coursed c.see.new.self) c.self.invariant.front c.in-Ok.ensures.value)
 
 pub returns-in-Ok-clause-state : goal.returns-in-Ok-clause-state
 returns-in-Ok-clause-state c =
