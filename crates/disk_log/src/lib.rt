@@ -14,8 +14,6 @@
 #![tactic(auto)]
 
 mod crash;
-#[cfg(test)]
-mod crash_tests;
 mod disk;
 mod index;
 mod keeping;
@@ -36,6 +34,3 @@ pub use mem_disk::{Change, MemDisk};
 pub use moment::{Moment, Span};
 pub use refusals::{LogRefusal, OpenRefusal};
 pub use run_log::RunLog;
-
-#[cfg(test)]
-mod tests;

@@ -23,6 +23,3 @@ pub use catching::{CatchUpRefusal, catch_up};
 pub use follower::Follower;
 pub use laws::applied_is_followed;
 pub use refusals::FollowRefusal;
-
-#[cfg(test)]
-mod tests;

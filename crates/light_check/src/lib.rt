@@ -25,6 +25,3 @@ pub use finding::find;
 pub use make::make_chain;
 pub use rivals::{DoubleVote, blame};
 pub use verdict::{Verdict, judge};
-
-#[cfg(test)]
-mod tests;

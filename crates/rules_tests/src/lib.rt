@@ -1,10 +1,13 @@
-//! Tests of the rules: tables, shapes, locks, stores, votes, certificates, admission, rounds, checkpoints and Ends.
+//! Tests of the rules: tables, shapes, locks, stores, votes, certificates, admission, rounds, checkpoints and Ends; and of
+//! who checks or follows checkpoints.
 #![tactic(auto)]
 
 #[cfg(test)]
 mod admissions;
 #[cfg(test)]
 mod certificates;
+#[cfg(test)]
+mod chains;
 #[cfg(test)]
 mod checkpoints;
 #[cfg(test)]
@@ -15,6 +18,8 @@ mod desks;
 mod ends;
 #[cfg(test)]
 mod epochs;
+#[cfg(test)]
+mod followers;
 #[cfg(test)]
 mod holders;
 #[cfg(test)]

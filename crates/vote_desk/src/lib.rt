@@ -24,8 +24,6 @@ mod law;
 mod serial;
 mod standing;
 mod sure;
-#[cfg(test)]
-mod tests;
 mod view;
 
 pub use callers::{answers_to_callers, ask_by_callers};

@@ -1,8 +1,11 @@
-//! Tests of what is read and written: worked bytes and digests, the faults of spellings, and the words of schedules and reports.
+//! Tests of what is read and written: worked bytes and digests, the faults of spellings, the words of schedules and reports,
+//! and the journal file.
 #![tactic(auto)]
 
 #[cfg(test)]
 mod checkpoints;
+#[cfg(test)]
+mod crashes;
 #[cfg(test)]
 mod digests;
 #[cfg(test)]
@@ -11,6 +14,8 @@ mod effects;
 mod generated;
 #[cfg(test)]
 mod items;
+#[cfg(test)]
+mod journal_files;
 #[cfg(test)]
 mod messages;
 #[cfg(test)]

@@ -5,10 +5,10 @@ ghost use Rattle.std.specs.Prelude.{◌≡◌, All, IfSome, []};
 ghost use Rattle.checkpoint_core.specs.Checkpoints.{checkpoint as codec};
 ghost use Rattle.chain_types.specs.Transactions.{transaction};
 
-use crate::{Archive, CatchUpRefusal, FollowRefusal, Follower, catch_up};
 use chain_types::{Object, Transaction, tx_digest};
 use checkpoint_core::Checkpoint;
 use digest_core::Digest;
+use follower_core::{Archive, CatchUpRefusal, FollowRefusal, Follower, catch_up};
 use std::alloc::Global;
 use std::marker::Model;
 use std::test::Fail;
@@ -429,7 +429,7 @@ impl Model for Shelf {
     ghost use Rattle.std.specs.Prelude.{List};
     ghost use Rattle.chain_types.specs.Transactions.{transaction};
     ghost use Rattle.protocol_spec.specs.Chain.Words.{Each};
-    ghost use Rattle.follower_core.specs.declared.tests.Known.{Known as Under};
+    ghost use Rattle.rules_tests.specs.declared.followers.Known.{Known as Under};
 
     ghost Value = { List Under };
 

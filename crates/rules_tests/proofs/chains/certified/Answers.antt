@@ -7,7 +7,7 @@ use Rattle.chain_types.specs.declared.transactions.Command.{Command}
 use Rattle.chain_types.specs.declared.transactions.Transaction.{Transaction}
 use Rattle.chain_types.specs.Objects.{object_id, address, object_ref}
 use Rattle.chain_types.specs.Transactions.{transaction, input, command}
-use Rattle.light_check.proofs.tests.certified.Goals as goal
+use Rattle.rules_tests.proofs.chains.certified.Goals as goal
 
 bare : (t : Transaction) → t.inputs ≡ [] → t.commands ≡ [] → transaction.short t
 unfolding transaction object_ref object_id address digest

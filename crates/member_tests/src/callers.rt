@@ -3,7 +3,6 @@
 ghost use Rattle.std.specs.Prelude.{◌≡◌, IfOk};
 ghost use Rattle.scene_spec.specs.Starts.{AreApart};
 
-use crate::{DeskEntry, SureKeeper, answers_to_callers};
 use answer_types::VoteRefusal;
 use quorum_core::{Committee, KeyedSeal};
 use std::alloc::Global;
@@ -11,6 +10,7 @@ use std::sync::Wait;
 use std::test::Fail;
 use std::thread::Threads;
 use validator_core::Validator;
+use vote_desk::{DeskEntry, SureKeeper, answers_to_callers};
 use wire_bcs::{OutOfMemory, Seq};
 
 /// A member that is a committee by itself.

@@ -1,4 +1,4 @@
-use crate::{DiskLog, LogRefusal, MemDisk, OpenRefusal, RunLog};
+use disk_log::{DiskLog, LogRefusal, MemDisk, OpenRefusal, RunLog};
 use outside::{Keeper, OutFault};
 use std::alloc::Global;
 use std::test::Fail;

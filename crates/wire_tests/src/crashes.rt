@@ -1,7 +1,7 @@
 //! Crashes behind each device call of what members of worked schedules keep. The records are those of an independent
 //! script, which has their digests and seals from SHA-256 and their spellings from the rules.
 
-use crate::{DiskLog, MemDisk};
+use disk_log::{DiskLog, MemDisk};
 use outside::Keeper;
 use std::alloc::Global;
 use std::test::Fail;

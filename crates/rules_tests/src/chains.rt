@@ -5,14 +5,14 @@ ghost use Rattle.light_check.specs.Chains as codecs;
 ghost use Rattle.std.specs.Prelude.{IfOk};
 ghost use Rattle.chain_types.specs.Transactions.{transaction};
 
-use crate::{
-    Chain, ChainRefusal, Verdict, blame, check_chain, check_source, decode_chain, encode_chain,
-    find, judge, make_chain,
-};
 use chain_messages::{Certificate, MemberSeal};
 use chain_types::{Address, ObjectId, ObjectKey, ObjectRef, Transaction};
 use checkpoint_core::Checkpoint;
 use digest_core::Digest;
+use light_check::{
+    Chain, ChainRefusal, Verdict, blame, check_chain, check_source, decode_chain, encode_chain,
+    find, judge, make_chain,
+};
 use outside::{MemSink, MemSource};
 use quorum_core::{Committee, KeyedSeal};
 use std::alloc::Global;
@@ -155,7 +155,7 @@ fn two_of_four_are_no_quorum(rt: HostRuntime) -> Result<(), Fail> {
 }
 
 /// The spelling of the chain that members 0, 1 and 2 make of the checkpoints.
-#[tactic(auto, unfolding(crate::specs::Chains::checkpoints))]
+#[tactic(auto, unfolding(light_check::specs::Chains::checkpoints))]
 fn made(alloc: Global, bytes: &[u8]) -> Result<Seq<u8>, Fail> {
     let checkpoints: Seq<Checkpoint> = decode(alloc, bytes)?;
     let chain = make_chain(alloc, &checkpoints, [0, 1, 2].as_slice(), &sealer())?;
