@@ -19,6 +19,17 @@ def below(uses, name, found=None):
     return list(found)
 
 
+def unbuilt(uses, name, libraries):
+    """The crates below one that have no library, or that stand on such a crate, lowest first."""
+    found = []
+    for use in uses[name]:
+        if use in uses:
+            found += [it for it in unbuilt(uses, use, libraries) if it not in found]
+            if use not in found and (libraries[use] is None or any(it in found for it in uses[use])):
+                found.append(use)
+    return found
+
+
 def sources(top, name, tests=False):
     """The texts of a crate that its library is made of, by their path in it; with its tests where they are asked for."""
     folder, found = f"{top}/crates/{name}", {}
@@ -38,12 +49,18 @@ def is_program(top, name):
     return os.path.exists(f"{top}/crates/{name}/src/main.rt")
 
 
-def words(top, uses, name, libraries, links, jobs=1):
-    """What rattle is told of the crate and of what it stands on. `links` names the crates of which it is said that they link nothing."""
+def words(top, uses, name, libraries, links, jobs=1, sources=()):
+    """What rattle is told of the crate and of what it stands on. `links` names the crates of which it is said that they link nothing;
+    `sources` those below, lowest first, that have no library and are read as they stand."""
     root = f"src/{'main' if is_program(top, name) else 'lib'}.rt"
     told = ["--crate-name", name, root, "--extern", f"std={KIT}/rlibs/std.rlib", "-L", f"dependency={KIT}/rlibs"]
-    for use in uses[name]:
+    named = dict.fromkeys(use for it in [name, *sources] for use in uses[it] if use not in sources)
+    for use in named:
         told += ["--extern", f"{use}={libraries.get(use, f'{KIT}/rlibs/{use}.rlib')}"]
+    if sources:
+        told += ["--extern", f"core={KIT}/rlibs/core.rlib"]
+    for it in sources:
+        told += ["--lib", f"{it}:core,std,{','.join(uses[it])}={top}/crates/{it}/src/lib.rt"]
     for folder in dict.fromkeys(os.path.dirname(it) for it in libraries.values()):
         told += ["-L", f"dependency={folder}"]
     told += ["--antt-project", f"{KIT}/rattle/logic/antt-project.json", "--logic-built", f"{KIT}/logic_built", "--jobs", str(jobs)]
