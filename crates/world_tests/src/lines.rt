@@ -15,8 +15,8 @@ use std::alloc::Global;
 use std::test::Fail;
 use wire_bcs::{OutOfMemory, Seq};
 use world_lines::{
-    Collected, ack_text, add_entry_lines, cert_text, close_text, end_text, final_text, hold_text,
-    run_lines, shown_lines, turn_lines, vote_text,
+    Collected, ack_text, add_entry_lines, close_text, collected_lines, end_text, final_text,
+    hold_text, run_lines, shown_lines, turn_lines, vote_text,
 };
 use world_names::Directory;
 
@@ -387,16 +387,9 @@ fn shows_objects(rt: HostRuntime) -> Result<(), Fail> {
     Ok(())
 }
 
-/// The lines of what collecting the votes of the members 0 and 2 gave.
-fn collected_lines(alloc: Global, collected: Collected) -> Result<Seq<Line>, OutOfMemory> {
-    let tx = Seq::from_slice(alloc, b"t".as_slice())?;
-    let text = cert_text(alloc, [0, 2].as_slice(), &collected)?;
-    one(alloc, Line::Cert { tx, text })
-}
-
 /// The text for what collecting the votes of the members 0 and 2 gave.
 fn collected(alloc: Global, collected: Collected) -> Result<Seq<u8>, OutOfMemory> {
-    let lines = collected_lines(alloc, collected)?;
+    let lines = collected_lines(alloc, b"t".as_slice(), [0, 2].as_slice(), &collected)?;
     let text = printed(alloc, &lines);
     drop(lines);
     text
