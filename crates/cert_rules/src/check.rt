@@ -18,7 +18,7 @@ use tx_check::{ShapeRefusal, check_shape};
 use wire_bcs::{Duplicate, OutOfMemory, Seq};
 
 /// Whether there is one origin for each object.
-#[tactic(auto, unfolding(chain_types::specs::Digests::objects_of))]
+#[tactic(auto, unfolding(chain_types::specs::Digests::object_count))]
 fn has_each_origin(cert: &Certificate) -> bool
     requires { length cert.now.tx.inputs ≤ 256 }
     ensures { result ≡ (length cert.now.origins == length (objects_of cert.now.tx)) }

@@ -37,7 +37,12 @@ unfoldable pub statement : Codec Statement
 statement = by statement_to statement_from
     (elim [ statements.Vote a b c ↦ refl | statements.End a ↦ refl | statements.Checkpoint a b c ↦ refl | statements.Ack a b c ↦ refl ])
     (elim [ inl p ↦ refl | inr (inl a) ↦ refl | inr (inr (inl p)) ↦ refl | inr (inr (inr p)) ↦ refl ])
-    (choice (case 0 (pair (number 8) (pair digest (seq (option digest)))) (case 1 (number 8) (case 2 (pair (number 8) (pair (number 8) digest)) (last 3 (pair (number 8) (pair digest digest))) refl) refl) refl) refl)
+    (choice
+        (case 0 (pair (number 8) (pair digest (seq (option digest))))  -- Vote
+        (case 1 (number 8)                                             -- End
+        (case 2 (pair (number 8) (pair (number 8) digest))             -- Checkpoint
+        (last 3 (pair (number 8) (pair digest digest)))                -- Ack
+        refl) refl) refl) refl)
 
 -- member, statement, seal
 unfoldable pub sealed : Codec Sealed
@@ -72,4 +77,8 @@ unfoldable pub entry : Codec Entry
 entry = by entry_to entry_from
     (elim [ entries.Cert a ↦ refl | entries.End a ↦ refl | entries.Commit ↦ refl ])
     (elim [ inl a ↦ refl | inr (inl a) ↦ refl | inr (inr u) ↦ refl ])
-    (choice (case 0 certificate (case 1 sealed (last 2 nothing) refl) refl) refl)
+    (choice
+        (case 0 certificate  -- Cert
+        (case 1 sealed       -- End
+        (last 2 nothing)     -- Commit
+        refl) refl) refl)

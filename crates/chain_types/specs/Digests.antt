@@ -43,8 +43,8 @@ is_object (inputs.Immutable r) = true
 is_object (inputs.Shared id initial mutable) = true
 
 -- the objects are the gas coin and the inputs other than Pure
-unfoldable pub objects_of : Transaction → ℕ
-objects_of t = length (filter is_object (inputs.Owned t.gas ∷ t.inputs))
+unfoldable pub object_count : Transaction → ℕ
+object_count t = length (filter is_object (inputs.Owned t.gas ∷ t.inputs))
 
 -- 1 and the greatest version
 unfoldable pub lamport_version : List ℕ → ℕ

@@ -47,7 +47,11 @@ unfoldable pub owner : Codec Owner
 owner = by owner_to owner_from
     (elim [ owners.Address a ↦ refl | owners.Shared initial ↦ refl | owners.Immutable ↦ refl ])
     (elim [ inl a ↦ refl | inr (inl initial) ↦ refl | inr (inr u) ↦ refl ])
-    (choice (case 0 address (case 1 (number 8) (last 2 nothing) refl) refl) refl)
+    (choice
+        (case 0 address     -- Address
+        (case 1 (number 8)  -- Shared
+        (last 2 nothing)    -- Immutable
+        refl) refl) refl)
 
 -- ---- Coin 0, Cap 1, Counter 2, Vault 3, VaultKey 4, Limit 5
 
@@ -74,7 +78,14 @@ unfoldable pub kind : Codec Kind
 kind = by kind_to kind_from
     (elim [ kinds.Coin ↦ refl | kinds.Cap ↦ refl | kinds.Counter ↦ refl | kinds.Vault ↦ refl | kinds.VaultKey ↦ refl | kinds.Limit ↦ refl ])
     (elim [ inl u ↦ refl | inr (inl u) ↦ refl | inr (inr (inl u)) ↦ refl | inr (inr (inr (inl u))) ↦ refl | inr (inr (inr (inr (inl u)))) ↦ refl | inr (inr (inr (inr (inr u)))) ↦ refl ])
-    (choice (case 0 nothing (case 1 nothing (case 2 nothing (case 3 nothing (case 4 nothing (last 5 nothing) refl) refl) refl) refl) refl) refl)
+    (choice
+        (case 0 nothing   -- Coin
+        (case 1 nothing   -- Cap
+        (case 2 nothing   -- Counter
+        (case 3 nothing   -- Vault
+        (case 4 nothing   -- VaultKey
+        (last 5 nothing)  -- Limit
+        refl) refl) refl) refl) refl) refl)
 
 -- ---- Coin 0 (currency, balance); Cap 1 (currency, supply); Counter 2 (value); Vault 3 (currency, balance); VaultKey 4 (vault); Limit 5 (value)
 
@@ -101,7 +112,14 @@ unfoldable pub content : Codec Content
 content = by content_to content_from
     (elim [ contents.Coin a b ↦ refl | contents.Cap a b ↦ refl | contents.Counter a ↦ refl | contents.Vault a b ↦ refl | contents.VaultKey a ↦ refl | contents.Limit a ↦ refl ])
     (elim [ inl p ↦ refl | inr (inl p) ↦ refl | inr (inr (inl a)) ↦ refl | inr (inr (inr (inl p))) ↦ refl | inr (inr (inr (inr (inl a)))) ↦ refl | inr (inr (inr (inr (inr a)))) ↦ refl ])
-    (choice (case 0 (pair (number 8) (number 8)) (case 1 (pair (number 8) (number 8)) (case 2 (number 8) (case 3 (pair (number 8) (number 8)) (case 4 object_id (last 5 (number 8)) refl) refl) refl) refl) refl) refl)
+    (choice
+        (case 0 (pair (number 8) (number 8))  -- Coin
+        (case 1 (pair (number 8) (number 8))  -- Cap
+        (case 2 (number 8)                    -- Counter
+        (case 3 (pair (number 8) (number 8))  -- Vault
+        (case 4 object_id                     -- VaultKey
+        (last 5 (number 8))                   -- Limit
+        refl) refl) refl) refl) refl) refl)
 
 -- id, version, owner, content
 unfoldable pub object : Codec Object

@@ -1,7 +1,7 @@
 //! The versions that a transaction names, consumes and writes.
 
 ghost use Rattle.std.specs.Prelude.{◌≡◌, ◌<◌, ◌^◌, ◌-◌, ◌≤◌, ◌≢◌, All, length, IfOk, []};
-ghost use Rattle.chain_types.specs.Digests.{key_of, consumed_key, consumed_keys, objects_of, lamport_version};
+ghost use Rattle.chain_types.specs.Digests.{key_of, consumed_key, consumed_keys, object_count, lamport_version};
 
 use crate::objects::{ObjectKey, ObjectRef};
 use crate::transactions::{Input, Transaction};
@@ -50,10 +50,10 @@ pub fn owned_keys(alloc: Global, tx: &Transaction) -> Result<Seq<ObjectKey>, Out
 
 /// The number of objects of a transaction: its gas coin, and its inputs other than Pure. There are at
 /// most 2147483647 inputs.
-#[tactic(auto, unfolding(crate::specs::Digests::objects_of))]
+#[tactic(auto, unfolding(crate::specs::Digests::object_count))]
 pub fn object_count(tx: &Transaction) -> u32
     requires { length tx.now.inputs < 2147483648 }
-    ensures { result ≡ objects_of tx.now }
+    ensures { result ≡ object_count tx.now }
 {
     let mut count = 1;
     for input in tx.inputs.as_slice() {

@@ -13,7 +13,7 @@ use Rattle.world_spec.specs.World.{World, member_in}
 use Rattle.world_spec.specs.Run.{world_after}
 use Rattle.world_spec.specs.Assumptions.{IsHonestRun}
 use Rattle.scene_spec.specs.Terms.{terms_of}
-use Rattle.scene_spec.specs.Seats.{Seat}
+use Rattle.scene_spec.specs.Seats.{Seated}
 use Rattle.scene_spec.specs.Posts.{Post}
 use Rattle.scene_spec.specs.Scene.{Scene}
 use Rattle.scene_spec.specs.Worlds.{Shows, posts_from}
@@ -79,19 +79,19 @@ lowest_is posts links place k (Some m) there differs lowest = record { link = k;
 -- ---- in a run
 
 -- the member of a post is that of a seat
-record IsSeated (s : Setting) (seats : List worlds.Seat) (m : ℕ) (state : Member) : Type 0 where
-  seat : worlds.Seat
+record IsSeated (s : Setting) (seats : List worlds.Seated) (m : ℕ) (state : Member) : Type 0 where
+  seat : worlds.Seated
   there : slice_get seats m ≡ Some seat
   is : state ≡ member_in s seat
 
-seated : (s : Setting) (n : ℕ) (seats : List worlds.Seat) (m : ℕ) (q : Seat) → honest_at (slice_get (posts_from s n seats) m) ≡ Some q → IsSeated s seats m q.state
+seated : (s : Setting) (n : ℕ) (seats : List worlds.Seated) (m : ℕ) (q : Seated) → honest_at (slice_get (posts_from s n seats) m) ≡ Some q → IsSeated s seats m q.state
 seated s n [] m q e = absurd (cc)
 seated s n (seat ∷ seats) zero q e = go seat.honest seat.up e
   where
-    state_is : (x : Seat) → Some x ≡ Some q → x.state ≡ q.state
-    state_is x h = let same : x ≡ q = cc in ap (λ (y : Seat). y.state) same
+    state_is : (x : Seated) → Some x ≡ Some q → x.state ≡ q.state
+    state_is x h = let same : x ≡ q = cc in ap (λ (y : Seated). y.state) same
 
-    go : (honest up : Bool) → cond honest (cond up (Some (let x : Seat = record { member = n; terms = terms_of s.rules; up = true; state = member_in s seat } in x)) None) None ≡ Some q → IsSeated s (seat ∷ seats) zero q.state
+    go : (honest up : Bool) → cond honest (cond up (Some (let x : Seated = record { member = n; terms = terms_of s.rules; up = true; state = member_in s seat } in x)) None) None ≡ Some q → IsSeated s (seat ∷ seats) zero q.state
     go false up h = absurd (cc)
     go true false h = absurd (cc)
     go true true h = record { seat = seat; there = refl; is = sym (state_is _ h) }
@@ -101,18 +101,18 @@ seated s n (seat ∷ seats) (suc m) q e = go (seated s (suc n) seats m q e)
     go it = record { seat = it.seat; there = it.there; is = it.is }
 
 -- what it has built
-record HasBuilt (s : Setting) (seats : List worlds.Seat) (m place : ℕ) (c : Checkpoint) : Type 0 where
-  seat : worlds.Seat
+record HasBuilt (s : Setting) (seats : List worlds.Seated) (m place : ℕ) (c : Checkpoint) : Type 0 where
+  seat : worlds.Seated
   there : slice_get seats m ≡ Some seat
   built_it : slice_get (built (member_in s seat)) place ≡ Some c
 
-built_at : (s : Setting) (seats : List worlds.Seat) (m place : ℕ) (c : Checkpoint) → checkpoint_at (slice_get (posts_from s 0 seats) m) place ≡ Some c → HasBuilt s seats m place c
+built_at : (s : Setting) (seats : List worlds.Seated) (m place : ℕ) (c : Checkpoint) → checkpoint_at (slice_get (posts_from s 0 seats) m) place ≡ Some c → HasBuilt s seats m place c
 built_at s seats m place c e = go (honest_at (slice_get (posts_from s 0 seats) m)) refl e
   where
-    of : (q : Seat) → IsSeated s seats m q.state → slice_get (built q.state) place ≡ Some c → HasBuilt s seats m place c
+    of : (q : Seated) → IsSeated s seats m q.state → slice_get (built q.state) place ≡ Some c → HasBuilt s seats m place c
     of q it h = record { seat = it.seat; there = it.there; built_it = ap (λ (state : Member). slice_get (built state) place) (sym it.is) ∙ h }
 
-    go : (o : Option Seat) → honest_at (slice_get (posts_from s 0 seats) m) ≡ o → option_and_then (λ (seat : Seat). slice_get (built seat.state) place) o ≡ Some c → HasBuilt s seats m place c
+    go : (o : Option Seated) → honest_at (slice_get (posts_from s 0 seats) m) ≡ o → option_and_then (λ (seat : Seated). slice_get (built seat.state) place) o ≡ Some c → HasBuilt s seats m place c
     go None at h = absurd (cc)
     go (Some q) at h = of q (seated s 0 seats m q at) h
 

@@ -16,7 +16,7 @@ use Rattle.world_spec.specs.World.{World, honest_seat, member_in}
 use Rattle.world_spec.specs.Run.{world_after}
 use Rattle.scene_spec.specs.Posts.{seat_at}
 use Rattle.scene_spec.specs.Scene.{Scene}
-use Rattle.scene_spec.specs.Seats.{Seat}
+use Rattle.scene_spec.specs.Seats.{Seated}
 use Rattle.scene_spec.specs.Terms.{terms_of}
 use Rattle.scene_spec.specs.Worlds.{Shows, posts_from}
 use Rattle.validator_core.specs.Opened.{opening_objects}
@@ -75,12 +75,12 @@ module _ (known : Known) (opening handed : List Object) (m : Member) (epoch : �
 
 -- ---- behind a run
 
-chosen : (h u : Bool) (x : Seat) → option_map (λ (q : Seat). q.state) (cond h (cond u (Some x) None) None) ≡ cond h (cond u (Some x.state) None) None
+chosen : (h u : Bool) (x : Seated) → option_map (λ (q : Seated). q.state) (cond h (cond u (Some x) None) None) ≡ cond h (cond u (Some x.state) None) None
 chosen true true x = refl
 chosen true false x = refl
 chosen false u x = refl
 
-asked_post : (s : Setting) (n : ℕ) (seats : List worlds.Seat) (m : ℕ) → asked_at (slice_get (posts_from s n seats) m) ≡ record { honest = honest_seat (slice_get seats m); state = state_in s (slice_get seats m) }
+asked_post : (s : Setting) (n : ℕ) (seats : List worlds.Seated) (m : ℕ) → asked_at (slice_get (posts_from s n seats) m) ≡ record { honest = honest_seat (slice_get seats m); state = state_in s (slice_get seats m) }
 asked_post s n [] m = refl
 asked_post s n (seat ∷ seats) zero =
     let state : Option Member → Asked = λ o. record { honest = seat.honest; state = o } in

@@ -123,7 +123,7 @@ sums-first : (s : Setting) (seats : List Seat) (m : Member) → (f : FirstSeat s
 sums-first s [] m f is = absurd (cc)
 sums-first s (x ∷ seats) m f is =
     let same : x ≡ f.seat = just x f.seat f.at in
-    ap (option_map (λ (seat : scene_seats.Seat). told.sums_of seat.state)) (chosen x.honest x.up (Some (seat_at (terms_of s.rules) 0 (member_in s x))) (ap (λ (y : Seat). y.honest) same ∙ f.honest) (ap (λ (y : Seat). y.up) same ∙ f.up))
+    ap (option_map (λ (seat : scene_seats.Seated). told.sums_of seat.state)) (chosen x.honest x.up (Some (seat_at (terms_of s.rules) 0 (member_in s x))) (ap (λ (y : Seat). y.honest) same ∙ f.honest) (ap (λ (y : Seat). y.up) same ∙ f.up))
     ∙ ap (option_map told.sums_of) is
   where
     just : (x y : Seat) → Some x ≡ Some y → x ≡ y

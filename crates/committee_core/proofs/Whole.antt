@@ -1,17 +1,14 @@
 -- Texts and runs that ended, or were cut.
-use Rattle.std.proofs.Common.{◌≡◌, ℕ, ◌≤◌, inl, Bool, true, false, List, [], ◌++◌, length, Option, Some, None, Result, Ok, Err, nat_lt, if◌then◌else◌, refl, sym, ap, subst, append_assoc, arith}
+use Rattle.std.proofs.Common.{◌≡◌, ℕ, ◌≤◌, inl, Bool, true, false, List, [], ◌++◌, length, Option, Some, None, Result, Ok, Err, nat_lt, if◌then◌else◌, refl, sym, ap, subst, arith}
 use Rattle.std.proofs.lemmas.Bool.Decides.{nat_tests}
 use Rattle.std.proofs.KnownBytes.{Appends-nil}
 use Rattle.std.specs.Str.{bytes_eq}
-use Rattle.digest_core.specs.Tagged.{seal_tag, tagged_digest}
-use Rattle.quorum_core.specs.declared.signer.Signer.{Signer}
-use Rattle.quorum_core.specs.Signers as codecs
-use Rattle.quorum_core.specs.Seals.{keyed_seal as sealed_under}
+use Rattle.quorum_core.specs.Seals.{keyed_seal}
 use Rattle.outside.specs.Lists.{Journals}
 use Rattle.schedule_text.specs.declared.words.Schedule.{Schedule}
 use Rattle.schedule_text.specs.Schedule.{Refused, longest_text, schedule_of}
 use Rattle.world_spec.specs.Setting.{Trust}
-use Rattle.world_spec.specs.Keyed.{keyed, keyed_seal, program_secret}
+use Rattle.world_spec.specs.Keyed.{keyed, program_secret}
 use Rattle.world_spec.specs.Run.{journal}
 use Rattle.scene_spec.specs.Scene.{Scene}
 use Rattle.world_core.specs.Trusts.{trust_by}
@@ -44,19 +41,12 @@ refusal_cut trust text r held held' kept is cut = subst (λ (x : Result Schedule
 
 -- ---- the program's seals
 
-same-seal : (secret : List ℕ) (signer : Signer) (bytes : List ℕ) → sealed_under secret signer bytes ≡ keyed_seal secret signer bytes
-unfolding sealed_under keyed_seal
-same-seal secret signer bytes = ap (tagged_digest seal_tag) (append_assoc secret (codecs.signer.spell signer) bytes)
+keyed-seals : (secret : List ℕ) → trust_by (λ signer bytes. keyed_seal secret signer bytes) (λ signer bytes seal. bytes_eq seal.0 (keyed_seal secret signer bytes).0) ≡ keyed secret
+keyed-seals secret = refl
 
-keyed-seals : (secret : List ℕ) → trust_by (λ signer bytes. sealed_under secret signer bytes) (λ signer bytes seal. bytes_eq seal.0 (sealed_under secret signer bytes).0) ≡ keyed secret
-keyed-seals secret = λ i. record {
-  seal = λ signer bytes. same-seal secret signer bytes i;
-  accepts = λ signer bytes seal. bytes_eq seal.0 (same-seal secret signer bytes i).0;
-}
-
-pub program_seals : (secret : List ℕ) → secret ≡ program_secret → trust_by (λ signer bytes. sealed_under secret signer bytes) (λ signer bytes seal. bytes_eq seal.0 (sealed_under secret signer bytes).0) ≡ program_trust
+pub program_seals : (secret : List ℕ) → secret ≡ program_secret → trust_by (λ signer bytes. keyed_seal secret signer bytes) (λ signer bytes seal. bytes_eq seal.0 (keyed_seal secret signer bytes).0) ≡ program_trust
 unfolding program_trust
-program_seals secret is = subst (λ (x : List ℕ). trust_by (λ signer bytes. sealed_under secret signer bytes) (λ signer bytes seal. bytes_eq seal.0 (sealed_under secret signer bytes).0) ≡ keyed x) is (keyed-seals secret)
+program_seals secret is = subst (λ (x : List ℕ). trust_by (λ signer bytes. keyed_seal secret signer bytes) (λ signer bytes seal. bytes_eq seal.0 (keyed_seal secret signer bytes).0) ≡ keyed x) is (keyed-seals secret)
 
 -- ---- a whole text
 

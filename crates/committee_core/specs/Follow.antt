@@ -15,7 +15,7 @@ use Rattle.world_spec.specs.World as worlds
 use Rattle.world_spec.specs.World.{World, is_honest, member_in}
 use Rattle.world_spec.specs.Run.{world_after}
 use Rattle.scene_spec.specs.Posts.{Post}
-use Rattle.scene_spec.specs.Seats.{Seat}
+use Rattle.scene_spec.specs.Seats.{Seated}
 use Rattle.validator_core.specs.Opened.{opening_objects}
 use Rattle.world_core.specs.Crews.{honest_at, honest_post}
 use Rattle.follower_core.specs.declared.catching.CatchUpRefusal.{CatchUpRefusal}
@@ -38,7 +38,7 @@ pub record Asked : Type 0 where
   pub honest : Bool
   pub state : Option Member
 
-abbrev pub state_in : Setting → Option worlds.Seat → Option Member
+abbrev pub state_in : Setting → Option worlds.Seated → Option Member
 state_in s None = None
 state_in s (Some seat) = if seat.honest then (if seat.up then Some (member_in s seat) else None) else None
 
@@ -102,7 +102,7 @@ verdict_text m v = codes "follow " ++ decimal m ++ codes ": " ++ verdict_words v
 -- ---- by what the code sees of a member
 
 abbrev pub asked_at : Option Post → Asked
-asked_at p = record { honest = honest_post p; state = option_map (λ (seat : Seat). seat.state) (honest_at p) }
+asked_at p = record { honest = honest_post p; state = option_map (λ (seat : Seated). seat.state) (honest_at p) }
 
 abbrev pub asked_up : Member → Asked
 asked_up m = record { honest = true; state = Some m }

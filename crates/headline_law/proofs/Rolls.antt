@@ -2,6 +2,7 @@
 use Rattle.std.proofs.Common.{refl, subst, ap, ◌∙◌}
 use Rattle.std.specs.Prelude.{◌≡◌, ℕ, Bool, true, false, nat_lt, ◌&&◌, List, [], ◌∷◌, ◌++◌, length, map, Result, Ok, Err}
 use Rattle.std.specs.List.{filter_map}
+use Rattle.wire_bcs.specs.Ascending.{ascends}
 use Rattle.schedule_text.specs.declared.cause.Cause.{Cause}
 use Rattle.schedule_text.specs.declared.cause.Cause.TheVariants as cause
 use Rattle.schedule_text.specs.declared.words.Schedule.{Schedule}
@@ -12,11 +13,10 @@ use Rattle.schedule_text.specs.declared.words.Event.TheVariants as event
 use Rattle.schedule_text.specs.declared.statement.Statement.{Statement}
 use Rattle.schedule_text.specs.declared.statement.Statement.TheVariants as statement
 use Rattle.schedule_text.specs.Agrees.{no_lines}
-use Rattle.schedule_text.specs.Known.{Check, add_line, after_check, also, ascends, check, each_check, event_check, member_check, role_of, roles, tx_check}
+use Rattle.schedule_text.specs.Known.{Check, add_line, after_check, also, check, each_check, event_check, member_check, role_of, roles, tx_check}
 use Rattle.schedule_text.specs.Schedule.{schedule_of}
 use Rattle.protocol_spec.proofs.Truth.{both_true}
 use Rattle.protocol_spec.specs.Chain.Committee.{all_known, is_roll}
-use Rattle.protocol_spec.specs.Chain.Committee as committee
 use Rattle.world_spec.specs.Setting.{Name, Trust, setting_of, stakes_of}
 use Rattle.text_law.specs.Sayable.{added, then_read}
 use Rattle.text_law.proofs.SaidWhole.{text_said, check_said}
@@ -64,15 +64,6 @@ both-ok : (a b : Check) → also a b ≡ Ok tt → (a ≡ Ok tt) × (b ≡ Ok tt
 both-ok (Ok u) b e = (refl, e)
 both-ok (Err c) b e = absurd (cc)
 
-same-ascends : (ms : List ℕ) → ascends ms ≡ true → committee.ascends ms ≡ true
-same-ascends [] e = refl
-same-ascends (m ∷ []) e = refl
-same-ascends (m ∷ n ∷ ms) e = go (nat_lt m n) e (same-ascends (n ∷ ms))
-  where
-    go : (b : Bool) → (b && ascends (n ∷ ms)) ≡ true → (ascends (n ∷ ms) ≡ true → committee.ascends (n ∷ ms) ≡ true) → (b && committee.ascends (n ∷ ms)) ≡ true
-    go true e rest = rest e
-    go false e rest = absurd (cc)
-
 -- a role for each stake
 pub same-count : (lines : List Setup) → length (roles lines) ≡ length (stakes_of lines)
 unfolding roles
@@ -99,7 +90,7 @@ unfolding event_check
 final-checked u name members stakes same e =
     let one = both-ok (tx_check u name) (also (each_check (member_check u) members) (check (ascends members) cause.BadOrder)) e in
     let two = both-ok (each_check (member_check u) members) (check (ascends members) cause.BadOrder) one.1 in
-    both_true (committee.ascends members) (all_known stakes members) (same-ascends members (check_said (ascends members) cause.BadOrder two.1)) (all-checked u stakes members same two.0)
+    both_true (ascends members) (all_known stakes members) (check_said (ascends members) cause.BadOrder two.1) (all-checked u stakes members same two.0)
 
 pub read-roll : (text : List ℕ) (t : Schedule) → schedule_of text ≡ Ok t → (trust : Trust) (front : List Event) (name : Name) (members : List ℕ) (back : List Event) → t.events ≡ front ++ (event.Final name members ∷ back)
     → is_roll (setting_of trust t.setup).rules.stakes members ≡ true

@@ -96,7 +96,8 @@ pub record Holds (s : Setting) (events : List Event) : Type 0 where
   -- that a record is bad
   pub calm : IsCalm s events
 
--- no member cast votes of one epoch for different transactions that consume one version, over its whole journal
+-- no member cast votes of one epoch for transactions of different digests that consume one version, over its whole
+-- journal
 abbrev pub VotesOnce : Setting → List Event → Type 0
 VotesOnce s events = (m : ℕ) (seat : Seat) → slice_get (world_after s events).seats m ≡ Some seat
     → (t u : Transaction) (origins others : List (Option Digest)) → Has seat.records (record_as.Vote t origins) → Has seat.records (record_as.Vote u others)

@@ -41,8 +41,8 @@ pub use statements::{
 };
 pub use versions::{assigned_versions_rise, versions_are_one_chain};
 
-/// Behind each front of the lines of a schedule no member cast votes of one epoch for different transactions on one
-/// version. Up to where under a third of the stake is faulty, no statement is forged and no digests collide: no two
+/// Behind each front of the lines of a schedule no member cast votes of one epoch on one version for transactions of
+/// different digests. Up to where under a third of the stake is faulty, no statement is forged and no digests collide: no two
 /// certified transactions of an epoch consume one version, every member opened its epoch with what one thread leaves and
 /// built that thread's checkpoints, a run leaves nothing, the sums are kept, and what a quorum acknowledged, and each
 /// `final by` line of the report, stands in a checkpoint of its epoch at each member that has left it.

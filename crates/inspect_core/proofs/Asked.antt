@@ -12,7 +12,7 @@ use Rattle.world_spec.specs.Setting.{Setting}
 use Rattle.world_spec.specs.World as worlds
 use Rattle.world_spec.specs.World.{World, member_in}
 use Rattle.world_spec.specs.Run.{world_after}
-use Rattle.scene_spec.specs.Seats.{Seat}
+use Rattle.scene_spec.specs.Seats.{Seated}
 use Rattle.scene_spec.specs.Posts.{seat_at}
 use Rattle.scene_spec.specs.Terms.{terms_of}
 use Rattle.scene_spec.specs.Scene.{Scene}
@@ -37,11 +37,11 @@ use Rattle.inspect_core.proofs.Statuses.{IsSaid, said_or_fault}
 
 -- ---- the members as the code sees them are those of the world
 
-state_same : (s : Setting) (n : ℕ) (seats : List worlds.Seat) (m : ℕ) → option_map (λ (seat : Seat). seat.state) (honest_at (slice_get (posts_from s n seats) m)) ≡ state_in s (slice_get seats m)
+state_same : (s : Setting) (n : ℕ) (seats : List worlds.Seated) (m : ℕ) → option_map (λ (seat : Seated). seat.state) (honest_at (slice_get (posts_from s n seats) m)) ≡ state_in s (slice_get seats m)
 state_same s n [] m = refl
 state_same s n (seat ∷ seats) zero = go seat.honest seat.up
   where
-    go : (honest up : Bool) → option_map (λ (x : Seat). x.state) (if honest then (if up then Some (seat_at (terms_of s.rules) n (member_in s seat)) else None) else None)
+    go : (honest up : Bool) → option_map (λ (x : Seated). x.state) (if honest then (if up then Some (seat_at (terms_of s.rules) n (member_in s seat)) else None) else None)
         ≡ (if honest then (if up then Some (member_in s seat) else None) else None)
     go false up = refl
     go true false = refl

@@ -4,7 +4,7 @@ use Rattle.std.specs.Prelude.{codes, option_map, slice_get}
 use Rattle.std.specs.List.{flat_map}
 use Rattle.std.proofs.lemmas.Bool.{cases_lt}
 use Rattle.digest_core.specs.declared.Digest.{Digest}
-use Rattle.scene_spec.specs.Seats.{Seat}
+use Rattle.scene_spec.specs.Seats.{Seated}
 use Rattle.scene_spec.specs.Posts.{Post}
 use Rattle.world_core.specs.Crews.{honest_at}
 use Rattle.inspect_core.specs.Digests.{NoneStands, with_digest}
@@ -44,11 +44,11 @@ one_more f xs n x old text now at so_far is =
 -- ---- members
 
 -- the state of a member that stands
-pub state_there : (posts : List Post) (m : ℕ) (seat : Seat) → Some seat ≡ honest_at (slice_get posts m) → states_in posts m ≡ Some seat.state
-state_there posts m seat there = ap (option_map (λ (s : Seat). s.state)) (sym there)
+pub state_there : (posts : List Post) (m : ℕ) (seat : Seated) → Some seat ≡ honest_at (slice_get posts m) → states_in posts m ≡ Some seat.state
+state_there posts m seat there = ap (option_map (λ (s : Seated). s.state)) (sym there)
 
 pub none_there : (posts : List Post) (m : ℕ) → None ≡ honest_at (slice_get posts m) → states_in posts m ≡ None
-none_there posts m none = ap (option_map (λ (s : Seat). s.state)) (sym none)
+none_there posts m none = ap (option_map (λ (s : Seated). s.state)) (sym none)
 
 past : (posts : List Post) (m : ℕ) → length posts ≤ m → slice_get posts m ≡ None
 past [] m most = refl
@@ -59,5 +59,5 @@ past (p ∷ posts) (suc m) most = past posts m (omega (arith, most))
 pub none_stands : (posts : List Post) (end : ℕ) → ((i : ℕ) → i < end → states_in posts i ≡ None) → length posts ≤ end → NoneStands (states_in posts)
 none_stands posts end before most i = elim (cases_lt i end) [
   | inl low ↦ before i low
-  | inr high ↦ ap (λ (p : Option Post). option_map (λ (s : Seat). s.state) (honest_at p)) (past posts i (omega (arith, most, high)))
+  | inr high ↦ ap (λ (p : Option Post). option_map (λ (s : Seated). s.state) (honest_at p)) (past posts i (omega (arith, most, high)))
 ]

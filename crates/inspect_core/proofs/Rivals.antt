@@ -8,7 +8,8 @@ use Rattle.chain_types.specs.Digests.{consumed_keys}
 use Rattle.chain_types.specs.Equal.{key_eq}
 use Rattle.chain_messages.specs.Messages as messages
 use Rattle.chain_messages.specs.declared.messages.Certificate.{Certificate}
-use Rattle.quorum_core.specs.Committee.{all_known, ascends, is_among, is_roll}
+use Rattle.wire_bcs.specs.Ascending.{ascends}
+use Rattle.quorum_core.specs.Committee.{all_known, is_among, is_roll}
 use Rattle.protocol_spec.proofs.Equality.{key_self}
 use Rattle.protocol_spec.proofs.Truth.{and_true, or_right, or_left, both_true}
 use Rattle.protocol_spec.specs.Chain.Tests.{has_key}

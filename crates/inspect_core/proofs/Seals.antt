@@ -5,7 +5,7 @@ use Rattle.std.proofs.lemmas.Bool.{cases_lt}
 use Rattle.checkpoint_core.specs.declared.checkpoints.Checkpoint.{Checkpoint}
 use Rattle.protocol_spec.proofs.Truth.{some_same}
 use Rattle.protocol_spec.specs.Member.Member.{Member, built}
-use Rattle.scene_spec.specs.Seats.{Seat}
+use Rattle.scene_spec.specs.Seats.{Seated}
 use Rattle.scene_spec.specs.Posts.{Post}
 use Rattle.world_core.specs.Crews.{honest_at}
 use Rattle.world_core.specs.Looks.{checkpoint_at}
@@ -16,7 +16,7 @@ use Rattle.committee_core.proofs.Agreeing.{clash, no_post}
 same_place : (posts : List Post) (k n : ℕ) → option_and_then (λ (m : Member). slice_get (built m) n) (states_in posts k) ≡ checkpoint_at (slice_get posts k) n
 same_place posts k n = go (honest_at (slice_get posts k))
   where
-    go : (o : Option Seat) → option_and_then (λ (m : Member). slice_get (built m) n) (option_map (λ (seat : Seat). seat.state) o) ≡ option_and_then (λ (seat : Seat). slice_get (built seat.state) n) o
+    go : (o : Option Seated) → option_and_then (λ (m : Member). slice_get (built m) n) (option_map (λ (seat : Seated). seat.state) o) ≡ option_and_then (λ (seat : Seated). slice_get (built seat.state) n) o
     go None = refl
     go (Some seat) = refl
 

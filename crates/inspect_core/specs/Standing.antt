@@ -3,7 +3,7 @@ use Rattle.std.specs.Prelude.{ℕ, List, Option, option_map, slice_get}
 use Rattle.protocol_spec.specs.Member.Member.{Member}
 use Rattle.world_spec.specs.Setting.{Setting}
 use Rattle.world_spec.specs.World.{World}
-use Rattle.scene_spec.specs.Seats.{Seat}
+use Rattle.scene_spec.specs.Seats.{Seated}
 use Rattle.scene_spec.specs.Posts.{Post}
 use Rattle.world_core.specs.Crews.{honest_at}
 use Rattle.committee_core.specs.Follow.{state_in}
@@ -18,4 +18,4 @@ states_of s w = λ m. state_in s (slice_get w.seats m)
 
 -- as the code sees the members
 abbrev pub states_in : List Post → States
-states_in posts = λ m. option_map (λ (seat : Seat). seat.state) (honest_at (slice_get posts m))
+states_in posts = λ m. option_map (λ (seat : Seated). seat.state) (honest_at (slice_get posts m))

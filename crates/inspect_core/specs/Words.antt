@@ -1,6 +1,6 @@
 -- The words of the program. Source: this profile.
 use Rattle.std.specs.Prelude.{ℕ, List, [], ◌∷◌, Option, Some, None, option_and_then, bytes_eq, codes, if◌then◌else◌}
-use Rattle.quorum_core.specs.Committee.{ascends}
+use Rattle.wire_bcs.specs.Ascending.{ascends}
 use Rattle.schedule_text.specs.Bytes.{number_in}
 use Rattle.protocol_spec.specs.Chain.Words.{first_some, where_true}
 use Rattle.command_words.specs.ListWords.{numbers_in}

@@ -1,11 +1,11 @@
 //! The numbers of members that a word spells.
 
 ghost use Rattle.std.specs.Prelude.{◌≡◌, ◌≤◌, length};
-ghost use Rattle.quorum_core.specs.Committee.{ascends};
 ghost use Rattle.inspect_core.specs.Words.{members_in};
 
 use command_words::read_numbers;
 use std::marker::Model;
+use wire_bcs::ascends;
 
 /// The highest number of a member.
 pub(crate) const MOST_MEMBER: u64 = 63;
@@ -25,25 +25,6 @@ impl Model for MemberList {
     ghost view = { λ m. take m.count m.row };
 
     ghost invariant = { λ m. m.count ≤ 64 };
-}
-
-/// Whether each member is greater than the one before.
-fn ascends(members: &[u32]) -> bool
-    ensures { result ≡ ascends members.now }
-{
-    let [first, others @ ..] = members else {
-        return true;
-    };
-    let mut last = *first;
-    let mut rest = others;
-    while let [member, after @ ..] = rest {
-        if *member <= last {
-            return false;
-        }
-        last = *member;
-        rest = after;
-    }
-    true
 }
 
 impl MemberList {

@@ -3,7 +3,8 @@ use Rattle.std.proofs.Common.{◌≡◌, ℕ, zero, suc, ◌+◌, ◌*◌, ◌<�
 use Rattle.std.specs.Prelude.{◌==◌, nat_lt, sum}
 use Rattle.std.proofs.lemmas.Bool.{ltb-true, and_parts, and_from, eqb-true, eq-eqb}
 use Rattle.std.proofs.lemmas.Grind.{common_steps}
-use Rattle.quorum_core.specs.Committee.{weight_from, weight_of, weight, total_of, is_among, is_roll, ascends, all_known}
+use Rattle.wire_bcs.specs.Ascending.{ascends}
+use Rattle.quorum_core.specs.Committee.{weight_from, weight_of, weight, total_of, is_among, is_roll, all_known}
 
 all_from : (member : ℕ) (stakes : List ℕ) → weight_from member stakes (λ _. true) ≡ sum stakes
 all_from member [] = refl

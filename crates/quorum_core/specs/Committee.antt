@@ -1,6 +1,7 @@
 -- A committee is the list of its members' stakes. Source: Sui Lutris.
 use Rattle.std.specs.Prelude.{ℕ, suc, ◌+◌, ◌*◌, Bool, true, ◌&&◌, ◌==◌, nat_lt, List, [], ◌∷◌, length, if◌then◌else◌, Option, Some, None, Result, Ok, Err}
 use Rattle.std.specs.List.{list_any}
+use Rattle.wire_bcs.specs.Ascending.{ascends}
 use Rattle.quorum_core.specs.declared.committee.CommitteeRefusal.{CommitteeRefusal}
 use Rattle.quorum_core.specs.declared.committee.CommitteeRefusal.TheVariants as refusal
 
@@ -29,16 +30,11 @@ weight stakes members = weight_of stakes (is_among members)
 abbrev pub is_quorum : List ℕ → ℕ → Bool
 is_quorum stakes w = nat_lt (2 * total_of stakes) (3 * w)
 
--- the members ascend, are distinct, and are known
-abbrev pub ascends : List ℕ → Bool
-ascends [] = true
-ascends (m ∷ []) = true
-ascends (m ∷ n ∷ ms) = nat_lt m n && ascends (n ∷ ms)
-
 abbrev pub all_known : List ℕ → List ℕ → Bool
 all_known stakes [] = true
 all_known stakes (m ∷ ms) = nat_lt m (length stakes) && all_known stakes ms
 
+-- the members ascend, are distinct, and are known
 abbrev pub is_roll : List ℕ → List ℕ → Bool
 is_roll stakes members = ascends members && all_known stakes members
 

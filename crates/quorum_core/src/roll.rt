@@ -1,28 +1,10 @@
 //! Members in order.
 
 ghost use Rattle.std.specs.Prelude.{◌≡◌};
-ghost use Rattle.quorum_core.specs.Committee.{all_known, ascends, is_roll};
+ghost use Rattle.quorum_core.specs.Committee.{all_known, is_roll};
 
 use crate::committee::Committee;
-
-/// Whether each member is greater than the one before.
-fn ascends(members: &[u32]) -> bool
-    ensures { result ≡ ascends members.now }
-{
-    let [first, others @ ..] = members else {
-        return true;
-    };
-    let mut last = *first;
-    let mut rest = others;
-    while let [member, after @ ..] = rest {
-        if *member <= last {
-            return false;
-        }
-        last = *member;
-        rest = after;
-    }
-    true
-}
+use wire_bcs::ascends;
 
 /// Whether the committee has all the members.
 fn all_known(committee: &Committee, members: &[u32]) -> bool

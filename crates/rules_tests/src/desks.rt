@@ -106,7 +106,7 @@ pub(crate) fn certified(
 }
 
 /// Whether there is one origin for each object.
-#[tactic(auto, unfolding(chain_types::specs::Digests::objects_of))]
+#[tactic(auto, unfolding(chain_types::specs::Digests::object_count))]
 fn has_each_origin(cert: &Certificate) -> bool
     ensures { result ≡ true → length cert.now.origins ≡ length (objects_of cert.now.tx) }
 {

@@ -31,8 +31,8 @@ abbrev pub VotesShareNoVersion : Type 0
 VotesShareNoVersion = (s : Setting) (events : List Event) (m : ℕ) (seat : Seat) → slice_get (world_after s events).seats m ≡ Some seat
     → AreApart (member_in s seat).votes
 
--- over the whole journal: of two votes of one epoch for different transactions, none consumes a version that the
--- other consumes
+-- over the whole journal: of two votes of one epoch for transactions of different digests, none consumes a version that
+-- the other consumes
 abbrev pub NoVersionIsVotedTwice : Type 0
 NoVersionIsVotedTwice = (s : Setting) (events : List Event) (m : ℕ) (seat : Seat) → slice_get (world_after s events).seats m ≡ Some seat
     → (t u : Transaction) (origins others : List (Option Digest)) → Has seat.records (record_as.Vote t origins) → Has seat.records (record_as.Vote u others)

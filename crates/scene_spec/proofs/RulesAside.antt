@@ -12,7 +12,7 @@ use Rattle.protocol_spec.specs.Chain.Certificates.{Rules}
 use Rattle.protocol_spec.specs.Chain.Words.{where_true}
 use Rattle.protocol_spec.specs.Member.Member.{Member, after}
 use Rattle.protocol_spec.specs.Member.Calls.{ack_answer, acks, after_due, called, close_answer, close_record, closes, due, end_answer, ends, ran_items, ran_record, run_answer, run_record, runs, turn_answer, turn_record, turns}
-use Rattle.scene_spec.specs.Seats.{Seat, behind, due_at}
+use Rattle.scene_spec.specs.Seats.{Seated, behind, due_at}
 
 either_way : {A : Type 0} (b : Bool) (x : A) → cond b x x ≡ x
 either_way true x = refl
@@ -81,11 +81,11 @@ pub end_answer_alike : (r r' : Rules) (m : Member) → end_answer r m ≡ end_an
 unfolding end_answer
 end_answer_alike r r' m = refl
 
-pub no_end_due : (r : Rules) (seat : Seat) → due_at r seat ends ≡ None
+pub no_end_due : (r : Rules) (seat : Seated) → due_at r seat ends ≡ None
 unfolding due
 no_end_due r seat = either_way seat.up None
 
-pub end_stays : (r : Rules) (seat : Seat) → behind r seat ends ≡ seat
+pub end_stays : (r : Rules) (seat : Seated) → behind r seat ends ≡ seat
 unfolding due
 end_stays r seat = either_way seat.up seat
 
@@ -93,10 +93,10 @@ pub ack_answer_alike : (r r' : Rules) (m : Member) (tx : Digest) → ack_answer 
 unfolding ack_answer
 ack_answer_alike r r' m tx = refl
 
-pub no_ack_due : (r : Rules) (seat : Seat) (tx : Digest) → due_at r seat (acks tx) ≡ None
+pub no_ack_due : (r : Rules) (seat : Seated) (tx : Digest) → due_at r seat (acks tx) ≡ None
 unfolding due
 no_ack_due r seat tx = either_way seat.up None
 
-pub ack_stays : (r : Rules) (seat : Seat) (tx : Digest) → behind r seat (acks tx) ≡ seat
+pub ack_stays : (r : Rules) (seat : Seated) (tx : Digest) → behind r seat (acks tx) ≡ seat
 unfolding due
 ack_stays r seat tx = either_way seat.up seat

@@ -11,16 +11,16 @@ use Rattle.protocol_spec.specs.Member.Member.{Member, fresh}
 use Rattle.protocol_spec.specs.Member.Calls.{Call, called, due}
 use Rattle.world_spec.specs.World.{Reached, finds_down, stops, answers, reached_up, stated}
 use Rattle.scene_spec.specs.Terms.{Terms}
-use Rattle.scene_spec.specs.Seats.{Seat}
+use Rattle.scene_spec.specs.Seats.{Seated}
 
 -- whether the member is honest, the member where it is up, and an armed stop, which keeps the next record or loses it
 pub record Post : Type 0 where
   pub honest : Bool
-  pub standing : Option Seat
+  pub standing : Option Seated
   pub armed : Option Bool
 
 -- a member that is up
-abbrev pub seat_at : Terms → ℕ → Member → Seat
+abbrev pub seat_at : Terms → ℕ → Member → Seated
 seat_at terms m state = record { member = m; terms = terms; up = true; state = state }
 
 abbrev pub standing_with : Terms → ℕ → Bool → Member → Post
@@ -33,7 +33,7 @@ new_posts terms opening m (honest ∷ flags) = standing_with terms m honest (fre
 
 -- ---- what becomes of a call
 
-abbrev pub reached_standing : Rules → Call → Option Bool → Option Seat → Reached
+abbrev pub reached_standing : Rules → Call → Option Bool → Option Seated → Reached
 reached_standing r call armed None = finds_down
 reached_standing r call armed (Some seat) = reached_up seat.state armed (due r seat.state call)
 
@@ -45,7 +45,7 @@ abbrev pub reached_in : Rules → List Post → ℕ → Call → Reached
 reached_in r posts m call = reached_post r call (slice_get posts m)
 
 -- the member behind a call that it answered
-abbrev pub seat_behind : Rules → Call → Seat → Seat
+abbrev pub seat_behind : Rules → Call → Seated → Seated
 seat_behind r call seat = record seat { state = called r seat.state call }
 
 abbrev pub post_behind : Rules → Call → Post → Reached → Post

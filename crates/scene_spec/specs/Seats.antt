@@ -9,23 +9,23 @@ use Rattle.protocol_spec.specs.Member.Calls.{Call, called, due}
 use Rattle.scene_spec.specs.Terms.{Terms, rules_for}
 
 -- the number of the member, the terms of its committee, whether it is up, and its state
-pub record Seat : Type 0 where
+pub record Seated : Type 0 where
   pub member : ℕ
   pub terms : Terms
   pub up : Bool
   pub state : Member
 
-abbrev pub rules_of_seat : Seat → (Signer → List ℕ → Digest → Bool) → Rules
+abbrev pub rules_of_seat : Seated → (Signer → List ℕ → Digest → Bool) → Rules
 rules_of_seat seat accepts = rules_for seat.terms accepts
 
 -- the same where no seal is accepted, for calls in which the rules play no part
-abbrev pub bare_rules : Seat → Rules
+abbrev pub bare_rules : Seated → Rules
 bare_rules seat = rules_of_seat seat (λ by bytes seal. false)
 
 -- a member that is down stays as it is
-abbrev pub behind : Rules → Seat → Call → Seat
+abbrev pub behind : Rules → Seated → Call → Seated
 behind r seat call = if seat.up then record seat { state = called r seat.state call } else seat
 
 -- the record that is due; a member that is down appends none
-abbrev pub due_at : Rules → Seat → Call → Option Record
+abbrev pub due_at : Rules → Seated → Call → Option Record
 due_at r seat call = if seat.up then due r seat.state call else None

@@ -35,13 +35,13 @@ use Rattle.world_spec.specs.Step.{appended_entry, end_ordered, entries_left, exe
 use Rattle.world_spec.specs.Report.{Lines, ack_reached, and_lines, cert_lines, close_reached, end_reached, entry_reached, final_lines, fvote_lines, hold_reached, none_taken, order_end_said, order_said, run_reached, shown, turn_reached, vote_reached}
 use Rattle.scene_spec.specs.Known.{with_line}
 use Rattle.scene_spec.specs.MadeLines.{line_made}
-use Rattle.scene_spec.specs.Seats.{Seat}
+use Rattle.scene_spec.specs.Seats.{Seated}
 use Rattle.scene_spec.specs.Posts.{AddsAll, AddsFront, Post, armed_at, list_of, posts_behind, reached_in, record_left, stated_in}
 use Rattle.scene_spec.specs.Scene.{Scene, bare_setting, bare_world, rules_in}
 
 -- ---- transactions
 
-abbrev pub held_by : ObjectKey → Option Seat → Option Digest
+abbrev pub held_by : ObjectKey → Option Seated → Option Digest
 held_by key None = None
 held_by key (Some seat) = held_digest key seat.state
 
@@ -72,11 +72,11 @@ held_call c = holds (messages.certificate.spell c)
 
 -- ---- see
 
-abbrev pub standing_at : Option Post → Option Seat
+abbrev pub standing_at : Option Post → Option Seated
 standing_at None = None
 standing_at (Some p) = p.standing
 
-abbrev pub seat_state : Seat → Member
+abbrev pub seat_state : Seated → Member
 seat_state seat = seat.state
 
 -- the state of a member that is up
@@ -175,7 +175,7 @@ with_order sc w = record sc { sequences = w.sequences; epoch = w.epoch; said = w
 -- what the lowest-numbered honest member says that is up, where one says anything
 abbrev pub says_in : {A : Type 0} → (Member → Option A) → List Post → Option A
 says_in says [] = None
-says_in says (p ∷ posts) = first_some ((if p.honest then option_and_then (λ (seat : Seat). says seat.state) p.standing else None) ∷ says_in says posts ∷ [])
+says_in says (p ∷ posts) = first_some ((if p.honest then option_and_then (λ (seat : Seated). says seat.state) p.standing else None) ∷ says_in says posts ∷ [])
 
 -- a faulty member acknowledges what an honest one has
 abbrev pub false_ack_in : Scene → Made → Bool → Statement
@@ -262,7 +262,7 @@ abbrev pub ack_lines_in : Trust → Scene → ℕ → Name → Option Made → L
 ack_lines_in trust sc m tx None = line.Ack m tx ack_text.Down ∷ []
 ack_lines_in trust sc m tx (Some t) = line.Ack m tx (ack_text_in trust sc m t.digest) ∷ []
 
-abbrev pub show_in : Trust → Scene → ℕ → Option Seat → List Line
+abbrev pub show_in : Trust → Scene → ℕ → Option Seated → List Line
 show_in trust sc m (Some seat) = shown (bare_setting trust sc) (bare_world sc) m seat.state.epoch (live_objects seat.state)
 show_in trust sc m None = line.Show m show_text.Down ∷ []
 

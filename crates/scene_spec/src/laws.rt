@@ -5,7 +5,7 @@ ghost use Rattle.digest_core.specs.declared.Digest.{Digest};
 ghost use Rattle.protocol_spec.specs.Chain.Certificates.{Rules};
 ghost use Rattle.protocol_spec.specs.Member.Calls.{ack_answer, acks, called, close_answer, closes, due, end_answer, ends, run_answer, runs, turn_answer, turns};
 ghost use Rattle.protocol_spec.specs.Member.Member.{Member};
-ghost use Rattle.scene_spec.specs.Seats.{Seat, behind, due_at};
+ghost use Rattle.scene_spec.specs.Seats.{Seated, behind, due_at};
 
 /// The rules play no part in a run: its answer, its record and the state behind it are those of any other rules.
 #[tactic(auto, using(crate::proofs::RulesAside::run_answer_alike, crate::proofs::RulesAside::run_due_alike, crate::proofs::RulesAside::run_called_alike))]
@@ -32,8 +32,8 @@ pub fn acks_need_no_rules()
 /// An acknowledgement leaves the member as it was, and has no record.
 #[tactic(auto, using(crate::proofs::RulesAside::ack_stays, crate::proofs::RulesAside::no_ack_due))]
 pub fn acks_change_nothing()
-    ensures state { (r : Rules) (seat : Seat) (tx : Digest) → behind r seat (acks tx) ≡ seat }
-    ensures record_due { (r : Rules) (seat : Seat) (tx : Digest) → due_at r seat (acks tx) ≡ None }
+    ensures state { (r : Rules) (seat : Seated) (tx : Digest) → behind r seat (acks tx) ≡ seat }
+    ensures record_due { (r : Rules) (seat : Seated) (tx : Digest) → due_at r seat (acks tx) ≡ None }
 {}
 
 /// The rules play no part in an End.
@@ -45,8 +45,8 @@ pub fn ends_need_no_rules()
 /// An End leaves the member as it was, and has no record.
 #[tactic(auto, using(crate::proofs::RulesAside::end_stays, crate::proofs::RulesAside::no_end_due))]
 pub fn ends_change_nothing()
-    ensures state { (r : Rules) (seat : Seat) → behind r seat ends ≡ seat }
-    ensures record_due { (r : Rules) (seat : Seat) → due_at r seat ends ≡ None }
+    ensures state { (r : Rules) (seat : Seated) → behind r seat ends ≡ seat }
+    ensures record_due { (r : Rules) (seat : Seated) → due_at r seat ends ≡ None }
 {}
 
 /// The rules play no part in a turn.

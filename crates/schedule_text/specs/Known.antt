@@ -3,6 +3,7 @@
 use Rattle.std.specs.Prelude.{◌==◌, ℕ, Bool, true, false, ◌&&◌, not, List, [], ◌∷◌, ◌++◌, length, Option, Some, None, Result, Ok, Err, nat_lt, nat_eq, slice_get, if◌then◌else◌}
 use Rattle.std.specs.List.{list_any, filter_map}
 use Rattle.std.specs.Str.{bytes_eq}
+use Rattle.wire_bcs.specs.Ascending.{ascends}
 use Rattle.schedule_text.specs.declared.cause.Cause.{Cause}
 use Rattle.schedule_text.specs.declared.cause.Cause.TheVariants as cause
 use Rattle.schedule_text.specs.declared.words.Schedule.{Schedule}
@@ -111,12 +112,6 @@ role_is false (Some role) = not role
 abbrev pub role_check : Bool → Schedule → ℕ → Check
 role_check honest s member =
     also (member_check s member) (check (role_is honest (slice_get (roles s.setup) member)) cause.WrongRole)
-
--- each is less than the next
-abbrev pub ascends : List ℕ → Bool
-ascends [] = true
-ascends (m ∷ []) = true
-ascends (m ∷ n ∷ ms) = nat_lt m n && ascends (n ∷ ms)
 
 -- the transaction, the members, and their order
 abbrev pub collect_check : Schedule → List ℕ → List ℕ → Check

@@ -40,8 +40,8 @@ unfoldable pub member_number : List ℕ → Option ℕ
 member_number word = option_map (λ n. min n 4294967295) (number_of word)
 
 -- a role: honest or not
-abbrev pub role_of : List ℕ → Option Bool
-role_of word =
+abbrev pub role_word : List ℕ → Option Bool
+role_word word =
     if bytes_eq word (codes "honest") then Some true
     else (if bytes_eq word (codes "faulty") then Some false else None)
 
@@ -51,7 +51,7 @@ member_setup stake (Some honest) =
     if_form (is_digits stake) (option_map (λ n. statement.Setup (setup.Member n honest)) (number_in 1 4294967295 stake))
 
 unfoldable pub member_line : List (List ℕ) → Result Statement Cause
-member_line (stake ∷ role ∷ []) = member_setup stake (role_of role)
+member_line (stake ∷ role ∷ []) = member_setup stake (role_word role)
 member_line words = Err cause.BadForm
 
 unfoldable pub coin_line : List (List ℕ) → Result Statement Cause

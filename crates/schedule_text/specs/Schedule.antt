@@ -33,8 +33,8 @@ is_skipped [] = true
 is_skipped (b ∷ bs) = b == 35
 
 -- the line begins with `member` and a space
-abbrev pub is_member_line : List ℕ → Bool
-is_member_line line = starts_with nat_eq line (codes "member ")
+abbrev pub begins_member : List ℕ → Bool
+begins_member line = starts_with nat_eq line (codes "member ")
 
 abbrev pub add_statement : Schedule → Result Statement Cause → Result Schedule Cause
 add_statement s (Ok x) = add_line s x
@@ -60,7 +60,7 @@ read_lines number s (line ∷ lines) = or_refuse (read_line s line) number (λ t
 unfoldable pub schedule_of : List ℕ → Result Schedule Refused
 schedule_of text =
     if nat_lt longest_text (length text) then Err (record { line = 0; cause = number_of_cause cause.TooLarge })
-    else (if list_any is_member_line (lines_of text) then read_lines 1 no_lines (lines_of text)
+    else (if list_any begins_member (lines_of text) then read_lines 1 no_lines (lines_of text)
     else Err (record { line = 0; cause = number_of_cause cause.NoMembers }))
 
 -- the refusal is the definition's; that memory was refused says nothing

@@ -6,7 +6,7 @@ ghost use Rattle.schedule_text.specs.Cause.{Reads};
 ghost use Rattle.schedule_text.specs.Bytes.{each_of, is_digits};
 ghost use Rattle.schedule_text.specs.Inputs.{hex_of};
 ghost use Rattle.schedule_text.specs.Commands.{is_command, command_of};
-ghost use Rattle.schedule_text.specs.Lines.{member_number, role_of, member_setup, member_line, coin_line, counter_line, cap_line, writers_line, after_inputs, front_inputs, block_form, block_of, tx_line, member_and_tx, member_alone, member_and_number, tx_and_members, ack_event, is_origin, origin_of, origins_of, fvote_line, order_line, order_tx, order_end, kept_of, stop_event, stop_line, call_of, raw_value, raw_event, raw_line, ack_line, member_event, event_of, statement_of};
+ghost use Rattle.schedule_text.specs.Lines.{member_number, role_word, member_setup, member_line, coin_line, counter_line, cap_line, writers_line, after_inputs, front_inputs, block_form, block_of, tx_line, member_and_tx, member_alone, member_and_number, tx_and_members, ack_event, is_origin, origin_of, origins_of, fvote_line, order_line, order_tx, order_end, kept_of, stop_event, stop_line, call_of, raw_value, raw_event, raw_line, ack_line, member_event, event_of, statement_of};
 
 use crate::bytes::{has_mark, is_digits, is_name, number_in, number_of, without_mark};
 use crate::cause::{Cause, LineFault};
@@ -28,8 +28,8 @@ fn member_number(word: &[u8]) -> Option<u32>
 }
 
 /// A role: honest or not.
-fn role_of(word: &[u8]) -> Option<bool>
-    ensures { result ≡ role_of word.now }
+fn role_word(word: &[u8]) -> Option<bool>
+    ensures { result ≡ role_word word.now }
 {
     if word == b"honest".as_slice() {
         Some(true)
@@ -67,7 +67,7 @@ fn member_line(words: &[&[u8]]) -> Result<Statement, LineFault>
     let [stake, role] = words else {
         return Err(LineFault::Bad(Cause::BadForm));
     };
-    member_setup(stake, role_of(role))
+    member_setup(stake, role_word(role))
 }
 
 /// `NAME OWNER BALANCE`.

@@ -7,7 +7,7 @@ ghost use Rattle.schedule_text.specs.Bytes.{is_printable};
 ghost use Rattle.schedule_text.specs.Cause.{ReadsInto};
 ghost use Rattle.schedule_text.specs.Known.{add_line};
 ghost use Rattle.schedule_text.specs.Lines.{words_of};
-ghost use Rattle.schedule_text.specs.Schedule.{lines_of, is_skipped, is_member_line, read_line, read_lines, schedule_of, refusal_of, RefusesWith};
+ghost use Rattle.schedule_text.specs.Schedule.{lines_of, is_skipped, begins_member, read_line, read_lines, schedule_of, refusal_of, RefusesWith};
 
 use crate::bytes::{cut_part, parts_of};
 use crate::cause::{Cause, LineFault};
@@ -41,19 +41,19 @@ fn are_printable(line: &[u8]) -> bool
     line.iter().all(|byte| is_printable(*byte))
 }
 
-fn is_member_line(line: &[u8]) -> bool
-    ensures { result ≡ is_member_line line.now }
+fn begins_member(line: &[u8]) -> bool
+    ensures { result ≡ begins_member line.now }
 {
     line.starts_with(b"member ")
 }
 
 fn has_member_line(text: &[u8]) -> bool
-    ensures { result ≡ list_any is_member_line (lines_of text.now) }
+    ensures { result ≡ list_any begins_member (lines_of text.now) }
 {
     let mut left = Some(text);
     while let Some(text) = left {
         let (line, after) = cut_part(b'\n', text);
-        if is_member_line(line) {
+        if begins_member(line) {
             return true;
         }
         left = after;

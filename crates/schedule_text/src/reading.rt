@@ -3,7 +3,7 @@
 ghost use Rattle.std.specs.Prelude.{◌≡◌, [], ◌++◌, IfOk, length, nat_lt, slice_get, OnOk, IsTrue, IfSome, option_copied};
 ghost use Rattle.std.specs.Option.{option_to_list};
 ghost use Rattle.schedule_text.specs.Cause.{Reads, ReadsInto};
-ghost use Rattle.schedule_text.specs.Known.{check, tx_check, object_check, input_check, origin_check, each_check, member_check, role_check, ascends, also, collect_check, new_object_check, setup_kind_check, setup_check, new_tx_check, fvote_check, ack_check, role_of, object_name, currency_of, is_limit, tx_name, event_check, add_setup, add_event, add_line};
+ghost use Rattle.schedule_text.specs.Known.{check, tx_check, object_check, input_check, origin_check, each_check, member_check, role_check, also, collect_check, new_object_check, setup_kind_check, setup_check, new_tx_check, fvote_check, ack_check, role_of, object_name, currency_of, is_limit, tx_name, event_check, add_setup, add_event, add_line};
 ghost use Rattle.schedule_text.specs.Agrees.{Agrees, IsNewName, IsNewNumber, no_lines};
 
 use crate::cause::{Cause, LineFault};
@@ -12,7 +12,7 @@ use crate::statement::Statement;
 use crate::words::{Event, InputWord, ObjWord, Schedule, Setup};
 use indexmap::IndexSet;
 use std::alloc::Global;
-use wire_bcs::{OutOfMemory, Seq};
+use wire_bcs::{OutOfMemory, Seq, ascends};
 
 /// The members of a committee, at most.
 const MOST_MEMBERS: u64 = 64;
@@ -40,22 +40,6 @@ fn check(holds: bool, cause: Cause) -> Result<(), Cause>
     ensures { result ≡ check holds cause }
 {
     if holds { Ok(()) } else { Err(cause) }
-}
-
-/// Whether each member is less than the next.
-fn ascends(members: &[u32]) -> bool
-    ensures { result ≡ ascends members.now }
-{
-    let mut rest = members;
-    while let [first, after @ ..] = rest {
-        if let [second, ..] = after
-            && first >= second
-        {
-            return false;
-        }
-        rest = after;
-    }
-    true
 }
 
 impl Reading {

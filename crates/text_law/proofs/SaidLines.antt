@@ -15,7 +15,7 @@ use Rattle.schedule_text.specs.Bytes.{is_name, is_digits, number_of, number_in, 
 use Rattle.schedule_text.specs.Refs.{is_ref, ref_of}
 use Rattle.schedule_text.specs.Inputs.{is_hex, hex_of, is_input, input_of}
 use Rattle.schedule_text.specs.Commands.{is_command, command_of}
-use Rattle.schedule_text.specs.Lines.{then_make, member_number, role_of, member_setup, member_line, coin_line, counter_line, cap_line, writers_line, after_inputs, front_inputs, block_form, block_of, tx_line, member_and_tx, member_alone, member_and_number, tx_and_members, is_origin, origin_of, origins_of, fvote_line, order_tx, order_end, order_line, kept_of, stop_event, stop_line, call_of, raw_value, raw_event, raw_line, ack_event, ack_line, member_event, event_of, statement_of}
+use Rattle.schedule_text.specs.Lines.{then_make, member_number, role_word, member_setup, member_line, coin_line, counter_line, cap_line, writers_line, after_inputs, front_inputs, block_form, block_of, tx_line, member_and_tx, member_alone, member_and_number, tx_and_members, is_origin, origin_of, origins_of, fvote_line, order_tx, order_end, order_line, kept_of, stop_event, stop_line, call_of, raw_value, raw_event, raw_line, ack_event, ack_line, member_event, event_of, statement_of}
 use Rattle.text_law.specs.Sayable.{IsName, IsNumber, IsMember, IsBetween, IsInput, IsCommand, IsOrigin, AreMembers, AreBytes, IsEvent, IsStatement}
 use Rattle.text_law.proofs.Said.{map_said, then_said, both_said, form_said, make_said, number_said, range_said, member_said, ref_said}
 use Rattle.text_law.proofs.SaidWords.{choose, each_said, hex_said, input_said, command_said}
@@ -42,7 +42,7 @@ role_said stake (Some honest) x h =
 
 member_line_said : (words : List (List ℕ)) (x : Statement) → member_line words ≡ Ok x → IsStatement x
 unfolding member_line
-member_line_said (stake ∷ role ∷ []) x h = role_said stake (role_of role) x h
+member_line_said (stake ∷ role ∷ []) x h = role_said stake (role_word role) x h
 member_line_said words x h = none (IsStatement x) cause.BadForm x h
 
 coin_line_said : (words : List (List ℕ)) (x : Statement) → coin_line words ≡ Ok x → IsStatement x

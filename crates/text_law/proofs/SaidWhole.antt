@@ -16,8 +16,8 @@ use Rattle.schedule_text.specs.declared.statement.Statement.TheVariants as state
 use Rattle.schedule_text.specs.Agrees.{no_lines}
 use Rattle.schedule_text.specs.Bytes.{is_digits, number_in, is_printable}
 use Rattle.schedule_text.specs.Known.{Check, check, also, after_check, setup_kind_check, setup_check, event_check, add_line}
-use Rattle.schedule_text.specs.Lines.{words_of, role_of, member_setup, member_line, statement_of}
-use Rattle.schedule_text.specs.Schedule.{Refused, longest_text, lines_of, is_skipped, is_member_line, add_statement, read_line, or_refuse, read_lines, schedule_of}
+use Rattle.schedule_text.specs.Lines.{words_of, role_word, member_setup, member_line, statement_of}
+use Rattle.schedule_text.specs.Schedule.{Refused, longest_text, lines_of, is_skipped, begins_member, add_statement, read_line, or_refuse, read_lines, schedule_of}
 use Rattle.text_law.specs.Canonical.{statements}
 use Rattle.text_law.specs.Sayable.{IsStatement, added, makes_member, IsSayable}
 use Rattle.text_law.proofs.Added.{go_on}
@@ -145,23 +145,23 @@ setup_makes stake (Some role) x h = role_makes stake role x h
 
 member_makes : (words : List (List ℕ)) (x : Statement) → member_line words ≡ Ok x → makes x ≡ true
 unfolding member_line
-member_makes (stake ∷ role ∷ []) x h = setup_makes stake (role_of role) x h
+member_makes (stake ∷ role ∷ []) x h = setup_makes stake (role_word role) x h
 member_makes words x h = absurd (cc)
 
 head_makes : (rest : List ℕ) (x : Statement) → statement_of (words_of (codes "member " ++ rest)) ≡ Ok x → makes x ≡ true
 unfolding statement_of
 head_makes rest x h = member_makes (words_of rest) x h
 
-line_head : (line : List ℕ) → is_member_line line ≡ true → codes "member " ++ drop 7 line ≡ line
+line_head : (line : List ℕ) → begins_member line ≡ true → codes "member " ++ drop 7 line ≡ line
 line_head line h =
     let e = (bytes_eq-Decides (codes "member ") (take 7 line)).0 h in
     ap (λ (front : List ℕ). front ++ drop 7 line) e ∙ take-append-drop 7 line
 
-line_makes : (line : List ℕ) (x : Statement) → is_member_line line ≡ true → statement_of (words_of line) ≡ Ok x → makes x ≡ true
+line_makes : (line : List ℕ) (x : Statement) → begins_member line ≡ true → statement_of (words_of line) ≡ Ok x → makes x ≡ true
 line_makes line x h k =
     head_makes (drop 7 line) x (ap (λ (l : List ℕ). statement_of (words_of l)) (line_head line h) ∙ k)
 
-not_skipped : (line : List ℕ) → is_member_line line ≡ true → is_skipped line ≡ false
+not_skipped : (line : List ℕ) → begins_member line ≡ true → is_skipped line ≡ false
 not_skipped line h = ap is_skipped (sym (line_head line h))
 
 -- ---- all lines
@@ -171,27 +171,27 @@ record Read (t u : Schedule) (member : Bool) : Type 0 where
   stays : list_any makes_member t.setup ≡ true → list_any makes_member u.setup ≡ true
   found : member ≡ true → list_any makes_member u.setup ≡ true
 
-statement_step : (t u : Schedule) (line : List ℕ) (r : Result Statement Cause) → statement_of (words_of line) ≡ r → IsGood t → add_statement t r ≡ Ok u → Read t u (is_member_line line)
+statement_step : (t u : Schedule) (line : List ℕ) (r : Result Statement Cause) → statement_of (words_of line) ≡ r → IsGood t → add_statement t r ≡ Ok u → Read t u (begins_member line)
 statement_step t u line (Err c) e good h = absurd (cc)
 statement_step t u line (Ok x) e good h =
     let step = steps t u x good (statement_said (words_of line) x e) h in
     record { good = step.good; stays = step.stays; found = λ k. step.found (line_makes line x k e) }
 
-skip_step : (t u : Schedule) (line : List ℕ) → is_skipped line ≡ true → IsGood t → t ≡ u → Read t u (is_member_line line)
+skip_step : (t u : Schedule) (line : List ℕ) → is_skipped line ≡ true → IsGood t → t ≡ u → Read t u (begins_member line)
 skip_step t u line skipped good e = record {
   good = subst IsGood e good;
   stays = λ k. subst (λ (v : Schedule). list_any makes_member v.setup ≡ true) e k;
   found = λ k. let no_skip = not_skipped line k in absurd (cc);
 }
 
-line_step : (t u : Schedule) (line : List ℕ) → IsGood t → read_line t line ≡ Ok u → Read t u (is_member_line line)
+line_step : (t u : Schedule) (line : List ℕ) → IsGood t → read_line t line ≡ Ok u → Read t u (begins_member line)
 unfolding read_line
 line_step t u line good h =
     elim (cases_Bool (is_skipped line)) [
       | inl e ↦ let k = rw e at h in skip_step t u line e good (same t u k)
       | inr e ↦
           let k = rw e at h in
-          choose (Read t u (is_member_line line)) (list_all is_printable line) (add_statement t (statement_of (words_of line))) (Err cause.BadByte) (Ok u) k
+          choose (Read t u (begins_member line)) (list_all is_printable line) (add_statement t (statement_of (words_of line))) (Err cause.BadByte) (Ok u) k
           (λ m. statement_step t u line (statement_of (words_of line)) refl good m) (λ m. absurd (cc))
     ]
 
@@ -205,7 +205,7 @@ go_lines : (n : ℕ) (s : Schedule) (lines : List (List ℕ)) (r : Result Schedu
 go_lines n s lines (Ok u) h = (u, refl, h)
 go_lines n s lines (Err c) h = absurd (cc)
 
-lines_said : (n : ℕ) (t s : Schedule) (lines : List (List ℕ)) → IsGood t → read_lines n t lines ≡ Ok s → Read t s (list_any is_member_line lines)
+lines_said : (n : ℕ) (t s : Schedule) (lines : List (List ℕ)) → IsGood t → read_lines n t lines ≡ Ok s → Read t s (list_any begins_member lines)
 unfolding read_lines
 lines_said n t s [] good h = let e = end_same t s h in record {
   good = subst IsGood e good;
@@ -219,7 +219,7 @@ lines_said n t s (line ∷ lines) good h =
     record {
       good = more.good;
       stays = λ k. more.stays (one.stays k);
-      found = λ k. elim (or_cases (is_member_line line) (list_any is_member_line lines) k) [
+      found = λ k. elim (or_cases (begins_member line) (list_any begins_member lines) k) [
         | inl e ↦ more.stays (one.found e)
         | inr e ↦ more.found e
       ];
@@ -228,7 +228,7 @@ lines_said n t s (line ∷ lines) good h =
 none_good : IsGood no_lines
 none_good = record { words = tt; order = refl }
 
-whole_said : (lines : List (List ℕ)) (s : Schedule) (b : Bool) → list_any is_member_line lines ≡ b → cond b (read_lines 1 no_lines lines) (Err (record { line = 0; cause = 2 })) ≡ Ok s → IsSayable s
+whole_said : (lines : List (List ℕ)) (s : Schedule) (b : Bool) → list_any begins_member lines ≡ b → cond b (read_lines 1 no_lines lines) (Err (record { line = 0; cause = 2 })) ≡ Ok s → IsSayable s
 whole_said lines s true e h =
     let read = lines_said 1 no_lines s lines none_good h in
     record { words = read.good.words; members = read.found e; order = read.good.order }
@@ -238,4 +238,4 @@ pub text_said : (text : List ℕ) (s : Schedule) → schedule_of text ≡ Ok s �
 unfolding schedule_of
 text_said text s h =
     choose (IsSayable s) (nat_lt longest_text (length text)) _ _ (Ok s) h (λ k. absurd (cc))
-    (λ k. whole_said (lines_of text) s (list_any is_member_line (lines_of text)) refl k)
+    (λ k. whole_said (lines_of text) s (list_any begins_member (lines_of text)) refl k)

@@ -19,8 +19,8 @@ use Rattle.schedule_text.specs.Refs.{ref_of}
 use Rattle.schedule_text.specs.Inputs.{is_hex, hex_of}
 use Rattle.schedule_text.specs.Commands.{command_of}
 use Rattle.schedule_text.specs.Known.{Check, after_check, event_check, setup_check, add_line}
-use Rattle.schedule_text.specs.Lines.{words_of, if_form, then_make, member_number, role_of, member_setup, after_inputs, front_inputs, block_form, block_of, tx_line, member_and_tx, member_alone, member_and_number, tx_and_members, is_origin, origins_of, fvote_line, order_tx, order_end, order_line, kept_of, stop_event, stop_line, call_of, raw_value, raw_event, raw_line, ack_event, ack_line, member_event, event_of, member_line, coin_line, counter_line, cap_line, writers_line, statement_of}
-use Rattle.schedule_text.specs.Schedule.{Refused, longest_text, lines_of, is_skipped, is_member_line, add_statement, read_line, or_refuse, read_lines, schedule_of}
+use Rattle.schedule_text.specs.Lines.{words_of, if_form, then_make, member_number, role_word, member_setup, after_inputs, front_inputs, block_form, block_of, tx_line, member_and_tx, member_alone, member_and_number, tx_and_members, is_origin, origins_of, fvote_line, order_tx, order_end, order_line, kept_of, stop_event, stop_line, call_of, raw_value, raw_event, raw_line, ack_event, ack_line, member_event, event_of, member_line, coin_line, counter_line, cap_line, writers_line, statement_of}
+use Rattle.schedule_text.specs.Schedule.{Refused, longest_text, lines_of, is_skipped, begins_member, add_statement, read_line, or_refuse, read_lines, schedule_of}
 use Rattle.text_law.proofs.Ranges.{all-append}
 use Rattle.text_law.proofs.Said.{map_said, then_said, both_said, form_said, make_said}
 use Rattle.text_law.proofs.SaidWhole.{same}
@@ -217,7 +217,7 @@ role-short n stake (Some honest) x h = setup-form n (is_digits stake) (λ m. set
 
 member-short : (n : ℕ) (words : List (List ℕ)) (x : Statement) → member_line words ≡ Ok x → IsShortStatement n x
 unfolding member_line
-member-short n (stake ∷ role ∷ []) x h = role-short n stake (role_of role) x h
+member-short n (stake ∷ role ∷ []) x h = role-short n stake (role_word role) x h
 member-short n words x h = none (IsShortStatement n x) cause.BadForm x h
 
 coin-short : (n : ℕ) (words : List (List ℕ)) (x : Statement) → coin_line words ≡ Ok x → IsShortStatement n x
@@ -336,5 +336,5 @@ text-short text s h =
       | inl e ↦ let k = rw e at h in absurd (cc)
       | inr e ↦
           let k = rw e at h in
-          choose (Whole s) (list_any is_member_line (lines_of text)) _ _ (Ok s) k (λ m. lines-whole text s (ltb-false longest_text (length text) e) m) (λ m. absurd (cc))
+          choose (Whole s) (list_any begins_member (lines_of text)) _ _ (Ok s) k (λ m. lines-whole text s (ltb-false longest_text (length text) e) m) (λ m. absurd (cc))
     ]

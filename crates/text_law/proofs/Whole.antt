@@ -14,7 +14,7 @@ use Rattle.schedule_text.specs.Agrees.{no_lines}
 use Rattle.schedule_text.specs.Bytes.{is_printable}
 use Rattle.schedule_text.specs.Known.{add_line}
 use Rattle.schedule_text.specs.Lines.{words_of}
-use Rattle.schedule_text.specs.Schedule.{longest_text, lines_of, is_skipped, is_member_line, read_line, or_refuse, read_lines, schedule_of}
+use Rattle.schedule_text.specs.Schedule.{longest_text, lines_of, is_skipped, begins_member, read_line, or_refuse, read_lines, schedule_of}
 use Rattle.text_law.specs.Canonical.{statement_words, line_text, statements, text_of, canonical}
 use Rattle.text_law.specs.Sayable.{IsStatement, then_read, added, makes_member, IsSayable}
 use Rattle.text_law.proofs.Pieces.{Passes, EachPasses, passes-join, split_yes, split_join}
@@ -121,11 +121,11 @@ read_all n s t (x ∷ xs) h order =
     ∙ go_on n t xs (map line_text xs ++ [] ∷ []) (add_line s x) (λ u k. read_all (n + 1) u t xs h.1 k) order
 
 member_found : (xs : List Setup) (rest : List Statement) → list_any makes_member xs ≡ true
-    → list_any is_member_line (map line_text (map (λ x. statement.Setup x) xs ++ rest) ++ [] ∷ []) ≡ true
+    → list_any begins_member (map line_text (map (λ x. statement.Setup x) xs ++ rest) ++ [] ∷ []) ≡ true
 member_found [] rest h = absurd (cc)
 member_found (setup.Member stake honest ∷ xs) rest h = refl
 member_found (x ∷ xs) rest h =
-    or_right (is_member_line (line_text (statement.Setup x))) (list_any is_member_line (map line_text (map (λ y. statement.Setup y) xs ++ rest) ++ [] ∷ [])) (member_found xs rest h)
+    or_right (begins_member (line_text (statement.Setup x))) (list_any begins_member (map line_text (map (λ y. statement.Setup y) xs ++ rest) ++ [] ∷ [])) (member_found xs rest h)
 
 pub reads_back : (s : Schedule) → IsSayable s → length (canonical s) ≤ longest_text → schedule_of (canonical s) ≡ Ok s
 unfolding schedule_of

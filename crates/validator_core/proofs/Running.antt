@@ -23,7 +23,7 @@ use Rattle.validator_core.specs.declared.keeping.Unkept.TheVariants as unkept
 use Rattle.validator_core.specs.Calls.{Closes, Runs, close_ended, close_said, run_ended, run_said, unkept_close, unkept_run}
 use Rattle.validator_core.specs.Seats.{Becomes, Behaves, Ended, Journaled, Keeps, answered, fell}
 use Rattle.scene_spec.proofs.RulesAside.{close_answer_alike, close_called_alike, close_due_alike, run_answer_alike, run_called_alike, run_due_alike}
-use Rattle.scene_spec.specs.Seats.{Seat, bare_rules, due_at}
+use Rattle.scene_spec.specs.Seats.{Seated, bare_rules, due_at}
 use Rattle.validator_core.proofs.Settling.{keeps_same, seat_with, settles}
 
 -- ---- records that are due
@@ -177,24 +177,24 @@ closed_called m e = ap (after_due bare m) (sym (close_due m false e))
 
 -- ---- at the seat
 
-pub run_settles : (old : Seat) (state : Member) (e : Ended) → old.up ≡ true → Becomes (called bare old.state runs) state e → Behaves (bare_rules old) runs old (seat_with old state e) e
+pub run_settles : (old : Seated) (state : Member) (e : Ended) → old.up ≡ true → Becomes (called bare old.state runs) state e → Behaves (bare_rules old) runs old (seat_with old state e) e
 run_settles old state e up h = settles (bare_rules old) runs old state e up (subst (λ (next : Member). Becomes next state e) (run_called_alike bare (bare_rules old) old.state) h)
 
-pub run_at : (old : Seat) (answer : Result Ran RunRefusal) → old.up ≡ true → Runs (run_answer bare old.state) answer → Runs (run_said (bare_rules old) old) answer
+pub run_at : (old : Seated) (answer : Result Ran RunRefusal) → old.up ≡ true → Runs (run_answer bare old.state) answer → Runs (run_said (bare_rules old) old) answer
 run_at old answer up h =
     subst (λ said. Runs said answer) (run_answer_alike bare (bare_rules old) old.state ∙ ap (λ (b : Bool). cond b (run_answer (bare_rules old) old.state) (Err no_run.Down)) (sym up)) h
 
-pub run_due_at : (old : Seat) (before now : Option Journals) (e : Ended) → old.up ≡ true → Journaled before now old.member (due bare old.state runs) e → Journaled before now old.member (due_at (bare_rules old) old runs) e
+pub run_due_at : (old : Seated) (before now : Option Journals) (e : Ended) → old.up ≡ true → Journaled before now old.member (due bare old.state runs) e → Journaled before now old.member (due_at (bare_rules old) old runs) e
 run_due_at old before now e up h =
     subst (λ (x : Option Record). Journaled before now old.member x e) (run_due_alike bare (bare_rules old) old.state ∙ ap (λ (b : Bool). cond b (due (bare_rules old) old.state runs) None) (sym up)) h
 
-pub close_settles : (old : Seat) (state : Member) (e : Ended) → old.up ≡ true → Becomes (called bare old.state closes) state e → Behaves (bare_rules old) closes old (seat_with old state e) e
+pub close_settles : (old : Seated) (state : Member) (e : Ended) → old.up ≡ true → Becomes (called bare old.state closes) state e → Behaves (bare_rules old) closes old (seat_with old state e) e
 close_settles old state e up h = settles (bare_rules old) closes old state e up (subst (λ (next : Member). Becomes next state e) (close_called_alike bare (bare_rules old) old.state) h)
 
-pub close_at : (old : Seat) (answer : Result Bool CloseRefusal) → old.up ≡ true → Closes (close_answer bare old.state) answer → Closes (close_said (bare_rules old) old) answer
+pub close_at : (old : Seated) (answer : Result Bool CloseRefusal) → old.up ≡ true → Closes (close_answer bare old.state) answer → Closes (close_said (bare_rules old) old) answer
 close_at old answer up h =
     subst (λ said. Closes said answer) (close_answer_alike bare (bare_rules old) old.state ∙ ap (λ (b : Bool). cond b (close_answer (bare_rules old) old.state) (Err no_close.Down)) (sym up)) h
 
-pub close_due_at : (old : Seat) (before now : Option Journals) (e : Ended) → old.up ≡ true → Journaled before now old.member (due bare old.state closes) e → Journaled before now old.member (due_at (bare_rules old) old closes) e
+pub close_due_at : (old : Seated) (before now : Option Journals) (e : Ended) → old.up ≡ true → Journaled before now old.member (due bare old.state closes) e → Journaled before now old.member (due_at (bare_rules old) old closes) e
 close_due_at old before now e up h =
     subst (λ (x : Option Record). Journaled before now old.member x e) (close_due_alike bare (bare_rules old) old.state ∙ ap (λ (b : Bool). cond b (due (bare_rules old) old.state closes) None) (sym up)) h

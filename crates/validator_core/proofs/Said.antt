@@ -20,7 +20,7 @@ use Rattle.protocol_spec.specs.Member.Versions.{Execution, execution_of, is_exec
 use Rattle.protocol_spec.specs.Member.Member.{Fork, Member, fork_of}
 use Rattle.protocol_spec.specs.Member.Calls.{ack_answer, acknowledged, acks, due, end_answer, end_cases, ends, unseen}
 use Rattle.scene_spec.proofs.RulesAside.{ack_answer_alike, end_answer_alike}
-use Rattle.scene_spec.specs.Seats.{Seat, behind, due_at, rules_of_seat}
+use Rattle.scene_spec.specs.Seats.{Seated, behind, due_at, rules_of_seat}
 use Rattle.validator_core.specs.Answers.{bare}
 use Rattle.validator_core.specs.Calls.{Acks, Ends, ack_said, end_said}
 use Rattle.epoch_turn.specs.Dues.{is_ordered, unordered}
@@ -111,13 +111,13 @@ end_refused accepts member m refusal able stopped = end_as accepts member (end_a
 
 -- ---- at the seat
 
-pub ack_at : (accepts : Signing) (seat : Seat) (tx : Digest) (answer : Result Sealed AckRefusal) → seat.up ≡ true → Acks accepts seat.member (ack_answer bare seat.state tx) answer
+pub ack_at : (accepts : Signing) (seat : Seated) (tx : Digest) (answer : Result Sealed AckRefusal) → seat.up ≡ true → Acks accepts seat.member (ack_answer bare seat.state tx) answer
     → Acks accepts seat.member (ack_said (rules_of_seat seat accepts) seat tx) answer
 ack_at accepts seat tx answer up h =
     subst (λ said. Acks accepts seat.member said answer)
     (ack_answer_alike bare (rules_of_seat seat accepts) seat.state tx ∙ ap (λ (b : Bool). cond b (ack_answer (rules_of_seat seat accepts) seat.state tx) (Err no_ack.Down)) (sym up)) h
 
-pub end_at : (accepts : Signing) (seat : Seat) (answer : Result Sealed EndRefusal) → seat.up ≡ true → Ends accepts seat.member (end_answer bare seat.state) answer
+pub end_at : (accepts : Signing) (seat : Seated) (answer : Result Sealed EndRefusal) → seat.up ≡ true → Ends accepts seat.member (end_answer bare seat.state) answer
     → Ends accepts seat.member (end_said (rules_of_seat seat accepts) seat) answer
 end_at accepts seat answer up h =
     subst (λ said. Ends accepts seat.member said answer)

@@ -21,7 +21,7 @@ use Rattle.vote_rules.specs.Holders.{sides}
 use Rattle.vote_rules.specs.declared.held_book.Fork.{Fork as Sides}
 use Rattle.validator_core.specs.Entries.{behind_entry}
 use Rattle.validator_core.specs.Seats.{Becomes, Behaves, Ended, Journaled, Keeps, answered, fell}
-use Rattle.scene_spec.specs.Seats.{Seat, due_at, rules_of_seat}
+use Rattle.scene_spec.specs.Seats.{Seated, due_at, rules_of_seat}
 use Rattle.scene_spec.specs.Terms.{rules_for}
 use Rattle.validator_core.proofs.Refusing.{free, none_stops, stop, stopped_by}
 use Rattle.validator_core.proofs.Settling.{Signing, keeps_same, seat_with, settles}
@@ -143,16 +143,16 @@ see_maybe_kept before now member d x unkept.OutOfMemory is kept = subst (λ (y :
 
 -- ---- at the seat
 
-pub see_settles : (accepts : Signing) (old : Seat) (number : ℕ) (bytes : List ℕ) (state : Member) (e : Ended) → old.up ≡ true → Becomes (called (rules_for old.terms accepts) old.state (sees number bytes)) state e
+pub see_settles : (accepts : Signing) (old : Seated) (number : ℕ) (bytes : List ℕ) (state : Member) (e : Ended) → old.up ≡ true → Becomes (called (rules_for old.terms accepts) old.state (sees number bytes)) state e
     → Behaves (rules_of_seat old accepts) (sees number bytes) old (seat_with old state e) e
 see_settles accepts old number bytes state e up h = settles (rules_of_seat old accepts) (sees number bytes) old state e up h
 
-pub see_at : (accepts : Signing) (old : Seat) (number : ℕ) (bytes : List ℕ) (answer : Result Seen SeeRefusal) → old.up ≡ true → Sees (see_answer (rules_for old.terms accepts) old.state number bytes) answer
+pub see_at : (accepts : Signing) (old : Seated) (number : ℕ) (bytes : List ℕ) (answer : Result Seen SeeRefusal) → old.up ≡ true → Sees (see_answer (rules_for old.terms accepts) old.state number bytes) answer
     → Sees (see_said (rules_of_seat old accepts) old number bytes) answer
 see_at accepts old number bytes answer up h =
     subst (λ said. Sees said answer) (ap (λ (b : Bool). cond b (see_answer (rules_of_seat old accepts) old.state number bytes) (Err no_see.Down)) (sym up)) h
 
-pub see_due_at : (accepts : Signing) (old : Seat) (number : ℕ) (bytes : List ℕ) (before now : Option Journals) (e : Ended) → old.up ≡ true
+pub see_due_at : (accepts : Signing) (old : Seated) (number : ℕ) (bytes : List ℕ) (before now : Option Journals) (e : Ended) → old.up ≡ true
     → Journaled before now old.member (due (rules_for old.terms accepts) old.state (sees number bytes)) e → Journaled before now old.member (due_at (rules_of_seat old accepts) old (sees number bytes)) e
 see_due_at accepts old number bytes before now e up h =
     subst (λ (x : Option Record). Journaled before now old.member x e) (ap (λ (b : Bool). cond b (due (rules_of_seat old accepts) old.state (sees number bytes)) None) (sym up)) h

@@ -21,16 +21,16 @@ use Rattle.scene_spec.specs.Terms.{Terms, rules_for}
 use Rattle.validator_core.specs.Answers.{sealed_as}
 use Rattle.validator_core.specs.Calls.{Holds, Votes, hold_said, vote_said}
 use Rattle.validator_core.specs.Seats.{Becomes, Behaves, Ended, Journaled, Keeps, answered, fell, has_fallen}
-use Rattle.scene_spec.specs.Seats.{Seat, due_at, rules_of_seat}
+use Rattle.scene_spec.specs.Seats.{Seated, due_at, rules_of_seat}
 
 abbrev pub Signing : Type 0
 Signing = Signer → List ℕ → Digest → Bool
 
 -- up where it answered, else down
-abbrev pub seat_with : Seat → Member → Ended → Seat
+abbrev pub seat_with : Seated → Member → Ended → Seated
 seat_with old state e = record old { state = state; up = not (has_fallen e) }
 
-pub settles : (r : Rules) (call : Call) (old : Seat) (state : Member) (e : Ended) → old.up ≡ true → Becomes (called r old.state call) state e → Behaves r call old (seat_with old state e) e
+pub settles : (r : Rules) (call : Call) (old : Seated) (state : Member) (e : Ended) → old.up ≡ true → Becomes (called r old.state call) state e → Behaves r call old (seat_with old state e) e
 settles r call old state answered up is =
     ap (λ (s : Member). record old { state = s; up = true }) is
     ∙ ap (λ (b : Bool). record old { state = called r old.state call; up = b }) (sym up)
@@ -56,39 +56,39 @@ same_called : (accepts : Signing) (terms : Terms) (bytes : List ℕ) (m : Member
 unfolding due vote_answer
 same_called accepts terms bytes m = same_vote (sealed_as accepts) (rules_for terms accepts) m (read_signed bytes) (vote_answer (sealed_as accepts) m bytes)
 
-pub vote_settles : (accepts : Signing) (old : Seat) (bytes : List ℕ) (state : Member) (e : Ended) → old.up ≡ true → Becomes (called (sealed_as accepts) old.state (votes bytes)) state e
+pub vote_settles : (accepts : Signing) (old : Seated) (bytes : List ℕ) (state : Member) (e : Ended) → old.up ≡ true → Becomes (called (sealed_as accepts) old.state (votes bytes)) state e
     → Behaves (rules_of_seat old accepts) (votes bytes) old (seat_with old state e) e
 vote_settles accepts old bytes state e up h =
     settles (rules_of_seat old accepts) (votes bytes) old state e up (subst (λ (next : Member). Becomes next state e) (same_called accepts old.terms bytes old.state) h)
 
-pub vote_at : (accepts : Signing) (old : Seat) (bytes : List ℕ) (answer : Result Sent VoteRefusal) → old.up ≡ true → Votes accepts old.member (vote_answer (sealed_as accepts) old.state bytes) answer
+pub vote_at : (accepts : Signing) (old : Seated) (bytes : List ℕ) (answer : Result Sent VoteRefusal) → old.up ≡ true → Votes accepts old.member (vote_answer (sealed_as accepts) old.state bytes) answer
     → Votes accepts old.member (vote_said (rules_of_seat old accepts) old bytes) answer
 unfolding vote_answer
 vote_at accepts old bytes answer up h =
     subst (λ said. Votes accepts old.member said answer) (ap (λ (b : Bool). cond b (vote_answer (rules_of_seat old accepts) old.state bytes) (Err no_vote.Down)) (sym up)) h
 
-pub vote_due_at : (accepts : Signing) (old : Seat) (bytes : List ℕ) (before now : Option Journals) (e : Ended) → old.up ≡ true
+pub vote_due_at : (accepts : Signing) (old : Seated) (bytes : List ℕ) (before now : Option Journals) (e : Ended) → old.up ≡ true
     → Journaled before now old.member (due (sealed_as accepts) old.state (votes bytes)) e → Journaled before now old.member (due_at (rules_of_seat old accepts) old (votes bytes)) e
 unfolding due vote_answer
 vote_due_at accepts old bytes before now e up h =
     subst (λ (x : Option Record). Journaled before now old.member x e) (ap (λ (b : Bool). cond b (due (rules_of_seat old accepts) old.state (votes bytes)) None) (sym up)) h
 
-pub vote_owed_at : (accepts : Signing) (old : Seat) (bytes : List ℕ) → old.up ≡ true → is_some (due (sealed_as accepts) old.state (votes bytes)) ≡ true → is_some (due_at (rules_of_seat old accepts) old (votes bytes)) ≡ true
+pub vote_owed_at : (accepts : Signing) (old : Seated) (bytes : List ℕ) → old.up ≡ true → is_some (due (sealed_as accepts) old.state (votes bytes)) ≡ true → is_some (due_at (rules_of_seat old accepts) old (votes bytes)) ≡ true
 unfolding due vote_answer
 vote_owed_at accepts old bytes up h = ap (λ (b : Bool). is_some (cond b (due (rules_of_seat old accepts) old.state (votes bytes)) None)) up ∙ h
 
 -- ---- certificates
 
-pub hold_settles : (accepts : Signing) (old : Seat) (bytes : List ℕ) (state : Member) (e : Ended) → old.up ≡ true → Becomes (called (rules_for old.terms accepts) old.state (holds bytes)) state e
+pub hold_settles : (accepts : Signing) (old : Seated) (bytes : List ℕ) (state : Member) (e : Ended) → old.up ≡ true → Becomes (called (rules_for old.terms accepts) old.state (holds bytes)) state e
     → Behaves (rules_of_seat old accepts) (holds bytes) old (seat_with old state e) e
 hold_settles accepts old bytes state e up h = settles (rules_of_seat old accepts) (holds bytes) old state e up h
 
-pub hold_at : (accepts : Signing) (old : Seat) (bytes : List ℕ) (answer : Result Bool HoldRefusal) → old.up ≡ true → Holds (hold_answer (rules_for old.terms accepts) old.state bytes) answer
+pub hold_at : (accepts : Signing) (old : Seated) (bytes : List ℕ) (answer : Result Bool HoldRefusal) → old.up ≡ true → Holds (hold_answer (rules_for old.terms accepts) old.state bytes) answer
     → Holds (hold_said (rules_of_seat old accepts) old bytes) answer
 hold_at accepts old bytes answer up h =
     subst (λ said. Holds said answer) (ap (λ (b : Bool). cond b (hold_answer (rules_of_seat old accepts) old.state bytes) (Err no_hold.Down)) (sym up)) h
 
-pub hold_due_at : (accepts : Signing) (old : Seat) (bytes : List ℕ) (before now : Option Journals) (e : Ended) → old.up ≡ true
+pub hold_due_at : (accepts : Signing) (old : Seated) (bytes : List ℕ) (before now : Option Journals) (e : Ended) → old.up ≡ true
     → Journaled before now old.member (due (rules_for old.terms accepts) old.state (holds bytes)) e → Journaled before now old.member (due_at (rules_of_seat old accepts) old (holds bytes)) e
 hold_due_at accepts old bytes before now e up h =
     subst (λ (x : Option Record). Journaled before now old.member x e) (ap (λ (b : Bool). cond b (due (rules_of_seat old accepts) old.state (holds bytes)) None) (sym up)) h
@@ -99,5 +99,5 @@ pub keeps_same : (lists : Option Journals) → KeepsJournals lists lists
 keeps_same None = tt
 keeps_same (Some lists) = refl
 
-pub down_keeps : (r : Rules) (old : Seat) (call : Call) (lists : Option Journals) → old.up ≡ false → Keeps lists lists old.member (due_at r old call)
+pub down_keeps : (r : Rules) (old : Seated) (call : Call) (lists : Option Journals) → old.up ≡ false → Keeps lists lists old.member (due_at r old call)
 down_keeps r old call lists down = subst (λ (x : Option Record). Keeps lists lists old.member x) (ap (λ (b : Bool). cond b (due r old.state call) None) (sym down)) (keeps_same lists)

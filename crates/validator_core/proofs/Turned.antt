@@ -24,7 +24,7 @@ use Rattle.validator_core.specs.Steps.{turning}
 use Rattle.validator_core.specs.declared.keeping.Unkept.{Unkept}
 use Rattle.validator_core.specs.declared.keeping.Unkept.TheVariants as unkept
 use Rattle.scene_spec.proofs.RulesAside.{turn_answer_alike, turn_called_alike, turn_due_alike}
-use Rattle.scene_spec.specs.Seats.{Seat, bare_rules, due_at}
+use Rattle.scene_spec.specs.Seats.{Seated, bare_rules, due_at}
 use Rattle.validator_core.proofs.Refusing.{free, none_stops, stop, stopped_by}
 use Rattle.validator_core.proofs.Running.{journals_same, maybe_kept}
 use Rattle.validator_core.proofs.Settling.{seat_with, settles}
@@ -126,13 +126,13 @@ turn_not_allowed m result is bad = may_turn (first_some (turn_cases m)) (reverte
 
 -- ---- at the seat
 
-pub turn_settles : (old : Seat) (state : Member) (e : Ended) → old.up ≡ true → Becomes (called bare old.state turns) state e → Behaves (bare_rules old) turns old (seat_with old state e) e
+pub turn_settles : (old : Seated) (state : Member) (e : Ended) → old.up ≡ true → Becomes (called bare old.state turns) state e → Behaves (bare_rules old) turns old (seat_with old state e) e
 turn_settles old state e up h = settles (bare_rules old) turns old state e up (subst (λ (next : Member). Becomes next state e) (turn_called_alike bare (bare_rules old) old.state) h)
 
-pub turn_at : (old : Seat) (answer : Result (List Digest) TurnRefusal) → old.up ≡ true → Turns (turn_answer bare old.state) answer → Turns (turn_said (bare_rules old) old) answer
+pub turn_at : (old : Seated) (answer : Result (List Digest) TurnRefusal) → old.up ≡ true → Turns (turn_answer bare old.state) answer → Turns (turn_said (bare_rules old) old) answer
 turn_at old answer up h =
     subst (λ said. Turns said answer) (turn_answer_alike bare (bare_rules old) old.state ∙ ap (λ (b : Bool). cond b (turn_answer (bare_rules old) old.state) (Err no_turn.Down)) (sym up)) h
 
-pub turn_due_at : (old : Seat) (before now : Option Journals) (e : Ended) → old.up ≡ true → Journaled before now old.member (due bare old.state turns) e → Journaled before now old.member (due_at (bare_rules old) old turns) e
+pub turn_due_at : (old : Seated) (before now : Option Journals) (e : Ended) → old.up ≡ true → Journaled before now old.member (due bare old.state turns) e → Journaled before now old.member (due_at (bare_rules old) old turns) e
 turn_due_at old before now e up h =
     subst (λ (x : Option Record). Journaled before now old.member x e) (turn_due_alike bare (bare_rules old) old.state ∙ ap (λ (b : Bool). cond b (due (bare_rules old) old.state turns) None) (sym up)) h

@@ -32,11 +32,11 @@ use Rattle.protocol_spec.specs.Member.Calls.{Voted, ack_answer, close_answer, en
 use Rattle.validator_core.specs.declared.keeping.Unkept.{Unkept}
 use Rattle.validator_core.specs.declared.keeping.Unkept.TheVariants as unkept
 use Rattle.validator_core.specs.Seats.{Ended, answered, fell}
-use Rattle.scene_spec.specs.Seats.{Seat}
+use Rattle.scene_spec.specs.Seats.{Seated}
 
 -- ---- vote
 
-abbrev pub vote_said : Rules → Seat → List ℕ → Result Voted VoteRefusal
+abbrev pub vote_said : Rules → Seated → List ℕ → Result Voted VoteRefusal
 vote_said r seat bytes = if seat.up then vote_answer r seat.state bytes else Err no_vote.Down
 
 -- the member's seal on the statement is accepted
@@ -69,7 +69,7 @@ vote_ended (Err refusal) = answered
 
 -- ---- hold
 
-abbrev pub hold_said : Rules → Seat → List ℕ → Result Bool HoldRefusal
+abbrev pub hold_said : Rules → Seated → List ℕ → Result Bool HoldRefusal
 hold_said r seat bytes = if seat.up then hold_answer r seat.state bytes else Err no_hold.Down
 
 abbrev pub Holds : Result Bool HoldRefusal → Result Bool HoldRefusal → Type 0
@@ -90,7 +90,7 @@ hold_ended (Err refusal) = answered
 
 -- ---- see
 
-abbrev pub see_said : Rules → Seat → ℕ → List ℕ → Result Seen SeeRefusal
+abbrev pub see_said : Rules → Seated → ℕ → List ℕ → Result Seen SeeRefusal
 see_said r seat number bytes = if seat.up then see_answer r seat.state number bytes else Err no_see.Down
 
 abbrev pub Sees : Result Seen SeeRefusal → Result Seen SeeRefusal → Type 0
@@ -111,7 +111,7 @@ see_ended (Err refusal) = answered
 
 -- ---- run
 
-abbrev pub run_said : Rules → Seat → Result Ran RunRefusal
+abbrev pub run_said : Rules → Seated → Result Ran RunRefusal
 run_said r seat = if seat.up then run_answer r seat.state else Err no_run.Down
 
 abbrev pub Runs : Result Ran RunRefusal → Result Ran RunRefusal → Type 0
@@ -132,7 +132,7 @@ run_ended (Err refusal) = answered
 
 -- ---- close
 
-abbrev pub close_said : Rules → Seat → Result Bool CloseRefusal
+abbrev pub close_said : Rules → Seated → Result Bool CloseRefusal
 close_said r seat = if seat.up then close_answer r seat.state else Err no_close.Down
 
 abbrev pub Closes : Result Bool CloseRefusal → Result Bool CloseRefusal → Type 0
@@ -153,7 +153,7 @@ close_ended (Err refusal) = answered
 
 -- ---- ack
 
-abbrev pub ack_said : Rules → Seat → Digest → Result Statement AckRefusal
+abbrev pub ack_said : Rules → Seated → Digest → Result Statement AckRefusal
 ack_said r seat tx = if seat.up then ack_answer r seat.state tx else Err no_ack.Down
 
 -- the statement under the member's seal
@@ -164,7 +164,7 @@ Acks accepts member said (Err refusal) = said ≡ Err refusal
 
 -- ---- end
 
-abbrev pub end_said : Rules → Seat → Result Statement EndRefusal
+abbrev pub end_said : Rules → Seated → Result Statement EndRefusal
 end_said r seat = if seat.up then end_answer r seat.state else Err no_end.Down
 
 -- the statement under the member's seal; memory may be wanted where there is one, and else not
@@ -175,7 +175,7 @@ Ends accepts member said (Err refusal) = said ≡ Err refusal
 
 -- ---- turn
 
-abbrev pub turn_said : Rules → Seat → Result (List Digest) TurnRefusal
+abbrev pub turn_said : Rules → Seated → Result (List Digest) TurnRefusal
 turn_said r seat = if seat.up then turn_answer r seat.state else Err no_turn.Down
 
 abbrev pub Turns : Result (List Digest) TurnRefusal → Result (List Digest) TurnRefusal → Type 0

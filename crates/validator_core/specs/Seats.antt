@@ -7,7 +7,7 @@ use Rattle.protocol_spec.specs.Chain.Certificates.{Rules}
 use Rattle.protocol_spec.specs.Member.Member.{Member}
 use Rattle.protocol_spec.specs.Member.Calls.{Call, due}
 use Rattle.validator_core.specs.declared.keeping.Unkept.{Unkept}
-use Rattle.scene_spec.specs.Seats.{Seat, behind}
+use Rattle.scene_spec.specs.Seats.{Seated, behind}
 
 -- ---- how a call ended
 
@@ -21,7 +21,7 @@ has_fallen answered = false
 has_fallen fell = true
 
 -- a member that fell
-pub record Fell (old new : Seat) : Type 0 where
+pub record Fell (old new : Seated) : Type 0 where
   pub member : new.member ≡ old.member
   pub terms : new.terms ≡ old.terms
   pub up : new.up ≡ false
@@ -31,7 +31,7 @@ abbrev pub Becomes : Member → Member → Ended → Type 0
 Becomes next new answered = new ≡ next
 Becomes next new fell = Unit {0}
 
-abbrev pub Behaves : Rules → Call → Seat → Seat → Ended → Type 0
+abbrev pub Behaves : Rules → Call → Seated → Seated → Ended → Type 0
 Behaves r call old new answered = new ≡ behind r old call
 Behaves r call old new fell = Fell old new
 

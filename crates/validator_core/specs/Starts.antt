@@ -4,7 +4,7 @@ use Rattle.answer_types.specs.declared.refusals.StartRefusal.{StartRefusal}
 use Rattle.answer_types.specs.declared.refusals.StartRefusal.TheVariants as no_start
 use Rattle.protocol_spec.specs.Member.Member.{Member}
 use Rattle.scene_spec.specs.Terms.{Terms}
-use Rattle.scene_spec.specs.Seats.{Seat}
+use Rattle.scene_spec.specs.Seats.{Seated}
 
 -- a member that is up in the state that is said, or the refusal; want of memory says nothing
 abbrev pub StateAs : Result Member StartRefusal → Member → Result (Unit {0}) StartRefusal → Type 0
@@ -12,7 +12,7 @@ StateAs said state (Ok done) = said ≡ Ok state
 StateAs said state (Err no_start.OutOfMemory) = Unit {0}
 StateAs said state (Err (no_start.BadRecord place why)) = said ≡ Err (no_start.BadRecord place why)
 
-abbrev pub Starts : Result Member StartRefusal → ℕ → Terms → Result Seat StartRefusal → Type 0
+abbrev pub Starts : Result Member StartRefusal → ℕ → Terms → Result Seated StartRefusal → Type 0
 Starts said member terms (Ok seat) = (said ≡ Ok seat.state) × (seat.member ≡ member) × (seat.terms ≡ terms) × (seat.up ≡ true)
 Starts said member terms (Err no_start.OutOfMemory) = Unit {0}
 Starts said member terms (Err (no_start.BadRecord place why)) = said ≡ Err (no_start.BadRecord place why)

@@ -50,9 +50,9 @@ pub struct Validator {
 }
 
 impl Model for Validator {
-    ghost use Rattle.scene_spec.specs.Seats.{Seat};
+    ghost use Rattle.scene_spec.specs.Seats.{Seated};
 
-    ghost Value = { Seat };
+    ghost Value = { Seated };
 
     ghost view = { λ v. record { member = v.member; terms = record { stakes = v.committee; writers = v.state.writers }; up = v.up; state = v.state.member } };
 }

@@ -10,7 +10,7 @@ use Rattle.answer_types.specs.declared.refusals.VoteRefusal.TheVariants as no_vo
 use Rattle.protocol_spec.specs.Chain.Certificates.{Rules}
 use Rattle.protocol_spec.specs.Member.Member.{fork_of}
 use Rattle.protocol_spec.specs.Member.Calls.{Call, called}
-use Rattle.scene_spec.specs.Seats.{Seat}
+use Rattle.scene_spec.specs.Seats.{Seated}
 use Rattle.validator_core.specs.Calls.{Votes}
 use Rattle.validator_core.specs.Seats.{Behaves, Ended, answered, fell}
 use Rattle.vote_desk.specs.declared.bench.Bench.{Bench}
@@ -49,8 +49,8 @@ replies accepts s bytes (Err (no_vote.PoorGas had want)) is owed able = is
 replies accepts s bytes (Err (no_vote.Locked key by)) is owed able = is
 
 -- a call leaves the number of the member
-pub number_stays : (r : Rules) (call : Call) (old new : Seat) (e : Ended) → Behaves r call old new e → new.member ≡ old.member
-number_stays r call old new answered is = ap (λ (s : Seat). s.member) is ∙ go old.up
+pub number_stays : (r : Rules) (call : Call) (old new : Seated) (e : Ended) → Behaves r call old new e → new.member ≡ old.member
+number_stays r call old new answered is = ap (λ (s : Seated). s.member) is ∙ go old.up
   where
     go : (up : Bool) → (cond up (record old { state = called r old.state call }) old).member ≡ old.member
     go true = refl

@@ -11,7 +11,7 @@ use Rattle.answer_types.specs.declared.refusals.VoteRefusal.TheVariants as no_vo
 use Rattle.protocol_spec.specs.Chain.Certificates.{Rules}
 use Rattle.protocol_spec.specs.Member.Calls.{Voted, votes}
 use Rattle.protocol_spec.specs.Member.Member.{fork_of}
-use Rattle.scene_spec.specs.Seats.{Seat, due_at, rules_of_seat}
+use Rattle.scene_spec.specs.Seats.{Seated, due_at, rules_of_seat}
 use Rattle.validator_core.specs.Calls.{IsSealedBy, vote_ended, vote_said}
 use Rattle.validator_core.specs.Seats.{Behaves, Journaled}
 use Rattle.vote_desk.specs.declared.entry.DeskEntry.{DeskEntry}
@@ -19,7 +19,7 @@ use Rattle.vote_desk.specs.declared.standing.Standing.{Standing}
 
 module _ {S : Type 0} where
   -- a member, its sealer, the keeper's count of faults, and the keeper's lists where they are told
-  abbrev pub standing : Seat → S → ℕ → Option Journals → Standing S
+  abbrev pub standing : Seated → S → ℕ → Option Journals → Standing S
   standing validator sealer faults lists = record { validator = validator; sealer = sealer; faults = faults; lists = lists }
 
 -- `accepts` tells of a sealer which seals it accepts

@@ -1,7 +1,5 @@
--- The items of BCS that are no lists and no choices. A fault is at the first byte of its item. The rows
--- of the table of faults: 1 the input ends inside the item, 2 a bool byte is neither 0 nor 1, 5 a length
--- is above 2147483647, 8 the bytes of a text are not UTF-8. (3 and 4 are ULEB128's, 6 and 7 stand in
--- Tags and Whole.)
+-- The items of BCS that are no lists and no choices. A fault is at the first byte of its item, and its number is that of
+-- its row in the table at `WireFault` (src/fault.rt): 1, 2, 5 and 8 come here, 3 and 4 in Uleb, 6 in Tags, 7 in Whole.
 use Rattle.std.specs.Prelude.{◌≡◌, ℕ, ◌^◌, ◌<◌, ◌≤◌, Bool, true, false, cond, nat_lt, ◌==◌, if◌then◌else◌, List, [], ◌∷◌, ◌++◌, length, take, drop, Ok, Err, refl}
 use Rattle.std.specs.Str.{is_utf8}
 use Rattle.std.proofs.Common.{sym, ◌∙◌, ap, subst, inl, inr, arith, append_assoc, add-zero}

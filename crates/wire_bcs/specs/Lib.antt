@@ -1,3 +1,4 @@
+pub mod Ascending
 pub mod Place
 pub mod Codec
 pub mod Little

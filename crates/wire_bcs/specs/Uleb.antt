@@ -16,8 +16,8 @@ abbrev pub behind : ℕ → Result (ℕ × ℕ) ℕ → Result (ℕ × ℕ) ℕ
 behind b (Ok rest) = Ok (b - 128 + 128 * rest.0, suc rest.1)
 behind b (Err why) = Err why
 
--- The value and the count of the bytes behind a first one, at most so many and one, or the row of the
--- fault: 1 the input ends, 3 the last byte is zero, 4 the fifth byte is above 0x0f.
+-- The value and the count of the bytes behind a first one, at most so many and one, or the row of the fault in the table
+-- at `WireFault`.
 abbrev pub uleb_rest : ℕ → List ℕ → Result (ℕ × ℕ) ℕ
 uleb_rest more [] = Err 1
 uleb_rest zero (b ∷ bytes) = if b == 0 then Err 3 else (if nat_lt 15 b then Err 4 else Ok (b, 1))

@@ -10,6 +10,7 @@
 //! left, and comes exactly where there is no value. A type's codec is made of those of its parts.
 #![tactic(auto)]
 
+mod ascending;
 mod copies;
 mod fault;
 mod reader;
@@ -17,6 +18,7 @@ mod seq;
 mod wire;
 mod writer;
 
+pub use ascending::ascends;
 pub use copies::Duplicate;
 pub use fault::{Unread, WireFault};
 pub use reader::Reader;

@@ -13,7 +13,7 @@ use Rattle.world_spec.specs.World.{entries_at, next_call_of, numbered_call}
 use Rattle.world_spec.specs.Report.{Lines}
 use Rattle.scene_spec.specs.Posts.{AddsAll, AddsFront, Post, list_of, reached_in, record_left}
 use Rattle.scene_spec.specs.Scene.{Scene, bare_world, rules_in}
-use Rattle.scene_spec.specs.Seats.{Seat}
+use Rattle.scene_spec.specs.Seats.{Seated}
 use Rattle.scene_spec.specs.Steps.{call_lines_in, left_if, next_on, seat_state, standing_at}
 use Rattle.world_core.specs.Replies.{Leaves}
 use Rattle.world_core.specs.Sees.{LeavesAll, next_by, next_for, see_lines_by}
@@ -21,13 +21,13 @@ use Rattle.world_core.proofs.Lines.{adds_all, adds_front}
 use Rattle.world_core.proofs.SeeTexts.{see_lines_are}
 
 module _ (posts : List Post) (sequences : List (List Entry)) (m : ℕ) where
-  by_standing : (standing : Option Seat) → standing ≡ standing_at (slice_get posts m) → next_by posts sequences m ≡ option_and_then (next_for sequences) (option_map seat_state standing)
-  by_standing standing is = ap (λ (s : Option Seat). option_and_then (next_for sequences) (option_map seat_state s)) (sym is)
+  by_standing : (standing : Option Seated) → standing ≡ standing_at (slice_get posts m) → next_by posts sequences m ≡ option_and_then (next_for sequences) (option_map seat_state standing)
+  by_standing standing is = ap (λ (s : Option Seated). option_and_then (next_for sequences) (option_map seat_state s)) (sym is)
 
   pub by_none : None ≡ standing_at (slice_get posts m) → None ≡ next_by posts sequences m
   by_none is = sym (by_standing None is)
 
-  module _ (seat : Seat) (is : Some seat ≡ standing_at (slice_get posts m)) where
+  module _ (seat : Seated) (is : Some seat ≡ standing_at (slice_get posts m)) where
     pub by_ended : seat.state.sequence.ended ≡ true → None ≡ next_by posts sequences m
     by_ended ended =
         sym (by_standing (Some seat) is

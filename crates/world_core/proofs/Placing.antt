@@ -7,7 +7,7 @@ use Rattle.protocol_spec.specs.Chain.Certificates.{Rules}
 use Rattle.protocol_spec.specs.Member.Calls.{Call, called}
 use Rattle.protocol_spec.specs.Member.Member.{fresh}
 use Rattle.world_spec.specs.World.{Reached, finds_down, stops, answers}
-use Rattle.scene_spec.specs.Seats.{Seat}
+use Rattle.scene_spec.specs.Seats.{Seated}
 use Rattle.scene_spec.specs.Terms.{Terms}
 use Rattle.scene_spec.specs.Posts.{Post, changed_at, new_posts, post_behind, seat_at, seat_behind, standing_with}
 use Rattle.world_core.specs.Crews.{ArePlaced, IsPlaced, IsPlacedPost, honest_at, honest_flags}
@@ -34,11 +34,11 @@ pub placed_in : (terms : Terms) (posts : List Post) (n m : ℕ) (old : Post) →
 placed_in terms posts n m old count low is placed = subst (IsPlacedPost terms m) (slice_get_read posts n m old count low is) (placed m)
 
 -- a member that stands at a number is placed there
-pub placed_at : (terms : Terms) (posts : List Post) (m : ℕ) (p : Post) (o : Option Seat) → ArePlaced terms posts → Some p ≡ slice_get posts m → o ≡ p.standing → IsPlaced terms m o
+pub placed_at : (terms : Terms) (posts : List Post) (m : ℕ) (p : Post) (o : Option Seated) → ArePlaced terms posts → Some p ≡ slice_get posts m → o ≡ p.standing → IsPlaced terms m o
 placed_at terms posts m p o all at is = subst (IsPlaced terms m) (sym is) (subst (IsPlacedPost terms m) (sym at) (all m))
 
 -- and so is one that is honest
-pub honest_placed : (terms : Terms) (posts : List Post) (m : ℕ) (p : Post) (o : Option Seat) → ArePlaced terms posts → Some p ≡ slice_get posts m → o ≡ honest_at (Some p) → IsPlaced terms m o
+pub honest_placed : (terms : Terms) (posts : List Post) (m : ℕ) (p : Post) (o : Option Seated) → ArePlaced terms posts → Some p ≡ slice_get posts m → o ≡ honest_at (Some p) → IsPlaced terms m o
 honest_placed terms posts m p o all at is = subst (IsPlaced terms m) (sym is) (by p.honest (subst (IsPlacedPost terms m) (sym at) (all m)))
   where
     by : (honest : Bool) → IsPlaced terms m p.standing → IsPlaced terms m (cond honest p.standing None)
@@ -55,10 +55,10 @@ changed_is change posts n m old p count low is e = ap (set posts m) e ∙ ap (ch
 
 -- ---- behind a call
 
-pub placed_behind : (terms : Terms) (m : ℕ) (r : Rules) (call : Call) (old : Seat) → old ≡ seat_at terms m old.state → seat_behind r call old ≡ seat_at terms m (called r old.state call)
-placed_behind terms m r call old e = ap (λ (s : Seat). record s { state = called r old.state call }) e
+pub placed_behind : (terms : Terms) (m : ℕ) (r : Rules) (call : Call) (old : Seated) → old ≡ seat_at terms m old.state → seat_behind r call old ≡ seat_at terms m (called r old.state call)
+placed_behind terms m r call old e = ap (λ (s : Seated). record s { state = called r old.state call }) e
 
-standing_behind : (terms : Terms) (m : ℕ) (r : Rules) (call : Call) (o : Option Seat) → IsPlaced terms m o → IsPlaced terms m (option_map (seat_behind r call) o)
+standing_behind : (terms : Terms) (m : ℕ) (r : Rules) (call : Call) (o : Option Seated) → IsPlaced terms m o → IsPlaced terms m (option_map (seat_behind r call) o)
 standing_behind terms m r call None placed = tt
 standing_behind terms m r call (Some seat) placed = placed_behind terms m r call seat placed
 

@@ -18,7 +18,7 @@ use Rattle.world_spec.specs.World.{Said, answered_statement, said_by}
 use Rattle.world_spec.specs.Report.{ack_answered, end_answered}
 use Rattle.scene_spec.specs.Known.{Known, world_with}
 use Rattle.scene_spec.specs.Terms.{Terms, rules_for}
-use Rattle.scene_spec.specs.Seats.{Seat, rules_of_seat}
+use Rattle.scene_spec.specs.Seats.{Seated, rules_of_seat}
 use Rattle.scene_spec.specs.Posts.{Post, seat_at}
 use Rattle.scene_spec.specs.Steps.{says_in, seat_state}
 use Rattle.world_core.specs.Epochs.{ack_statements, ack_text_by, end_statements, end_text_by}
@@ -28,22 +28,22 @@ Accepting = Signer → List ℕ → Digest → Bool
 
 -- ---- the members asked
 
-module _ (accepts : Accepting) (terms : Terms) (m : ℕ) (seat : Seat) (standing : Option Seat) (is : Some seat ≡ standing) (placed : seat ≡ seat_at terms m seat.state) where
+module _ (accepts : Accepting) (terms : Terms) (m : ℕ) (seat : Seated) (standing : Option Seated) (is : Some seat ≡ standing) (placed : seat ≡ seat_at terms m seat.state) where
   rules_are : rules_of_seat seat accepts ≡ rules_for terms accepts
-  rules_are = ap (λ (s : Seat). rules_for s.terms accepts) placed
+  rules_are = ap (λ (s : Seated). rules_for s.terms accepts) placed
 
   pub end_asked : (a : Result Statement EndRefusal) → a ≡ end_answer (rules_of_seat seat accepts) seat.state → Some a ≡ option_map (end_answer (rules_for terms accepts)) (option_map seat_state standing)
   end_asked a said =
       ap (λ (x : Result Statement EndRefusal). Some x) (said ∙ ap (λ (r : Rules). end_answer r seat.state) rules_are)
-      ∙ ap (λ (s : Option Seat). option_map (end_answer (rules_for terms accepts)) (option_map seat_state s)) is
+      ∙ ap (λ (s : Option Seated). option_map (end_answer (rules_for terms accepts)) (option_map seat_state s)) is
 
   pub ack_asked : (tx : Digest) (a : Result Statement AckRefusal) → a ≡ ack_answer (rules_of_seat seat accepts) seat.state tx → Some a ≡ option_map (λ (s : Member). ack_answer (rules_for terms accepts) s tx) (option_map seat_state standing)
   ack_asked tx a said =
       ap (λ (x : Result Statement AckRefusal). Some x) (said ∙ ap (λ (r : Rules). ack_answer r seat.state tx) rules_are)
-      ∙ ap (λ (s : Option Seat). option_map (λ (x : Member). ack_answer (rules_for terms accepts) x tx) (option_map seat_state s)) is
+      ∙ ap (λ (s : Option Seated). option_map (λ (x : Member). ack_answer (rules_for terms accepts) x tx) (option_map seat_state s)) is
 
-pub asked_none : {A : Type 0} (f : Member → A) (standing : Option Seat) → None ≡ standing → None ≡ option_map f (option_map seat_state standing)
-asked_none f standing is = ap (λ (s : Option Seat). option_map f (option_map seat_state s)) is
+pub asked_none : {A : Type 0} (f : Member → A) (standing : Option Seated) → None ≡ standing → None ≡ option_map f (option_map seat_state standing)
+asked_none f standing is = ap (λ (s : Option Seated). option_map f (option_map seat_state s)) is
 
 -- ---- what is told of it
 
@@ -112,14 +112,14 @@ module _ (k : Known) (r : Rules) (m : ℕ) (state : Option Member) where
 
 module _ {A : Type 0} (says : Member → Option A) (p : Post) (posts : List Post) where
   abbrev said_here : Option A
-  said_here = if p.honest then option_and_then (λ (seat : Seat). says seat.state) p.standing else None
+  said_here = if p.honest then option_and_then (λ (seat : Seated). says seat.state) p.standing else None
 
   none_first : (o : Option A) → first_some (None ∷ o ∷ []) ≡ o
   none_first None = refl
   none_first (Some x) = refl
 
-  pub says_next : (if p.honest then option_and_then (λ (seat : Seat). says seat.state) p.standing else None) ≡ None → says_in says (p ∷ posts) ≡ says_in says posts
+  pub says_next : (if p.honest then option_and_then (λ (seat : Seated). says seat.state) p.standing else None) ≡ None → says_in says (p ∷ posts) ≡ says_in says posts
   says_next e = ap (λ (o : Option A). first_some (o ∷ says_in says posts ∷ [])) e ∙ none_first (says_in says posts)
 
-  pub says_here : (x : A) → (if p.honest then option_and_then (λ (seat : Seat). says seat.state) p.standing else None) ≡ Some x → says_in says (p ∷ posts) ≡ Some x
+  pub says_here : (x : A) → (if p.honest then option_and_then (λ (seat : Seated). says seat.state) p.standing else None) ≡ Some x → says_in says (p ∷ posts) ≡ Some x
   says_here x e = ap (λ (o : Option A). first_some (o ∷ says_in says posts ∷ [])) e

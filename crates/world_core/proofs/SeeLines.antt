@@ -15,7 +15,7 @@ use Rattle.world_spec.specs.Names.{tx_name}
 use Rattle.world_spec.specs.Step.{entries_left}
 use Rattle.world_spec.specs.Report.{none_taken}
 use Rattle.scene_spec.specs.Known.{world_with}
-use Rattle.scene_spec.specs.Seats.{Seat}
+use Rattle.scene_spec.specs.Seats.{Seated}
 use Rattle.scene_spec.specs.Posts.{AddsAll, AddsFront, Post}
 use Rattle.scene_spec.specs.Scene.{Scene, bare_world, rules_in}
 use Rattle.scene_spec.specs.Steps.{Work, entries_lines_in, hands, see_halted_in, see_lines_in, seat_state, sees_left, sees_to, standing_at, state_at, worked}
@@ -44,8 +44,8 @@ module _ (trust : Trust) (sc : Scene) (m e : ℕ) where
   abbrev r : Rules
   r = rules_in trust.accepts sc
 
-  state_is : (standing : Option Seat) → standing ≡ standing_at (slice_get sc.posts m) → option_map seat_state standing ≡ state_at sc m
-  state_is standing is = ap (λ (s : Option Seat). option_map seat_state s) is
+  state_is : (standing : Option Seated) → standing ≡ standing_at (slice_get sc.posts m) → option_map seat_state standing ≡ state_at sc m
+  state_is standing is = ap (λ (s : Option Seated). option_map seat_state s) is
 
   leaves_none : {A E : Type 0} (n : ℕ) (told : Option Journals) (result : Result A E) → sees_left r n sc m ≡ [] → LeavesAs r sc (hands m n) told told result
   leaves_none n told (Ok a) is = subst (λ (xs : List Record). AddsAll told told m xs) (sym is) (adds_none told m)
@@ -68,7 +68,7 @@ module _ (trust : Trust) (sc : Scene) (m e : ℕ) where
 
   -- ---- a member that is up
 
-  module _ (seat : Seat) (at : Some seat ≡ standing_at (slice_get sc.posts m)) where
+  module _ (seat : Seated) (at : Some seat ≡ standing_at (slice_get sc.posts m)) where
     post_of : (p : Option Post) → slice_get sc.posts m ≡ p → Some seat ≡ standing_at p → (q : Post) × (slice_get sc.posts m ≡ Some q) × (q.standing ≡ Some seat)
     post_of None is up = absurd (cc)
     post_of (Some q) is up = (q, is, sym up)

@@ -18,7 +18,7 @@ use Rattle.protocol_spec.specs.Member.Calls.{Call, called, due, see_after, see_a
 use Rattle.world_spec.specs.Setting.{Trust}
 use Rattle.world_spec.specs.World.{Said, Reached, answers, built_statements, next_call_of, next_entry, numbered_call, reached_up, said_by, stated, stops}
 use Rattle.world_spec.specs.Report.{Lines, and_lines, entry_lines, entry_reached}
-use Rattle.scene_spec.specs.Seats.{Seat}
+use Rattle.scene_spec.specs.Seats.{Seated}
 use Rattle.scene_spec.specs.Terms.{Terms, rules_for}
 use Rattle.scene_spec.specs.Posts.{AddsAll, AddsFront, Post, list_of, post_behind, posts_behind, posts_with, reached_in, reached_post, reached_standing, record_left, seat_behind, stated_in, with_all}
 use Rattle.scene_spec.specs.Scene.{Scene, bare_setting, bare_world, rules_in}
@@ -57,17 +57,17 @@ module _ (r : Rules) (m : ℕ) where
 
   -- ---- a member that refuses
 
-  module _ (sc : Scene) (p : Post) (seat : Seat) (at : slice_get sc.posts m ≡ Some p) (up : p.standing ≡ Some seat) where
+  module _ (sc : Scene) (p : Post) (seat : Seated) (at : slice_get sc.posts m ≡ Some p) (up : p.standing ≡ Some seat) where
     -- what becomes of a call
     reached_is : (call : Call) → reached_in r sc.posts m call ≡ reached_up seat.state p.armed (due r seat.state call)
     reached_is call =
         ap (λ (o : Option Post). reached_post r call o) at
-        ∙ ap (λ (s : Option Seat). reached_standing r call p.armed s) up
+        ∙ ap (λ (s : Option Seated). reached_standing r call p.armed s) up
 
     next_is : next_on sc m ≡ next_call_of (bare_world sc) seat.state
     next_is =
         ap (λ (o : Option Post). option_and_then (next_call_of (bare_world sc)) (option_map seat_state (standing_at o))) at
-        ∙ ap (λ (s : Option Seat). option_and_then (next_call_of (bare_world sc)) (option_map seat_state s)) up
+        ∙ ap (λ (s : Option Seated). option_and_then (next_call_of (bare_world sc)) (option_map seat_state s)) up
 
     armed_none : (armed : Option Bool) → reached_up seat.state armed None ≡ answers seat.state None
     armed_none None = refl
@@ -77,15 +77,15 @@ module _ (r : Rules) (m : ℕ) where
       answers_only : reached_in r sc.posts m call ≡ answers seat.state None
       answers_only = reached_is call ∙ ap (λ (x : Option Record). reached_up seat.state p.armed x) none ∙ armed_none p.armed
 
-      stays_put : (standing : Option Seat) → standing ≡ Some seat → option_map (seat_behind r call) standing ≡ standing
+      stays_put : (standing : Option Seated) → standing ≡ Some seat → option_map (seat_behind r call) standing ≡ standing
       stays_put None e = refl
       stays_put (Some s) e =
           let same : s ≡ seat = cc in
-          let held : due r s.state call ≡ None = ap (λ (x : Seat). due r x.state call) same ∙ none in
+          let held : due r s.state call ≡ None = ap (λ (x : Seated). due r x.state call) same ∙ none in
           rw (held) refl
 
       same_post : (old : Post) → old.standing ≡ Some seat → post_behind r call old (answers seat.state None) ≡ old
-      same_post old e = ap (λ (s : Option Seat). record { honest = old.honest; standing = s; armed = old.armed }) (stays_put old.standing e)
+      same_post old e = ap (λ (s : Option Seated). record { honest = old.honest; standing = s; armed = old.armed }) (stays_put old.standing e)
 
       same_posts : posts_behind r sc.posts m call ≡ sc.posts
       same_posts =
@@ -149,7 +149,7 @@ module _ (trust : Trust) (sc : Scene) (m : ℕ) where
   none_next : next_on sc m ≡ None → (n : ℕ) → RestsBehind (next_on sc m) n
   none_next is n = subst (λ (c : Option Call). RestsBehind c n) (sym is) (rests_none r m sc is n)
 
-  module _ (p : Post) (seat : Seat) (at : slice_get sc.posts m ≡ Some p) (up : p.standing ≡ Some seat) (en : Entry) where
+  module _ (p : Post) (seat : Seated) (at : slice_get sc.posts m ≡ Some p) (up : p.standing ≡ Some seat) (en : Entry) where
     abbrev number : ℕ
     number = seat.state.sequence.number
 
@@ -185,11 +185,11 @@ module _ (trust : Trust) (sc : Scene) (m : ℕ) where
     forked : (f : Fork) → first_some (see_cases seat.state number) ≡ None → fork_of (after r seat.state (record_as.See bytes)) ≡ Some f → (x : Option Record) → reached_in r sc.posts m call ≡ answers seat.state x → (n : ℕ) → Rests r m after_call n
     unfolding due
     forked f free e x is n =
-        let next : Seat = record seat { state = called r seat.state call } in
+        let next : Seated = record seat { state = called r seat.state call } in
         let state_is : called r seat.state call ≡ after r seat.state (record_as.See bytes) = rw (free) refl in
         let fork_is : fork_of next.state ≡ Some f = ap (λ (s : Member). fork_of s) state_is ∙ e in
         let now : Post = post_behind r call p (answers seat.state x) in
-        let stands : now.standing ≡ Some next = ap (λ (s : Option Seat). option_map (seat_behind r call) s) up in
+        let stands : now.standing ≡ Some next = ap (λ (s : Option Seated). option_map (seat_behind r call) s) up in
         halted_rests r m after_call now next (post_now (answers seat.state x) is) stands f fork_is n
 
     -- it answered, and nothing goes on
@@ -220,16 +220,16 @@ module _ (trust : Trust) (sc : Scene) (m : ℕ) where
   pub ends_there : GoesNot (next_on sc m) → (n : ℕ) → RestsBehind (next_on sc m) n
   ends_there not n = by_post (slice_get sc.posts m) refl
     where
-      by_entry : (p : Post) (seat : Seat) (at : slice_get sc.posts m ≡ Some p) (up : p.standing ≡ Some seat) (en : Option Entry) → next_entry (bare_world sc) seat.state ≡ en → RestsBehind (next_on sc m) n
+      by_entry : (p : Post) (seat : Seated) (at : slice_get sc.posts m ≡ Some p) (up : p.standing ≡ Some seat) (en : Option Entry) → next_entry (bare_world sc) seat.state ≡ en → RestsBehind (next_on sc m) n
       by_entry p seat at up None is =
           none_next (next_is r m sc p seat at up ∙ ap (λ (o : Option Entry). option_map (numbered_call seat.state.sequence.number) o) is) n
       by_entry p seat at up (Some en) is =
           let next : next_on sc m ≡ Some (sees seat.state.sequence.number (messages.entry.spell en)) = next_is r m sc p seat at up ∙ ap (λ (o : Option Entry). option_map (numbered_call seat.state.sequence.number) o) is in
           subst (λ (c : Option Call). RestsBehind c n) (sym next) (by_reached p seat at up en (subst GoesNot next not) n)
 
-      by_standing : (p : Post) (at : slice_get sc.posts m ≡ Some p) (standing : Option Seat) → p.standing ≡ standing → RestsBehind (next_on sc m) n
+      by_standing : (p : Post) (at : slice_get sc.posts m ≡ Some p) (standing : Option Seated) → p.standing ≡ standing → RestsBehind (next_on sc m) n
       by_standing p at None up =
-          none_next (ap (λ (o : Option Post). option_and_then (next_call_of (bare_world sc)) (option_map seat_state (standing_at o))) at ∙ ap (λ (s : Option Seat). option_and_then (next_call_of (bare_world sc)) (option_map seat_state s)) up) n
+          none_next (ap (λ (o : Option Post). option_and_then (next_call_of (bare_world sc)) (option_map seat_state (standing_at o))) at ∙ ap (λ (s : Option Seated). option_and_then (next_call_of (bare_world sc)) (option_map seat_state s)) up) n
       by_standing p at (Some seat) up = by_entry p seat at up (next_entry (bare_world sc) seat.state) refl
 
       by_post : (post : Option Post) → slice_get sc.posts m ≡ post → RestsBehind (next_on sc m) n

@@ -17,7 +17,7 @@ use Rattle.world_spec.specs.Setting.{Trust}
 use Rattle.world_spec.specs.World.{Reached, Said, answers, finds_down, reached_up, said_by, stated}
 use Rattle.world_spec.specs.Report.{ack_reached, end_reached}
 use Rattle.scene_spec.proofs.LineWorlds.{ack_same, end_same}
-use Rattle.scene_spec.specs.Seats.{Seat}
+use Rattle.scene_spec.specs.Seats.{Seated}
 use Rattle.scene_spec.specs.Posts.{AddsLeft, Post, post_behind, posts_behind, posts_with, reached_in, reached_post, reached_standing, record_left, seat_behind, stated_in}
 use Rattle.scene_spec.specs.Scene.{Scene, bare_setting, bare_world, rules_in}
 use Rattle.scene_spec.specs.Steps.{asks, called_scene, comes_to, seat_state, standing_at, state_at}
@@ -37,7 +37,7 @@ module _ (r : Rules) (call : Call) (silent : (s : Member) → due r s call ≡ N
   armed_none m None = refl
   armed_none m (Some kept) = refl
 
-  stands_as : (armed : Option Bool) (standing : Option Seat) → reached_standing r call armed standing ≡ reached_of (option_map seat_state standing)
+  stands_as : (armed : Option Bool) (standing : Option Seated) → reached_standing r call armed standing ≡ reached_of (option_map seat_state standing)
   stands_as armed None = refl
   stands_as armed (Some seat) = ap (λ (x : Option Record). reached_up seat.state armed x) (silent seat.state) ∙ armed_none seat.state armed
 
@@ -55,13 +55,13 @@ module _ (r : Rules) (call : Call) (silent : (s : Member) → due r s call ≡ N
   pub none_left : (posts : List Post) (m : ℕ) → record_left (reached_in r posts m call) ≡ None
   none_left posts m = ap (λ (x : Reached). record_left x) (reached_as posts m) ∙ none_of (option_map seat_state (standing_at (slice_get posts m)))
 
-  same_seat : (standing : Option Seat) → option_map (seat_behind r call) standing ≡ standing
+  same_seat : (standing : Option Seated) → option_map (seat_behind r call) standing ≡ standing
   same_seat None = refl
   same_seat (Some seat) = rw (silent seat.state) refl
 
-  same_post : (p : Post) (standing : Option Seat) → standing ≡ p.standing → post_behind r call p (reached_of (option_map seat_state standing)) ≡ p
+  same_post : (p : Post) (standing : Option Seated) → standing ≡ p.standing → post_behind r call p (reached_of (option_map seat_state standing)) ≡ p
   same_post p None is = refl
-  same_post p (Some seat) is = ap (λ (s : Option Seat). record { honest = p.honest; standing = s; armed = p.armed }) (same_seat p.standing)
+  same_post p (Some seat) is = ap (λ (s : Option Seated). record { honest = p.honest; standing = s; armed = p.armed }) (same_seat p.standing)
 
   same_at : (posts : List Post) (m : ℕ) (p : Option Post) → slice_get posts m ≡ p → posts_with r call posts m p ≡ posts
   same_at posts m None at = refl

@@ -30,7 +30,7 @@ use Rattle.scene_spec.specs.Known.{Known, setting_with, world_with}
 use Rattle.world_lines.specs.Answers.{vote_as}
 use Rattle.scene_spec.proofs.LineWorlds.{hold_same, run_same, shown_same, vote_same}
 use Rattle.validator_core.specs.Calls.{Holds, Votes, hold_ended, vote_ended}
-use Rattle.scene_spec.specs.Seats.{Seat}
+use Rattle.scene_spec.specs.Seats.{Seated}
 use Rattle.validator_core.specs.Seats.{answered}
 use Rattle.scene_spec.specs.Posts.{reached_in, stated_in}
 use Rattle.scene_spec.specs.Scene.{Scene, bare_setting, bare_world, rules_in}
@@ -42,17 +42,17 @@ use Rattle.world_core.specs.Texts.{hold_text_by, run_lines_by, show_by, vote_tex
 
 -- ---- show
 
-pub shown_some : (k : Known) (m epoch : ℕ) (objects : List Object) (seat : Option Seat) (lines : List Line)
+pub shown_some : (k : Known) (m epoch : ℕ) (objects : List Object) (seat : Option Seated) (lines : List Line)
     → Some (epoch, objects) ≡ option_map shown_of seat → lines ≡ shown (setting_with k) (world_with k) m epoch objects → lines ≡ show_by k m seat
 shown_some k m epoch objects None lines e is = absurd (cc)
 shown_some k m epoch objects (Some seat) lines e is = is ∙ ap (λ (x : ℕ × List Object). shown (setting_with k) (world_with k) m x.0 x.1) (cc)
 
-pub shown_none : (k : Known) (m : ℕ) (seat : Option Seat) (lines : List Line)
+pub shown_none : (k : Known) (m : ℕ) (seat : Option Seated) (lines : List Line)
     → None ≡ option_map shown_of seat → lines ≡ line.Show m show_text.Down ∷ [] → lines ≡ show_by k m seat
 shown_none k m None lines e is = is
 shown_none k m (Some seat) lines e is = absurd (cc)
 
-pub show_is : (trust : Trust) (sc : Scene) (m : ℕ) (seat : Option Seat) → show_by sc.known m seat ≡ show_in trust sc m seat
+pub show_is : (trust : Trust) (sc : Scene) (m : ℕ) (seat : Option Seated) → show_by sc.known m seat ≡ show_in trust sc m seat
 show_is trust sc m None = refl
 show_is trust sc m (Some seat) = sym (shown_same (bare_setting trust sc) (bare_world sc) m seat.state.epoch (live_objects seat.state))
 

@@ -20,7 +20,7 @@ use Rattle.world_spec.specs.World.{Reached, Said, World, answers, finds_down, re
 use Rattle.world_spec.specs.Report.{turn_answered, turn_reached}
 use Rattle.scene_spec.proofs.LineWorlds.{turn_same}
 use Rattle.scene_spec.specs.Known.{Known, world_with}
-use Rattle.scene_spec.specs.Seats.{Seat}
+use Rattle.scene_spec.specs.Seats.{Seated}
 use Rattle.scene_spec.specs.Posts.{Post, reached_in, reached_post, reached_standing, stated_in}
 use Rattle.scene_spec.specs.Scene.{Scene, bare_setting, bare_world, rules_in}
 use Rattle.scene_spec.specs.Steps.{lines_in, standing_at}
@@ -28,10 +28,10 @@ use Rattle.world_core.specs.Crews.{epoch_of}
 use Rattle.world_core.specs.Epochs.{turn_lines_by}
 use Rattle.world_core.specs.Replies.{HasAnswered, HasStopped, SaysTurn}
 
-pub epoch_none : (standing : Option Seat) → None ≡ standing → 0 ≡ epoch_of standing
+pub epoch_none : (standing : Option Seated) → None ≡ standing → 0 ≡ epoch_of standing
 epoch_none standing is = ap epoch_of is
 
-pub epoch_some : (seat : Seat) (standing : Option Seat) (n : ℕ) → Some seat ≡ standing → n ≡ seat.state.epoch → n ≡ epoch_of standing
+pub epoch_some : (seat : Seated) (standing : Option Seated) (n : ℕ) → Some seat ≡ standing → n ≡ seat.state.epoch → n ≡ epoch_of standing
 epoch_some seat standing n is same = same ∙ ap epoch_of is
 
 turn_is : (said given : Result (List Digest) TurnRefusal) → Turns said given → turn_ended given ≡ answered → said ≡ given
@@ -61,7 +61,7 @@ answers_in before x state None d e = let same : answers state d ≡ answers befo
 answers_in before x state (Some kept) None e = let same : answers state None ≡ answers before x = e in cc
 answers_in before x state (Some kept) (Some y) e = absurd (let same : stops kept y ≡ answers before x = e in cc)
 
-epoch_standing : (r : Rules) (before : Member) (x : Option Record) (armed : Option Bool) (standing : Option Seat) → reached_standing r turns armed standing ≡ answers before x → epoch_of standing ≡ before.epoch
+epoch_standing : (r : Rules) (before : Member) (x : Option Record) (armed : Option Bool) (standing : Option Seated) → reached_standing r turns armed standing ≡ answers before x → epoch_of standing ≡ before.epoch
 epoch_standing r before x armed None e = absurd (let same : finds_down ≡ answers before x = e in cc)
 epoch_standing r before x armed (Some seat) e = sym (ap (λ (m : Member). m.epoch) (answers_in before x seat.state armed (due r seat.state turns) e))
 

@@ -3,7 +3,7 @@ use Rattle.std.specs.Prelude.{◌≡◌, ℕ, Bool, false, List, Option, Some, N
 use Rattle.chain_types.specs.declared.objects.Object.{Object}
 use Rattle.protocol_spec.specs.Member.Member.{live_objects}
 use Rattle.scene_spec.specs.Terms.{Terms}
-use Rattle.scene_spec.specs.Seats.{Seat}
+use Rattle.scene_spec.specs.Seats.{Seated}
 use Rattle.protocol_spec.specs.Chain.Certificates.{Rules}
 use Rattle.protocol_spec.specs.Member.Calls.{Call}
 use Rattle.scene_spec.specs.Posts.{Post, changed_at, post_behind, posts_behind, reached_post, seat_at}
@@ -14,7 +14,7 @@ pub record Crew : Type 0 where
   pub posts : List Post
 
 -- a member that stands has this number, these terms, and is up
-abbrev pub IsPlaced : Terms → ℕ → Option Seat → Type 0
+abbrev pub IsPlaced : Terms → ℕ → Option Seated → Type 0
 IsPlaced terms m None = Unit {0}
 IsPlaced terms m (Some seat) = seat ≡ seat_at terms m seat.state
 
@@ -30,7 +30,7 @@ abbrev pub honest_flags : List Post → List Bool
 honest_flags posts = map (λ (p : Post). p.honest) posts
 
 -- the member, where it is honest and up
-abbrev pub honest_at : Option Post → Option Seat
+abbrev pub honest_at : Option Post → Option Seated
 honest_at None = None
 honest_at (Some p) = if p.honest then p.standing else None
 
@@ -40,12 +40,12 @@ honest_post None = false
 honest_post (Some p) = p.honest
 
 -- the epoch of a member that stands
-abbrev pub epoch_of : Option Seat → ℕ
+abbrev pub epoch_of : Option Seated → ℕ
 epoch_of None = 0
 epoch_of (Some seat) = seat.state.epoch
 
 -- what is shown of a member that stands: its epoch, and its live objects
-abbrev pub shown_of : Seat → ℕ × List Object
+abbrev pub shown_of : Seated → ℕ × List Object
 shown_of seat = (seat.state.epoch, live_objects seat.state)
 
 -- ---- faults

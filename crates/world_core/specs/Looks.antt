@@ -11,7 +11,7 @@ use Rattle.report_text.specs.declared.lines.Line.{Line}
 use Rattle.report_text.specs.declared.lines.Line.TheVariants as line
 use Rattle.scene_spec.specs.Known.{Known, setting_with, world_with}
 use Rattle.scene_spec.specs.Posts.{Post}
-use Rattle.scene_spec.specs.Seats.{Seat}
+use Rattle.scene_spec.specs.Seats.{Seated}
 use Rattle.world_core.specs.Crews.{honest_at}
 use Rattle.world_names.specs.Looks.{made_at, made_of}
 use Rattle.world_spec.specs.Names.{tx_name}
@@ -20,7 +20,7 @@ use Rattle.world_spec.specs.World.{Made}
 
 -- the checkpoint of this number, counted from 0 over all epochs, that a member built which is honest and up
 abbrev pub checkpoint_at : Option Post → ℕ → Option Checkpoint
-checkpoint_at post number = option_and_then (λ (seat : Seat). slice_get (built seat.state) number) (honest_at post)
+checkpoint_at post number = option_and_then (λ (seat : Seated). slice_get (built seat.state) number) (honest_at post)
 
 -- the transaction of this digest that a line made
 abbrev pub transaction_of : Known → Digest → Option Transaction

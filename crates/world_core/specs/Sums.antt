@@ -3,7 +3,7 @@ use Rattle.std.specs.Prelude.{Option, option_map, length}
 use Rattle.effects_core.specs.Money.{currency_sum}
 use Rattle.protocol_spec.specs.Member.Member.{Member, built, live_objects}
 use Rattle.validator_core.specs.Built.{transactions_in}
-use Rattle.scene_spec.specs.Seats.{Seat}
+use Rattle.scene_spec.specs.Seats.{Seated}
 use Rattle.scene_spec.specs.Posts.{Post}
 use Rattle.world_core.specs.Crews.{honest_at}
 use Rattle.world_core.specs.declared.sums.Sums.{Sums}
@@ -20,4 +20,4 @@ sums_of m = record {
 
 -- those of a member that is honest and up
 abbrev pub sums_at : Option Post → Option Sums
-sums_at post = option_map (λ (seat : Seat). sums_of seat.state) (honest_at post)
+sums_at post = option_map (λ (seat : Seated). sums_of seat.state) (honest_at post)

@@ -19,7 +19,7 @@ use Rattle.protocol_spec.specs.Member.Calls.{close_answer, hold_answer, run_answ
 use Rattle.world_spec.specs.World.{Made, Reached, finds_down, stops, answers}
 use Rattle.world_spec.specs.Report.{close_answered, hold_answered, run_answered, shown, vote_answered}
 use Rattle.scene_spec.specs.Known.{Known, setting_with, world_with}
-use Rattle.scene_spec.specs.Seats.{Seat}
+use Rattle.scene_spec.specs.Seats.{Seated}
 
 abbrev pub vote_text_by : Known → Rules → List ℕ → Reached → VoteText
 vote_text_by k r bytes finds_down = vote_text.Down
@@ -41,7 +41,7 @@ run_lines_by k r m finds_down = line.Run m run_text.Down ∷ []
 run_lines_by k r m (stops kept x) = line.Run m run_text.Stopped ∷ []
 run_lines_by k r m (answers before x) = run_answered (setting_with k) (world_with k) m (run_answer r before)
 
-abbrev pub show_by : Known → ℕ → Option Seat → List Line
+abbrev pub show_by : Known → ℕ → Option Seated → List Line
 show_by k m None = line.Show m show_text.Down ∷ []
 show_by k m (Some seat) = shown (setting_with k) (world_with k) m seat.state.epoch (live_objects seat.state)
 

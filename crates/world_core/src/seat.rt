@@ -2,7 +2,7 @@
 
 ghost use Rattle.std.specs.Prelude.{◌≡◌, ◌<◌, ◌≤◌, IfOk, IsErrOf, None, Some, if◌then◌else◌, option_and_then, option_copied};
 ghost use Rattle.outside.specs.Causes.{Rose};
-ghost use Rattle.scene_spec.specs.Seats.{Seat as TheSeat};
+ghost use Rattle.scene_spec.specs.Seats.{Seated};
 ghost use Rattle.scene_spec.specs.Terms.{rules_for};
 ghost use Rattle.world_spec.specs.Step.{executed_digest};
 ghost use Rattle.scene_spec.specs.Posts.{arming, reached_post, record_left};
@@ -113,7 +113,7 @@ impl Seat {
     /// The digest of the effects that the member has of a transaction, where it is honest, up and executed it in its
     /// present epoch. Takes no memory.
     pub(crate) fn executed_digest(&self, tx: &Digest) -> Option<Digest>
-        ensures { result ≡ (if self.now.honest then option_and_then (λ (seat : TheSeat). executed_digest tx.now seat.state) self.now.standing else None) }
+        ensures { result ≡ (if self.now.honest then option_and_then (λ (seat : Seated). executed_digest tx.now seat.state) self.now.standing else None) }
     {
         if !self.honest {
             return None;

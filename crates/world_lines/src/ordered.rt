@@ -1,6 +1,6 @@
 //! Lines that order entries, the sealed End of a member, and the epochs that open behind Ends.
 
-ghost use Rattle.std.specs.Prelude.{◌≡◌, ℕ, ◌∷◌, [], IfOk, OnOk, Option};
+ghost use Rattle.std.specs.Prelude.{◌≡◌, ◌⊎◌, ℕ, ◌∷◌, [], IfOk, OnErr, OnOk, Option};
 ghost use Rattle.chain_messages.specs.Messages as codecs;
 ghost use Rattle.report_text.specs.declared.lines.Line.TheVariants as line;
 ghost use Rattle.protocol_spec.specs.Chain.Certificates.{rules_of};
@@ -57,7 +57,8 @@ pub fn sealed_end<S: MakesSeals>(
 }
 
 /// Orders an entry at the end of the open epoch's sequence, and opens another epoch where the open one has ended then, to
-/// members of this committee that accept these seals. Where memory is refused the book has the entry or not.
+/// members of this committee that accept these seals. Where memory is refused no epoch opens, and the book is as before or
+/// has the entry.
 pub fn order_and_rise<S: Sealer>(
     order: &mut OrderBook,
     committee: &Committee,
@@ -66,6 +67,7 @@ pub fn order_and_rise<S: Sealer>(
 ) -> Result<(), OutOfMemory>
     requires { codecs.entry.short entry.now }
     ensures order { OnOk result ((writers : Option ℕ) → order.new ≡ risen_by (rules_of committee.now writers (S.accepts sealer.now)) (with_entry order.old entry.now)) }
+    ensures err { OnErr result ((order.new ≡ order.old) ⊎ (order.new ≡ with_entry order.old entry.now)) }
     ensures keepable { AreKeepable order.new.sequences }
 {
     order.push(entry)?;

@@ -29,7 +29,8 @@ kind_of (content.Vault currency balance) = kind.Vault
 kind_of (content.VaultKey vault) = kind.VaultKey
 kind_of (content.Limit value) = kind.Limit
 
--- the currency of a coin, a cap or a vault
+-- the currency of a coin, a cap or a vault; no rule asks it of another content, since the parameters of a native and the
+-- cases of a command let only these come
 abbrev pub currency_of : Content → ℕ
 currency_of (content.Coin currency balance) = currency
 currency_of (content.Cap currency supply) = currency
@@ -38,7 +39,7 @@ currency_of (content.Vault currency balance) = currency
 currency_of (content.VaultKey vault) = 0
 currency_of (content.Limit value) = 0
 
--- what a content holds: a balance, a supply or a value
+-- what a content holds: a balance, a supply or a value; a vault's key holds nothing, and no rule asks what it holds
 abbrev pub amount_of : Content → ℕ
 amount_of (content.Coin currency balance) = balance
 amount_of (content.Cap currency supply) = supply
@@ -93,6 +94,7 @@ parameters =
     (mode.Number ∷ []) ∷
     (mode.ByMut kind.Counter ∷ mode.Number ∷ mode.ByRef kind.Limit ∷ []) ∷ []
 
+-- a valid shape names the 14 natives alone, so another number never comes
 abbrev pub parameters_at : Option (List Mode) → List Mode
 parameters_at None = []
 parameters_at (Some modes) = modes
@@ -107,7 +109,9 @@ mode_of native place = slice_get (parameters_of native) place
 
 -- ---- arguments
 
--- what stands where an argument of another form would
+-- Each argument was read by the mode of its parameter (`parameters`), so it has the form that its native looks for. Words
+-- are total, so these also say what another form would give; no call comes to that.
+
 abbrev pub no_item : Item
 no_item = record { id = record { 0 = record { 0 = [] } }; content = content.Limit 0; fresh = false }
 
@@ -250,6 +254,7 @@ natives s args =
     gives s (content.Limit (number_at args 0) ∷ []) None ∷
     counter_add_limited s (item_at args 0) (number_at args 1) (item_at args 2) ∷ []
 
+-- another number never comes, as above
 abbrev pub gave_at : Option Gave → Gave
 gave_at None = gave.Abort 0
 gave_at (Some g) = g

@@ -7,7 +7,7 @@ use Rattle.wire_bcs.specs.Shapes.{seq_read, seq_spell, option_read, option_spell
 use Rattle.wire_bcs.specs.Uleb.{uleb, uleb_below}
 use Rattle.wire_bcs.specs.Whole.{whole}
 use Rattle.digest_core.specs.Tagged.{tagged_digest, created_id_of, genesis_id_of, address_of_name}
-use Rattle.chain_types.specs.Digests.{digest_of_object, transaction_digest, consumed_keys, objects_of, lamport_version}
+use Rattle.chain_types.specs.Digests.{digest_of_object, transaction_digest, consumed_keys, object_count, lamport_version}
 use Rattle.chain_types.specs.Objects.{object_id, address, object_ref, owner, kind, content, object}
 use Rattle.chain_types.specs.Transactions.{input, argument, command, transaction, signed}
 use Rattle.quorum_core.specs.Signers.{signer}
@@ -44,5 +44,5 @@ use Rattle.world_spec.specs.World.{new_world, stated, reached, called_in}
 use Rattle.rows_law.proofs.admission_waits_for_origins.Goals as goal
 
 pub returns : goal.returns
-unfolding digits sha256 digest_bytes hash_after compress rounds schedule first_words digest front_read number_spell number_read bool_spell bool_read bytes_spell bytes_read text_read seq_read seq_spell option_read option_spell uleb uleb_below whole tagged_digest created_id_of genesis_id_of address_of_name digest_of_object transaction_digest consumed_keys objects_of lamport_version object_id address object_ref owner kind content object input argument command transaction signed signer statement sealed member_seal certificate entry status written effects digest_of_effects item checkpoint digest_of_checkpoint ran_item journal_record read_signed read_certificate read_entry cert_refusal weight_of total_of fits currency_sum shape_fault command_step outcome execution mode_of native_gives current admit entered passed_mark pending_on deferred_on assigned_of vote_answer hold_answer see_answer run_answer close_answer end_answer turn_answer ack_answer due checkpoint_behind built fork_of after state is_allowed replayed wants_of present ready round_of rounds_of_rounds left what_of with_entry saw seen seen_what map_of fold_one fold_all versions live live_list vote_refusal vote_origins delivered delivered_ends asked all_delivered all_formed all_transactions keyed_seal made_by_line opening_at acks_collected lines_of report world_after journal sums_of summary report_of setting_of votes_collected happens new_world stated reached called_in
+unfolding digits sha256 digest_bytes hash_after compress rounds schedule first_words digest front_read number_spell number_read bool_spell bool_read bytes_spell bytes_read text_read seq_read seq_spell option_read option_spell uleb uleb_below whole tagged_digest created_id_of genesis_id_of address_of_name digest_of_object transaction_digest consumed_keys object_count lamport_version object_id address object_ref owner kind content object input argument command transaction signed signer statement sealed member_seal certificate entry status written effects digest_of_effects item checkpoint digest_of_checkpoint ran_item journal_record read_signed read_certificate read_entry cert_refusal weight_of total_of fits currency_sum shape_fault command_step outcome execution mode_of native_gives current admit entered passed_mark pending_on deferred_on assigned_of vote_answer hold_answer see_answer run_answer close_answer end_answer turn_answer ack_answer due checkpoint_behind built fork_of after state is_allowed replayed wants_of present ready round_of rounds_of_rounds left what_of with_entry saw seen seen_what map_of fold_one fold_all versions live live_list vote_refusal vote_origins delivered delivered_ends asked all_delivered all_formed all_transactions keyed_seal made_by_line opening_at acks_collected lines_of report world_after journal sums_of summary report_of setting_of votes_collected happens new_world stated reached called_in
 returns c = refl

@@ -1,0 +1,20 @@
+//! Numbers in order.
+
+ghost use Rattle.std.specs.Prelude.{◌≡◌};
+ghost use Rattle.wire_bcs.specs.Ascending.{ascends};
+
+/// Whether each number is less than the next, as those of members are that a certificate names. Takes no memory.
+pub fn ascends(numbers: &[u32]) -> bool
+    ensures { result ≡ ascends numbers.now }
+{
+    let mut rest = numbers;
+    while let [first, after @ ..] = rest {
+        if let [second, ..] = after
+            && first >= second
+        {
+            return false;
+        }
+        rest = after;
+    }
+    true
+}
