@@ -7,11 +7,11 @@ use Rattle.answer_types.specs.declared.answers.Voted.{Voted as Sealed}
 use Rattle.answer_types.specs.declared.refusals.VoteRefusal.{VoteRefusal}
 use Rattle.report_text.specs.declared.lines.Line.{Line}
 use Rattle.report_text.specs.declared.lines.Line.TheVariants as line
+use Rattle.protocol_spec.specs.Chain.Collecting.{Collected, lacks, short, differ, whole}
 use Rattle.protocol_spec.specs.Member.Calls.{Voted}
 use Rattle.protocol_spec.specs.Member.Member.{Member, fresh}
 use Rattle.world_spec.specs.World.{World}
 use Rattle.world_spec.specs.Names.{tx_name}
-use Rattle.world_spec.specs.Step.{Collected, lacks, short, differ, whole}
 use Rattle.world_lines.specs.declared.certs.Collected.{Collected as Given}
 use Rattle.world_lines.specs.declared.certs.Collected.TheVariants as given
 

@@ -1,7 +1,6 @@
 -- What is collected of the last words of members on something, whatever the words are. Source: this profile.
 use Rattle.std.specs.Prelude.{ℕ, Bool, false, not, Option, Some, None}
-use Rattle.world_spec.specs.Step.{Collected, differ_from, lacks_where}
-
+use Rattle.protocol_spec.specs.Chain.Collecting.{Collected, differ_from, lacks_where}
 -- the member, where it has no word
 abbrev pub lacks_word : {A : Type 0} → (ℕ → Option A) → ℕ → Option Collected
 lacks_word reads m = lacks_where m (reads m)

@@ -2,9 +2,10 @@
 
 ghost use Rattle.std.specs.Prelude.{◌≡◌, ℕ, Bool, Option, option_copied, option_map};
 ghost use Rattle.chain_types.specs.Equal.{digest_eq};
+ghost use Rattle.protocol_spec.specs.Chain.Collecting.{collected, differ, differs_among, lacks};
 ghost use Rattle.protocol_spec.specs.Chain.Tests.{origins_eq};
 ghost use Rattle.protocol_spec.specs.Chain.Words.{first_of};
-ghost use Rattle.world_spec.specs.Step.{ack_in, collected, differ, differs_among, lacks, last_said, vote_in};
+ghost use Rattle.world_spec.specs.Step.{ack_in, last_said, vote_in};
 ghost use Rattle.world_lines.specs.Answers.{collected_as};
 ghost use Rattle.world_lines.specs.Collecting.{differs, differs_in, lacks_word};
 
