@@ -20,9 +20,10 @@ use Rattle.world_spec.specs.Step.{formed, formed_as, fvote_origins, fvoted, firs
 use Rattle.scene_spec.specs.Known.{Known, world_with}
 use Rattle.world_names.specs.declared.rows.MadeTx.{MadeTx}
 use Rattle.world_names.specs.Rows.{made_as}
-use Rattle.world_lines.specs.declared.certs.Collected.{Collected as Given}
-use Rattle.world_lines.specs.declared.certs.Collected.TheVariants as given
-use Rattle.world_lines.specs.Answers.{collected_as, is_whole}
+use Rattle.cert_rules.specs.declared.collecting.Collected.{Collected as Given}
+use Rattle.cert_rules.specs.declared.collecting.Collected.TheVariants as given
+use Rattle.cert_rules.specs.Collecting.{collected_as}
+use Rattle.world_lines.specs.Answers.{is_whole}
 use Rattle.world_lines.specs.Forming.{certificate_by, first_origins_by}
 use Rattle.world_lines.specs.FalseVotes.{origins_by}
 use Rattle.world_lines.specs.SaidVotes.{first_vote, flags_of}
