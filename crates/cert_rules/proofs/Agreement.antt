@@ -53,9 +53,10 @@ found_behind v votes (w ∷ ws) other found =
 
 all_found : (votes : List Sealed) → ascends (voters votes) ≡ true → AreFound votes votes
 all_found [] up = tt
-all_found (v ∷ votes) up =
-    (ap (λ b. first_some (where_true b v ∷ vote_by votes v.member ∷ [])) (eq-eqb v.member v.member refl)
-    , found_behind v votes votes (others v.member v.member votes (omega arith) up) (all_found votes (ascends_after v.member (voters votes) up)))
+all_found (v ∷ votes) up = (
+  ap (λ b. first_some (where_true b v ∷ vote_by votes v.member ∷ [])) (eq-eqb v.member v.member refl),
+  found_behind v votes votes (others v.member v.member votes (omega arith) up) (all_found votes (ascends_after v.member (voters votes) up)),
+)
 
 -- ---- what the votes give together
 
