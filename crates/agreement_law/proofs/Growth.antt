@@ -10,13 +10,14 @@ use Rattle.chain_messages.specs.declared.messages.Statement.TheVariants as state
 use Rattle.schedule_text.specs.declared.words.Event.{Event}
 use Rattle.schedule_text.specs.declared.words.Event.TheVariants as event
 use Rattle.protocol_spec.proofs.ListLemmas.{front_then, front_whole}
+use Rattle.protocol_spec.specs.Chain.Collecting.{Collected, lacks, short, differ, whole}
 use Rattle.protocol_spec.specs.Chain.Words.{IsFront}
 use Rattle.protocol_spec.specs.Member.Calls.{Call, votes, holds, runs, closes, ends, turns, acks}
 use Rattle.world_spec.specs.Setting.{Name, Setting}
 use Rattle.world_spec.specs.World.{Seat, Made, World, Reached, finds_down, stops, answers, reached_seat, behind, called_seat, called_in, called_if, sees_on, is_honest, member_at, next_call, entries_at}
 use Rattle.world_spec.specs.Names.{made_named, cert_named}
 use Rattle.world_spec.specs.Making.{made_by_line}
-use Rattle.world_spec.specs.Step.{happens, says, voted_on, fvoted, formed, formed_as, votes_collected, Collected, lacks, short, differ, whole, sent, ordered, honest_end, ordered_end, risen_if, has_ended, appended_entry, sealed_end, acked, on_seat, armed_seat, started_seat, entries_left, end_in, last_said}
+use Rattle.world_spec.specs.Step.{happens, says, voted_on, fvoted, formed, formed_as, votes_collected, sent, ordered, honest_end, ordered_end, risen_if, has_ended, appended_entry, sealed_end, acked, on_seat, armed_seat, started_seat, entries_left, end_in, last_said}
 
 -- each epoch's entries are a front of what they become
 abbrev pub Grown : List (List Entry) → List (List Entry) → Type 0

@@ -1,7 +1,6 @@
 -- Certificates made of votes: a transaction with the votes of a quorum that agree. Source: Sui Lutris.
-use Rattle.std.specs.Prelude.{◌≡◌, ℕ, true, not, List, [], ◌∷◌, map, length, Option, None, Result, Ok, Err}
+use Rattle.std.specs.Prelude.{◌≡◌, ℕ, Bool, true, ◌==◌, List, [], ◌∷◌, map, length, Option, None, Result, Ok, Err}
 use Rattle.digest_core.specs.declared.Digest.{Digest}
-use Rattle.quorum_core.specs.Committee.{is_quorum, total_of, weight}
 use Rattle.chain_types.specs.Digests.{transaction_digest}
 use Rattle.chain_types.specs.declared.transactions.Transaction.{Transaction}
 use Rattle.chain_messages.specs.declared.messages.Statement.{Statement}
@@ -9,11 +8,12 @@ use Rattle.chain_messages.specs.declared.messages.Statement.TheVariants as state
 use Rattle.chain_messages.specs.declared.messages.Sealed.{Sealed}
 use Rattle.chain_messages.specs.declared.messages.MemberSeal.{MemberSeal}
 use Rattle.chain_messages.specs.declared.messages.Certificate.{Certificate}
-use Rattle.protocol_spec.specs.Chain.Words.{Each, first_of, first_some, unless_refused, where_true}
+use Rattle.protocol_spec.specs.Chain.Words.{Each, first_of, where_true}
 use Rattle.protocol_spec.specs.Chain.Tests.{origins_eq}
 use Rattle.protocol_spec.specs.Chain.Keys.{objects_of}
 use Rattle.protocol_spec.specs.Chain.Shape.{shape_fault}
 use Rattle.protocol_spec.specs.Chain.Certificates.{Rules, accepts_statement}
+use Rattle.protocol_spec.specs.Chain.Collecting.{Collected, short, differ, whole, collected}
 use Rattle.cert_rules.specs.declared.votes.CollectRefusal.{CollectRefusal}
 use Rattle.cert_rules.specs.declared.votes.CollectRefusal.TheVariants as refusal
 
@@ -33,20 +33,23 @@ IsVoteFor t v = v.statement ≡ statement.Vote t.epoch (transaction_digest t) (v
 abbrev pub voters : List Sealed → List ℕ
 voters votes = map (λ (v : Sealed). v.member) votes
 
--- ---- what collecting them answers
+-- ---- what collecting them gives
 
--- the voters are no quorum
-abbrev pub too_short : List ℕ → List ℕ → Option CollectRefusal
-too_short stakes members = where_true (not (is_quorum stakes (weight stakes members))) (refusal.Short (weight stakes members) (total_of stakes))
+-- the vote, where it is this member's
+abbrev pub vote_if : ℕ → Sealed → Option Sealed
+vote_if m v = where_true (v.member == m) v
 
--- two votes name other origins
-abbrev pub differs_from : Sealed → Sealed → Option CollectRefusal
-differs_from v w = where_true (not (origins_eq (voted_origins v.statement) (voted_origins w.statement))) (refusal.Differ v.member w.member)
+-- the vote of a member among these
+abbrev pub vote_by : List Sealed → ℕ → Option Sealed
+vote_by votes m = first_of (vote_if m) votes
 
--- the first vote, and the first other that differs from it
-abbrev pub first_differing : List Sealed → Option CollectRefusal
-first_differing [] = None
-first_differing (v ∷ votes) = first_of (differs_from v) votes
+-- whether two votes name the same origins
+abbrev pub same_vote : Sealed → Sealed → Bool
+same_vote v w = origins_eq (voted_origins v.statement) (voted_origins w.statement)
+
+-- what the votes give together, each of its member
+unfoldable pub sealed_collected : List ℕ → List Sealed → Collected
+sealed_collected stakes votes = collected same_vote stakes (vote_by votes) (voters votes)
 
 abbrev pub first_origins : List Sealed → List (Option Digest)
 first_origins [] = []
@@ -59,10 +62,6 @@ seal_of v = record { member = v.member; seal = v.seal }
 abbrev pub certificate_of : Transaction → List Sealed → Certificate
 certificate_of t votes = record { tx = t; origins = first_origins votes; seals = map seal_of votes }
 
--- the certificate of these votes, where they are a quorum and agree
-unfoldable pub collected : List ℕ → Transaction → List Sealed → Result Certificate CollectRefusal
-collected stakes t votes = unless_refused (first_some (too_short stakes (voters votes) ∷ first_differing votes ∷ [])) (certificate_of t votes)
-
 -- ---- when the certificate is valid
 
 -- each vote's seal is accepted, the transaction has a valid shape, and the votes name one origin for each object
@@ -73,9 +72,9 @@ pub record AreSound (rules : Rules) (t : Transaction) (votes : List Sealed) : Ty
 
 -- ---- what the call answers against it
 
--- memory was refused, or the answer is this one
-abbrev pub Gives : {X : Type 0} → Result X CollectRefusal → Result X CollectRefusal → Type 0
-Gives (Ok x) answer = answer ≡ Ok x
-Gives (Err (refusal.Short weight total)) answer = answer ≡ Err (refusal.Short weight total)
-Gives (Err (refusal.Differ a b)) answer = answer ≡ Err (refusal.Differ a b)
-Gives (Err refusal.OutOfMemory) answer = Unit {0}
+-- memory was refused, or this value where all agree, or the cause why they do not
+abbrev pub Gives : {X : Type 0} → Result X CollectRefusal → X → Collected → Type 0
+Gives (Ok x) value c = (c ≡ whole) × (x ≡ value)
+Gives (Err (refusal.Short weight total)) value c = c ≡ short weight total
+Gives (Err (refusal.Differ a b)) value c = c ≡ differ a b
+Gives (Err refusal.OutOfMemory) value c = Unit {0}

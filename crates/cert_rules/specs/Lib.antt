@@ -1,3 +1,4 @@
 pub mod Answers
 pub mod Collect
+pub mod Collecting
 pub mod Parts

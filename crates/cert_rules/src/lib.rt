@@ -7,11 +7,16 @@
 //! said by definitions, one equation a call. Of votes whose seals are accepted it makes a valid
 //! certificate, where the transaction has a valid shape and the votes name one origin for each
 //! object. A check spells the vote once and checks one seal a member.
+//!
+//! What the words of members on something give together, votes or acknowledgements, is told by
+//! [`collect_words`], over any [`LastWords`]; [`collect`] stands on it too.
 #![tactic(auto)]
 
 mod check;
+mod collecting;
 mod votes;
 
 pub use chain_types::CertRefusal;
 pub use check::check_cert;
+pub use collecting::{Collected, LastWords, collect_words};
 pub use votes::{CollectRefusal, collect, same_origins};

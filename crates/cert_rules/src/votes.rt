@@ -1,13 +1,15 @@
 //! How votes become a certificate.
 
-ghost use Rattle.std.specs.Prelude.{◌≡◌, IfOk, None, map, true};
+ghost use Rattle.std.specs.Prelude.{◌≡◌, IfOk, None, map, option_copied, true};
 ghost use Rattle.quorum_core.specs.Committee.{is_roll};
 ghost use Rattle.protocol_spec.specs.Chain.Certificates.{Rules, cert_refusal, vote_of};
 ghost use Rattle.protocol_spec.specs.Chain.Tests.{origins_eq};
-ghost use Rattle.protocol_spec.specs.Chain.Words.{Each, first_of, unless_refused};
-ghost use Rattle.cert_rules.specs.Collect.{AreSound, IsVoteFor, Gives, collected, certificate_of, differs_from, first_differing, first_origins, seal_of, too_short, voted_origins, voters};
+ghost use Rattle.protocol_spec.specs.Chain.Words.{Each};
+ghost use Rattle.cert_rules.specs.Collecting.{collected_as};
+ghost use Rattle.cert_rules.specs.Collect.{AreSound, IsVoteFor, Gives, certificate_of, first_origins, same_vote, seal_of, sealed_collected, vote_by, voted_origins, voters};
 ghost use Rattle.cert_rules.specs.declared.votes.CollectRefusal.TheVariants as refusal;
 
+use crate::collecting::{Collected, LastWords, collect_words};
 use chain_messages::{Certificate, MemberSeal, Sealed, Statement};
 use chain_types::Transaction;
 use digest_core::Digest;
@@ -50,47 +52,51 @@ pub fn same_origins(a: &[Option<Digest>], b: &[Option<Digest>]) -> bool
     a == b
 }
 
-/// Whether the voters are a quorum.
-fn check_stake(committee: &Committee, members: &[u32]) -> Result<(), CollectRefusal>
-    requires { is_roll committee.now members.now ≡ true }
-    ensures { result ≡ unless_refused (too_short committee.now members.now) tt }
+/// The vote of a member among these. Takes no memory.
+fn vote_by(votes: &[Sealed], member: u32) -> Option<&Sealed>
+    ensures { option_copied result ≡ vote_by votes.now member }
 {
-    let weight = committee.weight(members);
-    if !committee.is_quorum(weight) {
-        return Err(CollectRefusal::Short {
-            weight,
-            total: committee.total(),
-        });
-    }
-    Ok(())
-}
-
-/// Whether the other votes agree with the first.
-fn check_others(first: &Sealed, others: &[Sealed]) -> Result<(), CollectRefusal>
-    ensures { result ≡ unless_refused (first_of (differs_from first.now) others.now) tt }
-{
-    let origins = voted_origins(&first.statement);
-    let mut rest = others;
+    let mut rest = votes;
     while let [vote, after @ ..] = rest {
-        if !same_origins(origins, voted_origins(&vote.statement)) {
-            return Err(CollectRefusal::Differ {
-                a: first.member,
-                b: vote.member,
-            });
+        if vote.member == member {
+            return Some(vote);
         }
         rest = after;
     }
-    Ok(())
+    None
 }
 
-/// Whether all votes name the same origins.
-fn check_agreement(votes: &[Sealed]) -> Result<(), CollectRefusal>
-    ensures { result ≡ unless_refused (first_differing votes.now) tt }
-{
-    match votes {
-        [] => Ok(()),
-        [first, others @ ..] => check_others(first, others),
+/// Sealed votes, each of which is its member's only word.
+#[derive(Clone, Copy)]
+struct SealedVotes<'a> {
+    votes: &'a [Sealed],
+}
+
+impl LastWords for SealedVotes<'_> {
+    type Word = Sealed;
+
+    ghost same = { same_vote };
+
+    ghost reads = { λ w m. vote_by w.votes.now m };
+
+    fn last_word(&self, member: u32) -> Option<&Sealed> {
+        vote_by(self.votes, member)
     }
+
+    fn are_same(a: &Sealed, b: &Sealed) -> bool
+        ensures { result ≡ same_vote a.now b.now }
+    {
+        same_origins(voted_origins(&a.statement), voted_origins(&b.statement))
+    }
+}
+
+/// What the votes of these members give together. Takes no memory.
+#[tactic(auto, unfolding(crate::specs::Collect::sealed_collected))]
+fn collect_sealed(committee: &Committee, members: &[u32], votes: &[Sealed]) -> Collected
+    requires { members.now ≡ voters votes.now }
+    ensures { collected_as result ≡ sealed_collected committee.now votes.now }
+{
+    collect_words(&SealedVotes { votes }, committee, members)
 }
 
 /// The origins that the first vote names.
@@ -145,7 +151,6 @@ fn certificate_of(
 /// The certificate of votes for a transaction, which members that ascend, are distinct and are
 /// known sealed: the transaction, the origins that all of them name, and their seals in order. Or
 /// the first reason why they make none.
-#[tactic(auto, unfolding(crate::specs::Collect::collected))]
 pub fn collect(
     alloc: Global,
     tx: &Transaction,
@@ -154,14 +159,18 @@ pub fn collect(
 ) -> Result<Certificate, CollectRefusal>
     requires votes { Each (IsVoteFor tx.now) votes.now }
     requires roll { is_roll committee.now (voters votes.now) ≡ true }
-    ensures exact { Gives result (collected committee.now tx.now votes.now) }
+    ensures exact { Gives result (certificate_of tx.now votes.now) (sealed_collected committee.now votes.now) }
     // Each vote is the statement that the seals of the certificate are over.
     ensures agree { IfOk result (λ cert. Each (λ vote. vote.statement ≡ vote_of cert) votes.now) }
     // So it is valid where the votes are sealed well and the transaction has a valid shape.
     ensures valid { IfOk result (λ cert. (rules : Rules) → rules.stakes ≡ committee.now → AreSound rules tx.now votes.now → cert_refusal rules cert ≡ None) }
 {
     let members = voters(alloc, votes.as_slice())?;
-    check_stake(committee, &members)?;
-    check_agreement(votes.as_slice())?;
-    Ok(certificate_of(alloc, tx, votes.as_slice())?)
+    match collect_sealed(committee, &members, votes.as_slice()) {
+        // Each member is the voter of a vote.
+        Collected::Lacks(_) => unreachable!(),
+        Collected::Short { weight, total } => Err(CollectRefusal::Short { weight, total }),
+        Collected::Differ { a, b } => Err(CollectRefusal::Differ { a, b }),
+        Collected::Whole => Ok(certificate_of(alloc, tx, votes.as_slice())?),
+    }
 }

@@ -11,6 +11,7 @@ use Rattle.report_text.specs.declared.lines.Line.TheVariants as line
 use Rattle.report_text.specs.declared.lines.FinalText.{FinalText}
 use Rattle.report_text.specs.declared.lines.FinalText.TheVariants as final_text
 use Rattle.protocol_spec.proofs.Equality.{digest_same}
+use Rattle.protocol_spec.specs.Chain.Collecting.{Collected, lacks, short, differ, whole, collected, differ_from, differs_among, lacks_where, too_short, whole_or}
 use Rattle.protocol_spec.specs.Chain.Words.{Has, first_of, first_some, where_true}
 use Rattle.protocol_spec.specs.Chain.Committee.{is_quorum, is_roll, total_of, weight}
 use Rattle.protocol_spec.proofs.ListLemmas.{and-first, and-second}
@@ -19,7 +20,7 @@ use Rattle.protocol_spec.specs.Member.Checkpoints.{zero_digest}
 use Rattle.world_spec.specs.Setting.{Name, Setting}
 use Rattle.world_spec.specs.Names.{made_named}
 use Rattle.world_spec.specs.World.{Made, World, said_by}
-use Rattle.world_spec.specs.Step.{Collected, lacks, short, differ, whole, ack_in, collected, differ_from, differs_among, lacks_where, last_said, too_short, whole_or}
+use Rattle.world_spec.specs.Step.{ack_in, last_said}
 use Rattle.world_spec.specs.Report.{acks_collected, final_collected, final_lines, lines_of}
 use Rattle.safety_law.proofs.Apart.{none-of}
 use Rattle.safety_law.proofs.Steps.{last-said}

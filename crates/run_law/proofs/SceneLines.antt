@@ -24,6 +24,7 @@ use Rattle.report_text.specs.declared.lines.VoteText.{VoteText}
 use Rattle.report_text.specs.declared.lines.SendText.{SendText}
 use Rattle.report_text.specs.declared.lines.RestartText.TheVariants as restart_text
 use Rattle.protocol_spec.specs.Chain.Certificates.{Rules}
+use Rattle.protocol_spec.specs.Chain.Collecting.{Collected}
 use Rattle.protocol_spec.specs.Member.Member.{Fork, Member, fork_of, live_objects}
 use Rattle.protocol_spec.specs.Member.Calls.{Call, votes, holds, sees, runs, closes, ends, turns, acks, ack_answer, close_answer, end_answer, hold_answer, run_answer, see_answer, turn_answer, vote_answer}
 use Rattle.world_spec.specs.Setting.{Name, Trust, Setting}
@@ -31,7 +32,7 @@ use Rattle.world_spec.specs.World as worlds
 use Rattle.world_spec.specs.World.{Made, World, Reached, finds_down, stops, answers, called_if, called_in, is_honest, member_at, member_in, next_call, reached, state_of}
 use Rattle.world_spec.specs.Run.{records_of}
 use Rattle.world_spec.specs.Names.{cert_named, made_named}
-use Rattle.world_spec.specs.Step.{Collected, end_in, entries_left, fvote_origins, last_said, open_entries}
+use Rattle.world_spec.specs.Step.{end_in, entries_left, fvote_origins, last_said, open_entries}
 use Rattle.world_spec.specs.Report.{Lines, ack_answered, ack_lines, ack_reached, ack_said, acks_collected, and_lines, call_lines, close_answered, close_reached, end_answered, end_reached, entries_lines, entry_reached, final_lines, honest_end_said, none_taken, order_end_said, order_said, see_halted, see_up, turn_answered, turn_reached, cert_collected, cert_lines, fvote_lines, hold_reached, hold_said, is_seat_up, lines_of, origin_name, origin_names, record_count, run_reached, send_said, show_up, vote_lines, vote_reached, vote_said}
 use Rattle.scene_spec.proofs.LineWorlds.{ack_same, close_same, end_same, hold_same, run_same, see_same, shown_same, turn_same, vote_same}
 use Rattle.scene_spec.specs.Terms.{rules_for, terms_of}

@@ -11,13 +11,14 @@ use Rattle.schedule_text.specs.declared.words.Event.{Event}
 use Rattle.schedule_text.specs.declared.words.Event.TheVariants as event
 use Rattle.protocol_spec.proofs.ListLemmas.{front_then, front_whole, set_length}
 use Rattle.protocol_spec.specs.Chain.Certificates.{Rules}
+use Rattle.protocol_spec.specs.Chain.Collecting.{Collected, lacks, short, differ, whole}
 use Rattle.protocol_spec.specs.Member.Calls.{Call, acks}
 use Rattle.world_spec.specs.Setting.{Name, Trust, Setting}
 use Rattle.world_spec.specs.World as worlds
 use Rattle.world_spec.specs.World.{Made, World, Reached, finds_down, stops, answers, appended, behind, called_if, called_in, called_seat, is_honest, new_seat, new_world, next_call, reached, reached_at, reached_seat, sees_on, stopped_seat}
 use Rattle.world_spec.specs.Names.{cert_named, made_named}
 use Rattle.world_spec.specs.Making.{made_by_line}
-use Rattle.world_spec.specs.Step.{Collected, lacks, short, differ, whole, acked, appended_entry, armed_seat, end_in, false_ack, formed, formed_as, fvoted, happens, has_ended, honest_end, last_said, on_seat, ordered, ordered_end, risen_if, says, sealed_end, sent, started_seat, voted_on, votes_collected}
+use Rattle.world_spec.specs.Step.{acked, appended_entry, armed_seat, end_in, false_ack, formed, formed_as, fvoted, happens, has_ended, honest_end, last_said, on_seat, ordered, ordered_end, risen_if, says, sealed_end, sent, started_seat, voted_on, votes_collected}
 use Rattle.world_spec.specs.Run.{records_of}
 use Rattle.scene_spec.specs.Posts.{list_of, reached_in, record_left, with_all}
 use Rattle.scene_spec.specs.Scene.{Scene, rules_in}

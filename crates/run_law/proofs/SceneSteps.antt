@@ -16,6 +16,7 @@ use Rattle.chain_messages.specs.declared.messages.Entry.TheVariants as entry
 use Rattle.schedule_text.specs.declared.words.Setup.{Setup}
 use Rattle.schedule_text.specs.declared.words.Event.{Event}
 use Rattle.schedule_text.specs.declared.words.Event.TheVariants as event
+use Rattle.protocol_spec.specs.Chain.Collecting.{Collected, lacks, short, differ, whole}
 use Rattle.protocol_spec.specs.Chain.Words.{first_some, first_of}
 use Rattle.protocol_spec.specs.Chain.Certificates.{Rules}
 use Rattle.protocol_spec.specs.Member.Member.{Member, state}
@@ -25,7 +26,7 @@ use Rattle.world_spec.specs.World as worlds
 use Rattle.world_spec.specs.World.{Made, Said, World, called_in, honest_seat, is_honest, member_at, member_in, new_seat, new_world, said_by, says_first, sees_on}
 use Rattle.world_spec.specs.Names.{made_named, cert_named}
 use Rattle.world_spec.specs.Making.{TxLine, digest_or_zero, held_digest, made_by_line, spoiled_if}
-use Rattle.world_spec.specs.Step.{Collected, lacks, short, differ, whole, acked, appended_entry, armed_seat, end_in, end_ordered, entries_left, executed_digest, false_ack, has_ended, honest_end, last_said, ordered, ordered_end, risen_if, sealed_end, first_origins, formed, formed_as, fvote_origins, fvoted, happens, honest_vote, no_origins, origin_word, origins_or, says, sent, started_seat, vote_statement, voted_on, votes_collected}
+use Rattle.world_spec.specs.Step.{acked, appended_entry, armed_seat, end_in, end_ordered, entries_left, executed_digest, false_ack, has_ended, honest_end, last_said, ordered, ordered_end, risen_if, sealed_end, first_origins, formed, formed_as, fvote_origins, fvoted, happens, honest_vote, no_origins, origin_word, origins_or, says, sent, started_seat, vote_statement, voted_on, votes_collected}
 use Rattle.world_spec.specs.Run.{records_of}
 use Rattle.scene_spec.specs.Known.{names_of, with_line}
 use Rattle.scene_spec.specs.MadeLines.{line_made}

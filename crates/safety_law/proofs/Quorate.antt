@@ -4,13 +4,14 @@ use Rattle.std.specs.Prelude.{◌≡◌, ◌⊎◌, ℕ, true, List, [], ◌∷�
 use Rattle.chain_messages.specs.declared.messages.Statement.{Statement}
 use Rattle.chain_messages.specs.declared.messages.MemberSeal.{MemberSeal}
 use Rattle.schedule_text.specs.declared.words.Event.{Event}
+use Rattle.protocol_spec.specs.Chain.Collecting.{whole}
 use Rattle.protocol_spec.specs.Chain.Words.{Has}
 use Rattle.protocol_spec.specs.Chain.Committee.{weight, is_quorum}
 use Rattle.protocol_spec.specs.Chain.Certificates.{members_of}
 use Rattle.protocol_spec.specs.Member.Calls.{Call}
 use Rattle.world_spec.specs.Setting.{Setting}
 use Rattle.world_spec.specs.World.{Seat, Made, Formed, World, Reached, finds_down, stops, answers, new_world, reached_seat, behind, called_seat, called_in}
-use Rattle.world_spec.specs.Step.{first_origins, happens, certificate_of, vote_statement, sealed_by, votes_collected, whole}
+use Rattle.world_spec.specs.Step.{first_origins, happens, certificate_of, vote_statement, sealed_by, votes_collected}
 use Rattle.world_spec.specs.Run.{world_after}
 use Rattle.world_spec.specs.Assumptions.{calls_of}
 use Rattle.safety_law.proofs.InWorld.{each-any}

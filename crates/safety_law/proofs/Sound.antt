@@ -18,6 +18,7 @@ use Rattle.answer_types.specs.declared.refusals.VoteRefusal.{VoteRefusal}
 use Rattle.answer_types.specs.declared.refusals.VoteRefusal.TheVariants as no_vote
 use Rattle.answer_types.specs.declared.refusals.AckRefusal.TheVariants as no_ack
 use Rattle.protocol_spec.proofs.Equality.{origins_same, digest_same}
+use Rattle.protocol_spec.specs.Chain.Collecting.{Collected, short, differ, whole, lacks_where, differ_from, differs_among, too_short, whole_or}
 use Rattle.protocol_spec.specs.Chain.Words.{Has, Each, first_some, first_of, where_true, refused_or, unless_refused}
 use Rattle.protocol_spec.specs.Chain.Tests.{origins_eq}
 use Rattle.protocol_spec.specs.Chain.Committee.{weight, total_of, is_quorum}
@@ -30,7 +31,7 @@ use Rattle.protocol_spec.specs.Member.Member.{Member, ballot, vote_for}
 use Rattle.protocol_spec.specs.Member.Calls.{Call, votes, holds, sees, runs, closes, ends, turns, acks, new_vote_cases, voted_as, vote_again, unsealed_of, vote_read, vote_stopped, vote_answer, see_answer, run_answer, end_answer, ack_answer, end_cases, halted}
 use Rattle.world_spec.specs.Setting.{Setting}
 use Rattle.world_spec.specs.World.{Seat, Said, Made, Formed, World, Reached, finds_down, stops, answers, said_by, with_seat, stopped_seat, stated, voted_statement, reached_seat, behind, called_seat, called_in, is_honest, entries_at, list_or_none}
-use Rattle.world_spec.specs.Step.{says, vote_in, last_said, first_origins, vote_statement, sealed_by, Collected, short, differ, whole, lacks_where, differ_from, differs_among, too_short, whole_or, votes_collected, appended_entry, open_entries, risen_if}
+use Rattle.world_spec.specs.Step.{says, vote_in, last_said, first_origins, vote_statement, sealed_by, votes_collected, appended_entry, open_entries, risen_if}
 use Rattle.world_spec.specs.Making.{TxLine, with_made}
 use Rattle.world_spec.specs.Assumptions.{read_list, signed_read}
 use Rattle.safety_law.proofs.Apart.{none-of}

@@ -25,6 +25,7 @@ use Rattle.journal_core.specs.declared.records.Record.{Record}
 use Rattle.schedule_text.specs.declared.words.Event.{Event}
 use Rattle.schedule_text.specs.declared.words.Event.TheVariants as event
 use Rattle.protocol_spec.proofs.ListLemmas.{each_at, each_has, find_has, each_join}
+use Rattle.protocol_spec.specs.Chain.Collecting.{Collected, lacks, short, differ, whole}
 use Rattle.protocol_spec.specs.Chain.Words.{Each, first_some, first_of, where_true, last_where}
 use Rattle.protocol_spec.specs.Chain.Keys.{objects_of}
 use Rattle.protocol_spec.specs.Member.Member.{Member, state}
@@ -33,7 +34,7 @@ use Rattle.world_spec.specs.Setting.{Name, Setting, sender_seal}
 use Rattle.world_spec.specs.World.{Seat, Said, Made, Formed, World, Reached, finds_down, stops, answers, new_world, said_by, member_in, reached_up, reached_seat, behind, called_seat, called_in, called_if, sees_on, stated, is_honest, member_at, next_call, entries_at, list_or_none}
 use Rattle.world_spec.specs.Names.{made_named, cert_named, cert_in}
 use Rattle.world_spec.specs.Making.{made_by_line, made_as, transaction_of, spoiled_if, TxLine}
-use Rattle.world_spec.specs.Step.{happens, says, vote_in, end_in, last_said, voted_on, origin_word, no_origins, origins_or, honest_vote, fvote_origins, fvoted, first_origins, vote_statement, sealed_by, certificate_of, votes_collected, Collected, lacks, short, differ, whole, formed_as, formed, sent, open_entries, ordered, sealed_end, appended_entry, has_ended, risen_if, ordered_end, honest_end, end_ordered, on_seat, armed_seat, started_seat, entries_left, false_ack, acked}
+use Rattle.world_spec.specs.Step.{happens, says, vote_in, end_in, last_said, voted_on, origin_word, no_origins, origins_or, honest_vote, fvote_origins, fvoted, first_origins, vote_statement, sealed_by, certificate_of, votes_collected, formed_as, formed, sent, open_entries, ordered, sealed_end, appended_entry, has_ended, risen_if, ordered_end, honest_end, end_ordered, on_seat, armed_seat, started_seat, entries_left, false_ack, acked}
 use Rattle.world_spec.specs.Run.{run, world_after}
 use Rattle.text_law.specs.Sayable.{IsMember, IsEvent}
 use Rattle.safety_law.proofs.InWorld.{each-set, kept-called, new-seats}

@@ -5,6 +5,7 @@ use Rattle.std.specs.Prelude.{IfOk, OnOk, slice_get}
 use Rattle.chain_messages.specs.declared.messages.Statement.{Statement}
 use Rattle.chain_types.specs.Equal.{digest_eq}
 use Rattle.protocol_spec.specs.Chain.Certificates.{Rules}
+use Rattle.protocol_spec.specs.Chain.Collecting.{Collected, collected}
 use Rattle.protocol_spec.specs.Member.Calls.{acks}
 use Rattle.report_text.specs.declared.lines.Line.{Line}
 use Rattle.report_text.specs.declared.lines.Line.TheVariants as line
@@ -15,7 +16,7 @@ use Rattle.report_text.specs.declared.lines.FinalText.TheVariants as final_text
 use Rattle.world_spec.specs.Setting.{Name, Trust}
 use Rattle.world_spec.specs.World.{Made, Said, is_honest, said_by}
 use Rattle.world_spec.specs.Names.{made_named}
-use Rattle.world_spec.specs.Step.{Collected, ack_in, collected, last_said}
+use Rattle.world_spec.specs.Step.{ack_in, last_said}
 use Rattle.world_spec.specs.Report.{ack_reached, acks_collected, final_collected, final_lines}
 use Rattle.scene_spec.specs.Scene.{Scene, bare_setting, bare_world, rules_in}
 use Rattle.scene_spec.specs.Steps.{ack_lines_in, acked_in, called_scene, comes_to, state_at}

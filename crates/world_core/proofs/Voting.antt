@@ -6,6 +6,7 @@ use Rattle.chain_types.specs.Transactions as transactions
 use Rattle.chain_messages.specs.declared.messages.Certificate.{Certificate}
 use Rattle.chain_messages.specs.declared.messages.Statement.TheVariants as statement
 use Rattle.chain_messages.specs.Messages as messages
+use Rattle.protocol_spec.specs.Chain.Collecting.{Collected, collected, differ, lacks, short, whole}
 use Rattle.protocol_spec.specs.Chain.Tests.{origins_eq}
 use Rattle.protocol_spec.specs.Chain.Words.{Each, first_some, last_where, where_true}
 use Rattle.report_text.specs.declared.lines.Line.{Line}
@@ -15,13 +16,14 @@ use Rattle.world_spec.specs.Setting.{Name, Trust}
 use Rattle.world_spec.specs.World.{Formed, Made, Said, honest_seat, said_by}
 use Rattle.world_spec.specs.Names.{cert_in, made_named}
 use Rattle.world_spec.specs.Report.{cert_collected, cert_lines, fvote_lines, origin_names}
-use Rattle.world_spec.specs.Step.{Collected, collected, differ, formed, formed_as, fvote_origins, fvoted, first_origins, lacks, last_said, no_origins, origins_or, short, vote_in, votes_collected, whole}
+use Rattle.world_spec.specs.Step.{formed, formed_as, fvote_origins, fvoted, first_origins, last_said, no_origins, origins_or, vote_in, votes_collected}
 use Rattle.scene_spec.specs.Known.{Known, world_with}
 use Rattle.world_names.specs.declared.rows.MadeTx.{MadeTx}
 use Rattle.world_names.specs.Rows.{made_as}
-use Rattle.world_lines.specs.declared.certs.Collected.{Collected as Given}
-use Rattle.world_lines.specs.declared.certs.Collected.TheVariants as given
-use Rattle.world_lines.specs.Answers.{collected_as, is_whole}
+use Rattle.cert_rules.specs.declared.collecting.Collected.{Collected as Given}
+use Rattle.cert_rules.specs.declared.collecting.Collected.TheVariants as given
+use Rattle.cert_rules.specs.Collecting.{collected_as}
+use Rattle.world_lines.specs.Answers.{is_whole}
 use Rattle.world_lines.specs.Forming.{certificate_by, first_origins_by}
 use Rattle.world_lines.specs.FalseVotes.{origins_by}
 use Rattle.world_lines.specs.SaidVotes.{first_vote, flags_of}

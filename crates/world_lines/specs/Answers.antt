@@ -11,9 +11,8 @@ use Rattle.protocol_spec.specs.Member.Calls.{Voted}
 use Rattle.protocol_spec.specs.Member.Member.{Member, fresh}
 use Rattle.world_spec.specs.World.{World}
 use Rattle.world_spec.specs.Names.{tx_name}
-use Rattle.world_spec.specs.Step.{Collected, lacks, short, differ, whole}
-use Rattle.world_lines.specs.declared.certs.Collected.{Collected as Given}
-use Rattle.world_lines.specs.declared.certs.Collected.TheVariants as given
+use Rattle.cert_rules.specs.declared.collecting.Collected.{Collected as Given}
+use Rattle.cert_rules.specs.declared.collecting.Collected.TheVariants as given
 
 -- a vote, by the statement that is sealed
 abbrev pub voted_as : Sealed → Voted
@@ -35,13 +34,6 @@ member_in epoch = record (fresh []) { epoch = epoch }
 -- the line of a reverted transaction
 abbrev pub reverted_line : World → Digest → Line
 reverted_line w tx = line.Reverted (tx_name w tx)
-
--- what collecting gave
-abbrev pub collected_as : Given → Collected
-collected_as (given.Lacks m) = lacks m
-collected_as (given.Short weight total) = short weight total
-collected_as (given.Differ a b) = differ a b
-collected_as given.Whole = whole
 
 -- all members agree
 abbrev pub is_whole : Given → Bool

@@ -2,26 +2,15 @@
 
 ghost use Rattle.std.specs.Prelude.{◌≡◌, ◌∷◌, [], IfOk, map};
 ghost use Rattle.report_text.specs.declared.lines.Line.TheVariants as line;
+ghost use Rattle.cert_rules.specs.Collecting.{collected_as};
 ghost use Rattle.world_spec.specs.Report.{cert_collected, final_collected};
-ghost use Rattle.world_lines.specs.Answers.{collected_as, is_whole};
+ghost use Rattle.world_lines.specs.Answers.{is_whole};
 
 use crate::runs::one_line;
+use cert_rules::Collected;
 use report_text::{CertText, FinalText, Line};
 use std::alloc::Global;
 use wire_bcs::{OutOfMemory, Seq};
-
-/// What collecting the statements of members gives, in the order in which the cases are tried.
-#[derive(Clone, Copy, Debug, PartialEq, Eq)]
-pub enum Collected {
-    /// This member, the first such, made no statement.
-    Lacks(u32),
-    /// Their stake is no quorum.
-    Short { weight: u64, total: u64 },
-    /// The first two that differ.
-    Differ { a: u32, b: u32 },
-    /// All agree.
-    Whole,
-}
 
 /// The numbers of members, as a report has them.
 fn number_vec(alloc: Global, members: &[u32]) -> Result<Vec<u64>, OutOfMemory>

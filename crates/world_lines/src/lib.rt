@@ -33,7 +33,8 @@ mod stated;
 mod votes;
 mod words;
 
-pub use certs::{Collected, cert_lines, collected_lines, final_text, is_whole};
+pub use cert_rules::Collected;
+pub use certs::{cert_lines, collected_lines, final_text, is_whole};
 pub use ends_law::an_epoch_ends_by_its_ends;
 pub use entries::{add_entry_lines, what_text};
 pub use epochs::{ack_text, close_text, end_text, turn_lines};

@@ -4,13 +4,14 @@ ghost use Rattle.std.specs.Prelude.{◌≡◌, ℕ, List, Option, bytes_eq, opti
 ghost use Rattle.std.specs.List.{enumerate_from};
 ghost use Rattle.digest_core.specs.declared.Digest.{Digest};
 ghost use Rattle.chain_types.specs.Equal.{digest_eq};
+ghost use Rattle.protocol_spec.specs.Chain.Collecting.{collected};
 ghost use Rattle.protocol_spec.specs.Chain.Tests.{origins_eq};
 ghost use Rattle.protocol_spec.specs.Chain.Words.{first_of, last_where};
 ghost use Rattle.world_spec.specs.Setting.{Name, Setting};
 ghost use Rattle.world_spec.specs.World.{Formed, Made, World};
 ghost use Rattle.world_spec.specs.Names.{cert_in, cert_named};
 ghost use Rattle.world_spec.specs.Report.{acks_collected};
-ghost use Rattle.world_spec.specs.Step.{ack_in, certificate_of, collected, honest_vote, last_said, vote_in, votes_collected};
+ghost use Rattle.world_spec.specs.Step.{ack_in, certificate_of, honest_vote, last_said, vote_in, votes_collected};
 ghost use Rattle.world_lines.specs.Forming.{certificate_by};
 ghost use Rattle.world_lines.specs.SaidVotes.{first_vote, flags_of};
 

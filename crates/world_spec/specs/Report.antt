@@ -76,13 +76,14 @@ use Rattle.report_text.specs.declared.lines.ContentText.TheVariants as content_t
 use Rattle.chain_types.specs.Equal.{digest_eq}
 use Rattle.chain_types.specs.Transactions as transactions
 use Rattle.chain_messages.specs.Messages as messages
+use Rattle.protocol_spec.specs.Chain.Collecting.{Collected, lacks, short, differ, whole, collected}
 use Rattle.protocol_spec.specs.Chain.Committee.{total_of}
 use Rattle.protocol_spec.specs.Member.Member.{Member, Fork, fork_of, live_objects}
 use Rattle.protocol_spec.specs.Member.Calls.{Call, votes, holds, sees, runs, closes, ends, turns, acks, Voted, vote_answer, hold_answer, see_answer, run_answer, close_answer, end_answer, turn_answer, ack_answer}
 use Rattle.world_spec.specs.Setting.{Name, Setting}
 use Rattle.world_spec.specs.World.{Seat, Made, World, Reached, finds_down, stops, answers, reached, called_if, is_honest, member_at, next_call}
 use Rattle.world_spec.specs.Names.{made_named, cert_named, tx_name, object_name, key_name, address_name, shown_order}
-use Rattle.world_spec.specs.Step.{end_in, ack_in, last_said, fvote_origins, Collected, lacks, short, differ, whole, collected, votes_collected, open_entries, entries_left}
+use Rattle.world_spec.specs.Step.{end_in, ack_in, last_said, fvote_origins, votes_collected, open_entries, entries_left}
 
 -- ---- words
 

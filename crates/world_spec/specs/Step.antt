@@ -1,5 +1,5 @@
 -- One line of a schedule, as a step of the world. Source: this profile.
-use Rattle.std.specs.Prelude.{ℕ, ◌+◌, ◌-◌, min, Bool, true, false, not, ◌&&◌, ◌==◌, List, [], ◌∷◌, ◌++◌, map, length, slice_get, slice_set, Option, Some, None, option_map, if◌then◌else◌}
+use Rattle.std.specs.Prelude.{ℕ, ◌+◌, ◌-◌, min, Bool, true, false, ◌&&◌, ◌==◌, List, [], ◌∷◌, ◌++◌, map, length, slice_get, slice_set, Option, Some, None, option_map, if◌then◌else◌}
 use Rattle.std.specs.List.{enumerate_from}
 use Rattle.digest_core.specs.declared.Digest.{Digest}
 use Rattle.chain_types.specs.declared.transactions.Transaction.{Transaction}
@@ -18,7 +18,7 @@ use Rattle.chain_messages.specs.Messages as messages
 use Rattle.protocol_spec.specs.Chain.Words.{first_some, first_of, where_true}
 use Rattle.protocol_spec.specs.Chain.Tests.{origins_eq}
 use Rattle.protocol_spec.specs.Chain.Keys.{objects_of}
-use Rattle.protocol_spec.specs.Chain.Committee.{weight, total_of, is_quorum}
+use Rattle.protocol_spec.specs.Chain.Collecting.{Collected, lacks, short, differ, whole, collected}
 use Rattle.protocol_spec.specs.Member.Versions.{Execution, execution_of}
 use Rattle.protocol_spec.specs.Member.Sequence.{seen}
 use Rattle.protocol_spec.specs.Member.Member.{Member}
@@ -87,37 +87,6 @@ fvoted w m words None = w
 fvoted w m words (Some t) = if is_honest w m then w else says w m (statement.Vote t.signed.tx.epoch t.digest (fvote_origins w t words))
 
 -- ---- cert
-
--- what collecting gives: a member without a vote, too little stake, two that differ, or all of them
-pub data Collected : Type 0 where
-  lacks : ℕ → Collected
-  short : ℕ → ℕ → Collected
-  differ : ℕ → ℕ → Collected
-  whole : Collected
-
-abbrev pub lacks_where : {A : Type 0} → ℕ → Option A → Option Collected
-lacks_where m None = Some (lacks m)
-lacks_where m (Some x) = None
-
-abbrev pub differ_from : {A : Type 0} → (A → A → Bool) → ℕ → Option A → ℕ → Option A → Option Collected
-differ_from same a None b y = None
-differ_from same a (Some x) b None = None
-differ_from same a (Some x) b (Some y) = where_true (not (same x y)) (differ a b)
-
-abbrev pub differs_among : {A : Type 0} → (A → A → Bool) → (ℕ → Option A) → List ℕ → Option Collected
-differs_among same reads [] = None
-differs_among same reads (a ∷ ms) = first_of (λ b. differ_from same a (reads a) b (reads b)) ms
-
-abbrev pub too_short : List ℕ → List ℕ → Option Collected
-too_short stakes ms = where_true (not (is_quorum stakes (weight stakes ms))) (short (weight stakes ms) (total_of stakes))
-
-abbrev pub whole_or : Option Collected → Collected
-whole_or None = whole
-whole_or (Some c) = c
-
--- what the members' last words of something give, in the order of the causes
-abbrev pub collected : {A : Type 0} → (A → A → Bool) → List ℕ → (ℕ → Option A) → List ℕ → Collected
-collected same stakes reads ms = whole_or (first_some (first_of (λ m. lacks_where m (reads m)) ms ∷ too_short stakes ms ∷ differs_among same reads ms ∷ []))
 
 -- what collecting the votes for a transaction gives
 unfoldable pub votes_collected : Setting → World → Digest → List ℕ → Collected

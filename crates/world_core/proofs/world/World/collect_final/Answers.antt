@@ -1,9 +1,10 @@
 use Rattle.std.proofs.Common.{◌∙◌, ap, sym, ℕ, List, option_map}
 use Rattle.std.specs.Prelude.{option_copied}
 use Rattle.chain_types.specs.Equal.{digest_eq}
-use Rattle.world_lines.specs.Answers.{collected_as}
+use Rattle.cert_rules.specs.Collecting.{collected_as}
 use Rattle.world_names.specs.Rows.{made_as}
-use Rattle.world_spec.specs.Step.{ack_in, collected, last_said}
+use Rattle.protocol_spec.specs.Chain.Collecting.{collected}
+use Rattle.world_spec.specs.Step.{ack_in, last_said}
 use Rattle.scene_spec.specs.Scene.{Scene}
 use Rattle.world_core.specs.Trusts.{trust_by}
 use Rattle.world_core.proofs.Acking.{final_told}

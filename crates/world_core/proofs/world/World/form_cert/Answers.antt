@@ -1,7 +1,8 @@
 use Rattle.std.proofs.Common.{◌∙◌, ap, sym, ℕ, List, ◌∷◌, ◌++◌, [], option_map}
 use Rattle.std.specs.Prelude.{option_copied}
+use Rattle.protocol_spec.specs.Chain.Collecting.{collected}
 use Rattle.protocol_spec.specs.Chain.Tests.{origins_eq}
-use Rattle.world_spec.specs.Step.{collected, last_said, vote_in}
+use Rattle.world_spec.specs.Step.{last_said, vote_in}
 use Rattle.world_spec.specs.World.{Formed}
 use Rattle.world_names.specs.Rows.{made_as}
 use Rattle.scene_spec.specs.Scene.{Scene}

@@ -1,7 +1,7 @@
 use Rattle.std.proofs.Common.{◌≡◌, length}
 use Rattle.protocol_spec.specs.Chain.Words.{first_of}
-use Rattle.world_lines.specs.Collecting.{lacks_word}
-use Rattle.world_lines.proofs.collecting.first_lacking.Given as goal
+use Rattle.cert_rules.specs.Collecting.{lacks_word}
+use Rattle.cert_rules.proofs.collecting.first_lacking.Given as goal
 
 -- each member that was passed has a word
 abbrev pub invariant-loop-rest : goal.invariant-loop-rest

@@ -1,6 +1,15 @@
--- What is collected of the last words of members on something, whatever the words are. Source: this profile.
+-- What is collected of the last words of members, as the calls answer it. Source: this profile.
 use Rattle.std.specs.Prelude.{ℕ, Bool, false, not, Option, Some, None}
-use Rattle.world_spec.specs.Step.{Collected, differ_from, lacks_where}
+use Rattle.protocol_spec.specs.Chain.Collecting.{Collected, lacks, short, differ, whole, differ_from, lacks_where}
+use Rattle.cert_rules.specs.declared.collecting.Collected.{Collected as Given}
+use Rattle.cert_rules.specs.declared.collecting.Collected.TheVariants as given
+
+-- what collecting gave
+abbrev pub collected_as : Given → Collected
+collected_as (given.Lacks m) = lacks m
+collected_as (given.Short weight total) = short weight total
+collected_as (given.Differ a b) = differ a b
+collected_as given.Whole = whole
 
 -- the member, where it has no word
 abbrev pub lacks_word : {A : Type 0} → (ℕ → Option A) → ℕ → Option Collected

@@ -1,7 +1,7 @@
 use Rattle.std.proofs.Common.{◌≡◌, length}
 use Rattle.protocol_spec.specs.Chain.Words.{first_of}
-use Rattle.world_lines.specs.Collecting.{differs_in}
-use Rattle.world_lines.proofs.collecting.first_other.Given as goal
+use Rattle.cert_rules.specs.Collecting.{differs_in}
+use Rattle.cert_rules.proofs.collecting.first_other.Given as goal
 
 -- each member that was passed agrees with the first
 abbrev pub invariant-loop-rest : goal.invariant-loop-rest
