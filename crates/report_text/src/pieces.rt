@@ -1,9 +1,10 @@
 //! Lines, piece by piece.
 
-ghost use Rattle.std.specs.Prelude.{◌≡◌, ◌∷◌, [], ◌++◌, OnOk, decimal, codes};
+ghost use Rattle.std.specs.Prelude.{◌≡◌, ◌∷◌, [], ◌++◌, decimal, codes};
 ghost use Rattle.std.specs.List.{concat, flat_map};
-ghost use Rattle.report_text.specs.Text.{origin_word, origins_text, names_text, numbers_text, part_text, taken_text, only_if};
+ghost use Rattle.report_text.specs.Text.{origin_word, origins_text, names_text, numbers_text, part_text, taken_text, only_if, kept_text};
 ghost use Rattle.report_text.specs.Pieces.{piece_text};
+ghost use Rattle.wire_bcs.specs.Wrote.{Writes};
 
 use itoa::Buffer;
 use wire_bcs::{OutOfMemory, Seq};
@@ -17,15 +18,17 @@ pub(crate) enum Piece<'a> {
     Wide(u128),
 }
 
+#[tactic(auto, using(crate::proofs::Appends::fronts))]
 pub(crate) fn print_number(out: &mut Seq<u8>, number: u64) -> Result<(), OutOfMemory>
-    ensures { OnOk result (out.new ≡ out.old ++ decimal number) }
+    ensures { Writes out.old out.new (decimal number) result }
 {
     let mut buffer = Buffer::new();
     out.extend(buffer.format(number).as_bytes())
 }
 
+#[tactic(auto, using(crate::proofs::Appends::fronts))]
 pub(crate) fn print_piece(out: &mut Seq<u8>, piece: Piece<'_>) -> Result<(), OutOfMemory>
-    ensures { OnOk result (out.new ≡ out.old ++ piece_text piece.entry) }
+    ensures { Writes out.old out.new (piece_text piece.entry) result }
 {
     match piece {
         Piece::Text(text) => out.extend(text),
@@ -38,8 +41,9 @@ pub(crate) fn print_piece(out: &mut Seq<u8>, piece: Piece<'_>) -> Result<(), Out
     }
 }
 
+#[tactic(auto, using(crate::proofs::Appends::fronts))]
 pub(crate) fn print(out: &mut Seq<u8>, pieces: &[Piece<'_>]) -> Result<(), OutOfMemory>
-    ensures { OnOk result (out.new ≡ out.old ++ flat_map piece_text pieces.now) }
+    ensures { Writes out.old out.new (flat_map piece_text pieces.now) result }
 {
     for piece in pieces {
         print_piece(out, *piece)?;
@@ -48,28 +52,31 @@ pub(crate) fn print(out: &mut Seq<u8>, pieces: &[Piece<'_>]) -> Result<(), OutOf
 }
 
 /// A text, then a name.
+#[tactic(auto, using(crate::proofs::Appends::fronts))]
 pub(crate) fn print_with_name<'a>(
     out: &mut Seq<u8>,
     text: &'a [u8],
     name: &'a Seq<u8>,
 ) -> Result<(), OutOfMemory>
-    ensures { OnOk result (out.new ≡ out.old ++ concat (text.now ∷ name.now ∷ [])) }
+    ensures { Writes out.old out.new (concat (text.now ∷ name.now ∷ [])) result }
 {
     print(out, &[Piece::Text(text), Piece::Name(name)])
 }
 
 /// A text, then a number.
+#[tactic(auto, using(crate::proofs::Appends::fronts))]
 pub(crate) fn print_with_number(
     out: &mut Seq<u8>,
     text: &[u8],
     number: u64,
 ) -> Result<(), OutOfMemory>
-    ensures { OnOk result (out.new ≡ out.old ++ concat (text.now ∷ decimal number ∷ [])) }
+    ensures { Writes out.old out.new (concat (text.now ∷ decimal number ∷ [])) result }
 {
     print(out, &[Piece::Text(text), Piece::Number(number)])
 }
 
 /// Two names, each behind its text.
+#[tactic(auto, using(crate::proofs::Appends::fronts))]
 pub(crate) fn print_two_names<'a>(
     out: &mut Seq<u8>,
     text: &'a [u8],
@@ -77,7 +84,7 @@ pub(crate) fn print_two_names<'a>(
     between: &'a [u8],
     other: &'a Seq<u8>,
 ) -> Result<(), OutOfMemory>
-    ensures { OnOk result (out.new ≡ out.old ++ concat (text.now ∷ name.now ∷ between.now ∷ other.now ∷ [])) }
+    ensures { Writes out.old out.new (concat (text.now ∷ name.now ∷ between.now ∷ other.now ∷ [])) result }
 {
     print(
         out,
@@ -91,6 +98,7 @@ pub(crate) fn print_two_names<'a>(
 }
 
 /// Two numbers, each behind its text.
+#[tactic(auto, using(crate::proofs::Appends::fronts))]
 pub(crate) fn print_two_numbers<'a>(
     out: &mut Seq<u8>,
     text: &'a [u8],
@@ -98,7 +106,7 @@ pub(crate) fn print_two_numbers<'a>(
     between: &'a [u8],
     other: u64,
 ) -> Result<(), OutOfMemory>
-    ensures { OnOk result (out.new ≡ out.old ++ concat (text.now ∷ decimal number ∷ between.now ∷ decimal other ∷ [])) }
+    ensures { Writes out.old out.new (concat (text.now ∷ decimal number ∷ between.now ∷ decimal other ∷ [])) result }
 {
     print(
         out,
@@ -112,24 +120,26 @@ pub(crate) fn print_two_numbers<'a>(
 }
 
 /// The two certificates that stopped a member.
+#[tactic(auto, using(crate::proofs::Appends::fronts))]
 pub(crate) fn print_halted<'a>(
     out: &mut Seq<u8>,
     first: &'a Seq<u8>,
     second: &'a Seq<u8>,
 ) -> Result<(), OutOfMemory>
-    ensures { OnOk result (out.new ≡ out.old ++ concat (codes "halted " ∷ first.now ∷ codes " " ∷ second.now ∷ [])) }
+    ensures { Writes out.old out.new (concat (codes "halted " ∷ first.now ∷ codes " " ∷ second.now ∷ [])) result }
 {
     print_two_names(out, b"halted ", first, b" ", second)
 }
 
 /// A key and the two transactions that consume it.
+#[tactic(auto, using(crate::proofs::Appends::fronts))]
 pub(crate) fn print_fork<'a>(
     out: &mut Seq<u8>,
     key: &'a Seq<u8>,
     first: &'a Seq<u8>,
     second: &'a Seq<u8>,
 ) -> Result<(), OutOfMemory>
-    ensures { OnOk result (out.new ≡ out.old ++ concat (codes "fork " ∷ key.now ∷ codes " " ∷ first.now ∷ codes " " ∷ second.now ∷ [])) }
+    ensures { Writes out.old out.new (concat (codes "fork " ∷ key.now ∷ codes " " ∷ first.now ∷ codes " " ∷ second.now ∷ [])) result }
 {
     print(
         out,
@@ -145,13 +155,14 @@ pub(crate) fn print_fork<'a>(
 }
 
 /// The head of a line on a member: the word, the member, and the text behind it.
+#[tactic(auto, using(crate::proofs::Appends::fronts))]
 pub(crate) fn print_member_head<'a>(
     out: &mut Seq<u8>,
     word: &'a [u8],
     member: u64,
     end: &'a [u8],
 ) -> Result<(), OutOfMemory>
-    ensures { OnOk result (out.new ≡ out.old ++ concat (word.now ∷ decimal member ∷ end.now ∷ [])) }
+    ensures { Writes out.old out.new (concat (word.now ∷ decimal member ∷ end.now ∷ [])) result }
 {
     print(
         out,
@@ -160,18 +171,20 @@ pub(crate) fn print_member_head<'a>(
 }
 
 /// The head of a line on a transaction: the word, the transaction, and the text behind it.
+#[tactic(auto, using(crate::proofs::Appends::fronts))]
 pub(crate) fn print_tx_head<'a>(
     out: &mut Seq<u8>,
     word: &'a [u8],
     tx: &'a Seq<u8>,
     end: &'a [u8],
 ) -> Result<(), OutOfMemory>
-    ensures { OnOk result (out.new ≡ out.old ++ concat (word.now ∷ tx.now ∷ end.now ∷ [])) }
+    ensures { Writes out.old out.new (concat (word.now ∷ tx.now ∷ end.now ∷ [])) result }
 {
     print(out, &[Piece::Text(word), Piece::Name(tx), Piece::Text(end)])
 }
 
 /// The head of a line on a member and a transaction: the word, both, and the text behind them.
+#[tactic(auto, using(crate::proofs::Appends::fronts))]
 pub(crate) fn print_pair_head<'a>(
     out: &mut Seq<u8>,
     word: &'a [u8],
@@ -179,7 +192,7 @@ pub(crate) fn print_pair_head<'a>(
     tx: &'a Seq<u8>,
     end: &'a [u8],
 ) -> Result<(), OutOfMemory>
-    ensures { OnOk result (out.new ≡ out.old ++ concat (word.now ∷ decimal member ∷ codes " " ∷ tx.now ∷ end.now ∷ [])) }
+    ensures { Writes out.old out.new (concat (word.now ∷ decimal member ∷ codes " " ∷ tx.now ∷ end.now ∷ [])) result }
 {
     print(
         out,
@@ -193,29 +206,30 @@ pub(crate) fn print_pair_head<'a>(
     )
 }
 
+#[tactic(auto, using(crate::proofs::Appends::fronts))]
 pub(crate) fn print_origin(out: &mut Seq<u8>, origin: &Option<Seq<u8>>) -> Result<(), OutOfMemory>
-    ensures { OnOk result (out.new ≡ out.old ++ 32 ∷ origin_word origin.now) }
+    ensures { Writes out.old out.new (32 ∷ origin_word origin.now) result }
 {
-    out.push(b' ')?;
     match origin {
-        Some(tx) => out.extend(tx.as_slice()),
-        None => out.push(b'-'),
+        Some(tx) => print_name(out, tx.as_slice()),
+        None => out.extend(b" -"),
     }
 }
 
+#[tactic(auto, using(crate::proofs::Appends::fronts))]
 pub(crate) fn print_name(out: &mut Seq<u8>, name: &[u8]) -> Result<(), OutOfMemory>
-    ensures { OnOk result (out.new ≡ out.old ++ 32 ∷ name.now) }
+    ensures { Writes out.old out.new (32 ∷ name.now) result }
 {
     out.push(b' ')?;
     out.extend(name)
 }
 
-#[tactic(auto, unfolding(crate::specs::Text::origins_text))]
+#[tactic(auto, using(crate::proofs::Appends::fronts), unfolding(crate::specs::Text::origins_text))]
 pub(crate) fn print_origins(
     out: &mut Seq<u8>,
     origins: &Seq<Option<Seq<u8>>>,
 ) -> Result<(), OutOfMemory>
-    ensures { OnOk result (out.new ≡ out.old ++ origins_text origins.now) }
+    ensures { Writes out.old out.new (origins_text origins.now) result }
 {
     for origin in origins.as_slice() {
         print_origin(out, origin)?;
@@ -223,9 +237,9 @@ pub(crate) fn print_origins(
     Ok(())
 }
 
-#[tactic(auto, unfolding(crate::specs::Text::names_text))]
+#[tactic(auto, using(crate::proofs::Appends::fronts), unfolding(crate::specs::Text::names_text))]
 pub(crate) fn print_names(out: &mut Seq<u8>, names: &Seq<Seq<u8>>) -> Result<(), OutOfMemory>
-    ensures { OnOk result (out.new ≡ out.old ++ names_text names.now) }
+    ensures { Writes out.old out.new (names_text names.now) result }
 {
     for name in names.as_slice() {
         print_name(out, name.as_slice())?;
@@ -233,24 +247,32 @@ pub(crate) fn print_names(out: &mut Seq<u8>, names: &Seq<Seq<u8>>) -> Result<(),
     Ok(())
 }
 
-#[tactic(auto, unfolding(crate::specs::Text::numbers_text))]
+#[tactic(auto, using(crate::proofs::Appends::fronts))]
+pub(crate) fn print_spaced_number(out: &mut Seq<u8>, number: u64) -> Result<(), OutOfMemory>
+    ensures { Writes out.old out.new (32 ∷ decimal number) result }
+{
+    out.push(b' ')?;
+    print_number(out, number)
+}
+
+#[tactic(auto, using(crate::proofs::Appends::fronts), unfolding(crate::specs::Text::numbers_text))]
 pub(crate) fn print_numbers(out: &mut Seq<u8>, numbers: &Seq<u64>) -> Result<(), OutOfMemory>
-    ensures { OnOk result (out.new ≡ out.old ++ numbers_text numbers.now) }
+    ensures { Writes out.old out.new (numbers_text numbers.now) result }
 {
     for number in numbers.as_slice() {
-        out.push(b' ')?;
-        print_number(out, *number)?;
+        print_spaced_number(out, *number)?;
     }
     Ok(())
 }
 
 /// A word and names, where there are any.
+#[tactic(auto, using(crate::proofs::Appends::fronts))]
 pub(crate) fn print_part(
     out: &mut Seq<u8>,
     word: &[u8],
     names: &Seq<Seq<u8>>,
 ) -> Result<(), OutOfMemory>
-    ensures { OnOk result (out.new ≡ out.old ++ part_text word.now names.now) }
+    ensures { Writes out.old out.new (part_text word.now names.now) result }
 {
     if names.is_empty() {
         return Ok(());
@@ -259,12 +281,13 @@ pub(crate) fn print_part(
     print_names(out, names)
 }
 
+#[tactic(auto, using(crate::proofs::Appends::fronts))]
 pub(crate) fn print_taken(
     out: &mut Seq<u8>,
     admitted: &Seq<Seq<u8>>,
     dropped: &Seq<Seq<u8>>,
 ) -> Result<(), OutOfMemory>
-    ensures { OnOk result (out.new ≡ out.old ++ taken_text admitted.now dropped.now) }
+    ensures { Writes out.old out.new (taken_text admitted.now dropped.now) result }
 {
     if admitted.is_empty() {
         return print_part(out, b"dropped", dropped);
@@ -273,8 +296,20 @@ pub(crate) fn print_taken(
     print_part(out, b" dropped", dropped)
 }
 
+#[tactic(auto, using(crate::proofs::Appends::fronts))]
 pub(crate) fn print_only_if(out: &mut Seq<u8>, holds: bool, text: &[u8]) -> Result<(), OutOfMemory>
-    ensures { OnOk result (out.new ≡ out.old ++ only_if holds text.now) }
+    ensures { Writes out.old out.new (only_if holds text.now) result }
 {
     if holds { out.extend(text) } else { Ok(()) }
+}
+
+#[tactic(auto, using(crate::proofs::Appends::fronts))]
+pub(crate) fn print_kept(out: &mut Seq<u8>, kept: bool) -> Result<(), OutOfMemory>
+    ensures { Writes out.old out.new (kept_text kept) result }
+{
+    if kept {
+        out.extend(b"kept")
+    } else {
+        out.extend(b"lost")
+    }
 }

@@ -1,15 +1,17 @@
 //! The printer of a report's lines.
 
-ghost use Rattle.std.specs.Prelude.{◌≡◌, ◌∷◌, [], ◌++◌, OnOk, IsTrue, decimal, codes};
+ghost use Rattle.std.specs.Prelude.{◌≡◌, ◌∷◌, [], ◌++◌, IsTrue, decimal, codes};
 ghost use Rattle.std.specs.List.{concat};
 ghost use Rattle.report_text.specs.declared.lines.Line.TheVariants as line_of;
 ghost use Rattle.report_text.specs.Families.{is_vote_line, is_certificate_line, is_sequence_line, is_run_line, is_outcome_line, is_turn_line, is_member_line, is_total_line};
 ghost use Rattle.report_text.specs.Text.{body_of, text_of};
+ghost use Rattle.wire_bcs.specs.Wrote.{Writes};
 
 use crate::lines::Line;
 use crate::pieces::{
-    Piece, print, print_member_head, print_names, print_only_if, print_origins, print_pair_head,
-    print_two_names, print_two_numbers, print_tx_head, print_with_name, print_with_number,
+    Piece, print, print_kept, print_member_head, print_names, print_only_if, print_origins,
+    print_pair_head, print_two_names, print_two_numbers, print_tx_head, print_with_name,
+    print_with_number,
 };
 use crate::texts::{
     print_ack_text, print_cert_text, print_close_text, print_content_text, print_end_text,
@@ -20,10 +22,10 @@ use crate::texts::{
 use wire_bcs::{OutOfMemory, Seq};
 
 /// Prints a line on a transaction that is made or voted for.
-#[tactic(auto, unfolding(crate::specs::Text::body_of))]
+#[tactic(auto, using(crate::proofs::Appends::fronts), unfolding(crate::specs::Text::body_of))]
 fn print_vote_line(out: &mut Seq<u8>, line: &Line) -> Result<(), OutOfMemory>
     requires { IsTrue (is_vote_line line.now) }
-    ensures { OnOk result (out.new ≡ out.old ++ body_of line.now) }
+    ensures { Writes out.old out.new (body_of line.now) result }
 {
     match line {
         Line::TxMade { tx } => print_tx_head(out, b"tx ", tx, b": made"),
@@ -48,10 +50,10 @@ fn print_vote_line(out: &mut Seq<u8>, line: &Line) -> Result<(), OutOfMemory>
 }
 
 /// Prints a line on a certificate, or on acknowledgements.
-#[tactic(auto, unfolding(crate::specs::Text::body_of))]
+#[tactic(auto, using(crate::proofs::Appends::fronts), unfolding(crate::specs::Text::body_of))]
 fn print_certificate_line(out: &mut Seq<u8>, line: &Line) -> Result<(), OutOfMemory>
     requires { IsTrue (is_certificate_line line.now) }
-    ensures { OnOk result (out.new ≡ out.old ++ body_of line.now) }
+    ensures { Writes out.old out.new (body_of line.now) result }
 {
     match line {
         Line::Cert { tx, text } => {
@@ -79,8 +81,9 @@ fn print_certificate_line(out: &mut Seq<u8>, line: &Line) -> Result<(), OutOfMem
 }
 
 /// The head of a line on a member's entry.
+#[tactic(auto, using(crate::proofs::Appends::fronts))]
 fn print_entry_head(out: &mut Seq<u8>, member: u64, entry: u64) -> Result<(), OutOfMemory>
-    ensures { OnOk result (out.new ≡ out.old ++ concat (codes "see " ∷ decimal member ∷ codes " entry " ∷ decimal entry ∷ codes ": " ∷ [])) }
+    ensures { Writes out.old out.new (concat (codes "see " ∷ decimal member ∷ codes " entry " ∷ decimal entry ∷ codes ": " ∷ [])) result }
 {
     print(
         out,
@@ -95,10 +98,10 @@ fn print_entry_head(out: &mut Seq<u8>, member: u64, entry: u64) -> Result<(), Ou
 }
 
 /// Prints a line on the sequence.
-#[tactic(auto, unfolding(crate::specs::Text::body_of))]
+#[tactic(auto, using(crate::proofs::Appends::fronts), unfolding(crate::specs::Text::body_of))]
 fn print_sequence_line(out: &mut Seq<u8>, line: &Line) -> Result<(), OutOfMemory>
     requires { IsTrue (is_sequence_line line.now) }
-    ensures { OnOk result (out.new ≡ out.old ++ body_of line.now) }
+    ensures { Writes out.old out.new (body_of line.now) result }
 {
     match line {
         Line::Order { tx, text } => {
@@ -127,10 +130,10 @@ fn print_sequence_line(out: &mut Seq<u8>, line: &Line) -> Result<(), OutOfMemory
 }
 
 /// Prints a line on what a member runs, where no transaction was executed.
-#[tactic(auto, unfolding(crate::specs::Text::body_of))]
+#[tactic(auto, using(crate::proofs::Appends::fronts), unfolding(crate::specs::Text::body_of))]
 fn print_run_line(out: &mut Seq<u8>, line: &Line) -> Result<(), OutOfMemory>
     requires { IsTrue (is_run_line line.now) }
-    ensures { OnOk result (out.new ≡ out.old ++ body_of line.now) }
+    ensures { Writes out.old out.new (body_of line.now) result }
 {
     match line {
         Line::Run { member, text } => {
@@ -149,7 +152,7 @@ fn print_run_line(out: &mut Seq<u8>, line: &Line) -> Result<(), OutOfMemory>
 }
 
 /// Prints the line of an execution that failed.
-#[tactic(auto, unfolding(crate::specs::Text::body_of))]
+#[tactic(auto, using(crate::proofs::Appends::fronts), unfolding(crate::specs::Text::body_of))]
 fn print_failed(
     out: &mut Seq<u8>,
     tx: &Seq<u8>,
@@ -158,7 +161,7 @@ fn print_failed(
     version: u64,
     gas: u64,
 ) -> Result<(), OutOfMemory>
-    ensures { OnOk result (out.new ≡ out.old ++ body_of (line_of.Failed tx.now command cause version gas)) }
+    ensures { Writes out.old out.new (body_of (line_of.Failed tx.now command cause version gas)) result }
 {
     print(
         out,
@@ -178,7 +181,7 @@ fn print_failed(
 }
 
 /// Prints the line of an execution that a native aborted.
-#[tactic(auto, unfolding(crate::specs::Text::body_of))]
+#[tactic(auto, using(crate::proofs::Appends::fronts), unfolding(crate::specs::Text::body_of))]
 fn print_aborted(
     out: &mut Seq<u8>,
     tx: &Seq<u8>,
@@ -187,7 +190,7 @@ fn print_aborted(
     version: u64,
     gas: u64,
 ) -> Result<(), OutOfMemory>
-    ensures { OnOk result (out.new ≡ out.old ++ body_of (line_of.Aborted tx.now command code version gas)) }
+    ensures { Writes out.old out.new (body_of (line_of.Aborted tx.now command code version gas)) result }
 {
     print(
         out,
@@ -207,10 +210,10 @@ fn print_aborted(
 }
 
 /// Prints the line of an execution.
-#[tactic(auto, unfolding(crate::specs::Text::body_of))]
+#[tactic(auto, using(crate::proofs::Appends::fronts), unfolding(crate::specs::Text::body_of))]
 fn print_outcome_line(out: &mut Seq<u8>, line: &Line) -> Result<(), OutOfMemory>
     requires { IsTrue (is_outcome_line line.now) }
-    ensures { OnOk result (out.new ≡ out.old ++ body_of line.now) }
+    ensures { Writes out.old out.new (body_of line.now) result }
 {
     match line {
         Line::Done { tx, version, gas } => print(
@@ -243,10 +246,10 @@ fn print_outcome_line(out: &mut Seq<u8>, line: &Line) -> Result<(), OutOfMemory>
 }
 
 /// Prints a line on the end of a member's epoch, or on its turn to the next.
-#[tactic(auto, unfolding(crate::specs::Text::body_of))]
+#[tactic(auto, using(crate::proofs::Appends::fronts), unfolding(crate::specs::Text::body_of))]
 fn print_turn_line(out: &mut Seq<u8>, line: &Line) -> Result<(), OutOfMemory>
     requires { IsTrue (is_turn_line line.now) }
-    ensures { OnOk result (out.new ≡ out.old ++ body_of line.now) }
+    ensures { Writes out.old out.new (body_of line.now) result }
 {
     match line {
         Line::Close { member, text } => {
@@ -267,8 +270,9 @@ fn print_turn_line(out: &mut Seq<u8>, line: &Line) -> Result<(), OutOfMemory>
 }
 
 /// The head of a line on an object that is shown.
+#[tactic(auto, using(crate::proofs::Appends::fronts))]
 fn print_object_head(out: &mut Seq<u8>, object: &Seq<u8>, version: u64) -> Result<(), OutOfMemory>
-    ensures { OnOk result (out.new ≡ out.old ++ concat (codes "  " ∷ object.now ∷ codes " v" ∷ decimal version ∷ codes " " ∷ [])) }
+    ensures { Writes out.old out.new (concat (codes "  " ∷ object.now ∷ codes " v" ∷ decimal version ∷ codes " " ∷ [])) result }
 {
     print(
         out,
@@ -283,15 +287,15 @@ fn print_object_head(out: &mut Seq<u8>, object: &Seq<u8>, version: u64) -> Resul
 }
 
 /// Prints a line on a member that stops, begins again or is shown.
-#[tactic(auto, unfolding(crate::specs::Text::body_of))]
+#[tactic(auto, using(crate::proofs::Appends::fronts), unfolding(crate::specs::Text::body_of))]
 fn print_member_line(out: &mut Seq<u8>, line: &Line) -> Result<(), OutOfMemory>
     requires { IsTrue (is_member_line line.now) }
-    ensures { OnOk result (out.new ≡ out.old ++ body_of line.now) }
+    ensures { Writes out.old out.new (body_of line.now) result }
 {
     match line {
         Line::Stop { member, kept } => {
             print_member_head(out, b"stop ", *member, b": armed ")?;
-            out.extend(if *kept { b"kept" } else { b"lost" })
+            print_kept(out, *kept)
         }
         Line::Restart { member, text } => {
             print_member_head(out, b"restart ", *member, b": ")?;
@@ -317,10 +321,10 @@ fn print_member_line(out: &mut Seq<u8>, line: &Line) -> Result<(), OutOfMemory>
 }
 
 /// Prints the line on a whole run, or the refusal of a schedule.
-#[tactic(auto, unfolding(crate::specs::Text::body_of))]
+#[tactic(auto, using(crate::proofs::Appends::fronts), unfolding(crate::specs::Text::body_of))]
 fn print_total_line(out: &mut Seq<u8>, line: &Line) -> Result<(), OutOfMemory>
     requires { IsTrue (is_total_line line.now) }
-    ensures { OnOk result (out.new ≡ out.old ++ body_of line.now) }
+    ensures { Writes out.old out.new (body_of line.now) result }
 {
     match line {
         Line::Make {
@@ -351,8 +355,9 @@ fn print_total_line(out: &mut Seq<u8>, line: &Line) -> Result<(), OutOfMemory>
     }
 }
 
+#[tactic(auto, using(crate::proofs::Appends::fronts))]
 fn print_body(out: &mut Seq<u8>, line: &Line) -> Result<(), OutOfMemory>
-    ensures { OnOk result (out.new ≡ out.old ++ body_of line.now) }
+    ensures { Writes out.old out.new (body_of line.now) result }
 {
     match line {
         Line::TxMade { .. } | Line::Vote { .. } | Line::Fvote { .. } | Line::RawVote { .. } =>
@@ -380,10 +385,10 @@ fn print_body(out: &mut Seq<u8>, line: &Line) -> Result<(), OutOfMemory>
     }
 }
 
-/// Appends the bytes of the line. After a refusal `out` may hold a part of them.
-#[tactic(auto, unfolding(crate::specs::Text::text_of))]
+/// Appends the bytes of the line. After a refusal `out` holds what stood in it and a front of the line.
+#[tactic(auto, using(crate::proofs::Appends::fronts), unfolding(crate::specs::Text::text_of))]
 pub fn print_line(line: &Line, out: &mut Seq<u8>) -> Result<(), OutOfMemory>
-    ensures { OnOk result (out.new ≡ out.old ++ text_of line.now) }
+    ensures { Writes out.old out.new (text_of line.now) result }
 {
     print_body(out, line)?;
     out.push(b'\n')

@@ -1,8 +1,9 @@
 //! The texts that end a line, behind its head.
 
-ghost use Rattle.std.specs.Prelude.{◌≡◌, ◌∷◌, [], ◌++◌, OnOk, decimal, codes};
+ghost use Rattle.std.specs.Prelude.{◌≡◌, ◌∷◌, [], ◌++◌, decimal, codes};
 ghost use Rattle.std.specs.List.{concat};
 ghost use Rattle.report_text.specs.Text.{only_if, vote_text, cert_text, send_text, order_text, order_end_text, see_text, entry_text, run_text, close_text, end_text, turn_text, restart_text, show_text, ack_text, final_text, owner_text, content_text};
+ghost use Rattle.wire_bcs.specs.Wrote.{Writes};
 
 use crate::lines::{
     AckText, CertText, CloseText, ContentText, EndText, EntryText, FinalText, OrderEndText,
@@ -15,9 +16,9 @@ use crate::pieces::{
 };
 use wire_bcs::{OutOfMemory, Seq};
 
-#[tactic(auto, unfolding(crate::specs::Text::vote_text))]
+#[tactic(auto, using(crate::proofs::Appends::fronts), unfolding(crate::specs::Text::vote_text))]
 pub(crate) fn print_vote_text(out: &mut Seq<u8>, text: &VoteText) -> Result<(), OutOfMemory>
-    ensures { OnOk result (out.new ≡ out.old ++ vote_text text.now) }
+    ensures { Writes out.old out.new (vote_text text.now) result }
 {
     match text {
         VoteText::Voted { origins } => {
@@ -53,9 +54,9 @@ pub(crate) fn print_vote_text(out: &mut Seq<u8>, text: &VoteText) -> Result<(), 
     }
 }
 
-#[tactic(auto, unfolding(crate::specs::Text::cert_text))]
+#[tactic(auto, using(crate::proofs::Appends::fronts), unfolding(crate::specs::Text::cert_text))]
 pub(crate) fn print_cert_text(out: &mut Seq<u8>, text: &CertText) -> Result<(), OutOfMemory>
-    ensures { OnOk result (out.new ≡ out.old ++ cert_text text.now) }
+    ensures { Writes out.old out.new (cert_text text.now) result }
 {
     match text {
         CertText::NoVote { member } => print_with_number(out, b"no vote of ", *member),
@@ -70,9 +71,9 @@ pub(crate) fn print_cert_text(out: &mut Seq<u8>, text: &CertText) -> Result<(), 
     }
 }
 
-#[tactic(auto, unfolding(crate::specs::Text::send_text))]
+#[tactic(auto, using(crate::proofs::Appends::fronts), unfolding(crate::specs::Text::send_text))]
 pub(crate) fn print_send_text(out: &mut Seq<u8>, text: &SendText) -> Result<(), OutOfMemory>
-    ensures { OnOk result (out.new ≡ out.old ++ send_text text.now) }
+    ensures { Writes out.old out.new (send_text text.now) result }
 {
     match text {
         SendText::NoCertificate => out.extend(b"no certificate"),
@@ -99,9 +100,9 @@ pub(crate) fn print_send_text(out: &mut Seq<u8>, text: &SendText) -> Result<(), 
     }
 }
 
-#[tactic(auto, unfolding(crate::specs::Text::order_text))]
+#[tactic(auto, using(crate::proofs::Appends::fronts), unfolding(crate::specs::Text::order_text))]
 pub(crate) fn print_order_text(out: &mut Seq<u8>, text: &OrderText) -> Result<(), OutOfMemory>
-    ensures { OnOk result (out.new ≡ out.old ++ order_text text.now) }
+    ensures { Writes out.old out.new (order_text text.now) result }
 {
     match text {
         OrderText::Entry { entry } => print_with_number(out, b"entry ", *entry),
@@ -110,12 +111,12 @@ pub(crate) fn print_order_text(out: &mut Seq<u8>, text: &OrderText) -> Result<()
     }
 }
 
-#[tactic(auto, unfolding(crate::specs::Text::order_end_text))]
+#[tactic(auto, using(crate::proofs::Appends::fronts), unfolding(crate::specs::Text::order_end_text))]
 pub(crate) fn print_order_end_text(
     out: &mut Seq<u8>,
     text: &OrderEndText,
 ) -> Result<(), OutOfMemory>
-    ensures { OnOk result (out.new ≡ out.old ++ order_end_text text.now) }
+    ensures { Writes out.old out.new (order_end_text text.now) result }
 {
     match text {
         OrderEndText::Entry { entry } => print_with_number(out, b"entry ", *entry),
@@ -124,9 +125,9 @@ pub(crate) fn print_order_end_text(
     }
 }
 
-#[tactic(auto, unfolding(crate::specs::Text::see_text))]
+#[tactic(auto, using(crate::proofs::Appends::fronts), unfolding(crate::specs::Text::see_text))]
 pub(crate) fn print_see_text(out: &mut Seq<u8>, text: &SeeText) -> Result<(), OutOfMemory>
-    ensures { OnOk result (out.new ≡ out.old ++ see_text text.now) }
+    ensures { Writes out.old out.new (see_text text.now) result }
 {
     match text {
         SeeText::Nothing => out.extend(b"nothing"),
@@ -137,6 +138,7 @@ pub(crate) fn print_see_text(out: &mut Seq<u8>, text: &SeeText) -> Result<(), Ou
 }
 
 /// An End statement of a member, and the weight of those so far.
+#[tactic(auto, using(crate::proofs::Appends::fronts))]
 fn print_end_of(
     out: &mut Seq<u8>,
     member: u64,
@@ -144,7 +146,7 @@ fn print_end_of(
     total: u64,
     ended: bool,
 ) -> Result<(), OutOfMemory>
-    ensures { OnOk result (out.new ≡ out.old ++ (concat (codes "end of " ∷ decimal member ∷ codes " weight " ∷ decimal weight ∷ codes " of " ∷ decimal total ∷ []) ++ only_if ended (codes ", epoch ended"))) }
+    ensures { Writes out.old out.new ((concat (codes "end of " ∷ decimal member ∷ codes " weight " ∷ decimal weight ∷ codes " of " ∷ decimal total ∷ []) ++ only_if ended (codes ", epoch ended"))) result }
 {
     print(
         out,
@@ -160,9 +162,9 @@ fn print_end_of(
     print_only_if(out, ended, b", epoch ended")
 }
 
-#[tactic(auto, unfolding(crate::specs::Text::entry_text))]
+#[tactic(auto, using(crate::proofs::Appends::fronts), unfolding(crate::specs::Text::entry_text))]
 pub(crate) fn print_entry_text(out: &mut Seq<u8>, text: &EntryText) -> Result<(), OutOfMemory>
-    ensures { OnOk result (out.new ≡ out.old ++ entry_text text.now) }
+    ensures { Writes out.old out.new (entry_text text.now) result }
 {
     match text {
         EntryText::Taken { admitted, dropped } => print_taken(out, admitted, dropped),
@@ -192,9 +194,9 @@ pub(crate) fn print_entry_text(out: &mut Seq<u8>, text: &EntryText) -> Result<()
     }
 }
 
-#[tactic(auto, unfolding(crate::specs::Text::run_text))]
+#[tactic(auto, using(crate::proofs::Appends::fronts), unfolding(crate::specs::Text::run_text))]
 pub(crate) fn print_run_text(out: &mut Seq<u8>, text: &RunText) -> Result<(), OutOfMemory>
-    ensures { OnOk result (out.new ≡ out.old ++ run_text text.now) }
+    ensures { Writes out.old out.new (run_text text.now) result }
 {
     match text {
         RunText::Executed { count } => print_with_number(out, b"executed ", *count),
@@ -205,9 +207,9 @@ pub(crate) fn print_run_text(out: &mut Seq<u8>, text: &RunText) -> Result<(), Ou
     }
 }
 
-#[tactic(auto, unfolding(crate::specs::Text::close_text))]
+#[tactic(auto, using(crate::proofs::Appends::fronts), unfolding(crate::specs::Text::close_text))]
 pub(crate) fn print_close_text(out: &mut Seq<u8>, text: &CloseText) -> Result<(), OutOfMemory>
-    ensures { OnOk result (out.new ≡ out.old ++ close_text text.now) }
+    ensures { Writes out.old out.new (close_text text.now) result }
 {
     match text {
         CloseText::Closed => out.extend(b"closed"),
@@ -219,9 +221,9 @@ pub(crate) fn print_close_text(out: &mut Seq<u8>, text: &CloseText) -> Result<()
     }
 }
 
-#[tactic(auto, unfolding(crate::specs::Text::end_text))]
+#[tactic(auto, using(crate::proofs::Appends::fronts), unfolding(crate::specs::Text::end_text))]
 pub(crate) fn print_end_text(out: &mut Seq<u8>, text: &EndText) -> Result<(), OutOfMemory>
-    ensures { OnOk result (out.new ≡ out.old ++ end_text text.now) }
+    ensures { Writes out.old out.new (end_text text.now) result }
 {
     match text {
         EndText::Said => out.extend(b"said"),
@@ -232,9 +234,9 @@ pub(crate) fn print_end_text(out: &mut Seq<u8>, text: &EndText) -> Result<(), Ou
     }
 }
 
-#[tactic(auto, unfolding(crate::specs::Text::turn_text))]
+#[tactic(auto, using(crate::proofs::Appends::fronts), unfolding(crate::specs::Text::turn_text))]
 pub(crate) fn print_turn_text(out: &mut Seq<u8>, text: &TurnText) -> Result<(), OutOfMemory>
-    ensures { OnOk result (out.new ≡ out.old ++ turn_text text.now) }
+    ensures { Writes out.old out.new (turn_text text.now) result }
 {
     match text {
         TurnText::Turned { epoch, reverted } => {
@@ -249,9 +251,9 @@ pub(crate) fn print_turn_text(out: &mut Seq<u8>, text: &TurnText) -> Result<(), 
     }
 }
 
-#[tactic(auto, unfolding(crate::specs::Text::restart_text))]
+#[tactic(auto, using(crate::proofs::Appends::fronts), unfolding(crate::specs::Text::restart_text))]
 pub(crate) fn print_restart_text(out: &mut Seq<u8>, text: &RestartText) -> Result<(), OutOfMemory>
-    ensures { OnOk result (out.new ≡ out.old ++ restart_text text.now) }
+    ensures { Writes out.old out.new (restart_text text.now) result }
 {
     match text {
         RestartText::Records { count } => print_with_number(out, b"records ", *count),
@@ -259,9 +261,9 @@ pub(crate) fn print_restart_text(out: &mut Seq<u8>, text: &RestartText) -> Resul
     }
 }
 
-#[tactic(auto, unfolding(crate::specs::Text::show_text))]
+#[tactic(auto, using(crate::proofs::Appends::fronts), unfolding(crate::specs::Text::show_text))]
 pub(crate) fn print_show_text(out: &mut Seq<u8>, text: &ShowText) -> Result<(), OutOfMemory>
-    ensures { OnOk result (out.new ≡ out.old ++ show_text text.now) }
+    ensures { Writes out.old out.new (show_text text.now) result }
 {
     match text {
         ShowText::Shown { epoch, objects } => {
@@ -271,9 +273,9 @@ pub(crate) fn print_show_text(out: &mut Seq<u8>, text: &ShowText) -> Result<(), 
     }
 }
 
-#[tactic(auto, unfolding(crate::specs::Text::ack_text))]
+#[tactic(auto, using(crate::proofs::Appends::fronts), unfolding(crate::specs::Text::ack_text))]
 pub(crate) fn print_ack_text(out: &mut Seq<u8>, text: &AckText) -> Result<(), OutOfMemory>
-    ensures { OnOk result (out.new ≡ out.old ++ ack_text text.now) }
+    ensures { Writes out.old out.new (ack_text text.now) result }
 {
     match text {
         AckText::Said => out.extend(b"said"),
@@ -283,9 +285,9 @@ pub(crate) fn print_ack_text(out: &mut Seq<u8>, text: &AckText) -> Result<(), Ou
     }
 }
 
-#[tactic(auto, unfolding(crate::specs::Text::final_text))]
+#[tactic(auto, using(crate::proofs::Appends::fronts), unfolding(crate::specs::Text::final_text))]
 pub(crate) fn print_final_text(out: &mut Seq<u8>, text: &FinalText) -> Result<(), OutOfMemory>
-    ensures { OnOk result (out.new ≡ out.old ++ final_text text.now) }
+    ensures { Writes out.old out.new (final_text text.now) result }
 {
     match text {
         FinalText::NoAck { member } => print_with_number(out, b"no ack of ", *member),
@@ -300,9 +302,9 @@ pub(crate) fn print_final_text(out: &mut Seq<u8>, text: &FinalText) -> Result<()
     }
 }
 
-#[tactic(auto, unfolding(crate::specs::Text::owner_text))]
+#[tactic(auto, using(crate::proofs::Appends::fronts), unfolding(crate::specs::Text::owner_text))]
 pub(crate) fn print_owner_text(out: &mut Seq<u8>, text: &OwnerText) -> Result<(), OutOfMemory>
-    ensures { OnOk result (out.new ≡ out.old ++ owner_text text.now) }
+    ensures { Writes out.old out.new (owner_text text.now) result }
 {
     match text {
         OwnerText::Address { name } => print(out, &[Piece::Name(name)]),
@@ -311,9 +313,9 @@ pub(crate) fn print_owner_text(out: &mut Seq<u8>, text: &OwnerText) -> Result<()
     }
 }
 
-#[tactic(auto, unfolding(crate::specs::Text::content_text))]
+#[tactic(auto, using(crate::proofs::Appends::fronts), unfolding(crate::specs::Text::content_text))]
 pub(crate) fn print_content_text(out: &mut Seq<u8>, text: &ContentText) -> Result<(), OutOfMemory>
-    ensures { OnOk result (out.new ≡ out.old ++ content_text text.now) }
+    ensures { Writes out.old out.new (content_text text.now) result }
 {
     match text {
         ContentText::Coin { currency, balance } => {

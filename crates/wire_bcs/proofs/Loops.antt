@@ -57,7 +57,7 @@ is_done {A} one front count i p total le so_far =
 
 -- ---- writing
 
-parts_of : {A : Type 0} (spell : A → List ℕ) (xs : List A) (i : ℕ) (x : A) → i < length xs → x ≡ get_or xs i x
+pub parts_of : {A : Type 0} (spell : A → List ℕ) (xs : List A) (i : ℕ) (x : A) → i < length xs → x ≡ get_or xs i x
     → flat_map spell xs ≡ flat_map spell (take i xs) ++ (spell x ++ flat_map spell (drop (i + 1) xs))
 parts_of {A} spell xs i x lt e =
     let rest : drop i xs ≡ x ∷ drop (i + 1) xs = drop_more xs i x lt ∙ ap (λ (y : A). y ∷ drop (i + 1) xs) (sym e) in

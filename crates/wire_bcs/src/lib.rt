@@ -23,5 +23,5 @@ pub use copies::Duplicate;
 pub use fault::{Unread, WireFault};
 pub use reader::Reader;
 pub use seq::{OutOfMemory, Seq};
-pub use wire::{Wire, decode, encode, one_spelling, read_is_spelled, spelled_is_read};
+pub use wire::{Wire, decode, encode, one_spelling, read, read_is_spelled, spelled_is_read};
 pub use writer::Writer;

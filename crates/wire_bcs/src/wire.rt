@@ -1,6 +1,6 @@
 //! Values on the wire.
 
-ghost use Rattle.std.specs.Prelude.{◌≡◌, ◌<◌, ◌++◌, List, ℕ, IfOk, Ok, length};
+ghost use Rattle.std.specs.Prelude.{◌≡◌, ◌<◌, ◌++◌, List, ℕ, IfOk, IsErrOf, Ok, length};
 ghost use Rattle.wire_bcs.specs.Codec.{Codec};
 ghost use Rattle.wire_bcs.specs.Place.{Place, Takes, IsBytes, left, forward};
 ghost use Rattle.wire_bcs.specs.Digests.{digest};
@@ -8,6 +8,7 @@ ghost use Rattle.wire_bcs.specs.Shapes.{seq, option};
 ghost use Rattle.wire_bcs.specs.Whole.{whole};
 ghost use Rattle.wire_bcs.specs.Wrote.{Writes};
 ghost use Rattle.wire_bcs.specs.Gives.{Gives, Ahead, Decodes};
+ghost use Rattle.wire_bcs.specs.declared.fault.Unread.TheVariants as unread;
 
 use crate::fault::Unread;
 use crate::reader::Reader;
@@ -26,7 +27,8 @@ pub trait Wire: Drop {
         ensures { Writes writer.old writer.new (codec.spell self.now) result };
 
     /// Reads one value from the front of what is left, or tells the first fault and stands there. Where
-    /// memory is refused the reader stands in the same input, and not before.
+    /// memory is refused the reader stands in the same input, and not before. Who reads several values
+    /// from one reader calls [`read`].
     fn read_from(alloc: Global, reader: &mut Reader) -> Result<Self, Unread>
         ensures exact { Gives reader.new result (codec.read reader.old) }
         ensures ahead { Ahead reader.old reader.new };
@@ -107,6 +109,24 @@ pub fn encode<T: Wire>(alloc: Global, value: &T) -> Result<Seq<u8>, OutOfMemory>
     let mut writer = Writer::with_room(alloc, FIRST_ROOM)?;
     value.write_into(&mut writer)?;
     Ok(writer.finish())
+}
+
+/// Reads one value from the front of what is left, or tells the first fault and stands there. Where memory
+/// is refused the reader stands where it stood, so the call may be made again.
+pub fn read<T: Wire>(alloc: Global, reader: &mut Reader) -> Result<T, Unread>
+    ensures exact { Gives reader.new result (T.codec.read reader.old) }
+    ensures ahead { Ahead reader.old reader.new }
+    ensures back { IsErrOf result unread.OutOfMemory → reader.new ≡ reader.old }
+{
+    let front = reader.mark();
+    match T::read_from(alloc, reader) {
+        Ok(value) => Ok(value),
+        Err(Unread::Wire(fault)) => Err(Unread::Wire(fault)),
+        Err(Unread::OutOfMemory) => {
+            *reader = front;
+            Err(Unread::OutOfMemory)
+        }
+    }
 }
 
 /// The value that all the bytes spell. A fault comes exactly where there is none, and is the first.

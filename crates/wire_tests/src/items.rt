@@ -1,8 +1,10 @@
-use crate::rows::{Refused, first_wrong, is_spelling, reads};
+use crate::rows::{Refused, first_wrong, is_spelling, joined, reads};
 use digest_core::Digest;
 use std::alloc::Global;
 use std::test::Fail;
-use wire_bcs::{Duplicate, OutOfMemory, Reader, Seq, Unread, WireFault, Writer, decode};
+use wire_bcs::{
+    Duplicate, OutOfMemory, Reader, Seq, Unread, WireFault, Writer, decode, read,
+};
 
 fn puts_items(writer: &mut Writer) -> Result<(), OutOfMemory> {
     writer.put_len(9487)?;
@@ -269,5 +271,37 @@ fn reads_lists_of_options(rt: HostRuntime) -> Result<(), Fail> {
     assert!(rt; is_spelling::<Seq<Option<Digest>>>(rt.alloc(), &[&[1, 0]]));
     let wrong = first_wrong::<Seq<Option<Digest>>>(rt.alloc(), &[&[2, 0, 0]], NO_ORIGINS)?;
     assert_eq!(rt; wrong, None);
+    Ok(())
+}
+
+/// How many items the list at the front has, or the fault.
+fn count_of(alloc: Global, reader: &mut Reader) -> Result<u64, Unread> {
+    let list: Seq<Option<Digest>> = read(alloc, reader)?;
+    let count = list.len();
+    drop(list);
+    Ok(count)
+}
+
+/// Two values from one reader, a digest or none and then the items of a list of these; and the place behind them.
+fn reads_two(
+    alloc: Global,
+    bytes: &[u8],
+) -> (Result<Option<Digest>, Unread>, Result<u64, Unread>, u64) {
+    let mut reader = Reader::new(bytes);
+    let first = read(alloc, &mut reader);
+    let second = count_of(alloc, &mut reader);
+    (first, second, reader.at())
+}
+
+/// No digest. Then a list of two: none, and a bool that is none.
+const NO_SECOND: &[u8] = &[0, 2, 0, 2];
+
+#[test]
+fn reads_one_behind_the_other(rt: HostRuntime) -> Result<(), Fail> {
+    let pieces = joined(rt.alloc(), &[&[1], &[7; 32], &[2, 0, 0]])?;
+    let found = reads_two(rt.alloc(), pieces.as_slice());
+    assert_eq!(rt; found, (Ok(Some(Digest([7; 32]))), Ok(2), 36));
+    let refused = Err(Unread::Wire(fault(3, 2)));
+    assert_eq!(rt; reads_two(rt.alloc(), NO_SECOND), (Ok(None), refused, 3));
     Ok(())
 }
