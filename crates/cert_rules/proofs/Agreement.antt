@@ -3,7 +3,8 @@ use Rattle.std.proofs.Common.{◌≡◌, ℕ, ◌<◌, ◌≤◌, List, [], ◌�
 use Rattle.std.specs.Prelude.{◌==◌, nat_lt, not, map, option_map}
 use Rattle.std.proofs.lemmas.Bool.{and_parts, eq-eqb, eqb-true, ltb-true}
 use Rattle.digest_core.specs.declared.Digest.{Digest}
-use Rattle.quorum_core.specs.Committee.{all_known, ascends, is_quorum, is_roll, total_of, weight}
+use Rattle.wire_bcs.specs.Ascending.{ascends}
+use Rattle.quorum_core.specs.Committee.{all_known, is_quorum, is_roll, total_of, weight}
 use Rattle.chain_types.specs.Digests.{transaction_digest}
 use Rattle.chain_types.specs.declared.refusals.CertRefusal.TheVariants as refused
 use Rattle.chain_types.specs.declared.transactions.Transaction.{Transaction}
