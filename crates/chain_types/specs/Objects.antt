@@ -48,10 +48,10 @@ owner = by owner_to owner_from
     (elim [ owners.Address a ↦ refl | owners.Shared initial ↦ refl | owners.Immutable ↦ refl ])
     (elim [ inl a ↦ refl | inr (inl initial) ↦ refl | inr (inr u) ↦ refl ])
     (choice
-        (case 0 address     -- Address
-        (case 1 (number 8)  -- Shared
-        (last 2 nothing)    -- Immutable
-        refl) refl) refl)
+    (case 0 address  -- Address
+    (case 1 (number 8)  -- Shared
+    (last 2 nothing)  -- Immutable
+    refl) refl) refl)
 
 -- ---- Coin 0, Cap 1, Counter 2, Vault 3, VaultKey 4, Limit 5
 
@@ -79,13 +79,13 @@ kind = by kind_to kind_from
     (elim [ kinds.Coin ↦ refl | kinds.Cap ↦ refl | kinds.Counter ↦ refl | kinds.Vault ↦ refl | kinds.VaultKey ↦ refl | kinds.Limit ↦ refl ])
     (elim [ inl u ↦ refl | inr (inl u) ↦ refl | inr (inr (inl u)) ↦ refl | inr (inr (inr (inl u))) ↦ refl | inr (inr (inr (inr (inl u)))) ↦ refl | inr (inr (inr (inr (inr u)))) ↦ refl ])
     (choice
-        (case 0 nothing   -- Coin
-        (case 1 nothing   -- Cap
-        (case 2 nothing   -- Counter
-        (case 3 nothing   -- Vault
-        (case 4 nothing   -- VaultKey
-        (last 5 nothing)  -- Limit
-        refl) refl) refl) refl) refl) refl)
+    (case 0 nothing  -- Coin
+    (case 1 nothing  -- Cap
+    (case 2 nothing  -- Counter
+    (case 3 nothing  -- Vault
+    (case 4 nothing  -- VaultKey
+    (last 5 nothing)  -- Limit
+    refl) refl) refl) refl) refl) refl)
 
 -- ---- Coin 0 (currency, balance); Cap 1 (currency, supply); Counter 2 (value); Vault 3 (currency, balance); VaultKey 4 (vault); Limit 5 (value)
 
@@ -113,13 +113,13 @@ content = by content_to content_from
     (elim [ contents.Coin a b ↦ refl | contents.Cap a b ↦ refl | contents.Counter a ↦ refl | contents.Vault a b ↦ refl | contents.VaultKey a ↦ refl | contents.Limit a ↦ refl ])
     (elim [ inl p ↦ refl | inr (inl p) ↦ refl | inr (inr (inl a)) ↦ refl | inr (inr (inr (inl p))) ↦ refl | inr (inr (inr (inr (inl a)))) ↦ refl | inr (inr (inr (inr (inr a)))) ↦ refl ])
     (choice
-        (case 0 (pair (number 8) (number 8))  -- Coin
-        (case 1 (pair (number 8) (number 8))  -- Cap
-        (case 2 (number 8)                    -- Counter
-        (case 3 (pair (number 8) (number 8))  -- Vault
-        (case 4 object_id                     -- VaultKey
-        (last 5 (number 8))                   -- Limit
-        refl) refl) refl) refl) refl) refl)
+    (case 0 (pair (number 8) (number 8))  -- Coin
+    (case 1 (pair (number 8) (number 8))  -- Cap
+    (case 2 (number 8)  -- Counter
+    (case 3 (pair (number 8) (number 8))  -- Vault
+    (case 4 object_id  -- VaultKey
+    (last 5 (number 8))  -- Limit
+    refl) refl) refl) refl) refl) refl)
 
 -- id, version, owner, content
 unfoldable pub object : Codec Object

@@ -41,11 +41,11 @@ input = by input_to input_from
     (elim [ inputs.Pure b ↦ refl | inputs.Owned r ↦ refl | inputs.Immutable r ↦ refl | inputs.Shared i v m ↦ refl ])
     (elim [ inl b ↦ refl | inr (inl r) ↦ refl | inr (inr (inl r)) ↦ refl | inr (inr (inr p)) ↦ refl ])
     (choice
-        (case 0 bytes_codec                                     -- Pure
-        (case 1 object_ref                                      -- Owned
-        (case 2 object_ref                                      -- Immutable
-        (last 3 (pair object_id (pair (number 8) bool_codec)))  -- Shared
-        refl) refl) refl) refl)
+    (case 0 bytes_codec  -- Pure
+    (case 1 object_ref  -- Owned
+    (case 2 object_ref  -- Immutable
+    (last 3 (pair object_id (pair (number 8) bool_codec)))  -- Shared
+    refl) refl) refl) refl)
 
 -- ---- Gas 0; Input 1 (u16); Result 2 (u16); Nested 3 (u16, u16)
 
@@ -69,11 +69,11 @@ argument = by argument_to argument_from
     (elim [ arguments.Gas ↦ refl | arguments.Input i ↦ refl | arguments.Result c ↦ refl | arguments.Nested c k ↦ refl ])
     (elim [ inl u ↦ refl | inr (inl i) ↦ refl | inr (inr (inl c)) ↦ refl | inr (inr (inr p)) ↦ refl ])
     (choice
-        (case 0 nothing                        -- Gas
-        (case 1 (number 2)                     -- Input
-        (case 2 (number 2)                     -- Result
-        (last 3 (pair (number 2) (number 2)))  -- Nested
-        refl) refl) refl) refl)
+    (case 0 nothing  -- Gas
+    (case 1 (number 2)  -- Input
+    (case 2 (number 2)  -- Result
+    (last 3 (pair (number 2) (number 2)))  -- Nested
+    refl) refl) refl) refl)
 
 -- ---- Call 0 (native u8, args); Transfer 1 (values, to); Split 2 (coin, amounts); Merge 3 (target, sources); MakeVec 5 (kind, values)
 
@@ -99,12 +99,12 @@ command = by command_to command_from
     (elim [ commands.Call a b ↦ refl | commands.Transfer a b ↦ refl | commands.Split a b ↦ refl | commands.Merge a b ↦ refl | commands.MakeVec a b ↦ refl ])
     (elim [ inl p ↦ refl | inr (inl p) ↦ refl | inr (inr (inl p)) ↦ refl | inr (inr (inr (inl p))) ↦ refl | inr (inr (inr (inr p))) ↦ refl ])
     (choice
-        (case 0 (pair (number 1) (seq argument))  -- Call
-        (case 1 (pair (seq argument) argument)    -- Transfer
-        (case 2 (pair argument (seq argument))    -- Split
-        (case 3 (pair argument (seq argument))    -- Merge
-        (last 5 (pair kind (seq argument)))       -- MakeVec
-        refl) refl) refl) refl) refl)
+    (case 0 (pair (number 1) (seq argument))  -- Call
+    (case 1 (pair (seq argument) argument)  -- Transfer
+    (case 2 (pair argument (seq argument))  -- Split
+    (case 3 (pair argument (seq argument))  -- Merge
+    (last 5 (pair kind (seq argument)))  -- MakeVec
+    refl) refl) refl) refl) refl)
 
 -- epoch, sender, gas ref, budget, inputs, commands
 unfoldable pub transaction : Codec Transaction

@@ -10,14 +10,14 @@ use Rattle.protocol_spec.specs.Chain.Words.{first_some}
 use Rattle.disk_log.specs.Disk.{History, IfTold}
 use Rattle.disk_log.specs.Keeping.{Opened, told_lists}
 use Rattle.disk_log.specs.Log.{WalkCause}
-use Rattle.disk_log.specs.Records.{Record, bad_member, counted, journals_of, records_to}
-use Rattle.disk_log.specs.Running.{HoldsLists, IsEmptyTo, Unchanged}
+use Rattle.disk_log.specs.Records.{Record, counted, journals_of, records_to}
+use Rattle.disk_log.specs.Running.{IsEmptyTo, Unchanged}
 use Rattle.disk_log.specs.declared.refusals.OpenRefusal.{OpenRefusal}
 use Rattle.disk_log.specs.declared.refusals.OpenRefusal.TheVariants as open_refusal
 use Rattle.command_words.specs.declared.words.Command.{Command}
 use Rattle.command_words.specs.declared.words.Command.TheVariants as command
 use Rattle.committee_core.specs.Endings.{BeginsEmpty, Ends}
-use Rattle.committee_core.specs.InFile.{AreOfMembers, EndsInFile, EndsOver, EndsOverLog, IsBadMember, IsCalled, IsFull, IsRefusedBy, IsUncalled, MayRun, bad_member_at, bad_member_text, is_not_empty, kept_in, most_members, not_empty_text}
+use Rattle.committee_core.specs.InFile.{AreOfMembers, EndsInFile, EndsOver, EndsOverLog, IsBadMember, IsFull, IsRefusedBy, MayRun, bad_member_at, bad_member_text, is_not_empty, kept_in, most_members, not_empty_text}
 use Rattle.committee_core.specs.Journals.{AreEmpty}
 use Rattle.committee_core.specs.Outside.{Outside, outside}
 use Rattle.outside.specs.Streams.{AppendsFront}

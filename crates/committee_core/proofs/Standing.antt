@@ -1,5 +1,5 @@
 -- A run with no line that stops or starts a member: each member stands, as it did at first.
-use Rattle.std.proofs.Common.{◌≡◌, ◌++◌, ℕ, zero, suc, min, Bool, true, false, cond, List, [], ◌∷◌, map, slice_get, slice_set, Option, Some, None, refl}
+use Rattle.std.proofs.Common.{◌≡◌, ℕ, zero, suc, min, Bool, true, false, cond, List, [], ◌∷◌, map, slice_get, slice_set, Option, Some, None, refl}
 use Rattle.journal_core.specs.declared.records.Record.{Record}
 use Rattle.chain_messages.specs.declared.messages.Certificate.{Certificate}
 use Rattle.schedule_text.specs.declared.words.Event.{Event}
@@ -8,10 +8,10 @@ use Rattle.protocol_spec.specs.Chain.Collecting.{Collected, lacks, short, differ
 use Rattle.protocol_spec.specs.Chain.Words.{Each}
 use Rattle.protocol_spec.specs.Member.Calls.{Call, votes, holds, runs, closes, ends, turns, acks, due}
 use Rattle.world_spec.specs.Setting.{Name, Setting}
-use Rattle.world_spec.specs.World.{Made, Reached, Seat, World, behind, called_if, called_in, called_seat, finds_down, stops, answers, is_honest, member_at, member_in, new_seat, next_call, reached_up, sees_on, with_seat}
+use Rattle.world_spec.specs.World.{Made, Seat, World, behind, called_if, called_in, called_seat, finds_down, is_honest, member_at, member_in, new_seat, next_call, reached_up, sees_on}
 use Rattle.world_spec.specs.Names.{made_named, cert_named}
 use Rattle.world_spec.specs.Making.{made_by_line}
-use Rattle.world_spec.specs.Step.{acked, appended_entry, end_in, end_ordered, entries_left, formed, formed_as, fvoted, happens, has_ended, honest_end, last_said, ordered, ordered_end, risen_if, sent, voted_on, votes_collected}
+use Rattle.world_spec.specs.Step.{acked, end_in, end_ordered, entries_left, formed, formed_as, fvoted, happens, honest_end, last_said, ordered, ordered_end, risen_if, sent, voted_on, votes_collected}
 use Rattle.world_spec.specs.Run.{run}
 
 -- the line neither stops nor starts a member

@@ -1,5 +1,5 @@
 -- A disk, moment by moment, and what a crash may leave. Source: this profile.
-use Rattle.std.specs.Prelude.{◌≡◌, ℕ, ◌+◌, ◌<◌, ◌≤◌, max, List, [], ◌∷◌, ◌++◌, ◌⊎◌, length, take, drop, slice_index, Option, Some, None, Result, Ok, MatchResult}
+use Rattle.std.specs.Prelude.{◌≡◌, ℕ, ◌+◌, ◌<◌, ◌≤◌, max, List, [], ◌∷◌, ◌++◌, ◌⊎◌, length, take, drop, slice_index, Option, Some, None, Result, MatchResult}
 use Rattle.disk_log.specs.declared.moment.Span.{Span}
 use Rattle.disk_log.specs.declared.moment.Moment.{Moment}
 use Rattle.outside.specs.declared.faults.OutFault.{OutFault}

@@ -1,12 +1,12 @@
 -- What the calls of a log say. Source: this profile.
-use Rattle.std.specs.Prelude.{◌≡◌, ◌≢◌, ℕ, ◌+◌, ◌^◌, ◌<◌, ◌≤◌, Bool, true, false, List, [], ◌∷◌, ◌++◌, ◌⊎◌, ◌↔◌, ◌-◌, min, length, map, take, drop, slice_index, slice_set, Option, Some, None, Result, Ok, Err}
+use Rattle.std.specs.Prelude.{◌≡◌, ◌≢◌, ℕ, ◌+◌, ◌^◌, ◌<◌, ◌≤◌, Bool, true, false, List, [], ◌∷◌, ◌++◌, ◌⊎◌, ◌↔◌, ◌-◌, min, length, take, slice_index, slice_set, Option, Some, None, Result, Ok, Err}
 use Rattle.outside.specs.Causes.{Rose}
 use Rattle.outside.specs.Lists.{Journals}
 use Rattle.outside.specs.declared.faults.OutFault.{OutFault}
 use Rattle.outside.specs.declared.faults.OutFault.TheVariants as fault
 use Rattle.disk_log.specs.declared.refusals.LogRefusal.{LogRefusal}
 use Rattle.disk_log.specs.declared.refusals.LogRefusal.TheVariants as log
-use Rattle.disk_log.specs.Disk.{History, IsImage, IsQuiet, LeavesOnly, IfTold, Settles}
+use Rattle.disk_log.specs.Disk.{History, IsImage, LeavesOnly, IfTold, Settles}
 use Rattle.disk_log.specs.Log.{Rows, IsInside, IsListed, HasOldOrNew, IsReady}
 use Rattle.disk_log.specs.Records.{Record, Whole, counted, records_to, journals_of, bad_member}
 

@@ -1,5 +1,5 @@
 -- The log over a disk. Source: this profile.
-use Rattle.std.specs.Prelude.{◌≡◌, ◌≢◌, ℕ, ◌+◌, ◌<◌, ◌≤◌, Bool, true, false, List, [], ◌∷◌, ◌++◌, ◌⊎◌, All, length, map, take, drop, slice_index, slice_set, Option, Some, None, Result, Ok, Err, MatchResult, OnOk}
+use Rattle.std.specs.Prelude.{◌≡◌, ◌≢◌, ℕ, ◌+◌, ◌<◌, ◌≤◌, Bool, true, false, List, [], ◌∷◌, ◌++◌, ◌⊎◌, All, length, map, take, drop, slice_index, slice_set, Option, Some, None, Result, MatchResult, OnOk}
 use Rattle.std.specs.List.{slice_index_or}
 use Rattle.outside.specs.Causes.{Rose}
 use Rattle.outside.specs.declared.faults.OutFault.{OutFault}
@@ -9,7 +9,7 @@ use Rattle.disk_log.specs.declared.moment.Span.{Span}
 use Rattle.disk_log.specs.declared.walk.Head.{Head}
 use Rattle.disk_log.specs.declared.refusals.OpenRefusal.{OpenRefusal}
 use Rattle.disk_log.specs.declared.refusals.OpenRefusal.TheVariants as refused
-use Rattle.disk_log.specs.Disk.{History, IsQuiet, IsSettled, LeavesOnly, IfTold}
+use Rattle.disk_log.specs.Disk.{History, IsQuiet, LeavesOnly, IfTold}
 use Rattle.disk_log.specs.Records.{Record, Whole, counted, records_to, journals_of, head_of, count_in, bad_member}
 
 -- where a member's records stand, for each member

@@ -1,5 +1,5 @@
 -- A disk in memory, as its contents at first and what was done since. Source: this profile.
-use Rattle.std.specs.Prelude.{ℕ, ◌+◌, max, Bool, true, false, List, [], ◌∷◌, ◌++◌, length, Result, Ok, Err, MatchResult, if◌then◌else◌}
+use Rattle.std.specs.Prelude.{ℕ, ◌+◌, max, true, false, List, [], ◌∷◌, ◌++◌, length, Result, Err, if◌then◌else◌}
 use Rattle.outside.specs.Turns.{after_call, fails_next, faults_after}
 use Rattle.outside.specs.declared.turns.Turns.{Turns}
 use Rattle.outside.specs.declared.faults.OutFault.{OutFault}

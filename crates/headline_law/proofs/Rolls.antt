@@ -1,6 +1,6 @@
 -- The members that a `final` line of a read schedule names ascend and are known.
 use Rattle.std.proofs.Common.{refl, subst, ap, ◌∙◌}
-use Rattle.std.specs.Prelude.{◌≡◌, ℕ, Bool, true, false, nat_lt, ◌&&◌, List, [], ◌∷◌, ◌++◌, length, map, Result, Ok, Err}
+use Rattle.std.specs.Prelude.{◌≡◌, ℕ, true, nat_lt, List, [], ◌∷◌, ◌++◌, length, map, Result, Ok, Err}
 use Rattle.std.specs.List.{filter_map}
 use Rattle.wire_bcs.specs.Ascending.{ascends}
 use Rattle.schedule_text.specs.declared.cause.Cause.{Cause}

@@ -1,5 +1,5 @@
 -- What is known of a valid certificate, by the stakes and the seals alone.
-use Rattle.std.proofs.Common.{◌≡◌, ◌∙◌, ℕ, Bool, true, false, List, [], ◌∷◌, Option, Some, None, is_some, refl, sym, ap}
+use Rattle.std.proofs.Common.{◌≡◌, ℕ, Bool, true, false, List, [], ◌∷◌, Option, Some, None, is_some, refl, sym, ap}
 use Rattle.std.specs.Prelude.{not}
 use Rattle.digest_core.specs.declared.Digest.{Digest}
 use Rattle.quorum_core.specs.declared.signer.Signer.{Signer}
@@ -8,7 +8,7 @@ use Rattle.chain_messages.specs.declared.messages.Certificate.{Certificate}
 use Rattle.chain_types.specs.declared.refusals.CertRefusal.{CertRefusal}
 use Rattle.chain_types.specs.declared.refusals.CertRefusal.TheVariants as refused
 use Rattle.schedule_text.specs.declared.words.Event.{Event}
-use Rattle.protocol_spec.specs.Chain.Certificates.{Rules, cert_refusal, members_of, rules_of}
+use Rattle.protocol_spec.specs.Chain.Certificates.{cert_refusal, members_of, rules_of}
 use Rattle.protocol_spec.specs.Chain.Words.{first_some, where_true}
 use Rattle.inspect_core.specs.Certified.{certified, is_valid}
 

@@ -1,5 +1,5 @@
 -- The chain of what a member built, under seals of others that built the same. Source: this profile.
-use Rattle.std.specs.Prelude.{◌≡◌, ◌<◌, ℕ, List, [], ◌∷◌, ◌++◌, Option, Some, None, codes, decimal, option_and_then, slice_get}
+use Rattle.std.specs.Prelude.{◌≡◌, ◌<◌, ℕ, List, [], ◌∷◌, ◌++◌, Some, None, codes, decimal, option_and_then, slice_get}
 use Rattle.checkpoint_core.specs.declared.checkpoints.Checkpoint.{Checkpoint}
 use Rattle.protocol_spec.specs.Member.Member.{Member, built}
 use Rattle.light_check.specs.declared.chain.Link.{Link}

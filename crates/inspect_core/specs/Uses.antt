@@ -1,5 +1,5 @@
 -- How often versions are consumed by the transactions of certificates.
-use Rattle.std.specs.Prelude.{ℕ, Bool, false, List, fold, is_some, Option, Some, None}
+use Rattle.std.specs.Prelude.{Bool, false, List, fold, is_some, Option, Some, None}
 use Rattle.std.specs.List.{list_any}
 use Rattle.std.specs.Map.{lookup}
 use Rattle.indexmap.specs.IndexMap.{insert_entry}

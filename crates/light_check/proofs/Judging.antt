@@ -2,7 +2,6 @@
 use Rattle.std.proofs.Common.{◌≡◌, ◌∙◌, ℕ, List, length, Option, Some, None, Result, Ok, Err, IfOk, refl, sym, ap, subst}
 use Rattle.digest_core.specs.declared.Digest.{Digest}
 use Rattle.wire_bcs.specs.Whole.{whole, whole-only}
-use Rattle.light_check.specs.declared.chain.Link.{Link}
 use Rattle.light_check.specs.declared.chain.Chain.{Chain}
 use Rattle.light_check.specs.declared.verdict.Verdict.{Verdict}
 use Rattle.light_check.specs.declared.verdict.Verdict.TheVariants as verdict

@@ -6,7 +6,6 @@ use Rattle.quorum_core.specs.declared.signer.Signer.{Signer}
 use Rattle.quorum_core.specs.declared.signer.Signer.TheVariants as signers
 use Rattle.quorum_core.specs.Committee.{is_quorum, is_roll, weight}
 use Rattle.chain_messages.specs.declared.messages.MemberSeal.{MemberSeal}
-use Rattle.chain_messages.specs.declared.messages.Statement.{Statement}
 use Rattle.chain_messages.specs.declared.messages.Statement.TheVariants as statements
 use Rattle.chain_messages.specs.Messages.{statement}
 use Rattle.checkpoint_core.specs.declared.checkpoints.Checkpoint.{Checkpoint}

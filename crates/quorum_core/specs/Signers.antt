@@ -25,6 +25,6 @@ signer = by signer_to signer_from
     (elim [ signers.Member a ↦ refl | signers.User a ↦ refl ])
     (elim [ inl a ↦ refl | inr a ↦ refl ])
     (choice
-        (case 0 (number 4)  -- Member
-        (last 1 digest)     -- User
-        refl) refl)
+    (case 0 (number 4)  -- Member
+    (last 1 digest)  -- User
+    refl) refl)

@@ -1,9 +1,9 @@
 -- Entries of maps that keep the order of insertion.
-use Rattle.std.proofs.Common.{◌≡◌, Bool, true, false, cond, List, [], ◌∷◌, ◌++◌, Option, Some, None, is_some, map, refl, ap, sym, ◌∙◌, option_map}
+use Rattle.std.proofs.Common.{◌≡◌, Bool, true, false, cond, List, [], ◌∷◌, ◌++◌, Option, Some, None, is_some, map, refl, ap, sym, ◌∙◌}
 use Rattle.std.specs.Map.{lookup}
 use Rattle.indexmap.specs.IndexMap.{insert_entry}
 use Rattle.tables.specs.Named.{FirstOf, Named, first_name, first_of, named, with_first, with_name}
-use Rattle.std.specs.Prelude.{bytes_eq, ℕ}
+use Rattle.std.specs.Prelude.{ℕ}
 
 module _ {K V : Type 0} (same : K → K → Bool) where
   -- a new key goes last

@@ -10,7 +10,6 @@ use Rattle.answer_types.specs.declared.refusals.RunRefusal.{RunRefusal}
 use Rattle.answer_types.specs.declared.refusals.RunRefusal.TheVariants as no_run
 use Rattle.answer_types.specs.declared.refusals.CloseRefusal.{CloseRefusal}
 use Rattle.answer_types.specs.declared.refusals.CloseRefusal.TheVariants as no_close
-use Rattle.protocol_spec.specs.Chain.Certificates.{Rules}
 use Rattle.protocol_spec.specs.Chain.Words.{unless_refused, where_true}
 use Rattle.protocol_spec.specs.Member.Versions.{Execution}
 use Rattle.protocol_spec.specs.Member.Rounds.{rounds}

@@ -1,26 +1,23 @@
 -- What a member states beside its votes.
 use Rattle.std.proofs.Common.{◌≡◌, ℕ, Bool, true, false, cond, not, List, [], ◌∷◌, Option, Some, None, refl, ap, sym, ◌∙◌, subst}
-use Rattle.std.specs.Prelude.{Result, Ok, Err, is_ok, is_some, option_map}
+use Rattle.std.specs.Prelude.{Result, Ok, Err, is_ok, option_map}
 use Rattle.wire_bcs.specs.Digests.{digest}
 use Rattle.digest_core.specs.declared.Digest.{Digest}
 use Rattle.chain_messages.specs.declared.messages.Sealed.{Sealed}
 use Rattle.chain_messages.specs.declared.messages.Statement.{Statement}
 use Rattle.chain_messages.specs.declared.messages.Statement.TheVariants as statement
 use Rattle.chain_messages.specs.Messages.{statement as statement_codec}
-use Rattle.effects_core.specs.declared.effects.Effects.{Effects}
-use Rattle.effects_core.specs.Effects.{digest_of_effects}
 use Rattle.answer_types.specs.declared.refusals.AckRefusal.{AckRefusal}
 use Rattle.answer_types.specs.declared.refusals.AckRefusal.TheVariants as no_ack
 use Rattle.answer_types.specs.declared.refusals.EndRefusal.{EndRefusal}
 use Rattle.answer_types.specs.declared.refusals.EndRefusal.TheVariants as no_end
 use Rattle.answer_types.specs.declared.answers.Held.{Held}
-use Rattle.protocol_spec.specs.Chain.Certificates.{Rules}
 use Rattle.protocol_spec.specs.Chain.Words.{first_of, first_some, unless_refused, where_true}
-use Rattle.protocol_spec.specs.Member.Versions.{Execution, execution_of, is_executed}
-use Rattle.protocol_spec.specs.Member.Member.{Fork, Member, fork_of}
-use Rattle.protocol_spec.specs.Member.Calls.{ack_answer, acknowledged, acks, due, end_answer, end_cases, ends, unseen}
+use Rattle.protocol_spec.specs.Member.Versions.{Execution, execution_of}
+use Rattle.protocol_spec.specs.Member.Member.{Member}
+use Rattle.protocol_spec.specs.Member.Calls.{ack_answer, acknowledged, end_answer, end_cases, unseen}
 use Rattle.scene_spec.proofs.RulesAside.{ack_answer_alike, end_answer_alike}
-use Rattle.scene_spec.specs.Seats.{Seated, behind, due_at, rules_of_seat}
+use Rattle.scene_spec.specs.Seats.{Seated, rules_of_seat}
 use Rattle.validator_core.specs.Answers.{bare}
 use Rattle.validator_core.specs.Calls.{Acks, Ends, ack_said, end_said}
 use Rattle.epoch_turn.specs.Dues.{is_ordered, unordered}

@@ -1,5 +1,5 @@
 -- The turn to the next epoch: what is answered and due, and the state behind it.
-use Rattle.std.proofs.Common.{◌≡◌, ◌+◌, ℕ, Bool, true, false, cond, not, List, [], ◌∷◌, Option, Some, None, inl, inr, refl, ap, sym, ◌∙◌, subst}
+use Rattle.std.proofs.Common.{◌≡◌, ◌+◌, ℕ, Bool, true, false, cond, not, List, [], ◌∷◌, Option, Some, None, refl, ap, sym, ◌∙◌, subst}
 use Rattle.std.specs.Prelude.{◌⊎◌, Result, Ok, Err, is_err, is_ok, option_map}
 use Rattle.digest_core.specs.declared.Digest.{Digest}
 use Rattle.outside.specs.Lists.{Journals, KeepsJournals}
@@ -7,11 +7,10 @@ use Rattle.journal_core.specs.declared.records.Record.{Record}
 use Rattle.journal_core.specs.declared.records.Record.TheVariants as record_as
 use Rattle.answer_types.specs.declared.refusals.TurnRefusal.{TurnRefusal}
 use Rattle.answer_types.specs.declared.refusals.TurnRefusal.TheVariants as no_turn
-use Rattle.protocol_spec.specs.Chain.Certificates.{Rules}
 use Rattle.protocol_spec.specs.Chain.Words.{first_of, first_some, unless_refused, where_true}
 use Rattle.protocol_spec.specs.Member.Admission.{Admitted}
 use Rattle.protocol_spec.specs.Member.Checkpoints.{is_done}
-use Rattle.protocol_spec.specs.Member.Member.{Member, after, built, turned}
+use Rattle.protocol_spec.specs.Member.Member.{Member, after, built}
 use Rattle.protocol_spec.specs.Member.Calls.{after_due, called, due, not_done, reverted, turn_answer, turn_cases, turn_record, turns}
 use Rattle.protocol_spec.specs.Member.Votes.{Cast}
 use Rattle.epoch_turn.specs.Chains.{waiting_one}

@@ -4,7 +4,7 @@ use mathlib.Core.Option.{some, some-injective}
 use lib.ListN.{get_elem?}
 use Rattle.std.specs.Bool.{OnTrue}
 use Rattle.std.proofs.lemmas.Bool.{OnTrue_from}
-use Rattle.atomic_table.specs.Table.{Me, step, Allows, Splits, Joins, Final, Seen, rest}
+use Rattle.atomic_table.specs.Table.{Me, Final, Seen}
 use Rattle.atomic_table.specs.Table as Tables
 use Rattle.vote_desk.specs.declared.serial.SerialDesk.{SerialDesk}
 use Rattle.vote_desk.specs.declared.serial.Pass.{Pass}
@@ -13,7 +13,7 @@ use Rattle.vote_desk.specs.declared.kept.Opened.{Opened}
 use Rattle.vote_desk.specs.declared.view.View.{View}
 use Rattle.vote_desk.specs.Counts.{times, IsAscending, merged}
 use Rattle.vote_desk.specs.Histories.{IsFront, IsHistory, IsLegal}
-use Rattle.vote_desk.specs.Views.{whole, first_view, with_share, parted, joined, spent}
+use Rattle.vote_desk.specs.Views.{whole, first_view, with_share, parted, joined}
 use Rattle.vote_desk.specs.Rule.{Held}
 use Rattle.vote_desk.specs.Steps.{Takes, Looks}
 use Rattle.vote_desk.specs.Kept.{Stands}

@@ -1,9 +1,8 @@
 -- Where the locks stand for the votes of an epoch, the rule over them is the vote rule.
-use Rattle.std.proofs.Common.{◌≡◌, Bool, true, false, cond, List, [], ◌∷◌, ◌++◌, Option, Some, None, refl, ap, sym, ◌∙◌, option_map}
+use Rattle.std.proofs.Common.{◌≡◌, List, [], ◌∷◌, ◌++◌, Option, Some, None, refl, ap, ◌∙◌, option_map}
 use Rattle.std.specs.Prelude.{find, nat_lt}
 use Rattle.digest_core.specs.declared.Digest.{Digest}
 use Rattle.chain_types.specs.declared.objects.ObjectKey.{ObjectKey}
-use Rattle.chain_types.specs.declared.refusals.DecideRefusal.{DecideRefusal}
 use Rattle.chain_types.specs.declared.refusals.DecideRefusal.TheVariants as refused
 use Rattle.chain_types.specs.declared.transactions.Transaction.{Transaction}
 use Rattle.chain_types.specs.Digests.{consumed_keys}

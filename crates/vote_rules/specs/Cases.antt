@@ -2,7 +2,6 @@
 use Rattle.std.specs.Prelude.{[], Option, Some, None}
 use Rattle.digest_core.specs.declared.Digest.{Digest}
 use Rattle.chain_types.specs.declared.objects.Producer.{Producer}
-use Rattle.chain_types.specs.declared.objects.Producer.TheVariants as producers
 use Rattle.chain_types.specs.declared.refusals.DecideRefusal.{DecideRefusal}
 use Rattle.chain_types.specs.declared.transactions.Input.{Input}
 use Rattle.chain_types.specs.declared.transactions.Transaction.{Transaction}

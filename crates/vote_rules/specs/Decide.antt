@@ -8,7 +8,7 @@ use Rattle.chain_types.specs.declared.transactions.Transaction.{Transaction}
 use Rattle.chain_types.specs.Digests.{consumed_keys}
 use Rattle.protocol_spec.specs.Chain.Words.{first_some}
 use Rattle.lock_table.specs.Locks.{Locks, locked_by, other_lock, unless_own}
-use Rattle.protocol_spec.specs.Member.Votes.{Cast, is_lock, vote_refusal, vote_origins}
+use Rattle.protocol_spec.specs.Member.Votes.{Cast, is_lock, vote_refusal}
 use Rattle.version_store.specs.Stores.{Stored}
 use Rattle.vote_rules.specs.Cases.{ballot_of}
 

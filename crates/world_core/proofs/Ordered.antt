@@ -1,14 +1,11 @@
 -- Lines that order entries, and what can be kept of them.
-use Rattle.std.proofs.Common.{◌≡◌, ◌∙◌, ap, sym, refl, subst, ℕ, Bool, true, false, cond, List, [], ◌∷◌, ◌++◌, length, Option, Some, None, option_map}
-use Rattle.std.specs.Prelude.{◌==◌, slice_set}
+use Rattle.std.proofs.Common.{◌≡◌, ◌∙◌, ap, sym, refl, subst, ℕ, Bool, cond, [], length, Option, Some, None}
 use Rattle.std.proofs.lemmas.Bool.{eq-eqb, ne_eqb}
 use Rattle.chain_messages.specs.declared.messages.Certificate.{Certificate}
 use Rattle.chain_messages.specs.declared.messages.Entry.{Entry}
 use Rattle.chain_messages.specs.declared.messages.Entry.TheVariants as entry
 use Rattle.chain_messages.specs.Messages as messages
-use Rattle.report_text.specs.declared.lines.OrderText.{OrderText}
 use Rattle.report_text.specs.declared.lines.OrderText.TheVariants as order_text
-use Rattle.world_spec.specs.World.{World}
 use Rattle.world_spec.specs.Step.{appended_entry, open_entries, ordered}
 use Rattle.world_spec.specs.Report.{order_said}
 use Rattle.world_lines.specs.Orders.{Orders, open_in, with_entry}

@@ -1,6 +1,6 @@
 -- What members say that are asked, and state then; the first of them that says something.
-use Rattle.std.proofs.Common.{◌≡◌, ◌∙◌, ap, sym, refl, subst, ℕ, Bool, cond, List, [], ◌∷◌, ◌++◌, map, append-nil, Option, Some, None, option_map, Result}
-use Rattle.std.specs.Prelude.{if◌then◌else◌, option_and_then, slice_get}
+use Rattle.std.proofs.Common.{◌≡◌, ◌∙◌, ap, sym, refl, ℕ, Bool, List, [], ◌∷◌, ◌++◌, map, append-nil, Option, Some, None, option_map, Result}
+use Rattle.std.specs.Prelude.{if◌then◌else◌, option_and_then}
 use Rattle.digest_core.specs.declared.Digest.{Digest}
 use Rattle.quorum_core.specs.declared.signer.Signer.{Signer}
 use Rattle.chain_messages.specs.declared.messages.Statement.{Statement}

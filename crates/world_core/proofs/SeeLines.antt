@@ -1,5 +1,5 @@
 -- The line that hands a member entries, in each of its ways.
-use Rattle.std.proofs.Common.{◌≡◌, ◌∙◌, ap, sym, refl, subst, ℕ, zero, suc, true, false, List, [], ◌∷◌, ◌++◌, length, Option, Some, None, option_map, Result, Ok, Err, append-nil, arith}
+use Rattle.std.proofs.Common.{◌≡◌, ◌∙◌, ap, sym, refl, subst, ℕ, zero, suc, true, false, List, [], ◌∷◌, length, Option, Some, None, option_map, Result, Ok, Err, append-nil, arith}
 use Rattle.std.proofs.lemmas.Bool.{eqb-true}
 use Rattle.std.specs.Prelude.{◌==◌, min, slice_get}
 use Rattle.digest_core.specs.declared.Digest.{Digest}
@@ -20,7 +20,6 @@ use Rattle.scene_spec.specs.Posts.{AddsAll, AddsFront, Post}
 use Rattle.scene_spec.specs.Scene.{Scene, bare_world, rules_in}
 use Rattle.scene_spec.specs.Steps.{Work, entries_lines_in, hands, see_halted_in, see_lines_in, seat_state, sees_left, sees_to, standing_at, state_at, worked}
 use Rattle.world_core.specs.Kept.{LeavesAs}
-use Rattle.world_core.specs.Sees.{LeavesAll}
 use Rattle.world_core.proofs.Seeing.{Rests, adds_none, halted_rests}
 
 min_none : (n : ℕ) → min n 0 ≡ 0

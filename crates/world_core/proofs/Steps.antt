@@ -1,5 +1,5 @@
 -- What a line leaves that did not end.
-use Rattle.std.proofs.Common.{Option, Result, Ok, Err}
+use Rattle.std.proofs.Common.{Option, Result, Err}
 use Rattle.outside.specs.Lists.{Journals}
 use Rattle.protocol_spec.specs.Chain.Certificates.{Rules}
 use Rattle.scene_spec.specs.Scene.{Scene}

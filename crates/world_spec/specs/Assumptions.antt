@@ -1,6 +1,6 @@
 -- The run assumptions, and what is certified, delivered and final in a run. Source: Sui Lutris (under a third
 -- of the stake is faulty, signatures are not forged, digests do not collide).
-use Rattle.std.specs.Prelude.{◌≡◌, ◌<◌, ℕ, zero, suc, ◌*◌, min, Bool, true, false, not, List, [], ◌∷◌, ◌++◌, map, flat_map, slice_get, Option, Some, None, Result, Ok, Err}
+use Rattle.std.specs.Prelude.{◌≡◌, ◌<◌, ℕ, zero, suc, ◌*◌, min, Bool, true, not, List, [], ◌∷◌, ◌++◌, map, flat_map, slice_get, Option, Some, None, Result, Ok, Err}
 use Rattle.wire_bcs.specs.declared.fault.WireFault.{WireFault}
 use Rattle.digest_core.specs.declared.Digest.{Digest}
 use Rattle.digest_core.specs.Tagged.{created_id_of}

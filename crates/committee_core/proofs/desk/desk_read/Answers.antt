@@ -1,4 +1,4 @@
-use Rattle.std.proofs.Common.{inl, sym, subst}
+use Rattle.std.proofs.Common.{inl, subst}
 use Rattle.world_spec.specs.Setting.{Trust}
 use Rattle.schedule_text.specs.Schedule.{schedule_of}
 use Rattle.committee_core.specs.Desk.{EndsAs}

@@ -1,4 +1,4 @@
-use Rattle.std.proofs.Common.{length, sym, subst}
+use Rattle.std.proofs.Common.{length}
 use Rattle.disk_log.specs.Keeping.{told_lists}
 use Rattle.committee_core.proofs.in_file.obey_over.Goals as goal
 

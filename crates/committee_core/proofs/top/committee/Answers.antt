@@ -1,4 +1,4 @@
-use Rattle.std.proofs.Common.{◌∙◌, Option, Some, subst, sym}
+use Rattle.std.proofs.Common.{◌∙◌, Option, subst, sym}
 use Rattle.command_words.specs.declared.words.Command.{Command}
 use Rattle.committee_core.specs.Endings.{BeginsEmpty}
 use Rattle.committee_core.proofs.Obeying.{obeyed, starved}

@@ -1,8 +1,6 @@
-use Rattle.std.proofs.Common.{inl, inr, refl}
-use Rattle.std.proofs.KnownBytes.{Keeps-refl}
 use Rattle.std.specs.Io.KnownBytes.{Appends}
-use Rattle.inspect_core.proofs.Asked.{cut_silently, ran_cut, ran_said, refused_cut, refused_whole}
-use Rattle.inspect_core.proofs.Statuses.{refusal_cut, refusal_not_said, refusal_not_six, refusal_text, said_or_fault, world_cut, world_not_six, world_not_three, world_text}
+use Rattle.inspect_core.proofs.Asked.{ran_cut, ran_said}
+use Rattle.inspect_core.proofs.Statuses.{world_cut, world_not_six, world_not_three, world_text}
 use Rattle.inspect_core.proofs.ask.ask_text.Goals as goal
 
 pub returns-in-Ok-clause-known : goal.returns-in-Ok-clause-known

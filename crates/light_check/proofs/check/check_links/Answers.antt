@@ -1,5 +1,5 @@
 use Rattle.std.proofs.Common.{◌∙◌, sym}
-use Rattle.light_check.proofs.Walking.{goes_further, next_has_number, next_short, starts_walk, stops_at}
+use Rattle.light_check.proofs.Walking.{goes_further, next_short}
 use Rattle.light_check.proofs.check.check_links.Goals as goal
 
 pub tip_of-requires : goal.tip_of-requires

@@ -1,4 +1,4 @@
-use Rattle.std.proofs.Common.{◌≡◌, length}
+use Rattle.std.proofs.Common.{length}
 use Rattle.light_check.proofs.Sealing.{SealsSoFar}
 use Rattle.light_check.proofs.make.seals_over.Given as goal
 

@@ -2,8 +2,6 @@ use Rattle.std.proofs.Common.{◌≡◌, [], subst, sym, arith}
 use Rattle.std.proofs.lemmas.List.Elements.{All-nil}
 use Rattle.wire_bcs.specs.Digests.{digest}
 use Rattle.wire_bcs.specs.Shapes.{seq}
-use Rattle.chain_types.specs.declared.transactions.Input.{Input}
-use Rattle.chain_types.specs.declared.transactions.Command.{Command}
 use Rattle.chain_types.specs.declared.transactions.Transaction.{Transaction}
 use Rattle.chain_types.specs.Objects.{object_id, address, object_ref}
 use Rattle.chain_types.specs.Transactions.{transaction, input, command}

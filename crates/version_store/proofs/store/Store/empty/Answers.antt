@@ -1,4 +1,4 @@
-use Rattle.version_store.proofs.Openings.{held_nothing, shows_nothing}
+use Rattle.version_store.proofs.Openings.{held_nothing}
 use Rattle.version_store.proofs.store.Store.empty.Goals as goal
 
 pub invariant_of-result : goal.invariant_of-result
