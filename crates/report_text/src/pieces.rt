@@ -52,7 +52,6 @@ pub(crate) fn print(out: &mut Seq<u8>, pieces: &[Piece<'_>]) -> Result<(), OutOf
 }
 
 /// A text, then a name.
-#[tactic(auto, using(crate::proofs::Appends::fronts))]
 pub(crate) fn print_with_name<'a>(
     out: &mut Seq<u8>,
     text: &'a [u8],
@@ -64,7 +63,6 @@ pub(crate) fn print_with_name<'a>(
 }
 
 /// A text, then a number.
-#[tactic(auto, using(crate::proofs::Appends::fronts))]
 pub(crate) fn print_with_number(
     out: &mut Seq<u8>,
     text: &[u8],
@@ -76,7 +74,6 @@ pub(crate) fn print_with_number(
 }
 
 /// Two names, each behind its text.
-#[tactic(auto, using(crate::proofs::Appends::fronts))]
 pub(crate) fn print_two_names<'a>(
     out: &mut Seq<u8>,
     text: &'a [u8],
@@ -98,7 +95,6 @@ pub(crate) fn print_two_names<'a>(
 }
 
 /// Two numbers, each behind its text.
-#[tactic(auto, using(crate::proofs::Appends::fronts))]
 pub(crate) fn print_two_numbers<'a>(
     out: &mut Seq<u8>,
     text: &'a [u8],
@@ -120,7 +116,6 @@ pub(crate) fn print_two_numbers<'a>(
 }
 
 /// The two certificates that stopped a member.
-#[tactic(auto, using(crate::proofs::Appends::fronts))]
 pub(crate) fn print_halted<'a>(
     out: &mut Seq<u8>,
     first: &'a Seq<u8>,
@@ -132,7 +127,6 @@ pub(crate) fn print_halted<'a>(
 }
 
 /// A key and the two transactions that consume it.
-#[tactic(auto, using(crate::proofs::Appends::fronts))]
 pub(crate) fn print_fork<'a>(
     out: &mut Seq<u8>,
     key: &'a Seq<u8>,
@@ -155,7 +149,6 @@ pub(crate) fn print_fork<'a>(
 }
 
 /// The head of a line on a member: the word, the member, and the text behind it.
-#[tactic(auto, using(crate::proofs::Appends::fronts))]
 pub(crate) fn print_member_head<'a>(
     out: &mut Seq<u8>,
     word: &'a [u8],
@@ -171,7 +164,6 @@ pub(crate) fn print_member_head<'a>(
 }
 
 /// The head of a line on a transaction: the word, the transaction, and the text behind it.
-#[tactic(auto, using(crate::proofs::Appends::fronts))]
 pub(crate) fn print_tx_head<'a>(
     out: &mut Seq<u8>,
     word: &'a [u8],
@@ -184,7 +176,6 @@ pub(crate) fn print_tx_head<'a>(
 }
 
 /// The head of a line on a member and a transaction: the word, both, and the text behind them.
-#[tactic(auto, using(crate::proofs::Appends::fronts))]
 pub(crate) fn print_pair_head<'a>(
     out: &mut Seq<u8>,
     word: &'a [u8],

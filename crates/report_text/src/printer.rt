@@ -22,7 +22,7 @@ use crate::texts::{
 use wire_bcs::{OutOfMemory, Seq};
 
 /// Prints a line on a transaction that is made or voted for.
-#[tactic(auto, using(crate::proofs::Appends::fronts), unfolding(crate::specs::Text::body_of))]
+#[tactic(auto, unfolding(crate::specs::Text::body_of))]
 fn print_vote_line(out: &mut Seq<u8>, line: &Line) -> Result<(), OutOfMemory>
     requires { IsTrue (is_vote_line line.now) }
     ensures { Writes out.old out.new (body_of line.now) result }
@@ -50,7 +50,7 @@ fn print_vote_line(out: &mut Seq<u8>, line: &Line) -> Result<(), OutOfMemory>
 }
 
 /// Prints a line on a certificate, or on acknowledgements.
-#[tactic(auto, using(crate::proofs::Appends::fronts), unfolding(crate::specs::Text::body_of))]
+#[tactic(auto, unfolding(crate::specs::Text::body_of))]
 fn print_certificate_line(out: &mut Seq<u8>, line: &Line) -> Result<(), OutOfMemory>
     requires { IsTrue (is_certificate_line line.now) }
     ensures { Writes out.old out.new (body_of line.now) result }
@@ -81,7 +81,6 @@ fn print_certificate_line(out: &mut Seq<u8>, line: &Line) -> Result<(), OutOfMem
 }
 
 /// The head of a line on a member's entry.
-#[tactic(auto, using(crate::proofs::Appends::fronts))]
 fn print_entry_head(out: &mut Seq<u8>, member: u64, entry: u64) -> Result<(), OutOfMemory>
     ensures { Writes out.old out.new (concat (codes "see " ∷ decimal member ∷ codes " entry " ∷ decimal entry ∷ codes ": " ∷ [])) result }
 {
@@ -98,7 +97,7 @@ fn print_entry_head(out: &mut Seq<u8>, member: u64, entry: u64) -> Result<(), Ou
 }
 
 /// Prints a line on the sequence.
-#[tactic(auto, using(crate::proofs::Appends::fronts), unfolding(crate::specs::Text::body_of))]
+#[tactic(auto, unfolding(crate::specs::Text::body_of))]
 fn print_sequence_line(out: &mut Seq<u8>, line: &Line) -> Result<(), OutOfMemory>
     requires { IsTrue (is_sequence_line line.now) }
     ensures { Writes out.old out.new (body_of line.now) result }
@@ -130,7 +129,7 @@ fn print_sequence_line(out: &mut Seq<u8>, line: &Line) -> Result<(), OutOfMemory
 }
 
 /// Prints a line on what a member runs, where no transaction was executed.
-#[tactic(auto, using(crate::proofs::Appends::fronts), unfolding(crate::specs::Text::body_of))]
+#[tactic(auto, unfolding(crate::specs::Text::body_of))]
 fn print_run_line(out: &mut Seq<u8>, line: &Line) -> Result<(), OutOfMemory>
     requires { IsTrue (is_run_line line.now) }
     ensures { Writes out.old out.new (body_of line.now) result }
@@ -152,7 +151,7 @@ fn print_run_line(out: &mut Seq<u8>, line: &Line) -> Result<(), OutOfMemory>
 }
 
 /// Prints the line of an execution that failed.
-#[tactic(auto, using(crate::proofs::Appends::fronts), unfolding(crate::specs::Text::body_of))]
+#[tactic(auto, unfolding(crate::specs::Text::body_of))]
 fn print_failed(
     out: &mut Seq<u8>,
     tx: &Seq<u8>,
@@ -181,7 +180,7 @@ fn print_failed(
 }
 
 /// Prints the line of an execution that a native aborted.
-#[tactic(auto, using(crate::proofs::Appends::fronts), unfolding(crate::specs::Text::body_of))]
+#[tactic(auto, unfolding(crate::specs::Text::body_of))]
 fn print_aborted(
     out: &mut Seq<u8>,
     tx: &Seq<u8>,
@@ -210,7 +209,7 @@ fn print_aborted(
 }
 
 /// Prints the line of an execution.
-#[tactic(auto, using(crate::proofs::Appends::fronts), unfolding(crate::specs::Text::body_of))]
+#[tactic(auto, unfolding(crate::specs::Text::body_of))]
 fn print_outcome_line(out: &mut Seq<u8>, line: &Line) -> Result<(), OutOfMemory>
     requires { IsTrue (is_outcome_line line.now) }
     ensures { Writes out.old out.new (body_of line.now) result }
@@ -246,7 +245,7 @@ fn print_outcome_line(out: &mut Seq<u8>, line: &Line) -> Result<(), OutOfMemory>
 }
 
 /// Prints a line on the end of a member's epoch, or on its turn to the next.
-#[tactic(auto, using(crate::proofs::Appends::fronts), unfolding(crate::specs::Text::body_of))]
+#[tactic(auto, unfolding(crate::specs::Text::body_of))]
 fn print_turn_line(out: &mut Seq<u8>, line: &Line) -> Result<(), OutOfMemory>
     requires { IsTrue (is_turn_line line.now) }
     ensures { Writes out.old out.new (body_of line.now) result }
@@ -270,7 +269,6 @@ fn print_turn_line(out: &mut Seq<u8>, line: &Line) -> Result<(), OutOfMemory>
 }
 
 /// The head of a line on an object that is shown.
-#[tactic(auto, using(crate::proofs::Appends::fronts))]
 fn print_object_head(out: &mut Seq<u8>, object: &Seq<u8>, version: u64) -> Result<(), OutOfMemory>
     ensures { Writes out.old out.new (concat (codes "  " ∷ object.now ∷ codes " v" ∷ decimal version ∷ codes " " ∷ [])) result }
 {
@@ -287,7 +285,7 @@ fn print_object_head(out: &mut Seq<u8>, object: &Seq<u8>, version: u64) -> Resul
 }
 
 /// Prints a line on a member that stops, begins again or is shown.
-#[tactic(auto, using(crate::proofs::Appends::fronts), unfolding(crate::specs::Text::body_of))]
+#[tactic(auto, unfolding(crate::specs::Text::body_of))]
 fn print_member_line(out: &mut Seq<u8>, line: &Line) -> Result<(), OutOfMemory>
     requires { IsTrue (is_member_line line.now) }
     ensures { Writes out.old out.new (body_of line.now) result }
@@ -321,7 +319,7 @@ fn print_member_line(out: &mut Seq<u8>, line: &Line) -> Result<(), OutOfMemory>
 }
 
 /// Prints the line on a whole run, or the refusal of a schedule.
-#[tactic(auto, using(crate::proofs::Appends::fronts), unfolding(crate::specs::Text::body_of))]
+#[tactic(auto, unfolding(crate::specs::Text::body_of))]
 fn print_total_line(out: &mut Seq<u8>, line: &Line) -> Result<(), OutOfMemory>
     requires { IsTrue (is_total_line line.now) }
     ensures { Writes out.old out.new (body_of line.now) result }
@@ -355,7 +353,6 @@ fn print_total_line(out: &mut Seq<u8>, line: &Line) -> Result<(), OutOfMemory>
     }
 }
 
-#[tactic(auto, using(crate::proofs::Appends::fronts))]
 fn print_body(out: &mut Seq<u8>, line: &Line) -> Result<(), OutOfMemory>
     ensures { Writes out.old out.new (body_of line.now) result }
 {

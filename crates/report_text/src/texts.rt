@@ -138,7 +138,6 @@ pub(crate) fn print_see_text(out: &mut Seq<u8>, text: &SeeText) -> Result<(), Ou
 }
 
 /// An End statement of a member, and the weight of those so far.
-#[tactic(auto, using(crate::proofs::Appends::fronts))]
 fn print_end_of(
     out: &mut Seq<u8>,
     member: u64,

@@ -2,9 +2,7 @@ use crate::rows::{Refused, first_wrong, is_spelling, joined, reads};
 use digest_core::Digest;
 use std::alloc::Global;
 use std::test::Fail;
-use wire_bcs::{
-    Duplicate, OutOfMemory, Reader, Seq, Unread, WireFault, Writer, decode, read,
-};
+use wire_bcs::{Duplicate, OutOfMemory, Reader, Seq, Unread, WireFault, Writer, decode, read};
 
 fn puts_items(writer: &mut Writer) -> Result<(), OutOfMemory> {
     writer.put_len(9487)?;
