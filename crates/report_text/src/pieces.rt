@@ -1,6 +1,6 @@
 //! Lines, piece by piece.
 
-ghost use Rattle.std.specs.Prelude.{◌≡◌, ◌∷◌, [], ◌++◌, decimal, codes};
+ghost use Rattle.std.specs.Prelude.{◌∷◌, [], decimal, codes};
 ghost use Rattle.std.specs.List.{concat, flat_map};
 ghost use Rattle.report_text.specs.Text.{origin_word, origins_text, names_text, numbers_text, part_text, taken_text, only_if, kept_text};
 ghost use Rattle.report_text.specs.Pieces.{piece_text};

@@ -1,6 +1,6 @@
 //! The printer of a report's lines.
 
-ghost use Rattle.std.specs.Prelude.{◌≡◌, ◌∷◌, [], ◌++◌, IsTrue, decimal, codes};
+ghost use Rattle.std.specs.Prelude.{◌∷◌, [], IsTrue, decimal, codes};
 ghost use Rattle.std.specs.List.{concat};
 ghost use Rattle.report_text.specs.declared.lines.Line.TheVariants as line_of;
 ghost use Rattle.report_text.specs.Families.{is_vote_line, is_certificate_line, is_sequence_line, is_run_line, is_outcome_line, is_turn_line, is_member_line, is_total_line};

@@ -1,6 +1,6 @@
 //! The texts that end a line, behind its head.
 
-ghost use Rattle.std.specs.Prelude.{◌≡◌, ◌∷◌, [], ◌++◌, decimal, codes};
+ghost use Rattle.std.specs.Prelude.{◌∷◌, [], ◌++◌, decimal, codes};
 ghost use Rattle.std.specs.List.{concat};
 ghost use Rattle.report_text.specs.Text.{only_if, vote_text, cert_text, send_text, order_text, order_end_text, see_text, entry_text, run_text, close_text, end_text, turn_text, restart_text, show_text, ack_text, final_text, owner_text, content_text};
 ghost use Rattle.wire_bcs.specs.Wrote.{Writes};
