@@ -38,11 +38,11 @@ statement = by statement_to statement_from
     (elim [ statements.Vote a b c ↦ refl | statements.End a ↦ refl | statements.Checkpoint a b c ↦ refl | statements.Ack a b c ↦ refl ])
     (elim [ inl p ↦ refl | inr (inl a) ↦ refl | inr (inr (inl p)) ↦ refl | inr (inr (inr p)) ↦ refl ])
     (choice
-        (case 0 (pair (number 8) (pair digest (seq (option digest))))  -- Vote
-        (case 1 (number 8)                                             -- End
-        (case 2 (pair (number 8) (pair (number 8) digest))             -- Checkpoint
-        (last 3 (pair (number 8) (pair digest digest)))                -- Ack
-        refl) refl) refl) refl)
+    (case 0 (pair (number 8) (pair digest (seq (option digest))))  -- Vote
+    (case 1 (number 8)  -- End
+    (case 2 (pair (number 8) (pair (number 8) digest))  -- Checkpoint
+    (last 3 (pair (number 8) (pair digest digest)))  -- Ack
+    refl) refl) refl) refl)
 
 -- member, statement, seal
 unfoldable pub sealed : Codec Sealed
@@ -78,7 +78,7 @@ entry = by entry_to entry_from
     (elim [ entries.Cert a ↦ refl | entries.End a ↦ refl | entries.Commit ↦ refl ])
     (elim [ inl a ↦ refl | inr (inl a) ↦ refl | inr (inr u) ↦ refl ])
     (choice
-        (case 0 certificate  -- Cert
-        (case 1 sealed       -- End
-        (last 2 nothing)     -- Commit
-        refl) refl) refl)
+    (case 0 certificate  -- Cert
+    (case 1 sealed  -- End
+    (last 2 nothing)  -- Commit
+    refl) refl) refl)

@@ -34,10 +34,10 @@ status = by status_to status_from
     (elim [ statuses.Done ↦ refl | statuses.Failed a b ↦ refl | statuses.Aborted a b ↦ refl ])
     (elim [ inl u ↦ refl | inr (inl p) ↦ refl | inr (inr p) ↦ refl ])
     (choice
-        (case 0 nothing                        -- Done
-        (case 1 (pair (number 2) (number 1))   -- Failed
-        (last 2 (pair (number 2) (number 1)))  -- Aborted
-        refl) refl) refl)
+    (case 0 nothing  -- Done
+    (case 1 (pair (number 2) (number 1))  -- Failed
+    (last 2 (pair (number 2) (number 1)))  -- Aborted
+    refl) refl) refl)
 
 -- id, owner, digest
 unfoldable pub written : Codec Written

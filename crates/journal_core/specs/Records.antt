@@ -48,11 +48,11 @@ journal_record = by record_to record_from
     (elim [ records.Vote a b ↦ refl | records.Hold a ↦ refl | records.See a ↦ refl | records.Close ↦ refl | records.Ran a ↦ refl | records.Turn ↦ refl | records.Ran2 a ↦ refl ])
     (elim [ inl p ↦ refl | inr (inl a) ↦ refl | inr (inr (inl a)) ↦ refl | inr (inr (inr (inl u))) ↦ refl | inr (inr (inr (inr (inl a)))) ↦ refl | inr (inr (inr (inr (inr (inl u))))) ↦ refl | inr (inr (inr (inr (inr (inr a))))) ↦ refl ])
     (choice
-        (case 0 (pair transaction (seq (option digest)))  -- Vote
-        (case 1 certificate                               -- Hold
-        (case 2 bytes_codec                               -- See
-        (case 3 nothing                                   -- Close
-        (case 4 (seq digest)                              -- Ran
-        (case 5 nothing                                   -- Turn
-        (last 6 (seq ran_item))                           -- Ran2
-        refl) refl) refl) refl) refl) refl) refl)
+    (case 0 (pair transaction (seq (option digest)))  -- Vote
+    (case 1 certificate  -- Hold
+    (case 2 bytes_codec  -- See
+    (case 3 nothing  -- Close
+    (case 4 (seq digest)  -- Ran
+    (case 5 nothing  -- Turn
+    (last 6 (seq ran_item))  -- Ran2
+    refl) refl) refl) refl) refl) refl) refl)
