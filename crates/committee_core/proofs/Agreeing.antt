@@ -79,12 +79,12 @@ lowest_is posts links place k (Some m) there differs lowest = record { link = k;
 -- ---- in a run
 
 -- the member of a post is that of a seat
-record IsSeated (s : Setting) (seats : List worlds.Seated) (m : ℕ) (state : Member) : Type 0 where
-  seat : worlds.Seated
+record IsSeated (s : Setting) (seats : List worlds.Seat) (m : ℕ) (state : Member) : Type 0 where
+  seat : worlds.Seat
   there : slice_get seats m ≡ Some seat
   is : state ≡ member_in s seat
 
-seated : (s : Setting) (n : ℕ) (seats : List worlds.Seated) (m : ℕ) (q : Seated) → honest_at (slice_get (posts_from s n seats) m) ≡ Some q → IsSeated s seats m q.state
+seated : (s : Setting) (n : ℕ) (seats : List worlds.Seat) (m : ℕ) (q : Seated) → honest_at (slice_get (posts_from s n seats) m) ≡ Some q → IsSeated s seats m q.state
 seated s n [] m q e = absurd (cc)
 seated s n (seat ∷ seats) zero q e = go seat.honest seat.up e
   where
@@ -101,12 +101,12 @@ seated s n (seat ∷ seats) (suc m) q e = go (seated s (suc n) seats m q e)
     go it = record { seat = it.seat; there = it.there; is = it.is }
 
 -- what it has built
-record HasBuilt (s : Setting) (seats : List worlds.Seated) (m place : ℕ) (c : Checkpoint) : Type 0 where
-  seat : worlds.Seated
+record HasBuilt (s : Setting) (seats : List worlds.Seat) (m place : ℕ) (c : Checkpoint) : Type 0 where
+  seat : worlds.Seat
   there : slice_get seats m ≡ Some seat
   built_it : slice_get (built (member_in s seat)) place ≡ Some c
 
-built_at : (s : Setting) (seats : List worlds.Seated) (m place : ℕ) (c : Checkpoint) → checkpoint_at (slice_get (posts_from s 0 seats) m) place ≡ Some c → HasBuilt s seats m place c
+built_at : (s : Setting) (seats : List worlds.Seat) (m place : ℕ) (c : Checkpoint) → checkpoint_at (slice_get (posts_from s 0 seats) m) place ≡ Some c → HasBuilt s seats m place c
 built_at s seats m place c e = go (honest_at (slice_get (posts_from s 0 seats) m)) refl e
   where
     of : (q : Seated) → IsSeated s seats m q.state → slice_get (built q.state) place ≡ Some c → HasBuilt s seats m place c

@@ -80,7 +80,7 @@ chosen true true x = refl
 chosen true false x = refl
 chosen false u x = refl
 
-asked_post : (s : Setting) (n : ℕ) (seats : List worlds.Seated) (m : ℕ) → asked_at (slice_get (posts_from s n seats) m) ≡ record { honest = honest_seat (slice_get seats m); state = state_in s (slice_get seats m) }
+asked_post : (s : Setting) (n : ℕ) (seats : List worlds.Seat) (m : ℕ) → asked_at (slice_get (posts_from s n seats) m) ≡ record { honest = honest_seat (slice_get seats m); state = state_in s (slice_get seats m) }
 asked_post s n [] m = refl
 asked_post s n (seat ∷ seats) zero =
     let state : Option Member → Asked = λ o. record { honest = seat.honest; state = o } in

@@ -144,7 +144,7 @@ seats-along : (s : Setting) (w : World) (events : List Event) → list_all is_tx
 seats-along s w [] are = refl
 seats-along s w (e ∷ events) are = let two = and_true (is_tx e) (list_all is_tx events) are in seats-along s (happens s w e) events two.1 ∙ same-seats s w e two.0
 
-first-honest : (s : Setting) (seats : List worlds.Seated) → honest_post (slice_get (posts_from s 0 seats) 0) ≡ honest_seat (slice_get seats 0)
+first-honest : (s : Setting) (seats : List worlds.Seat) → honest_post (slice_get (posts_from s 0 seats) 0) ≡ honest_seat (slice_get seats 0)
 first-honest s [] = refl
 first-honest s (seat ∷ seats) = refl
 
@@ -154,7 +154,7 @@ unfolding world_after
 honest_behind trust s sc b are shows is =
     let setting = setting_in trust s in
     let seats : (desk_world trust s).seats ≡ (new_world setting).seats = seats-along setting (new_world setting) s.events are in
-    ap (λ (l : List worlds.Seated). honest_seat (slice_get l 0)) (sym seats)
+    ap (λ (l : List worlds.Seat). honest_seat (slice_get l 0)) (sym seats)
     ∙ sym (first-honest setting (desk_world trust s).seats)
     ∙ ap (λ (x : Scene). honest_post (slice_get x.posts 0)) (sym shows.scene)
     ∙ sym is

@@ -38,7 +38,7 @@ pub record Asked : Type 0 where
   pub honest : Bool
   pub state : Option Member
 
-abbrev pub state_in : Setting → Option worlds.Seated → Option Member
+abbrev pub state_in : Setting → Option worlds.Seat → Option Member
 state_in s None = None
 state_in s (Some seat) = if seat.honest then (if seat.up then Some (member_in s seat) else None) else None
 

@@ -37,7 +37,7 @@ use Rattle.inspect_core.proofs.Statuses.{IsSaid, said_or_fault}
 
 -- ---- the members as the code sees them are those of the world
 
-state_same : (s : Setting) (n : ℕ) (seats : List worlds.Seated) (m : ℕ) → option_map (λ (seat : Seated). seat.state) (honest_at (slice_get (posts_from s n seats) m)) ≡ state_in s (slice_get seats m)
+state_same : (s : Setting) (n : ℕ) (seats : List worlds.Seat) (m : ℕ) → option_map (λ (seat : Seated). seat.state) (honest_at (slice_get (posts_from s n seats) m)) ≡ state_in s (slice_get seats m)
 state_same s n [] m = refl
 state_same s n (seat ∷ seats) zero = go seat.honest seat.up
   where

@@ -32,12 +32,12 @@ place-is k (suc m) = let same = place-is (suc k) m in omega (arith, same)
 pub place-first : (m : ℕ) → place 0 m ≡ m
 place-first m = let same = place-is 0 m in omega (arith, same)
 
-pub posts-get : (s : Setting) (k : ℕ) (seats : List worlds.Seated) (m : ℕ) → slice_get (posts_from s k seats) m ≡ option_map (post_of s (place k m)) (slice_get seats m)
+pub posts-get : (s : Setting) (k : ℕ) (seats : List worlds.Seat) (m : ℕ) → slice_get (posts_from s k seats) m ≡ option_map (post_of s (place k m)) (slice_get seats m)
 posts-get s k [] m = refl
 posts-get s k (seat ∷ seats) zero = refl
 posts-get s k (seat ∷ seats) (suc m) = posts-get s (suc k) seats m
 
-pub posts-set : (s : Setting) (k : ℕ) (seats : List worlds.Seated) (m : ℕ) (seat : worlds.Seated) → slice_set (posts_from s k seats) m (post_of s (place k m) seat) ≡ posts_from s k (slice_set seats m seat)
+pub posts-set : (s : Setting) (k : ℕ) (seats : List worlds.Seat) (m : ℕ) (seat : worlds.Seat) → slice_set (posts_from s k seats) m (post_of s (place k m) seat) ≡ posts_from s k (slice_set seats m seat)
 posts-set s k [] m seat = refl
 posts-set s k (x ∷ xs) zero seat = refl
 posts-set s k (x ∷ xs) (suc m) seat = ap (λ (ps : List Post). post_of s k x ∷ ps) (posts-set s (suc k) xs m seat)
@@ -45,16 +45,16 @@ posts-set s k (x ∷ xs) (suc m) seat = ap (λ (ps : List Post). post_of s k x �
 -- ---- what becomes of a call
 
 module _ (s : Setting) where
-  reached-standing : (call : Call) (k : ℕ) (seat : worlds.Seated) (up : Bool)
+  reached-standing : (call : Call) (k : ℕ) (seat : worlds.Seat) (up : Bool)
       → reached_standing s.rules call seat.armed (cond up (Some (seat_at (terms_of s.rules) k (member_in s seat))) None)
       ≡ cond up (reached_up (member_in s seat) seat.armed (due s.rules (member_in s seat) call)) finds_down
   reached-standing call k seat true = refl
   reached-standing call k seat false = refl
 
-  reached-seat : (call : Call) (k : ℕ) (seat : worlds.Seated) → reached_post s.rules call (Some (post_of s k seat)) ≡ reached_seat s call seat
+  reached-seat : (call : Call) (k : ℕ) (seat : worlds.Seat) → reached_post s.rules call (Some (post_of s k seat)) ≡ reached_seat s call seat
   reached-seat call k seat = reached-standing call k seat seat.up
 
-  reached-where : (call : Call) (k : ℕ) (seat : Option worlds.Seated) → reached_post s.rules call (option_map (post_of s k) seat) ≡ reached_at s call seat
+  reached-where : (call : Call) (k : ℕ) (seat : Option worlds.Seat) → reached_post s.rules call (option_map (post_of s k) seat) ≡ reached_at s call seat
   reached-where call k None = refl
   reached-where call k (Some seat) = reached-seat call k seat
 
@@ -65,7 +65,7 @@ module _ (s : Setting) where
   -- ---- the members behind a call
 
   -- what the outcome makes of a seat
-  abbrev left_by : worlds.Seated → Reached → worlds.Seated
+  abbrev left_by : worlds.Seat → Reached → worlds.Seat
   left_by seat finds_down = seat
   left_by seat (stops kept x) = stopped_seat seat kept x
   left_by seat (answers before x) = record seat { records = appended seat.records x }
@@ -74,7 +74,7 @@ module _ (s : Setting) where
   after-appended records None = refl
   after-appended records (Some x) = sym (state-push s.rules s.opening records x)
 
-  standing-behind : (call : Call) (k : ℕ) (seat : worlds.Seated) (x : Option Record) (up : Bool) → due s.rules (member_in s seat) call ≡ x
+  standing-behind : (call : Call) (k : ℕ) (seat : worlds.Seat) (x : Option Record) (up : Bool) → due s.rules (member_in s seat) call ≡ x
       → option_map (seat_behind s.rules call) (cond up (Some (seat_at (terms_of s.rules) k (member_in s seat))) None)
       ≡ cond up (Some (seat_at (terms_of s.rules) k (state s.rules s.opening (appended seat.records x)))) None
   standing-behind call k seat x false d = refl
@@ -82,26 +82,26 @@ module _ (s : Setting) where
       ap (λ (y : Option Record). Some (seat_at (terms_of s.rules) k (after_due s.rules (member_in s seat) y))) d
       ∙ ap (λ (m : Member). Some (seat_at (terms_of s.rules) k m)) (after-appended seat.records x)
 
-  post-left : (call : Call) (k : ℕ) (seat : worlds.Seated) (r : Reached) → reached_seat s call seat ≡ r → post_behind s.rules call (post_of s k seat) r ≡ post_of s k (left_by seat r)
+  post-left : (call : Call) (k : ℕ) (seat : worlds.Seat) (r : Reached) → reached_seat s call seat ≡ r → post_behind s.rules call (post_of s k seat) r ≡ post_of s k (left_by seat r)
   post-left call k seat finds_down e = refl
   post-left call k seat (stops kept x) e = refl
   post-left call k seat (answers before x) e =
       ap (λ (standing : Option Seated). record { honest = seat.honest; standing = standing; armed = seat.armed })
       (standing-behind call k seat x seat.up (answered-due s (λ _. Unit {0}) (λ _. Unit {0}) (λ _ _ _ _ _ _. tt) seat call before x e))
 
-  seats-left : (w : World) (m : ℕ) (call : Call) (seat : worlds.Seated) (r : Reached) → slice_get w.seats m ≡ Some seat → slice_set w.seats m (left_by seat r) ≡ (behind s w m call seat r).seats
+  seats-left : (w : World) (m : ℕ) (call : Call) (seat : worlds.Seat) (r : Reached) → slice_get w.seats m ≡ Some seat → slice_set w.seats m (left_by seat r) ≡ (behind s w m call seat r).seats
   seats-left w m call seat finds_down e = set_same w.seats m seat e
   seats-left w m call seat (stops kept x) e = refl
   seats-left w m call seat (answers before x) e = refl
 
-  posts-left : (w : World) (m : ℕ) (call : Call) (seat : Option worlds.Seated) → slice_get w.seats m ≡ seat
+  posts-left : (w : World) (m : ℕ) (call : Call) (seat : Option worlds.Seat) → slice_get w.seats m ≡ seat
       → posts_with s.rules call (posts_from s 0 w.seats) m (option_map (post_of s (place 0 m)) seat) ≡ posts_from s 0 (called_seat s w m call seat).seats
   posts-left w m call None e = refl
   posts-left w m call (Some seat) e =
       ap (λ (r : Reached). slice_set (posts_from s 0 w.seats) m (post_behind s.rules call (post_of s (place 0 m) seat) r)) (reached-seat call (place 0 m) seat)
       ∙ ap (λ (p : Post). slice_set (posts_from s 0 w.seats) m p) (post-left call (place 0 m) seat (reached_seat s call seat) refl)
       ∙ posts-set s 0 w.seats m (left_by seat (reached_seat s call seat))
-      ∙ ap (λ (seats : List worlds.Seated). posts_from s 0 seats) (seats-left w m call seat (reached_seat s call seat) e)
+      ∙ ap (λ (seats : List worlds.Seat). posts_from s 0 seats) (seats-left w m call seat (reached_seat s call seat) e)
 
   posts-same : (w : World) (m : ℕ) (call : Call) → posts_behind s.rules (posts_from s 0 w.seats) m call ≡ posts_from s 0 (called_in s w m call).seats
   unfolding called_in
@@ -111,12 +111,12 @@ module _ (s : Setting) where
 
   -- ---- what is said
 
-  said-left : (w : World) (m : ℕ) (call : Call) (seat : worlds.Seated) (r : Reached) → w.said ++ map (said_by m) (stated_in s.rules call r) ≡ (behind s w m call seat r).said
+  said-left : (w : World) (m : ℕ) (call : Call) (seat : worlds.Seat) (r : Reached) → w.said ++ map (said_by m) (stated_in s.rules call r) ≡ (behind s w m call seat r).said
   said-left w m call seat finds_down = append-nil w.said
   said-left w m call seat (stops kept x) = append-nil w.said
   said-left w m call seat (answers before x) = refl
 
-  said-where : (w : World) (m : ℕ) (call : Call) (seat : Option worlds.Seated) → w.said ++ map (said_by m) (stated_in s.rules call (reached_at s call seat)) ≡ (called_seat s w m call seat).said
+  said-where : (w : World) (m : ℕ) (call : Call) (seat : Option worlds.Seat) → w.said ++ map (said_by m) (stated_in s.rules call (reached_at s call seat)) ≡ (called_seat s w m call seat).said
   said-where w m call None = append-nil w.said
   said-where w m call (Some seat) = said-left w m call seat (reached_seat s call seat)
 
@@ -131,12 +131,12 @@ module _ (s : Setting) where
   abbrev with_both : World → List Post → List Said → Scene
   with_both w posts said = record (scene_of s w) { posts = posts; said = said }
 
-  scene-left : (w : World) (m : ℕ) (call : Call) (seat : worlds.Seated) (r : Reached) → scene_of s (behind s w m call seat r) ≡ with_both w (posts_from s 0 (behind s w m call seat r).seats) (behind s w m call seat r).said
+  scene-left : (w : World) (m : ℕ) (call : Call) (seat : worlds.Seat) (r : Reached) → scene_of s (behind s w m call seat r) ≡ with_both w (posts_from s 0 (behind s w m call seat r).seats) (behind s w m call seat r).said
   scene-left w m call seat finds_down = refl
   scene-left w m call seat (stops kept x) = refl
   scene-left w m call seat (answers before x) = refl
 
-  scene-where : (w : World) (m : ℕ) (call : Call) (seat : Option worlds.Seated) → scene_of s (called_seat s w m call seat) ≡ with_both w (posts_from s 0 (called_seat s w m call seat).seats) (called_seat s w m call seat).said
+  scene-where : (w : World) (m : ℕ) (call : Call) (seat : Option worlds.Seat) → scene_of s (called_seat s w m call seat) ≡ with_both w (posts_from s 0 (called_seat s w m call seat).seats) (called_seat s w m call seat).said
   scene-where w m call None = refl
   scene-where w m call (Some seat) = scene-left w m call seat (reached_seat s call seat)
 
@@ -152,12 +152,12 @@ module _ (s : Setting) where
 
   -- ---- nothing is ordered
 
-  open-left : (w : World) (m : ℕ) (call : Call) (seat : worlds.Seated) (r : Reached) → (behind s w m call seat r).sequences ≡ w.sequences
+  open-left : (w : World) (m : ℕ) (call : Call) (seat : worlds.Seat) (r : Reached) → (behind s w m call seat r).sequences ≡ w.sequences
   open-left w m call seat finds_down = refl
   open-left w m call seat (stops kept x) = refl
   open-left w m call seat (answers before x) = refl
 
-  open-where : (w : World) (m : ℕ) (call : Call) (seat : Option worlds.Seated) → (called_seat s w m call seat).sequences ≡ w.sequences
+  open-where : (w : World) (m : ℕ) (call : Call) (seat : Option worlds.Seat) → (called_seat s w m call seat).sequences ≡ w.sequences
   open-where w m call None = refl
   open-where w m call (Some seat) = open-left w m call seat (reached_seat s call seat)
 
@@ -167,26 +167,26 @@ module _ (s : Setting) where
 
   -- ---- one seat changes
 
-  module _ (w : World) (m : ℕ) (change : worlds.Seated → worlds.Seated) (post : Post → Post) where
-    posts-on : (seat : Option worlds.Seated) → ((x : worlds.Seated) → seat ≡ Some x → post (post_of s (place 0 m) x) ≡ post_of s (place 0 m) (change x))
+  module _ (w : World) (m : ℕ) (change : worlds.Seat → worlds.Seat) (post : Post → Post) where
+    posts-on : (seat : Option worlds.Seat) → ((x : worlds.Seat) → seat ≡ Some x → post (post_of s (place 0 m) x) ≡ post_of s (place 0 m) (change x))
         → changed_at (posts_from s 0 w.seats) m post (option_map (post_of s (place 0 m)) seat) ≡ posts_from s 0 (on_seat w m change seat).seats
     posts-on None same = refl
     posts-on (Some seat) same =
         ap (λ (p : Post). slice_set (posts_from s 0 w.seats) m p) (same seat refl)
         ∙ posts-set s 0 w.seats m (change seat)
 
-    scene-on : (seat : Option worlds.Seated) → scene_of s (on_seat w m change seat) ≡ record (scene_of s w) { posts = posts_from s 0 (on_seat w m change seat).seats }
+    scene-on : (seat : Option worlds.Seat) → scene_of s (on_seat w m change seat) ≡ record (scene_of s w) { posts = posts_from s 0 (on_seat w m change seat).seats }
     scene-on None = refl
     scene-on (Some seat) = refl
 
-    pub changed-same : ((x : worlds.Seated) → slice_get w.seats m ≡ Some x → post (post_of s (place 0 m) x) ≡ post_of s (place 0 m) (change x))
+    pub changed-same : ((x : worlds.Seat) → slice_get w.seats m ≡ Some x → post (post_of s (place 0 m) x) ≡ post_of s (place 0 m) (change x))
         → scene_of s (on_seat w m change (slice_get w.seats m)) ≡ record (scene_of s w) { posts = changed_at (posts_from s 0 w.seats) m post (slice_get (posts_from s 0 w.seats) m) }
     changed-same same =
         scene-on (slice_get w.seats m)
         ∙ ap (λ (posts : List Post). record (scene_of s w) { posts = posts })
         (sym (posts-on (slice_get w.seats m) same) ∙ ap (λ (p : Option Post). changed_at (posts_from s 0 w.seats) m post p) (sym (posts-get s 0 w.seats m)))
 
-    on-open : (seat : Option worlds.Seated) → (on_seat w m change seat).sequences ≡ w.sequences
+    on-open : (seat : Option worlds.Seat) → (on_seat w m change seat).sequences ≡ w.sequences
     on-open None = refl
     on-open (Some seat) = refl
 

@@ -60,7 +60,7 @@ first-shown trust lines =
     }
 
 -- a post for each seat
-pub posts-many : (s : Setting) (k : ℕ) (seats : List worlds.Seated) → length (posts_from s k seats) ≡ length seats
+pub posts-many : (s : Setting) (k : ℕ) (seats : List worlds.Seat) → length (posts_from s k seats) ≡ length seats
 posts-many s k [] = refl
 posts-many s k (seat ∷ seats) = ap (λ (n : ℕ). suc n) (posts-many s (suc k) seats)
 
@@ -70,7 +70,7 @@ posts-shown trust s w sc shows = ap (λ (x : Scene). length x.posts) shows.scene
 -- ---- transactions
 
 module _ (s : Setting) where
-  held-one : (key : ObjectKey) (k : ℕ) (seat : worlds.Seated) (honest up : Bool)
+  held-one : (key : ObjectKey) (k : ℕ) (seat : worlds.Seat) (honest up : Bool)
       → cond (honest && up) (held_digest key (member_in s seat)) None
       ≡ cond honest (held_by key (cond up (Some (seat_at (terms_of s.rules) k (member_in s seat))) None)) None
   held-one key k seat true true = refl
@@ -78,7 +78,7 @@ module _ (s : Setting) where
   held-one key k seat false true = refl
   held-one key k seat false false = refl
 
-  held-same : (key : ObjectKey) (k : ℕ) (seats : List worlds.Seated) → says_first s (held_digest key) seats ≡ held_in (posts_from s k seats) key
+  held-same : (key : ObjectKey) (k : ℕ) (seats : List worlds.Seat) → says_first s (held_digest key) seats ≡ held_in (posts_from s k seats) key
   held-same key k [] = refl
   held-same key k (seat ∷ seats) =
       ap (λ (d : Option Digest). first_some (d ∷ says_first s (held_digest key) seats ∷ [])) (held-one key k seat seat.honest seat.up)
@@ -94,12 +94,12 @@ module _ (s : Setting) where
 
   -- ---- false votes
 
-  pub bare-honest : (k : ℕ) (seats : List worlds.Seated) (m : ℕ) → honest_seat (slice_get seats m) ≡ honest_seat (slice_get (map bare_seat (posts_from s k seats)) m)
+  pub bare-honest : (k : ℕ) (seats : List worlds.Seat) (m : ℕ) → honest_seat (slice_get seats m) ≡ honest_seat (slice_get (map bare_seat (posts_from s k seats)) m)
   bare-honest k [] m = refl
   bare-honest k (seat ∷ seats) zero = refl
   bare-honest k (seat ∷ seats) (suc m) = bare-honest (suc k) seats m
 
-  bare-votes : (w : World) (tx : Digest) (n k : ℕ) (seats : List worlds.Seated)
+  bare-votes : (w : World) (tx : Digest) (n k : ℕ) (seats : List worlds.Seat)
       → first_of (honest_vote w tx) (enumerate_from n seats) ≡ first_of (honest_vote (bare_world (scene_of s w)) tx) (enumerate_from n (map bare_seat (posts_from s k seats)))
   bare-votes w tx n k [] = refl
   bare-votes w tx n k (seat ∷ seats) =
@@ -254,7 +254,7 @@ module _ (s : Setting) where
 
   -- ---- acknowledgements
 
-  says-one : {A : Type 0} (says : Member → Option A) (k : ℕ) (seat : worlds.Seated) (honest up : Bool)
+  says-one : {A : Type 0} (says : Member → Option A) (k : ℕ) (seat : worlds.Seat) (honest up : Bool)
       → cond (honest && up) (says (member_in s seat)) None
       ≡ cond honest (option_and_then (λ (x : Seated). says x.state) (cond up (Some (seat_at (terms_of s.rules) k (member_in s seat))) None)) None
   says-one says k seat true true = refl
@@ -262,7 +262,7 @@ module _ (s : Setting) where
   says-one says k seat false true = refl
   says-one says k seat false false = refl
 
-  says-same : {A : Type 0} (says : Member → Option A) (k : ℕ) (seats : List worlds.Seated) → says_first s says seats ≡ says_in says (posts_from s k seats)
+  says-same : {A : Type 0} (says : Member → Option A) (k : ℕ) (seats : List worlds.Seat) → says_first s says seats ≡ says_in says (posts_from s k seats)
   says-same says k [] = refl
   says-same {A} says k (seat ∷ seats) =
       ap (λ (d : Option A). first_some (d ∷ says_first s says seats ∷ [])) (says-one says k seat seat.honest seat.up)
@@ -341,7 +341,7 @@ restart-same : (s : Setting) (w : World) (m : ℕ) (state : Member) → Restarts
 unfolding happens
 restart-same s w m state restarts starts =
     changed-same s w m started_seat (starting (terms_of s.rules) m state) (λ seat at.
-    let from : started s.rules s.opening (spelled seat.records) ≡ Ok state = subst (λ (x : Option worlds.Seated). started s.rules s.opening (spelled (records_of x)) ≡ Ok state) at starts in
+    let from : started s.rules s.opening (spelled seat.records) ≡ Ok state = subst (λ (x : Option worlds.Seat). started s.rules s.opening (spelled (records_of x)) ≡ Ok state) at starts in
     let is : state ≡ member_in s seat = said-state state (member_in s seat) (sym from ∙ restarts.starts m seat at) in
     ap (λ (x : Member). record { honest = seat.honest; standing = Some (seat_at (terms_of s.rules) m x); armed = None }) is
     ∙ ap (λ (k : ℕ). record { honest = seat.honest; standing = Some (seat_at (terms_of s.rules) k (member_in s seat)); armed = None }) (sym (place-first m)))

@@ -29,13 +29,13 @@ use Rattle.scene_spec.specs.Steps.{Work, idle, asks, hands}
 
 -- ---- the scene of a world
 
-abbrev pub standing_of : Setting → ℕ → worlds.Seated → Option Seated
+abbrev pub standing_of : Setting → ℕ → worlds.Seat → Option Seated
 standing_of s m seat = if seat.up then Some (seat_at (terms_of s.rules) m (member_in s seat)) else None
 
-abbrev pub post_of : Setting → ℕ → worlds.Seated → Post
+abbrev pub post_of : Setting → ℕ → worlds.Seat → Post
 post_of s m seat = record { honest = seat.honest; standing = standing_of s m seat; armed = seat.armed }
 
-abbrev pub posts_from : Setting → ℕ → List worlds.Seated → List Post
+abbrev pub posts_from : Setting → ℕ → List worlds.Seat → List Post
 posts_from s m [] = []
 posts_from s m (seat ∷ seats) = post_of s m seat ∷ posts_from s (suc m) seats
 
@@ -103,8 +103,8 @@ TellsFront (Some lists) w = (m : ℕ) → IsFront (journal_of lists m) (journal_
 
 -- every member starts from its journal in its state, and each of its records was due behind those before it
 pub record Restarts (s : Setting) (w : World) : Type 0 where
-  pub starts : (m : ℕ) (seat : worlds.Seated) → slice_get w.seats m ≡ Some seat → started s.rules s.opening (spelled seat.records) ≡ Ok (member_in s seat)
-  pub due : (m : ℕ) (seat : worlds.Seated) → slice_get w.seats m ≡ Some seat → Along (IsDueBehind s.rules s.opening) [] seat.records
+  pub starts : (m : ℕ) (seat : worlds.Seat) → slice_get w.seats m ≡ Some seat → started s.rules s.opening (spelled seat.records) ≡ Ok (member_in s seat)
+  pub due : (m : ℕ) (seat : worlds.Seat) → slice_get w.seats m ≡ Some seat → Along (IsDueBehind s.rules s.opening) [] seat.records
 
 -- what is read from the bytes of a call is a value of its type
 abbrev pub ReadsFit : Call → Type 0
