@@ -280,7 +280,11 @@ fn said_of<R: Threads + Wait + Sync, S: MakesSeals + Drop + Send + Sync>(
         return said_line(alloc, 8, b"desk: only tx lines\n".as_slice());
     }
     match world_of(rt, alloc, schedule, &sealer) {
-        Ok(world) => said_in(rt, alloc, callers, &world, schedule, sealer),
+        Ok(world) => {
+            let said = said_in(rt, alloc, callers, &world, schedule, sealer);
+            drop(world);
+            said
+        }
         Err(OutOfMemory) => Err(OutOfMemory),
     }
 }

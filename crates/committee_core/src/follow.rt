@@ -18,7 +18,7 @@ ghost use Rattle.committee_core.specs.declared.silent.Unrun.TheVariants as unrun
 use crate::replay::say_refused;
 use crate::silent::{Unrun, world_behind};
 use crate::text::LONGEST_TEXT;
-use crate::verdict::{Verdict, verdict_line, verdict_of, verdict_status};
+use crate::verdict::{Verdict, verdict_behind, verdict_line, verdict_status};
 use outside::{Keeper, OutFault, Sink, Source, read_text, write_all};
 use std::alloc::Global;
 use std::thread::Threads;
@@ -41,7 +41,7 @@ fn find_verdict<R: Threads + Sync, D: Keeper>(
     ensures keep_fault { IsErrOf result unrun.KeepFault → Rose (D.failed keeper.old) (D.failed keeper.new) }
 {
     match world_behind(rt, alloc, text, keeper) {
-        Ok(world) => match verdict_of(alloc, &world, member) {
+        Ok(world) => match verdict_behind(alloc, world, member) {
             Ok(verdict) => Ok(verdict),
             Err(OutOfMemory) => Err(Unrun::OutOfMemory),
         },

@@ -194,7 +194,11 @@ fn replay_honest<S: MakesSeals, K: Sink, D: Keeper>(
     ensures cut { (result ≡ 5) ⊎ (result ≡ 7) → SaysFront (member_ending (trust_by (S.made sealer.now) (S.accepts sealer.now)) schedule.now member) member (D.lists keeper.old) (K.held sink.old) (K.held sink.new) }
 {
     match world.replay(keeper, sealer, member) {
-        Ok(replayed) => say_started(alloc, world, member, &replayed, sink),
+        Ok(replayed) => {
+            let status = say_started(alloc, world, member, &replayed, sink);
+            drop(replayed);
+            status
+        }
         Err(RestartFault::BadRecord { place }) => say_bad_record(alloc, member, place, sink),
         Err(RestartFault::KeepFault) => 6,
         Err(RestartFault::OutOfMemory) => 7,
@@ -245,7 +249,11 @@ fn replay_schedule<S: MakesSeals, K: Sink, D: Keeper>(
     ensures cut { (result ≡ 5) ⊎ (result ≡ 7) → SaysFront (member_ending (trust_by (S.made sealer.now) (S.accepts sealer.now)) schedule.now member) member (D.lists keeper.old) (K.held sink.old) (K.held sink.new) }
 {
     match open_world(alloc, schedule, sealer) {
-        Ok(world) => replay_member(alloc, &world, schedule, member, sealer, sink, keeper),
+        Ok(world) => {
+            let status = replay_member(alloc, &world, schedule, member, sealer, sink, keeper);
+            drop(world);
+            status
+        }
         Err(OutOfMemory) => 7,
     }
 }

@@ -67,7 +67,10 @@ pub(crate) fn run_text<R: Threads + Sync, S: MakesSeals, K: Sink, D: Keeper>(
 {
     match read_schedule(alloc, text) {
         Ok(schedule) => match run_schedule(rt, alloc, &schedule, sealer, sink, keeper) {
-            Ok(_world) => Ok(Ended::Ran),
+            Ok(world) => {
+                drop(world);
+                Ok(Ended::Ran)
+            }
             Err(stop) => Err(stop),
         },
         Err(ScheduleRefusal::Refused { line, cause }) => match refuse(alloc, line, cause, sink) {

@@ -116,7 +116,11 @@ fn verdict_on(alloc: Global, world: &World, validator: &Validator) -> Result<Ver
 {
     let archive = Built { world, validator };
     match catch_up(alloc, world.opening(), &archive, validator.epoch()) {
-        Ok(follower) => verdict_at(validator, &follower),
+        Ok(follower) => {
+            let said = verdict_at(validator, &follower);
+            drop(follower);
+            said
+        }
         Err(CatchUpRefusal::Stuck { number, place }) => Ok(Verdict::Stuck { number, place }),
         Err(CatchUpRefusal::Differs { number, place }) => Ok(Verdict::Differs { number, place }),
         Err(CatchUpRefusal::OutOfMemory) => Err(OutOfMemory),
@@ -124,7 +128,7 @@ fn verdict_on(alloc: Global, world: &World, validator: &Validator) -> Result<Ver
 }
 
 /// What is said of a member of a world.
-pub(crate) fn verdict_of(alloc: Global, world: &World, member: u32) -> Result<Verdict, OutOfMemory>
+fn verdict_of(alloc: Global, world: &World, member: u32) -> Result<Verdict, OutOfMemory>
     ensures { IfOk result (IsVerdict (transaction_of world.now.known) world.now.opening (asked_at (slice_get world.now.posts member))) }
 {
     if !world.is_honest(member) {
@@ -134,6 +138,19 @@ pub(crate) fn verdict_of(alloc: Global, world: &World, member: u32) -> Result<Ve
         Some(validator) => verdict_on(alloc, world, validator),
         None => Ok(Verdict::Down),
     }
+}
+
+/// What is said of a member of a world, which is let go.
+pub(crate) fn verdict_behind(
+    alloc: Global,
+    world: World,
+    member: u32,
+) -> Result<Verdict, OutOfMemory>
+    ensures { IfOk result (IsVerdict (transaction_of world.known) world.opening (asked_at (slice_get world.posts member))) }
+{
+    let said = verdict_of(alloc, &world, member);
+    drop(world);
+    said
 }
 
 /// The status that a verdict ends with.

@@ -12,5 +12,5 @@ returns-then-not-only_tx g c =
 
 pub returns-in-Ok : goal.returns-in-Ok
 returns-in-Ok g c =
-    said_txs c.said_in.result (trust_by (g.S.MakesSeals.made c.args.sealer) (g.S.Sealer.accepts c.args.sealer)) c.args.callers c.args.schedule.now
-    (sym (c.if-not-only_tx.ensures ∙ ap (list_all is_tx) c.as_slice.ensures.value)) c.said_in.ensures
+    said_txs c.said_in-said.result (trust_by (g.S.MakesSeals.made c.args.sealer) (g.S.Sealer.accepts c.args.sealer)) c.args.callers c.args.schedule.now
+    (sym (c.if-not-only_tx.ensures ∙ ap (list_all is_tx) c.as_slice.ensures.value)) c.said_in-said.ensures

@@ -4,13 +4,13 @@ use Rattle.committee_core.proofs.Replays.{bad_not_zero, cut_bad, cut_started, ke
 use Rattle.committee_core.proofs.replay.replay_honest.Goals as goal
 
 pub returns-in-Ok-clause-whole : goal.returns-in-Ok-clause-whole
-returns-in-Ok-clause-whole g c = λ is. said_started (trust_by (g.S.MakesSeals.made c.args.sealer.now) (g.S.Sealer.accepts c.args.sealer.now)) c.args.schedule.now c.args.member _ _ _ c.args.world.now c.in-Ok.replayed c.requires.opened c.requires.honest c.in-Ok.ensures.ok (c.say_started.ensures.written is)
+returns-in-Ok-clause-whole g c = λ is. said_started (trust_by (g.S.MakesSeals.made c.args.sealer.now) (g.S.Sealer.accepts c.args.sealer.now)) c.args.schedule.now c.args.member _ _ _ c.args.world.now c.in-Ok.replayed c.requires.opened c.requires.honest c.in-Ok.ensures.ok (c.say_started-status.ensures.written is)
 
 pub returns-in-Ok-clause-bad : goal.returns-in-Ok-clause-bad
-returns-in-Ok-clause-bad g c = λ is. started_not_six c.say_started.result c.say_started.ensures.known is
+returns-in-Ok-clause-bad g c = λ is. started_not_six c.say_started-status.result c.say_started-status.ensures.known is
 
 pub returns-in-Ok-clause-cut : goal.returns-in-Ok-clause-cut
-returns-in-Ok-clause-cut g c = λ is. cut_started (trust_by (g.S.MakesSeals.made c.args.sealer.now) (g.S.Sealer.accepts c.args.sealer.now)) c.args.schedule.now c.args.member _ _ _ c.args.world.now c.in-Ok.replayed c.requires.opened c.requires.honest c.in-Ok.ensures.ok (c.say_started.ensures.cut is)
+returns-in-Ok-clause-cut g c = λ is. cut_started (trust_by (g.S.MakesSeals.made c.args.sealer.now) (g.S.Sealer.accepts c.args.sealer.now)) c.args.schedule.now c.args.member _ _ _ c.args.world.now c.in-Ok.replayed c.requires.opened c.requires.honest c.in-Ok.ensures.ok (c.say_started-status.ensures.cut is)
 
 pub returns-in-Err-BadRecord-clause-whole : goal.returns-in-Err-BadRecord-clause-whole
 returns-in-Err-BadRecord-clause-whole g c = λ is. bad_not_zero c.say_bad_record.result c.say_bad_record.ensures.known is
@@ -40,7 +40,7 @@ pub returns-in-Err-OutOfMemory-clause-cut : goal.returns-in-Err-OutOfMemory-clau
 returns-in-Err-OutOfMemory-clause-cut g c = λ is. inl (keeps_held (g.K.Sink.held c.args.sink.now))
 
 pub returns-in-Ok-clause-known : goal.returns-in-Ok-clause-known
-returns-in-Ok-clause-known g c = known_started c.say_started.result c.say_started.ensures.known
+returns-in-Ok-clause-known g c = known_started c.say_started-status.result c.say_started-status.ensures.known
 
 pub returns-in-Err-BadRecord-clause-known : goal.returns-in-Err-BadRecord-clause-known
 returns-in-Err-BadRecord-clause-known g c = known_bad c.say_bad_record.result c.say_bad_record.ensures.known

@@ -4,22 +4,22 @@ use Rattle.committee_core.proofs.replay.replay_schedule.Goals as goal
 use Rattle.validator_core.proofs.Settling.{keeps_same}
 
 pub returns-in-Ok-clause-known : goal.returns-in-Ok-clause-known
-returns-in-Ok-clause-known g c = c.replay_member.ensures.known
+returns-in-Ok-clause-known g c = c.replay_member-status.ensures.known
 
 pub returns-in-Ok-clause-stays : goal.returns-in-Ok-clause-stays
-returns-in-Ok-clause-stays g c = c.replay_member.ensures.stays
+returns-in-Ok-clause-stays g c = c.replay_member-status.ensures.stays
 
 pub returns-in-Ok-clause-whole : goal.returns-in-Ok-clause-whole
-returns-in-Ok-clause-whole g c = c.replay_member.ensures.whole
+returns-in-Ok-clause-whole g c = c.replay_member-status.ensures.whole
 
 pub returns-in-Ok-clause-write_fault : goal.returns-in-Ok-clause-write_fault
-returns-in-Ok-clause-write_fault g c = c.replay_member.ensures.write_fault
+returns-in-Ok-clause-write_fault g c = c.replay_member-status.ensures.write_fault
 
 pub returns-in-Ok-clause-bad : goal.returns-in-Ok-clause-bad
-returns-in-Ok-clause-bad g c = c.replay_member.ensures.bad
+returns-in-Ok-clause-bad g c = c.replay_member-status.ensures.bad
 
 pub returns-in-Ok-clause-cut : goal.returns-in-Ok-clause-cut
-returns-in-Ok-clause-cut g c = c.replay_member.ensures.cut
+returns-in-Ok-clause-cut g c = c.replay_member-status.ensures.cut
 
 pub returns-in-Err-clause-stays : goal.returns-in-Err-clause-stays
 returns-in-Err-clause-stays g c = keeps_same (g.D.Keeper.lists c.args.keeper.now)
