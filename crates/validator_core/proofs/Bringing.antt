@@ -1,5 +1,5 @@
 -- How the course of an epoch stays sound where an entry of its sequence is taken.
-use Rattle.std.proofs.Common.{◌≡◌, ◌∙◌, arith, ℕ, ◌+◌, ◌-◌, ◌≤◌, Bool, true, false, cond, List, [], ◌∷◌, ◌++◌, map, length, take, drop, refl, sym, ap, subst}
+use Rattle.std.proofs.Common.{◌≡◌, ◌∙◌, arith, ℕ, ◌+◌, ◌≤◌, Bool, true, false, cond, List, [], ◌∷◌, ◌++◌, map, length, take, drop, refl, sym, ap, subst}
 use Rattle.std.specs.Prelude.{Option, Some, None, is_some, ◌==◌}
 use Rattle.std.proofs.lemmas.List.{length-map}
 use Rattle.std.proofs.lemmas.Bool.{eqb-true}
@@ -30,7 +30,7 @@ use Rattle.version_assign.specs.Calls.{Admitting, with_entry as with_certificate
 use Rattle.version_assign.specs.Sharing.{HasShared, ServesAs}
 use Rattle.version_assign.proofs.Sharing.{kept_serve}
 use Rattle.validator_core.specs.declared.course.Course.{Course}
-use Rattle.validator_core.specs.Courses.{Coursed, IsAdmitting, IsSound, IsUnbuilt, WaitsIn, arrives, brings, coursed, ends, marks, numbered_in}
+use Rattle.validator_core.specs.Courses.{Coursed, IsAdmitting, IsSound, IsUnbuilt, WaitsIn, arrives, brings, coursed, marks, numbered_in}
 use Rattle.validator_core.specs.declared.entries.Arrival.{Arrival}
 use Rattle.validator_core.specs.declared.entries.Arrival.TheVariants as arrivals
 use Rattle.validator_core.specs.Entries.{behind_entry, waiting_answer, what_as}

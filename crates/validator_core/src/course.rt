@@ -20,6 +20,7 @@ use effects_core::HashedEffects;
 use epoch_turn::{Chain, EndCount, tell};
 use exec_plan::Waiting;
 use std::alloc::Global;
+use std::mem::replace;
 use std::thread::Threads;
 use version_assign::Admission;
 use version_store::Store;
@@ -55,12 +56,17 @@ impl Course {
         ensures sound { IfOk result IsSound }
         ensures value { IfOk result (λ c. coursed c ≡ begun opening.now writers) }
     {
+        let store = Store::opening(alloc, opening)?;
+        let Ok(admission) = Admission::new(alloc, opening, writers) else {
+            drop(store);
+            return Err(OutOfMemory);
+        };
         Ok(Course {
             epoch: 0,
-            store: Store::opening(alloc, opening)?,
+            store,
             held: HeldBook::new(alloc),
             waiting: Waiting::new(alloc),
-            admission: Admission::new(alloc, opening, writers)?,
+            admission,
             chain: Chain::new(alloc),
             seen: 0,
             ends: EndCount::new(),
@@ -76,10 +82,10 @@ impl Course {
         ensures stays { Stays self.old self.new }
         ensures seen { self.new.seen ≡ self.old.seen }
     {
-        self.held = HeldBook::new(self.alloc);
-        self.waiting = Waiting::new(self.alloc);
+        drop(replace(&mut self.held, HeldBook::new(self.alloc)));
+        drop(replace(&mut self.waiting, Waiting::new(self.alloc)));
         self.admission.clear();
-        self.chain = Chain::new(self.alloc);
+        drop(replace(&mut self.chain, Chain::new(self.alloc)));
         self.ended = false;
     }
 

@@ -7,6 +7,8 @@ use crate::course::Course;
 use digest_core::Digest;
 use epoch_turn::{Chain, EndCount, renew, revert_uncut};
 use exec_plan::Waiting;
+use std::alloc::Global;
+use std::mem::replace;
 use version_assign::Admission;
 use version_store::Store;
 use vote_rules::HeldBook;
@@ -23,19 +25,34 @@ fn next_of(epoch: u64) -> Option<u64>
 }
 
 impl Course {
+    /// Epoch 0 of a member that has nothing and opened with nothing, under this limit of writers. Takes no memory.
+    fn empty(alloc: Global, writers: Option<u32>) -> Course
+        ensures sound { IsSound result }
+        ensures limit { result.admission.writers ≡ writers }
+        ensures seen { result.seen ≡ 0 }
+    {
+        Course {
+            epoch: 0,
+            store: Store::empty(alloc),
+            held: HeldBook::new(alloc),
+            waiting: Waiting::new(alloc),
+            admission: Admission::empty(alloc, writers),
+            chain: Chain::new(alloc),
+            seen: 0,
+            ends: EndCount::new(),
+            ended: false,
+            alloc,
+        }
+    }
+
     /// Has nothing, where memory was refused as the epoch turned. Takes no memory.
     pub(crate) fn abandon(&mut self)
         ensures sound { IsSound self.new }
         ensures limit { self.new.admission.writers ≡ self.old.admission.writers }
         ensures seen { self.new.seen ≡ 0 }
     {
-        self.store = Store::empty(self.alloc);
-        self.held = HeldBook::new(self.alloc);
-        self.waiting = Waiting::new(self.alloc);
-        self.admission = Admission::empty(self.alloc, self.admission.writers());
-        self.chain = Chain::new(self.alloc);
-        self.seen = 0;
-        self.ended = false;
+        let empty = Course::empty(self.alloc, self.admission.writers());
+        drop(replace(self, empty));
     }
 
     /// Goes to the next epoch (epoch change of Sui Lutris): undoes what was executed and stands in no cut, opens with the
@@ -57,8 +74,8 @@ impl Course {
         renew(self.alloc, &self.store, &mut self.admission)?;
         self.store.turn()?;
         self.chain.turn();
-        self.held = HeldBook::new(self.alloc);
-        self.waiting = Waiting::new(self.alloc);
+        drop(replace(&mut self.held, HeldBook::new(self.alloc)));
+        drop(replace(&mut self.waiting, Waiting::new(self.alloc)));
         self.seen = 0;
         self.ends = EndCount::new();
         self.ended = false;

@@ -38,6 +38,7 @@ use epoch_turn::{first_unordered, ordered_on};
 use quorum_core::Committee;
 use std::alloc::Global;
 use std::marker::Model;
+use std::mem::replace;
 use std::thread::Threads;
 use vote_rules::{Fork, VoteBook};
 use wire_bcs::{OutOfMemory, Seq};
@@ -81,12 +82,13 @@ impl State {
         requires { AreApart opening.now }
         ensures { IfOk result (λ s. s ≡ record { writers = writers; member = fresh opening.now }) }
     {
+        let course = Course::fresh(alloc, opening, writers)?;
         Ok(State {
             records: 0,
             closed: false,
             votes: VoteBook::new(alloc),
             ordered: 0,
-            course: Course::fresh(alloc, opening, writers)?,
+            course,
             alloc,
         })
     }
@@ -434,7 +436,7 @@ impl State {
             Ok(reverted) => {
                 self.records += 1;
                 self.closed = false;
-                self.votes = VoteBook::new(self.alloc);
+                drop(replace(&mut self.votes, VoteBook::new(self.alloc)));
                 self.ordered = 0;
                 Ok(reverted)
             }

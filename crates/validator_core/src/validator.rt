@@ -87,9 +87,13 @@ impl Validator {
                 state,
             }),
             Err(StartRefusal::BadRecord { place, why }) => {
+                drop(state);
                 Err(StartRefusal::BadRecord { place, why })
             }
-            Err(StartRefusal::OutOfMemory) => Err(StartRefusal::OutOfMemory),
+            Err(StartRefusal::OutOfMemory) => {
+                drop(state);
+                Err(StartRefusal::OutOfMemory)
+            }
         }
     }
 

@@ -53,7 +53,7 @@ impl Seat {
     pub(crate) fn start(&mut self, validator: Validator)
         ensures { self.new ≡ record { honest = self.old.honest; standing = Some validator; armed = None } }
     {
-        self.validator = Some(validator);
+        drop(self.validator.replace(validator));
         self.armed = None;
     }
 
@@ -61,7 +61,7 @@ impl Seat {
     fn stop(&mut self)
         ensures { self.new ≡ record self.old { standing = None; armed = None } }
     {
-        self.validator = None;
+        drop(self.validator.take());
         self.armed = None;
     }
 
@@ -69,7 +69,7 @@ impl Seat {
     fn fall(&mut self)
         ensures { self.new ≡ fallen self.old }
     {
-        self.validator = None;
+        drop(self.validator.take());
     }
 
     /// Whether the member is honest. Takes no memory.

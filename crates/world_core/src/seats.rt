@@ -102,8 +102,8 @@ impl Seats {
         requires few { length honest.now ≤ 64 }
         ensures { IfOk result (λ seats. seats ≡ record { terms = terms.now; posts = new_posts terms.now opening.now 0 honest.now }) }
     {
-        let seats = new_seats(alloc, terms, honest, opening, sealer)?;
         let flags = Seq::from_slice(alloc, honest)?;
+        let seats = new_seats(alloc, terms, honest, opening, sealer)?;
         Ok(Seats {
             terms: terms.copy(),
             flags,

@@ -1,5 +1,10 @@
-use Rattle.std.proofs.Common.{ap, subst, sym, false}
+use Rattle.std.proofs.Common.{◌∙◌, [], ap, subst, sym, false}
+use Rattle.protocol_spec.specs.Member.Admission.{Admission}
 use Rattle.version_assign.specs.Calls.{Admitting}
+use Rattle.version_store.specs.Stores.{Stored}
+use Rattle.exec_plan.specs.Waits.{IsWaiting}
+use Rattle.exec_plan.specs.declared.waiting.Waiting.{Waiting}
+use Rattle.epoch_turn.specs.Chains.{StartsBehind}
 use Rattle.epoch_turn.specs.Openings.{Opens}
 use Rattle.validator_core.proofs.Coursing.{empty_sound}
 use Rattle.validator_core.proofs.course.Course.forget.Goals as goal
@@ -10,13 +15,14 @@ returns-clause-sound c =
     (record {
       epoch = c.args.self.now.epoch;
       store = c.args.self.now.store;
-      held = c.new.result;
-      waiting = c.new-2.result;
+      held = c.replace.new.dest;
+      waiting = c.replace-2.new.dest;
       admission = c.clear.new.self;
-      chain = c.new-3.result;
+      chain = c.replace-3.new.dest;
       seen = c.args.self.now.seen;
       ends = c.args.self.now.ends;
       ended = false;
       alloc = c.args.self.now.alloc;
     })
-    (subst (λ (a : Admitting). Opens a.opening c.args.self.now.store.opening) (sym c.clear.ensures) c.requires) (ap (λ (a : Admitting). a.admission) c.clear.ensures) c.new.ensures c.new-2.ensures c.new-3.ensures.value c.new-3.ensures.behind
+    (subst (λ (a : Admitting). Opens a.opening c.args.self.now.store.opening) (sym c.clear.ensures) c.requires) (ap (λ (a : Admitting). a.admission) c.clear.ensures) (c.replace.ensures.after ∙ c.new.ensures)
+    (subst (λ (w : Waiting). (s : Stored) (a : Admission) → IsWaiting s a [] w) (sym c.replace-2.ensures.after) c.new-2.ensures) (c.replace-3.ensures.after ∙ c.new-3.ensures.value) (subst StartsBehind (sym c.replace-3.ensures.after) c.new-3.ensures.behind)

@@ -9,15 +9,15 @@ returns-clause-sound c =
     empty_sound
     (record {
       epoch = 0;
-      store = c.in_ok-opening.field-0;
-      held = c.new.result;
-      waiting = c.new-2.result;
-      admission = c.in_ok-new.field-0;
+      store = c.in_ok-store.store;
+      held = c.new-2.result;
+      waiting = c.new-3.result;
+      admission = c.in-Ok.admission;
       chain = c.new-4.result;
       seen = 0;
       ends = c.new-5.result;
       ended = false;
       alloc = c.args.alloc;
     })
-    (opens_apart c.args.opening.now c.in_ok-new.field-0.opening c.in_ok-opening.field-0.opening (ap (λ (a : Admitting). a.opening) c.in_ok-new.ensures) (ap (λ (s : Stored). s.opening) c.in_ok-opening.ensures) c.requires)
-    (ap (λ (a : Admitting). a.admission) c.in_ok-new.ensures) c.new.ensures c.new-2.ensures c.new-4.ensures.value c.new-4.ensures.behind
+    (opens_apart c.args.opening.now c.in-Ok.admission.opening c.in_ok-store.store.opening (ap (λ (a : Admitting). a.opening) c.in-Ok.ensures) (ap (λ (s : Stored). s.opening) c.in_ok-store.ensures) c.requires)
+    (ap (λ (a : Admitting). a.admission) c.in-Ok.ensures) c.new-2.ensures c.new-3.ensures c.new-4.ensures.value c.new-4.ensures.behind
