@@ -1,5 +1,5 @@
--- What contracts see of a world, and what holds of each: its transactions and certificates can be spelled, its entries
--- can be kept, and its opening has no id twice.
+-- What holds of each world: its transactions and certificates can be spelled, its entries can be kept, and its opening
+-- has no id twice.
 use Rattle.std.specs.Prelude.{List}
 use Rattle.chain_types.specs.declared.objects.Object.{Object}
 use Rattle.chain_types.specs.Transactions as transactions
@@ -9,13 +9,7 @@ use Rattle.protocol_spec.specs.Chain.Words.{Each}
 use Rattle.scene_spec.specs.Starts.{AreApart}
 use Rattle.world_spec.specs.World.{Formed, Made}
 use Rattle.scene_spec.specs.Known.{Known}
-use Rattle.scene_spec.specs.Scene.{Scene}
 use Rattle.scene_spec.specs.Worlds.{AreKeepable}
-use Rattle.world_core.specs.declared.world.World.{World}
-
--- what contracts see of a world
-abbrev pub scene_of : World → Scene
-scene_of w = record { terms = w.seats.terms; opening = w.opening; known = w.directory; sequences = w.order.sequences; epoch = w.order.epoch; said = w.said; certs = w.certs; posts = w.seats.posts }
 
 abbrev pub IsSpelled : Made → Type 0
 IsSpelled t = transactions.signed.short t.signed

@@ -52,11 +52,11 @@ pub struct World {
 
 impl Model for World {
     ghost use Rattle.scene_spec.specs.Scene.{Scene};
-    ghost use Rattle.world_core.specs.Sound.{IsSound, scene_of};
+    ghost use Rattle.world_core.specs.Sound.{IsSound};
 
     ghost Value = { Scene };
 
-    ghost view = { scene_of };
+    ghost view = { λ w. record { terms = w.seats.terms; opening = w.opening; known = w.directory; sequences = w.order.sequences; epoch = w.order.epoch; said = w.said; certs = w.certs; posts = w.seats.posts } };
 
     ghost invariant = { λ w. IsSound w.opening w.directory w.certs w.order.sequences };
 }
@@ -76,11 +76,8 @@ impl World {
         let honest = honest_of(alloc, setup)?;
         let opening = opening_of(alloc, setup)?;
         let terms = Terms::new(committee, writers_of(setup));
+        let seats = Seats::new(alloc, &terms, honest.as_slice(), &opening, sealer)?;
         let directory = Directory::new(alloc, setup)?;
-        let Ok(seats) = Seats::new(alloc, &terms, honest.as_slice(), &opening, sealer) else {
-            drop(directory);
-            return Err(OutOfMemory);
-        };
         Ok(World {
             opening,
             directory,
