@@ -77,7 +77,10 @@ impl World {
         let opening = opening_of(alloc, setup)?;
         let terms = Terms::new(committee, writers_of(setup));
         let seats = Seats::new(alloc, &terms, honest.as_slice(), &opening, sealer)?;
-        let directory = Directory::new(alloc, setup)?;
+        let Ok(directory) = Directory::new(alloc, setup) else {
+            drop(seats);
+            return Err(OutOfMemory);
+        };
         Ok(World {
             opening,
             directory,
