@@ -82,6 +82,7 @@ impl Course {
         ensures stays { Stays self.old self.new }
         ensures seen { self.new.seen ≡ self.old.seen }
     {
+        // Let go by name: a table that is dropped in place has its whole drop proved here.
         drop(replace(&mut self.held, HeldBook::new(self.alloc)));
         drop(replace(&mut self.waiting, Waiting::new(self.alloc)));
         self.admission.clear();

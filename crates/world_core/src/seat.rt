@@ -53,6 +53,7 @@ impl Seat {
     pub(crate) fn start(&mut self, validator: Validator)
         ensures { self.new ≡ record { honest = self.old.honest; standing = Some validator; armed = None } }
     {
+        // Let go by name: a member that is dropped in place has the drop of all its tables proved here.
         drop(self.validator.replace(validator));
         self.armed = None;
     }
