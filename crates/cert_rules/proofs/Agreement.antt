@@ -1,9 +1,10 @@
 -- Votes that agree, and the certificate that they make.
 use Rattle.std.proofs.Common.{◌≡◌, ℕ, ◌<◌, ◌≤◌, List, [], ◌∷◌, length, Option, Some, None, Bool, true, false, refl, ap, sym, ◌∙◌, subst, arith}
 use Rattle.std.specs.Prelude.{◌==◌, nat_lt, not, map, option_map}
-use Rattle.std.proofs.lemmas.Bool.{and_parts, eq-eqb, eqb-true, ltb-true}
+use Rattle.std.proofs.lemmas.Bool.{and_parts, eq-eqb, ltb-true}
 use Rattle.digest_core.specs.declared.Digest.{Digest}
 use Rattle.wire_bcs.specs.Ascending.{ascends}
+use Rattle.wire_bcs.proofs.InOrder.{apart, ascends_after}
 use Rattle.quorum_core.specs.Committee.{all_known, is_quorum, is_roll, total_of, weight}
 use Rattle.chain_types.specs.Digests.{transaction_digest}
 use Rattle.chain_types.specs.declared.refusals.CertRefusal.TheVariants as refused
@@ -23,13 +24,6 @@ use Rattle.cert_rules.specs.Collect.{AreSound, IsVoteFor, certificate_of, same_v
 
 -- ---- each voter has its vote
 
-apart : (a b : ℕ) → a < b → (a == b) ≡ false
-apart a b less = go (a == b) refl
-  where
-    go : (x : Bool) → (a == b) ≡ x → (a == b) ≡ false
-    go false e = e
-    go true e = let same = eqb-true a b e in absurd (omega arith)
-
 -- votes that ascend from a member are none of one up to it
 others : (m n : ℕ) (votes : List Sealed) → m ≤ n → ascends (n ∷ voters votes) ≡ true → Each (λ (w : Sealed). (m == w.member) ≡ false) votes
 others m n [] most up = tt
@@ -37,10 +31,6 @@ others m n (w ∷ votes) most up =
     let parts = and_parts (nat_lt n w.member) (ascends (w.member ∷ voters votes)) up in
     let next : n < w.member = ltb-true n w.member parts.0 in
     (apart m w.member (omega arith), others m w.member votes (omega arith) parts.1)
-
-ascends_after : (m : ℕ) (ms : List ℕ) → ascends (m ∷ ms) ≡ true → ascends ms ≡ true
-ascends_after m [] up = refl
-ascends_after m (n ∷ ms) up = (and_parts (nat_lt m n) (ascends (n ∷ ms)) up).1
 
 -- each of these is found under its member
 abbrev AreFound : List Sealed → List Sealed → Type 0

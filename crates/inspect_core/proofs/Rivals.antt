@@ -9,6 +9,7 @@ use Rattle.chain_types.specs.Equal.{key_eq}
 use Rattle.chain_messages.specs.Messages as messages
 use Rattle.chain_messages.specs.declared.messages.Certificate.{Certificate}
 use Rattle.wire_bcs.specs.Ascending.{ascends}
+use Rattle.wire_bcs.proofs.InOrder.{ascends_after}
 use Rattle.quorum_core.specs.Committee.{all_known, is_among, is_roll}
 use Rattle.protocol_spec.proofs.Equality.{key_self}
 use Rattle.protocol_spec.proofs.Truth.{and_true, or_right, or_left, both_true}
@@ -36,10 +37,6 @@ above_less m n (x ∷ xs) less h =
     let b : n < x = ltb-true n x p.0 in
     both_true (nat_lt m x) (above m xs) (lt-ltb m x (omega (arith, a, b))) (above_less m n xs less p.1)
 
-behind_ascend : (m : ℕ) (xs : List ℕ) → ascends (m ∷ xs) ≡ true → ascends xs ≡ true
-behind_ascend m [] h = refl
-behind_ascend m (x ∷ xs) h = (and_true (nat_lt m x) (ascends (x ∷ xs)) h).1
-
 all_above : (m : ℕ) (xs : List ℕ) → ascends (m ∷ xs) ≡ true → above m xs ≡ true
 all_above m [] h = refl
 all_above m (x ∷ xs) h = let p = and_true (nat_lt m x) (ascends (x ∷ xs)) h in
@@ -59,7 +56,7 @@ ascend_onto m (x ∷ xs) h a = both_true (nat_lt m x) (ascends (x ∷ xs)) (and_
 
 ascend_kept : (test : ℕ → Bool) (xs : List ℕ) → ascends xs ≡ true → ascends (filter test xs) ≡ true
 ascend_kept test [] h = refl
-ascend_kept test (x ∷ xs) h = go (test x) (above_kept test x xs (all_above x xs h)) (ascend_kept test xs (behind_ascend x xs h))
+ascend_kept test (x ∷ xs) h = go (test x) (above_kept test x xs (all_above x xs h)) (ascend_kept test xs (ascends_after x xs h))
   where
     go : (b : Bool) → above x (filter test xs) ≡ true → ascends (filter test xs) ≡ true → ascends (cond b (x ∷ filter test xs) (filter test xs)) ≡ true
     go true over rest = ascend_onto x (filter test xs) over rest

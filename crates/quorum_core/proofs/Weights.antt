@@ -1,9 +1,10 @@
 -- Weights: their bounds, and what one more member of a roll adds.
 use Rattle.std.proofs.Common.{◌≡◌, ℕ, zero, suc, ◌+◌, ◌*◌, ◌<◌, ◌≤◌, Bool, true, false, cond, ◌||◌, List, [], ◌∷◌, length, get_or, drop, drop-cons, take, take_all, add-one, refl, ap, sym, ◌∙◌, arith}
-use Rattle.std.specs.Prelude.{◌==◌, nat_lt, sum}
-use Rattle.std.proofs.lemmas.Bool.{ltb-true, and_parts, and_from, eqb-true, eq-eqb}
+use Rattle.std.specs.Prelude.{nat_lt, sum}
+use Rattle.std.proofs.lemmas.Bool.{ltb-true, and_parts, and_from, eq-eqb}
 use Rattle.std.proofs.lemmas.Grind.{common_steps}
 use Rattle.wire_bcs.specs.Ascending.{ascends}
+use Rattle.wire_bcs.proofs.InOrder.{apart, apart_over, ascends_after}
 use Rattle.quorum_core.specs.Committee.{weight_from, weight_of, weight, total_of, is_among, is_roll, all_known}
 
 all_from : (member : ℕ) (stakes : List ℕ) → weight_from member stakes (λ _. true) ≡ sum stakes
@@ -26,20 +27,6 @@ most_from member (stake ∷ stakes) among = let a = part_most (among member) sta
 pub weight_most : (stakes members : List ℕ) → weight stakes members ≤ total_of stakes
 unfolding total_of weight_of
 weight_most stakes members = most_from 0 stakes (is_among members)
-
-apart : (a b : ℕ) → a < b → (a == b) ≡ false
-apart a b less = go (a == b) refl
-  where
-    go : (x : Bool) → (a == b) ≡ x → (a == b) ≡ false
-    go false e = e
-    go true e = let same = eqb-true a b e in absurd (omega arith)
-
-apart_over : (a b : ℕ) → a < b → (b == a) ≡ false
-apart_over a b less = go (b == a) refl
-  where
-    go : (x : Bool) → (b == a) ≡ x → (b == a) ≡ false
-    go false e = e
-    go true e = let same = eqb-true b a e in absurd (omega arith)
 
 -- a member below the list's first adds nothing to it
 past_from : (member : ℕ) (stakes : List ℕ) (m : ℕ) (ms : List ℕ) → m < member → weight_from member stakes (is_among (m ∷ ms)) ≡ weight_from member stakes (is_among ms)
@@ -76,10 +63,6 @@ above m n (k ∷ ks) less up =
 new_in : (m : ℕ) (ms : List ℕ) → ascends (m ∷ ms) ≡ true → is_among ms m ≡ false
 new_in m [] up = refl
 new_in m (n ∷ ms) up = let parts = and_parts (nat_lt m n) (ascends (n ∷ ms)) up in above m n ms (ltb-true m n parts.0) parts.1
-
-ascends_after : (m : ℕ) (ms : List ℕ) → ascends (m ∷ ms) ≡ true → ascends ms ≡ true
-ascends_after m [] up = refl
-ascends_after m (n ∷ ms) up = (and_parts (nat_lt m n) (ascends (n ∷ ms)) up).1
 
 -- the first member of a roll is known, the others are a roll, and it adds its stake to their weight
 pub record FirstOfRoll (stakes : List ℕ) (m : ℕ) (ms : List ℕ) : Type 0 where

@@ -3,3 +3,4 @@ pub mod Ulebs
 pub mod Texts
 pub mod Loops
 pub mod Decoding
+pub mod InOrder
