@@ -1,12 +1,32 @@
-"""What rattle is told of a crate that is checked over libraries which were built before: for tools/beside and tools/tower."""
+"""What rattle is told of a crate that is checked over libraries which were built before, and the must-fail edits: for tools/beside, tools/tower and tools/edits."""
 
+import glob
+import importlib.machinery
 import os
 import re
 import shutil
+import sys
+import types
 
 KIT = os.path.dirname(os.path.dirname(os.path.realpath(shutil.which("rt"))))
 RATTLE = f"{KIT}/bin/rattle"
 KEPT = ["--incremental", "out/beside/kept"]
+# The folder of a crate's edits that no gate tries.
+DEAR = "must-fail-dear"
+
+
+def kit_of_edits():
+    """The kit's own reading of must-fail edits, and of what a check says to one."""
+    module = types.ModuleType("rt")
+    module.__file__ = f"{KIT}/bin/rt"
+    sys.path.insert(0, f"{KIT}/bin")
+    importlib.machinery.SourceFileLoader("rt", module.__file__).exec_module(module)
+    return module
+
+
+def edits(top, name, folder="must-fail"):
+    """The paths of the edits in this folder of a crate."""
+    return sorted(glob.glob(f"{top}/crates/{name}/{folder}/*.edit"))
 
 
 def below(uses, name, found=None):
