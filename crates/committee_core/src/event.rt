@@ -76,7 +76,9 @@ pub(crate) fn write_bad_record<K: Sink>(
         member: u64::from(member),
         text,
     };
-    write_line(alloc, &line, sink)
+    let written = write_line(alloc, &line, sink);
+    drop(line);
+    written
 }
 
 /// Takes one event, and gives its lines. `room`: the keeper has a list for each member.

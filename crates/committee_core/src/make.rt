@@ -123,7 +123,9 @@ fn write_summary<K: Sink>(
         objects: sums.objects,
         sum: sums.sum,
     };
-    write_line(alloc, &line, sink)
+    let written = write_line(alloc, &line, sink);
+    drop(line);
+    written
 }
 
 /// The command `make`: runs the generator's schedule of so many transactions, and writes its summary. Answers the

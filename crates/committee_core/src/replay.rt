@@ -42,7 +42,9 @@ fn print_restart(member: u32, count: u64, text: &mut Seq<u8>) -> Result<(), OutO
         member: u64::from(member),
         text: RestartText::Records { count },
     };
-    print_line(&line, text)
+    let printed = print_line(&line, text);
+    drop(line);
+    printed
 }
 
 /// The lines of a member that started from its records.

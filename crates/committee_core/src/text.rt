@@ -42,7 +42,9 @@ pub fn refuse<K: Sink>(alloc: Global, line: u64, cause: u8, sink: &mut K) -> Res
         line,
         cause: u64::from(cause),
     };
-    write_line(alloc, &refused, sink)
+    let written = write_line(alloc, &refused, sink);
+    drop(refused);
+    written
 }
 
 /// Runs a text: writes the report of the schedule that it is, or the line that says why it is none.
