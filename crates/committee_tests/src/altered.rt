@@ -3,9 +3,9 @@
 //! reports are worked by hand.
 
 use crate::journals::{expect_record, record_at};
-use crate::runs::run_over;
+use crate::runs::{expect_altered, run_over};
 use committee_core::fresh_keeper;
-use outside::{AlteredKeeper, MemKeeper, MemSink};
+use outside::{MemKeeper, MemSink};
 use std::alloc::Global;
 use std::process::Abort;
 use std::sync::Wait;
@@ -147,13 +147,7 @@ fn expect<R: Abort + Threads + Wait + Sync>(
     status: u8,
     report: &str,
 ) -> Result<(), Fail> {
-    let inner = fresh_keeper(alloc, &[])?;
-    let mut keeper = AlteredKeeper::new(inner, 0, place, bytes)?;
-    let mut sink = MemSink::new(alloc, &[])?;
-    let ended = run_over(rt, alloc, EPOCHS, 64, 0, &mut sink, &mut keeper)?;
-    assert_eq!(rt; ended, status, "at {place}: {bytes:?}");
-    assert_eq!(rt; sink.bytes(), report.as_bytes(), "at {place}: {bytes:?}");
-    Ok(())
+    expect_altered(rt, alloc, EPOCHS, place, bytes, status, report)
 }
 
 /// What is reported up to the restart, and then this line.

@@ -149,54 +149,56 @@ fn pieces_of_a_longer_report_do_not_matter(rt: HostRuntime) -> Result<(), Fail> 
     expect_narrow(&rt, rt.alloc(), CERTIFIED, 0, 5, "")
 }
 
-#[test]
-fn a_bad_record_is_said(rt: HostRuntime) -> Result<(), Fail> {
-    // a run without its items, and a turn that no member took
-    for byte in [6, 5] {
-        let inner = fresh_keeper(rt.alloc(), &[])?;
-        let mut keeper = AlteredKeeper::new(inner, 0, 0, [byte].as_slice())?;
-        let mut sink = MemSink::new(rt.alloc(), &[])?;
-        let ended = run_over(&rt, rt.alloc(), RESTART, 64, 0, &mut sink, &mut keeper)?;
-        assert_eq!(rt; ended, 6, "at {byte}");
-        assert_eq!(rt;
-            sink.bytes(),
-            b"tx t1: made\nvote 0 t1: voted -\nrestart 0: bad record 0\n".as_slice()
-        );
-    }
-    let mut keeper = fresh_keeper(rt.alloc(), &[])?;
-    let mut sink = MemSink::new(rt.alloc(), &[])?;
-    let ended = run_over(&rt, rt.alloc(), RESTART, 64, 0, &mut sink, &mut keeper)?;
-    assert_eq!(rt; ended, 0);
-    assert_eq!(rt;
-        sink.bytes(),
-        b"tx t1: made\nvote 0 t1: voted -\nrestart 0: records 1\n".as_slice()
-    );
+/// Runs a text over a keeper that gives these bytes at a place of member 0, and gives the status.
+fn run_altered<R: Threads + Wait + Sync>(
+    rt: &R,
+    alloc: Global,
+    text: &str,
+    place: u64,
+    bytes: &[u8],
+    sink: &mut MemSink,
+) -> Result<u8, Fail> {
+    let inner = fresh_keeper(alloc, &[])?;
+    let mut keeper = AlteredKeeper::new(inner, 0, place, bytes)?;
+    let ended = run_over(rt, alloc, text, 64, 0, sink, &mut keeper);
+    drop(keeper);
+    ended
+}
+
+/// Runs a text over such a keeper, and tests the status and the report.
+pub(crate) fn expect_altered<R: Abort + Threads + Wait + Sync>(
+    rt: &R,
+    alloc: Global,
+    text: &str,
+    place: u64,
+    bytes: &[u8],
+    status: u8,
+    report: &str,
+) -> Result<(), Fail> {
+    let mut sink = MemSink::new(alloc, &[])?;
+    let ended = run_altered(rt, alloc, text, place, bytes, &mut sink)?;
+    assert_eq!(rt; ended, status, "at {place}: {bytes:?}");
+    assert_eq!(rt; sink.bytes(), report.as_bytes(), "at {place}: {bytes:?}");
+    drop(sink);
     Ok(())
 }
 
-/// Runs the schedule of four members over a keeper that gives this byte as the first record of member 0.
-fn expect_bad_byte<R: Abort + Threads + Wait + Sync>(
-    rt: &R,
-    alloc: Global,
-    byte: u8,
-) -> Result<(), Fail> {
-    let inner = fresh_keeper(alloc, &[])?;
-    let mut keeper = AlteredKeeper::new(inner, 0, 0, [byte].as_slice())?;
-    let mut sink = MemSink::new(alloc, &[])?;
-    let ended = run_over(rt, alloc, FOUR_RESTART, 64, 0, &mut sink, &mut keeper)?;
-    assert_eq!(rt; ended, 6, "at {byte}");
-    assert_eq!(rt;
-        sink.bytes(),
-        b"tx t1: made\nvote 0 t1: voted -\nrestart 0: bad record 0\n".as_slice(),
-        "at {byte}"
-    );
-    Ok(())
+/// What is reported where the first record is bad.
+const BAD: &str = "tx t1: made\nvote 0 t1: voted -\nrestart 0: bad record 0\n";
+
+#[test]
+fn a_bad_record_is_said(rt: HostRuntime) -> Result<(), Fail> {
+    // a run without its items, and a turn that no member took
+    expect_altered(&rt, rt.alloc(), RESTART, 0, [6].as_slice(), 6, BAD)?;
+    expect_altered(&rt, rt.alloc(), RESTART, 0, [5].as_slice(), 6, BAD)?;
+    let whole = "tx t1: made\nvote 0 t1: voted -\nrestart 0: records 1\n";
+    expect_run(&rt, rt.alloc(), RESTART, [0, 0, 0], 0, whole)
 }
 
 #[test]
 fn a_bad_record_of_one_of_four_is_said(rt: HostRuntime) -> Result<(), Fail> {
-    expect_bad_byte(&rt, rt.alloc(), 6)?;
-    expect_bad_byte(&rt, rt.alloc(), 5)
+    expect_altered(&rt, rt.alloc(), FOUR_RESTART, 0, [6].as_slice(), 6, BAD)?;
+    expect_altered(&rt, rt.alloc(), FOUR_RESTART, 0, [5].as_slice(), 6, BAD)
 }
 
 #[test]
