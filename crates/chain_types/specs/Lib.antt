@@ -3,3 +3,4 @@ pub mod Objects
 pub mod Transactions
 pub mod Digests
 pub mod Feeding
+pub mod Long

@@ -6,6 +6,7 @@
 
 mod digests;
 mod keys;
+mod long;
 mod objects;
 mod objects_wire;
 mod refusals;
@@ -14,6 +15,7 @@ mod transactions_wire;
 
 pub use digests::object_digest;
 pub use keys::{lamport, object_count, owned_keys};
+pub use long::has_long_list;
 pub use objects::{
     Address, Content, Kind, Object, ObjectId, ObjectKey, ObjectRef, Owner, Producer,
 };

@@ -1,7 +1,10 @@
 //! A board of two tasks and one edge, by two callers on two threads, and a board with no task.
 
-ghost use Rattle.std.specs.Prelude.{◌≡◌, ◌+◌, ◌<◌, ◌%◌, ◌^◌, length, replicate, slice_index};
+ghost use Rattle.std.specs.Prelude.{◌≡◌, ◌+◌, ◌<◌, ◌%◌, ◌^◌, length, replicate, slice_index, IfOk, Some};
+ghost use Rattle.dag_core.specs.Values.{source, target, value_of};
+ghost use Rattle.dag_core.specs.Plans.{plan_values};
 ghost use Rattle.steal_board.specs.Boards.{over, view, IsOf, Claimed};
+ghost use Rattle.steal_board.specs.Views.{whole, paper_of, seat_view};
 ghost use Rattle.std.proofs.lemmas.List.{length-replicate};
 
 use dag_core::{Edge, Job, Plan};
@@ -78,18 +81,32 @@ fn claim_here(board: &Board<Link>, mut seat: BoardSeat<Link>, task: u32) -> (Cla
     (found, seat)
 }
 
-#[test]
-fn a_task_waits_for_its_edge(rt: HostRuntime) -> Result<(), Fail> {
-    let alloc = rt.alloc();
+// The board of two tasks, of which the first gives 1 to the second, and the seat with the whole share.
+fn lay_two(alloc: Global) -> Result<(Board<Link>, BoardSeat<Link>), Fail>
+    ensures of { IfOk result (λ laid. IsOf laid.0 laid.1) }
+    ensures view { IfOk result (λ laid. view laid.1 ≡ seat_view (paper_of (over laid.0)) whole) }
+    ensures tasks { IfOk result (λ laid. length (over laid.0).jobs ≡ 2) }
+    ensures edges { IfOk result (λ laid. length (over laid.0).edges ≡ 1) }
+    ensures from { IfOk result (λ laid. source (over laid.0).edges 0 ≡ 0) }
+    ensures to { IfOk result (λ laid. target (over laid.0).edges 0 ≡ 1) }
+    ensures value { IfOk result (λ laid. value_of (plan_values (over laid.0)) 0 ≡ Some 1) }
+{
     let jobs = [Link { takes: 0, gives: 1 }, Link { takes: 1, gives: 0 }];
     let edges = [Edge { from: 0, to: 1 }];
     let jobs = Seq::from_slice(alloc, &jobs)?;
     let edges = Seq::from_slice(alloc, &edges)?;
     let plan = Plan::new(alloc, jobs, edges)?;
-    let (board, mut first) = Board::lay(alloc, &plan)?;
+    Ok(Board::lay(alloc, &plan)?)
+}
+
+#[test]
+fn a_task_waits_for_its_edge(rt: HostRuntime) -> Result<(), Fail> {
+    let alloc = rt.alloc();
+    let (board, mut first) = lay_two(alloc)?;
     let second = board.split(&mut first);
-    assert_eq!(rt; board.claim(&mut first, 1), Claim::Waiting(1));
-    let found = board.claim(&mut first, 0);
+    let (found, first) = claim_here(&board, first, 1);
+    assert_eq!(rt; found, Claim::Waiting(1));
+    let (found, mut first) = claim_here(&board, first, 0);
     assert_eq!(rt; found, Claim::Mine);
     let (found, second) = claim_elsewhere(&rt, &board, second, 0);
     assert_eq!(rt; found, Claim::Taken);

@@ -15,8 +15,6 @@ use Rattle.chain_messages.specs.declared.messages.Certificate.{Certificate}
 use Rattle.chain_types.specs.declared.refusals.CertRefusal.TheVariants as refused
 use Rattle.chain_types.specs.declared.transactions.SignedTx.{SignedTx}
 use Rattle.chain_types.specs.Transactions as transactions
-use Rattle.chain_types.specs.declared.transactions.Argument.{Argument}
-use Rattle.chain_types.specs.declared.transactions.Argument.TheVariants as argument
 
 pub origin_short : (o : Option Digest) → IfSome o digest.short
 unfolding digest
@@ -42,10 +40,3 @@ valid_length r c e = eqb-true (length c.origins) (length (objects_of c.tx)) (whe
 pub tx_short : (x : SignedTx) → transactions.signed.short x → transactions.transaction.short x.tx
 unfolding transactions.signed
 tx_short x short = short.0
-
-pub argument_short : (a : Argument) → transactions.argument.short a
-unfolding transactions.argument
-argument_short argument.Gas = tt
-argument_short (argument.Input n) = tt
-argument_short (argument.Result c) = tt
-argument_short (argument.Nested c k) = (tt, tt)

@@ -2,7 +2,7 @@
 use Rattle.std.proofs.Common.{refl, sym, subst, ap, append_assoc, append-nil, arith, ◌∙◌, length, take, ◌-◌, drop, None, Option, ℕ, zero, suc, ◌+◌, inl, inr, get_or, ◌<◌}
 use Rattle.std.proofs.lemmas.Bool.{eqb-true, eqb-false}
 use Rattle.std.proofs.lemmas.List.{length-append}
-use Rattle.std.specs.Prelude.{◌≡◌, Bool, true, false, cond, not, ◌&&◌, ◌||◌, List, [], ◌∷◌, ◌++◌, filter, find, Some, ◌≤◌, slice_get, slice_set, map, flat_map, ◌==◌, ◌⊎◌, All, slice_index_or}
+use Rattle.std.specs.Prelude.{◌≡◌, Bool, true, false, cond, not, ◌&&◌, ◌||◌, List, [], ◌∷◌, ◌++◌, filter, find, Some, ◌≤◌, slice_get, slice_set, map, flat_map, ◌==◌, ◌⊎◌}
 use Rattle.std.specs.List.{list_any}
 use Rattle.protocol_spec.proofs.Truth.{or_else, some_same}
 use Rattle.protocol_spec.specs.Chain.Words.{Each, Along, IsFront, first_some, Has, numbers_below}
@@ -270,18 +270,6 @@ none_at [] place e = refl
 none_at (Some n ∷ cases) place e = absurd (cc)
 none_at (None ∷ cases) zero e = refl
 none_at (None ∷ cases) (suc place) e = none_at cases place e
-
-pub none_of : {A : Type 0} (test : A → Bool) (P : A → Type 0) → ((x : A) → test x ≡ false → P x) → (xs : List A) → list_any test xs ≡ false → All P xs
-none_of test P holds [] e = λ k d l. absurd (omega arith)
-none_of {A = A} test P holds (x ∷ xs) e = go (test x) refl e (none_of test P holds xs)
-  where
-    go : (b : Bool) → test x ≡ b → (b || list_any test xs) ≡ false → (list_any test xs ≡ false → All P xs) → All P (x ∷ xs)
-    go true is h more = absurd (cc)
-    go false is h more = λ k d l. at k d l
-      where
-        at : (k : ℕ) → (d : A) → k < length (x ∷ xs) → P (slice_index_or (x ∷ xs) k d)
-        at zero d l = holds x is
-        at (suc k) d l = more h k d (omega arith)
 
 pub flat_append : {A B : Type 0} (f : A → List B) (xs ys : List A) → flat_map f (xs ++ ys) ≡ flat_map f xs ++ flat_map f ys
 flat_append f [] ys = refl

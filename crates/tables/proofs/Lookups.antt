@@ -16,6 +16,43 @@ module _ {K V : Type 0} (same : K → K → Bool) where
       by true is none more = absurd (cc)
       by false is none more = ap (λ b. cond b ((e.0, v) ∷ es) (e ∷ insert_entry same es k v)) is ∙ ap (λ xs. e ∷ xs) (more none)
 
+clash : true ≡ false → ⊥
+clash h = cc
+
+-- a look-up behind an insertion
+module _ {K V : Type 0} (same : K → K → Bool) (one : (a b : K) → same a b ≡ true → a ≡ b) (self : (a : K) → same a a ≡ true) where
+  pub lookup_insert : (es : List (K × V)) (k : K) (v : V) (q : K) → lookup (same q) (insert_entry same es k v) ≡ cond (same q k) (Some v) (lookup (same q) es)
+  lookup_insert [] k v q = refl
+  lookup_insert (e ∷ es) k v q = by (same k e.0) refl (lookup_insert es k v q)
+    where
+      by : (b : Bool) → same k e.0 ≡ b → lookup (same q) (insert_entry same es k v) ≡ cond (same q k) (Some v) (lookup (same q) es)
+          → lookup (same q) (insert_entry same (e ∷ es) k v) ≡ cond (same q k) (Some v) (cond (same q e.0) (Some e.1) (lookup (same q) es))
+      by true is more =
+          ap (λ b. lookup (same q) (cond b ((e.0, v) ∷ es) (e ∷ insert_entry same es k v))) is
+          ∙ ap (λ x. cond (same q x) (Some v) (lookup (same q) es)) (sym (one k e.0 is))
+          ∙ at (same q k) refl
+        where
+          at : (b : Bool) → same q k ≡ b → cond (same q k) (Some v) (lookup (same q) es) ≡ cond (same q k) (Some v) (cond (same q e.0) (Some e.1) (lookup (same q) es))
+          at true h = ap (λ b. cond b (Some v) (lookup (same q) es)) h ∙ sym (ap (λ b. cond b (Some v) (cond (same q e.0) (Some e.1) (lookup (same q) es))) h)
+          at false h =
+              ap (λ b. cond b (Some v) (lookup (same q) es)) h
+              ∙ sym (ap (λ b. cond b (Some e.1) (lookup (same q) es)) (ap (same q) (sym (one k e.0 is)) ∙ h))
+              ∙ sym (ap (λ b. cond b (Some v) (cond (same q e.0) (Some e.1) (lookup (same q) es))) h)
+      by false is more =
+          ap (λ b. lookup (same q) (cond b ((e.0, v) ∷ es) (e ∷ insert_entry same es k v))) is
+          ∙ ap (λ x. cond (same q e.0) (Some e.1) x) more
+          ∙ swap (same q e.0) (same q k) refl refl
+        where
+          swap : (b c : Bool) → same q e.0 ≡ b → same q k ≡ c
+              → cond (same q e.0) (Some e.1) (cond (same q k) (Some v) (lookup (same q) es)) ≡ cond (same q k) (Some v) (cond (same q e.0) (Some e.1) (lookup (same q) es))
+          swap true true h i = absurd (clash (sym (ap (λ x. same k x) (sym (one q e.0 h) ∙ one q k i) ∙ self k) ∙ is))
+          swap true false h i =
+              ap (λ b. cond b (Some e.1) (cond (same q k) (Some v) (lookup (same q) es))) h
+              ∙ sym (ap (λ c. cond c (Some v) (cond (same q e.0) (Some e.1) (lookup (same q) es))) i ∙ ap (λ b. cond b (Some e.1) (lookup (same q) es)) h)
+          swap false c h i =
+              ap (λ b. cond b (Some e.1) (cond (same q k) (Some v) (lookup (same q) es))) h
+              ∙ sym (ap (λ b. cond (same q k) (Some v) (cond b (Some e.1) (lookup (same q) es))) h)
+
 -- a look-up by what the keys stand for
 pub lookup_map : {K L V : Type 0} → (f : K → L) (test : L → Bool) (es : List (K × V)) → lookup test (map (λ (e : K × V). (f e.0, e.1)) es) ≡ lookup (λ k. test (f k)) es
 lookup_map f test [] = refl
@@ -37,16 +74,13 @@ one_more {K} {A} f es k name x is none =
     ∙ ap (λ n. named_by f es ++ (n, x) ∷ []) is
     ∙ sym (ap (λ b. cond b (named_by f es) (named_by f es ++ (name, x) ∷ [])) none)
 
-clash : true ≡ false → ⊥
-clash h = cc
-
-abbrev or_else : {A : Type 0} → Option A → Option A → Option A
+abbrev pub or_else : {A : Type 0} → Option A → Option A → Option A
 or_else None y = y
 or_else (Some x) y = Some x
 
-lookup-push : {K V : Type 0} → (test : K → Bool) (es : List (K × V)) (k : K) (v : V) → lookup test (es ++ (k, v) ∷ []) ≡ or_else (lookup test es) (cond (test k) (Some v) None)
-lookup-push test [] k v = refl
-lookup-push test (e ∷ es) k v = by (test e.0) (lookup-push test es k v)
+pub lookup_push : {K V : Type 0} → (test : K → Bool) (es : List (K × V)) (k : K) (v : V) → lookup test (es ++ (k, v) ∷ []) ≡ or_else (lookup test es) (cond (test k) (Some v) None)
+lookup_push test [] k v = refl
+lookup_push test (e ∷ es) k v = by (test e.0) (lookup_push test es k v)
   where
     by : (b : Bool) → lookup test (es ++ (k, v) ∷ []) ≡ or_else (lookup test es) (cond (test k) (Some v) None)
         → cond b (Some e.1) (lookup test (es ++ (k, v) ∷ [])) ≡ or_else (cond b (Some e.1) (lookup test es)) (cond (test k) (Some v) None)
@@ -83,7 +117,7 @@ first_more {K} same one key names es name x says k =
     by : (o : Option (List ℕ)) → first_of same names (key x) ≡ o
         → first_of same (with_first same names (key x) name) k ≡ or_else (first_of same names k) (cond (same k (key x)) (Some name) None)
     by (Some n) is = ap (λ o. first_of same (cond (is_some o) names (names ++ (key x, name) ∷ [])) k) is ∙ old (first_of same names k) refl (ap is_some is)
-    by None is = ap (λ o. first_of same (cond (is_some o) names (names ++ (key x, name) ∷ [])) k) is ∙ lookup-push (same k) names (key x) name
+    by None is = ap (λ o. first_of same (cond (is_some o) names (names ++ (key x, name) ∷ [])) k) is ∙ lookup_push (same k) names (key x) name
 
 -- the values, whatever the keys stand for
 pub values_named : {K A : Type 0} → (f : K → List ℕ) (es : List (K × A)) → map (λ (e : List ℕ × A). e.1) (named_by f es) ≡ map (λ (e : K × A). e.1) es

@@ -6,21 +6,8 @@ use Rattle.std.specs.Map.{lookup}
 use Rattle.std.proofs.lemmas.Slice.Eq.{bytes_eq-Decides}
 use Rattle.digest_core.specs.declared.Digest.{Digest}
 use Rattle.indexmap.specs.IndexMap.{insert_entry}
-use Rattle.tables.proofs.Lookups.{goes_last}
+use Rattle.tables.proofs.Lookups.{goes_last, lookup_push, or_else}
 use Rattle.tables.specs.Tables.{Placed, same_digest, with_place}
-
-abbrev or_else : {A : Type 0} → Option A → Option A → Option A
-or_else None y = y
-or_else (Some x) y = Some x
-
-lookup_push : {K V : Type 0} → (test : K → Bool) (es : List (K × V)) (k : K) (v : V) → lookup test (es ++ (k, v) ∷ []) ≡ or_else (lookup test es) (cond (test k) (Some v) None)
-lookup_push test [] k v = refl
-lookup_push test (e ∷ es) k v = by (test e.0) (lookup_push test es k v)
-  where
-    by : (b : Bool) → lookup test (es ++ (k, v) ∷ []) ≡ or_else (lookup test es) (cond (test k) (Some v) None)
-        → cond b (Some e.1) (lookup test (es ++ (k, v) ∷ [])) ≡ or_else (cond b (Some e.1) (lookup test es)) (cond (test k) (Some v) None)
-    by true more = refl
-    by false more = more
 
 -- a place, counted from the front
 below_suc : (p n : ℕ) → nat_lt (1 + p) (suc n) ≡ nat_lt p n

@@ -4,6 +4,7 @@ use Rattle.std.proofs.lemmas.Bool.{cases_eq, or_from, or_left, or_right}
 use Rattle.std.proofs.lemmas.Slice.Eq.{bytes_eq-Decides}
 use Rattle.std.specs.List.{AllByRecursion, flat_map, range_with_len}
 use Rattle.std.specs.Str.{bytes_eq}
+use Rattle.schedule_make.proofs.Range.{range_with_len-suc}
 use Rattle.schedule_text.specs.Known.{is_among}
 
 pub all-append : {X : Type 0} (P : X → Type 0) (xs ys : List X) → AllByRecursion P xs → AllByRecursion P ys → AllByRecursion P (xs ++ ys)
@@ -25,16 +26,10 @@ all-each P f last h from (suc n) few =
     all-append P (f from) (flat_map f (range_with_len (from + 1) n)) (h from (omega (arith, few))) (all-each P f last h (from + 1) n (omega (arith, few)))
 
 -- one number more
-range-suc : (a n : ℕ) → range_with_len a (suc n) ≡ range_with_len a n ++ (a + n) ∷ []
-range-suc a zero = let e : a ≡ a + 0 = omega arith in ap (λ (x : ℕ). x ∷ []) e
-range-suc a (suc n) =
-    let e : (a + 1) + n ≡ a + suc n = omega arith in
-    ap (λ (xs : List ℕ). a ∷ xs) (range-suc (a + 1) n ∙ ap (λ (x : ℕ). range_with_len (a + 1) n ++ x ∷ []) e)
-
 pub range-push : (k : ℕ) → range_with_len 0 (k + 1) ≡ range_with_len 0 k ++ k ∷ []
 range-push k =
     let e : 0 + k ≡ k = omega arith in
-    ap (λ (n : ℕ). range_with_len 0 n) (add-one k) ∙ range-suc 0 k ∙ ap (λ (x : ℕ). range_with_len 0 k ++ x ∷ []) e
+    ap (λ (n : ℕ). range_with_len 0 n) (add-one k) ∙ range_with_len-suc 0 k ∙ ap (λ (x : ℕ). range_with_len 0 k ++ x ∷ []) e
 
 -- ---- names among those of a range
 

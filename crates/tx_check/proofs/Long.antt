@@ -1,14 +1,11 @@
--- Long lists make long spellings, and short lists can be spelled.
+-- A list that alone is longer than a transaction may be spelled makes a long spelling.
 use Rattle.std.proofs.Common.{◌≡◌, ℕ, ◌+◌, ◌<◌, ◌≤◌, Bool, true, false, ◌||◌, List, [], ◌∷◌, ◌++◌, length, refl, arith, length-append}
-use Rattle.std.specs.Prelude.{nat_lt, All, flat_map, slice_index_or}
+use Rattle.std.specs.Prelude.{nat_lt, flat_map}
 use Rattle.std.specs.List.{list_any}
-use Rattle.std.proofs.lemmas.Bool.{ltb-true, ltb-false, lt-ltb}
+use Rattle.std.proofs.lemmas.Bool.{ltb-true, lt-ltb}
 use Rattle.wire_bcs.specs.Uleb.{uleb}
-use Rattle.wire_bcs.specs.Items.{bytes_spell, number_spell, length_limit}
-use Rattle.wire_bcs.specs.Digests.{digest}
-use Rattle.chain_types.specs.Objects.{address, kind, object_id, object_ref}
-use Rattle.chain_types.specs.declared.objects.Kind.{Kind}
-use Rattle.chain_types.specs.declared.objects.Kind.TheVariants as kinds
+use Rattle.wire_bcs.specs.Items.{bytes_spell, number_spell}
+use Rattle.chain_types.specs.Objects.{address, kind, object_ref}
 use Rattle.wire_bcs.specs.Shapes.{seq_spell}
 use Rattle.chain_types.specs.declared.transactions.Argument.{Argument}
 use Rattle.chain_types.specs.declared.transactions.Argument.TheVariants as argument
@@ -18,9 +15,7 @@ use Rattle.chain_types.specs.declared.transactions.Input.{Input}
 use Rattle.chain_types.specs.declared.transactions.Input.TheVariants as input
 use Rattle.chain_types.specs.declared.transactions.Transaction.{Transaction}
 use Rattle.chain_types.specs.Transactions as codecs
-use Rattle.tx_check.specs.Parts.{has_long_list, is_long_command, is_long_input, is_long_list}
-use Rattle.protocol_spec.proofs.Checked.{argument_short}
-use Rattle.protocol_spec.proofs.ListLemmas.{none_of}
+use Rattle.chain_types.specs.Long.{has_long_list, is_long_command, is_long_input, is_long_list}
 
 behind : (xs ys : List ℕ) → length ys ≤ length (xs ++ ys)
 behind xs ys = let e = length-append xs ys in omega arith
@@ -67,7 +62,7 @@ seq_long : {A : Type 0} (one : A → List ℕ) → ((x : A) → 1 ≤ length (on
 unfolding seq_spell
 seq_long one some xs = let a = many one some xs in let b = behind (uleb (length xs)) (flat_map one xs) in omega arith
 
-input_long : (i : Input) → is_long_input i ≡ true → 131072 < length (codecs.input.spell i)
+input_long : (i : Input) → is_long_input 131072 i ≡ true → 131072 < length (codecs.input.spell i)
 unfolding codecs.input uleb bytes_spell
 input_long (input.Pure bytes) e =
     let a = ltb-true 131072 (length bytes) e in let b = behind (uleb (length bytes)) bytes in let d = behind (0 ∷ []) (uleb (length bytes) ++ bytes) in omega arith
@@ -75,7 +70,7 @@ input_long (input.Owned r) e = absurd (cc)
 input_long (input.Immutable r) e = absurd (cc)
 input_long (input.Shared id initial mutable) e = absurd (cc)
 
-command_long : (c : Command) → is_long_command c ≡ true → 131072 < length (codecs.command.spell c)
+command_long : (c : Command) → is_long_command 131072 c ≡ true → 131072 < length (codecs.command.spell c)
 unfolding codecs.command uleb
 command_long (command.Call native args) e =
     let a = ltb-true 131072 (length args) e in let b = seq_long codecs.argument.spell argument_some args in let d = behind (number_spell 1 native) (seq_spell codecs.argument.spell args) in omega arith
@@ -106,59 +101,17 @@ unfolding codecs.transaction
 parts t = inside (number_spell 8 t.epoch) (address.spell t.sender) (object_ref.spell t.gas) (number_spell 8 t.budget) (seq_spell codecs.input.spell t.inputs) (seq_spell codecs.command.spell t.commands)
 
 -- a transaction with a long list is spelled long
-pub long_lists : (t : Transaction) → has_long_list t ≡ true → nat_lt 131072 (length (codecs.transaction.spell t)) ≡ true
-long_lists t e = go (is_long_list t.inputs) refl (list_any is_long_input t.inputs) refl (is_long_list t.commands) refl (list_any is_long_command t.commands) refl e
+pub long_lists : (t : Transaction) → has_long_list 131072 t ≡ true → nat_lt 131072 (length (codecs.transaction.spell t)) ≡ true
+long_lists t e =
+    go (is_long_list 131072 t.inputs) refl (list_any (is_long_input 131072) t.inputs) refl (is_long_list 131072 t.commands) refl (list_any (is_long_command 131072) t.commands) refl e
   where
     done : 131072 < length (seq_spell codecs.input.spell t.inputs) + length (seq_spell codecs.command.spell t.commands) → nat_lt 131072 (length (codecs.transaction.spell t)) ≡ true
     done l = let p = parts t in lt-ltb 131072 (length (codecs.transaction.spell t)) (omega arith)
 
-    go : (a : Bool) → is_long_list t.inputs ≡ a → (b : Bool) → list_any is_long_input t.inputs ≡ b → (c : Bool) → is_long_list t.commands ≡ c → (d : Bool) → list_any is_long_command t.commands ≡ d
-        → (a || (b || (c || d))) ≡ true → nat_lt 131072 (length (codecs.transaction.spell t)) ≡ true
+    go : (a : Bool) → is_long_list 131072 t.inputs ≡ a → (b : Bool) → list_any (is_long_input 131072) t.inputs ≡ b → (c : Bool) → is_long_list 131072 t.commands ≡ c
+        → (d : Bool) → list_any (is_long_command 131072) t.commands ≡ d → (a || (b || (c || d))) ≡ true → nat_lt 131072 (length (codecs.transaction.spell t)) ≡ true
     go true p b q c r d s e = done (let x = ltb-true 131072 (length t.inputs) p in let y = seq_long codecs.input.spell input_some t.inputs in omega arith)
-    go false p true q c r d s e = done (let x = seq_within codecs.input.spell is_long_input input_long t.inputs q in omega arith)
+    go false p true q c r d s e = done (let x = seq_within codecs.input.spell (is_long_input 131072) input_long t.inputs q in omega arith)
     go false p false q true r d s e = done (let x = ltb-true 131072 (length t.commands) r in let y = seq_long codecs.command.spell command_some t.commands in omega arith)
-    go false p false q false r true s e = done (let x = seq_within codecs.command.spell is_long_command command_long t.commands s in omega arith)
+    go false p false q false r true s e = done (let x = seq_within codecs.command.spell (is_long_command 131072) command_long t.commands s in omega arith)
     go false p false q false r false s e = absurd (cc)
-
-kind_short : (k : Kind) → kind.short k
-unfolding kind
-kind_short kinds.Coin = tt
-kind_short kinds.Cap = tt
-kind_short kinds.Counter = tt
-kind_short kinds.Vault = tt
-kind_short kinds.VaultKey = tt
-kind_short kinds.Limit = tt
-
-args_short : (xs : List Argument) → is_long_list xs ≡ false → (length xs < length_limit) × All codecs.argument.short xs
-args_short xs e = let a = ltb-false 131072 (length xs) e in (omega arith, λ k d l. argument_short (slice_index_or xs k d))
-
-input_short : (i : Input) → is_long_input i ≡ false → codecs.input.short i
-unfolding codecs.input object_ref object_id digest
-input_short (input.Pure bytes) e = let a = ltb-false 131072 (length bytes) e in omega arith
-input_short (input.Owned r) e = (tt, (tt, tt))
-input_short (input.Immutable r) e = (tt, (tt, tt))
-input_short (input.Shared id initial mutable) e = (tt, (tt, tt))
-
-command_short : (c : Command) → is_long_command c ≡ false → codecs.command.short c
-unfolding codecs.command
-command_short (command.Call native args) e = (tt, args_short args e)
-command_short (command.Transfer values to) e = (args_short values e, argument_short to)
-command_short (command.Split coin amounts) e = (argument_short coin, args_short amounts e)
-command_short (command.Merge target sources) e = (argument_short target, args_short sources e)
-command_short (command.MakeVec of_kind values) e = (kind_short of_kind, args_short values e)
-
--- one without can be spelled
-pub short_lists : (t : Transaction) → has_long_list t ≡ false → codecs.transaction.short t
-unfolding codecs.transaction address object_ref object_id digest
-short_lists t e = go (is_long_list t.inputs) refl (list_any is_long_input t.inputs) refl (is_long_list t.commands) refl (list_any is_long_command t.commands) refl e
-  where
-    go : (a : Bool) → is_long_list t.inputs ≡ a → (b : Bool) → list_any is_long_input t.inputs ≡ b → (c : Bool) → is_long_list t.commands ≡ c → (d : Bool) → list_any is_long_command t.commands ≡ d
-        → (a || (b || (c || d))) ≡ false → codecs.transaction.short t
-    go true p b q c r d s e = absurd (cc)
-    go false p true q c r d s e = absurd (cc)
-    go false p false q true r d s e = absurd (cc)
-    go false p false q false r true s e = absurd (cc)
-    go false p false q false r false s e =
-        let x = ltb-false 131072 (length t.inputs) p in
-        let y = ltb-false 131072 (length t.commands) r in
-        (tt, (tt, ((tt, (tt, tt)), (tt, ((omega arith, none_of is_long_input codecs.input.short input_short t.inputs q), (omega arith, none_of is_long_command codecs.command.short command_short t.commands s))))))

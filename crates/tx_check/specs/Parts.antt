@@ -1,11 +1,9 @@
 -- The parts in which a transaction is looked at.
-use Rattle.std.specs.Prelude.{ℕ, Bool, true, false, ◌||◌, nat_lt, List, [], ◌∷◌, ◌++◌, length, Option, Some, None, if◌then◌else◌}
+use Rattle.std.specs.Prelude.{ℕ, Bool, true, false, List, [], ◌∷◌, ◌++◌, Option, Some, None, if◌then◌else◌}
 use Rattle.std.specs.List.{list_any}
 use Rattle.chain_types.specs.declared.transactions.Argument.{Argument}
 use Rattle.chain_types.specs.declared.transactions.Command.{Command}
 use Rattle.chain_types.specs.declared.transactions.Command.TheVariants as command
-use Rattle.chain_types.specs.declared.transactions.Input.{Input}
-use Rattle.chain_types.specs.declared.transactions.Input.TheVariants as input
 use Rattle.chain_types.specs.declared.transactions.Transaction.{Transaction}
 use Rattle.chain_types.specs.declared.objects.ObjectId.{ObjectId}
 use Rattle.chain_types.specs.Equal.{id_eq}
@@ -31,23 +29,6 @@ listed_of (command.MakeVec kind values) = values
 abbrev pub any_lone : (Argument → Bool) → Option Argument → Bool
 any_lone test None = false
 any_lone test (Some argument) = test argument
-
--- ---- lists that alone are longer than a transaction may be spelled
-
-abbrev pub is_long_list : {A : Type 0} → List A → Bool
-is_long_list xs = nat_lt 131072 (length xs)
-
-abbrev pub is_long_input : Input → Bool
-is_long_input (input.Pure bytes) = is_long_list bytes
-is_long_input (input.Owned r) = false
-is_long_input (input.Immutable r) = false
-is_long_input (input.Shared id initial mutable) = false
-
-abbrev pub is_long_command : Command → Bool
-is_long_command c = is_long_list (listed_of c)
-
-abbrev pub has_long_list : Transaction → Bool
-has_long_list t = is_long_list t.inputs || (list_any is_long_input t.inputs || (is_long_list t.commands || list_any is_long_command t.commands))
 
 -- ---- ids, one after the other
 

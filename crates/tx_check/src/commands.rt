@@ -3,9 +3,8 @@
 ghost use Rattle.std.specs.Prelude.{◌≡◌, length, nat_lt};
 ghost use Rattle.std.specs.List.{enumerate_from, list_any};
 ghost use Rattle.protocol_spec.specs.Chain.Shape.{arguments_of, is_idle, is_no_input, is_no_native, names_late};
-ghost use Rattle.tx_check.specs.Parts.{is_long_command};
 
-use crate::arguments::{argument_count, command_late, command_no_input, listed_of};
+use crate::arguments::{argument_count, command_late, command_no_input};
 use chain_types::{Command, Transaction};
 
 /// Whether one of the commands names an input that there is not.
@@ -89,18 +88,6 @@ pub(crate) fn any_wide(commands: &[Command]) -> bool
 {
     for command in commands {
         if argument_count(command) > 512 {
-            return true;
-        }
-    }
-    false
-}
-
-/// Whether the list of one of the commands is longer than a transaction may be spelled.
-pub(crate) fn any_long(commands: &[Command]) -> bool
-    ensures { result ≡ list_any is_long_command commands.now }
-{
-    for command in commands {
-        if listed_of(command).len() > 131072 {
             return true;
         }
     }

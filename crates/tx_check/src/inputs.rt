@@ -4,7 +4,6 @@ ghost use Rattle.std.specs.Prelude.{◌≡◌};
 ghost use Rattle.std.specs.List.{list_any};
 ghost use Rattle.protocol_spec.specs.Chain.Keys.{objects_of};
 ghost use Rattle.protocol_spec.specs.Chain.Shape.{is_bad_version, names_bad_version};
-ghost use Rattle.tx_check.specs.Parts.{is_long_input};
 
 use chain_types::{Input, Transaction};
 
@@ -45,26 +44,4 @@ pub(crate) fn has_bad_version(tx: &Transaction) -> bool
     ensures { result ≡ list_any names_bad_version (objects_of tx.now) }
 {
     is_bad_version(tx.gas.version) || any_bad_version(tx.inputs.as_slice())
-}
-
-/// Whether the bytes of an input are more than a transaction may be spelled with.
-fn is_long(input: &Input) -> bool
-    ensures { result ≡ is_long_input input.now }
-{
-    match input {
-        Input::Pure(bytes) => bytes.len() > 131072,
-        Input::Owned(_) | Input::Immutable(_) | Input::Shared { .. } => false,
-    }
-}
-
-/// Whether the bytes of one of the inputs are more than a transaction may be spelled with.
-pub(crate) fn any_long(inputs: &[Input]) -> bool
-    ensures { result ≡ list_any is_long_input inputs.now }
-{
-    for input in inputs {
-        if is_long(input) {
-            return true;
-        }
-    }
-    false
 }

@@ -17,7 +17,7 @@ use Rattle.version_assign.specs.declared.book.Row.{Row}
 use Rattle.version_assign.specs.Lines.{LineMap}
 use Rattle.version_assign.specs.Changes.{AreShared, Changes, ChangesOn, HasId, IsOwn, IsSharedUnder, Puts, Shelved, changed_by}
 use Rattle.version_assign.specs.Sharing.{if_shared}
-use Rattle.version_assign.proofs.Maps.{lookup_insert}
+use Rattle.tables.proofs.Lookups.{lookup_insert}
 use Rattle.version_assign.proofs.Opening.{none_at}
 
 -- ---- one table step

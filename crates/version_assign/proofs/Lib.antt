@@ -1,4 +1,3 @@
-mod Maps
 pub mod Finding
 pub mod Lining
 pub mod Settling

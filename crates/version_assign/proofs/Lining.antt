@@ -10,7 +10,7 @@ use Rattle.chain_types.specs.Equal.{id_eq}
 use Rattle.answer_types.specs.declared.answers.Assigned.{Assigned}
 use Rattle.version_assign.specs.declared.lines.Line.{Line}
 use Rattle.version_assign.specs.Lines.{LineMap, are_lined, clear_one, cleared, has_line, line_at, move_one, moved, no_line}
-use Rattle.version_assign.proofs.Maps.{lookup_insert}
+use Rattle.tables.proofs.Lookups.{lookup_insert}
 use Rattle.protocol_spec.proofs.Equality.{id_same, id_self}
 use Rattle.protocol_spec.proofs.ListLemmas.{tail_is}
 

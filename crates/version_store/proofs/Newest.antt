@@ -21,7 +21,8 @@ use Rattle.protocol_spec.specs.Chain.Tests.{has_id, has_key}
 use Rattle.protocol_spec.specs.Member.Versions.{Execution, Version, is_id, newer, newest, object_in, is_deleted, consumer_of}
 use Rattle.version_store.specs.Steps.{newer_of, with_newer, with_all_newer, with_consumer, with_consumers}
 use Rattle.version_store.proofs.Held.{made}
-use Rattle.version_store.proofs.Lists.{lookup_insert, any_insert_all}
+use Rattle.tables.proofs.Lookups.{lookup_insert}
+use Rattle.version_store.proofs.Lists.{any_insert_all}
 
 -- ---- the newest version
 

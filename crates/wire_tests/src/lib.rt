@@ -17,6 +17,8 @@ mod items;
 #[cfg(test)]
 mod journal_files;
 #[cfg(test)]
+mod long_lists;
+#[cfg(test)]
 mod messages;
 #[cfg(test)]
 mod outsides;

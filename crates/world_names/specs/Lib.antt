@@ -4,7 +4,6 @@ pub mod Lines
 pub mod Collected
 pub mod Shown
 pub mod Pushed
-pub mod Short
 pub mod MakeAnswers
 pub mod Looks
 pub mod Openings

@@ -25,7 +25,6 @@ mod names_law;
 mod opening;
 mod printed;
 mod rows;
-mod short;
 mod shown;
 
 pub use directory::Directory;

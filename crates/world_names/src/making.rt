@@ -8,14 +8,13 @@ ghost use Rattle.chain_types.specs.Transactions as codecs;
 ghost use Rattle.world_names.specs.Lines.{line_of};
 ghost use Rattle.world_names.specs.Rows.{made_as};
 ghost use Rattle.scene_spec.specs.MadeLines.{line_made, made_by, transaction_by};
-ghost use Rattle.world_names.specs.Short.{has_long_list};
+ghost use Rattle.chain_types.specs.Long.{has_long_list};
 ghost use Rattle.world_names.specs.MakeAnswers.{Says};
 
 use crate::commands::commands_of;
 use crate::inputs::{HeldDigests, inputs_of, reference_of, spoiled_if};
-use crate::short::has_long_list;
 use crate::{Directory, MadeTx, TxLine};
-use chain_types::{Address, SignedTx, Transaction, encode_tx};
+use chain_types::{Address, SignedTx, Transaction, encode_tx, has_long_list};
 use digest_core::{Digest, TAG_TRANSACTION, address_of, digest_of};
 use quorum_core::{KeyedSeal, Sealer, Signer};
 use std::alloc::Global;
@@ -103,12 +102,12 @@ pub fn make<H: HeldDigests, S: MakesSeals>(
 ) -> Result<MadeTx, MakeRefusal>
     ensures made { IfOk result (λ t. made_as t ≡ line_made directory.now (H.held held.now) (S.made sealer.now) (line_of line.now)) }
     ensures short { IfOk result (λ t. codecs.signed.short t.signed) }
-    ensures long { Says result (has_long_list (transaction_by directory.now (H.held held.now) (line_of line.now))) }
+    ensures long { Says result (has_long_list 2147483647 (transaction_by directory.now (H.held held.now) (line_of line.now))) }
 {
     let Ok(tx) = transaction_of(alloc, directory, held, line) else {
         return Err(MakeRefusal::OutOfMemory);
     };
-    if has_long_list(&tx) {
+    if has_long_list(2147483647, &tx) {
         return Err(MakeRefusal::TooLong);
     }
     match sign(alloc, sealer, line.name, line.spoiled, tx) {

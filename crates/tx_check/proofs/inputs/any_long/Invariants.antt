@@ -1,7 +1,0 @@
-use Rattle.std.proofs.Common.{◌≡◌, drop}
-use Rattle.std.specs.List.{list_any}
-use Rattle.tx_check.specs.Parts.{is_long_input}
-use Rattle.tx_check.proofs.inputs.any_long.Given as goal
-
-abbrev pub invariant-loop-input : goal.invariant-loop-input
-invariant-loop-input l = list_any (is_long_input) (drop l.input-index l.inputs) ≡ list_any (is_long_input) l.inputs
