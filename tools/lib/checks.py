@@ -1,6 +1,7 @@
 """What rattle is told of a crate that is checked over libraries which were built before, and the must-fail edits: for tools/beside, tools/tower and tools/edits."""
 
 import glob
+import hashlib
 import importlib.machinery
 import os
 import re
@@ -27,6 +28,24 @@ def kit_of_edits():
 def edits(top, name, folder="must-fail"):
     """The paths of the edits in this folder of a crate."""
     return sorted(glob.glob(f"{top}/crates/{name}/{folder}/*.edit"))
+
+
+def tried(name):
+    """Where the file is that says of which sources the dear edits of a crate were last refused, from the top."""
+    return f"crates/{name}/{DEAR}/tried.sum"
+
+
+def sum_of_tried(top, uses, name):
+    """A checksum of a crate's dear edits, of the crate without its tests, and of all that it stands on."""
+    total = hashlib.sha256()
+    for crate in [name, *sorted(below(uses, name))]:
+        total.update(f"{crate}: {' '.join(uses[crate])}\0".encode())
+        for path, text in sorted(sources(top, crate).items()):
+            total.update(f"{path}\0{text}\0".encode())
+    for edit in edits(top, name, DEAR):
+        with open(edit, "rb") as it:
+            total.update(os.path.basename(edit).encode() + b"\0" + it.read() + b"\0")
+    return total.hexdigest()
 
 
 def below(uses, name, found=None):
