@@ -38,17 +38,25 @@ fn replay_command<'a>(alloc: Global) -> Result<Command<'a>, AllocError> {
     bare(alloc, "replay").arg(Arg::new(alloc, "M").required(true))
 }
 
+/// The program with one more command, where there was memory for both.
+fn with_command<'a>(
+    program: Command<'a>,
+    command: Result<Command<'a>, AllocError>,
+) -> Result<Command<'a>, AllocError> {
+    program.subcommand(command?)
+}
+
 /// The program with its commands, each a subcommand of one level.
 fn program<'a>(alloc: Global) -> Result<Command<'a>, AllocError> {
-    bare(alloc, "committee")
+    let program = bare(alloc, "committee")
         .no_binary_name(true)
         .subcommand_required(true)
-        .subcommand(bare(alloc, "run"))?
-        .subcommand(make_command(alloc)?)?
-        .subcommand(check_command(alloc)?)?
-        .subcommand(follow_command(alloc)?)?
-        .subcommand(desk_command(alloc)?)?
-        .subcommand(replay_command(alloc)?)
+        .subcommand(bare(alloc, "run"))?;
+    let program = with_command(program, make_command(alloc))?;
+    let program = with_command(program, check_command(alloc))?;
+    let program = with_command(program, follow_command(alloc))?;
+    let program = with_command(program, desk_command(alloc))?;
+    with_command(program, replay_command(alloc))
 }
 
 fn parsed<'a>(alloc: Global, words: &'a [String]) -> Result<ArgMatches<'a>, Error> {

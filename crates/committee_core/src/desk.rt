@@ -116,7 +116,9 @@ fn print_call(
     let digest = signed_digest(alloc, call.bytes.as_slice())?;
     text.extend(b"  ".as_slice())?;
     let line = world.vote_line(0, &digest, &call.reply)?;
-    print_line(&line, text)
+    let printed = print_line(&line, text);
+    drop(line);
+    printed
 }
 
 /// Adds the lines of the calls.
@@ -297,7 +299,9 @@ fn print_refused(line: u64, cause: u8, text: &mut Seq<u8>) -> Result<(), OutOfMe
         line,
         cause: u64::from(cause),
     };
-    print_line(&refused, text)
+    let printed = print_line(&refused, text);
+    drop(refused);
+    printed
 }
 
 /// Why a text is no schedule.
