@@ -1,2 +1,4 @@
+pub mod Collected
 pub mod Agreement
+pub mod Finality
 pub mod Whole
