@@ -20,7 +20,7 @@ use Rattle.protocol_spec.specs.Chain.Shape.{shape_fault}
 use Rattle.protocol_spec.specs.Chain.Certificates.{Rules, accepts_statement, bad_seal, cert_refusal, members_of, vote_of}
 use Rattle.protocol_spec.specs.Chain.Collecting.{Collected, lacks, differ, whole, whole_or}
 use Rattle.cert_rules.specs.Collect.{AreSound, IsVoteFor, certificate_of, same_vote, seal_of, sealed_collected, voted_origins, voters}
-use Rattle.cert_rules.proofs.Collected.{differs_from, first_differing, lack_none, none_differs, quorum_true}
+use Rattle.cert_rules.proofs.Words.{differs_from, first_differing, lack_none, none_differs, quorum_true}
 
 -- ---- votes that are collected
 

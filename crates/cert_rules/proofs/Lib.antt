@@ -1,4 +1,4 @@
-pub mod Collected
+pub mod Words
 pub mod Agreement
-pub mod Finality
+pub mod Acking
 pub mod Whole

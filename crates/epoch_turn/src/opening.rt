@@ -36,10 +36,7 @@ pub struct Turned {
 
 /// Undoes what was executed and is not among these transactions, and answers the objects that live then (epoch change of
 /// Sui Lutris). After a refusal the store is as it was, or it is the reverted one.
-pub fn next_opening(
-    store: &mut Store,
-    checkpointed: &Seq<Digest>,
-) -> Result<Turned, OutOfMemory>
+pub fn next_opening(store: &mut Store, checkpointed: &Seq<Digest>) -> Result<Turned, OutOfMemory>
     ensures store { OnOk result (store.new ≡ reverted_to checkpointed.now store.old) }
     ensures opening { IfOk result (λ t. t.opening ≡ live_list store.new.opening store.new.executed) }
     ensures reverted { IfOk result (λ t. t.reverted ≡ undone checkpointed.now store.old) }

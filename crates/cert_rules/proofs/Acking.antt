@@ -13,7 +13,7 @@ use Rattle.protocol_spec.specs.Chain.Words.{Each, first_of, first_some, where_tr
 use Rattle.protocol_spec.specs.Chain.Collecting.{Collected, differ, lacks, whole, whole_or}
 use Rattle.cert_rules.specs.Collect.{voters}
 use Rattle.cert_rules.specs.Finality.{AreAcks, IsAckOf, acked, acks_collected, effects_in, first_acked, same_ack}
-use Rattle.cert_rules.proofs.Collected.{differs_from, first_differing, lack_none, none_differs}
+use Rattle.cert_rules.proofs.Words.{differs_from, first_differing, lack_none, none_differs}
 
 pub acks_lack_none : (stakes : List ℕ) (acks : List Sealed) (m : ℕ) → is_roll stakes (voters acks) ≡ true → acks_collected stakes acks ≡ lacks m → ⊥
 unfolding acks_collected
@@ -41,15 +41,18 @@ others_agree epoch tx v (w ∷ acks) all each = go (same_ack v w) refl all (λ h
         rest (Some c) e = e
     go false is h more = absurd (cc)
 
+abbrev Parts : Type 0
+Parts = ℕ × Digest × Digest
+
+same_parts : (p q : Parts) → Some p ≡ Some q → p ≡ q
+same_parts p q h = cc
+
 agree : (epoch : ℕ) (tx : Digest) (acks : List Sealed) → whole_or (first_differing same_ack acks) ≡ whole → Each (IsAckOf epoch tx) acks → (e : ℕ) (t x : Digest) → Some (e, t, x) ≡ first_acked acks
     → Each (λ (s : Sealed). s.statement ≡ statement.Ack e t x) acks
 agree epoch tx [] all each e t x first = tt
 agree epoch tx (v ∷ acks) all each e t x first =
-    let is : Some (e, t, x) ≡ Some (epoch, tx, effects_in v.statement) = first ∙ ap acked each.0 in
-    let one : e ≡ epoch = cc in
-    let two : t ≡ tx = cc in
-    let three : x ≡ effects_in v.statement = cc in
-    rw (one, two, three) (each.0, others_agree epoch tx v acks all each.1)
+    let is = same_parts (e, t, x) (epoch, tx, effects_in v.statement) (first ∙ ap acked each.0) in
+    subst (λ (p : Parts). Each (λ (s : Sealed). s.statement ≡ statement.Ack p.0 p.1 p.2) (v ∷ acks)) (sym is) (each.0, others_agree epoch tx v acks all each.1)
 
 pub acks_agree : (stakes : List ℕ) (acks : List Sealed) → AreAcks acks → is_roll stakes (voters acks) ≡ true → acks_collected stakes acks ≡ whole → (e : ℕ) (t x : Digest) → Some (e, t, x) ≡ first_acked acks
     → Each (λ (s : Sealed). s.statement ≡ statement.Ack e t x) acks
