@@ -11,7 +11,7 @@ LOOKS = {
     "voted": ("V", "taken"), "again": ("v", "again"), "held": ("H", "taken"), "locked": ("L", "refused"), "fork": ("F", "fault"), "halted": ("F", "fault"),
     "stopped": ("■", "stop"), "down": ("–", "idle"), "armed": ("s", "stop"), "records": ("↻", "stop"), "epoch": ("o", "idle"), "nothing": ("–", "idle"),
     "said": ("e", "taken"), "admitted": ("A", "taken"), "commit": ("m", "all"), "end": ("e", "taken"), "pending": ("w", "warn"), "deferred": ("w", "warn"),
-    "waits": ("w", "warn"), "dropped": ("D", "refused"), "ignored": ("i", "idle"),
+    "waits": ("w", "warn"), "dropped": ("×", "refused"), "ignored": ("i", "idle"),
 }
 # How an answer looks that means something else behind this word.
 OWN = {("close", "closed"): ("c", "taken"), ("close", "again"): ("c", "again"), ("ack", "said"): ("a", "all")}
@@ -23,7 +23,7 @@ MEANINGS = [
     ("fault", "f", "f", "faulty vote"), ("all", "C", "C", "certificate"), ("certified", "", "", "member that is named"), ("unwanted", "", "", "named in vain"),
     ("taken", "H", "H", "held"), ("done", "E", "E2", "executed 2"), ("warn", "E", "E2", "executed 2, not all done"), ("all", "#", "#0", "entry 0"), ("taken", "S", "S2", "saw 2 entries"),
     ("warn", "S", "S2", "saw 2, one waits"), ("refused", "S", "S2", "saw 2, one dropped"), ("idle", "S", "S2", "saw 2, one ignored"), ("taken", "A", "A", "admitted"),
-    ("all", "m", "m", "a mark"), ("idle", "i", "i", "ignored"), ("warn", "w", "w", "waits"), ("refused", "D", "D", "dropped"), ("taken", "c", "c", "closed"), ("again", "c", "c", "closed before"),
+    ("all", "m", "m", "a mark"), ("idle", "i", "i", "ignored"), ("warn", "w", "w", "waits"), ("taken", "c", "c", "closed"), ("again", "c", "c", "closed before"),
     ("taken", "e", "e", "End"), ("done", "t", "t", "turned"), ("all", "a", "a", "acknowledged"), ("all", "✓", "✓", "final"), ("fault", "F", "F", "fork, halted"),
     ("stop", "s", "s", "stop armed"), ("stop", "■", "■", "stopped"), ("idle", "–", "–", "down, nothing"), ("stop", "↻", "↻", "restart"), ("idle", "o", "o", "shown"),
 ]

@@ -161,6 +161,8 @@ class Run:
         """Takes one event with its lines."""
         handler = getattr(self, f"on_{event.word}", None)
         member = self.members[event.member] if event.member is not None and event.member < len(self.members) else None
+        if event.word in schedules.OF_MEMBER and member is None:
+            return
         if event.is_order_end:
             self.on_order_end(event)
         elif handler:

@@ -138,7 +138,22 @@ def named(event):
 
 
 class Unreadable(Exception):
-    """A file that a tool is handed cannot be read."""
+    """A file that a tool is handed cannot be read, or is not what it should be."""
+
+
+def misfit(schedule, report):
+    """What in a report is not of this schedule, or nothing. A report may end before its schedule does."""
+    if refusal(report):
+        line, cause = refusal(report)
+        numbers = {it.number for it in lines_of(schedule)}
+        return None if cause in range(1, 14) and (line in numbers or line == 0 and cause < 3) else f"its refusal names line {line} and cause {cause}"
+    _, events = read(schedule, report)
+    taken = sum(len(it.said) for it in events)
+    for event in events:
+        head = event.said[0].partition(": ")[0].partition(" entry ")[0] if event.said else ""
+        if event.said and head != event.text[: len(head)]:
+            return f"line {event.number} of the schedule is `{event.text[:60]}`, and there it says `{event.said[0][:60]}`"
+    return None if taken == len(report.splitlines()) else "it has more lines than the schedule has events"
 
 
 def read_files(schedule, report):
@@ -147,8 +162,13 @@ def read_files(schedule, report):
         with open(schedule, "rb") as it:
             text = it.read()
         if report == "-":
-            return text, sys.stdin.buffer.read().decode("latin-1")
-        with open(report, encoding="latin-1", newline="\n") as it:
-            return text, it.read()
+            said = sys.stdin.buffer.read().decode("latin-1")
+        else:
+            with open(report, encoding="latin-1", newline="\n") as it:
+                said = it.read()
     except OSError as fault:
         raise Unreadable(f"{fault.filename}: {fault.strerror}") from None
+    wrong = misfit(text, said)
+    if wrong:
+        raise Unreadable(f"this is no report of {schedule}: {wrong}")
+    return text, said
