@@ -52,7 +52,7 @@ class Run:
         self.members = [Member(at, it.words) for at, it in enumerate(it for it in self.setup if it.word == "member")]
         self.total = sum(it.stake for it in self.members)
         self.txs, self.same, self.state, self.stories = {}, {}, {}, {"tx": {}, "object": {}}
-        self.open, self.sequences, self.origins_said, self.acks = 0, {0: []}, {}, {}
+        self.open, self.sequences, self.origins_said, self.origins, self.acks = 0, {0: []}, {}, {}, {}
         self.steps = [Step(None)]
         self.set_up()
         for event in self.events:
@@ -240,6 +240,7 @@ class Run:
 
     def on_fvote(self, event, member):
         self.put(member.name, "votes", event.tx, {"line": event.number, "origins": event.words[3:] or None})
+        self.origins_said[member.number, event.tx] = event.words[3:]
         self.put("txs", event.tx, f"vote {member.name}", {"line": event.number})
         self.tell("tx", event.tx, event.number, f"Faulty member {member.name} makes a vote for it.")
 
@@ -247,6 +248,8 @@ class Run:
         if event.answer.startswith("formed by"):
             by = [int(it) for it in event.answer.split(" ")[2:]]
             self.put("txs", event.tx, "cert", {"line": event.number, "by": by, "weight": self.weight(by)})
+            known = next((self.origins_said[it, event.tx] for it in by if self.origins_said.get((it, event.tx))), [])
+            self.origins[event.tx] = [it for it in dict.fromkeys(known) if it not in ("-", "?")]
             self.tell("tx", event.tx, event.number, f"The votes of {members_named(by)} certify it ({self.stake_of(by)}).")
         else:
             self.tell("tx", event.tx, event.number, f"No certificate is formed: {event.answer}.")
@@ -546,19 +549,13 @@ class Run:
             if tx in executed or tx not in self.txs or stuck or self.txs[tx].words[2:] in done:
                 continue
             shared = [name for kind, name, _ in schedules.references(self.txs[tx]) if kind in ("s", "r")]
-            origins = [it for it in self.origins(tx) if it not in executed]
+            origins = [it for it in self.origins.get(tx, []) if it not in executed]
             if shared and tx not in self.entries(member.name, "admitted"):
                 order = "" if tx in self.sequences.get(self.get(member.name, "is", "epoch"), []) else f"an `order {tx}` line puts it there, and "
                 found.append((tx, f"{tx} waits for its place in the sequence, since it names the shared object {shared[0]}", f"{order}a `see {member.name}` line hands it to the member"))
             elif origins and not any("executed" in it["text"] for it in self.entries(member.name, "notes").values()):
                 found.append((tx, f"{tx} waits for {listed(origins)}, which member {member.name} has not executed", f"`send` or `see` lines hand it the certificate{'s' if origins[1:] else ''}, and a `run` line executes"))
         return found
-
-    def origins(self, tx):
-        """The transactions that a certificate comes from, by the votes that the report has."""
-        by = (self.get("txs", tx, "cert") or {"by": []})["by"]
-        known = next((self.origins_said[it, tx] for it in by if self.origins_said.get((it, tx))), [])
-        return [it for it in dict.fromkeys(known) if it not in ("-", "?")]
 
 
 def admitted_of(answer):

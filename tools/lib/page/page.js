@@ -70,11 +70,11 @@ function fill(where, ...inside) {
 }
 
 // The marks that were made, by their kinds and letters: a copy is made faster.
-const made = new Map();
+const drawn = new Map();
 function markOf([kind, letter]) {
   const key = `${kind} ${letter}`;
-  if (!made.has(key)) made.set(key, newMark(kind, letter));
-  return made.get(key).cloneNode(true);
+  if (!drawn.has(key)) drawn.set(key, newMark(kind, letter));
+  return drawn.get(key).cloneNode(true);
 }
 
 function newMark(kind, letter) {
@@ -106,9 +106,11 @@ const stepOf = (line) => {
 };
 const toLine = (line) => el("a", { href: `#${line}`, class: "line" }, line === 0 ? "set-up" : `line ${line}`);
 const named = (kind, name) => el("button", { type: "button", class: "name", "data-kind": kind, "data-name": name, onclick: () => choose(kind, name) }, name);
+// A sentence, with what stands between backquotes as code.
+const rich = (text) => text.split("`").map((it, place) => (place % 2 ? el("code", {}, it) : it));
 const tx = (name) => (data.senders[name] === undefined ? name : named("tx", name));
 const object = (name) => (data.objects.includes(name) ? named("object", name) : name);
-const version = (text) => { const [name, v] = text.split("@"); return [object(name), `@${v}`]; };
+const version = (text) => { const [name, v] = text.split("@"); return el("span", { class: "whole" }, object(name), `@${v}`); };
 const row = (names, how) => names.map((it, place) => [place ? ", " : "", how(it)]);
 const byLine = (a, b) => a[1].line - b[1].line;
 const isNow = (value) => value && value.line === lines[at].n && at > 0;
@@ -285,7 +287,7 @@ function drawNow() {
   const said = it.said.length <= 400 ? it.said : it.said.slice(0, 400).concat([`… and ${it.said.length - 400} lines more`]);
   fill($("now"), el("h2", {}, it.n ? `Line ${it.n}` : "Set-up"), it.comment ? el("p", { class: "comment" }, it.comment) : "", el("pre", { class: "event" }, it.text),
     said.length ? el("pre", { class: "said", tabindex: 0 }, said.join("\n")) : "",
-    el("ul", { class: "told" }, it.told.slice(0, 400).map(([text, hint]) => el("li", {}, /[:.]$/.test(text) ? text : `${text}.`, hint ? el("small", {}, ` What to change: ${hint}.`) : ""))),
+    el("ul", { class: "told" }, it.told.slice(0, 400).map(([text, hint]) => el("li", {}, rich(/[:.]$/.test(text) ? text : `${text}.`), hint ? el("small", {}, rich(` What to change: ${hint}.`)) : ""))),
     storiesAt(it.n));
 }
 
@@ -293,7 +295,7 @@ function drawNow() {
 function storiesAt(line) {
   const all = [["tx", lines[at].txs], ["object", lines[at].objects]].flatMap(([kind, names]) => names.map((name) => [kind, name, (data.stories[kind][name] || []).filter((it) => it[0] === line)]));
   const there = all.filter((it) => it[2].length);
-  return there.length && line ? el("ul", { class: "about" }, there.slice(0, 40).map(([kind, name, some]) => el("li", {}, named(kind, name), ": ", some.map((it) => `${it[1]} `)))) : "";
+  return there.length && line ? el("ul", { class: "about" }, there.slice(0, 40).map(([kind, name, some]) => el("li", {}, named(kind, name), ": ", some.map((it) => [rich(it[1]), " "])))) : "";
 }
 
 function drawStory() {
@@ -302,7 +304,7 @@ function drawStory() {
   if (chosen === null) return;
   const [kind, name] = chosen, all = data.stories[kind][name] || [], now = lines[at].n;
   fill(where, el("h2", {}, `${kind === "tx" ? "Transaction" : "Object"} ${name} `, el("button", { type: "button", class: "close", "aria-label": "Close", onclick: () => choose(null) }, "×")),
-    el("ol", {}, all.map(([line, text]) => el("li", { class: line > now ? "later" : line === now ? "new" : false }, toLine(line), " ", text))),
+    el("ol", {}, all.map(([line, text]) => el("li", { class: line > now ? "later" : line === now ? "new" : false }, toLine(line), " ", rich(text)))),
     all.some((it) => it[0] > now) ? el("p", { class: "help" }, "What is pale comes after this step.") : "");
   const past = where.querySelectorAll("ol > li:not(.later)");
   if (past.length) scrollTo(where.querySelector("ol"), past[past.length - 1]);
@@ -502,6 +504,7 @@ $("search").addEventListener("input", search);
 $("search").addEventListener("keydown", (event) => { if (event.key === "Enter") { event.preventDefault(); nextFound(event.shiftKey); } });
 document.addEventListener("keydown", onKey);
 window.addEventListener("hashchange", () => { const step = fromAddress(); if (step !== null && step !== at) go(step, true); });
+$("filters").open = window.innerWidth > 900;
 for (let m = 0; m < cards.length; m += 1) dirty.members.add(m);
 go(fromAddress() ?? 0, fromAddress() === null);
 })();
