@@ -89,7 +89,7 @@ class Browser:
         self.ask("Page.navigate", url="about:blank")
         self.ask("Page.navigate", url=address)
         until = time.monotonic() + SECONDS
-        while self.tell("document.readyState + location.href") != f"complete{self.tell('location.href')}" or self.tell("location.href") == "about:blank":
+        while not self.tell("document.readyState === 'complete' && location.href !== 'about:blank'"):
             if time.monotonic() > until:
                 raise TimeoutError(address)
             time.sleep(0.02)

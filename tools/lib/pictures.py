@@ -25,13 +25,14 @@ CORNERS = {
     "bar": [(-1.1, -0.65), (1.1, -0.65), (1.1, 0.65), (-1.1, 0.65)],
     "cross": [(-1, -0.5), (-0.5, -1), (0, -0.5), (0.5, -1), (1, -0.5), (0.5, 0), (1, 0.5), (0.5, 1), (0, 0.5), (-0.5, 1), (-1, 0.5), (-0.5, 0)],
 }
-# How wide a character is, in parts of its size: none of the fonts named in a picture is wider on average.
-WIDE = 0.64
+# How wide a character is at most, in parts of its size, in the fonts that a picture names; others are as wide as a capital or OTHER.
+WIDTHS = {**dict.fromkeys("fijlrt.,:;'|()[]! -", 0.42), **dict.fromkeys("m@…", 1.02), **dict.fromkeys("w#✓", 0.85)}
+CAPITAL, OTHER = 0.8, 0.65
 
 
 def width_of(text, size):
     """How wide a text is at most."""
-    return len(text) * size * WIDE
+    return sum(WIDTHS.get(it, CAPITAL if it.isupper() else OTHER) for it in text) * size
 
 
 def cut(text, most):

@@ -6,6 +6,7 @@ const $ = (id) => document.getElementById(id);
 // What is known at the step that is shown: panel, section, item. `before` has for each step what its changes replaced.
 const state = {};
 const before = [];
+const firsts = new Map();
 // Of each member the transactions that it takes back at some step.
 const everBack = data.members.map(() => new Set());
 for (const [panel, section, item] of data.changes.flat()) if (panel === "txs" && item.startsWith("back ")) everBack[Number(item.slice(5))].add(section);
@@ -45,7 +46,17 @@ function touch(panel, section, item) {
 
 function forward() {
   at += 1;
-  before[at] = data.changes[at].map((it) => [it[0], it[1], it[2], put(it)]);
+  before[at] = data.changes[at].map((it) => {
+    const key = it.slice(0, 3).join("|");
+    if (!firsts.has(key)) firsts.set(key, firsts.size);
+    return [it[0], it[1], it[2], put(it)];
+  });
+}
+
+// The entries of a section by their lines, and those of one line in the order in which they came first: however a step is reached.
+function sorted(panel, section) {
+  const first = (name) => firsts.get(`${panel}|${section}|${name}`);
+  return Object.entries(entries(panel, section)).sort((a, b) => a[1].line - b[1].line || first(a[0]) - first(b[0]));
 }
 
 function backward() {
@@ -109,10 +120,9 @@ const named = (kind, name) => el("button", { type: "button", class: "name", "dat
 // A sentence, with what stands between backquotes as code.
 const rich = (text) => text.split("`").map((it, place) => (place % 2 ? el("code", {}, it) : it));
 const tx = (name) => (data.senders[name] === undefined ? name : named("tx", name));
-const object = (name) => (data.objects.includes(name) ? named("object", name) : name);
+const object = (name) => (placeOfObject.has(name) ? named("object", name) : name);
 const version = (text) => { const [name, v] = text.split("@"); return el("span", { class: "whole" }, object(name), `@${v}`); };
 const row = (names, how) => names.map((it, place) => [place ? ", " : "", how(it)]);
-const byLine = (a, b) => a[1].line - b[1].line;
 const isNow = (value) => value && value.line === lines[at].n && at > 0;
 const item = (value, ...inside) => el("li", { class: isNow(value) ? "new" : false }, ...inside, " ", toLine(value.line));
 
@@ -145,8 +155,8 @@ function placeOf(is) {
 }
 
 function votesOf(m) {
-  const locks = Object.entries(entries(m, "locks")).sort(byLine);
-  const votes = Object.entries(entries(m, "votes")).sort(byLine);
+  const locks = sorted(m, "locks");
+  const votes = sorted(m, "votes");
   const own = (name) => locks.filter((it) => it[1].tx === name);
   const rest = locks.filter((it) => !votes.some((vote) => vote[0] === it[1].tx));
   return votes.map(([name, vote]) => item(vote, "for ", tx(name), own(name).length ? [" locks ", row(own(name).map((it) => it[0]), version)] : ""))
@@ -155,7 +165,7 @@ function votesOf(m) {
 
 function certificatesOf(m) {
   const executed = entries(m, "executed");
-  return Object.entries(entries(m, "held")).sort(byLine).map(([name, held]) => {
+  return sorted(m, "held").map(([name, held]) => {
     const wait = get(m, "waiting", name), admitted = get(m, "admitted", name), dropped = get(m, "dropped", name), stuck = get(m, "stuck", name);
     const how = dropped ? "dropped" : stuck ? `cannot be executed: ${stuck.text}` : wait ? `${wait.how}, waits for ${wait.on}` : admitted ? `admitted as entry ${admitted.entry}` : "";
     return item(dropped || stuck || wait || admitted || held, tx(name), " held", how ? `, ${how}` : "", executed[name] ? ", executed" : "");
@@ -163,13 +173,13 @@ function certificatesOf(m) {
 }
 
 function executedOf(m) {
-  return Object.entries(entries(m, "executed")).sort(byLine).map(([name, it]) => {
+  return sorted(m, "executed").map(([name, it]) => {
     const kept = get("txs", name, `checkpoint ${m}`);
     return item(it, tx(name), ` ${it.text || "executed"}`, kept ? `, in checkpoint ${kept.n}` : ", in no checkpoint yet");
   });
 }
 
-const isTakenBack = (m) => [...everBack[m]].map((name) => [name, get("txs", name, `back ${m}`)]).filter((it) => it[1]).sort(byLine);
+const isTakenBack = (m) => [...everBack[m]].map((name) => [name, get("txs", name, `back ${m}`)]).filter((it) => it[1]).sort((a, b) => a[1].line - b[1].line);
 const takenBackOf = (m) => isTakenBack(m).map(([name, it]) => item(it, tx(name), ` at the end of epoch ${it.epoch}`));
 
 function checkpointsOf(m) {
@@ -177,16 +187,17 @@ function checkpointsOf(m) {
     .map(([n, it]) => item(it, `${n}: `, it.txs.length ? row(it.txs, tx) : "empty", it.last ? " (last of its epoch)" : ""));
 }
 
+const placeOfObject = new Map(data.objects.map((it, place) => [it, place]));
 function objectsOf(m, is) {
   const silent = is.silent ? [el("li", { class: "help" }, "as far as the report says: not since ", toLine(is.silent.line))] : [];
-  return silent.concat(Object.entries(entries(m, "objects")).map(([name, it]) => {
+  return silent.concat(Object.entries(entries(m, "objects")).sort((a, b) => placeOfObject.get(a[0]) - placeOfObject.get(b[0])).map(([name, it]) => {
     const told = get("objects", name, `${it.v} ${it.by}`) || {};
     return item(it, object(name), ` v${it.v} `, told.owner ? `${told.owner} ${told.content || ""}` : "", it.sure ? "" : " (or used up)");
   }));
 }
 
-const notesOf = (m) => Object.values(entries(m, "notes")).map((it) => item(it, it.text));
-const acksOf = (m) => Object.entries(entries(m, "acks")).sort(byLine).map(([name, it]) => item(it, "the effects of ", tx(name)));
+const notesOf = (m) => sorted(m, "notes").map(([, it]) => item(it, it.text));
+const acksOf = (m) => sorted(m, "acks").map(([name, it]) => item(it, "the effects of ", tx(name)));
 
 // Which parts the reader opened or closed, and of which all is shown. A part that is closed is not made.
 const open = new Map();
@@ -239,7 +250,7 @@ function cell(own, word) {
 }
 
 function drawTx(name) {
-  const own = entries("txs", name), line = rows.txs.get(name), entry = Object.keys(own).filter((it) => it.startsWith("entry ")).map((it) => own[it]);
+  const own = entries("txs", name), line = rows.txs.get(name), entry = sorted("txs", name).filter((it) => it[0].startsWith("entry ")).map((it) => it[1]);
   line.hidden = !own.made;
   if (!own.made) return;
   fill(line, el("th", { scope: "row" }, named("tx", name), el("small", {}, ` ${data.senders[name]}`)), cell(own, "vote"),
@@ -255,7 +266,7 @@ function drawObject(name) {
   const line = rows.objects.get(name), versions = Object.values(entries("objects", name)).sort((a, b) => a.v - b.v || a.line - b.line), locks = new Map();
   line.hidden = !versions.length;
   for (let m = 0; m < data.members.length; m += 1) {
-    for (const [what, lock] of Object.entries(entries(m, "locks"))) {
+    for (const [what, lock] of sorted(m, "locks")) {
       if (what.split("@")[0] === name) locks.set(`${what} ${lock.tx}`, (locks.get(`${what} ${lock.tx}`) || []).concat([[m, lock]]));
     }
   }
@@ -330,7 +341,8 @@ function drawDirty() {
 function touchStep(step) {
   for (const [panel, section, item] of data.changes[step] || []) {
     touch(panel, section, item);
-    if (panel === "txs" && section && / \d+$/.test(item)) dirty.members.add(Number(item.split(" ")[1]));
+    const member = panel === "txs" ? /^(?:executed|checkpoint|back) (\d+)$/.exec(item) : null;
+    if (member) dirty.members.add(Number(member[1]));
     if (panel === "objects") for (let m = 0; m < data.members.length; m += 1) if (get(m, "objects", section)) dirty.members.add(m);
     if (panel === "committee") for (let m = 0; m < data.members.length; m += 1) dirty.members.add(m);
   }
