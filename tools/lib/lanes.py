@@ -13,7 +13,7 @@ LOOKS = {
     "said": ("e", "taken"), "admitted": ("A", "taken"), "commit": ("m", "all"), "end": ("e", "taken"), "pending": ("w", "warn"), "deferred": ("w", "warn"),
     "waits": ("w", "warn"), "dropped": ("×", "refused"), "ignored": ("i", "idle"),
 }
-# How an answer looks that means something else behind this word.
+# How an answer looks that means something else after this word.
 OWN = {("close", "closed"): ("c", "taken"), ("close", "again"): ("c", "again"), ("ack", "said"): ("a", "all")}
 # Answers of which two words say what they are; of others one does.
 TWO_WORDS = ("wrong", "poor", "no", "bad", "short", "not", "invalid", "shape")
@@ -91,7 +91,7 @@ def words_of(event):
 
 
 class Column:
-    """Events that stand below one another, since they differ in their member alone; how wide they are, and which epoch ends there."""
+    """Events that stand below one another, since they differ only in their member; how wide they are, and which epoch ends there."""
 
     def __init__(self, event):
         self.events, self.ended = [event], None

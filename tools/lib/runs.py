@@ -30,7 +30,7 @@ def members_named(numbers):
 
 
 class Step:
-    """An event, the entries that it changes, and what waits behind it. The set-up is a step without an event."""
+    """An event, the entries that it changes, and what waits after it. The set-up is a step without an event."""
 
     def __init__(self, event):
         self.event, self.changes, self.waiting = event, [], []
@@ -97,7 +97,7 @@ class Run:
         return f"stake {weight} of {self.total}, {'more' if 3 * weight > 2 * self.total else 'not more'} than two thirds"
 
     def state_at(self, line):
-        """The state behind the last event that does not stand below this line: panel, section, item, value."""
+        """The state after the last event that does not stand below this line: panel, section, item, value."""
         found = {}
         for step in self.steps:
             if step.event is not None and step.event.number > line:

@@ -372,8 +372,9 @@ function keepInSight() {
   const list = $("lines"), line = lineRows[at], strip = document.querySelector("#timeline .row"), mark = (marks.get(lines[at].n) || [])[0];
   scrollTo(list, line);
   if (!mark) { if (at === 0) strip.scrollLeft = 0; return; }
-  const box = mark.getBoundingClientRect(), room = strip.getBoundingClientRect();
-  if (box.left < room.left + 20 || box.right > room.right - 20) strip.scrollLeft += box.left - room.left - room.width / 3;
+  const box = mark.getBoundingClientRect(), room = strip.getBoundingClientRect(), left = room.left + strip.querySelector(".names").offsetWidth;
+  if (box.left < left + 20 || box.right > room.right - 20) strip.scrollLeft += box.left - left - (room.right - left) / 3;
+  if (box.top < room.top || box.bottom > room.bottom - 20) strip.scrollTop += box.top - room.top - room.height / 2;
 }
 
 function go(step, keeps) {
@@ -508,7 +509,7 @@ const lineRows = makeLines();
 const marks = makeMarks();
 makeChoices();
 $("slider").max = lines.length - 1;
-$("counts").textContent = `${data.members.length} members, ${data.txs.length} transactions, ${lines.length - 1} steps`;
+$("counts").textContent = [[data.members.length, "member"], [data.txs.length, "transaction"], [lines.length - 1, "step"]].map(([count, word]) => `${count} ${word}${count === 1 ? "" : "s"}`).join(", ");
 $("clear").disabled = true;
 $("slider").addEventListener("input", (event) => go(Number(event.target.value)));
 for (const [id, act] of Object.entries({ first: () => go(shown[0] ?? 0), back: () => stepBy(-1), next: () => stepBy(1), last: () => go(shown[shown.length - 1] ?? 0), clear: showAll })) $(id).addEventListener("click", act);
