@@ -1,6 +1,7 @@
 """Reads a schedule and its report side by side: each event with the lines that it gave."""
 
 import re
+import sys
 
 SETUP = ("member", "coin", "counter", "cap", "writers")
 # The words of an event whose second word is a member.
@@ -109,3 +110,65 @@ def references(line):
         if named:
             found.append((named[1], named[2], named[3]))
     return [(how, name, int(version)) for how, name, version in found]
+
+
+def touched(event):
+    """The objects that an event names, by a reference or by an answer that has a version."""
+    found = [name for _, name, _ in references(event)] if event.word == "tx" else []
+    said = [name for line in event.said for name in re.findall(r"([a-z][\w.]*)@\d+", line)]
+    return list(dict.fromkeys(found + said + [name for name, *_ in shown(event)]))
+
+
+def named(event):
+    """The transactions that an event is about: the one of its line, and those that its report names."""
+    found = [event.tx] if event.tx else []
+    for line in event.said[1:]:
+        words = line.split(" ")
+        if line.startswith("  checkpoint "):
+            found += words[4:]
+        elif line.startswith("  reverted "):
+            found.append(words[3])
+        elif event.word == "run" and line.startswith("  "):
+            found.append(words[2])
+    answers = [it.partition(": ")[2] for it in entries(event)] if event.word == "see" else [event.answer]
+    for answer in answers:
+        for said in re.findall(r"(?:admitted|dropped|pending|deferred|waits|by|on|halted|fork \S+) ((?:[a-z]\w*)(?: [a-z]\w*)*)", answer):
+            found += said.split(" ")
+    return list(dict.fromkeys(found))
+
+
+class Unreadable(Exception):
+    """A file that a tool is handed cannot be read, or is not what it should be."""
+
+
+def misfit(schedule, report):
+    """What in a report is not of this schedule, or nothing. A report may end before its schedule does."""
+    if refusal(report):
+        line, cause = refusal(report)
+        numbers = {it.number for it in lines_of(schedule)}
+        return None if cause in range(1, 14) and (line in numbers or line == 0 and cause < 3) else f"its refusal names line {line} and cause {cause}"
+    _, events = read(schedule, report)
+    taken = sum(len(it.said) for it in events)
+    for event in events:
+        head = event.said[0].partition(": ")[0].partition(" entry ")[0] if event.said else ""
+        if event.said and head != event.text[: len(head)]:
+            return f"line {event.number} of the schedule is `{event.text[:60]}`, and there it says `{event.said[0][:60]}`"
+    return None if taken == len(report.splitlines()) else "it has more lines than the schedule has events"
+
+
+def read_files(schedule, report):
+    """The bytes of a schedule and the text of its report, which may be `-` for standard input."""
+    try:
+        with open(schedule, "rb") as it:
+            text = it.read()
+        if report == "-":
+            said = sys.stdin.buffer.read().decode("latin-1")
+        else:
+            with open(report, encoding="latin-1", newline="\n") as it:
+                said = it.read()
+    except OSError as fault:
+        raise Unreadable(f"{fault.filename}: {fault.strerror}") from None
+    wrong = misfit(text, said)
+    if wrong:
+        raise Unreadable(f"this is no report of {schedule}: {wrong}")
+    return text, said
