@@ -96,19 +96,22 @@ class Run:
         weight = self.weight(numbers)
         return f"stake {weight} of {self.total}, {'more' if 3 * weight > 2 * self.total else 'not more'} than two thirds"
 
-    def state_at(self, line):
-        """The state after the last event that does not stand below this line: panel, section, item, value."""
+    def states(self):
+        """Each step with the state after it: panel, section, item, value. The state is one and changes from step to step."""
         found = {}
         for step in self.steps:
-            if step.event is not None and step.event.number > line:
-                break
             for panel, section, item, value in step.changes:
                 entries = found.setdefault(panel, {}).setdefault(section, {})
                 if value is None:
                     del entries[item]
                 else:
                     entries[item] = value
-        return found
+            yield step, found
+
+    def state_at(self, line):
+        """The state after the last event that does not stand below this line."""
+        last = max(place for place, step in enumerate(self.steps) if step.event is None or step.event.number <= line)
+        return next(state for place, (_, state) in enumerate(self.states()) if place == last)
 
     # -- the set-up
 
