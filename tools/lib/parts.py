@@ -19,7 +19,7 @@ PARTS = (
     Part("rules and their cases", ("conformance/list", "--check"), early=True),
     Part("chains as bytes", ("conformance/chains.py", "--check"), early=True),
     Part("tools", ("tools/test_tools", "all"), early=True),
-    Part("pages of runs", ("tools/test_view",)),
+    Part("pages of runs", ("tools/test_view", "all")),
     Part("journal under kills", ("tools/test_journal", "--seconds", "5", "--ours"), COMMITTEE),
     Part("conformance", ("conformance/run", "--ours"), BOTH),
     Part("stops at each record", ("tools/stopped", "--most", "6", "--ours"), COMMITTEE, ("tools/stopped", "--most", "1", "--ours")),
