@@ -89,6 +89,17 @@ def quotes(path):
     return [(f"{path}:{number}", language, words[1], text) for number, _, language, words, text in blocks(read(path)) if words[:1] == ["of"]]
 
 
+def commands(path):
+    """What a document shows of `$ ./committee WORDS`, with `< FILE` or without: the place, the words, standard input, what is written."""
+    found = []
+    for number, _, language, _, text in blocks(read(path)):
+        line, _, wanted = text.partition("\n")
+        shown = re.fullmatch(r"\$ \./committee ([^<]*?)(?: < (.*))?", line)
+        if shown and not language:
+            found.append((f"{path}:{number}", shown[1].split(), open(f"{TOP}/{shown[2]}", "rb").read() if shown[2] else b"", wanted.encode()))
+    return found
+
+
 # What the sources declare by which the words of a schedule, the causes and the lines of a report are found, in whatever crate they stand.
 WORDS, CAUSES, LINES = "pub enum InputWord {", "pub enum Cause {", "pub enum VoteText {"
 
@@ -241,7 +252,12 @@ def slug(heading):
 
 def broken_links(path):
     """The links of a document to files or headings that are not there."""
-    found, text = [], re.sub(r"(?ms)^```.*?^```$", "", read(path))
+    return broken_links_in(path, read(path))
+
+
+def broken_links_in(path, text):
+    """The links of a text at this path that lead nowhere."""
+    found, text = [], re.sub(r"(?ms)^```.*?^```$", "", text)
     for target in re.findall(r"\]\(([^)\s]+)\)", text):
         file, _, anchor = target.partition("#")
         at = os.path.normpath(f"{os.path.dirname(path)}/{file}") if file else path
