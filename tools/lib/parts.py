@@ -17,6 +17,7 @@ PARTS = (
     Part("statements that stand twice", ("tools/twice", "--check"), early=True),
     Part("what executes a block", ("tools/executes", "--check"), early=True),
     Part("rules and their cases", ("conformance/list", "--check"), early=True),
+    Part("pages made from sources", ("tools/pages", "check"), early=True),
     Part("chains as bytes", ("conformance/chains.py", "--check"), early=True),
     Part("tools", ("tools/test_tools", "all"), early=True),
     Part("pages of runs", ("tools/test_view", "all")),
