@@ -46,7 +46,7 @@ def take_inputs(draft, plan, objects, sender, style):
     """Objects that the sender can have, as inputs, and what they are."""
     mine = [it for it in objects if draft.owner(it[1]) == sender]
     others = [it for it in objects if it[1].owner[0] != "address"]
-    count = draft.random.choice((0, 0, 1, 1, 2))
+    count = draft.random.choice((0, 0, 1, 1, 2) if style.edge < 0.2 else (1, 2, 2, 3))
     picked = draft.random.sample(mine, min(len(mine), count))
     shared = draft.random.sample(others, min(len(others), draft.random.choice((0, 1, 1, 2)))) if draft.chance(style.sharing) else []
     for name, it in picked + shared:
@@ -218,6 +218,8 @@ def force(draft, style):
     if name is None or not draft.is_quorum(draft.faulty):
         return carry(draft, style)
     words = []
+    if draft.chance(0.15):
+        name = shared_wrongly(draft) or name
     if draft.chance(0.25):
         words = [draft.one_of(("-", "-", draft.tx())) for _ in draft.world.made[name].tx.named][: draft.random.choice((9, 9, 1))]
     for number in draft.faulty:
@@ -229,6 +231,15 @@ def force(draft, style):
     if draft.chance(0.7):
         send(draft, style, name)
     run(draft, style)
+
+
+def shared_wrongly(draft):
+    """A transaction that names as shared what somebody owns."""
+    objects = draft.objects(draft.up[0]) if draft.up else []
+    gas, other = gas_coin(draft, objects), draft.one_of(it for it in objects if draft.owner(it[1]))
+    if gas is None or other[0] == gas[0]:
+        return None
+    return said(draft, [draft.owner(gas[1]), str(draft.open_epoch), f"{gas[0]}@{gas[1].version}", "1100", f"s:{other[0]}@{other[1].version}", "vec(coin)"])
 
 
 def carry(draft, style):
@@ -376,7 +387,12 @@ def turn_whole(draft, number):
     draft.say(f"see {number} 99")
     if draft.chance(0.9):
         draft.say(f"run {number} 2")
+    stops = draft.chance(0.08)
+    if stops:
+        draft.say(f"stop {number} {draft.random.choice(('kept', 'lost'))}")
     draft.say(f"turn {number}")
+    if stops:
+        draft.say(f"restart {number}")
 
 
 # Stops.

@@ -158,6 +158,13 @@ class Plan:
             self.say("vault_deposit", [vault.word, coin.word])
         return True
 
+    def keys(self):
+        """Two vaults, and one opened with a key of either."""
+        for _ in range(2):
+            self.vault()
+        self.withdraw()
+        return True
+
     def bounded(self):
         """A counter, a limit, and an addition within it or not."""
         counter = self.pick("counter")
@@ -220,7 +227,7 @@ class Plan:
 STEPS = {
     "split": 8, "transfer": 6, "merge": 3, "join": 2, "mint": 4, "burn": 2, "zero": 1, "counter": 3, "add": 6, "require": 3,
     "vault": 3, "deposit": 3, "withdraw": 3, "limit": 2, "share": 4, "freeze": 2,
-    "hoard": 1.5, "bounded": 1.5, "vectors": 0.15,
+    "hoard": 4, "keys": 0.5, "bounded": 1.5, "vectors": 0.15,
 }
 
 

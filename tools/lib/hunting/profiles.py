@@ -48,7 +48,7 @@ def set_up(draft, style):
     for number in range(draft.random.choice((3, 5, 8))):
         rich = draft.random.choice((10_000, 50_000, 1_000_000))
         balance = draft.random.choice((0, 900, 1100, 2500)) if draft.chance(0.12) else 2**64 - 1 if draft.chance(style.edge) else rich
-        lines.append(f"coin g{number} {draft.one_of(USERS[:3])} {balance}")
+        lines.append(f"coin g{number} {draft.one_of(USERS[: 3 if style.edge < 0.2 else 1])} {balance}")
     lines += [f"counter c{number} {2**64 - 3 if draft.chance(0.1) else draft.random.choice((0, 5, 100))}" for number in range(draft.random.choice((0, 1, 2) if style.sharing < 0.5 else (1, 2)))]
     lines += [f"cap m{number} {draft.one_of(USERS[:3])} {7 + number}" for number in range(draft.random.choice((0, 1, 1, 2)))]
     for line in lines:

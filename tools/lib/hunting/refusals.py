@@ -22,6 +22,7 @@ WORDS = (
 
 # Lines with a place for a member, a transaction, members and numbers, each of which may be good or bad in several ways.
 FORMS = (
+    "cert {t} {ms}", "cert {t} {ms}", "final {t} {ms}", "final {t} {ms}", "writers {n}", "cap {o} bob {n}", "coin {r} alice 1", "cert t1 {ms}", "vote {m} t1",
     "vote {m} {t}", "fvote {m} {t}", "fvote {m} {t} - {t}", "cert {t} {ms}", "send {m} {t}", "order {t}", "order end {m}", "see {m} {n}", "run {m} {n}",
     "close {m}", "end {m}", "turn {m}", "show {m}", "stop {m} kept", "restart {m}", "raw {m} vote 00", "raw {m} hold {x}", "ack {m} {t}", "ack {m} {t} !", "final {t} {ms}",
     "member {n} honest", "member {n} faulty", "coin {o} alice {n}", "counter {o} {n}", "cap {o} bob {n}", "writers {n}",
@@ -31,12 +32,31 @@ FORMS = (
 PARTS = {
     "m": (("0", "1"), ("2", "9", "3", "00", "18446744073709551616", "-")),
     "t": (("t1", "t2"), ("t9", "T1", "t1.0", "t_of_17_characters")),
-    "ms": (("0 1", "0 2", "0"), ("1 0", "0 0", "0 9", "00 1", "9 0", "")),
+    "ms": (("0 1", "0 2", "0"), ("1 0", "0 0", "2 1", "0 9", "00 1", "9 0", "")),
     "n": (("1", "2", "7"), ("0", "01", "17", "65535", "65536", "4294967295", "4294967296", "18446744073709551615", "18446744073709551616", "")),
     "o": (("z1", "z2"), ("g0", "g9", "Z", "1z")),
     "r": (("g0", "t1.0"), ("g9", "t9.0", "t1.00", "t1.")),
     "x": (("00", "ff00"), ("0", "", "0G", "FF")),
 }
+
+
+# Lines that are refused for one cause, at the end of the good text; those of the set-up at its end.
+BY_CAUSE = {
+    5: ("member 0 honest", "coin z alice 00", "cap z bob 0", "writers 0", "run 0 17", "run 0 0", "see 0 0", "see 0 4294967296", "tx z alice 0 g0@1 18446744073709551616", "tx z alice 0 g0@1 0 freeze(i65536)"),
+    9: ("coin g0 bob 1", "counter m0 1", "cap c0 bob 9", "tx t1 bob 0 g0@1 1", "tx t3 bob 0 t1.0@2 1"),
+    10: ("vote 0 t9", "fvote 2 t9", "fvote 2 t1 - t9", "cert t9 0", "send 0 t9", "order t9", "ack 0 t9", "final t9 0", "tx z alice 0 g9@1 1", "tx z alice 0 z.0@1 1", "tx z alice 0 g0@1 1 r:t9.0@1"),
+    11: ("vote 3 t1", "cert t1 0 3", "order end 3", "see 9 1", "show 3", "ack 3 t1", "final t1 3", "raw 3 vote 00"),
+    12: ("vote 2 t1", "fvote 0 t1", "send 2 t1", "see 2 1", "run 2 1", "close 2", "end 2", "turn 2", "show 2", "stop 2 kept", "restart 2", "raw 2 hold 00", "ack 0 t1 !"),
+    13: ("cert t1 1 0", "cert t1 0 0", "final t1 1 0", "final t1 2 2", "writers 4", "cap z bob 7"),
+}
+SETUP = ("member", "coin", "counter", "cap", "writers")
+
+
+def by_cause(random, lines):
+    """The good text with a line for one of these causes."""
+    line = random.choice(BY_CAUSE[random.choice(list(BY_CAUSE))])
+    at = 7 if line.startswith(SETUP) else len(lines)
+    return [*lines[:at], line, *lines[at:]]
 
 
 def filled(random):
@@ -58,7 +78,9 @@ def text(random, turn):
         return great(turn % 40)
     if chance < 0.1:
         return "\n".join(without(random, lines)).encode("latin-1")
-    if chance < 0.6:
+    if chance < 0.4:
+        lines = by_cause(random, lines)
+    elif chance < 0.75:
         lines.insert(random.choice((7, len(lines), random.randrange(len(lines) + 1))), filled(random))
     else:
         at = random.randrange(len(lines))
