@@ -29,17 +29,17 @@ def write(case, lines, about, rules):
 
 # Votes: each pair of two refusals, the first of which is told.
 
-VOTE_SETUP = ["member 1 honest", "member 1 honest", "member 1 honest", "coin spent alice 5000", "coin taken alice 5000", "coin mine alice 5000", "coin his bob 5000"]
+VOTE_SETUP = ["member 1 honest", "member 1 honest", "member 1 honest", "coin spent alice 5000", "coin taken alice 5000", "coin mine alice 5000", "coin his bob 5000", "coin odd alice 5000", "coin gone alice 5000"]
 # How each refusal is brought about: what changes of the words of a transaction.
 VOTE_FAULTS = {
     "wrong-epoch": {"epoch": "1"},
     "invalid": {"commands": "transfer(gas,i9)"},
     "unsealed": {"sender": "alice?"},
-    "absent": {"input": "o:mine@7"},
+    "absent": {"input": "o:gone@7"},
     "consumed": {"input": "o:spent@1"},
     "wrong-digest": {"input": "o:mine@1!"},
     "wrong-owner": {"input": "o:his@1"},
-    "wrong-kind": {"input": "i:mine@1"},
+    "wrong-kind": {"input": "i:odd@1"},
     "poor-gas": {"budget": "9000"},
     "locked": {"input": "o:taken@1"},
 }
@@ -182,6 +182,7 @@ def certificates():
     lines.append("close 1")
     hand(it.certificate(bad_shape, (1, 0)), 1)
     hand(it.certificate(late, (0, 1, 2)), 1)
+    hand(it.certificate(second, spoil=2), 1)
     # A fork, and then halted before everything.
     hand(it.certificate(good), 2)
     hand(it.certificate(second), 2)
@@ -374,7 +375,7 @@ BLOCKS = {
     "currency_before_overflow": "coin_mint(i7,i0) merge(gas,r0)", "currency_of_second": "coin_mint(i7,i0) merge(gas,i4,r0)", "balance_whole": "split(gas,i0,i1)", "balance_shown": "split(i4,i1)", "sum_before_number": "split(gas,i1,i2)",
     "abort_before_unused": "counter_new(i0) counter_add(i5,i0)", "unused_vector": "vec(cap)", "unused_of_two": "split(gas,i0,i0) transfer(r0.0,i3)", "none_of_two": "split(gas,i0,i0) transfer(r0,i3)", "none_of_third": "split(gas,i0,i0) transfer(r0.2,i3)", "none_of_nothing": "freeze(i4) transfer(r0,i3)",
     "write_to_read_only": "counter_add(i6,i0)", "read_of_read_only": "counter_require(i6,i0)", "share_of_an_input": "share(i4)", "share_of_a_key": "vault_new(i0) share(r0.1)", "share_twice": "counter_new(i0) share(r0) share(r0)", "freeze_and_share": "counter_new(i0) freeze(r0) share(r0)",
-    "vault_other_coin": "vault_new(i0) vault_deposit(r0.0,i4)", "vault_other_key": "vault_new(i0) vault_new(i0) vault_withdraw(r0.0,r1.1,i0)", "vault_less": "vault_new(i0) vault_withdraw(r0.0,r0.1,i0)", "key_by_value_then_used": "vault_new(i0) transfer(r0.1,i3) vault_withdraw(r0.0,r0.1,i0)",
+    "vault_other_coin": "vault_new(i0) vault_deposit(r0.0,i4)", "vault_other_key": "vault_new(i0) vault_new(i0) vault_withdraw(r0.0,r1.1,i0)", "vault_less": "vault_new(i0) vault_withdraw(r0.0,r0.1,i0)", "kind_before_alias": "vault_new(i0) vault_deposit(r0.0,r0.0)", "kind_before_value_2": "merge(gas,i5)", "gas_by_value_twice": "merge(gas,gas)", "key_by_value_then_used": "vault_new(i0) transfer(r0.1,i3) vault_withdraw(r0.0,r0.1,i0)",
     "join_two": "coin_mint(i7,i0) vec(coin,r0,i4) coin_join_all(r1)", "join_none": "vec(coin) coin_join_all(r0)", "join_other_kind": "vec(cap,i7) coin_join_all(r0)", "burn_other": "coin_burn(i7,i4)", "limit_at": "limit_new(i1) counter_new(i1) counter_add_limited(r1,i0,r0)", "limit_past_64": "limit_new(i1) counter_add_limited(i5,i0,r0)", "add_past_64": "counter_add(i5,i0)", "require_more": "counter_require(i6,i1)",
 }
 
@@ -409,7 +410,29 @@ def calls():
     write("epochs/order-of-refusals-of-calls", lines, "Of `end`, `turn`, `ack`, `final`, `cert`, `order` and of members that are down: where several answers apply the first is given.", "end.not-closed end.waits turn.not-ended ack.not-executed final.no-ack final.short final.differ order.no-certificate order.not-taken cert.no-vote cert.short cert.differ stop.down")
 
 
+def repeats():
+    """What is in the sequence comes again: with a valid certificate, and with one that is not."""
+    lines = ["member 1 honest", "member 2 faulty", "member 6 faulty", "coin g0 alice 9000", "tx t0 alice 0 g0@1 2000 a:bob transfer(gas,i0)", "fvote 2 t0", "cert t0 2", "fvote 1 t0", "fvote 2 t0", "cert t0 1 2", "order t0", "fvote 1 t0 - -", "fvote 2 t0 - -", "cert t0 1 2", "order t0"]
+    lines += ["see 0 2", "fvote 1 t0", "fvote 2 t0", "cert t0 1 2", "order t0", "see 0 1", "run 0 1", "see 0 1"]
+    write("sequence/an-invalid-certificate-of-what-stands-there", lines, "An entry with an invalid certificate of a transaction that is in the sequence is ignored for its certificate, and one with a valid certificate as a repeat.", "see.certificate see.repeat")
+
+
+def halted():
+    """A closed member that meets a fork in the sequence, asked for everything that it would refuse otherwise."""
+    lines = [*vote_setup([f"p{number}" for number in range(2, 14)])]
+    lines[:3] = ["member 1 honest", "member 1 honest", "member 1 honest", "member 20 faulty"]
+    lines = [line.replace("cert spends 0 1 2", "fvote 3 spends").replace("send 0 spends", "cert spends 0 3") for line in lines]
+    lines += ["send 0 spends", "run 0 1", "close 0", "tx rival alice 0 spent@1 2000 a:bob transfer(gas,i0)", "fvote 3 rival", "cert rival 3", "order rival", "see 0 1"]
+    faults = [(it,) for it in VOTE_FAULTS]
+    for number, fault in enumerate(faults):
+        lines += [vote_line(f"h{number}", f"p{number + 2}", fault), f"vote 0 h{number}"]
+    lines += ["vote 0 takes", "vote 0 spends", "send 0 spends", "send 0 takes", "close 0", "end 0", "turn 0", "run 0 1", "see 0 1", "ack 0 takes", "ack 0 spends", "raw 0 vote 00", "raw 0 hold 00", "show 0", "stop 0 lost", "close 0", "restart 0", "close 0"]
+    write("forks/halted-comes-first", lines, "A closed member that met a fork in the sequence says `halted` to whatever it is asked, whichever other refusal applies; `no certificate` comes before that.", "fork.halts see.fork see.halted turn.halted end.halted ack.halted vote.order")
+
+
 def main():
+    halted()
+    repeats()
     votes()
     kinds()
     certificates()
