@@ -17,7 +17,7 @@ HERE = os.path.dirname(os.path.abspath(__file__))
 TOP = os.path.dirname(HERE)
 sys.path.insert(0, f"{TOP}/tools/lib")
 from hunting.plain import member, text, tx, wire, world
-from hunting.plain.block import Block, Halt, Place
+from hunting.plain.block import Block, Halt, Item, is_of_kind
 
 def read(path):
     with open(path, "rb") as it:
@@ -49,14 +49,12 @@ class Watch:
     """What the cases show: pairs by what they are of, and values at limits."""
 
     def __init__(self):
-        self.pairs, self.single, self.limits = {}, {}, set()
+        self.pairs, self.limits = {}, set()
 
     def note(self, of, applying):
         """These apply, in their order: the first is told."""
         for other in applying[1:]:
             self.pairs.setdefault(of, set()).add((applying[0], other))
-        if applying:
-            self.single.setdefault(of, set()).add(applying[0])
 
 
 def applies(call, *values):
@@ -72,10 +70,7 @@ def applies(call, *values):
 
 def refusals_of_vote(it, data):
     """All refusals of a vote that apply, in the order of the manual."""
-    if it.halted:
-        found = ["halted"]
-    else:
-        found = []
+    found = ["halted"] * (it.halted is not None)
     try:
         value, seal = wire.decoded(wire.SIGNED, data)
     except wire.Malformed:
@@ -108,19 +103,6 @@ def refusals_of_hold(it, data):
     return found + ["fork"] * any(key in held.tx.consumed for held in others for key in made.consumed)
 
 
-def shapes_of(made):
-    """All faults of a shape: each is asked for by itself."""
-    ids = [it.id for it in made.named]
-    placed = [(place, it) for place, command in enumerate(made.commands) for it in tx.arguments(command)]
-    holds = {
-        1: len(made.bytes) > tx.MAX_BYTES, 2: not made.commands, 3: len(made.commands) > tx.MAX_COMMANDS, 4: len(made.inputs) > tx.MAX_INPUTS, 5: len(set(ids)) < len(ids),
-        6: any(it[0] == "input" and it[1] >= len(made.inputs) for _, it in placed), 7: any(tx.is_late(it, place) for place, it in placed), 8: any(map(tx.lacks_operands, made.commands)),
-        9: any(it[0] == "call" and it[1] > tx.LAST_NATIVE for it in made.commands), 10: made.budget < made.cost, 11: any(not 1 <= it.version <= tx.BOUND - 2 for it in made.named),
-        12: any(len(tx.arguments(it)) > tx.MAX_ARGUMENTS for it in made.commands),
-    }
-    return [str(number) for number, it in holds.items() if it]
-
-
 class Watched(world.World):
     """The world of the plain model, which notes what applies before it answers."""
 
@@ -134,7 +116,7 @@ class Watched(world.World):
             self.watch.note("vote", refusals_of_vote(seat.member, data))
             try:
                 made = tx.Transaction(wire.decoded(wire.SIGNED, data)[0])
-                self.watch.note("shapes", shapes_of(made))
+                self.watch.note("shapes", [str(it) for it in tx.faults_of(made)])
                 self.note_sizes(made)
             except wire.Malformed:
                 pass
@@ -215,8 +197,7 @@ def watched_take(watch, take):
 
 
 def causes_of(block, argument, mode, kind, gives_gas):
-    from hunting.plain.block import Item, is_of_kind
-
+    """All causes that apply to an argument, in the order in which they are tried."""
     try:
         place = block.place(argument)
     except Halt:
@@ -256,7 +237,7 @@ def causes_of_text(watch, data):
 def watched():
     """What all cases show."""
     watch, taken = Watch(), set()
-    original, Block.take = Block.take, None
+    original = Block.take
     Block.take = watched_take(watch, original)
     for _, data in cases():
         if causes_of_text(watch, data):

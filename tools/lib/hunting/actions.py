@@ -39,7 +39,13 @@ def gas_coin(draft, objects):
     """A coin that can pay for the most part."""
     coins = [it for it in objects if it[1].content[:2] == ("coin", 0) and draft.owner(it[1])]
     rich = [it for it in coins if it[1].content[2] >= 2500]
-    return draft.one_of(rich if rich and draft.chance(0.95) else coins)
+    free = [it for it in rich if not is_locked(draft, it[1])]
+    return draft.one_of(free if free and draft.chance(0.85) else rich if rich and draft.chance(0.95) else coins)
+
+
+def is_locked(draft, it):
+    """Whether some member voted for a transaction that consumes this version."""
+    return any((it.id, it.version) in draft.member(number).locks for number in draft.up)
 
 
 def take_inputs(draft, plan, objects, sender, style):

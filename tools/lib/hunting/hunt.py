@@ -65,6 +65,7 @@ def smaller(ways, finding, seconds, say):
     if lines is None:
         return finding
     wrong, wanted, had = judged(ways, joined(lines))
+    # What is wrong at one time alone was found all the same.
     return finding if wrong is None else finding._replace(said=wrong[1], schedule=joined(lines), wanted=wanted, had=had)
 
 

@@ -25,7 +25,7 @@ STYLES = {
     "blocks": Style({**BASE, "whole": 25, "make": 0}, wildness=0.9, spoiled=0.02, sharing=0.3),
     "natives": Style({**BASE, "whole": 25, "make": 0, "show": 3}, wildness=0.05, spoiled=0, sharing=0.4, lines=(60, 120)),
     "edges": Style({**BASE, "whole": 25, "make": 0, "show": 3}, wildness=0.05, spoiled=0, sharing=0.4, edge=0.4, lines=(60, 120)),
-    "shared": Style({**BASE, "whole": 16, "order": 6, "commit": 3, "see": 6}, sharing=0.9, writers=0.7, wildness=0.1, spoiled=0.05),
+    "shared": Style({**BASE, "whole": 24, "order": 6, "commit": 2, "see": 6}, sharing=0.95, writers=0.7, wildness=0.1, spoiled=0.03, lines=(60, 140)),
     "epochs": Style({**BASE, **ENDS, "commit": 3}, sharing=0.4, lines=(50, 130)),
     "stops": Style({**BASE, **STOPS, **ENDS}, lines=(50, 120)),
     "finality": Style({**BASE, **FINAL, "close": 0.5, "end_epoch": 1}, lines=(40, 110)),
@@ -35,6 +35,8 @@ STYLES = {
 }
 OTHERS = {"refused": refusals.text, "limits": sizes.text}
 PROFILES = (*STYLES, *OTHERS)
+# The turns of a hunt of all profiles. A refused text shows one fault alone, and costs little.
+TURNS = (*STYLES, "refused", "shared", "limits", "refused", "refused", "refused")
 
 
 def set_up(draft, style):
@@ -44,7 +46,7 @@ def set_up(draft, style):
     roles = roles_for(draft, style, stakes)
     lines = [f"member {stake} {role}" for stake, role in zip(stakes, roles)]
     if draft.chance(style.writers):
-        lines.append(f"writers {draft.random.choice((1, 1, 2, 3))}")
+        lines.append(f"writers {draft.random.choice((1, 1, 1, 2, 3))}")
     for number in range(draft.random.choice((3, 5, 8))):
         rich = draft.random.choice((10_000, 50_000, 1_000_000))
         balance = draft.random.choice((0, 900, 1100, 2500)) if draft.chance(0.12) else 2**64 - 1 if draft.chance(style.edge) else rich
@@ -82,7 +84,7 @@ def styled(random, style):
 
 def profile_of(seed, wanted=None):
     """The profile of a seed: each in its turn, where none is wanted."""
-    return wanted or PROFILES[seed % len(PROFILES)]
+    return wanted or TURNS[seed % len(TURNS)]
 
 
 def schedule(seed, wanted=None):
@@ -90,5 +92,5 @@ def schedule(seed, wanted=None):
     profile = profile_of(seed, wanted)
     random = randoms.Random(f"{profile} {seed}")
     if profile in OTHERS:
-        return OTHERS[profile](random, seed // len(PROFILES))
+        return OTHERS[profile](random, seed)
     return "".join(f"{line}\n" for line in styled(random, STYLES[profile])).encode()

@@ -3,7 +3,7 @@
 import re
 
 GOOD = (
-    "member 1 honest", "member 1 honest", "member 1 faulty", "coin g0 alice 10000", "counter c0 5", "cap m0 bob 7", "writers 3",
+    "member 1 honest", "member 1 honest", "member 1 faulty", "coin g0 alice 10000", "counter c0 5", "cap m0 a_name_of_16_let 7", "writers 3",
     "tx t1 alice 0 g0@1 2000 n:5 a:bob split(gas,i0) transfer(r0,i1)", "tx t2 bob 0 g0@1! 2000 x:00 s:c0@1 vec(coin) coin_join_all(r0)",
     "tx t3 alice? 0 t1.0@2 2000 o:m0@1 coin_mint(i0,gas)", "vote 0 t1", "vote 1 t1", "fvote 2 t1", "fvote 2 t1 - t2", "cert t1 0 1 2", "send 0 t1",
     "order t1", "order commit", "see 0 9", "run 0 1", "close 0", "end 0", "order end 2", "order end 0", "turn 0", "stop 1 kept", "stop 1 lost",
@@ -74,8 +74,8 @@ def text(random, turn):
     """A text of the profile `refused`."""
     lines = list(GOOD)
     chance = random.random()
-    if turn % 40 < 6:
-        return great(turn % 40)
+    if turn % 96 < 6:
+        return great(turn % 96)
     if chance < 0.1:
         return "\n".join(without(random, lines)).encode("latin-1")
     if chance < 0.4:

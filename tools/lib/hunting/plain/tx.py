@@ -66,8 +66,8 @@ def lacks_operands(command):
     return operands is not None and not command[operands]
 
 
-def fault_of(tx):
-    """The least number of a fault of the shape, or none."""
+def faults_of(tx):
+    """The numbers of all faults of the shape, the least first."""
     placed = [(place, it) for place, command in enumerate(tx.commands) for it in arguments(command)]
     ids = [it.id for it in tx.named]
     faults = {
@@ -84,4 +84,9 @@ def fault_of(tx):
         11: any(not 1 <= it.version <= BOUND - 2 for it in tx.named),
         12: any(len(arguments(it)) > MAX_ARGUMENTS for it in tx.commands),
     }
-    return next((number for number, holds in faults.items() if holds), None)
+    return [number for number, holds in faults.items() if holds]
+
+
+def fault_of(tx):
+    """The least number of a fault of the shape, or none."""
+    return next(iter(faults_of(tx)), None)
