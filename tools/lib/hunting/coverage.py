@@ -90,6 +90,8 @@ def of_lines(schedule):
 def of_tx(words):
     found = [f"input {word[:2]}" for word in words[6:] if "(" not in word] + [f"command {word.split('(')[0]}" for word in words[6:] if "(" in word]
     for argument in re.findall(r"(?<=[(,])[a-z][\w.]*", " ".join(words[6:])):
+        if argument.isalpha() and argument != "gas":
+            continue  # the kind of a vector
         name = "gas" if argument == "gas" else re.sub(r"\d+", lambda it: "N" if it.start() == 1 else "K", argument)
         found.append(f"argument {name}")
     return found + ["mark ?"] * words[2].endswith("?") + ["mark !"] * (words[4].endswith("!") or any(word.endswith("!") for word in words[6:]))
