@@ -430,7 +430,42 @@ def halted():
     write("forks/halted-comes-first", lines, "A closed member that met a fork in the sequence says `halted` to whatever it is asked, whichever other refusal applies; `no certificate` comes before that.", "fork.halts see.fork see.halted turn.halted end.halted ack.halted vote.order")
 
 
+def natives_at_limits():
+    """Each native at its limit, and one past it: blocks of one coin and one cap each."""
+    most, big = 2**64 - 1, "n:18446744073709551615"
+    made = {
+        "add_last": (f"{big} n:0 a:bob", "counter_new(i0) counter_add(r0,i1) transfer(r0,i2)"), "add_past": (f"{big} n:1 a:bob", "counter_new(i0) counter_add(r0,i1) transfer(r0,i2)"),
+        "limit_last": ("n:4 n:6 n:10 a:bob", "counter_new(i0) limit_new(i2) counter_add_limited(r0,i1,r1) transfer(r0,r1,i3)"), "limit_past": ("n:4 n:7 n:10 a:bob", "counter_new(i0) limit_new(i2) counter_add_limited(r0,i1,r1) transfer(r0,r1,i3)"),
+        "limit_64": (f"{big} n:1 a:bob", "counter_new(i0) limit_new(i0) counter_add_limited(r0,i1,r1) transfer(r0,r1,i2)"), "require_last": ("n:4 n:4 a:bob", "counter_new(i0) counter_require(r0,i1) transfer(r0,i2)"), "require_past": ("n:4 n:5 a:bob", "counter_new(i0) counter_require(r0,i1) transfer(r0,i2)"),
+        "mint_last": (f"{big} n:0 a:bob", "coin_mint(CAP,i0) coin_mint(CAP,i1) transfer(r0,r1,i2)"), "mint_past": (f"{big} n:1 a:bob", "coin_mint(CAP,i0) coin_mint(CAP,i1) transfer(r0,r1,i2)"), "burn_all": ("n:9", "coin_mint(CAP,i0) coin_burn(CAP,r0)"),
+        "draw_all": ("n:9 n:CUR a:bob", "coin_mint(CAP,i0) vault_new(i1) vault_deposit(r1.0,r0) vault_withdraw(r1.0,r1.1,i0) transfer(r1.0,r1.1,r3,i2)"), "draw_past": ("n:9 n:CUR n:10 a:bob", "coin_mint(CAP,i0) vault_new(i1) vault_deposit(r1.0,r0) vault_withdraw(r1.0,r1.1,i2) transfer(r1.0,r1.1,r3,i3)"),
+        "join_one": ("n:9 a:bob", "coin_mint(CAP,i0) vec(coin,r0) coin_join_all(r1) transfer(r2,i1)"), "split_all": ("n:1500 a:bob", "split(gas,i0) transfer(r0,i1)"), "split_past": ("n:1501 a:bob", "split(gas,i0) transfer(r0,i1)"),
+    }
+    setup, events = ["member 1 honest"], []
+    for number, (name, (inputs, commands)) in enumerate(made.items()):
+        setup += [f"coin p{number} alice 3000", f"cap m{number} alice {7 + number}"]
+        cap = f"i{len(inputs.split(' '))}"
+        events += [f"tx {name} alice 0 p{number}@1 1500 {inputs.replace('CUR', str(7 + number))} o:m{number}@1 {commands.replace('CAP', cap)}", f"vote 0 {name}", f"cert {name} 0", f"send 0 {name}"]
+    sums = {"d_last": (most, 0), "d_past": (most, 1), "j_last": (most - 1, 1), "j_past": (most, 1)}
+    for number, (name, (one, other)) in enumerate(sums.items()):
+        setup += [f"coin q{number} alice 3000", f"coin a{number} alice {one}", f"coin b{number} alice {other}"]
+        does = "vault_new(i2) vault_deposit(r0.0,i0) vault_deposit(r0.0,i1) transfer(r0.0,r0.1,i3)" if name[0] == "d" else "vec(coin,i0,i1) coin_join_all(r0) transfer(r1,i3)"
+        events += [f"tx {name} alice 0 q{number}@1 1500 o:a{number}@1 o:b{number}@1 n:0 a:bob {does}", f"vote 0 {name}", f"cert {name} 0", f"send 0 {name}"]
+    write("blocks/natives-at-their-limits", [*setup, *events, "run 0 1", "show 0"], "Each native, and a split, at the last number that it takes and at the first that it does not.", "abort.counter_add abort.counter_add_limited abort.counter_require abort.coin_mint abort.vault_withdraw abort.vault_deposit abort.coin_join_all cause.8")
+
+
+def other_origin():
+    """A certificate that names another transaction of the epoch as the origin than the one that made the version."""
+    lines = ["member 1 honest", "member 9 faulty", "coin g0 alice 9000", "coin g1 alice 9000", "tx t0 alice 0 g0@1 2000 a:bob transfer(gas,i0)", "tx t1 alice 0 g1@1 2000 a:bob transfer(gas,i0)"]
+    for name in ("t0", "t1"):
+        lines += [f"vote 0 {name}", f"fvote 1 {name}", f"cert {name} 0 1", f"send 0 {name}"]
+    lines += ["run 0 1", "tx t2 bob 0 g0@2 2000 a:carol transfer(gas,i0)", "fvote 1 t2 t1", "cert t2 1", "send 0 t2", "run 0 1", "tx t3 bob 0 g1@2 2000 a:carol transfer(gas,i0)", "fvote 1 t3 t1", "cert t3 1", "send 0 t3", "run 0 1", "show 0"]
+    write("execution/absent-by-another-origin", lines, "A faulty quorum names t1 as the origin of a version that t0 made: the version is absent, though both are executed.", "run.absent")
+
+
 def main():
+    natives_at_limits()
+    other_origin()
     halted()
     repeats()
     votes()
