@@ -454,6 +454,13 @@ def natives_at_limits():
     write("blocks/natives-at-their-limits", [*setup, *events, "run 0 1", "show 0"], "Each native, and a split, at the last number that it takes and at the first that it does not.", "abort.counter_add abort.counter_add_limited abort.counter_require abort.coin_mint abort.vault_withdraw abort.vault_deposit abort.coin_join_all cause.8")
 
 
+def frozen_key():
+    """A key that is frozen opens its vault all the same: it is only read."""
+    lines = ["member 1 honest", "coin g0 alice 9000", "coin g1 bob 9000", "tx t0 alice 0 g0@1 2000 n:0 vault_new(i0) share(r0.0) freeze(r0.1)", "vote 0 t0", "cert t0 0", "order t0", "see 0 1", "run 0 1"]
+    lines += ["tx t1 bob 0 g1@1 2000 s:t0.0@2 i:t0.1@2 n:0 a:bob vault_withdraw(i0,i1,i2) transfer(r0,i3)", "vote 0 t1", "cert t1 0", "order t1", "see 0 1", "run 0 1", "show 0"]
+    write("shared/a-frozen-key-opens-its-vault", lines, "A key is read by a withdrawal, so a frozen one opens its vault for anybody.", "shared.assigned block.version")
+
+
 def other_origin():
     """A certificate that names another transaction of the epoch as the origin than the one that made the version."""
     lines = ["member 1 honest", "member 9 faulty", "coin g0 alice 9000", "coin g1 alice 9000", "tx t0 alice 0 g0@1 2000 a:bob transfer(gas,i0)", "tx t1 alice 0 g1@1 2000 a:bob transfer(gas,i0)"]
@@ -466,6 +473,7 @@ def other_origin():
 def main():
     natives_at_limits()
     other_origin()
+    frozen_key()
     halted()
     repeats()
     votes()
