@@ -52,7 +52,8 @@ def wanted():
     return [it for it in found if it not in NEVER]
 
 
-PATTERNS = {f"report `{form}`": manual.pattern(form) for form in manual.rows(REPORTS)}
+# `raw M vote: ..` stands for the answers of another line.
+PATTERNS = {f"report `{form}`": manual.pattern(form) for form in manual.rows(REPORTS) if not form.endswith("..")}
 
 
 def count(schedule, answer):
