@@ -1,0 +1,360 @@
+#!/usr/bin/env python3
+"""Which causes, limits and pairs of causes the cases show, from the tables of the manual, and which they do not.
+
+usage: conformance/tables.py            says for each table how many of it the cases have, and names what is missing
+       conformance/tables.py --missing  says only what is missing and could be there; the exit status is 1 where something is
+
+The orders are those that docs/REPORTS.md and docs/SCHEDULES.md state. A pair is shown where, in some case, both apply and the first is
+told: the plain model of the rules runs each case, and is asked of each refusal what else would have applied.
+"""
+
+import os
+import re
+import sys
+
+sys.dont_write_bytecode = True
+HERE = os.path.dirname(os.path.abspath(__file__))
+TOP = os.path.dirname(HERE)
+sys.path.insert(0, f"{TOP}/tools/lib")
+from hunting.plain import member, text, tx, wire, world
+from hunting.plain.block import Block, Halt, Item, is_of_kind
+
+def read(path):
+    with open(path, "rb") as it:
+        return it.read()
+
+
+def cases():
+    """The schedules of `run`, by their names."""
+    for folder, _, names in sorted(os.walk(HERE)):
+        for name in sorted(it for it in names if it.endswith(".schedule")):
+            at = f"{folder}/{name.removesuffix('.schedule')}"
+            if not os.path.exists(f"{at}.args") and not os.path.exists(f"{at}.program"):
+                yield os.path.relpath(at, HERE), read(f"{folder}/{name}")
+
+
+def orders():
+    """The orders that the manual states: what they are of, and the answers in their order."""
+    said = read(f"{TOP}/docs/REPORTS.md").decode()
+    found = {}
+    for heading, body in re.findall(r"(?ms)^## (.*?)\n(.*?)(?=^## |\Z)", said):
+        for of, names in re.findall(r"(?:of(?: a| an)? `(\w+)`[^`.;]*?)?(?:in this |in the )order:? ((?:`[^`]+`[^`.;]*)+)", body):
+            listed = re.findall(r"`([^`]+)`", names)
+            if len(listed) > 1:
+                found.setdefault(of or heading.strip("` ").split("`")[0], []).append(listed)
+    return found
+
+
+class Watch:
+    """What the cases show: pairs by what they are of, and values at limits."""
+
+    def __init__(self):
+        self.pairs, self.limits = {}, set()
+
+    def note(self, of, applying):
+        """These apply, in their order: the first is told."""
+        for other in applying[1:]:
+            self.pairs.setdefault(of, set()).add((applying[0], other))
+
+
+def applies(call, *values):
+    """Whether a case refuses; where it cannot even be asked it does not apply."""
+    try:
+        call(*values)
+    except member.Refusal:
+        return True
+    except (AttributeError, KeyError, TypeError, IndexError):
+        return False
+    return False
+
+
+def refusals_of_vote(it, data):
+    """All refusals of a vote that apply, in the order of the manual."""
+    found = ["halted"] * (it.halted is not None)
+    try:
+        value, seal = wire.decoded(wire.SIGNED, data)
+    except wire.Malformed:
+        return [*found, "malformed"]
+    made = tx.Transaction(value)
+    found += ["wrong epoch"] * (made.epoch != it.epoch) + ["again"] * (made.digest in it.votes) + ["closed"] * it.closed
+    found += ["invalid"] * (tx.fault_of(made) is not None) + ["unsealed"] * (seal != wire.seal(("user", made.sender), made.bytes))
+    for name, case in (("absent", it.absent), ("consumed", it.consumed), ("wrong digest", it.wrong_digest), ("wrong owner", it.wrong_owner), ("wrong kind", it.wrong_kind)):
+        found += [name] * any(applies(case, made, named) for named in made.named)
+    found += ["poor gas"] * applies(it.poor_gas, made)
+    return found + ["locked"] * any(it.locks.get(key, made.digest) != made.digest for key in made.consumed)
+
+
+def refusals_of_hold(it, data):
+    """All refusals of a certificate that apply."""
+    found = ["halted"] * (it.halted is not None)
+    try:
+        value, origins, seals = wire.decoded(wire.CERTIFICATE, data)
+    except wire.Malformed:
+        return [*found, "malformed"]
+    made, total = tx.Transaction(value), sum(it.committee)
+    numbers = [number for number, _ in seals]
+    known = [number for number in numbers if number < len(it.committee)]
+    found += ["wrong epoch"] * (made.epoch != it.epoch) + ["again"] * (made.digest in it.held) + ["closed"] * it.closed
+    found += ["shape"] * (tx.fault_of(made) is not None or len(origins) != len(made.named))
+    found += ["order"] * (numbers != sorted(set(numbers)) or len(known) < len(numbers)) + ["short stake"] * (3 * sum(it.committee[number] for number in set(known)) <= 2 * total)
+    statement = ("vote", made.epoch, made.digest, origins)
+    found += ["bad seal"] * any(seal != wire.member_seal(number, statement) for number, seal in seals)
+    others = [held for held in it.held.values() if held.tx.digest != made.digest]
+    return found + ["fork"] * any(key in held.tx.consumed for held in others for key in made.consumed)
+
+
+class Watched(world.World):
+    """The world of the plain model, which notes what applies before it answers."""
+
+    def __init__(self, watch):
+        super().__init__()
+        self.watch = watch
+
+    def hand_vote(self, head, number, data):
+        seat = self.seats[number]
+        if seat.member:
+            self.watch.note("vote", refusals_of_vote(seat.member, data))
+            try:
+                made = tx.Transaction(wire.decoded(wire.SIGNED, data)[0])
+                self.watch.note("shapes", [str(it) for it in tx.faults_of(made)])
+                self.note_sizes(made)
+            except wire.Malformed:
+                pass
+        return super().hand_vote(head, number, data)
+
+    def note_sizes(self, made):
+        """How great a transaction is, beside the first fault of its shape."""
+        fault, versions = tx.fault_of(made), [it.version for it in made.named]
+        longest = max((len(tx.arguments(it)) for it in made.commands), default=0)
+        for what, value in (("bytes", len(made.bytes)), ("commands", len(made.commands)), ("inputs", len(made.inputs)), ("arguments", longest), ("least version", min(versions)), ("version", max(versions))):
+            self.watch.limits.add((what, value, fault))
+
+    def hand_certificate(self, head, number, data):
+        if self.seats[number].member:
+            self.watch.note("send", refusals_of_hold(self.seats[number].member, data))
+        return super().hand_certificate(head, number, data)
+
+    def do_send(self, number, name):
+        if self.made[name].certificate is None:
+            self.watch.note("send", ["no certificate"] + ["down"] * (self.seats[number].member is None) + ["halted"] * bool(self.seats[number].member and self.seats[number].member.halted))
+        return super().do_send(number, name)
+
+    def do_order(self, what, value):
+        if what == "tx" and self.made[value].certificate is None:
+            self.watch.note("order", ["no certificate"] + ["not taken"] * (self.made[value].tx.epoch != len(self.entries) - 1))
+        return super().do_order(what, value)
+
+    def collected(self, stated, members, thing):
+        had = [stated[it] for it in members if it in stated]
+        missing, short = len(had) < len(members), 3 * sum(self.stakes[it] for it in members) <= 2 * sum(self.stakes)
+        self.watch.note("cert" if thing == "vote" else "final", [f"no {thing}"] * missing + ["short"] * short + ["differ"] * any(it != had[0] for it in had))
+        return super().collected(stated, members, thing)
+
+    def of_member(self, of, number, causes):
+        it = self.seats[number].member
+        if it:
+            self.watch.note(of, ["halted"] * (it.halted is not None) + [name for name, holds in causes(it) if holds])
+
+    def do_see(self, number, count):
+        self.of_member("see", number, lambda it: [("nothing", it.seen >= len(self.entries[it.epoch]))])
+        return super().do_see(number, count)
+
+    def see_entry(self, seat, head, entry):
+        it = seat.member
+        if entry[0] == "certificate":
+            made = member.Certificate(tx.Transaction(entry[1]), *entry[2:])
+            held = it.held.get(made.tx.digest)
+            self.watch.note("ignored", ["certificate"] * applies(it.check_certificate, made) + ["repeat"] * bool(held and held.placed))
+        return super().see_entry(seat, head, entry)
+
+    def do_close(self, number):
+        self.of_member("close", number, lambda it: [("again", it.closed)])
+        return super().do_close(number)
+
+    def do_end(self, number):
+        self.of_member("end", number, lambda it: [("not closed", not it.closed), ("waits", any(not held.placed for held in it.held.values()))])
+        return super().do_end(number)
+
+    def do_turn(self, number):
+        self.of_member("turn", number, lambda it: [("not ended", not it.ended), ("waits", any(not it.is_done(digest) for digest in it.admission.admitted))])
+        return super().do_turn(number)
+
+    def do_ack(self, number, name, spoiled):
+        if self.seats[number]:
+            digest = self.made[name].tx.digest
+            self.of_member("ack", number, lambda it: [("not executed", not it.is_executed([digest]))])
+        return super().do_ack(number, name, spoiled)
+
+
+def watched_take(watch, take):
+    """The taking of an argument, which notes all causes that apply to it."""
+
+    def watched(self, argument, mode, kind=None, gives_gas=False):
+        watch.note("argument", causes_of(self, argument, mode, kind, gives_gas))
+        return take(self, argument, mode, kind, gives_gas)
+
+    return watched
+
+
+def causes_of(block, argument, mode, kind, gives_gas):
+    """All causes that apply to an argument, in the order in which they are tried."""
+    try:
+        place = block.place(argument)
+    except Halt:
+        return ["2"]
+    value, taken = place.value, mode in ("value", "coins")
+    if value is None:
+        return ["1"] + ["5"] * (taken and place.access == "gas" and not gives_gas) + ["7"] * (place.named_by == block.at)
+    if mode in ("number", "address"):
+        return ["4"] if not isinstance(value, bytes) else ["3"] * (len(value) != (8 if mode == "number" else 32))
+    lent = place.access in ("immutable", "s", "r") or (place.access == "gas" and not gives_gas)
+    return ["4"] * (not is_of_kind(value, mode, kind)) + ["5"] * (taken and lent) + ["6"] * (mode == "mutable" and place.access in ("immutable", "r")) + ["7"] * (isinstance(value, Item) and place.named_by == block.at)
+
+
+def causes_of_text(watch, data):
+    """The causes against the first bad line of a text."""
+    try:
+        text.read(data)
+        return True
+    except text.Refused as refused:
+        found = refused
+    reader, lines = text.Reader(), data.split(b"\n")
+    for line in lines[: max(found.line - 1, 0)]:
+        if line and not line.startswith(b"#"):
+            reader.line(line)
+    if found.line:
+        line = lines[found.line - 1]
+        clean = bytes(it for it in line if 0x20 <= it <= 0x7E)
+        event, cause = reader.line(clean)
+        causes = sorted({*([3] if clean != line else []), *([cause] if cause else []), *reader.causes})
+        watch.note("refused", [str(it) for it in causes])
+        watch.limits.add(("text", line.decode("latin-1"), found.cause))
+    else:
+        watch.note("refused", [str(found.cause)])
+    return False
+
+
+def watched():
+    """What all cases show."""
+    watch, taken = Watch(), set()
+    original = Block.take
+    Block.take = watched_take(watch, original)
+    for _, data in cases():
+        if causes_of_text(watch, data):
+            taken.update(data.decode("latin-1").split("\n"))
+            it = Watched(watch)
+            for event in text.read(data):
+                it.step(event)
+    Block.take = original
+    return watch, taken
+
+
+# The limits of the manual's table: what is last taken, and what is first refused. Each is looked for in a line, or in the size of a transaction.
+def in_line(pattern):
+    return lambda watch, taken: any(re.search(pattern, line) for line in taken)
+
+
+def refused(cause, pattern):
+    return lambda watch, taken: any(what == "text" and fault == cause and re.search(pattern, line) for what, line, fault in watch.limits)
+
+
+def size(what, value, fault=None):
+    """A transaction of this size whose first fault is this one; or, of what is taken, none at all or one behind."""
+    return lambda watch, taken: any((name, had) == (what, value) and (found == fault or (fault is None and found is None)) for name, had, found in watch.limits)
+
+
+GREAT, NEXT = r"18446744073709551615", r"18446744073709551616"
+LIMITS = {
+    "members": [in_line(r"^vote 63 "), refused(7, "^member ")],
+    "stake of a member": [in_line("^member 1 "), in_line("^member 4294967295 "), refused(5, "^member 0 "), refused(5, "^member 4294967296 ")],
+    "characters of a name": [in_line(r"^coin [a-z]{16} "), in_line(r"^tx [a-z]{16} "), refused(4, r"^coin \w+ \w{17} |^c\w+ \w{17} "), refused(4, r"^tx \w{17} ")],
+    "a number": [in_line(rf"^coin \w+ \w+ {GREAT}"), in_line(rf"^counter \w+ {GREAT}"), in_line(rf" n:{GREAT}"), in_line(rf"^tx \w+ \w+ {GREAT} \S+ {GREAT} "), refused(5, rf"^coin \w+ \w+ {NEXT}"), refused(5, rf"^counter \w+ {NEXT}"), refused(5, rf" n:{NEXT}"), refused(5, rf"^tx \w+ \w+ {NEXT} "), refused(5, rf"@{NEXT} "), refused(5, rf"@1 {NEXT}$")],
+    "input, result and command numbers in arguments": [in_line(r"\(i65535\)"), in_line(r"\(r65535\)"), in_line(r"\(r65535\.65535\)"), refused(5, r"\(i65536\)"), refused(5, r"\(r65536\)"), refused(5, r"\(r65536\.0\)"), refused(5, r"\(r0\.65536\)")],
+    "workers of a run": [in_line(r"^run \d+ 1$"), in_line(r"^run \d+ 16$"), refused(5, r"^run \d+ 0$"), refused(5, r"^run \d+ 17$")],
+    "entries of a `see` line": [in_line(r"^see \d+ 1$"), in_line(r"^see \d+ 4294967295$"), refused(5, r"^see \d+ 0$"), refused(5, r"^see \d+ 4294967296$")],
+    "writers of a shared object between two marks": [in_line("^writers 1$"), in_line("^writers 65535$"), refused(5, "^writers 0$"), refused(5, "^writers 65536$")],
+    "commands of a transaction": [size("commands", 1024), size("commands", 1025, 3)],
+    "inputs": [size("inputs", 256), size("inputs", 257, 4)],
+    "arguments of one command": [size("arguments", 512), size("arguments", 513, 12)],
+    "bytes of a transaction": [size("bytes", 131_072), size("bytes", 131_073, 1)],
+    "a version that a reference names": [size("least version", 1), size("version", tx.BOUND - 2), size("least version", 0, 11), size("version", tx.BOUND - 1, 11)],
+    "currency of a cap": [in_line(r"^cap \w+ \w+ 1$"), in_line(rf"^cap \w+ \w+ {GREAT}"), refused(5, r"^cap \w+ \w+ 0$"), refused(13, "^cap ")],
+}
+TOO_GREAT = {"bytes of a schedule": "the text has 16 MiB", "`tx` lines": "the text has 65,535 lines; docs/SCHEDULES.md has it as an example"}
+
+
+def limits(watch, taken):
+    """What is missing of the limits in the manual's table."""
+    part = read(f"{TOP}/docs/SCHEDULES.md").decode().split("\n## Limits\n")[1].split("\n## ")[0]
+    named = re.findall(r"(?m)^\| (?!What)([^|-][^|]*?) \| ", part)
+    missing = [f"limit `{name}`: is in no list of conformance/tables.py" for name in named if name not in LIMITS and name not in TOO_GREAT]
+    for name, wanted in LIMITS.items():
+        missing += [f"limit of {name}: number {place + 1} of {len(wanted)} is in no case" for place, holds in enumerate(wanted) if not holds(watch, taken)]
+    return missing, sum(map(len, LIMITS.values()))
+
+
+# Of the pairs that an order states, those that cannot come or that no case is made for, with the reason.
+SAME = "what was voted for had a right shape, was there, and was the sender's"
+VALID = "a fork is of valid certificates"
+BYTES = "a native that is none comes in bytes alone"
+LARGE = "one case of a transaction of this size is enough"
+LINES = "the text has 65,536 lines"
+NOT_BOTH = {
+    "vote": {("wrong epoch", "again"): "votes are forgotten at a turn", **{("again", it): SAME for it in ("invalid", "absent", "wrong digest", "wrong owner", "wrong kind", "poor gas", "locked")}},
+    "send": {
+        ("wrong epoch", "again"): "certificates are forgotten at a turn", ("again", "fork"): "what is held makes no fork",
+        **{(it, "fork"): VALID for it in ("shape", "order", "short stake", "bad seal")},
+        **{("no certificate", it): "there is none to look at" for it in ("wrong epoch", "again", "closed", "shape", "order", "short stake", "bad seal", "fork")},
+    },
+    "shapes": {
+        **{("2", it): "without commands" for it in ("3", "6", "7", "8", "9", "12")}, **{(it, "9"): BYTES for it in ("1", "3", "4", "5", "6", "7", "8")}, **{("9", it): BYTES for it in ("10", "11", "12")},
+        **{("1", it): LARGE for it in ("2", "3", "4", "5", "6", "7", "8", "12")},
+    },
+    "refused": {
+        **{(it, "8"): LINES for it in "34567"}, **{("8", it): LINES for it in ("9", "10", "11", "12", "13")}, **{("4", it): "what has no form is read no further" for it in ("6", "7", "9", "10", "11", "12", "13")},
+        **{("7", it): "the line of a member names nothing" for it in ("9", "10", "11", "12", "13")}, **{("3", it): "one fault behind a bad byte is as another" for it in ("7", "13")},
+        **{("6", it): "a line of the set-up names nothing that was made" for it in ("10", "11", "12")}, ("9", "11"): "no line has both", ("9", "12"): "no line has both",
+        ("11", "12"): "one number is one of the two", ("12", "13"): "where members are listed both roles may stand",
+    },
+    "argument": {
+        **{("2", it): "a result that is none has no value" for it in ("1", "4", "5", "6", "7")}, **{("1", it): "a place that is used up has no value" for it in ("4", "5", "6", "7")},
+        ("5", "6"): "one argument is taken in one way", ("6", "7"): "what is changed is a command's first argument",
+    },
+}
+OUT = ("full", "malformed", "down", "said", "entry", "final", "closed")
+
+
+def wanted_pairs():
+    """For each order the pairs that it states and that can come."""
+    stated, found = orders(), {}
+    lists = {"vote": stated["vote"][0], "send": stated["send"][0], "order": stated["order"][0], "see": stated["see"][0], "ignored": ["certificate", "repeat"], "cert": ["no vote", "short", "differ"]}
+    lists.update({"close": stated["close"][0], "end": stated["end"][0], "turn": stated["turn"][0], "ack": stated["ack"][0], "final": stated["final"][0]})
+    lists["shapes"] = [str(it) for it in range(1, 13)]
+    lists["refused"] = [str(it) for it in range(3, 14)]
+    lists["argument"] = ["2", "1", "4", "5", "6", "7"]
+    for of, names in lists.items():
+        kept = [it for it in names if it not in OUT or (it == "closed" and of in ("vote", "send"))]
+        pairs = [(one, other) for place, one in enumerate(kept) for other in kept[place + 1 :]]
+        found[of] = [it for it in pairs if it not in NOT_BOTH.get(of, {})]
+    return found
+
+
+
+def main(words):
+    if words not in ([], ["--missing"]):
+        print(__doc__, end="", file=sys.stderr)
+        return 2
+    watch, taken = watched()
+    missing, count = limits(watch, taken)
+    lines = [f"limits: {count - len(missing)} of {count}", *(f"limit `{name}`: not tried: {why}" for name, why in TOO_GREAT.items())]
+    for of, pairs in wanted_pairs().items():
+        absent = [it for it in pairs if it not in watch.pairs.get(of, ())]
+        without = NOT_BOTH.get(of, {})
+        lines.append(f"pairs of {of}: {len(pairs) - len(absent)} of {len(pairs)}{f'; {len(without)} cannot come, or none is made' if without else ''}")
+        missing += [f"pair of {of}: `{one}` before `{other}` is in no case" for one, other in absent]
+    print("\n".join(missing if words else [*lines, *missing]))
+    return 1 if words and missing else 0
+
+
+if __name__ == "__main__":
+    sys.exit(main(sys.argv[1:]))

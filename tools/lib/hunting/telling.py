@@ -1,0 +1,46 @@
+"""What a hunt hands over: a finding in words, as a case, and as JUnit has it."""
+
+import os
+from xml.sax.saxutils import escape, quoteattr
+
+from .running import Plain
+
+
+def shown(data, most=60):
+    """The lines of a text, a little to the right; of a long one only its end."""
+    lines = data.decode("latin-1").split("\n")[:-1] or ["(nothing)"]
+    cut = [f"    .. {len(lines) - most} lines before"] if len(lines) > most else []
+    return "\n".join([*cut, *(f"    {line[:200]}" for line in lines[-most:])])
+
+
+def story(finding):
+    """A finding with its schedule and both reports."""
+    parts = [f"seed {finding.seed}, profile {finding.profile}: {finding.kind}", finding.said, "the schedule:", shown(finding.schedule)]
+    if finding.wanted:
+        parts += [f"wanted, status {finding.wanted.status}:", shown(finding.wanted.report)]
+    return "\n".join([*parts, f"had, status {finding.had.status}:", shown(finding.had.report)])
+
+
+def save(folder, finding):
+    """The finding as a case of conformance: the report is that which was wanted, or where there is none the plain model's."""
+    wanted = finding.wanted or Plain().answer(finding.schedule)
+    os.makedirs(folder, exist_ok=True)
+    about = f"Found by seed {finding.seed} of the profile {finding.profile}: {finding.kind}.\nrules:\n"
+    parts = {"schedule": finding.schedule, "report": wanted.report, "status": f"{wanted.status}\n".encode(), "about": about.encode()}
+    for ending, data in parts.items():
+        with open(f"{folder}/found-{finding.profile}-{finding.seed}.{ending}", "wb") as it:
+            it.write(data)
+
+
+def junit(path, program, tried, finding):
+    """One test case a seed; that of the finding has failed."""
+    lines = ['<?xml version="1.0" encoding="UTF-8"?>', f'<testsuite name="hunt" tests="{len(tried)}" failures="{int(finding is not None)}">']
+    for seed in tried:
+        name = f"  <testcase classname={quoteattr(program)} name=\"seed {seed}\""
+        if finding is not None and finding.seed == seed:
+            text = "".join(it if it == "\n" or " " <= it <= "~" else "?" for it in story(finding))
+            lines.append(f"{name}><failure message={quoteattr(finding.kind)}>{escape(text)}</failure></testcase>")
+        else:
+            lines.append(f"{name}/>")
+    with open(path, "w", encoding="utf-8") as it:
+        it.write("\n".join([*lines, "</testsuite>"]) + "\n")
