@@ -20,6 +20,8 @@ PARTS = (
     Part("pages made from sources", ("tools/pages", "check"), early=True),
     Part("chains as bytes", ("conformance/chains.py", "--check"), early=True),
     Part("tools", ("tools/test_tools", "all"), early=True),
+    Part("orders and limits in the cases", ("conformance/tables.py", "--missing")),
+    Part("hunt", ("tools/test_hunt", "all")),
     Part("pages of runs", ("tools/test_view", "all")),
     Part("journal under kills", ("tools/test_journal", "--seconds", "5", "--ours"), COMMITTEE),
     Part("conformance", ("conformance/run", "--ours"), BOTH),
