@@ -13,3 +13,5 @@ mod lists;
 mod outsides;
 #[cfg(test)]
 mod same;
+#[cfg(test)]
+mod texts;
