@@ -35,7 +35,7 @@ d3a4a92ce254f0747ad1e41a88a2";
 
 /// A transfer among four members: three vote, and member 0 holds the certificate and executes it. Each record has what
 /// stands in front of it in the file.
-const TRANSFER: [Row; 5] = [
+const TRANSFER: &[Row] = &[
     (0, [1, 183, 0, 0, 0, 0, 0, 0, 0], VOTE),
     (1, [1, 183, 0, 0, 0, 1, 0, 0, 0], VOTE),
     (2, [1, 183, 0, 0, 0, 2, 0, 0, 0], VOTE),
@@ -90,7 +90,7 @@ e0f004093d0bc73c79d0070000000000000100208664e69e5d6097e16cbe321bca1759cc2f4e908a
 010101000100000100";
 
 /// Two epochs of that member.
-const EPOCHS: [Row; 9] = [
+const EPOCHS: &[Row] = &[
     (0, [1, 165, 0, 0, 0, 0, 0, 0, 0], OWN_VOTE),
     (0, [1, 202, 0, 0, 0, 0, 0, 0, 0], OWN_HOLD),
     (0, [1, 66, 0, 0, 0, 0, 0, 0, 0], OWN_RAN),
@@ -103,7 +103,7 @@ const EPOCHS: [Row; 9] = [
 ];
 
 /// Three short records, of two members.
-const SHORT: [Row; 3] = [
+const SHORT: &[Row] = &[
     (0, [1, 1, 0, 0, 0, 0, 0, 0, 0], "05"),
     (1, [1, 2, 0, 0, 0, 1, 0, 0, 0], "0708"),
     (1, [1, 3, 0, 0, 0, 1, 0, 0, 0], "090a0b"),
@@ -247,19 +247,19 @@ fn is_survived(alloc: Global, run: &Run, call: u64, choice: u64) -> Result<bool,
 /// of eight and nine places, up to the record, and leave 255 in its place; 73 lets the file end there; 907 and 1803 leave
 /// 255 or the end in the middle of a long one. With the greater numbers all are 1, an open gate, where a record of this
 /// size is written: of 66, 183 and 292 bytes.
-const TRANSFER_CHOICES: [u64; 20] = [
+const TRANSFER_CHOICES: &[u64] = &[
     0, 1, 2, 3, 4, 5, 6, 7, 8, 10, 70, 73, 75, 79, 82, 907, 1803, 171458, 438920, 688094,
 ];
 
 /// The same for records of 1, 3, 48, 66, 165, 202 and 205 bytes.
-const EPOCHS_CHOICES: [u64; 21] = [
+const EPOCHS_CHOICES: &[u64] = &[
     0, 1, 2, 3, 4, 5, 6, 7, 8, 70, 73, 79, 907, 1803, 22868, 27440, 130310, 171458, 397772, 482354,
     489212,
 ];
 
 /// The same for the short run: 10 writes a front of two places, 73 one of nine; at 22868, 25154 and 27440 all are 1, an
 /// open gate, where they are 10, 11 or 12.
-const SHORT_CHOICES: [u64; 22] = [
+const SHORT_CHOICES: &[u64] = &[
     0, 1, 2, 3, 4, 5, 6, 7, 8, 10, 12, 37, 39, 70, 73, 75, 79, 82, 22868, 25154, 27440, 999999996,
 ];
 
@@ -316,32 +316,20 @@ fn lost(
 #[test]
 fn runs_go_on_behind_each_crash(rt: HostRuntime) {
     let alloc = rt.alloc();
-    same(&rt, acknowledged(alloc, SHORT.as_slice(), 15), Ok(2));
-    same(&rt, acknowledged(alloc, SHORT.as_slice(), 16), Ok(3));
-    same(
-        &rt,
-        lost(alloc, SHORT.as_slice(), 16, SHORT_CHOICES.as_slice()),
-        Ok(None),
-    );
-    same(&rt, acknowledged(alloc, TRANSFER.as_slice(), 23), Ok(4));
-    same(&rt, acknowledged(alloc, TRANSFER.as_slice(), 24), Ok(5));
-    same(
-        &rt,
-        lost(alloc, TRANSFER.as_slice(), 24, TRANSFER_CHOICES.as_slice()),
-        Ok(None),
-    );
-    same(&rt, acknowledged(alloc, EPOCHS.as_slice(), 39), Ok(8));
-    same(&rt, acknowledged(alloc, EPOCHS.as_slice(), 40), Ok(9));
-    same(
-        &rt,
-        lost(alloc, EPOCHS.as_slice(), 40, EPOCHS_CHOICES.as_slice()),
-        Ok(None),
-    );
+    same(&rt, acknowledged(alloc, SHORT, 15), Ok(2));
+    same(&rt, acknowledged(alloc, SHORT, 16), Ok(3));
+    same(&rt, lost(alloc, SHORT, 16, SHORT_CHOICES), Ok(None));
+    same(&rt, acknowledged(alloc, TRANSFER, 23), Ok(4));
+    same(&rt, acknowledged(alloc, TRANSFER, 24), Ok(5));
+    same(&rt, lost(alloc, TRANSFER, 24, TRANSFER_CHOICES), Ok(None));
+    same(&rt, acknowledged(alloc, EPOCHS, 39), Ok(8));
+    same(&rt, acknowledged(alloc, EPOCHS, 40), Ok(9));
+    same(&rt, lost(alloc, EPOCHS, 40, EPOCHS_CHOICES), Ok(None));
 }
 
 /// Whether a crash behind this call of the short run leaves these bytes.
 fn leaves(alloc: Global, call: u64, choice: u64, image: &[u8]) -> Result<bool, OutOfMemory> {
-    let run = run_of(alloc, SHORT.as_slice())?;
+    let run = run_of(alloc, SHORT)?;
     let (_acknowledged, disk) = run_to(alloc, run.records.as_slice(), call)?;
     let disk = disk.crash(choice)?;
     let said = disk.bytes() == image;
