@@ -34,7 +34,7 @@ fn tell_value<T: Debug + Drop>(rt: &HostRuntime, found: Result<T, Unread>) -> io
     said
 }
 
-/// Reads an item of this kind. Behind a fault the next item is read from the same place.
+/// Reads an item of this kind. After a fault the next item is read from the same place.
 fn read_item(rt: &HostRuntime, reader: &mut Reader, kind: &str) -> io::Result<()> {
     match kind {
         "u8" => tell(rt, reader.u8()),
@@ -83,7 +83,7 @@ fn put_number(writer: &mut Writer, kind: &str, number: u128) -> Result<(), OutOf
     }
 }
 
-/// Writes bytes, behind their length where the kind is `bytes`.
+/// Writes bytes, after their length where the kind is `bytes`.
 fn put_bytes(writer: &mut Writer, kind: &str, bytes: &[u8]) -> Result<(), OutOfMemory> {
     match kind {
         "bytes" if bytes.len() < 1 << 31 => writer.put_bytes(bytes),

@@ -14,8 +14,8 @@ mod values;
 
 use bytes::bytes_of;
 use items::{read_items, write_items};
-use names::{address, created, genesis, hash, hash_whole, made};
-use quorums::{check, lamport_of, refuse, seal_of, weigh};
+use names::{address, created, digest, genesis, hash, made};
+use quorums::{check, lamport_of, seal_of, stakes, weigh};
 use std::io;
 use values::say;
 
@@ -49,14 +49,14 @@ fn answer(rt: &HostRuntime, line: &str, kept: &mut Vec<u8>) -> io::Result<()> {
         "read" => read_items(rt, words),
         "write" => write_items(rt, words),
         "hash" => hash(rt, words),
-        "digest_of" => hash_whole(rt, words),
+        "digest_of" => digest(rt, words),
         "created_id" => created(rt, words),
         "genesis_id" => genesis(rt, words),
         "address_of" => address(rt, words),
         "make_text" => made(rt, words),
         "seal" => seal_of(rt, words),
         "check" => check(rt, words),
-        "committee" => refuse(rt, words),
+        "committee" => stakes(rt, words),
         "weigh" => weigh(rt, words),
         "lamport" => lamport_of(rt, words),
         _ => answer_of_bytes(rt, name, words, kept),

@@ -28,7 +28,7 @@ pub(crate) fn hash(rt: &HostRuntime, words: &str) -> io::Result<()> {
 }
 
 /// Says the digest of a tag and a text.
-pub(crate) fn hash_whole(rt: &HostRuntime, words: &str) -> io::Result<()> {
+pub(crate) fn digest(rt: &HostRuntime, words: &str) -> io::Result<()> {
     let Some((tag, text)) = words.split_once(' ') else {
         return println!(rt; "no tag");
     };

@@ -26,7 +26,7 @@ fn numbers_of(alloc: Global, words: &str) -> Option<Vec<u32>> {
 }
 
 /// Says why the stakes are no committee, or how many members a copy of it has, their stakes and the sum of these.
-pub(crate) fn refuse(rt: &HostRuntime, words: &str) -> io::Result<()> {
+pub(crate) fn stakes(rt: &HostRuntime, words: &str) -> io::Result<()> {
     let Some(stakes) = numbers_of(rt.alloc(), words) else {
         return println!(rt; "no stakes");
     };
