@@ -1,20 +1,20 @@
-//! Tests of what executes: natives and blocks in tables of worked rows, and plans, decks, boards and pools, on one thread and
-//! on several.
+//! Tests of what executes: which objects fit, what of the natives no block can show, and plans, boards, decks and crews, on
+//! one thread and on several.
 #![tactic(auto)]
 
-#[cfg(test)]
-mod block_faults;
-#[cfg(test)]
-mod block_runs;
-#[cfg(test)]
-mod blocks;
 #[cfg(test)]
 mod boards;
 #[cfg(test)]
 mod decks;
+#[cfg(test)]
+mod fits;
+#[cfg(test)]
+mod jobs;
 #[cfg(test)]
 mod natives;
 #[cfg(test)]
 mod plans;
 #[cfg(test)]
 mod pools;
+#[cfg(test)]
+mod same;

@@ -1,11 +1,12 @@
-//! Crashes behind each device call of what members of worked schedules keep. The records are those of an independent
-//! script, which has their digests and seals from SHA-256 and their spellings from the rules.
+//! Crashes behind each device call of three runs: one of three short records, and what the members of two worked schedules
+//! keep. The records of these are those of an independent script, which has their digests and seals from SHA-256 and their
+//! spellings from the rules.
 
+use crate::same::same;
 use disk_log::{DiskLog, MemDisk};
 use outside::Keeper;
 use std::alloc::Global;
-use std::test::Fail;
-use wire_bcs::{OutOfMemory, Seq};
+use wire_bcs::OutOfMemory;
 
 /// A record: its member, the nine bytes that stand in front of it in the file, which are its gate, its length and its
 /// member, and its bytes as hexadecimal digits.
@@ -34,7 +35,7 @@ d3a4a92ce254f0747ad1e41a88a2";
 
 /// A transfer among four members: three vote, and member 0 holds the certificate and executes it. Each record has what
 /// stands in front of it in the file.
-const TRANSFER: [Row; 5] = [
+const TRANSFER: &[Row] = &[
     (0, [1, 183, 0, 0, 0, 0, 0, 0, 0], VOTE),
     (1, [1, 183, 0, 0, 0, 1, 0, 0, 0], VOTE),
     (2, [1, 183, 0, 0, 0, 2, 0, 0, 0], VOTE),
@@ -89,7 +90,7 @@ e0f004093d0bc73c79d0070000000000000100208664e69e5d6097e16cbe321bca1759cc2f4e908a
 010101000100000100";
 
 /// Two epochs of that member.
-const EPOCHS: [Row; 9] = [
+const EPOCHS: &[Row] = &[
     (0, [1, 165, 0, 0, 0, 0, 0, 0, 0], OWN_VOTE),
     (0, [1, 202, 0, 0, 0, 0, 0, 0, 0], OWN_HOLD),
     (0, [1, 66, 0, 0, 0, 0, 0, 0, 0], OWN_RAN),
@@ -101,84 +102,55 @@ const EPOCHS: [Row; 9] = [
     (0, [1, 165, 0, 0, 0, 0, 0, 0, 0], NEXT_VOTE),
 ];
 
-/// A record as it stands in the file.
+/// Three short records, of two members.
+const SHORT: &[Row] = &[
+    (0, [1, 1, 0, 0, 0, 0, 0, 0, 0], "05"),
+    (1, [1, 2, 0, 0, 0, 1, 0, 0, 0], "0708"),
+    (1, [1, 3, 0, 0, 0, 1, 0, 0, 0], "090a0b"),
+];
+
+/// A record: its member and its bytes.
 #[derive(Drop)]
-struct Framed {
+struct Kept {
     member: u32,
-    front: [u8; 9],
-    bytes: Seq<u8>,
+    bytes: Vec<u8>,
 }
 
 /// Records of a run, and the file that they make, up to its last gate.
 #[derive(Drop)]
 struct Run {
-    records: Vec<Framed>,
-    file: Seq<u8>,
+    records: Vec<Kept>,
+    file: Vec<u8>,
 }
 
-/// What a hexadecimal digit counts.
-fn digit(letter: u8) -> u8 {
-    if letter < b'a' {
-        letter.wrapping_sub(b'0')
-    } else {
-        letter.wrapping_sub(87)
-    }
-}
-
-/// The bytes that these hexadecimal digits say.
-fn bytes_of(alloc: Global, digits: &[u8]) -> Result<Seq<u8>, OutOfMemory> {
-    let mut bytes = Seq::new(alloc);
-    let mut high: u8 = 0;
-    for (place, letter) in digits.iter().enumerate() {
-        if place % 2 == 0 {
-            high = digit(*letter).wrapping_mul(16);
-        } else {
-            bytes.push(high.wrapping_add(digit(*letter)))?;
-        }
-    }
-    Ok(bytes)
-}
-
-/// A record of the run.
-fn record_of(alloc: Global, row: &Row) -> Result<Framed, OutOfMemory> {
+/// Adds a record to the run, and to its file behind what stands in front of it there.
+fn add(alloc: Global, run: &mut Run, row: &Row) -> Result<(), OutOfMemory> {
     let (member, front, digits) = *row;
-    Ok(Framed {
-        member,
-        front,
-        bytes: bytes_of(alloc, digits.as_bytes())?,
-    })
+    let Ok(bytes) = hex::decode(alloc, digits) else {
+        return Err(OutOfMemory);
+    };
+    run.file.extend_from_slice(front.as_slice())?;
+    run.file.extend_from_slice(bytes.as_slice())?;
+    run.records.push(Kept { member, bytes })?;
+    Ok(())
 }
 
-/// The records of the run, in order.
-fn records_of(alloc: Global, rows: &[Row]) -> Result<Vec<Framed>, OutOfMemory> {
-    let mut records = Vec::new(alloc);
-    for row in rows {
-        records.push(record_of(alloc, row)?)?;
-    }
-    Ok(records)
-}
-
-/// The records, each behind what stands in front of it, and a closed gate.
-fn file_of(alloc: Global, records: &[Framed]) -> Result<Seq<u8>, OutOfMemory> {
-    let mut file = Seq::new(alloc);
-    for record in records {
-        file.extend(record.front.as_slice())?;
-        file.extend(record.bytes.as_slice())?;
-    }
-    file.push(0)?;
-    Ok(file)
-}
-
-/// The run of these records.
+/// The run of these records: the file ends in a closed gate.
 fn run_of(alloc: Global, rows: &[Row]) -> Result<Run, OutOfMemory> {
-    let records = records_of(alloc, rows)?;
-    let file = file_of(alloc, records.as_slice())?;
-    Ok(Run { records, file })
+    let mut run = Run {
+        records: Vec::new(alloc),
+        file: Vec::new(alloc),
+    };
+    for row in rows {
+        add(alloc, &mut run, row)?;
+    }
+    run.file.push(0)?;
+    Ok(run)
 }
 
 /// Appends a record. Answers whether it was acknowledged.
-fn appends(log: &mut DiskLog<MemDisk>, record: &Framed) -> bool {
-    if log.members() <= record.member || record.bytes.as_slice().len() >= 1 << 31 {
+fn appends(log: &mut DiskLog<MemDisk>, record: &Kept) -> bool {
+    if log.members() <= record.member || record.bytes.len() >= 1 << 31 {
         return false;
     }
     log.append_record(record.member, record.bytes.as_slice())
@@ -186,7 +158,7 @@ fn appends(log: &mut DiskLog<MemDisk>, record: &Framed) -> bool {
 }
 
 /// Appends the records from a place on, up to the first that is refused. Answers how many stand.
-fn run_from(log: DiskLog<MemDisk>, records: &[Framed], place: u64) -> (u64, MemDisk) {
+fn run_from(log: DiskLog<MemDisk>, records: &[Kept], place: u64) -> (u64, MemDisk) {
     let mut log = log;
     let count = records.len() as u64;
     for next in place..count {
@@ -198,7 +170,7 @@ fn run_from(log: DiskLog<MemDisk>, records: &[Framed], place: u64) -> (u64, MemD
 }
 
 /// The run on an empty file whose disk fails at this call: how many records are acknowledged.
-fn run_to(alloc: Global, records: &[Framed], call: u64) -> Result<(u64, MemDisk), OutOfMemory> {
+fn run_to(alloc: Global, records: &[Kept], call: u64) -> Result<(u64, MemDisk), OutOfMemory> {
     let disk = MemDisk::new(alloc, &[], [call].as_slice())?;
     Ok(match DiskLog::open(alloc, disk, 4) {
         Ok(log) => run_from(log, records, 0),
@@ -207,7 +179,7 @@ fn run_to(alloc: Global, records: &[Framed], call: u64) -> Result<(u64, MemDisk)
 }
 
 /// How many of the first records are this member's.
-fn count_of(records: &[Framed], first: u64, member: u32) -> u64 {
+fn count_of(records: &[Kept], first: u64, member: u32) -> u64 {
     let mut count: u64 = 0;
     for (place, record) in records.iter().enumerate() {
         if (place as u64) < first && record.member == member {
@@ -226,7 +198,7 @@ fn counts(log: &DiskLog<MemDisk>) -> [u64; 4] {
 }
 
 /// Whether the members have as many records as are theirs among the first ones.
-fn are_first(records: &[Framed], found: u64, counts: [u64; 4]) -> bool {
+fn are_first(records: &[Kept], found: u64, counts: [u64; 4]) -> bool {
     for (member, count) in counts.iter().enumerate() {
         if *count != count_of(records, found, member as u32) {
             return false;
@@ -268,13 +240,6 @@ fn is_survived(alloc: Global, run: &Run, call: u64, choice: u64) -> Result<bool,
     Ok(runs_on(alloc, run, disk, acknowledged))
 }
 
-/// How many records are acknowledged where this call of the disk fails.
-fn acknowledged(alloc: Global, run: &Run, call: u64) -> Result<u64, OutOfMemory> {
-    let (acknowledged, disk) = run_to(alloc, run.records.as_slice(), call)?;
-    drop(disk);
-    Ok(acknowledged)
-}
-
 /// Numbers of crashes. Of the places that were written or tried since the last sync, 0 leaves all as they were, 4 all as
 /// written, and 8 another byte, 255, in all. With 1 and 2 the first of them is as written or 255, and the file ends there
 /// unless it was longer; with 3 and 5 it is as it was or 255 and the others are as written; with 6 and 7 it is as it was or
@@ -282,14 +247,20 @@ fn acknowledged(alloc: Global, run: &Run, call: u64) -> Result<u64, OutOfMemory>
 /// of eight and nine places, up to the record, and leave 255 in its place; 73 lets the file end there; 907 and 1803 leave
 /// 255 or the end in the middle of a long one. With the greater numbers all are 1, an open gate, where a record of this
 /// size is written: of 66, 183 and 292 bytes.
-const TRANSFER_CHOICES: [u64; 20] = [
+const TRANSFER_CHOICES: &[u64] = &[
     0, 1, 2, 3, 4, 5, 6, 7, 8, 10, 70, 73, 75, 79, 82, 907, 1803, 171458, 438920, 688094,
 ];
 
 /// The same for records of 1, 3, 48, 66, 165, 202 and 205 bytes.
-const EPOCHS_CHOICES: [u64; 21] = [
+const EPOCHS_CHOICES: &[u64] = &[
     0, 1, 2, 3, 4, 5, 6, 7, 8, 70, 73, 79, 907, 1803, 22868, 27440, 130310, 171458, 397772, 482354,
     489212,
+];
+
+/// The same for the short run: 10 writes a front of two places, 73 one of nine; at 22868, 25154 and 27440 all are 1, an
+/// open gate, where they are 10, 11 or 12.
+const SHORT_CHOICES: &[u64] = &[
+    0, 1, 2, 3, 4, 5, 6, 7, 8, 10, 12, 37, 39, 70, 73, 75, 79, 82, 22868, 25154, 27440, 999999996,
 ];
 
 /// The first of these choices such that the run does not go on behind the crash at this call.
@@ -322,23 +293,69 @@ fn first_lost(
     Ok(None)
 }
 
-#[test]
-fn a_transfer_goes_on_behind_each_crash(rt: HostRuntime) -> Result<(), Fail> {
-    // The opening makes three calls, and each record four.
-    let run = run_of(rt.alloc(), TRANSFER.as_slice())?;
-    assert_eq!(rt; acknowledged(rt.alloc(), &run, 23)?, 4);
-    assert_eq!(rt; acknowledged(rt.alloc(), &run, 24)?, 5);
-    let lost = first_lost(rt.alloc(), &run, 24, TRANSFER_CHOICES.as_slice())?;
-    assert_eq!(rt; lost, None);
-    Ok(())
+/// How many records are acknowledged where this call of the disk fails.
+fn acknowledged(alloc: Global, rows: &[Row], call: u64) -> Result<u64, OutOfMemory> {
+    let run = run_of(alloc, rows)?;
+    let (acknowledged, disk) = run_to(alloc, run.records.as_slice(), call)?;
+    drop(disk);
+    Ok(acknowledged)
 }
 
+/// The first call and choice such that the run of these records does not go on behind the crash.
+fn lost(
+    alloc: Global,
+    rows: &[Row],
+    calls: u64,
+    choices: &[u64],
+) -> Result<Option<(u64, u64)>, OutOfMemory> {
+    let run = run_of(alloc, rows)?;
+    first_lost(alloc, &run, calls, choices)
+}
+
+// The opening makes three calls, and each record four.
 #[test]
-fn two_epochs_go_on_behind_each_crash(rt: HostRuntime) -> Result<(), Fail> {
-    let run = run_of(rt.alloc(), EPOCHS.as_slice())?;
-    assert_eq!(rt; acknowledged(rt.alloc(), &run, 39)?, 8);
-    assert_eq!(rt; acknowledged(rt.alloc(), &run, 40)?, 9);
-    let lost = first_lost(rt.alloc(), &run, 40, EPOCHS_CHOICES.as_slice())?;
-    assert_eq!(rt; lost, None);
-    Ok(())
+fn runs_go_on_behind_each_crash(rt: HostRuntime) {
+    let alloc = rt.alloc();
+    same(&rt, acknowledged(alloc, SHORT, 15), Ok(2));
+    same(&rt, acknowledged(alloc, SHORT, 16), Ok(3));
+    same(&rt, lost(alloc, SHORT, 16, SHORT_CHOICES), Ok(None));
+    same(&rt, acknowledged(alloc, TRANSFER, 23), Ok(4));
+    same(&rt, acknowledged(alloc, TRANSFER, 24), Ok(5));
+    same(&rt, lost(alloc, TRANSFER, 24, TRANSFER_CHOICES), Ok(None));
+    same(&rt, acknowledged(alloc, EPOCHS, 39), Ok(8));
+    same(&rt, acknowledged(alloc, EPOCHS, 40), Ok(9));
+    same(&rt, lost(alloc, EPOCHS, 40, EPOCHS_CHOICES), Ok(None));
+}
+
+/// Whether a crash behind this call of the short run leaves these bytes.
+fn leaves(alloc: Global, call: u64, choice: u64, image: &[u8]) -> Result<bool, OutOfMemory> {
+    let run = run_of(alloc, SHORT)?;
+    let (_acknowledged, disk) = run_to(alloc, run.records.as_slice(), call)?;
+    let disk = disk.crash(choice)?;
+    let said = disk.bytes() == image;
+    drop(disk);
+    Ok(said)
+}
+
+/// Calls of the short run, choices, and what a crash leaves.
+const IMAGES: &[(u64, u64, &[u8])] = &[
+    // The fifth call is the sync behind the first record, whose gate is closed: ten bytes are not stable.
+    (5, 0, &[0]),
+    (5, 10, &[0, 1, 0]),
+    (5, 3, &[0, 0, 0, 0, 0, 0, 0, 0, 0, 5, 0]),
+    (5, 4, &[0, 1, 0, 0, 0, 0, 0, 0, 0, 5, 0]),
+    (5, 22868, &[0, 1, 1, 1, 1, 1, 1, 1, 1, 1, 1]),
+    // The seventh call is the sync behind the gate of the first record: it is old, new or another.
+    (7, 0, &[0, 1, 0, 0, 0, 0, 0, 0, 0, 5, 0]),
+    (7, 1, &[1, 1, 0, 0, 0, 0, 0, 0, 0, 5, 0]),
+    (7, 2, &[255, 1, 0, 0, 0, 0, 0, 0, 0, 5, 0]),
+    // Behind it the record is stable, and the next write is tried.
+    (8, 0, &[1, 1, 0, 0, 0, 0, 0, 0, 0, 5, 0]),
+];
+
+#[test]
+fn crashes_leave_images(rt: HostRuntime) {
+    for (call, choice, image) in IMAGES {
+        same(&rt, leaves(rt.alloc(), *call, *choice, *image), Ok(true));
+    }
 }

@@ -1,36 +1,17 @@
-//! Tests of what is read and written: worked bytes and digests, the faults of spellings, the words of schedules and reports,
-//! and the journal file.
+//! Tests of lists, of report lines that no schedule gives, of the outside in memory, and of the journal file.
 #![tactic(auto)]
 
 #[cfg(test)]
-mod checkpoints;
-#[cfg(test)]
 mod crashes;
-#[cfg(test)]
-mod digests;
-#[cfg(test)]
-mod effects;
-#[cfg(test)]
-mod generated;
-#[cfg(test)]
-mod items;
 #[cfg(test)]
 mod journal_files;
 #[cfg(test)]
-mod long_lists;
+mod lines;
 #[cfg(test)]
-mod messages;
+mod lists;
 #[cfg(test)]
 mod outsides;
 #[cfg(test)]
-mod quorums;
+mod same;
 #[cfg(test)]
-mod records;
-#[cfg(test)]
-mod reports;
-#[cfg(test)]
-mod rows;
-#[cfg(test)]
-mod schedules;
-#[cfg(test)]
-mod transactions;
+mod texts;

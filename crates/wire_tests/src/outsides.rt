@@ -1,11 +1,14 @@
+//! Sources, sinks and keepers in memory that give, take and fail.
+
 ghost use Rattle.std.specs.Prelude.{◌≡◌, ◌<◌, length};
 
+use crate::same::same;
 use outside::{
     AlteredKeeper, FreeSource, Keeper, MemKeeper, MemSink, MemSource, NarrowSink, OutFault, Sink,
     Source,
 };
 use std::alloc::Global;
-use std::test::Fail;
+use wire_bcs::OutOfMemory;
 
 /// What the second of two members is answered to two records.
 fn appends(keeper: &mut MemKeeper) -> (Result<(), OutFault>, Result<(), OutFault>)
@@ -49,7 +52,7 @@ type Kept = (
     bool,
 );
 
-fn keeps(alloc: Global) -> Result<Kept, Fail> {
+fn keeps(alloc: Global) -> Result<Kept, OutOfMemory> {
     let mut keeper = MemKeeper::new(alloc, 2, &[2])?;
     let answers = appends(&mut keeper);
     let counted = counts(&keeper);
@@ -59,23 +62,13 @@ fn keeps(alloc: Global) -> Result<Kept, Fail> {
 }
 
 #[test]
-fn keeps_records(rt: HostRuntime) -> Result<(), Fail> {
+fn keeps_records(rt: HostRuntime) {
     let answers = (Ok(()), Err(OutFault::Failed));
-    assert_eq!(rt; keeps(rt.alloc())?, (answers, (2, 1, 0, 1), true));
-    Ok(())
+    same(&rt, keeps(rt.alloc()), Ok((answers, (2, 1, 0, 1), true)));
 }
 
 /// What a sink answers to three writes.
-fn writes<S: Sink>(
-    sink: &mut S,
-    first: &[u8],
-    second: &[u8],
-    third: &[u8],
-) -> (
-    Result<usize, OutFault>,
-    Result<usize, OutFault>,
-    Result<usize, OutFault>,
-)
+fn writes<S: Sink>(sink: &mut S, first: &[u8], second: &[u8], third: &[u8]) -> Answers
     requires first { 0 < length first.now }
     requires second { 0 < length second.now }
     requires third { 0 < length third.now }
@@ -85,18 +78,24 @@ fn writes<S: Sink>(
     (first, second, sink.write(third))
 }
 
+/// What three writes of a sink are answered.
+type Answers = (
+    Result<usize, OutFault>,
+    Result<usize, OutFault>,
+    Result<usize, OutFault>,
+);
+
+/// A sink that fails at the second call: its answers, and whether it has the bytes of the others.
+fn takes(alloc: Global) -> Result<(Answers, bool), OutOfMemory> {
+    let mut sink = MemSink::new(alloc, &[2])?;
+    let answers = writes(&mut sink, b"ab", b"cd", b"e");
+    Ok((answers, sink.bytes() == b"abe".as_slice()))
+}
+
 #[test]
-fn takes_bytes(rt: HostRuntime) -> Result<(), Fail> {
-    let mut sink = MemSink::new(rt.alloc(), &[2])?;
-    let answers = writes(
-        &mut sink,
-        b"ab".as_slice(),
-        b"cd".as_slice(),
-        b"e".as_slice(),
-    );
-    assert_eq!(rt; answers, (Ok(2), Err(OutFault::Failed), Ok(1)));
-    assert_eq!(rt; sink.bytes(), b"abe".as_slice());
-    Ok(())
+fn takes_bytes(rt: HostRuntime) {
+    let answers = (Ok(2), Err(OutFault::Failed), Ok(1));
+    same(&rt, takes(rt.alloc()), Ok((answers, true)));
 }
 
 /// How much a source gives three times, where it does not fail.
@@ -110,7 +109,7 @@ fn draws<S: Source>(
 }
 
 /// A source of five bytes that gives three at most and fails at the second call.
-fn draws_pieces(alloc: Global) -> Result<(bool, Option<usize>), Fail> {
+fn draws_pieces(alloc: Global) -> Result<(bool, Option<usize>), OutOfMemory> {
     let mut buffer = [0; 4];
     let mut source = MemSource::new(alloc, b"abcde".as_slice(), 3, &[2])?;
     let drawn = draws(&mut source, &mut buffer);
@@ -119,39 +118,43 @@ fn draws_pieces(alloc: Global) -> Result<(bool, Option<usize>), Fail> {
 }
 
 /// A source that gives as many as there is room for.
-fn draws_freely(alloc: Global) -> Result<(Option<usize>, Option<usize>, Option<usize>), Fail> {
+fn draws_freely(
+    alloc: Global,
+) -> Result<(Option<usize>, Option<usize>, Option<usize>), OutOfMemory> {
     let mut buffer = [0; 4];
     let mut source = FreeSource::new(alloc, b"abcde".as_slice())?;
     Ok(draws(&mut source, &mut buffer))
 }
 
 #[test]
-fn gives_bytes(rt: HostRuntime) -> Result<(), Fail> {
-    assert_eq!(rt; draws_pieces(rt.alloc())?, (true, Some(0)));
-    assert_eq!(rt; draws_freely(rt.alloc())?, (Some(4), Some(1), Some(0)));
-    Ok(())
+fn gives_bytes(rt: HostRuntime) {
+    same(&rt, draws_pieces(rt.alloc()), Ok((true, Some(0))));
+    same(
+        &rt,
+        draws_freely(rt.alloc()),
+        Ok((Some(4), Some(1), Some(0))),
+    );
 }
 
 /// Whether a sink that takes nothing stays empty.
-fn takes_none(alloc: Global) -> Result<bool, Fail> {
+fn takes_none(alloc: Global) -> Result<bool, OutOfMemory> {
     let mut sink = NarrowSink::new(alloc, 0, &[])?;
     let answer = sink.write(b"abc".as_slice());
     Ok(answer == Ok(0) && sink.bytes() == b"".as_slice())
 }
 
+/// A sink that takes two bytes at most and fails at the second call.
+fn takes_two(alloc: Global) -> Result<(Answers, bool), OutOfMemory> {
+    let mut sink = NarrowSink::new(alloc, 2, &[2])?;
+    let answers = writes(&mut sink, b"abc", b"c", b"c");
+    Ok((answers, sink.bytes() == b"abc".as_slice()))
+}
+
 #[test]
-fn takes_fronts_alone(rt: HostRuntime) -> Result<(), Fail> {
-    let mut sink = NarrowSink::new(rt.alloc(), 2, &[2])?;
-    let answers = writes(
-        &mut sink,
-        b"abc".as_slice(),
-        b"c".as_slice(),
-        b"c".as_slice(),
-    );
-    assert_eq!(rt; answers, (Ok(2), Err(OutFault::Failed), Ok(1)));
-    assert_eq!(rt; sink.bytes(), b"abc".as_slice());
-    assert!(rt; takes_none(rt.alloc())?);
-    Ok(())
+fn takes_fronts_alone(rt: HostRuntime) {
+    let answers = (Ok(2), Err(OutFault::Failed), Ok(1));
+    same(&rt, takes_two(rt.alloc()), Ok((answers, true)));
+    same(&rt, takes_none(rt.alloc()), Ok(true));
 }
 
 /// What the one member of a keeper is answered to two records.
@@ -202,7 +205,7 @@ fn alters(keeper: &mut AlteredKeeper) -> Altered
     (answers, counted, (first, second))
 }
 
-fn keeps_altered(alloc: Global) -> Result<Altered, Fail> {
+fn keeps_altered(alloc: Global) -> Result<Altered, OutOfMemory> {
     let inner = MemKeeper::new(alloc, 1, &[])?;
     let mut keeper = AlteredKeeper::new(inner, 0, 1, b"x".as_slice())?;
     let said = alters(&mut keeper);
@@ -211,8 +214,7 @@ fn keeps_altered(alloc: Global) -> Result<Altered, Fail> {
 }
 
 #[test]
-fn gives_other_bytes_at_its_place(rt: HostRuntime) -> Result<(), Fail> {
-    let said = keeps_altered(rt.alloc())?;
-    assert_eq!(rt; said, ((Ok(()), Ok(())), (1, 2), (true, true)));
-    Ok(())
+fn gives_other_bytes_at_its_place(rt: HostRuntime) {
+    let said = ((Ok(()), Ok(())), (1, 2), (true, true));
+    same(&rt, keeps_altered(rt.alloc()), Ok(said));
 }
