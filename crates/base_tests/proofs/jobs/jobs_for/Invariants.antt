@@ -1,7 +1,7 @@
 use Rattle.std.proofs.Common.{◌≡◌, ℕ, Some, length}
 use Rattle.std.specs.Prelude.{slice_get}
 use Rattle.dag_core.specs.Values.{count_in, count_out}
-use Rattle.engine_tests.proofs.jobs.jobs_for.Given as goal
+use Rattle.base_tests.proofs.jobs.jobs_for.Given as goal
 
 abbrev pub invariant-loop-task : goal.invariant-loop-task
 invariant-loop-task l = record {
