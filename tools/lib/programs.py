@@ -26,6 +26,12 @@ def uses(top=TOP):
     return {head.split()[0]: tail.split() for head, _, tail in parts}
 
 
+def is_static(name, top=TOP):
+    """Whether crates.txt calls the crate a static library."""
+    with open(f"{top}/crates.txt", encoding="utf-8") as it:
+        return any(line.partition(":")[0].split() == [name, "staticlib"] for line in it)
+
+
 def needed(name=NAME, top=TOP):
     """The crate and all crates below it, each behind those that it names."""
     known, found = uses(top), []
