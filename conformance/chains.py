@@ -1,9 +1,10 @@
 #!/usr/bin/env python3
 """Writes the cases of `check`: chains of checkpoints as bytes, with the line that the program must write.
 
-Written from docs/FORMATS.md and the rules alone, apart from the program:
-    chains.py          writes the cases
-    chains.py --check  says which of them are not as it would write them, one line each
+Written from docs/FORMATS.md and the rules alone, apart from the program.
+
+usage: conformance/chains.py --write   writes the cases
+       conformance/chains.py --check   writes nothing, and says which of them are not as it would write them, one line each
 """
 import hashlib
 import os
@@ -99,6 +100,9 @@ def cases():
 
 
 def main(words):
+    if words not in (["--write"], ["--check"]):
+        print(__doc__, end="", file=sys.stderr)
+        return 2
     wrong = 0
     for name, given, line, status, why in cases():
         files = {

@@ -1,8 +1,9 @@
 #!/usr/bin/env python3
 """Writes the schedule of NUMBER transactions and WORKERS workers, or its SHA-256.
 
-Written from the description of the text alone, apart from the program:
-    generate.py NUMBER WORKERS [--digest]
+Written from the description of the text alone, apart from the program.
+
+usage: conformance/generate.py NUMBER WORKERS [--digest]
 """
 import hashlib
 import sys
@@ -50,11 +51,16 @@ def lines(number, workers):
 
 
 def main(words):
+    if len(words) < 2 or not all(it.isdigit() for it in words[:2]) or words[2:] not in ([], ["--digest"]):
+        print(__doc__, end="", file=sys.stderr)
+        return 2
     text = "".join(line + "\n" for line in lines(int(words[0]), int(words[1])))
     if "--digest" in words:
         print(hashlib.sha256(text.encode()).hexdigest())
     else:
         sys.stdout.write(text)
+    return 0
 
 
-main(sys.argv[1:])
+if __name__ == "__main__":
+    sys.exit(main(sys.argv[1:]))

@@ -9,15 +9,23 @@ import shutil
 import sys
 import types
 
-KIT = os.path.dirname(os.path.dirname(os.path.realpath(shutil.which("rt"))))
+RT = shutil.which("rt")
+KIT = os.path.dirname(os.path.dirname(os.path.realpath(RT))) if RT else ""
 RATTLE = f"{KIT}/bin/rattle"
 KEPT = ["--incremental", "out/beside/kept"]
 # The folder of a crate's edits that no gate tries.
 DEAR = "must-fail-dear"
 
 
+def need_kit():
+    """Stops with a sentence if there is no kit."""
+    if not KIT:
+        raise SystemExit("the kit's rt is not on the PATH")
+
+
 def kit_of_edits():
     """The kit's own reading of must-fail edits, and of what a check says to one."""
+    need_kit()
     module = types.ModuleType("rt")
     module.__file__ = f"{KIT}/bin/rt"
     sys.path.insert(0, f"{KIT}/bin")
@@ -91,6 +99,7 @@ def is_program(top, name):
 def words(top, uses, name, libraries, links, jobs=1, sources=()):
     """What rattle is told of the crate and of what it stands on. `links` names the crates of which it is said that they link nothing;
     `sources` those below, lowest first, that have no library and are read as they stand."""
+    need_kit()
     root = f"src/{'main' if is_program(top, name) else 'lib'}.rt"
     told = ["--crate-name", name, root, "--extern", f"std={KIT}/rlibs/std.rlib", "-L", f"dependency={KIT}/rlibs"]
     named = dict.fromkeys(use for it in [name, *sources] for use in uses[it] if use not in sources)

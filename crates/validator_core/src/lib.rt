@@ -18,6 +18,7 @@ mod entries;
 mod epoch_calls;
 mod holds;
 mod keeping;
+mod looks;
 mod renewal;
 mod replay;
 mod runs;

@@ -1,0 +1,92 @@
+"""The crates of the repository, the checksum of what a program is made of, and the kit."""
+
+import functools
+import hashlib
+import os
+import shutil
+import subprocess
+
+TOP = os.path.dirname(os.path.dirname(os.path.dirname(os.path.abspath(__file__))))
+NAME = "committee"
+PARTS = ("src", "specs", "proofs", "c")
+
+
+def uses(top=TOP):
+    """Each crate of crates.txt with the crates and libraries that it names."""
+    with open(f"{top}/crates.txt", encoding="utf-8") as it:
+        lines = [line.split("#")[0].strip() for line in it]
+    parts = [line.partition(":") for line in lines if line]
+    return {head.split()[0]: tail.split() for head, _, tail in parts}
+
+
+def is_program(name, top=TOP):
+    return os.path.exists(f"{top}/crates/{name}/src/main.rt")
+
+
+def names_of_programs(top=TOP):
+    """The crates that are programs, `committee` first."""
+    return sorted((it for it in uses(top) if is_program(it, top)), key=lambda it: (it != NAME, it))
+
+
+def is_static(name, top=TOP):
+    """Whether crates.txt calls the crate a static library."""
+    with open(f"{top}/crates.txt", encoding="utf-8") as it:
+        return any(line.partition(":")[0].split() == [name, "staticlib"] for line in it)
+
+
+def needed(name=NAME, top=TOP):
+    """The crate and all crates below it, each after those that it names."""
+    known, found = uses(top), []
+
+    def visit(crate):
+        for below in known[crate]:
+            if below in known and below not in found:
+                visit(below)
+        if crate not in found:
+            found.append(crate)
+
+    visit(name)
+    return found
+
+
+def files_of(crate, top=TOP):
+    """The files that a crate is made of, by their path from the top, in order."""
+    found = []
+    for part in PARTS:
+        for at, _, names in os.walk(f"{top}/crates/{crate}/{part}"):
+            found += [os.path.relpath(f"{at}/{name}", top) for name in names]
+    return sorted(found)
+
+
+def sources_sum(name=NAME, top=TOP):
+    """A checksum of all that a program is made of in this repository."""
+    known, total = uses(top), hashlib.sha256()
+    for crate in needed(name, top):
+        total.update(f"{crate}: {' '.join(known[crate])}\n".encode())
+        for path in files_of(crate, top):
+            total.update(f"{path} {sum_of_file(f'{top}/{path}')}\n".encode())
+    return total.hexdigest()
+
+
+def sum_of_file(path):
+    with open(path, "rb") as it:
+        return hashlib.sha256(it.read()).hexdigest()
+
+
+@functools.lru_cache(maxsize=None)
+def kit():
+    """The one line that names the kit, or none if there is no `rt`."""
+    if not shutil.which("rt"):
+        return None
+    ran = subprocess.run(["rt", "version"], stdin=subprocess.DEVNULL, capture_output=True, text=True)
+    return ran.stdout.strip() or None
+
+
+def cache():
+    """The folder outside the repository where builds are kept."""
+    return f"{os.environ.get('XDG_CACHE_HOME') or os.path.expanduser('~/.cache')}/kothaysu"
+
+
+def version(top=TOP):
+    with open(f"{top}/VERSION", encoding="utf-8") as it:
+        return it.read().strip()

@@ -1,0 +1,181 @@
+"""The unproved build of a program: made once for each checksum of the sources and the kit, and kept apart from the proved one.
+
+`rt try` builds the sources without a proof, under checks of every address, and the program stands below TMPDIR while it runs there.
+It is taken from there by a second link, and stands as NAME.unproved in the cache, with a note of what it is made of. A kit that
+builds otherwise leaves nothing to take; that is noted too, so that nobody looks again.
+"""
+
+import ctypes
+import fcntl
+import glob
+import hashlib
+import os
+import re
+import shutil
+import signal
+import subprocess
+import sys
+import threading
+import time
+
+from crates import TOP, cache, kit, sources_sum, sum_of_file
+
+# Each case is one more chance to see the program while it stands.
+CASES, PAUSE = 6, 0.01
+WEEK = 7 * 24 * 3600
+KEPT, NOT_KEPT, NOT_BUILT = "kept", "not kept", "not built"
+PR_SET_PDEATHSIG = 1
+
+
+class Build:
+    """The kept build of a program: where it stands, and the note that has to stand beside it."""
+
+    def __init__(self, name, top=TOP):
+        self.name, self.top = name, top
+        self.made_of = f"sources {sources_sum(name, top)}\nkit {kit()}\n"
+        key = hashlib.sha256(self.made_of.encode()).hexdigest()[:16]
+        self.place = f"{cache()}/unproved/{name}-{key}"
+        self.program, self.note, self.log = f"{self.place}/{name}.unproved", f"{self.place}/note", f"{self.place}/log"
+
+    def stands(self):
+        """The path of the kept program, if it is whole and made of these sources by this kit; else none."""
+        try:
+            if said_in(self.note) != f"UNPROVED\n{self.made_of}program {sum_of_file(self.program)}\n":
+                return None
+            os.utime(self.note)
+            return self.program
+        except OSError:
+            return None
+
+    def cannot(self):
+        """Whether this kit is known to leave no program."""
+        try:
+            return said_in(self.note) == f"UNPROVED\n{self.made_of}no program\n"
+        except OSError:
+            return False
+
+    def write_note(self, what):
+        with open(f"{self.note}.new", "w", encoding="utf-8") as it:
+            it.write(f"UNPROVED\n{self.made_of}{what}\n")
+        os.replace(f"{self.note}.new", self.note)
+
+    def make(self):
+        """Builds and keeps the program, unless another run just did. Answers KEPT, NOT_KEPT, or NOT_BUILT if the log says why not."""
+        os.makedirs(self.place, exist_ok=True)
+        with open(f"{self.place}/lock", "w", encoding="utf-8") as lock:
+            fcntl.flock(lock, fcntl.LOCK_EX)
+            if self.stands():
+                return KEPT
+            if self.cannot():
+                return NOT_KEPT
+            for left in glob.glob(f"{self.place}/try-*"):
+                shutil.rmtree(left, ignore_errors=True)
+            room = f"{self.place}/try-{os.getpid()}"
+            try:
+                return self.try_in(room)
+            finally:
+                shutil.rmtree(room, ignore_errors=True)
+
+    def try_in(self, room):
+        """Runs a try on empty cases, and takes the program that it makes."""
+        for part in ("cases", "tmp", "links"):
+            os.makedirs(f"{room}/{part}")
+        for case in range(CASES):
+            open(f"{room}/cases/{case}", "w", encoding="utf-8").close()
+        with open(self.log, "w", encoding="utf-8") as log:
+            how = {"stdin": subprocess.DEVNULL, "stdout": log, "stderr": log, "env": {**os.environ, "TMPDIR": f"{room}/tmp"}}
+            words = ["rt", "try", "--cases", f"{room}/cases"]
+            tried = subprocess.Popen(words, cwd=f"{self.top}/crates/{self.name}", preexec_fn=dies_with_parent(signal.SIGTERM), **how)
+            taken = watched(tried, f"{room}/tmp", f"{room}/links")
+        ended = re.findall(r"(?m)^case=\d+ run=ended status=(\d+)", said_in(self.log))
+        if not ended:
+            return NOT_BUILT
+        good = [it for it in taken if answers_alike(it, int(ended[0]))]
+        if not good:
+            self.write_note("no program")
+            return NOT_KEPT
+        os.replace(good[-1], self.program)
+        self.write_note(f"program {sum_of_file(self.program)}")
+        forget_old(self.name)
+        return KEPT
+
+
+def said_in(path):
+    with open(path, encoding="utf-8", errors="replace") as it:
+        return it.read()
+
+
+def watched(tried, below, links):
+    """Waits until the try has ended, and links each program that stands below its folder meanwhile. Answers the links, oldest first."""
+    taken, seen = [], set()
+    while tried.poll() is None:
+        for path in glob.glob(f"{below}/*/*/program") + glob.glob(f"{below}/*/program"):
+            try:
+                which = os.stat(path).st_ino
+                if which not in seen:
+                    os.link(path, f"{links}/{len(taken)}")
+                    taken.append(f"{links}/{len(taken)}")
+                    seen.add(os.stat(taken[-1]).st_ino)
+            except OSError:
+                continue
+        time.sleep(PAUSE)
+    return taken
+
+
+def answers_alike(program, status):
+    """Whether a program that was taken ends as the try's did, without words and input."""
+    try:
+        ran = subprocess.run([program], stdin=subprocess.DEVNULL, capture_output=True, timeout=60)
+    except (OSError, subprocess.TimeoutExpired):
+        return False
+    return ran.returncode == status
+
+
+def forget_old(name):
+    """Removes the builds of a program that nobody has used for a week."""
+    for place in glob.glob(f"{cache()}/unproved/{name}-*"):
+        try:
+            if time.time() - os.path.getmtime(f"{place}/note") > WEEK:
+                shutil.rmtree(place, ignore_errors=True)
+        except OSError:
+            continue
+
+
+def dies_with_parent(number):
+    """What a child does before it becomes its program, so that the system sends it a signal when its parent ends."""
+    parent = os.getpid()
+    library = ctypes.CDLL(None, use_errno=True)
+
+    def prepare():
+        library.prctl(PR_SET_PDEATHSIG, number, 0, 0, 0)
+        if os.getppid() != parent:
+            os._exit(1)
+
+    return prepare
+
+
+class Moving:
+    """A line on standard error while something takes its time: it moves on a terminal, and is written once elsewhere."""
+
+    def __init__(self, text):
+        self.text, self.ended = text, threading.Event()
+
+    def __enter__(self):
+        if not sys.stderr.isatty():
+            print(f"{self.text} ..", file=sys.stderr, flush=True)
+            return self
+        self.thread = threading.Thread(target=self.move, daemon=True)
+        self.thread.start()
+        return self
+
+    def move(self):
+        began = time.monotonic()
+        while not self.ended.wait(0.25):
+            seconds = int(time.monotonic() - began)
+            print(f"\r{self.text} {'|/-' [seconds % 3]} {seconds} s", end="", file=sys.stderr, flush=True)
+
+    def __exit__(self, *_):
+        self.ended.set()
+        if sys.stderr.isatty():
+            self.thread.join()
+            print(f"\r{' ' * (len(self.text) + 16)}\r", end="", file=sys.stderr, flush=True)
