@@ -1,6 +1,6 @@
 -- One member's records among lists of members.
-use Rattle.std.proofs.Common.{◌≡◌, ◌∙◌, ◌<◌, ◌⊎◌, ℕ, zero, suc, List, [], ◌∷◌, ◌++◌, length, Option, Some, None, Result, Ok, Err, refl, sym, ap, subst, arith, inl, inr}
-use Rattle.std.specs.Prelude.{replicate, slice_set, MatchResult}
+use Rattle.std.proofs.Common.{◌≡◌, ◌∙◌, ◌<◌, ℕ, zero, suc, List, [], ◌∷◌, ◌++◌, Option, Some, None, Result, Ok, Err, refl, sym, ap, arith, inl, inr}
+use Rattle.std.specs.Prelude.{slice_set}
 use Rattle.outside.specs.Lists.{AddsRecord, Appended, HasMembers, Journals, KeepsJournals, journal_of, with_record}
 use Rattle.outside.specs.declared.faults.OutFault.{OutFault}
 use Rattle.outside.specs.declared.faults.OutFault.TheVariants as fault

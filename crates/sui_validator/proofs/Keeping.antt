@@ -1,8 +1,8 @@
 -- What a call keeps in one journal, from what it keeps in the lists of members.
-use Rattle.std.proofs.Common.{◌≡◌, ◌∙◌, ◌+◌, ◌⊎◌, ℕ, List, [], ◌∷◌, ◌++◌, Option, Some, None, refl, sym, ap, subst, arith, inl, inr}
+use Rattle.std.proofs.Common.{◌≡◌, ◌∙◌, ◌+◌, ℕ, List, [], ◌∷◌, ◌++◌, Option, Some, None, sym, ap, subst, arith, inl, inr}
 use Rattle.journal_core.specs.declared.records.Record.{Record}
 use Rattle.journal_core.specs.Records as journals
-use Rattle.outside.specs.Lists.{AddsRecord, Journals, KeepsJournals, journal_of, with_record}
+use Rattle.outside.specs.Lists.{AddsRecord, Journals, KeepsJournals, journal_of}
 use Rattle.validator_core.specs.Seats.{Ended, Journaled, Keeps, answered, fell}
 use Rattle.sui_validator.specs.Journals.{Grows, Kept, KeepsDue, Records, Stays, alone, as_lists}
 use Rattle.sui_validator.proofs.Alone.{own_list, own_record}
