@@ -13,6 +13,6 @@ pub use chain_types::{
     tx_digest,
 };
 pub use checkpoint_core::{Checkpoint, Item, checkpoint_digest};
-pub use digest_core::Digest;
+pub use digest_core::{Digest, address_of, genesis_id};
 pub use effects_core::{Effects, Status, Written, effects_digest};
 pub use wire_bcs::{OutOfMemory, Seq, Unread, WireFault};
