@@ -1,2 +1,4 @@
+pub mod Words
 pub mod Agreement
+pub mod Acking
 pub mod Whole

@@ -2,3 +2,4 @@ pub mod Answers
 pub mod Collect
 pub mod Collecting
 pub mod Parts
+pub mod Finality

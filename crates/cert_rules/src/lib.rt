@@ -9,13 +9,16 @@
 //! object. A check spells the vote once and checks one seal a member.
 //!
 //! What the words of members on something give together, votes or acknowledgements, is told by
-//! [`collect_words`], over any [`LastWords`]; [`collect`] stands on it too.
+//! [`collect_words`], over any [`LastWords`]; [`collect`] stands on it too, and [`collect_acks`], which says what the
+//! acknowledgements of a quorum make final.
 #![tactic(auto)]
 
+mod acks;
 mod check;
 mod collecting;
 mod votes;
 
+pub use acks::{Finality, collect_acks};
 pub use chain_types::CertRefusal;
 pub use check::check_cert;
 pub use collecting::{Collected, LastWords, collect_words};

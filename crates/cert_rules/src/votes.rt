@@ -52,8 +52,8 @@ pub fn same_origins(a: &[Option<Digest>], b: &[Option<Digest>]) -> bool
     a == b
 }
 
-/// The vote of a member among these. Takes no memory.
-fn vote_by(votes: &[Sealed], member: u32) -> Option<&Sealed>
+/// The sealed word of a member among these. Takes no memory.
+pub(crate) fn vote_by(votes: &[Sealed], member: u32) -> Option<&Sealed>
     ensures { option_copied result ≡ vote_by votes.now member }
 {
     let mut rest = votes;
@@ -109,8 +109,8 @@ fn first_origins(alloc: Global, votes: &[Sealed]) -> Result<Seq<Option<Digest>>,
     }
 }
 
-/// The voters, in the order of the votes.
-fn voters(alloc: Global, votes: &[Sealed]) -> Result<Vec<u32>, OutOfMemory>
+/// The members that sealed these, in their order.
+pub(crate) fn voters(alloc: Global, votes: &[Sealed]) -> Result<Vec<u32>, OutOfMemory>
     ensures { IfOk result (λ members. members.items ≡ voters votes.now) }
 {
     Ok(votes.iter().map(|vote| vote.member).collect(alloc)?)

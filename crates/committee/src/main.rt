@@ -9,10 +9,10 @@
 //! means.
 #![tactic(auto)]
 
-use command_words::{command_of, place_of};
+use command_words::{command_of, names_replay, place_of};
 use committee_core::{committee, committee_in, fresh_keeper};
 use outside::{Sink, Source};
-use outside_std::{FileDisk, InSource, OutSink};
+use outside_std::{FileDisk, InSource, Missing, OutSink};
 use std::alloc::{AllocError, Global};
 use std::env;
 use std::io::{self, BufWriter};
@@ -27,6 +27,14 @@ fn words_of(rt: &HostRuntime) -> io::Result<Vec<String>> {
         words.push(word)?;
     }
     Ok(words)
+}
+
+/// The status where the words cannot be had: words that are not UTF-8 are wrong words.
+fn status_of_words(error: &io::Error) -> u8 {
+    match error.kind() {
+        io::ErrorKind::InvalidData => 2,
+        _ => 7,
+    }
 }
 
 /// What standard error says of a status.
@@ -57,8 +65,17 @@ fn in_memory<R: Threads + Wait + Sync, S: Source, K: Sink>(
     committee(threads, rt.alloc(), words, source, sink, &mut keeper)
 }
 
-/// Runs the words before `in` with the records in the file that the word at `place` names. Words that are no command open
-/// no file.
+/// Whether a command makes the file that it names. `replay` reads what was kept, so a path at which nothing stands is a
+/// mistake there.
+fn if_missing(command: &[String]) -> Missing {
+    if names_replay(command) {
+        return Missing::IsRefused;
+    }
+    Missing::IsMade
+}
+
+/// Runs the words before `in` with the records in the file that the word at `place` names. Words that are not a command open
+/// no file. Why a file is not opened is said on standard error.
 fn in_file<R: Threads + Wait + Sync, S: Source, K: Sink>(
     threads: &R,
     rt: &HostRuntime,
@@ -74,8 +91,12 @@ fn in_file<R: Threads + Wait + Sync, S: Source, K: Sink>(
     if command_of(command).is_none() {
         return 2;
     }
-    let Ok(disk) = FileDisk::open(rt, path.as_str()) else {
-        return 6;
+    let disk = match FileDisk::open(rt, path.as_str(), if_missing(command)) {
+        Ok(disk) => disk,
+        Err(fault) => {
+            let _ = eprintln!(rt; "{path}: {fault}");
+            return 6;
+        }
     };
     let (status, _disk) = committee_in(threads, rt.alloc(), command, source, sink, disk);
     status
@@ -84,8 +105,9 @@ fn in_file<R: Threads + Wait + Sync, S: Source, K: Sink>(
 /// Runs the words over the standard streams, with threads of `threads`. A report that was taken and could not be handed
 /// on is a write fault.
 fn status_of<R: Threads + Wait + Sync>(threads: &R, rt: &HostRuntime) -> u8 {
-    let Ok(words) = words_of(rt) else {
-        return 7;
+    let words = match words_of(rt) {
+        Ok(words) => words,
+        Err(error) => return status_of_words(&error),
     };
     let Ok(writer) = BufWriter::new(rt.alloc(), io::writer(rt)) else {
         return 7;

@@ -26,7 +26,7 @@ use Rattle.committee_core.specs.Report.{lines_text, setting_in}
 use Rattle.committee_core.specs.Steps.{IsBadRecord, IsCutAt, untaken, unwritten, unsaid, IsUntaken, IsUnwritten, Passes}
 use Rattle.outside.specs.Streams.{AppendsFront}
 use Rattle.committee_core.specs.Ways.{MeetsBadRecord, RunsCut, RunsFront, RunsWhole, ShowsRun}
-use Rattle.committee_core.proofs.Following.{FrontFrom, IsFollowed, ReadsTold, TellsFrom, bad-untold, followed, front-ahead, front-told, keepable-shown, kept-taken, kept-untaken}
+use Rattle.committee_core.proofs.Following.{FrontFrom, IsFollowed, ReadsTold, TellsFrom, bad-untold, followed, front-ahead, front-told, keepable-shown, kept-taken, kept-untaken, started-shown}
 use Rattle.committee_core.proofs.Restarting.{restart-of}
 use Rattle.run_law.proofs.SceneRecords.{no-records}
 
@@ -241,6 +241,7 @@ meets trust s Writes joins start held0 front e back sc told held held' is so alo
       untold = untold-where start (λ t. let b = so (inl t) in
           let starts : Restarts st w = starts-at st s.events front (e ∷ back) along is (keepable-shown trust st w sc b.shows bad.reads.keepable) in
           bad-untold trust st w sc m.0 bad.member bad.place start told b.shows starts b.tells down);
+      bad = λ reads. record { records = down.bad.kept; why = down.bad.why; stops = sym (started-shown trust st w sc down.bad.kept (so reads).shows) ∙ down.bad.starts };
       written = λ reads. joins held0 held held' _ _ (so reads).written bad.written;
     }
 

@@ -9,9 +9,11 @@ use Rattle.schedule_text.specs.declared.words.Event.{Event}
 use Rattle.schedule_text.specs.declared.words.Event.TheVariants as event
 use Rattle.schedule_text.specs.declared.words.Schedule.{Schedule}
 use Rattle.schedule_text.specs.Schedule.{Refused, schedule_of}
-use Rattle.world_spec.specs.Setting.{Trust}
+use Rattle.answer_types.specs.declared.refusals.StartRefusal.TheVariants as no_start
+use Rattle.world_spec.specs.Setting.{Setting, Trust}
 use Rattle.world_spec.specs.Run.{report, world_after}
 use Rattle.scene_spec.specs.Scene.{Scene}
+use Rattle.scene_spec.specs.Starts.{started}
 use Rattle.scene_spec.specs.Worlds.{Shows}
 use Rattle.committee_core.specs.Journals.{KeepsFronts, KeepsRun, ReadsBack}
 use Rattle.committee_core.specs.Report.{lines_text, refusal_text, report_text, setting_in}
@@ -34,6 +36,13 @@ pub record RunsFront (trust : Trust) (s : Schedule) (held held' : Option (List �
 abbrev pub bad_record_text : ℕ → ℕ → List ℕ
 bad_record_text member place = text_of (line.Restart member (restart_text.BadRecord place))
 
+-- records from which a member of the setting does not start: the one at this place is the first that does not decode, or that no
+-- call would have appended
+pub record HasBad (s : Setting) (place : ℕ) : Type 0 where
+  pub records : List (List ℕ)
+  pub why : ℕ
+  pub stops : started s.rules s.opening records ≡ Err (no_start.BadRecord place why)
+
 -- a record that was read back is bad: the report of the lines before it is written, and the line that says so.
 -- A keeper that tells its lists gives none.
 pub record MeetsBadRecord (trust : Trust) (s : Schedule) (Writes : Option (List ℕ) → Option (List ℕ) → List ℕ → Type 0) (held held' : Option (List ℕ)) (kept : Option Journals) : Type 0 where
@@ -43,6 +52,7 @@ pub record MeetsBadRecord (trust : Trust) (s : Schedule) (Writes : Option (List 
   pub place : ℕ
   pub restarts : s.events ≡ front ++ event.Restart member ∷ back
   pub untold : kept ≡ None
+  pub bad : ReadsBack kept front → HasBad (setting_in trust s) place
   pub written : ReadsBack kept front → Writes held held' (lines_text (report (setting_in trust s) front) ++ bad_record_text member place)
 
 -- a run that did not end: cut, or cut where it says that a record is bad

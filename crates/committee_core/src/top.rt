@@ -51,7 +51,7 @@ fn obey<R: Threads + Wait + Sync, S: Source, K: Sink, D: Keeper>(
 /// | Status | Comes | Written, kept |
 /// |---|---|---|
 /// | 0 | where all events ran, and the source was read to its end | the whole report; each told list is its member's journal |
-/// | 3 | exactly where the bytes are no schedule, and the line was written | `refused line L cause C`; told lists stay |
+/// | 3 | only if the bytes are no schedule, and the line was written | `refused line L cause C`; told lists stay |
 /// | 4 | only where the source's count of faults rose | nothing; told lists stay |
 /// | 5 | only where the sink's count of faults rose | a front of what was to be written; each told list is a front of its journal |
 /// | 6 | only where the keeper's count of faults rose, or a record read back is bad | a front of the report, and after a bad record `restart M: bad record PLACE` |
@@ -78,11 +78,11 @@ fn obey<R: Threads + Wait + Sync, S: Source, K: Sink, D: Keeper>(
 ///
 /// | Status | Comes | Written |
 /// |---|---|---|
-/// | 0 | exactly where the bytes spell a certified chain, and the line was written | `certified N included in K` with the number of links and the number of the first checkpoint that lists the transaction, or `certified N not included` |
+/// | 0 | only if the bytes spell a certified chain, and the line was written | `certified N included in K` with the number of links and the number of the first checkpoint that lists the transaction, or `certified N not included` |
 /// | 4 | only where the source's count of faults rose | nothing |
 /// | 5 | only where the sink's count of faults rose | a front of the line |
 /// | 7 | for want of memory | a front of the line |
-/// | 8 | exactly where there are more bytes, or they spell no chain, or one that is not certified, and the line was written | `refused too large`, `refused malformed at A why W`, `refused link P cause C` |
+/// | 8 | only if there are more bytes, or they spell no chain, or one that is not certified, and the line was written | `refused too large`, `refused malformed at A why W`, `refused link P cause C` |
 ///
 /// `follow M`, for M from 0 to 63: runs the schedule that the source holds, and writes no report. Then a follower that opens
 /// with the objects of the set-up takes the checkpoints that member M built in the epochs before its own, each with the
@@ -104,11 +104,11 @@ fn obey<R: Threads + Wait + Sync, S: Source, K: Sink, D: Keeper>(
 /// | Status | Comes | Written |
 /// |---|---|---|
 /// | 0 | where all were asked for, and none lacked memory | `desk 0: calls C`, and for each call, in the order in which they were made, two spaces and the line of its vote: one history of them all |
-/// | 3 | exactly where the bytes are no schedule, and the line was written | `refused line L cause C` |
+/// | 3 | only if the bytes are no schedule, and the line was written | `refused line L cause C` |
 /// | 4 | only where the source's count of faults rose | nothing |
 /// | 5 | only where the sink's count of faults rose | a front of what was to be written |
 /// | 7 | for want of memory | as at 5 |
-/// | 8 | exactly where an event is no `tx` line, or member 0 is not honest, and the line was written | `desk: only tx lines`, else `desk: no honest member` |
+/// | 8 | only if an event is no `tx` line, or member 0 is not honest, and the line was written | `desk: only tx lines`, else `desk: no honest member` |
 ///
 /// `replay M`, for M from 0 to 63: starts member M of the set-up of the schedule that the source holds, whose events do
 /// not run, from the records that the keeper has. It leaves the keeper's lists.
@@ -116,12 +116,12 @@ fn obey<R: Threads + Wait + Sync, S: Source, K: Sink, D: Keeper>(
 /// | Status | Comes | Written |
 /// |---|---|---|
 /// | 0 | where the member started | `restart M: records N`, and the lines of `show M` for the member in that state, by the names of the set-up |
-/// | 3 | exactly where the bytes are no schedule, and the line was written | `refused line L cause C` |
+/// | 3 | only if the bytes are no schedule, and the line was written | `refused line L cause C` |
 /// | 4 | only where the source's count of faults rose | nothing |
 /// | 5 | only where the sink's count of faults rose | a front of what was to be written |
 /// | 6 | where a record is bad, or where the keeper's count of faults rose | `restart M: bad record PLACE`; nothing behind a fault |
 /// | 7 | for want of memory | as at 5 |
-/// | 8 | exactly where the set-up has no honest member M, and the line was written | `replay M: no honest member` |
+/// | 8 | only if the set-up has no honest member M, and the line was written | `replay M: no honest member` |
 ///
 /// Status 2 comes exactly where the words are no command: nothing is read, written and kept then.
 #[tactic(auto, using(crate::proofs::Obeying::unused, crate::proofs::Obeying::obeyed, crate::proofs::Obeying::starved))]

@@ -1,6 +1,6 @@
 //! The closing pass, on the caller: what the workers left is executed.
 
-ghost use Rattle.std.specs.Prelude.{◌≡◌, ◌+◌, ◌<◌, false, length, IfOk, OnOk};
+ghost use Rattle.std.specs.Prelude.{◌≡◌, ◌+◌, ◌<◌, false, if◌then◌else◌, length, IfOk, OnOk};
 ghost use Rattle.steal_board.specs.Boards.{view};
 ghost use Rattle.dag_pool.specs.Work.{NoneLeft};
 ghost use Rattle.dag_pool.specs.Crews.{plan_of, IsSwept};
@@ -13,7 +13,8 @@ use dag_core::Job;
 use steal_board::Claim;
 use wire_bcs::OutOfMemory;
 
-/// Executes the tasks that are not yet claimed, in the order of their numbers, and answers how many there were.
+/// Executes the tasks that are not yet claimed, in the order of their numbers, and answers how many there were: that many
+/// places the seat has gained.
 pub(crate) fn sweep<J: Job, G: Gate>(
     crew: &Crew<'_, J, G>,
     post: &mut Post<J>,
@@ -21,6 +22,7 @@ pub(crate) fn sweep<J: Job, G: Gate>(
     requires { IsSwept crew.now 0 post.old }
     ensures swept { OnOk result (IsSwept crew.now (length (plan_of crew.now).jobs) post.new) }
     ensures none { IfOk result (λ swept. NoneLeft (plan_of crew.now).edges (length (plan_of crew.now).jobs) (view post.old.seat) → swept ≡ 0) }
+    ensures gained { IfOk result (λ swept. length (view post.new.seat).mine ≡ length (view post.old.seat).mine + swept) }
 {
     let mut swept = 0;
     for task in 0..crew.tasks() {
@@ -41,6 +43,7 @@ fn sweep_one<J: Job, G: Gate>(
     requires swept { IsSwept crew.now task post.old }
     ensures swept { OnOk result (IsSwept crew.now (task + 1) post.new) }
     ensures none { IfOk result (λ done. NoneLeft (plan_of crew.now).edges (length (plan_of crew.now).jobs) (view post.old.seat) → (done ≡ false) × NoneLeft (plan_of crew.now).edges (length (plan_of crew.now).jobs) (view post.new.seat)) }
+    ensures gained { IfOk result (λ done. length (view post.new.seat).mine ≡ length (view post.old.seat).mine + (if done then 1 else 0)) }
 {
     match crew.board.claim(&mut post.seat, task) {
         Claim::Mine => {

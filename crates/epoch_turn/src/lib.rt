@@ -4,7 +4,8 @@
 //! it was cut, and each [`Chain::advance`] builds the checkpoints of the cuts up to the first that has a transaction which
 //! is not done by then: at constant work for each transaction, since what is done stays done. Its numbers and parents go
 //! on over the epochs. [`tell`] tells it what an admission has let in, [`first_unordered`] finds what keeps a member from saying that
-//! its epoch is to end, and [`revert_uncut`] and [`renew`] open the next one.
+//! its epoch is to end, and [`revert_uncut`] and [`renew`] open the next one. [`next_opening`] does so for whoever holds a
+//! store and the checkpointed transactions alone.
 #![tactic(auto)]
 
 mod chain;
@@ -21,6 +22,6 @@ pub use chain::Chain;
 pub use due::{CutMark, Due};
 pub use ends::{Counted, EndCount};
 pub use laws::what_is_built_stays;
-pub use opening::{renew, revert_uncut};
+pub use opening::{Turned, next_opening, renew, revert_uncut};
 pub use ordered::{first_unordered, ordered_on};
 pub use telling::tell;

@@ -1,6 +1,6 @@
 //! The opening of the next epoch: what stands in no cut is undone, and admission begins with what lives.
 
-ghost use Rattle.std.specs.Prelude.{◌≡◌, [], IfOk, OnOk};
+ghost use Rattle.std.specs.Prelude.{◌≡◌, ◌⊎◌, [], IfOk, OnErr, OnOk};
 ghost use Rattle.protocol_spec.specs.Member.Admission.{nothing_admitted};
 ghost use Rattle.protocol_spec.specs.Member.Versions.{live_list};
 ghost use Rattle.version_store.specs.Reverts.{reverted_to, undone};
@@ -8,7 +8,7 @@ ghost use Rattle.epoch_turn.specs.Chains.{AreCut, cut_of_chain};
 ghost use Rattle.epoch_turn.specs.Openings.{Opens, change_in, changes_after};
 
 use crate::chain::Chain;
-use chain_types::ObjectId;
+use chain_types::{Object, ObjectId};
 use digest_core::Digest;
 use std::alloc::Global;
 use version_assign::{Admission, Change};
@@ -24,6 +24,27 @@ pub fn revert_uncut(chain: &Chain, store: &mut Store) -> Result<Seq<Digest>, Out
 {
     let kept = chain.cut_transactions()?;
     store.revert_to(&kept)
+}
+
+/// What the end of an epoch leaves: the objects with which the next one opens, by ascending id, and the transactions that
+/// were undone, oldest first.
+#[derive(Debug, Drop)]
+pub struct Turned {
+    pub opening: Seq<Object>,
+    pub reverted: Seq<Digest>,
+}
+
+/// Undoes what was executed and is not among these transactions, and answers the objects that live then (epoch change of
+/// Sui Lutris). After a refusal the store is as it was, or it is the reverted one.
+pub fn next_opening(store: &mut Store, checkpointed: &Seq<Digest>) -> Result<Turned, OutOfMemory>
+    ensures store { OnOk result (store.new ≡ reverted_to checkpointed.now store.old) }
+    ensures opening { IfOk result (λ t. t.opening ≡ live_list store.new.opening store.new.executed) }
+    ensures reverted { IfOk result (λ t. t.reverted ≡ undone checkpointed.now store.old) }
+    ensures refused { OnErr result ((store.new ≡ store.old) ⊎ (store.new ≡ reverted_to checkpointed.now store.old)) }
+{
+    let reverted = store.revert_to(checkpointed)?;
+    let opening = store.live_list()?;
+    Ok(Turned { opening, reverted })
 }
 
 /// An object as it lives.

@@ -15,6 +15,7 @@ use Rattle.safety_law.proofs.Voted.{certified-is}
 use Rattle.agreement_law.proofs.SetUp.{set-up-apart}
 use Rattle.agreement_law.proofs.Opened.{every-opening, opened-alike}
 use Rattle.agreement_law.proofs.OneList.{built-is-of-thread, one-list}
+use Rattle.agreement_law.proofs.AgreedEpochs.{every-checkpoint}
 use Rattle.agreement_law.proofs.Sums.{are-backed, only-gas, set-up-backed}
 use Rattle.headline_law.proofs.Finishing.{no-turn-waits, runs-execute-admitted}
 use Rattle.headline_law.proofs.Keeping.{runs-execute-ready}
@@ -26,6 +27,7 @@ use Rattle.headline_law.proofs.Going.{ready-is-executed}
 use Rattle.headline_law.proofs.Reciting.{report-calm}
 use Rattle.headline_law.proofs.Reporting.{read-front}
 use Rattle.headline_law.proofs.Standing.{final-stands}
+use Rattle.headline_law.proofs.TwoMoments.{versions-are-one-chain}
 use Rattle.headline_law.specs.Headline.{Agree, AreSafe, Holds, IsPromised, Stands}
 use Rattle.protocol_spec.proofs.ListLemmas.{append_nil}
 
@@ -49,6 +51,7 @@ module _ (text : List ℕ) (t : Schedule) (read : schedule_of text ≡ Ok t) (tr
       record {
         opens = every-opening s front honest apart m seat at;
         builds = built-is-of-thread s front honest apart m seat at;
+        effects = every-checkpoint s front honest apart m seat at;
         runs_on = no-fork s front [] honest_here m seat at;
         is_ready = present-is-ready s front honest apart m seat at;
         takes = runs-execute-ready s front honest apart m seat at;
@@ -66,6 +69,7 @@ module _ (text : List ℕ) (t : Schedule) (read : schedule_of text ≡ Ok t) (tr
       let later = subst (λ (es : List Event). slice_get (world_after s es).seats n ≡ Some b) (sym (append_nil front)) other in
       record {
         openings = opened-alike s front [] honest_here (set-up-apart trust t.setup) m n a b one later;
+        versions = versions-are-one-chain s front [] honest_here (set-up-apart trust t.setup) m n a b one later;
         checkpoints = one-list s front [] honest_here (set-up-apart trust t.setup) m n a b one later;
       }
 

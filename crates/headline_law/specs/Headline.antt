@@ -16,12 +16,13 @@ use Rattle.answer_types.specs.declared.refusals.TurnRefusal.TheVariants as no_tu
 use Rattle.schedule_text.specs.declared.words.Schedule.{Schedule}
 use Rattle.schedule_text.specs.declared.words.Event.{Event}
 use Rattle.schedule_text.specs.Schedule.{schedule_of}
-use Rattle.protocol_spec.specs.Chain.Words.{Has, IsFront}
+use Rattle.protocol_spec.specs.Chain.Words.{Each, Has, IsFront}
 use Rattle.protocol_spec.specs.Chain.Keys.{currency_sum}
 use Rattle.protocol_spec.specs.Chain.Certificates.{accepts_sender}
 use Rattle.protocol_spec.specs.Block.Execution.{execution}
 use Rattle.protocol_spec.specs.Member.Versions.{Execution, is_executed}
 use Rattle.protocol_spec.specs.Member.Admission.{Admitted}
+use Rattle.protocol_spec.specs.Member.Sequence.{Cut}
 use Rattle.protocol_spec.specs.Member.Rounds.{executes_as, ready}
 use Rattle.protocol_spec.specs.Member.Member.{Member, books, built, fork_of, with_rounds}
 use Rattle.protocol_spec.specs.Member.Calls.{run_answer, turn_answer}
@@ -32,9 +33,12 @@ use Rattle.world_spec.specs.Run.{report, world_after}
 use Rattle.world_spec.specs.Assumptions.{IsCertified, IsFinal, IsHonestRun}
 use Rattle.block_law.specs.Money.{supply_sum}
 use Rattle.safety_law.specs.Owners.{all_handed}
+use Rattle.agreement_law.specs.AgreedEpochs.{AreOfThread}
+use Rattle.agreement_law.specs.Checkpointed.{IsBuilt}
 use Rattle.agreement_law.specs.Opened.{OpensAsLeft}
 use Rattle.agreement_law.specs.Past.{past_at}
 use Rattle.agreement_law.specs.Sums.{epoch_gas}
+use Rattle.headline_law.specs.Chained.{AreOneChain}
 use Rattle.headline_law.specs.Complete.{MayExecute}
 use Rattle.headline_law.specs.Runs.{ready_behind}
 use Rattle.headline_law.specs.Alarms.{IsCalm}
@@ -57,6 +61,8 @@ pub record Stands (s : Setting) (w : World) (m : Member) : Type 0 where
   pub opens : OpensAsLeft s w.sequences m
   -- the checkpoints that it has built are the first of that thread: numbers, parents, transactions, effects
   pub builds : IsFront (built m) (past_at s w.sequences (suc m.epoch))
+  -- and in its epoch its effects are those of that thread whole, and not their digests alone: of each first cuts whose checkpoints it has built
+  pub effects : (cuts : List Cut) → IsFront cuts m.sequence.cuts → Each (IsBuilt m) cuts → AreOfThread s w.sequences m cuts
   -- it holds no two certificates that consume one version, so it is not halted
   pub runs_on : fork_of m ≡ None
   -- what it holds and did not execute, whose inputs are there, and that it admitted if it has a shared input, is ready
@@ -79,6 +85,8 @@ pub record Stands (s : Setting) (w : World) (m : Member) : Type 0 where
 pub record Agree (a b : Member) : Type 0 where
   -- in one epoch they opened it with equal objects
   pub openings : a.epoch ≡ b.epoch → a.opening ≡ b.opening
+  -- the versions of each object that they hold then are one chain, in which each was taken by one transaction at most
+  pub versions : a.epoch ≡ b.epoch → AreOneChain a b
   -- of what they have built, in whatever epochs, the one is a front of the other
   pub checkpoints : IsFront (built a) (built b) ⊎ IsFront (built b) (built a)
 

@@ -26,6 +26,14 @@ fn words_of(rt: &HostRuntime) -> io::Result<Vec<String>> {
     Ok(words)
 }
 
+/// The status where the words cannot be had: words that are not UTF-8 are wrong words.
+fn status_of_words(error: &io::Error) -> u8 {
+    match error.kind() {
+        io::ErrorKind::InvalidData => 2,
+        _ => 7,
+    }
+}
+
 /// What standard error says of a status.
 fn message(status: u8) -> Option<&'static str> {
     match status {
@@ -55,8 +63,9 @@ fn in_memory<R: Threads + Sync, S: Source, K: Sink>(
 /// Runs the words over the standard streams, with threads of `threads`. Bytes that were taken and could not be handed on
 /// are a write fault.
 fn status_of<R: Threads + Sync>(threads: &R, rt: &HostRuntime) -> u8 {
-    let Ok(words) = words_of(rt) else {
-        return 7;
+    let words = match words_of(rt) {
+        Ok(words) => words,
+        Err(error) => return status_of_words(&error),
     };
     let Ok(writer) = BufWriter::new(rt.alloc(), io::writer(rt)) else {
         return 7;

@@ -32,7 +32,7 @@ use std::thread::Threads;
 /// | Status | Comes | Written, kept |
 /// |---|---|---|
 /// | 0 | where all events ran, and, for `chain`, member M is honest and up, and the members have built all that it has | the bytes of the chain, or the lines; each told list is its member's journal |
-/// | 3 | exactly where the bytes are no schedule, and the line was written | `refused line L cause C`; told lists stay |
+/// | 3 | only if the bytes are no schedule, and the line was written | `refused line L cause C`; told lists stay |
 /// | 4 | only where the source's count of faults rose | nothing; told lists stay |
 /// | 5 | only where the sink's count of faults rose | a front of what was to be written; each told list is a front of its journal |
 /// | 6 | only where the keeper's count of faults rose, or a record read back is bad | nothing; each told list is a front of its journal |

@@ -1,14 +1,15 @@
 //! A disk over a file.
 
-ghost use Rattle.std.specs.Prelude.{◌≡◌, None, IfOk};
+ghost use Rattle.std.specs.Prelude.{◌≡◌, ◌<◌, ◌^◌, None, IfOk};
 
+use crate::OpenFault;
 use disk_log::Disk;
 use outside::{Failed, OutFault};
-use std::fs::{File, OpenOptions, TryLockError};
+use std::fs::{self, File, OpenOptions, TryLockError};
 use std::io;
 use std::marker::Model;
 use std::os::fd::AsRawFd;
-use std::os::unix::fs::FileExt;
+use std::os::unix::fs::{FileExt, MetadataExt};
 use std::path::Path;
 
 /// The size that no file has.
@@ -34,26 +35,61 @@ impl Model for FileDisk {
     ghost invariant = { λ s. s.extent < 2 ^ 63 };
 }
 
-/// Opens a file for reads and writes, or makes it, and holds it alone. What is no plain file, or is
-/// held already, is refused.
-fn open_alone(rt: &HostRuntime, path: &str) -> io::Result<File> {
-    let mut file = OpenOptions::new()
+/// Whether a file that is missing is made.
+#[derive(Clone, Copy, Debug, PartialEq, Eq)]
+pub enum Missing {
+    IsMade,
+    IsRefused,
+}
+
+/// Opens a file for reads and writes. What is meant for a standard stream that was closed must not land in the file, so
+/// its number is above theirs.
+fn open_file(rt: &HostRuntime, path: &str, missing: Missing) -> io::Result<File> {
+    let file = OpenOptions::new()
         .read(true)
         .write(true)
-        .create(true)
+        .create(missing == Missing::IsMade)
         .open(rt, path)?;
-    // What is meant for a standard stream that was closed must not land in the file.
     if file.as_raw_fd() <= 2 {
-        file = file.try_clone()?;
+        return file.try_clone();
     }
+    Ok(file)
+}
+
+/// Whether a symbolic link stands at a path. One that leads nowhere would else make the file that it names.
+fn is_link(rt: &HostRuntime, path: &str) -> io::Result<bool> {
+    match fs::symlink_metadata(rt, path) {
+        Ok(named) => Ok(named.file_type().is_symlink()),
+        Err(error) if error.kind() == io::ErrorKind::NotFound => Ok(false),
+        Err(error) => Err(error),
+    }
+}
+
+/// Whether the path still names the file that was opened, and not one that took its name meanwhile.
+fn is_named(rt: &HostRuntime, file: &File, path: &str) -> io::Result<bool> {
+    let opened = file.metadata()?;
+    let named = fs::symlink_metadata(rt, path)?;
+    Ok(opened.dev() == named.dev() && opened.ino() == named.ino())
+}
+
+/// Opens a plain file for reads and writes, and holds it alone.
+fn open_alone(rt: &HostRuntime, path: &str, missing: Missing) -> Result<File, OpenFault> {
+    if is_link(rt, path)? {
+        return Err(OpenFault::Link);
+    }
+    let file = open_file(rt, path, missing)?;
     if !file.metadata()?.is_file() {
-        return Err(io::ErrorKind::Unsupported.into());
+        return Err(OpenFault::NotPlain);
     }
     match file.try_lock() {
-        Ok(()) => Ok(file),
-        Err(TryLockError::WouldBlock) => Err(io::ErrorKind::WouldBlock.into()),
-        Err(TryLockError::Error(error)) => Err(error),
+        Ok(()) => {}
+        Err(TryLockError::WouldBlock) => return Err(OpenFault::Held),
+        Err(TryLockError::Error(error)) => return Err(OpenFault::System(error)),
     }
+    if !is_named(rt, &file, path)? {
+        return Err(OpenFault::Replaced);
+    }
+    Ok(file)
 }
 
 /// The folder in which a file of this path stands.
@@ -71,16 +107,18 @@ fn settle(rt: &HostRuntime, file: &File, path: &str) -> io::Result<()> {
 }
 
 impl FileDisk {
-    /// Opens the file of a path, and makes it where it is missing. No other `FileDisk` has it open
-    /// then. It has met no fault yet.
-    pub fn open(rt: &HostRuntime, path: &str) -> io::Result<FileDisk>
-        ensures { IfOk result (λ disk. disk.faults ≡ 0) }
+    /// Opens the file of a path, which is no symbolic link. No other `FileDisk` has it open then, and the path names it. It
+    /// has met no fault yet. What the file holds, and that it is the one at the path, is in no clause: no contract speaks
+    /// of the system's files.
+    pub fn open(rt: &HostRuntime, path: &str, missing: Missing) -> Result<FileDisk, OpenFault>
+        ensures faults { IfOk result (λ disk. disk.faults ≡ 0) }
+        ensures size { IfOk result (λ disk. disk.extent < 2 ^ 63) }
     {
-        let file = open_alone(rt, path)?;
+        let file = open_alone(rt, path, missing)?;
         settle(rt, &file, path)?;
         let extent = file.metadata()?.len();
         if extent >= LIMIT {
-            return Err(io::ErrorKind::FileTooLarge.into());
+            return Err(OpenFault::TooLarge);
         }
         Ok(FileDisk {
             file,

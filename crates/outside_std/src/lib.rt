@@ -6,10 +6,12 @@
 
 mod file;
 mod input;
+mod open_fault;
 mod output;
 
-pub use file::FileDisk;
+pub use file::{FileDisk, Missing};
 pub use input::InSource;
+pub use open_fault::OpenFault;
 pub use output::OutSink;
 
 #[cfg(test)]

@@ -1,12 +1,16 @@
-use crate::FileDisk;
+use crate::{FileDisk, Missing, OpenFault};
 use disk_log::{Disk, DiskLog, LogRefusal};
 use outside::{Failed, Keeper};
+use std::os::unix::fs::symlink;
+use std::process::Abort;
 use std::test::Fail;
 use std::{fs, io};
 
 const FOLDER: &str = "file_disk_test";
 
 const PATH: &str = "file_disk_test/bytes";
+
+const LINK: &str = "file_disk_test/link";
 
 const LOGS: &str = "file_disk_test_logs";
 
@@ -28,11 +32,13 @@ fn two_of_three(disk: &mut FileDisk) -> Option<[u8; 2]> {
 }
 
 /// Appends a record of two bytes to the log of a file: the answer, or none where there is no log.
-fn appended(rt: &HostRuntime, member: u32) -> io::Result<Option<Result<(), LogRefusal>>> {
-    let disk = FileDisk::open(rt, JOURNAL)?;
+fn appended(rt: &HostRuntime, member: u32) -> Option<Result<(), LogRefusal>> {
+    let Ok(disk) = FileDisk::open(rt, JOURNAL, Missing::IsMade) else {
+        return None;
+    };
     match DiskLog::open(rt.alloc(), disk, 2) {
-        Ok(log) => Ok(appended_to(log, member)),
-        Err(_refused) => Ok(None),
+        Ok(log) => appended_to(log, member),
+        Err(_refused) => None,
     }
 }
 
@@ -48,18 +54,41 @@ fn appended_to(log: DiskLog<FileDisk>, member: u32) -> Option<Result<(), LogRefu
     answer
 }
 
+/// What opening a path comes to.
+fn opening(rt: &HostRuntime, path: &str, missing: Missing) -> &'static str {
+    match FileDisk::open(rt, path, missing) {
+        Ok(disk) => {
+            drop(disk);
+            "opened"
+        }
+        Err(OpenFault::Link) => "link",
+        Err(OpenFault::NotPlain) => "not plain",
+        Err(OpenFault::Held) => "held",
+        Err(OpenFault::Replaced) => "replaced",
+        Err(OpenFault::TooLarge) => "too large",
+        Err(OpenFault::System(_)) => "system",
+    }
+}
+
+/// Stops the test where two words differ.
+fn same(rt: &impl Abort, got: &str, want: &str) {
+    assert_eq!(rt; got, want);
+}
+
 #[test]
 fn a_file_keeps_what_is_written(rt: HostRuntime) -> Result<(), Fail> {
     let _ = fs::remove_dir_all(&rt, FOLDER);
     fs::create_dir(&rt, FOLDER)?;
-    let mut disk = FileDisk::open(&rt, PATH)?;
+    same(&rt, opening(&rt, PATH, Missing::IsRefused), "system");
+    let Ok(mut disk) = FileDisk::open(&rt, PATH, Missing::IsMade) else {
+        return Err(io::Error::from(io::ErrorKind::Other).into());
+    };
     assert_eq!(rt; two_of_three(&mut disk), Some([8, 9]));
-    assert_eq!(rt; disk.faults(), 0);
-    assert!(rt; FileDisk::open(&rt, PATH).is_err());
+    same(&rt, opening(&rt, PATH, Missing::IsMade), "held");
     drop(disk);
-    let disk = FileDisk::open(&rt, PATH)?;
-    assert_eq!(rt; disk.size(), 3);
-    drop(disk);
+    same(&rt, opening(&rt, PATH, Missing::IsRefused), "opened");
+    symlink(&rt, "bytes", LINK)?;
+    same(&rt, opening(&rt, LINK, Missing::IsRefused), "link");
     fs::remove_dir_all(&rt, FOLDER)?;
     Ok(())
 }
@@ -68,8 +97,8 @@ fn a_file_keeps_what_is_written(rt: HostRuntime) -> Result<(), Fail> {
 fn a_journal_is_opened_again(rt: HostRuntime) -> Result<(), Fail> {
     let _ = fs::remove_dir_all(&rt, LOGS);
     fs::create_dir(&rt, LOGS)?;
-    assert_eq!(rt; appended(&rt, 1)?, Some(Ok(())));
-    assert_eq!(rt; appended(&rt, 0)?, Some(Ok(())));
+    assert_eq!(rt; appended(&rt, 1), Some(Ok(())));
+    assert_eq!(rt; appended(&rt, 0), Some(Ok(())));
     let bytes = fs::read(&rt, JOURNAL)?;
     let both = [
         1, 2, 0, 0, 0, 1, 0, 0, 0, 7, 8, 1, 2, 0, 0, 0, 0, 0, 0, 0, 7, 8, 0,
@@ -80,9 +109,12 @@ fn a_journal_is_opened_again(rt: HostRuntime) -> Result<(), Fail> {
 }
 
 #[test]
-fn what_is_no_plain_file(rt: HostRuntime) -> Result<(), Fail> {
-    assert!(rt; FileDisk::open(&rt, ".").is_err());
-    assert!(rt; FileDisk::open(&rt, "/dev/null").is_err());
-    assert!(rt; FileDisk::open(&rt, "no_such_folder/journal").is_err());
-    Ok(())
+fn what_is_no_plain_file(rt: HostRuntime) {
+    same(&rt, opening(&rt, ".", Missing::IsMade), "system");
+    same(&rt, opening(&rt, "/dev/null", Missing::IsMade), "not plain");
+    same(
+        &rt,
+        opening(&rt, "no_such_folder/journal", Missing::IsMade),
+        "system",
+    );
 }

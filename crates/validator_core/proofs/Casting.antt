@@ -1,5 +1,5 @@
 -- What may be kept, and the state behind it.
-use Rattle.std.proofs.Common.{◌≡◌, ◌≤◌, ℕ, true, cond, List, Option, Some, None, length, ap, sym, ◌∙◌, subst}
+use Rattle.std.proofs.Common.{◌≡◌, ◌≤◌, ℕ, true, cond, List, Option, Some, None, is_some, length, ap, sym, ◌∙◌, subst}
 use Rattle.std.specs.Prelude.{Bool, Ok}
 use Rattle.digest_core.specs.declared.Digest.{Digest}
 use Rattle.chain_types.specs.declared.objects.ObjectKey.{ObjectKey}
@@ -52,6 +52,12 @@ fork_due d c h key first digest due_ is = subst (λ (x : Holding). HoldDue d (Ok
 
 pub fresh_due : (d x : Option Record) (b : Bool) → d ≡ cond b x None → b ≡ true → d ≡ x
 fresh_due d x b due_ fresh = due_ ∙ ap (λ (f : Bool). cond f x None) fresh
+
+pub new_owed : (d : Option Record) (c : Certificate) (h : Holding) (digest : Digest) → HoldDue d (Ok (c, h)) → h ≡ holdings.New digest → is_some d ≡ true
+new_owed d c h digest due_ is = ap (λ (o : Option Record). is_some o) (new_due d c h digest due_ is)
+
+pub fork_owed : (d : Option Record) (c : Certificate) (h : Holding) (key : ObjectKey) (first digest : Digest) → HoldDue d (Ok (c, h)) → h ≡ holdings.Fork key first digest → is_some d ≡ true
+fork_owed d c h key first digest due_ is = ap (λ (o : Option Record). is_some o) (fork_due d c h key first digest due_ is)
 
 -- ---- the state behind a call
 

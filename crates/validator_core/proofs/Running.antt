@@ -1,6 +1,6 @@
 -- Runs and closes: what is answered and due, and the state behind it.
 use Rattle.std.proofs.Common.{◌≡◌, ℕ, Bool, true, false, cond, not, List, [], ◌∷◌, ◌++◌, map, Option, Some, None, inr, refl, ap, sym, subst, ◌∙◌, append-nil}
-use Rattle.std.specs.Prelude.{◌⊎◌, Result, Ok, Err}
+use Rattle.std.specs.Prelude.{◌⊎◌, Result, Ok, Err, is_some}
 use Rattle.outside.specs.Lists.{Journals, KeepsJournals}
 use Rattle.journal_core.specs.declared.records.RanItem.{RanItem}
 use Rattle.journal_core.specs.declared.records.Record.{Record}
@@ -23,7 +23,7 @@ use Rattle.validator_core.specs.Calls.{Closes, Runs, close_ended, close_said, ru
 use Rattle.validator_core.specs.Seats.{Becomes, Behaves, Ended, Journaled, Keeps, answered, fell}
 use Rattle.scene_spec.proofs.RulesAside.{close_answer_alike, close_called_alike, close_due_alike, run_answer_alike, run_called_alike, run_due_alike}
 use Rattle.scene_spec.specs.Seats.{Seated, bare_rules, due_at}
-use Rattle.validator_core.proofs.Settling.{keeps_same, seat_with, settles}
+use Rattle.validator_core.proofs.Settling.{keeps_same, owed_at, seat_with, settles}
 
 -- ---- records that are due
 
@@ -94,6 +94,9 @@ pub run_due : (m : Member) (ran : Ran) (items : List RanItem) → run_answer bar
 unfolding due
 run_due m ran items e is = ap (run_record m) e ∙ ap ran_record (sym is)
 
+pub run_owed : (m : Member) (ran : Ran) (items : List RanItem) → run_answer bare m ≡ Ok ran → items ≡ ran_items m → is_some (ran_record items) ≡ true → is_some (due bare m runs) ≡ true
+run_owed m ran items e is some = ap (λ (o : Option Record). is_some o) (run_due m ran items e is) ∙ some
+
 behind_rounds : (m : Member) (xs : List Execution) → rounds (books m) m.executed ≡ xs → counted_where (ran_record (map ran_item xs)) (with_rounds m) ≡ after_due bare m (ran_record (map ran_item xs))
 unfolding after
 behind_rounds m [] none = ap (λ (ys : List Execution). record m { executed = m.executed ++ ys }) none ∙ ap (λ (ys : List Execution). record m { executed = ys }) (append-nil m.executed)
@@ -162,6 +165,9 @@ pub close_due : (m : Member) (new : Bool) → close_answer bare m ≡ Ok new →
 unfolding due
 close_due m new e = ap close_record e
 
+pub close_owed : (m : Member) → close_free ≡ unless_refused (close_stopped m) tt → m.closed ≡ false → is_some (due bare m closes) ≡ true
+close_owed m goes open_ = ap (λ (o : Option Record). is_some o) (close_due m true (close_goes m false goes open_))
+
 pub close_maybe_kept : (before now : Option Journals) (member : ℕ) (d x : Option Record) (why : Unkept) → d ≡ x → Keeps before now member x ⊎ KeepsJournals before now → Journaled before now member d (close_ended (Err (unkept_close why)))
 close_maybe_kept before now member d x unkept.KeepFault is kept = maybe_kept before now member d x is kept
 close_maybe_kept before now member d x unkept.OutOfMemory is kept = maybe_kept before now member d x is kept
@@ -186,6 +192,12 @@ run_at old answer up h =
 pub run_due_at : (old : Seated) (before now : Option Journals) (e : Ended) → old.up ≡ true → Journaled before now old.member (due bare old.state runs) e → Journaled before now old.member (due_at (bare_rules old) old runs) e
 run_due_at old before now e up h =
     subst (λ (x : Option Record). Journaled before now old.member x e) (run_due_alike bare (bare_rules old) old.state ∙ ap (λ (b : Bool). cond b (due (bare_rules old) old.state runs) None) (sym up)) h
+
+pub run_owed_at : (old : Seated) → old.up ≡ true → is_some (due bare old.state runs) ≡ true → is_some (due_at (bare_rules old) old runs) ≡ true
+run_owed_at old up h = owed_at (bare_rules old) old runs up (sym (ap (λ (o : Option Record). is_some o) (run_due_alike bare (bare_rules old) old.state)) ∙ h)
+
+pub close_owed_at : (old : Seated) → old.up ≡ true → is_some (due bare old.state closes) ≡ true → is_some (due_at (bare_rules old) old closes) ≡ true
+close_owed_at old up h = owed_at (bare_rules old) old closes up (sym (ap (λ (o : Option Record). is_some o) (close_due_alike bare (bare_rules old) old.state)) ∙ h)
 
 pub close_settles : (old : Seated) (state : Member) (e : Ended) → old.up ≡ true → Becomes (called bare old.state closes) state e → Behaves (bare_rules old) closes old (seat_with old state e) e
 close_settles old state e up h = settles (bare_rules old) closes old state e up (subst (λ (next : Member). Becomes next state e) (close_called_alike bare (bare_rules old) old.state) h)

@@ -1,6 +1,6 @@
 -- An entry that a member sees: what is answered and due, and the state behind it.
 use Rattle.std.proofs.Common.{◌≡◌, ◌+◌, ℕ, Bool, true, false, cond, List, Option, Some, None, inl, inr, refl, ap, sym, ◌∙◌, subst}
-use Rattle.std.specs.Prelude.{◌⊎◌, not, is_err, is_none, option_map, Result, Ok, Err}
+use Rattle.std.specs.Prelude.{◌⊎◌, not, is_err, is_none, is_some, option_map, Result, Ok, Err}
 use Rattle.outside.specs.Lists.{Journals, KeepsJournals}
 use Rattle.checkpoint_core.specs.declared.checkpoints.Checkpoint.{Checkpoint}
 use Rattle.journal_core.specs.declared.records.Record.{Record}
@@ -93,6 +93,9 @@ module _ (r : Rules) (m : Member) (number : ℕ) (bytes : List ℕ) where
     pub see_due : due r m (sees number bytes) ≡ Some (record_as.See bytes)
     unfolding due
     see_due = ap (see_record m number bytes) (none_stops (first_some (see_cases m number)) goes)
+
+    pub see_owed : is_some (due r m (sees number bytes)) ≡ true
+    see_owed = ap (λ (o : Option Record). is_some o) see_due
 
     module _ (unended : m.sequence.ended ≡ false) (what : What) (is : what_of r m.epoch m.sequence bytes ≡ what) (new : Member) (step : new ≡ behind_entry r m what) where
       behind : new ≡ after r m (record_as.See bytes)

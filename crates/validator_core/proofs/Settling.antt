@@ -73,6 +73,10 @@ unfolding due vote_answer
 vote_due_at accepts old bytes before now e up h =
     subst (λ (x : Option Record). Journaled before now old.member x e) (ap (λ (b : Bool). cond b (due (rules_of_seat old accepts) old.state (votes bytes)) None) (sym up)) h
 
+-- a record that is due in its state is due at the member that is up
+pub owed_at : (r : Rules) (old : Seated) (call : Call) → old.up ≡ true → is_some (due r old.state call) ≡ true → is_some (due_at r old call) ≡ true
+owed_at r old call up h = ap (λ (b : Bool). is_some (cond b (due r old.state call) None)) up ∙ h
+
 pub vote_owed_at : (accepts : Signing) (old : Seated) (bytes : List ℕ) → old.up ≡ true → is_some (due (sealed_as accepts) old.state (votes bytes)) ≡ true → is_some (due_at (rules_of_seat old accepts) old (votes bytes)) ≡ true
 unfolding due vote_answer
 vote_owed_at accepts old bytes up h = ap (λ (b : Bool). is_some (cond b (due (rules_of_seat old accepts) old.state (votes bytes)) None)) up ∙ h

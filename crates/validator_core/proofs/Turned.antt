@@ -1,6 +1,6 @@
 -- The turn to the next epoch: what is answered and due, and the state behind it.
 use Rattle.std.proofs.Common.{◌≡◌, ◌+◌, ℕ, Bool, true, false, cond, not, List, [], ◌∷◌, Option, Some, None, refl, ap, sym, ◌∙◌, subst}
-use Rattle.std.specs.Prelude.{◌⊎◌, Result, Ok, Err, is_err, is_ok, option_map}
+use Rattle.std.specs.Prelude.{◌⊎◌, Result, Ok, Err, is_err, is_ok, is_some, option_map}
 use Rattle.digest_core.specs.declared.Digest.{Digest}
 use Rattle.outside.specs.Lists.{Journals, KeepsJournals}
 use Rattle.journal_core.specs.declared.records.Record.{Record}
@@ -26,7 +26,7 @@ use Rattle.scene_spec.proofs.RulesAside.{turn_answer_alike, turn_called_alike, t
 use Rattle.scene_spec.specs.Seats.{Seated, bare_rules, due_at}
 use Rattle.validator_core.proofs.Refusing.{free, none_stops, stop, stopped_by}
 use Rattle.validator_core.proofs.Running.{journals_same, maybe_kept}
-use Rattle.validator_core.proofs.Settling.{seat_with, settles}
+use Rattle.validator_core.proofs.Settling.{owed_at, seat_with, settles}
 
 -- ---- the state behind it
 
@@ -101,6 +101,9 @@ pub turn_due : (m : Member) → free ≡ unless_refused (first_some (turn_cases 
 unfolding due
 turn_due m goes = ap turn_record (turn_goes m (reverted m) goes refl)
 
+pub turn_owed : (m : Member) → free ≡ unless_refused (first_some (turn_cases m)) tt → is_some (due bare m turns) ≡ true
+turn_owed m goes = ap (λ (o : Option Record). is_some o) (turn_due m goes)
+
 pub turn_called : (m next : Member) → free ≡ unless_refused (first_some (turn_cases m)) tt → next ≡ turning m → next ≡ called bare m turns
 unfolding after
 turn_called m next goes step = step ∙ ap (after_due bare m) (sym (turn_due m goes))
@@ -135,3 +138,6 @@ turn_at old answer up h =
 pub turn_due_at : (old : Seated) (before now : Option Journals) (e : Ended) → old.up ≡ true → Journaled before now old.member (due bare old.state turns) e → Journaled before now old.member (due_at (bare_rules old) old turns) e
 turn_due_at old before now e up h =
     subst (λ (x : Option Record). Journaled before now old.member x e) (turn_due_alike bare (bare_rules old) old.state ∙ ap (λ (b : Bool). cond b (due (bare_rules old) old.state turns) None) (sym up)) h
+
+pub turn_owed_at : (old : Seated) → old.up ≡ true → is_some (due bare old.state turns) ≡ true → is_some (due_at (bare_rules old) old turns) ≡ true
+turn_owed_at old up h = owed_at (bare_rules old) old turns up (sym (ap (λ (o : Option Record). is_some o) (turn_due_alike bare (bare_rules old) old.state)) ∙ h)

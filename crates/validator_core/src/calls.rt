@@ -201,7 +201,7 @@ pub(crate) fn vote_fell(answer: &Result<Voted, VoteRefusal>) -> bool
 }
 
 /// Hands a certificate to a member that is up: its record is appended before the call answers.
-#[tactic(auto, using(crate::proofs::Casting::idle_called, crate::proofs::Casting::hold_may, crate::proofs::Casting::hold_short))]
+#[tactic(auto, using(crate::proofs::Casting::idle_called, crate::proofs::Casting::hold_may, crate::proofs::Casting::hold_short, crate::proofs::Casting::new_owed, crate::proofs::Casting::fork_owed))]
 pub(crate) fn hold<D: Keeper, S: Sealer>(
     state: &mut State,
     keeper: &mut D,
@@ -217,6 +217,8 @@ pub(crate) fn hold<D: Keeper, S: Sealer>(
     ensures width { D.width keeper.new ≡ D.width keeper.old }
     ensures later { D.failed keeper.old ≤ D.failed keeper.new }
     ensures fault { IsErrOf result no_hold.KeepFault → Rose (D.failed keeper.old) (D.failed keeper.new) }
+    ensures owed { IsErrOf result no_hold.KeepFault → is_some (due (rules_for (terms_at state.old committee.now) (S.accepts sealer.now)) state.old.member (holds bytes.now)) ≡ true }
+    ensures able { IsErrOf result no_hold.OutOfMemory → fork_of state.old.member ≡ None }
     ensures limit { state.new.writers ≡ state.old.writers }
 {
     let (cert, holding) = state.hold(committee, sealer, bytes)?;

@@ -1,8 +1,9 @@
 //! Runs and the close of an epoch, over the state of a member.
 
-ghost use Rattle.std.specs.Prelude.{◌≡◌, ◌<◌, ◌≤◌, [], IfOk, IsErrOf, OnOk, false, nat_le};
+ghost use Rattle.std.specs.Prelude.{◌≡◌, ◌<◌, ◌≤◌, [], IfOk, IsErrOf, None, OnOk, false, is_some, nat_le, true};
 ghost use Rattle.outside.specs.Causes.{Rose};
 ghost use Rattle.journal_core.specs.declared.records.Record.TheVariants as record_as;
+ghost use Rattle.protocol_spec.specs.Member.Member.{fork_of};
 ghost use Rattle.protocol_spec.specs.Member.Calls.{called, close_answer, closes, due, ran_record, record_limit, run_answer, runs};
 ghost use Rattle.answer_types.specs.declared.refusals.CloseRefusal.TheVariants as no_close;
 ghost use Rattle.answer_types.specs.declared.refusals.RunRefusal.TheVariants as no_run;
@@ -37,6 +38,7 @@ fn keep_run<D: Keeper>(
     ensures width { D.width keeper.new ≡ D.width keeper.old }
     ensures later { D.failed keeper.old ≤ D.failed keeper.new }
     ensures fault { IsErrOf result unkept.KeepFault → Rose (D.failed keeper.old) (D.failed keeper.new) }
+    ensures owed { IsErrOf result unkept.KeepFault → is_some (ran_record (items_of effects.now)) ≡ true }
     ensures limit { state.new.writers ≡ state.old.writers }
 {
     let kept = match ran_record(state.allocator(), effects) {
@@ -53,7 +55,7 @@ fn keep_run<D: Keeper>(
 }
 
 /// Lets a member that is up execute what it holds: the record of a run is appended before the call answers.
-#[tactic(auto, using(crate::proofs::Running::run_goes, crate::proofs::Running::run_refused, crate::proofs::Running::run_stays))]
+#[tactic(auto, using(crate::proofs::Running::run_goes, crate::proofs::Running::run_refused, crate::proofs::Running::run_stays, crate::proofs::Running::run_owed))]
 pub(crate) fn run<R: Threads + Sync, D: Keeper, G: Gate + Sync>(
     rt: &R,
     state: &mut State,
@@ -70,6 +72,8 @@ pub(crate) fn run<R: Threads + Sync, D: Keeper, G: Gate + Sync>(
     ensures width { D.width keeper.new ≡ D.width keeper.old }
     ensures later { D.failed keeper.old ≤ D.failed keeper.new }
     ensures fault { IsErrOf result no_run.KeepFault → Rose (D.failed keeper.old) (D.failed keeper.new) }
+    ensures owed { IsErrOf result no_run.KeepFault → is_some (due bare state.old.member runs) ≡ true }
+    ensures able { IsErrOf result no_run.OutOfMemory → fork_of state.old.member ≡ None }
     ensures limit { state.new.writers ≡ state.old.writers }
 {
     match state.check_run() {
@@ -115,7 +119,7 @@ fn keep_close<D: Keeper>(state: &mut State, keeper: &mut D, member: u32) -> Resu
 }
 
 /// Closes the epoch of a member that is up: the record is appended before the call answers.
-#[tactic(auto, using(crate::proofs::Running::close_goes, crate::proofs::Running::close_refused, crate::proofs::Running::close_stays, crate::proofs::Running::close_called, crate::proofs::Running::closed_called))]
+#[tactic(auto, using(crate::proofs::Running::close_goes, crate::proofs::Running::close_refused, crate::proofs::Running::close_stays, crate::proofs::Running::close_called, crate::proofs::Running::closed_called, crate::proofs::Running::close_owed))]
 pub(crate) fn close<D: Keeper>(
     state: &mut State,
     keeper: &mut D,
@@ -128,6 +132,8 @@ pub(crate) fn close<D: Keeper>(
     ensures width { D.width keeper.new ≡ D.width keeper.old }
     ensures later { D.failed keeper.old ≤ D.failed keeper.new }
     ensures fault { IsErrOf result no_close.KeepFault → Rose (D.failed keeper.old) (D.failed keeper.new) }
+    ensures owed { IsErrOf result no_close.KeepFault → is_some (due bare state.old.member closes) ≡ true }
+    ensures able { IsErrOf result no_close.OutOfMemory → fork_of state.old.member ≡ None }
     ensures limit { state.new.writers ≡ state.old.writers }
 {
     match state.check_close() {

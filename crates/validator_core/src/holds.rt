@@ -42,6 +42,7 @@ impl State {
     pub(crate) fn check_hold(&self) -> Result<(), HoldRefusal>
         ensures value { result ≡ unless_refused (hold_stopped self.now.member) tt }
         ensures room { IfOk result (λ _. nat_le record_limit self.now.member.records ≡ false) }
+        ensures calm { IfOk result (λ _. fork_of self.now.member ≡ None) }
         ensures never { IsErrOf result no_hold.KeepFault → ⊥ }
     {
         if let Some((first, second)) = self.fork() {
@@ -126,6 +127,7 @@ impl State {
         ensures held { IfOk result (λ h. IsHeldAs self.now.member h.0 h.1) }
         ensures short { IfOk result (λ h. certificate.short h.0) }
         ensures room { IfOk result (λ _. nat_le record_limit self.now.member.records ≡ false) }
+        ensures calm { IfOk result (λ _. fork_of self.now.member ≡ None) }
         ensures never { IsErrOf result no_hold.KeepFault → ⊥ }
         ensures able { IsErrOf result no_hold.OutOfMemory → fork_of self.now.member ≡ None }
     {

@@ -1,10 +1,12 @@
 //! Runs and the close of an epoch, and the records of runs.
 
-ghost use Rattle.std.specs.Prelude.{◌≡◌, ◌<◌, ◌≤◌, [], IfOk, IfSome, OnOk, false, nat_le, true};
+ghost use Rattle.std.specs.Prelude.{◌≡◌, ◌<◌, ◌≤◌, [], IfOk, IfSome, IsErrOf, None, OnOk, false, nat_le, true};
 ghost use Rattle.journal_core.specs.Records as journals;
 ghost use Rattle.protocol_spec.specs.Chain.Words.{unless_refused};
 ghost use Rattle.protocol_spec.specs.Member.Calls.{ran_as, ran_items, ran_record, record_limit};
-ghost use Rattle.protocol_spec.specs.Member.Member.{books, with_rounds};
+ghost use Rattle.protocol_spec.specs.Member.Member.{books, fork_of, with_rounds};
+ghost use Rattle.answer_types.specs.declared.refusals.CloseRefusal.TheVariants as no_close;
+ghost use Rattle.answer_types.specs.declared.refusals.RunRefusal.TheVariants as no_run;
 ghost use Rattle.protocol_spec.specs.Member.Rounds.{rounds};
 ghost use Rattle.validator_core.specs.Answers.{close_stopped, run_stopped};
 ghost use Rattle.validator_core.specs.Steps.{item_of, items_after, items_of};
@@ -100,6 +102,9 @@ impl State {
     pub fn check_run(&self) -> Result<(), RunRefusal>
         ensures value { result ≡ unless_refused (run_stopped self.now.member) tt }
         ensures room { IfOk result (λ _. nat_le record_limit self.now.member.records ≡ false) }
+        ensures calm { IfOk result (λ _. fork_of self.now.member ≡ None) }
+        ensures never { IsErrOf result no_run.KeepFault → ⊥ }
+        ensures sober { IsErrOf result no_run.OutOfMemory → ⊥ }
     {
         if let Some((first, second)) = self.fork() {
             return Err(RunRefusal::Halted { first, second });
@@ -114,6 +119,9 @@ impl State {
     pub fn check_close(&self) -> Result<(), CloseRefusal>
         ensures value { result ≡ unless_refused (close_stopped self.now.member) tt }
         ensures room { IfOk result (λ _. nat_le record_limit self.now.member.records ≡ false) }
+        ensures calm { IfOk result (λ _. fork_of self.now.member ≡ None) }
+        ensures never { IsErrOf result no_close.KeepFault → ⊥ }
+        ensures sober { IsErrOf result no_close.OutOfMemory → ⊥ }
     {
         if let Some((first, second)) = self.fork() {
             return Err(CloseRefusal::Halted { first, second });

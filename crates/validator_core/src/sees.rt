@@ -1,9 +1,10 @@
 //! Entries of the consensus sequence, over the state of a member.
 
-ghost use Rattle.std.specs.Prelude.{◌≡◌, ◌<◌, ◌≤◌, IfOk, IsErrOf, false, nat_le};
+ghost use Rattle.std.specs.Prelude.{◌≡◌, ◌<◌, ◌≤◌, IfOk, IsErrOf, None, false, is_some, nat_le, true};
 ghost use Rattle.outside.specs.Causes.{Rose};
 ghost use Rattle.journal_core.specs.declared.records.Record.TheVariants as record_as;
 ghost use Rattle.protocol_spec.specs.Chain.Words.{first_some, unless_refused};
+ghost use Rattle.protocol_spec.specs.Member.Member.{fork_of};
 ghost use Rattle.protocol_spec.specs.Member.Calls.{called, due, record_limit, see_answer, see_cases, sees};
 ghost use Rattle.answer_types.specs.declared.refusals.SeeRefusal.TheVariants as no_see;
 ghost use Rattle.scene_spec.specs.Terms.{rules_for};
@@ -29,6 +30,9 @@ impl State {
         ensures value { result ≡ unless_refused (first_some (see_cases self.now.member number)) tt }
         ensures room { IfOk result (λ _. nat_le record_limit self.now.member.records ≡ false) }
         ensures unended { IfOk result (λ _. self.now.member.sequence.ended ≡ false) }
+        ensures calm { IfOk result (λ _. fork_of self.now.member ≡ None) }
+        ensures never { IsErrOf result no_see.KeepFault → ⊥ }
+        ensures sober { IsErrOf result no_see.OutOfMemory → ⊥ }
     {
         if let Some((first, second)) = self.fork() {
             return Err(SeeRefusal::Halted { first, second });
@@ -71,6 +75,7 @@ fn keep_entry<D: Keeper>(
 }
 
 /// Hands the next entry of its sequence to a member that is up: the record is appended before the call answers.
+#[tactic(auto, using(crate::proofs::Seeing::see_owed))]
 pub(crate) fn see<D: Keeper, S: Sealer>(
     state: &mut State,
     keeper: &mut D,
@@ -88,6 +93,8 @@ pub(crate) fn see<D: Keeper, S: Sealer>(
     ensures width { D.width keeper.new ≡ D.width keeper.old }
     ensures later { D.failed keeper.old ≤ D.failed keeper.new }
     ensures fault { IsErrOf result no_see.KeepFault → Rose (D.failed keeper.old) (D.failed keeper.new) }
+    ensures owed { IsErrOf result no_see.KeepFault → is_some (due (rules_for (terms_at state.old committee.now) (S.accepts sealer.now)) state.old.member (sees number bytes.now)) ≡ true }
+    ensures able { IsErrOf result no_see.OutOfMemory → fork_of state.old.member ≡ None }
 {
     match state.check_see(number) {
         Ok(()) => {}

@@ -1,9 +1,10 @@
 //! The turn to the next epoch, over the state of a member.
 
-ghost use Rattle.std.specs.Prelude.{◌≡◌, ◌<◌, ◌≤◌, IfOk, IsErrOf, false, nat_le};
+ghost use Rattle.std.specs.Prelude.{◌≡◌, ◌<◌, ◌≤◌, IfOk, IsErrOf, None, false, is_some, nat_le, true};
 ghost use Rattle.outside.specs.Causes.{Rose};
 ghost use Rattle.journal_core.specs.declared.records.Record.TheVariants as record_as;
 ghost use Rattle.protocol_spec.specs.Chain.Words.{first_some, unless_refused};
+ghost use Rattle.protocol_spec.specs.Member.Member.{fork_of};
 ghost use Rattle.protocol_spec.specs.Member.Calls.{called, due, record_limit, turn_answer, turn_cases, turns};
 ghost use Rattle.protocol_spec.specs.Member.Replay.{is_allowed};
 ghost use Rattle.answer_types.specs.declared.refusals.TurnRefusal.TheVariants as no_turn;
@@ -28,7 +29,9 @@ impl State {
     pub(crate) fn check_turn(&self) -> Result<(), TurnRefusal>
         ensures value { result ≡ unless_refused (first_some (turn_cases self.now.member)) tt }
         ensures room { IfOk result (λ _. nat_le record_limit self.now.member.records ≡ false) }
+        ensures calm { IfOk result (λ _. fork_of self.now.member ≡ None) }
         ensures never { IsErrOf result no_turn.KeepFault → ⊥ }
+        ensures sober { IsErrOf result no_turn.OutOfMemory → ⊥ }
     {
         if let Some((first, second)) = self.fork() {
             return Err(TurnRefusal::Halted { first, second });
@@ -74,7 +77,7 @@ fn keep_turn<D: Keeper>(alloc: Global, keeper: &mut D, member: u32) -> Result<()
 }
 
 /// Turns a member that is up to the next epoch: the record is appended before the call answers.
-#[tactic(auto, using(crate::proofs::Turned::turn_refused, crate::proofs::Turned::turn_stays, crate::proofs::Turned::turn_goes, crate::proofs::Turned::turn_called))]
+#[tactic(auto, using(crate::proofs::Turned::turn_refused, crate::proofs::Turned::turn_stays, crate::proofs::Turned::turn_goes, crate::proofs::Turned::turn_called, crate::proofs::Turned::turn_owed))]
 pub(crate) fn turn<D: Keeper>(
     state: &mut State,
     keeper: &mut D,
@@ -87,6 +90,8 @@ pub(crate) fn turn<D: Keeper>(
     ensures width { D.width keeper.new ≡ D.width keeper.old }
     ensures later { D.failed keeper.old ≤ D.failed keeper.new }
     ensures fault { IsErrOf result no_turn.KeepFault → Rose (D.failed keeper.old) (D.failed keeper.new) }
+    ensures owed { IsErrOf result no_turn.KeepFault → is_some (due bare state.old.member turns) ≡ true }
+    ensures able { IsErrOf result no_turn.OutOfMemory → fork_of state.old.member ≡ None }
     ensures limit { state.new.writers ≡ state.old.writers }
 {
     match state.check_turn() {

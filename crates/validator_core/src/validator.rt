@@ -214,7 +214,7 @@ impl Validator {
     /// `WrongEpoch`; then a certificate that is held comes again; `Closed`, `Cert`, `KeepFault`, `Fork`. The record
     /// is appended before the call answers. Behind `KeepFault` and want of memory the member is down; behind
     /// `Fork` it is halted.
-    #[tactic(auto, using(crate::proofs::Settling::hold_settles, crate::proofs::Settling::hold_at, crate::proofs::Settling::hold_due_at, crate::proofs::Settling::down_keeps))]
+    #[tactic(auto, using(crate::proofs::Settling::hold_settles, crate::proofs::Settling::hold_at, crate::proofs::Settling::hold_due_at, crate::proofs::Settling::owed_at, crate::proofs::Settling::down_keeps))]
     pub fn hold<D: Keeper, S: Sealer>(
         &mut self,
         keeper: &mut D,
@@ -228,6 +228,8 @@ impl Validator {
         ensures width { D.width keeper.new ≡ D.width keeper.old }
         ensures later { D.failed keeper.old ≤ D.failed keeper.new }
         ensures fault { IsErrOf result no_hold.KeepFault → Rose (D.failed keeper.old) (D.failed keeper.new) }
+        ensures owed { IsErrOf result no_hold.KeepFault → is_some (due_at (rules_of_seat self.old (S.accepts sealer.now)) self.old (holds bytes.now)) ≡ true }
+        ensures able { IsErrOf result no_hold.OutOfMemory → (self.old.up ≡ true) × (fork_of self.old.state ≡ None) }
     {
         if !self.up {
             return Err(HoldRefusal::Down);
@@ -249,7 +251,7 @@ impl Validator {
     /// `Over` where the end of the epoch was seen, `Gap` where `number` is not that of the entries seen, `KeepFault`,
     /// `Fork`. The record is appended before the call answers, whatever the entry is. Behind `KeepFault` and want of
     /// memory the member is down; behind `Fork` it is halted.
-    #[tactic(auto, using(crate::proofs::Seeing::see_settles, crate::proofs::Seeing::see_at, crate::proofs::Seeing::see_due_at, crate::proofs::Settling::down_keeps))]
+    #[tactic(auto, using(crate::proofs::Seeing::see_settles, crate::proofs::Seeing::see_at, crate::proofs::Seeing::see_due_at, crate::proofs::Settling::owed_at, crate::proofs::Settling::down_keeps))]
     pub fn see<D: Keeper, S: Sealer>(
         &mut self,
         keeper: &mut D,
@@ -264,6 +266,8 @@ impl Validator {
         ensures width { D.width keeper.new ≡ D.width keeper.old }
         ensures later { D.failed keeper.old ≤ D.failed keeper.new }
         ensures fault { IsErrOf result no_see.KeepFault → Rose (D.failed keeper.old) (D.failed keeper.new) }
+        ensures owed { IsErrOf result no_see.KeepFault → is_some (due_at (rules_of_seat self.old (S.accepts sealer.now)) self.old (sees number bytes.now)) ≡ true }
+        ensures able { IsErrOf result no_see.OutOfMemory → (self.old.up ≡ true) × (fork_of self.old.state ≡ None) }
     {
         if !self.up {
             return Err(SeeRefusal::Down);
@@ -286,7 +290,7 @@ impl Validator {
     /// completes. The certificates are executed by 1 to 16 workers in threads, and the gate is told of each execution;
     /// what they come to is the same for any number of workers, whatever the order of their steps. Order of the refusals: `Down`, `Halted`, `Full`, `KeepFault`. The record of a run that executed
     /// something is appended before the call answers. Behind `KeepFault` and want of memory the member is down.
-    #[tactic(auto, using(crate::proofs::Running::run_settles, crate::proofs::Running::run_at, crate::proofs::Running::run_due_at, crate::proofs::Settling::down_keeps))]
+    #[tactic(auto, using(crate::proofs::Running::run_settles, crate::proofs::Running::run_at, crate::proofs::Running::run_due_at, crate::proofs::Running::run_owed_at, crate::proofs::Settling::down_keeps))]
     pub fn run<R: Threads + Sync, D: Keeper, G: Gate + Sync>(
         &mut self,
         rt: &R,
@@ -302,6 +306,8 @@ impl Validator {
         ensures width { D.width keeper.new ≡ D.width keeper.old }
         ensures later { D.failed keeper.old ≤ D.failed keeper.new }
         ensures fault { IsErrOf result no_run.KeepFault → Rose (D.failed keeper.old) (D.failed keeper.new) }
+        ensures owed { IsErrOf result no_run.KeepFault → is_some (due_at (bare_rules self.old) self.old runs) ≡ true }
+        ensures able { IsErrOf result no_run.OutOfMemory → (self.old.up ≡ true) × (fork_of self.old.state ≡ None) }
     {
         if !self.up {
             return Err(RunRefusal::Down);
@@ -315,7 +321,7 @@ impl Validator {
     /// and holds no new certificate then (epoch change of Sui Lutris). Order of the refusals: `Down`, `Halted`,
     /// `Full`, `KeepFault`. The record of a close is appended before the call answers. Behind `KeepFault` and want of
     /// memory the member is down.
-    #[tactic(auto, using(crate::proofs::Running::close_settles, crate::proofs::Running::close_at, crate::proofs::Running::close_due_at, crate::proofs::Settling::down_keeps))]
+    #[tactic(auto, using(crate::proofs::Running::close_settles, crate::proofs::Running::close_at, crate::proofs::Running::close_due_at, crate::proofs::Running::close_owed_at, crate::proofs::Settling::down_keeps))]
     pub fn close<D: Keeper>(&mut self, keeper: &mut D) -> Result<bool, CloseRefusal>
         requires known { self.old.member < D.width keeper.old }
         ensures answer { Closes (close_said (bare_rules self.old) self.old) result }
@@ -324,6 +330,8 @@ impl Validator {
         ensures width { D.width keeper.new ≡ D.width keeper.old }
         ensures later { D.failed keeper.old ≤ D.failed keeper.new }
         ensures fault { IsErrOf result no_close.KeepFault → Rose (D.failed keeper.old) (D.failed keeper.new) }
+        ensures owed { IsErrOf result no_close.KeepFault → is_some (due_at (bare_rules self.old) self.old closes) ≡ true }
+        ensures able { IsErrOf result no_close.OutOfMemory → (self.old.up ≡ true) × (fork_of self.old.state ≡ None) }
     {
         if !self.up {
             return Err(CloseRefusal::Down);
@@ -375,7 +383,7 @@ impl Validator {
     /// was not seen, `Waits` with the first admitted transaction that was not executed as it was admitted, `KeepFault`.
     /// The record is appended before the call answers. Behind `KeepFault` and want of memory the member is down. Time
     /// grows with what the epoch executed, wrote and deleted, and not with what is held.
-    #[tactic(auto, using(crate::proofs::Turned::turn_settles, crate::proofs::Turned::turn_at, crate::proofs::Turned::turn_due_at, crate::proofs::Settling::down_keeps))]
+    #[tactic(auto, using(crate::proofs::Turned::turn_settles, crate::proofs::Turned::turn_at, crate::proofs::Turned::turn_due_at, crate::proofs::Turned::turn_owed_at, crate::proofs::Settling::down_keeps))]
     pub fn turn<D: Keeper>(&mut self, keeper: &mut D) -> Result<Seq<Digest>, TurnRefusal>
         requires known { self.old.member < D.width keeper.old }
         ensures answer { Turns (turn_said (bare_rules self.old) self.old) result }
@@ -384,6 +392,8 @@ impl Validator {
         ensures width { D.width keeper.new ≡ D.width keeper.old }
         ensures later { D.failed keeper.old ≤ D.failed keeper.new }
         ensures fault { IsErrOf result no_turn.KeepFault → Rose (D.failed keeper.old) (D.failed keeper.new) }
+        ensures owed { IsErrOf result no_turn.KeepFault → is_some (due_at (bare_rules self.old) self.old turns) ≡ true }
+        ensures able { IsErrOf result no_turn.OutOfMemory → (self.old.up ≡ true) × (fork_of self.old.state ≡ None) }
     {
         if !self.up {
             return Err(TurnRefusal::Down);

@@ -40,6 +40,7 @@ mod turns;
 mod votes;
 mod world;
 
+pub use cert_rules::{CollectRefusal, Finality, collect_acks};
 pub use replay::Replayed;
 pub use reply::{Reply, RestartFault, SeatFault};
 pub use seats::Seats;

@@ -1,4 +1,4 @@
-use Rattle.std.proofs.Common.{refl, ap, sym, subst, ◌∙◌, arith, length}
+use Rattle.std.proofs.Common.{[], ◌∷◌, refl, ap, sym, subst, ◌∙◌, arith, length, length-append}
 use Rattle.steal_board.specs.Boards.{view}
 use Rattle.dag_pool.specs.Work.{NoneLeft}
 use Rattle.dag_pool.specs.Crews.{plan_of}
@@ -27,6 +27,15 @@ returns-in_ok-execute-in-Mine-clause-swept g c =
       all = all_more plan.edges (length plan.jobs) (view c.args.post.now.seat) (view c.execute.new.post.seat) c.args.task (ran.mine ∙ ap (λ v. v.mine) claimed) c.requires.swept.all;
       once = λ _. ran.good.sound.once;
     }
+
+pub returns-in_ok-execute-in-Mine-clause-gained : goal.returns-in_ok-execute-in-Mine-clause-gained
+returns-in_ok-execute-in-Mine-clause-gained g c =
+    ap length (c.in_ok-execute-in-Mine.ensures.mine ∙ ap (λ v. v.mine) (c.claim.ensures.mine c.in-Mine.is)) ∙ length-append (view c.args.post.now.seat).mine (c.args.task ∷ [])
+
+pub returns-in-Taken-clause-gained : goal.returns-in-Taken-clause-gained
+returns-in-Taken-clause-gained g c =
+    let same = ap length (ap (λ v. v.mine) (c.claim.ensures.taken c.in-Taken.is)) in
+    omega (arith, same)
 
 pub returns-in-Taken-clause-none : goal.returns-in-Taken-clause-none
 returns-in-Taken-clause-none g c =
