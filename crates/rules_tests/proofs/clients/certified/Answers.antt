@@ -5,7 +5,7 @@ use Rattle.wire_bcs.specs.Shapes.{seq}
 use Rattle.chain_types.specs.declared.transactions.Transaction.{Transaction}
 use Rattle.chain_types.specs.Objects.{object_id, address, object_ref}
 use Rattle.chain_types.specs.Transactions.{transaction, input, command}
-use Rattle.rules_tests.proofs.chains.certified.Goals as goal
+use Rattle.rules_tests.proofs.clients.certified.Goals as goal
 
 bare : (t : Transaction) → t.inputs ≡ [] → t.commands ≡ [] → transaction.short t
 unfolding transaction object_ref object_id address digest
