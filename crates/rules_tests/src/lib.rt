@@ -11,6 +11,8 @@ mod followers;
 #[cfg(test)]
 mod leftovers;
 #[cfg(test)]
+mod named;
+#[cfg(test)]
 mod objects;
 #[cfg(test)]
 mod same;
@@ -18,5 +20,3 @@ mod same;
 mod sequences;
 #[cfg(test)]
 mod stores;
-#[cfg(test)]
-mod tables;
