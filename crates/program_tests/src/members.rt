@@ -1,32 +1,42 @@
 //! Members that are a committee by themselves, over the objects of set-up lines.
 
 ghost use Rattle.std.specs.Prelude.{◌≡◌, IfOk, IfSome};
+ghost use Rattle.scene_spec.specs.Starts.{AreApart};
 
 use answer_types::StartRefusal;
-use quorum_core::KeyedSeal;
+use chain_types::Object;
+use quorum_core::{Committee, KeyedSeal};
 use schedule_text::{Setup, read_schedule};
 use std::alloc::Global;
 use validator_core::Validator;
 use wire_bcs::{OutOfMemory, Seq};
-use world_core::World;
+use world_names::opening_of;
 
 /// The seals of the tests, under the program's secret.
 pub(crate) fn sealer() -> KeyedSeal {
     KeyedSeal::new([90; 32])
 }
 
-/// Member 0 of a world, from at most 64 records.
-fn started_in(alloc: Global, world: &World, kept: &Seq<Seq<u8>>) -> Result<Validator, StartRefusal>
+/// Member 0, from at most 64 records.
+fn started_from(
+    alloc: Global,
+    opening: &Seq<Object>,
+    kept: &Seq<Seq<u8>>,
+) -> Result<Validator, StartRefusal>
+    requires { AreApart opening.now }
     ensures { IfOk result (λ member. member.member ≡ 0) }
 {
     if kept.len() > 64 {
         return Err(StartRefusal::OutOfMemory);
     }
-    let (committee, opening) = (world.committee(), world.opening());
-    Validator::start(alloc, 0, committee, opening, None, kept, &sealer())
+    let Ok(committee) = Committee::new([1].as_slice()) else {
+        return Err(StartRefusal::OutOfMemory);
+    };
+    Validator::start(alloc, 0, &committee, opening, None, kept, &sealer())
 }
 
-/// The same of the world of set-up lines.
+/// The same over the objects of set-up lines.
+#[tactic(auto, using(world_names::proofs::Opened::opening_apart))]
 fn started_over(
     alloc: Global,
     setup: &Seq<Setup>,
@@ -34,12 +44,10 @@ fn started_over(
 ) -> Result<Validator, StartRefusal>
     ensures { IfOk result (λ member. member.member ≡ 0) }
 {
-    let Ok(world) = World::new(alloc, setup.as_slice(), &sealer()) else {
+    let Ok(opening) = opening_of(alloc, setup.as_slice()) else {
         return Err(StartRefusal::OutOfMemory);
     };
-    let started = started_in(alloc, &world, kept);
-    drop(world);
-    started
+    started_from(alloc, &opening, kept)
 }
 
 /// The same of the set-up that a text is. What is no set-up starts no member, as if memory were refused.
