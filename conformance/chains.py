@@ -76,6 +76,10 @@ def cases():
     yield "not-included", chain([link(0, 0, ZERO, [(OTHER, EFFECTS)])]), "certified 1 not included", 0, "The checkpoint lists another transaction."
     again = link(0, 1, FIRST[1], [(TX, EFFECTS)])
     yield "first-of-two", chain([FIRST, again]), "certified 2 included in 0", 0, "Where two checkpoints list it, the first is named."
+    begun = link(0, 0, ZERO, [(OTHER, EFFECTS)])
+    ended = link(0, 1, begun[1], last=True)
+    third = link(1, 2, ended[1], [(TX, EFFECTS)])
+    yield "included-in-the-third", chain([begun, ended, third]), "certified 3 included in 2", 0, "The number of the checkpoint that lists it is its place in the whole chain, over the epochs."
     yield "all-members", chain([link(0, 0, ZERO, members=(0, 1, 2, 3))]), "certified 1 not included", 0, "More seals than a quorum are as good."
     yield "no-bytes", b"", "refused malformed at 0 why 1", 8, "No bytes at all are no chain."
     yield "cut", two[:-1], f"refused malformed at {len(two) - 32} why 1", 8, "One byte of the last seal is missing."

@@ -28,6 +28,12 @@ def names_of_programs(top=TOP):
     return sorted((it for it in uses(top) if is_program(it, top)), key=lambda it: (it != NAME, it))
 
 
+def is_static(name, top=TOP):
+    """Whether crates.txt calls the crate a static library."""
+    with open(f"{top}/crates.txt", encoding="utf-8") as it:
+        return any(line.partition(":")[0].split() == [name, "staticlib"] for line in it)
+
+
 def needed(name=NAME, top=TOP):
     """The crate and all crates below it, each after those that it names."""
     known, found = uses(top), []

@@ -29,4 +29,5 @@ PARTS = (
     Part("chains into check", ("tools/chains", "--ours"), BOTH),
     Part("examples of the manual", ("tools/check_manual", "--ours"), COMMITTEE),
     Part("plain program", ("tools/baseline", "--check")),
+    Part("library for C and Python", ("tools/test_library", "--check")),
 )

@@ -11,9 +11,9 @@ import subprocess
 import tempfile
 
 import kept
-from crates import NAME, TOP, files_of, is_program, kit, names_of_programs, needed, sources_sum, sum_of_file, uses
+from crates import NAME, TOP, files_of, is_program, is_static, kit, names_of_programs, needed, sources_sum, sum_of_file, uses
 
-__all__ = ["NAME", "TOP", "files_of", "is_program", "kit", "names_of_programs", "needed", "sources_sum", "uses"]
+__all__ = ["NAME", "TOP", "files_of", "is_program", "is_static", "kit", "names_of_programs", "needed", "sources_sum", "uses"]
 SECONDS = 600
 NO_PROGRAM = "there is no proved program of these sources: ./prove builds it (an hour or so), --unproved takes the unproved build"
 WORDS = """--ours        the proved program of these sources if it stands here, else the unproved build

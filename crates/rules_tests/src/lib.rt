@@ -1,40 +1,22 @@
-//! Tests of the rules: tables, shapes, locks, stores, votes, certificates, admission, rounds, checkpoints and Ends; and of
-//! who checks or follows checkpoints.
+//! Tests of what no program shows of the rules: tables, books, stores, cuts, leftovers, followers, and calls
+//! for clients.
 #![tactic(auto)]
 
 #[cfg(test)]
-mod admissions;
+mod books;
 #[cfg(test)]
-mod certificates;
-#[cfg(test)]
-mod chains;
-#[cfg(test)]
-mod checkpoints;
-#[cfg(test)]
-mod decisions;
-#[cfg(test)]
-mod desks;
-#[cfg(test)]
-mod ends;
-#[cfg(test)]
-mod epochs;
+mod clients;
 #[cfg(test)]
 mod followers;
 #[cfg(test)]
-mod holders;
+mod leftovers;
 #[cfg(test)]
-mod locks;
+mod named;
 #[cfg(test)]
-mod names;
+mod objects;
 #[cfg(test)]
-mod rounds;
+mod same;
 #[cfg(test)]
-mod rows;
-#[cfg(test)]
-mod shapes;
-#[cfg(test)]
-mod shared_rounds;
+mod sequences;
 #[cfg(test)]
 mod stores;
-#[cfg(test)]
-mod votes;

@@ -1,39 +1,17 @@
-//! A store of two objects, and one transaction.
+//! A store of three coins and two transactions: what it has, what is undone, and what the next epoch opens with.
 
 ghost use Rattle.std.specs.Prelude.{◌≡◌, [], IfOk};
 ghost use Rattle.version_store.specs.Stores.{are_new};
 
-use chain_types::{Address, Content, Object, ObjectId, ObjectKey, Owner, Producer};
+use crate::objects::{coin, digest, id, key};
+use crate::same::{holds, same};
+use chain_types::{Object, ObjectId, ObjectKey, Producer};
 use digest_core::Digest;
 use effects_core::{Effects, HashedEffects, Status};
 use std::alloc::Global;
 use std::process::Abort;
-use std::test::Fail;
 use version_store::Store;
 use wire_bcs::{OutOfMemory, Seq};
-
-pub(crate) fn id(byte: u8) -> ObjectId {
-    ObjectId(Digest([byte; 32]))
-}
-
-pub(crate) fn coin(byte: u8, version: u64, balance: u64) -> Object {
-    Object {
-        id: id(byte),
-        version,
-        owner: Owner::Address(Address(Digest([7; 32]))),
-        content: Content::Coin {
-            currency: 0,
-            balance,
-        },
-    }
-}
-
-pub(crate) fn key(byte: u8, version: u64) -> ObjectKey {
-    ObjectKey {
-        id: id(byte),
-        version,
-    }
-}
 
 /// Whether none of these objects stands there twice.
 #[tactic(auto, unfolding(protocol_spec::specs::Member::Versions::versions))]
@@ -55,27 +33,25 @@ pub(crate) fn opened(alloc: Global, objects: &[Object]) -> Result<Option<Store>,
     Ok(Some(Store::opening(alloc, &objects)?))
 }
 
-/// What the transaction did: the coin 2 went into the coin 1, and the coin 0 was made.
-fn effects(alloc: Global) -> Result<Effects, OutOfMemory> {
-    Ok(Effects {
-        tx: Digest([9; 32]),
+/// Whether the store took the execution of a transaction that deleted these.
+pub(crate) fn takes(
+    alloc: Global,
+    store: &mut Store,
+    tx: u8,
+    objects: &[Object],
+    consumed: &[ObjectKey],
+    deleted: &[ObjectId],
+) -> Result<bool, OutOfMemory> {
+    let effects = Effects {
+        tx: digest(tx),
         status: Status::Done,
         version: 4,
         gas: 1000,
         created: 1,
         written: Seq::new(alloc),
-        deleted: Seq::from_slice(alloc, [id(2)].as_slice())?,
-    })
-}
-
-/// Whether the store took the execution.
-fn takes(
-    alloc: Global,
-    store: &mut Store,
-    objects: &[Object],
-    consumed: &[ObjectKey],
-) -> Result<bool, OutOfMemory> {
-    let effects = HashedEffects::new(alloc, effects(alloc)?)?;
+        deleted: Seq::from_slice(alloc, deleted)?,
+    };
+    let effects = HashedEffects::new(alloc, effects)?;
     let objects = Seq::from_slice(alloc, objects)?;
     if store.is_executed(&effects.effects().tx) || !store.are_new(&objects)? {
         return Ok(false);
@@ -84,159 +60,196 @@ fn takes(
     Ok(true)
 }
 
-/// Whether the store took the transaction, which consumed both coins of the opening.
-fn takes_both(alloc: Global, store: &mut Store) -> Result<bool, OutOfMemory> {
-    let after = [coin(1, 4, 540), coin(0, 4, 10)];
+/// Whether the store took the transaction 9, which moved the coin 2 into the coin 1 and made the coin 0.
+fn takes_join(alloc: Global, store: &mut Store) -> Result<bool, OutOfMemory> {
+    let joined = [coin(1, 4, 540), coin(0, 4, 10)];
     let consumed = [key(1, 1), key(2, 3)];
-    takes(alloc, store, after.as_slice(), consumed.as_slice())
+    let deleted = [id(2)];
+    takes(
+        alloc,
+        store,
+        9,
+        joined.as_slice(),
+        consumed.as_slice(),
+        deleted.as_slice(),
+    )
 }
 
-/// The store, where this was taken.
-pub(crate) fn if_taken(
-    store: Store,
-    taken: Result<bool, OutOfMemory>,
-) -> Result<Option<Store>, OutOfMemory> {
-    match taken {
-        Ok(true) => Ok(Some(store)),
-        Ok(false) => {
-            drop(store);
-            Ok(None)
-        }
-        Err(OutOfMemory) => {
-            drop(store);
-            Err(OutOfMemory)
-        }
-    }
+/// Whether the store took the transaction 8, which wrote the coin 3.
+fn takes_spent(alloc: Global, store: &mut Store) -> Result<bool, OutOfMemory> {
+    let spent = [coin(3, 2, 6)];
+    let consumed = [key(3, 1)];
+    takes(alloc, store, 8, spent.as_slice(), consumed.as_slice(), &[])
 }
 
-/// The store behind that transaction.
-fn behind(alloc: Global) -> Result<Option<Store>, OutOfMemory> {
-    let before = [coin(1, 1, 500), coin(2, 3, 50)];
-    match opened(alloc, before.as_slice())? {
-        Some(mut store) => {
-            let taken = takes_both(alloc, &mut store);
-            if_taken(store, taken)
-        }
-        None => Ok(None),
-    }
-}
-
-fn store_behind(alloc: Global) -> Result<Store, Fail> {
-    match behind(alloc)? {
-        Some(store) => Ok(store),
-        None => Err(Fail::new("the versions are new")),
-    }
-}
-
-/// Tests what the store says of versions.
-fn expect_versions(rt: &impl Abort, store: &Store) {
-    assert_eq!(rt; store.get(&key(1, 1)), Some(&coin(1, 1, 500)));
-    assert_eq!(rt; store.get(&key(1, 4)), Some(&coin(1, 4, 540)));
-    assert_eq!(rt; store.get(&key(1, 2)), None);
-}
-
-#[test]
-fn versions_stay(rt: HostRuntime) -> Result<(), Fail> {
-    let store = store_behind(rt.alloc())?;
-    expect_versions(&rt, &store);
-    drop(store);
-    Ok(())
-}
-
-/// Tests who made versions.
-fn expect_producers(rt: &impl Abort, store: &Store) {
-    assert_eq!(rt; store.producer(&key(2, 3)), Some(Producer::Opening));
-    assert_eq!(rt;
+/// Tests what the store of three coins has after the transaction 9, which it takes once.
+fn expect_kept(rt: &impl Abort, alloc: Global, store: &mut Store) -> Result<(), OutOfMemory> {
+    holds(rt, takes_join(alloc, store)?);
+    same(rt, store.get(&key(1, 1)).copied(), Some(coin(1, 1, 500)));
+    same(rt, store.get(&key(1, 4)).copied(), Some(coin(1, 4, 540)));
+    same(rt, store.get(&key(1, 2)).copied(), None);
+    same(rt, store.producer(&key(2, 3)), Some(Producer::Opening));
+    same(
+        rt,
         store.producer(&key(0, 4)),
-        Some(Producer::Tx(Digest([9; 32])))
+        Some(Producer::Tx(digest(9))),
     );
-    assert_eq!(rt; store.producer(&key(0, 3)), None);
-}
-
-#[test]
-fn who_made_a_version(rt: HostRuntime) -> Result<(), Fail> {
-    let store = store_behind(rt.alloc())?;
-    expect_producers(&rt, &store);
-    drop(store);
+    same(rt, store.producer(&key(0, 3)), None);
+    same(rt, store.consumer(&key(2, 3)), Some(digest(9)));
+    same(rt, store.consumer(&key(0, 4)), None);
+    same(rt, store.live(&id(1)).copied(), Some(coin(1, 4, 540)));
+    same(rt, store.live(&id(2)).copied(), None);
+    holds(rt, store.has(&id(2)));
+    holds(rt, !store.has(&id(4)));
+    holds(rt, store.is_executed(&digest(9)));
+    same(rt, takes(alloc, store, 9, &[], &[], &[]), Ok(false));
     Ok(())
 }
 
-/// Tests who consumed versions.
-fn expect_consumers(rt: &impl Abort, store: &Store) {
-    assert_eq!(rt; store.consumer(&key(2, 3)), Some(Digest([9; 32])));
-    assert_eq!(rt; store.consumer(&key(0, 4)), None);
+/// The version of a live object, 0 where it does not live.
+fn live_version(store: &Store, byte: u8) -> u64 {
+    match store.live(&id(byte)) {
+        Some(object) => object.version,
+        None => 0,
+    }
 }
 
-#[test]
-fn who_consumed_a_version(rt: HostRuntime) -> Result<(), Fail> {
-    let store = store_behind(rt.alloc())?;
-    expect_consumers(&rt, &store);
-    drop(store);
+/// The versions of the live objects 0 to 3.
+fn live_versions(store: &Store) -> [u64; 4] {
+    [
+        live_version(store, 0),
+        live_version(store, 1),
+        live_version(store, 2),
+        live_version(store, 3),
+    ]
+}
+
+/// The first bytes of digests, as the digits of a number.
+fn digits(txs: &Seq<Digest>) -> u64 {
+    let mut number = 0u64;
+    for tx in txs.as_slice() {
+        number = number.wrapping_mul(10).wrapping_add(u64::from(tx.0[0]));
+    }
+    number
+}
+
+/// Undoes what is not kept, and answers which transactions that was.
+fn undo(alloc: Global, store: &mut Store, kept: &[Digest]) -> Result<u64, OutOfMemory> {
+    let undone = store.revert_to(&Seq::from_slice(alloc, kept)?)?;
+    Ok(digits(&undone))
+}
+
+/// Whether these are the objects that the transaction 9 left, by ascending id.
+fn are_left(store: &Store) -> Result<bool, OutOfMemory> {
+    let live = store.live_list()?;
+    Ok(live.as_slice() == [coin(0, 4, 10), coin(1, 4, 540), coin(3, 1, 7)].as_slice())
+}
+
+/// Tests that what stands in no checkpoint is undone, and that the next epoch opens with what lives, and nothing else.
+fn expect_turned(rt: &impl Abort, alloc: Global, store: &mut Store) -> Result<(), OutOfMemory> {
+    let kept = [digest(9)];
+    holds(rt, takes_spent(alloc, store)?);
+    same(rt, undo(alloc, store, kept.as_slice())?, 8);
+    same(rt, live_versions(store), [4, 4, 0, 1]);
+    store.turn()?;
+    holds(rt, are_left(store)?);
+    same(rt, store.get(&key(1, 1)).copied(), None);
+    same(rt, store.get(&key(2, 3)).copied(), None);
+    holds(rt, !store.has(&id(2)));
+    holds(rt, !store.is_executed(&digest(9)));
+    same(rt, store.consumer(&key(1, 1)), None);
     Ok(())
 }
 
-/// Tests which objects live, and which are known.
-fn expect_living(rt: &impl Abort, store: &Store) {
-    assert_eq!(rt; store.live(&id(1)), Some(&coin(1, 4, 540)));
-    assert_eq!(rt; store.live(&id(2)), None);
-    assert!(rt; store.has(&id(2)));
-    assert!(rt; !store.has(&id(3)));
-}
-
-#[test]
-fn the_newest_lives_unless_deleted(rt: HostRuntime) -> Result<(), Fail> {
-    let store = store_behind(rt.alloc())?;
-    expect_living(&rt, &store);
-    drop(store);
+/// Tests a second epoch, in which another transaction 9 spent the coin 3 and deleted the coin 0.
+fn expect_turned_again(
+    rt: &impl Abort,
+    alloc: Global,
+    store: &mut Store,
+) -> Result<(), OutOfMemory> {
+    let spent = [coin(3, 9, 6)];
+    let deleted = [id(0)];
+    let taken = takes(alloc, store, 9, spent.as_slice(), &[], deleted.as_slice());
+    same(rt, taken, Ok(true));
+    let kept = [digest(9)];
+    same(rt, undo(alloc, store, kept.as_slice()), Ok(0));
+    store.turn()?;
+    same(rt, live_versions(store), [0, 4, 0, 9]);
     Ok(())
 }
 
-/// The live objects of that store.
-fn live_behind(alloc: Global) -> Result<Seq<Object>, Fail> {
-    let store = store_behind(alloc)?;
-    let live = store.live_list();
-    drop(store);
-    Ok(live?)
+/// Tests the store of three coins over two epochs.
+fn expect_all(rt: &impl Abort, alloc: Global, store: &mut Store) -> Result<(), OutOfMemory> {
+    expect_kept(rt, alloc, store)?;
+    expect_turned(rt, alloc, store)?;
+    expect_turned_again(rt, alloc, store)
+}
+
+/// The three coins.
+fn three() -> [Object; 3] {
+    [coin(3, 1, 7), coin(2, 3, 50), coin(1, 1, 500)]
 }
 
 #[test]
-fn live_objects_ascend(rt: HostRuntime) -> Result<(), Fail> {
-    let live = live_behind(rt.alloc())?;
-    assert_eq!(rt;
-        live.as_slice(),
-        [coin(0, 4, 10), coin(1, 4, 540)].as_slice()
-    );
-    Ok(())
-}
-
-/// Tests that the transaction was executed, and is not taken again.
-fn expect_executed(rt: &impl Abort, alloc: Global, store: &mut Store) -> Result<(), Fail> {
-    assert!(rt; store.is_executed(&Digest([9; 32])));
-    assert!(rt; !takes(alloc, store, [].as_slice(), [].as_slice())?);
-    Ok(())
-}
-
-#[test]
-fn a_transaction_is_executed_once(rt: HostRuntime) -> Result<(), Fail> {
+fn a_store_goes_through_two_epochs(rt: HostRuntime) {
     let alloc = rt.alloc();
-    let mut store = store_behind(alloc)?;
-    let said = expect_executed(&rt, alloc, &mut store);
+    let Ok(Some(mut store)) = opened(alloc, three().as_slice()) else {
+        return holds(&rt, false);
+    };
+    let said = expect_all(&rt, alloc, &mut store);
     drop(store);
-    said
+    same(&rt, said, Ok(()));
 }
 
-/// Whether a store opens with these objects.
-fn opens(alloc: Global, objects: &[Object]) -> Result<bool, OutOfMemory> {
-    let store = opened(alloc, objects)?;
-    let opens = store.is_some();
-    drop(store);
-    Ok(opens)
+/// Tests that all is undone where nothing is kept, the oldest told first.
+fn expect_undone(rt: &impl Abort, alloc: Global, store: &mut Store) -> Result<(), OutOfMemory> {
+    holds(rt, takes_join(alloc, store)?);
+    holds(rt, takes_spent(alloc, store)?);
+    same(rt, undo(alloc, store, &[])?, 98);
+    same(rt, live_versions(store), [0, 1, 3, 1]);
+    Ok(())
 }
 
 #[test]
-fn versions_stand_once(rt: HostRuntime) -> Result<(), Fail> {
+fn without_a_checkpoint_all_is_undone(rt: HostRuntime) {
     let alloc = rt.alloc();
-    assert!(rt; !opens(alloc, [coin(1, 1, 5), coin(1, 1, 6)].as_slice())?);
-    assert!(rt; opens(alloc, [coin(1, 1, 5), coin(1, 2, 6)].as_slice())?);
+    let Ok(Some(mut store)) = opened(alloc, three().as_slice()) else {
+        return holds(&rt, false);
+    };
+    let said = expect_undone(&rt, alloc, &mut store);
+    drop(store);
+    same(&rt, said, Ok(()));
+}
+
+/// Tests that of two versions of one object the newer opens the next epoch.
+fn expect_newer(rt: &impl Abort, store: &mut Store) -> Result<(), OutOfMemory> {
+    store.turn()?;
+    same(rt, live_version(store, 1), 2);
+    same(rt, store.get(&key(1, 1)).copied(), None);
     Ok(())
+}
+
+#[test]
+fn of_two_versions_the_newer_opens(rt: HostRuntime) {
+    let alloc = rt.alloc();
+    let Ok(Some(mut store)) = opened(alloc, [coin(1, 2, 5), coin(1, 1, 6)].as_slice()) else {
+        return holds(&rt, false);
+    };
+    let said = expect_newer(&rt, &mut store);
+    drop(store);
+    same(&rt, said, Ok(()));
+}
+
+/// Whether none of these objects stands there twice.
+fn apart(alloc: Global, objects: &[Object]) -> Result<bool, OutOfMemory> {
+    are_apart(alloc, &Seq::from_slice(alloc, objects)?)
+}
+
+#[test]
+fn versions_stand_once(rt: HostRuntime) {
+    let alloc = rt.alloc();
+    let twice = [coin(1, 1, 5), coin(1, 1, 6)];
+    same(&rt, apart(alloc, twice.as_slice()), Ok(false));
+    let once = [coin(1, 1, 5), coin(1, 2, 6)];
+    same(&rt, apart(alloc, once.as_slice()), Ok(true));
 }

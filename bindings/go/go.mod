@@ -1,0 +1,3 @@
+module kothaysu.example/check
+
+go 1.18

@@ -1,0 +1,18 @@
+//! Calls that stop a test: a call costs a tenth of what an assertion costs to prove.
+
+ghost use Rattle.std.specs.Prelude.{◌≡◌, true};
+
+use std::fmt::Debug;
+use std::process::Abort;
+
+/// Stops the test where two values differ.
+pub(crate) fn same<T: PartialEq + Debug + Drop>(rt: &impl Abort, got: T, want: T) {
+    assert_eq!(rt; got, want);
+}
+
+/// Stops the test where a thing does not hold.
+pub(crate) fn holds(rt: &impl Abort, it: bool)
+    ensures { it ≡ true }
+{
+    assert!(rt; it);
+}

@@ -1,0 +1,7 @@
+pub mod Among
+pub mod Sealed
+pub mod Passing
+pub mod Certified
+pub mod Votes
+pub mod Final
+pub mod Rows

@@ -1,0 +1,10 @@
+use Rattle.std.proofs.Common.{◌≡◌, length}
+use Rattle.protocol_spec.specs.Chain.Words.{first_of}
+use Rattle.cert_rules.specs.Parts.{refused_seal}
+use Rattle.light_client.proofs.certificates.first_bad_seal.Given as goal
+
+abbrev pub invariant-loop-rest : goal.invariant-loop-rest
+invariant-loop-rest g l = first_of (refused_seal (g.C.Checker.accepts l.checker) l.bytes) l.rest ≡ first_of (refused_seal (g.C.Checker.accepts l.checker) l.bytes) l.seals
+
+abbrev pub decreases-loop-rest : goal.decreases-loop-rest
+decreases-loop-rest g l = length l.rest

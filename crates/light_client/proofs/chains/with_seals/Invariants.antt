@@ -1,0 +1,10 @@
+use Rattle.std.proofs.Common.{length}
+use Rattle.light_client.proofs.Sealed.{Walks}
+use Rattle.light_client.proofs.chains.with_seals.Given as goal
+
+-- the links that are left come to what all come to
+abbrev pub invariant-loop-rest : goal.invariant-loop-rest
+invariant-loop-rest g l = Walks (g.C.Checker.accepts l.checker) l.links l.place l.bad l.rest
+
+abbrev pub decreases-loop-rest : goal.decreases-loop-rest
+decreases-loop-rest g l = length l.rest

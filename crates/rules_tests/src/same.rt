@@ -1,0 +1,18 @@
+//! Assertions as calls: each call of a macro is proved where it stands, and these once.
+
+ghost use Rattle.std.specs.Prelude.{◌≡◌, true};
+
+use std::fmt::Debug;
+use std::process::Abort;
+
+/// Stops the test where two values differ.
+pub(crate) fn same<T: PartialEq + Debug + Drop>(rt: &impl Abort, got: T, want: T) {
+    assert_eq!(rt; got, want);
+}
+
+/// Stops the test where a thing does not hold.
+pub(crate) fn holds(rt: &impl Abort, it: bool)
+    ensures { it ≡ true }
+{
+    assert!(rt; it);
+}

@@ -1,0 +1,4 @@
+pub mod Alone
+pub mod Reading
+pub mod Keeping
+pub mod Opened

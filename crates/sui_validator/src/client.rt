@@ -1,0 +1,10 @@
+//! A light client: what one who trusts the stakes of a committee alone finds out from bytes.
+//!
+//! Seals are judged by a [`Checker`]: [`AcceptedSeals`] is a set that the caller has verified, [`BySealer`] accepts what a
+//! sealer does.
+
+pub use light_client::{
+    AcceptedSeals, Acknowledged, BySealer, Checker, Listing, Refusal, SealRow, blame_members,
+    check_certificate, check_chain, check_chain_by, check_final, find_transaction,
+    list_acknowledgements, list_certificate, list_chain,
+};

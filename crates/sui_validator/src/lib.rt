@@ -1,0 +1,23 @@
+//! A Sui validator, and what others need of one, under one name.
+//!
+//! - [`types`]: values and their bytes;
+//! - [`node`]: a validator, [`Member`], with its journal and its sealer;
+//! - [`client`]: a light client.
+//!
+//! What a member answers, keeps and becomes is said by one equation a call, over the definitions of the Sui Lutris
+//! protocol: those of `validator_core`, of which this is the edge that requires nothing of a caller.
+#![tactic(auto)]
+
+pub mod client;
+mod errors;
+mod journal;
+mod journals;
+mod member;
+pub mod node;
+mod opening;
+mod records;
+mod sole;
+pub mod types;
+mod workers;
+
+pub use node::{Error, Journal, Member, Workers};

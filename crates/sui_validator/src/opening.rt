@@ -1,0 +1,186 @@
+//! How a member is opened.
+
+ghost use Rattle.std.specs.Prelude.{◌≡◌, ◌++◌, ◌∷◌, ◌<◌, ◌^◌, [], Err, IfErr, IfOk, OnOk, Option, false, length};
+ghost use Rattle.std.specs.List.{list_any};
+ghost use Rattle.chain_types.specs.Equal.{id_eq};
+ghost use Rattle.protocol_spec.specs.Chain.Words.{repeats};
+ghost use Rattle.tx_check.specs.Parts.{repeats_after};
+ghost use Rattle.sui_validator.specs.Journals.{AreAll, Records, Stays};
+ghost use Rattle.sui_validator.specs.Members.{IsOpened, Opens, ids_of};
+ghost use Rattle.sui_validator.specs.declared.opening.OpenRefusal.TheVariants as refusal;
+
+use crate::journal::Journal;
+use crate::member::Member;
+use crate::records::records_of;
+use crate::sole::Sole;
+use answer_types::StartRefusal;
+use chain_types::{Object, ObjectId};
+use indexmap::IndexSet;
+use outside::OutFault;
+use quorum_core::{Committee, Sealer};
+use std::alloc::Global;
+use validator_core::Validator;
+use wire_bcs::{OutOfMemory, Seq};
+
+/// Why a member is not opened, in the order in which the cases are tried.
+#[derive(Clone, Copy, Debug, PartialEq, Eq)]
+pub enum OpenRefusal {
+    /// The committee has so many members, and none of this number.
+    NoMember { number: u32, members: u32 },
+    /// An object comes twice among those that the first epoch opens with.
+    ObjectTwice,
+    /// A record could not be read, and the journal's count of faults rose.
+    ReadFault,
+    /// The first record that does not decode (1), or that no call would have appended (2).
+    BadRecord { place: u64, why: u8 },
+    OutOfMemory,
+}
+
+impl From<OutOfMemory> for OpenRefusal {
+    ghost from_gives = { λ _ given. given ≡ refusal.OutOfMemory };
+
+    fn from(_error: OutOfMemory) -> Self {
+        OpenRefusal::OutOfMemory
+    }
+}
+
+/// The ids of objects.
+fn ids_of(alloc: Global, objects: &[Object]) -> Result<Vec<ObjectId>, OutOfMemory>
+    ensures { IfOk result (λ ids. ids.items ≡ ids_of objects.now) }
+{
+    Ok(objects.iter().map(|object| object.id).collect(alloc)?)
+}
+
+/// Notes an id that was not seen before.
+fn note(seen: &mut IndexSet<ObjectId>, id: ObjectId) -> Result<(), OutOfMemory>
+    requires { list_any (λ other. id_eq id other) seen.old.keys ≡ false }
+    ensures { OnOk result (seen.new.keys ≡ seen.old.keys ++ id ∷ []) }
+{
+    seen.insert(id)?;
+    Ok(())
+}
+
+/// Whether one of the ids comes twice.
+fn has_twice(alloc: Global, ids: &[ObjectId]) -> Result<bool, OutOfMemory>
+    ensures { IfOk result (λ twice. twice ≡ repeats_after [] ids.now) }
+{
+    let mut seen = IndexSet::new(alloc);
+    let mut rest = ids;
+    while let [id, after @ ..] = rest {
+        if seen.contains(id) {
+            return Ok(true);
+        }
+        note(&mut seen, *id)?;
+        rest = after;
+    }
+    Ok(false)
+}
+
+/// Whether one of the objects comes twice.
+#[tactic(auto, using(tx_check::proofs::Twice::repeats_whole))]
+fn comes_twice(alloc: Global, objects: &[Object]) -> Result<bool, OutOfMemory>
+    ensures { IfOk result (λ twice. twice ≡ repeats id_eq (ids_of objects.now)) }
+{
+    let ids = ids_of(alloc, objects)?;
+    has_twice(alloc, &ids)
+}
+
+/// Starts a validator from records that were read.
+fn start_from<S: Sealer>(
+    alloc: Global,
+    number: u32,
+    committee: &Committee,
+    opening: &Seq<Object>,
+    writers: Option<u32>,
+    kept: &Seq<Seq<u8>>,
+    sealer: &S,
+) -> Result<Validator, OpenRefusal>
+    requires apart { repeats id_eq (ids_of opening.now) ≡ false }
+    requires count { length kept.now < 2 ^ 64 }
+    ensures { (before now : Option Records) → AreAll before kept.now → Stays before now → Opens (record { stakes = committee.now; writers = writers }) (S.accepts sealer.now) opening.now number before now result }
+{
+    match Validator::start(alloc, number, committee, opening, writers, kept, sealer) {
+        Ok(validator) => Ok(validator),
+        Err(StartRefusal::BadRecord { place, why }) => Err(OpenRefusal::BadRecord { place, why }),
+        Err(StartRefusal::OutOfMemory) => Err(OpenRefusal::OutOfMemory),
+    }
+}
+
+/// Starts a validator from the records of its journal.
+fn start<J: Journal, S: Sealer>(
+    alloc: Global,
+    number: u32,
+    committee: &Committee,
+    opening: &Seq<Object>,
+    writers: Option<u32>,
+    journal: &mut J,
+    sealer: &S,
+) -> Result<Validator, OpenRefusal>
+    ensures opens { Opens (record { stakes = committee.now; writers = writers }) (S.accepts sealer.now) opening.now number (J.records journal.old) (J.records journal.new) result }
+    ensures below { IfOk result (λ _. number < 64) }
+{
+    if number >= committee.len() {
+        return Err(OpenRefusal::NoMember {
+            number,
+            members: committee.len(),
+        });
+    }
+    if comes_twice(alloc, opening.as_slice())? {
+        return Err(OpenRefusal::ObjectTwice);
+    }
+    match records_of(alloc, journal) {
+        Ok(kept) => {
+            let started = start_from(alloc, number, committee, opening, writers, &kept, sealer);
+            drop(kept);
+            started
+        }
+        Err(OutFault::Failed) => Err(OpenRefusal::ReadFault),
+        Err(OutFault::OutOfMemory) => Err(OpenRefusal::OutOfMemory),
+    }
+}
+
+impl<J: Journal, S: Sealer> Member<J, S> {
+    /// Opens the member of this number from what its journal holds, nothing for a new one: in an epoch 0 that opens with these
+    /// objects, under a limit of writers of one shared object between two marks, or none. The journal stays as it is.
+    pub fn open(
+        alloc: Global,
+        number: u32,
+        committee: &Committee,
+        opening: &Seq<Object>,
+        writers: Option<u32>,
+        journal: J,
+        sealer: S,
+    ) -> Result<Member<J, S>, OpenRefusal>
+    where
+        J: Drop,
+        S: Drop,
+        ensures opened { IfOk result (λ m. IsOpened (record { stakes = committee.now; writers = writers }) (S.accepts sealer) opening.now number (J.records journal) (J.records m.journal) m.seat) }
+        ensures sealer { IfOk result (λ m. m.sealer ≡ sealer) }
+        ensures refused { IfErr result (λ why. (now : Option Records) → Opens (record { stakes = committee.now; writers = writers }) (S.accepts sealer) opening.now number (J.records journal) now (Err why)) }
+    {
+        let mut journal = journal;
+        match start(
+            alloc,
+            number,
+            committee,
+            opening,
+            writers,
+            &mut journal,
+            &sealer,
+        ) {
+            Ok(validator) => Ok(Member {
+                validator,
+                keeper: Sole {
+                    journal,
+                    member: number as u8,
+                },
+                sealer,
+            }),
+            Err(refusal) => {
+                drop(journal);
+                drop(sealer);
+                Err(refusal)
+            }
+        }
+    }
+}
