@@ -331,22 +331,26 @@ fn no_append_or_the_first_one_fails(rt: HostRuntime) {
 }
 
 /// One fresh vote and one fault, at most one vote again and two that are locked, and at least three at a member that is down.
-fn has_one_fault(counts: &Counts) -> bool {
+fn has_one_fault(counts: Counts) -> bool {
     counts[0] == 1 && counts[1] <= 1 && counts[2] <= 2 && counts[3] == 1 && 3 <= counts[4]
 }
 
-/// One vote stands, and the append of the other fails. How many calls are made before that depends on the callers.
-fn has_fallen_second(left: Option<Left>) -> bool {
-    let Some((counts, falls, same)) = left else {
-        return false;
-    };
-    falls && same && has_one_fault(&counts)
+/// Whether one vote stands, and the append of the other fails, where two callers ask. How many calls are made before that
+/// depends on the callers.
+fn second_fails<R: Threads + Wait + Sync>(rt: &R, alloc: Global) -> Option<bool> {
+    let requests = few_requests(alloc).ok()?;
+    let failing = [2];
+    let history = left_by_callers(rt, alloc, 2, failing.as_slice(), requests.as_slice(), 2)?;
+    let calls = history.as_slice();
+    let same = is_replayed(alloc, 2, failing.as_slice(), calls)?;
+    let fails = has_one_fault(counts(calls)) && falls_once(calls) && same;
+    drop(history);
+    Some(fails)
 }
 
 #[test]
 fn the_second_append_fails(rt: HostRuntime) {
-    let left = left_by_two(&rt, rt.alloc(), 2);
-    holds(&rt, has_fallen_second(left));
+    same(&rt, second_fails(&rt, rt.alloc()), Some(true));
 }
 
 /// Of each of 1,000 coins five transactions, each of them twice: 10,000 requests.
