@@ -195,17 +195,52 @@ def starts():
     yield bad("turned-unrun", [SEE_CERT, SEE_END, TURN], 2, "A turn waits for what was ordered and is not executed.")
 
 
-def kept():
-    """What a run leaves in a new file."""
+CERTIFIED = FOUR + b"tx t1 alice 0 g0@1 2000 n:500 a:bob split(gas,i0) transfer(r0,i1)\nvote 0 t1\nvote 1 t1\nvote 2 t1\ncert t1 0 1 2\nsend 0 t1\nrun 0 2\nshow 0\n"
+
+
+def certified():
+    """The records of that schedule."""
     some = transaction(0, ALICE, coin(1, ALICE, 10000), [pure(number(500, 8)), pure(BOB)], SEND_SOME)
     new = digest(b"\x49", digest(b"\x54", some) + number(0, 8))
     made = digest(b"\x4f", new + number(2, 8) + b"\x00" + BOB + b"\x00" + number(0, 8) + number(500, 8))
     wrote = [written(coin(2, ALICE, 8300), ALICE), new + b"\x00" + BOB + made]
     effects = done(some, 1200, 1, wrote)
+    return [(0, vote(some)), (1, vote(some)), (2, vote(some)), (0, hold(some, [0, 1, 2])), (0, ran(some, effects))]
+
+
+def laid(name, rules, words, records, report, status, why):
+    """A case of CERTIFIED in which a file with these records lies there, and stays as it is."""
+    found = {"name": f"journal/{name}", "rules": rules, "why": why, "schedule": CERTIFIED, "words": words}
+    return {**found, "records": records, "after": records, "report": report, "status": status}
+
+
+def not_taken():
+    """Files that are not taken, and the one that a run left, started from."""
+    whole = certified()
+    run, check, desk = "run in journal", f"check 1,1,1,1 {'11' * 32} in journal", "desk 2 in journal"
+    shown = "restart 0: records 3\nshow 0: epoch 0 objects 2\n  g0 v2 alice coin 0 8300\n  ? v2 ? coin 0 500\n"
+    full = "journal: not empty\n"
+    yield laid("run-again", "journal.not-empty", run, whole, full, 8, "A file with records is not run into again.")
+    yield laid("check-beside-records", "journal.not-empty", check, whole[:1], full, 8, "No other command takes a file with a record either, though it would keep none.")
+    yield laid("desk-beside-records", "journal.not-empty", desk, whole[:1], full, 8, "The desk, which has a keeper of its own, does not take it.")
+    yield laid("replayed-behind-a-run", "replay.started", "replay 0 in journal", whole, shown, 0, "Member 0 starts from the file that the run left; bob, whom no line of the set-up names, is `?`, and so is the object that the run made.")
+    of_64, of_65, of_63 = [*whole[:2], (64, CLOSE)], [(0, VOTE), (65, VOTE), (64, CLOSE)], [(0, CLOSE), (63, CLOSE)]
+    for name, words in (("replay", "replay 0 in journal"), ("run", run)):
+        at = len(journal(of_64[:2])) - 1
+        yield laid(f"bad-member-behind-two-{name}", "journal.bad-member", words, of_64, f"journal: bad member at {at}\n", 8, f"There is no member 64: the record's gate is named. The command is `{name}`.")
+    at = len(journal(of_65[:1])) - 1
+    yield laid("bad-member-the-first-of-two", "journal.bad-member", "replay 0 in journal", of_65, f"journal: bad member at {at}\n", 8, "Two records are of members that no committee has; the first is named.")
+    yield laid("bad-member-at-the-start", "journal.bad-member", run, [(4294967295, CLOSE)], "journal: bad member at 0\n", 8, "The first record is of the greatest number that is written there.")
+    opened = "restart 0: records 1\nshow 0: epoch 0 objects 1\n  g0 v1 alice coin 0 10000\n"
+    yield laid("highest-member-of-a-file", "journal.bad-member replay.started", "replay 0 in journal", of_63, opened, 0, "Member 63 is the last that a file may have records of, whatever the schedule's committee.")
+
+
+def kept():
+    """What a run leaves in a new file."""
     yield {
         "name": "journal/certified", "rules": "journal.kept", "why": "The records of three votes, a certificate and a run, of all members in one file, in the order in which they were kept.",
-        "schedule": FOUR + b"tx t1 alice 0 g0@1 2000 n:500 a:bob split(gas,i0) transfer(r0,i1)\nvote 0 t1\nvote 1 t1\nvote 2 t1\ncert t1 0 1 2\nsend 0 t1\nrun 0 2\nshow 0\n",
-        "after": [(0, vote(some)), (1, vote(some)), (2, vote(some)), (0, hold(some, [0, 1, 2])), (0, ran(some, effects))], "status": 0,
+        "schedule": CERTIFIED,
+        "after": certified(), "status": 0,
         "report": "tx t1: made\nvote 0 t1: voted -\nvote 1 t1: voted -\nvote 2 t1: voted -\ncert t1: formed by 0 1 2\nsend 0 t1: held\nrun 0: executed 1\n  t1 done v2 gas 1200\n"
                   "show 0: epoch 0 objects 2\n  g0 v2 alice coin 0 8300\n  t1.0 v2 bob coin 0 500\n",
     }
@@ -241,7 +276,7 @@ def kept():
 
 def files_of(case):
     """The files of a case, by their endings."""
-    words = "run\nin\njournal\n" if "after" in case else "replay\n0\nin\njournal\n"
+    words = case.get("words", "run in journal" if "after" in case else "replay 0 in journal").replace(" ", "\n") + "\n"
     files = {
         "schedule": case.get("schedule", ONE),
         "report": case["report"].encode(),
@@ -261,7 +296,7 @@ def main(words):
         print(__doc__, end="", file=sys.stderr)
         return 2
     wrong = 0
-    for case in [*starts(), *altered(), *kept()]:
+    for case in [*starts(), *altered(), *kept(), *not_taken()]:
         os.makedirs(os.path.dirname(f"{HERE}/{case['name']}"), exist_ok=True)
         for ending, text in files_of(case).items():
             path = f"{HERE}/{case['name']}.{ending}"

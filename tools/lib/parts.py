@@ -24,6 +24,7 @@ PARTS = (
     Part("hunt", ("tools/test_hunt", "all")),
     Part("pages of runs", ("tools/test_view", "all")),
     Part("journal under kills", ("tools/test_journal", "--seconds", "5", "--ours"), COMMITTEE),
+    Part("images of crashes", ("tools/crash_images", "--trace", "--ours"), COMMITTEE, ("tools/crash_images", "--trace", "--replays", "20", "--ours")),
     Part("conformance", ("conformance/run", "--ours"), BOTH),
     Part("stops at each record", ("tools/stopped", "--most", "6", "--ours"), COMMITTEE, ("tools/stopped", "--most", "1", "--ours")),
     Part("chains into check", ("tools/chains", "--ours"), BOTH),
