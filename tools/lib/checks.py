@@ -39,12 +39,12 @@ def edits(top, name, folder="must-fail"):
 
 
 def tried(name):
-    """Where the file is that says of which sources the dear edits of a crate were last refused, from the top."""
+    """Where the file is that says of which sources the expensive edits of a crate were last refused, from the top."""
     return f"crates/{name}/{DEAR}/tried.sum"
 
 
 def sum_of_tried(top, uses, name):
-    """A checksum of a crate's dear edits, of the crate without its tests, and of all that it stands on."""
+    """A checksum of a crate's expensive edits, of the crate without its tests, and of all that it stands on."""
     total = hashlib.sha256()
     for crate in [name, *sorted(below(uses, name))]:
         total.update(f"{crate}: {' '.join(uses[crate])}\0".encode())

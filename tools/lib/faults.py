@@ -62,7 +62,7 @@ def bad_place(kind, word):
 
 
 def bad_command(word, inputs, gas):
-    """What is wrong with a word that is to be a command, behind these inputs and with this gas coin."""
+    """What is wrong with a word that is to be a command, after these inputs and with this gas coin."""
     name, _, inside = word.partition("(")
     if name not in COMMANDS:
         return f"the word {short(name)} is {'no command' if '(' in word else 'neither an input nor a command'}{near(name, COMMANDS)}"

@@ -54,7 +54,7 @@ class Example:
 
 
 def blocks(text):
-    """The fenced blocks of a document: the line, the heading that they stand under, the language, the words behind it, the text."""
+    """The fenced blocks of a document: the line, the heading that they stand under, the language, the words after it, the text."""
     heading, inside, found = "", None, []
     for number, line in enumerate(text.split("\n"), 1):
         fence = FENCE.match(line)
@@ -154,7 +154,7 @@ def causes():
 
 
 def forms_of(comment):
-    """The forms of a line or of its ending, by its comment: its first code span, and each that stands behind an `or`."""
+    """The forms of a line or of its ending, by its comment: its first code span, and each that stands after an `or`."""
     first = SPAN.search(comment)
     return [first[1], *re.findall(r" or `([^`]+)`", comment)] if first else []
 
@@ -215,7 +215,7 @@ def section(path, heading):
 
 
 def table_bytes(path, heading):
-    """The bytes that the table of a chapter has in its column Bytes, one behind the other."""
+    """The bytes that the table of a chapter has in its column Bytes, one after the other."""
     column, found = None, ""
     for line in section(path, heading).split("\n"):
         cells = [it.strip() for it in line.strip("|").split("|")] if line.startswith("|") else []

@@ -105,7 +105,7 @@ ENDINGS = [
     (r"no ack of (\d+)", "member {0} has not acknowledged it", ""),
     (r"final by(.*)", "it is final, by members{0}", ""),
 ]
-# The endings that mean something else behind this word.
+# The endings that mean something else after this word.
 OWN = [
     ("close", r"closed", "member {M} is closed now: it gives no new vote, and takes no certificate but by the sequence", ""),
     ("close", r"again", "member {M} was closed already", ""),
@@ -227,7 +227,7 @@ def is_refusal(line):
 
 
 def sentences(event, txs, waiting=(), refusals=False):
-    """What is told of an event: sentences, each with what to change, if anything. `waiting` has what waits behind a run."""
+    """What is told of an event: sentences, each with what to change, if anything. `waiting` has what waits after a run."""
     found = [words_for(line, event, txs) or (line.strip(), "") for line in event.said if not refusals or is_refusal(line)]
     if waiting and event.answer == "executed 0" and found:
         found[0] = found[0][0], ""

@@ -37,7 +37,7 @@ class Line:
 
     @property
     def answer(self):
-        """What stands behind the head of the first line that it gave, or nothing."""
+        """What stands after the head of the first line that it gave, or nothing."""
         return self.said[0].partition(": ")[2] if self.said else ""
 
 
