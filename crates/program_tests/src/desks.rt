@@ -6,7 +6,7 @@ ghost use Rattle.vote_desk.specs.Desks.{IsOf, share};
 ghost use Rattle.vote_desk.specs.Views.{whole};
 
 use crate::members::{joined, member_from, sealer};
-use crate::same::{holds, same};
+use crate::same::same;
 use answer_types::{VoteRefusal, Voted};
 use chain_types::{Address, Content, Object, ObjectId, Owner, object_digest};
 use digest_core::{Digest, genesis_id};
