@@ -21,22 +21,23 @@ class Program:
     def __init__(self, words, seconds, memory):
         self.words, self.seconds, self.memory = [*words, "run"], seconds, memory
 
-    def limit(self):
-        resource.setrlimit(resource.RLIMIT_CPU, (self.seconds, self.seconds + 1))
-        resource.setrlimit(resource.RLIMIT_AS, (self.memory, self.memory))
-        resource.setrlimit(resource.RLIMIT_FSIZE, (MOST_BYTES, MOST_BYTES))
-        resource.setrlimit(resource.RLIMIT_CORE, (0, 0))
+    def limit(self, process):
+        """Limits a process that has just begun. To set limits before it begins would take a fork of this whole process for each run."""
+        for what, most in ((resource.RLIMIT_CPU, self.seconds), (resource.RLIMIT_AS, self.memory), (resource.RLIMIT_FSIZE, MOST_BYTES), (resource.RLIMIT_CORE, 0)):
+            resource.prlimit(process, what, (most, most + (what == resource.RLIMIT_CPU)))
 
     def answer(self, text):
         """The status and the report; a status that is a text says how it did not end by itself."""
         with tempfile.TemporaryFile() as given, tempfile.TemporaryFile() as wrote:
             given.write(text)
             given.seek(0)
-            how = {"stdin": given, "stdout": wrote, "stderr": subprocess.DEVNULL, "timeout": WAITING * self.seconds, "preexec_fn": self.limit}
-            try:
-                status = subprocess.run(self.words, **how).returncode
-            except subprocess.TimeoutExpired:
-                status = -signal.SIGXCPU
+            with subprocess.Popen(self.words, stdin=given, stdout=wrote, stderr=subprocess.DEVNULL) as process:
+                self.limit(process.pid)
+                try:
+                    status = process.wait(WAITING * self.seconds)
+                except subprocess.TimeoutExpired:
+                    process.kill()
+                    status = -signal.SIGXCPU
             wrote.seek(0)
             if status == -signal.SIGXCPU:
                 return Answer(f"no end within {self.seconds} seconds", wrote.read())
