@@ -2,7 +2,7 @@
 """Which causes, limits and pairs of causes the cases show, from the tables of the manual, and which they do not.
 
 usage: conformance/tables.py            says for each table how many of it the cases have, and names what is missing
-       conformance/tables.py --missing  says only what is missing and could be there; the exit status is 1 where something is
+       conformance/tables.py --missing  says only what is missing and could be there; the exit status is 1 if something is
 
 The orders are those that docs/REPORTS.md and docs/SCHEDULES.md state. A pair is shown where, in some case, both apply and the first is
 told: the plain model of the rules runs each case, and is asked of each refusal what else would have applied.
@@ -18,6 +18,7 @@ TOP = os.path.dirname(HERE)
 sys.path.insert(0, f"{TOP}/tools/lib")
 from hunting.plain import member, text, tx, wire, world
 from hunting.plain.block import Block, Halt, Item, is_of_kind
+
 
 def read(path):
     with open(path, "rb") as it:
@@ -337,7 +338,6 @@ def wanted_pairs():
         pairs = [(one, other) for place, one in enumerate(kept) for other in kept[place + 1 :]]
         found[of] = [it for it in pairs if it not in NOT_BOTH.get(of, {})]
     return found
-
 
 
 def main(words):

@@ -24,8 +24,9 @@ def make(draft, style):
     fill(plan, draft.random.choice((1, 1, 2, 3, 4, 6)))
     member = draft.member(number)
     words = words_of(draft, plan, sender, gas, member.epoch if member else 0)
-    if draft.chance(style.spoiled):
-        words = spoil(draft, words, objects)
+    for _ in range(2):
+        if draft.chance(style.spoiled):
+            words = spoil(draft, words, objects)
     return said(draft, words)
 
 
@@ -91,13 +92,12 @@ def spoil(draft, words, objects):
 
 
 def spoil_seal(draft, words, objects):
-    return [f"{words[0]}?", *words[1:]]
+    return [f"{words[0].rstrip('?')}?", *words[1:]]
 
 
 def spoil_digest(draft, words, objects):
-    places = [at for at, word in enumerate(words) if at == 2 or word.startswith(("o:", "i:"))]
-    at = draft.one_of(places)
-    return [*words[:at], f"{words[at]}!", *words[at + 1 :]]
+    at = draft.one_of(at for at, word in enumerate(words) if at == 2 or word.startswith(("o:", "i:")))
+    return [*words[:at], f"{words[at].rstrip('!')}!", *words[at + 1 :]]
 
 
 def spoil_version(draft, words, objects):
@@ -113,7 +113,8 @@ def spoil_sender(draft, words, objects):
 
 
 def spoil_epoch(draft, words, objects):
-    return [words[0], str(draft.one_of((0, int(words[1]) + 1, int(words[1]) + 1, 2**64 - 1))), *words[2:]]
+    later = min(int(words[1]) + 1, 2**64 - 1)
+    return [words[0], str(draft.one_of((0, later, later, 2**64 - 1))), *words[2:]]
 
 
 def spoil_budget(draft, words, objects):
@@ -122,8 +123,9 @@ def spoil_budget(draft, words, objects):
 
 
 def spoil_gas(draft, words, objects):
-    """Something else pays."""
-    name, it = draft.one_of(objects)
+    """Something else pays: a coin of another currency, if there is one, or any object."""
+    others = [pair for pair in objects if pair[1].content[0] == "coin" and pair[1].content[1] and draft.owner(pair[1])]
+    name, it = draft.one_of(others if others and draft.chance(0.5) else objects)
     owner = draft.owner(it)
     return [owner or words[0], words[1], f"{name}@{it.version}", *words[3:]]
 
@@ -139,8 +141,29 @@ def spoil_sort(draft, words, objects):
 def spoil_name(draft, words, objects):
     """An object that nobody has."""
     name = draft.tx()
-    missing = f"{name}.{draft.one_of((0, 1, 99))}@{draft.one_of((1, 2, 3))}" if name else words[2]
+    missing = f"{name}.{draft.one_of((0, 1, 99))}@{draft.one_of((1, 2, 3))}" if name else words[2].rstrip("!")
     return spoil_end(words, draft.one_of((f"o:{missing}", f"i:{missing}", f"s:{missing}")))
+
+
+def spoil_gone(draft, words, objects):
+    """An object that was deleted, as a shared one."""
+    gone = draft.gone(draft.one_of(draft.up)) if draft.up else []
+    return spoil_end(words, f"s:{draft.one_of(gone)}@{draft.one_of((1, 2))}") if gone else spoil_name(draft, words, objects)
+
+
+def spoil_initial(draft, words, objects):
+    """A shared object with another initial version."""
+    it = draft.one_of(it for it in objects if it[1].owner[0] == "shared" and not any(f":{it[0]}@" in word for word in words))
+    return spoil_end(words, f"s:{it[0]}@{it[1].owner[1] + draft.one_of((1, 1, 2))}") if it else words
+
+
+def spoil_sort_and_budget(draft, words, objects):
+    """An owned object named as immutable, and more of a budget than the gas coin has."""
+    mine = [(name, it) for name, it in objects if draft.owner(it) == words[0] and not any(word.startswith(f"{name}@") or f":{name}@" in word for word in words)]
+    if not mine:
+        return spoil_budget(draft, words, objects)
+    name, it = draft.one_of(mine)
+    return spoil_end([*words[:3], str(2**64 - 1), *words[4:]], f"i:{name}@{it.version}")
 
 
 def spoil_end(words, word):
@@ -150,15 +173,19 @@ def spoil_end(words, word):
 
 
 def spoil_shape(draft, words, objects):
-    """A fault of the shape."""
+    """A fault of the shape, or two."""
     inputs, commands = [it for it in words[4:] if "(" not in it], [it for it in words[4:] if "(" in it]
-    bad = draft.one_of(("split(gas)", "merge(gas)", f"transfer(i{len(inputs)})", "transfer(r0,i0)", f"split(gas,i{len(inputs)})", f"freeze(r{len(commands)})", f"freeze(r{len(commands)}.0)", None))
-    return [*words[:4], *inputs, *([*commands, bad] if bad else [])]
+    if draft.chance(0.12):
+        return [*words[:4], *inputs]
+    late = len(commands) + draft.one_of((0, 1))
+    bad = ("split(gas)", "merge(gas)", "transfer(gas)", f"transfer(i{len(inputs)})", "transfer(r0,i0)", f"split(gas,i{len(inputs)})", f"freeze(r{late})", f"freeze(r{late}.0)")
+    return [*words[:4], *inputs, *commands, *draft.random.sample(bad, draft.random.choice((1, 1, 2)))]
 
 
 SPOILS = (
     spoil_seal, spoil_digest, spoil_version, spoil_version, spoil_sender, spoil_sender, spoil_epoch, spoil_budget, spoil_budget,
-    spoil_gas, spoil_gas, spoil_sort, spoil_sort, spoil_name, spoil_shape, spoil_shape, spoil_shape,
+    spoil_gas, spoil_gas, spoil_sort, spoil_sort, spoil_name, spoil_shape, spoil_shape, spoil_shape, spoil_gone, spoil_initial,
+    spoil_sort_and_budget,
 )
 
 
@@ -224,13 +251,9 @@ def force(draft, style):
     if name is None or not draft.is_quorum(draft.faulty):
         return carry(draft, style)
     words = []
-    if draft.chance(0.15):
-        name = shared_wrongly(draft) or name
     if draft.chance(0.25):
         words = [draft.one_of(("-", "-", draft.tx())) for _ in draft.world.made[name].tx.named][: draft.random.choice((9, 9, 1))]
-    for number in draft.faulty:
-        draft.say(" ".join(["fvote", str(number), name, *words]))
-    draft.say(f"cert {name} {' '.join(map(str, draft.faulty))}")
+    forced(draft, name, words)
     if draft.chance(0.6):
         order(draft, style, name)
         see(draft, style)
@@ -239,13 +262,11 @@ def force(draft, style):
     run(draft, style)
 
 
-def shared_wrongly(draft):
-    """A transaction that names as shared what somebody owns."""
-    objects = draft.objects(draft.up[0]) if draft.up else []
-    gas, other = gas_coin(draft, objects), draft.one_of(it for it in objects if draft.owner(it[1]))
-    if gas is None or other[0] == gas[0]:
-        return None
-    return said(draft, [draft.owner(gas[1]), str(draft.open_epoch), f"{gas[0]}@{gas[1].version}", "1100", f"s:{other[0]}@{other[1].version}", "vec(coin)"])
+def forced(draft, name, origins=()):
+    """The votes of all faulty members for these origins, or as honest members have voted, and their certificate."""
+    for number in draft.faulty:
+        draft.say(" ".join(["fvote", str(number), name, *origins]))
+    draft.say(f"cert {name} {' '.join(map(str, draft.faulty))}")
 
 
 def carry(draft, style):
@@ -347,11 +368,16 @@ def turn(draft, style):
         draft.say(f"turn {number}")
 
 
+# The calls of a member, with a transaction.
+CALLS = ("close {0}", "end {0}", "turn {0}", "see {0} 1", "run {0} 1", "vote {0} {1}", "send {0} {1}", "ack {0} {1}", "show {0}", "restart {0}")
+
+
 def ask_halted(draft, style):
-    """Something of a member that has met a fork."""
+    """Some things of a member that has met a fork."""
     number, name = draft.one_of(it for it in draft.up if draft.member(it).halted), draft.tx()
     if number is not None and name:
-        draft.say(draft.one_of(("close {0}", "end {0}", "turn {0}", "see {0} 1", "run {0} 1", "vote {0} {1}", "send {0} {1}", "ack {0} {1}", "show {0}", "restart {0}")).format(number, name))
+        for line in draft.random.sample(CALLS, 3):
+            draft.say(line.format(number, name))
 
 
 def alone(draft, style):
@@ -525,7 +551,8 @@ def altered(draft, data):
         return data[: at or 1]
     if how < 0.35:
         return data + bytes(draft.random.randrange(1, 4))
-    # Where lengths and the numbers of variants stand, behind the fixed fields of a transaction, for the most part.
-    at = draft.random.randrange(120, min(len(data), 190)) if len(data) > 130 and draft.chance(0.7) else at
+    # For the most part where lengths and the numbers of variants stand, after the fixed fields of a transaction; the first is how many inputs it has.
+    if len(data) > 130 and draft.chance(0.7):
+        at = draft.one_of((120, draft.random.randrange(120, min(len(data), 190)), draft.random.randrange(120, min(len(data), 190))))
     other = draft.one_of((b"\x80\x00", b"\x81\x00", b"\xff\xff\xff\xff\x1f", b"\xff\xff\xff\xff\x0f", b"\x80\x80\x80\x80\x08", b"\x02", b"\x04", b"\x06", b"\x0e", b"\x7f", b""))
     return (data[:at] + other + data[at + 1 :]) or b"\0"

@@ -8,7 +8,7 @@ import schedules
 
 from .plain.natives import NAMES
 
-SCHEDULES, REPORTS = "docs/SCHEDULES.md", "docs/REPORTS.md"
+COMMANDS, SCHEDULES, REPORTS = "docs/COMMANDS.md", "docs/SCHEDULES.md", "docs/REPORTS.md"
 # What is in a table, and no schedule can bring about, with the reason.
 NEVER = {
     "native coin_burn code 2": "a cap counts all coins of its currency",
@@ -42,7 +42,7 @@ def forms():
 def wanted():
     """All that the tables name, in their order, but for what no schedule can bring about."""
     schedules_text, reports_text = manual.read(SCHEDULES), manual.read(REPORTS)
-    found = forms() + [f"status {it}" for it in table(reports_text, "The status", "Status")]
+    found = forms() + [f"status {it}" for it in table(manual.read(COMMANDS), "Commands", "Status")]
     found += [f"refusal cause {it}" for it in re.findall(r"(?m)^### Cause (\d+):", schedules_text)]
     found += [f"report `{form}`" for form, shown in manual.rows(REPORTS).items() if shown != manual.NEVER and not form.endswith("..")]
     found += [f"{kind} {it}" for it in table(reports_text, "Shapes") for kind in ("invalid", "shape") if (kind, it) != ("invalid", "13")]

@@ -77,6 +77,11 @@ class Draft:
         found = [(names.of_object(it.id), it) for it in (member.store.live_objects() if member else self.world.objects)]
         return sorted(((name, it) for name, it in found if name != "?"), key=lambda pair: pair[0])
 
+    def gone(self, number):
+        """The names of objects that a member has seen deleted."""
+        names = [self.world.names.of_object(id) for id, it in self.member(number).store.live.items() if it is None]
+        return sorted(it for it in names if it != "?")
+
     def owner(self, it):
         """The name of the user who owns it, or none."""
         return self.world.names.users.get(it.owner[1]) if it.owner[0] == "address" else None

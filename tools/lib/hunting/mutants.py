@@ -24,7 +24,7 @@ MUTANTS = (
     ("shape", "usize::from(n) >= tx.inputs.len()", "usize::from(n) > tx.inputs.len()"),
     ("shape", "usize::from(named) >= command", "usize::from(named) > command"),
     ("shape", "tx.budget < tx.cost()", "tx.budget <= tx.cost()"),
-    ("shape", "        (2, &|| tx.commands.is_empty()),\n", ""),
+    ("shape", "(2, &|| tx.commands.is_empty())", "(2, &|| false)"),
     ("shape", "        (7, &|| arguments(tx).any(|(command, it)| is_not_earlier(it, command))),\n        (8, &|| tx.commands.iter().any(lacks_operands)),", "        (8, &|| tx.commands.iter().any(lacks_operands)),\n        (7, &|| arguments(tx).any(|(command, it)| is_not_earlier(it, command))),"),
     ("shape", " | Command::Transfer { .. });", ");"),
     # Votes.
@@ -77,7 +77,7 @@ MUTANTS = (
     ("block", "*balance -= tx.cost();", "*balance -= tx.budget;"),
     ("block", "        self.give_back(&mut left[0]);\n", ""),
     ("block", "total > u128::from(balance)", "total >= u128::from(balance)"),
-    ("block", "let withheld = if target == 0 { self.tx.budget } else { 0 };", "let withheld = 0;"),
+    ("block", "let withheld = if target == 0 { self.tx.budget } else { 0 };", "let withheld = 0_u64;"),
     ("block", "+ added > u128::from(u64::MAX)", "+ added >= u128::from(u64::MAX)"),
     ("block", "        if sources.iter().any(|&source| self.coin(source).0 != currency) {\n            return Err(Cause::Currency.into());\n        }\n", ""),
     ("block", "Mode::ByValue(_), Access::Gas) if !gives_gas", "Mode::ByValue(None), Access::Gas) if !gives_gas"),

@@ -196,19 +196,17 @@ def down(run):
 
 
 def epochs(run):
-    """A member's turns come one epoch at a time, and show says the epoch in which it is."""
-    now = dict.fromkeys(run.honest, 0)
-    unsure = set()
+    """A member's turns come one epoch at a time, and show says the epoch in which it is. Of a turn that stopped it is not known whether it was kept."""
+    now, stopped = dict.fromkeys(run.honest, 0), dict.fromkeys(run.honest, 0)
     for event in run.events:
         member, found = event.member, re.match(r"epoch (\d+)", event.answer)
         if event.word == "turn" and event.answer == "stopped":
-            unsure.add(member)
+            stopped[member] += 1
         if event.word in ("turn", "show") and found and member in now:
             wanted = now[member] + (event.word == "turn")
-            if int(found[1]) != wanted and not (member in unsure and int(found[1]) == wanted + 1):
+            if not wanted <= int(found[1]) <= wanted + stopped[member]:
                 return f"line {event.number}: epoch {wanted} is wanted: {event.said[0]}"
-            now[member] = int(found[1])
-            unsure.discard(member)
+            now[member], stopped[member] = int(found[1]), 0
     return None
 
 

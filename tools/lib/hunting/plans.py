@@ -30,13 +30,17 @@ class Plan:
         word = f"n:{value}" if self.random.random() < 0.9 else f"x:{value.to_bytes(8, 'little').hex()}"
         if self.random.random() < self.wildness / 4:
             word = f"x:{bytes(self.random.choice((0, 7, 9, 32))).hex()}"
+        return self.named(word)
+
+    def named(self, word):
+        """An input with this word, the one that is there if there is one."""
         return f"i{self.inputs.index(word)}" if word in self.inputs else self.input(word)
 
     def address(self):
         word = f"a:{self.random.choice(USERS)}"
         if self.random.random() < self.wildness / 4:
             word = f"x:{bytes(self.random.choice((8, 31, 32))).hex()}"
-        return f"i{self.inputs.index(word)}" if word in self.inputs else self.input(word)
+        return self.named(word)
 
     def pick(self, kind=None, **holds):
         """Something of a kind that can be named, or none."""
@@ -100,6 +104,39 @@ class Plan:
         if cap:
             self.say("coin_mint", [cap.word, self.number()], ("coin", cap.currency))
         return bool(cap)
+
+    def flood(self):
+        """More of a currency than 64 bits hold."""
+        cap = self.pick("cap")
+        for amount in (2**64 - 1, self.random.choice((1, 2**63))) if cap else ():
+            self.say("coin_mint", [cap.word, self.named(f"n:{amount}")], ("coin", cap.currency))
+        return bool(cap)
+
+    def stranger(self):
+        """A coin of another currency, merged into one of the currency of gas, joined with one, or burned by a cap."""
+        target, cap = self.pick("coin", currency=0), self.pick("cap")
+        if target is None:
+            return False
+        self.say("coin_zero", [self.named("n:99")], ("coin", 99))
+        source = self.values.pop()
+        how = self.random.choice(("merge", "join", "burn" if cap else "merge"))
+        if how == "join" and target.word != "gas":
+            self.spend(target)
+            self.say("vec", ["coin", target.word, source.word])
+            self.say("coin_join_all", [f"r{len(self.commands) - 1}"], ("coin", 0))
+        elif how == "burn":
+            self.say("coin_burn", [cap.word, source.word])
+        else:
+            self.say("merge", [target.word, source.word])
+        return True
+
+    def overflow(self):
+        """An addition within a limit that 64 bits do not hold."""
+        self.say("counter_new", [self.named("n:1")], ("counter", None))
+        self.say("limit_new", [self.named(f"n:{2**64 - 1}")], ("limit", None))
+        counter, limit = self.values[-2:]
+        self.say("counter_add_limited", [counter.word, self.named(f"n:{2**64 - 1}"), limit.word])
+        return True
 
     def burn(self):
         cap = self.pick("cap")
@@ -227,7 +264,7 @@ class Plan:
 STEPS = {
     "split": 8, "transfer": 6, "merge": 3, "join": 2, "mint": 4, "burn": 2, "zero": 1, "counter": 3, "add": 6, "require": 3,
     "vault": 3, "deposit": 3, "withdraw": 3, "limit": 2, "share": 4, "freeze": 2,
-    "hoard": 4, "keys": 0.5, "bounded": 1.5, "vectors": 0.15,
+    "hoard": 4, "keys": 0.5, "bounded": 1.5, "vectors": 0.15, "flood": 0.5, "stranger": 1, "overflow": 0.3,
 }
 
 

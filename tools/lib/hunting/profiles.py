@@ -2,7 +2,7 @@
 
 import random as randoms
 
-from . import actions, refusals, sizes
+from . import actions, refusals, scenes, sizes
 from .draft import Draft
 from .plans import USERS
 
@@ -25,13 +25,13 @@ STYLES = {
     "blocks": Style({**BASE, "whole": 25, "make": 0}, wildness=0.9, spoiled=0.02, sharing=0.3),
     "natives": Style({**BASE, "whole": 25, "make": 0, "show": 3}, wildness=0.05, spoiled=0, sharing=0.4, lines=(60, 120)),
     "edges": Style({**BASE, "whole": 25, "make": 0, "show": 3}, wildness=0.05, spoiled=0, sharing=0.4, edge=0.4, lines=(60, 120)),
-    "shared": Style({**BASE, "whole": 24, "order": 6, "commit": 2, "see": 6}, sharing=0.95, writers=0.7, wildness=0.1, spoiled=0.03, lines=(60, 140)),
-    "epochs": Style({**BASE, **ENDS, "commit": 3}, sharing=0.4, lines=(50, 130)),
+    "shared": Style({**BASE, "whole": 24, "order": 6, "commit": 2, "see": 6, "crowd": 6}, sharing=0.95, writers=0.7, wildness=0.1, spoiled=0.03, lines=(60, 140)),
+    "epochs": Style({**BASE, **ENDS, "commit": 3, "crowd": 2}, sharing=0.6, writers=0.4, lines=(50, 130)),
     "stops": Style({**BASE, **STOPS, **ENDS}, lines=(50, 120)),
     "finality": Style({**BASE, **FINAL, "close": 0.5, "end_epoch": 1}, lines=(40, 110)),
-    "faulty": Style({**BASE, **ENDS, **FINAL, "make": 8, "vote": 8, "force": 20, "ask_halted": 6}, faulty=0.9, spoiled=0.35, repeats=0.06, lines=(40, 120)),
+    "faulty": Style({**BASE, **ENDS, **FINAL, "make": 8, "vote": 8, "force": 20, "staged": 12, "ask_halted": 6}, faulty=0.9, spoiled=0.35, repeats=0.06, lines=(40, 120)),
     "raw": Style({**BASE, "raw": 16, "ask_halted": 2}, faulty=0.2),
-    "mixed": Style({**BASE, **ENDS, **STOPS, **FINAL, "raw": 2, "force": 3, "ask_halted": 2}, faulty=0.3, lines=(60, 160)),
+    "mixed": Style({**BASE, **ENDS, **STOPS, **FINAL, "raw": 2, "force": 3, "staged": 2, "crowd": 1, "ask_halted": 2}, faulty=0.3, lines=(60, 160)),
 }
 OTHERS = {"refused": refusals.text, "limits": sizes.text}
 PROFILES = (*STYLES, *OTHERS)
@@ -74,7 +74,7 @@ def styled(random, style):
     most = random.randrange(*style.lines)
     while len(draft.lines) < most:
         name = random.choices(list(style.weights), style.weights.values())[0]
-        getattr(actions, name)(draft, style)
+        getattr(scenes if hasattr(scenes, name) else actions, name)(draft, style)
         if not draft.names:
             actions.make(draft, style) or draft.say("order commit")
     for number in draft.honest:
@@ -87,10 +87,16 @@ def profile_of(seed, wanted=None):
     return wanted or TURNS[seed % len(TURNS)]
 
 
+def turn_of(seed, wanted=None):
+    """How many seeds below this one have its profile."""
+    rounds, place = divmod(seed, len(TURNS))
+    return seed if wanted else rounds * TURNS.count(TURNS[place]) + TURNS[:place].count(TURNS[place])
+
+
 def schedule(seed, wanted=None):
     """The text of a seed: the same one each time."""
     profile = profile_of(seed, wanted)
     random = randoms.Random(f"{profile} {seed}")
     if profile in OTHERS:
-        return OTHERS[profile](random, seed)
+        return OTHERS[profile](random, turn_of(seed, wanted))
     return "".join(f"{line}\n" for line in styled(random, STYLES[profile])).encode()

@@ -41,20 +41,20 @@ PARTS = {
 
 
 # Lines that are refused for one cause, at the end of the good text; those of the set-up at its end.
-BY_CAUSE = {
-    5: ("member 0 honest", "coin z alice 00", "cap z bob 0", "writers 0", "run 0 17", "run 0 0", "see 0 0", "see 0 4294967296", "tx z alice 0 g0@1 18446744073709551616", "tx z alice 0 g0@1 0 freeze(i65536)"),
-    9: ("coin g0 bob 1", "counter m0 1", "cap c0 bob 9", "tx t1 bob 0 g0@1 1", "tx t3 bob 0 t1.0@2 1"),
-    10: ("vote 0 t9", "fvote 2 t9", "fvote 2 t1 - t9", "cert t9 0", "send 0 t9", "order t9", "ack 0 t9", "final t9 0", "tx z alice 0 g9@1 1", "tx z alice 0 z.0@1 1", "tx z alice 0 g0@1 1 r:t9.0@1"),
-    11: ("vote 3 t1", "cert t1 0 3", "order end 3", "see 9 1", "show 3", "ack 3 t1", "final t1 3", "raw 3 vote 00"),
-    12: ("vote 2 t1", "fvote 0 t1", "send 2 t1", "see 2 1", "run 2 1", "close 2", "end 2", "turn 2", "show 2", "stop 2 kept", "restart 2", "raw 2 hold 00", "ack 0 t1 !"),
-    13: ("cert t1 1 0", "cert t1 0 0", "final t1 1 0", "final t1 2 2", "writers 4", "cap z bob 7"),
-}
+BY_CAUSE = (
+    "member 0 honest", "member 4294967296 faulty", "coin z alice 00", "cap z bob 0", "writers 0", "writers 65536", "run 0 17", "run 0 0", "see 0 0", "see 0 4294967296",
+    "tx z alice 0 g0@1 18446744073709551616", "tx z alice 18446744073709551616 g0@1 0", "tx z alice 0 g0@1 0 freeze(i65536)", "tx z alice 0 g0@1 0 freeze(r0.65536)",
+    "coin g0 bob 1", "counter m0 1", "cap c0 bob 9", "tx t1 bob 0 g0@1 1", "tx t3 bob 0 t1.0@2 1",
+    "vote 0 t9", "fvote 2 t9", "fvote 2 t1 - t9", "cert t9 0", "send 0 t9", "order t9", "ack 0 t9", "ack 2 t9 !", "final t9 0", "tx z alice 0 g9@1 1", "tx z alice 0 z.0@1 1", "tx z alice 0 g0@1 1 r:t9.0@1",
+    "vote 3 t1", "fvote 3 t1", "cert t1 0 3", "send 3 t1", "order end 3", "see 9 1", "run 3 1", "close 3", "end 3", "turn 3", "show 3", "stop 3 lost", "restart 3", "ack 3 t1", "final t1 3", "raw 3 vote 00",
+    "vote 2 t1", "fvote 0 t1", "send 2 t1", "see 2 1", "run 2 1", "close 2", "end 2", "turn 2", "show 2", "stop 2 kept", "restart 2", "raw 2 hold 00", "raw 2 vote 00", "ack 0 t1 !",
+    "cert t1 1 0", "cert t1 0 0", "final t1 1 0", "final t1 2 2", "writers 4", "cap z bob 7",
+)
 SETUP = ("member", "coin", "counter", "cap", "writers")
 
 
-def by_cause(random, lines):
-    """The good text with a line for one of these causes."""
-    line = random.choice(BY_CAUSE[random.choice(list(BY_CAUSE))])
+def by_cause(lines, line):
+    """The good text with one of these lines."""
     at = 7 if line.startswith(SETUP) else len(lines)
     return [*lines[:at], line, *lines[at:]]
 
@@ -71,16 +71,15 @@ def filled(random):
 
 
 def text(random, turn):
-    """A text of the profile `refused`."""
-    lines = list(GOOD)
-    chance = random.random()
-    if turn % 96 < 6:
-        return great(turn % 96)
+    """A text of the profile `refused`: each third has the next line of those for one cause, and after all of these come the great ones."""
+    lines, place, chance = list(GOOD), turn % (3 * len(BY_CAUSE) + 6), random.random()
+    if place >= 3 * len(BY_CAUSE):
+        return great(place - 3 * len(BY_CAUSE))
+    if place % 3 == 0:
+        return "".join(f"{line}\n" for line in by_cause(lines, BY_CAUSE[place // 3])).encode()
     if chance < 0.1:
         return "\n".join(without(random, lines)).encode("latin-1")
-    if chance < 0.4:
-        lines = by_cause(random, lines)
-    elif chance < 0.75:
+    if chance < 0.65:
         lines.insert(random.choice((7, len(lines), random.randrange(len(lines) + 1))), filled(random))
     else:
         at = random.randrange(len(lines))

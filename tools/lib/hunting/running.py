@@ -1,6 +1,7 @@
 """Programs that read a schedule from standard input: their answers, within limits, and how two answers differ."""
 
 import resource
+import signal
 import subprocess
 import tempfile
 from collections import namedtuple
@@ -10,32 +11,37 @@ from .plain import world
 Answer = namedtuple("Answer", "status report")
 # What a report may have at most; no schedule of a hunt gives a hundredth of it.
 MOST_BYTES = 256 << 20
+# A run that only waits takes no time of a processor: it ends after so many times as many seconds by the clock.
+WAITING = 30
 
 
 class Program:
-    """A program by its words, with the seconds and the bytes of memory that it may take."""
+    """A program by its words, with the seconds of a processor and the bytes of memory that it may take."""
 
     def __init__(self, words, seconds, memory):
         self.words, self.seconds, self.memory = [*words, "run"], seconds, memory
 
-    def limit(self):
-        resource.setrlimit(resource.RLIMIT_AS, (self.memory, self.memory))
-        resource.setrlimit(resource.RLIMIT_FSIZE, (MOST_BYTES, MOST_BYTES))
-        resource.setrlimit(resource.RLIMIT_CORE, (0, 0))
+    def limit(self, process):
+        """Limits a process that has just begun. To set limits before it begins would take a fork of this whole process for each run."""
+        for what, most in ((resource.RLIMIT_CPU, self.seconds), (resource.RLIMIT_AS, self.memory), (resource.RLIMIT_FSIZE, MOST_BYTES), (resource.RLIMIT_CORE, 0)):
+            resource.prlimit(process, what, (most, most + (what == resource.RLIMIT_CPU)))
 
     def answer(self, text):
         """The status and the report; a status that is a text says how it did not end by itself."""
         with tempfile.TemporaryFile() as given, tempfile.TemporaryFile() as wrote:
             given.write(text)
             given.seek(0)
-            how = {"stdin": given, "stdout": wrote, "stderr": subprocess.DEVNULL, "timeout": self.seconds, "preexec_fn": self.limit}
-            try:
-                status = subprocess.run(self.words, **how).returncode
-            except subprocess.TimeoutExpired:
-                status = f"no end within {self.seconds} seconds"
+            with subprocess.Popen(self.words, stdin=given, stdout=wrote, stderr=subprocess.DEVNULL) as process:
+                self.limit(process.pid)
+                try:
+                    status = process.wait(WAITING * self.seconds)
+                except subprocess.TimeoutExpired:
+                    process.kill()
+                    status = -signal.SIGXCPU
             wrote.seek(0)
-            said = status if isinstance(status, str) or status >= 0 else f"ended by signal {-status}"
-            return Answer(said, wrote.read())
+            if status == -signal.SIGXCPU:
+                return Answer(f"no end within {self.seconds} seconds", wrote.read())
+            return Answer(status if status >= 0 else f"ended by signal {-status}", wrote.read())
 
 
 class Plain:
