@@ -22,8 +22,8 @@ Moment = collections.namedtuple("Moment", "place synced pending is_named")
 # More images of one moment are not made: two long writes without a sync between them leave some hundred thousand.
 MOST = 20_000
 OUTPUT = "1"
-# Calls that change no byte of a file that is open.
-HARMLESS = ("openat", "statx", "newfstatat", "fstat", "flock", "read", "pread64", "lseek", "close", "fcntl")
+# Calls that change nothing of a file, if they do not cut it as they open it.
+HARMLESS = ("execve", "openat", "statx", "newfstatat", "fstat", "stat", "lstat", "flock", "read", "pread64", "lseek", "close", "fcntl")
 
 
 class Fault(Exception):
@@ -88,7 +88,7 @@ def from_strace(text, path):
     name, folder = either(path), either(os.path.dirname(path))
     found, length = [], 0
     for line in text.splitlines():
-        op = asked(line, name, folder) if re.search(rf"<{name}>|\bfsync\(\d+<{folder}>|\({OUTPUT}<", line) else None
+        op = asked(line, name, folder) if re.search(rf'[<"]{name}[>"]|\bfsync\(\d+<{folder}>|\({OUTPUT}<', line) else None
         if isinstance(op, Told):
             length += op.length
             op = Told(length)

@@ -98,6 +98,8 @@ class Strace(unittest.TestCase):
             "fdatasync(3</j>) = -1 EIO (Input/output error)",
             'pwrite64(3</j>, "\\x01", 1, 0 <unfinished ...>',
             'openat(AT_FDCWD</>, "j", O_RDWR|O_TRUNC) = 3</j>',
+            'truncate("/j", 0) = 0',
+            'rename("/k", "/j") = 0',
             "mmap(NULL, 8192, PROT_WRITE, MAP_SHARED, 3</j>, 0) = 0x7f",
         ):
             with self.subTest(line), self.assertRaises(crashes.Fault):
@@ -154,9 +156,10 @@ class Promises(unittest.TestCase):
         self.assertTrue(self.is_broken([*self.ops[:at], crashes.Write(body.at, body.data[:-1] + b"\1"), *self.ops[at + 1 :]]))
 
     def test_an_earlier_record_is_written_again(self):
-        """Even with the same bytes: they may be there in part."""
+        """The gate of the first record is closed and opened again."""
         at = self.bodies[2]
-        self.assertTrue(self.is_broken([*self.ops[:at], crashes.Write(0, b"\0"), crashes.SYNC, crashes.Write(0, b"\1"), crashes.SYNC, *self.ops[at:]]))
+        again = [crashes.Write(0, b"\0"), crashes.SYNC, crashes.Write(0, b"\1"), crashes.SYNC]
+        self.assertTrue(self.is_broken([*self.ops[:at], *again, *self.ops[at:]]))
 
     def test_the_report_comes_too_early(self):
         """The line that tells of a record may be written once its gate is safe, and no sooner."""
