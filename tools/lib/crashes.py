@@ -4,22 +4,26 @@ A trace is a text of lines, in the order in which the program asked:
 
     write AT LENGTH HEX  these bytes at this offset of the file
     sync                 all that was written is to be safe
+    sync folder          the file's name is to be safe
     told LENGTH          so many bytes of the report are written by now
 """
 
 import collections
+import os
 import re
 
 import journals
 
 Write = collections.namedtuple("Write", "at data")
 Told = collections.namedtuple("Told", "length")
-SYNC = "sync"
+SYNC, NAMED = "sync", "sync folder"
+# How many operations were asked, the file as the last sync left it, the writes since, and whether its name is safe.
+Moment = collections.namedtuple("Moment", "place synced pending is_named")
 # More images of one moment are not made: two long writes without a sync between them leave some hundred thousand.
 MOST = 20_000
 OUTPUT = "1"
-# Calls that change no byte of a file that is open.
-HARMLESS = ("openat", "statx", "newfstatat", "fstat", "flock", "read", "pread64", "lseek", "close", "fcntl")
+# Calls that change nothing of a file, if they do not cut it as they open it.
+HARMLESS = ("execve", "openat", "statx", "newfstatat", "fstat", "stat", "lstat", "flock", "read", "pread64", "lseek", "close", "fcntl")
 
 
 class Fault(Exception):
@@ -28,16 +32,16 @@ class Fault(Exception):
 
 def line_of(op):
     """The line of an operation."""
-    if op == SYNC:
-        return SYNC
+    if op in (SYNC, NAMED):
+        return op
     return f"told {op.length}" if isinstance(op, Told) else f"write {op.at} {len(op.data)} {op.data.hex()}"
 
 
 def op_of(line):
     """The operation of a line of a trace."""
     words = line.split(" ")
-    if words == [SYNC]:
-        return SYNC
+    if line in (SYNC, NAMED):
+        return line
     if words[0] == "told" and len(words) == 2:
         return Told(int(words[1]))
     if words[0] == "write" and len(words) == 4 and len(words[3]) == 2 * int(words[2]):
@@ -55,14 +59,22 @@ def bytes_of(quoted):
     return bytes.fromhex(quoted.replace("\\x", ""))
 
 
-def asked(line, name):
-    """What a line of strace asks of the file, or None; of the report, how many more bytes are written."""
+def either(path):
+    """An expression for a path in strace's output. Older versions write it as it is."""
+    coded = "".join(f"\\x{byte:02x}" for byte in path.encode())
+    return f"(?:{re.escape(coded)}|{re.escape(path)})"
+
+
+def asked(line, name, folder):
+    """What a line of strace asks of the file or its folder, or None; of the report, how many more bytes are written."""
     call = line[: line.find("(")].split(" ")[-1]
     if call in HARMLESS and "O_TRUNC" not in line:
         return None
     done = re.search(r"\) += (\d+)$", line)
     if re.search(rf"\bf(?:data)?sync\(\d+<{name}>", line) and done:
         return SYNC
+    if re.search(rf"\bfsync\(\d+<{folder}>", line) and done:
+        return NAMED
     wrote = re.search(rf'\bpwrite64\(\d+<{name}>, "([^"]*)", \d+, (\d+)\)', line)
     if wrote and done:
         return Write(int(wrote[2]), bytes_of(wrote[1])[: int(done[1])])
@@ -73,11 +85,10 @@ def asked(line, name):
 
 def from_strace(text, path):
     """The operations of what `strace -y -xx` wrote of a run over the file at this path."""
-    # older versions of strace write the path as it is
-    name = rf"(?:{re.escape(''.join(f'{chr(92)}x{byte:02x}' for byte in path.encode()))}|{re.escape(path)})"
+    name, folder = either(path), either(os.path.dirname(path))
     found, length = [], 0
     for line in text.splitlines():
-        op = asked(line, name) if re.search(rf"<{name}>|\({OUTPUT}<", line) else None
+        op = asked(line, name, folder) if re.search(rf'[<"]{name}[>"]|\bfsync\(\d+<{folder}>|\({OUTPUT}<', line) else None
         if isinstance(op, Told):
             length += op.length
             op = Told(length)
@@ -126,18 +137,26 @@ def how_many(writes):
     return found
 
 
+def left(moment):
+    """Each file that a crash at a moment can leave. Until its name is safe there may be none, which has no records, as an empty one."""
+    if not moment.is_named:
+        yield b""
+    yield from images(moment.synced, moment.pending)
+
+
 def moments(ops):
-    """Each moment of a trace: how many operations were asked by then, the file as the last sync left it, and the writes since."""
-    synced, pending = b"", ()
-    yield 0, synced, pending
+    """Each moment of a trace: before the first operation, and after any."""
+    found = Moment(0, b"", (), False)
+    yield found
     for place, op in enumerate(ops, 1):
+        found = found._replace(place=place, is_named=found.is_named or op == NAMED)
         if op == SYNC:
-            synced, pending = applied(synced, pending), ()
+            found = found._replace(synced=applied(found.synced, found.pending), pending=())
         elif isinstance(op, Write):
-            pending = (*pending, op)
-        if how_many(pending) > MOST:
-            raise Fault(f"{len(pending)} writes without a sync between them: these leave more than {MOST} images")
-        yield place, synced, pending
+            found = found._replace(pending=(*found.pending, op))
+        if how_many(found.pending) > MOST:
+            raise Fault(f"{len(found.pending)} writes without a sync between them: these leave more than {MOST} images")
+        yield found
 
 
 def starts_of(records):

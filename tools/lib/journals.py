@@ -60,7 +60,7 @@ def recorded(text, said):
 
 
 def told(schedule, report):
-    """The records that a report tells of, in order: the member, the first byte of the record, and how many lines of the report tell of it."""
+    """The records that a report tells of, in order: the member, the first byte of the record, and how many lines it takes to tell of it."""
     found, lines = [], 0
     for text, said in events_of(schedule, report)[1]:
         kept = recorded(text, said)

@@ -55,7 +55,12 @@ class Images(unittest.TestCase):
     def test_moments(self):
         first, second = crashes.Write(0, b"a"), crashes.Write(1, b"b")
         found = list(crashes.moments([first, crashes.SYNC, second]))
-        self.assertEqual(found, [(0, b"", ()), (1, b"", (first,)), (2, b"a", ()), (3, b"a", (second,))])
+        self.assertEqual([it[:3] for it in found], [(0, b"", ()), (1, b"", (first,)), (2, b"a", ()), (3, b"a", (second,))])
+
+    def test_a_name_that_is_not_safe(self):
+        """All may be lost with it, also what was synced."""
+        found = list(crashes.moments([crashes.Write(0, b"a"), crashes.SYNC, crashes.NAMED]))
+        self.assertEqual([set(crashes.left(it)) for it in found], [{b""}, {b"", b"\0", b"a"}, {b"", b"a"}, {b"a"}])
 
     def test_too_many(self):
         with self.assertRaises(crashes.Fault):
@@ -74,13 +79,15 @@ class Strace(unittest.TestCase):
             f'openat(AT_FDCWD<\\x2f>, "{name}", O_RDWR|O_CREAT, 0666) = 3<{name}>',
             f'pwrite64(3<{name}>, "\\x01\\x0a", 2, 5) = 2',
             f"fdatasync(3<{name}>) = 0",
+            "fsync(4<\\x2f>) = 0",
+            "fsync(5<\\x2f\\x6b>) = 0",
             'write(1<pipe:[5]>, "\\x61\\x0a", 2) = 2',
             'pwrite64(3</j>, "\\x01\\x0a", 2, 7) = 1',
             "fsync(3</j>)                     = 0",
             'write(1<pipe:[5]>, "\\x61", 1) = 1',
             'pwrite64(4</other>, "\\x01", 1, 0) = 1',
         )
-        wanted = [crashes.Write(5, b"\1\n"), crashes.SYNC, crashes.Told(2), crashes.Write(7, b"\1"), crashes.SYNC, crashes.Told(3)]
+        wanted = [crashes.Write(5, b"\1\n"), crashes.SYNC, crashes.NAMED, crashes.Told(2), crashes.Write(7, b"\1"), crashes.SYNC, crashes.Told(3)]
         self.assertEqual(self.ops(*lines), wanted)
         self.assertEqual(crashes.read("# words\n" + "".join(f"{crashes.line_of(op)}\n" for op in wanted)), wanted)
 
@@ -91,11 +98,13 @@ class Strace(unittest.TestCase):
             "fdatasync(3</j>) = -1 EIO (Input/output error)",
             'pwrite64(3</j>, "\\x01", 1, 0 <unfinished ...>',
             'openat(AT_FDCWD</>, "j", O_RDWR|O_TRUNC) = 3</j>',
+            'truncate("/j", 0) = 0',
+            'rename("/k", "/j") = 0',
             "mmap(NULL, 8192, PROT_WRITE, MAP_SHARED, 3</j>, 0) = 0x7f",
         ):
             with self.subTest(line), self.assertRaises(crashes.Fault):
                 self.ops(line)
-        for line in ("write 0 2 00", "sync 1", "told", "wrote 0 1 00"):
+        for line in ("write 0 2 00", "sync 1", "sync file", "told", "wrote 0 1 00"):
             with self.subTest(line), self.assertRaises(crashes.Fault):
                 crashes.read(line)
 
@@ -117,7 +126,7 @@ class Promises(unittest.TestCase):
     def is_broken(self, ops, reader=journals.records_of):
         promise = crashes.Promise(ops, self.report, self.kept)
         with unittest.mock.patch.object(journals, "records_of", reader):
-            images = ((place, image) for place, synced, pending in crashes.moments(ops) for image in crashes.images(synced, pending))
+            images = ((moment.place, image) for moment in crashes.moments(ops) for image in crashes.left(moment))
             return any(not promise.holds(image, promise.bounds(place)) for place, image in images)
 
     def test_as_it_is(self):
@@ -129,6 +138,10 @@ class Promises(unittest.TestCase):
             with self.subTest(at):
                 self.assertEqual(self.ops[at], crashes.SYNC)
                 self.assertTrue(self.is_broken(self.ops[:at] + self.ops[at + 1 :]))
+
+    def test_the_folder_is_not_synced(self):
+        self.assertIn(crashes.NAMED, self.ops)
+        self.assertTrue(self.is_broken([op for op in self.ops if op != crashes.NAMED]))
 
     def test_the_gate_comes_first(self):
         for at in self.bodies:
@@ -143,9 +156,10 @@ class Promises(unittest.TestCase):
         self.assertTrue(self.is_broken([*self.ops[:at], crashes.Write(body.at, body.data[:-1] + b"\1"), *self.ops[at + 1 :]]))
 
     def test_an_earlier_record_is_written_again(self):
-        """Even with the same bytes: they may be there in part."""
+        """The gate of the first record is closed and opened again."""
         at = self.bodies[2]
-        self.assertTrue(self.is_broken([*self.ops[:at], crashes.Write(0, b"\0"), crashes.SYNC, crashes.Write(0, b"\1"), crashes.SYNC, *self.ops[at:]]))
+        again = [crashes.Write(0, b"\0"), crashes.SYNC, crashes.Write(0, b"\1"), crashes.SYNC]
+        self.assertTrue(self.is_broken([*self.ops[:at], *again, *self.ops[at:]]))
 
     def test_the_report_comes_too_early(self):
         """The line that tells of a record may be written once its gate is safe, and no sooner."""
