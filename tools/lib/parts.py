@@ -19,6 +19,8 @@ PARTS = (
     Part("rules and their cases", ("conformance/list", "--check"), early=True),
     Part("pages made from sources", ("tools/pages", "check"), early=True),
     Part("chains as bytes", ("conformance/chains.py", "--check"), early=True),
+    Part("journals as bytes", ("conformance/journals.py", "--check"), early=True),
+    Part("many transactions", ("conformance/many.py", "--check"), early=True),
     Part("tools", ("tools/test_tools", "all"), early=True),
     Part("pages of runs", ("tools/test_view", "all")),
     Part("journal under kills", ("tools/test_journal", "--seconds", "5", "--ours"), COMMITTEE),
