@@ -1,7 +1,7 @@
 #!/usr/bin/env python3
 """Writes the cases of `check`: chains of checkpoints as bytes, with the line that the program must write.
 
-Written from docs/FORMATS.md and the rules alone, apart from the program.
+Written from nothing but docs/FORMATS.md and the rules, apart from the program.
 
 usage: conformance/chains.py --write   writes the cases
        conformance/chains.py --check   writes nothing, and says which of them are not as it would write them, one line each

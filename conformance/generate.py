@@ -1,7 +1,7 @@
 #!/usr/bin/env python3
 """Writes the schedule of NUMBER transactions and WORKERS workers, or its SHA-256.
 
-Written from the description of the text alone, apart from the program.
+Written from nothing but the description of the text, apart from the program.
 
 usage: conformance/generate.py NUMBER WORKERS [--digest]
 """

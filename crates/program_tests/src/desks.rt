@@ -330,12 +330,17 @@ fn no_append_or_the_first_one_fails(rt: HostRuntime) {
     }
 }
 
+/// One fresh vote and one fault, at most one vote again and two that are locked, and at least three at a member that is down.
+fn has_one_fault(counts: &Counts) -> bool {
+    counts[0] == 1 && counts[1] <= 1 && counts[2] <= 2 && counts[3] == 1 && 3 <= counts[4]
+}
+
 /// One vote stands, and the append of the other fails. How many calls are made before that depends on the callers.
 fn has_fallen_second(left: Option<Left>) -> bool {
-    let Some(([fresh, stood, locked, faults, down], falls, same)) = left else {
+    let Some((counts, falls, same)) = left else {
         return false;
     };
-    (fresh, faults, falls, same) == (1, 1, true, true) && stood <= 1 && locked <= 2 && 3 <= down
+    falls && same && has_one_fault(&counts)
 }
 
 #[test]

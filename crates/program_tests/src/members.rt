@@ -36,7 +36,6 @@ fn started_from(
 }
 
 /// The same over the objects of set-up lines.
-#[tactic(auto, using(world_names::proofs::Opened::opening_apart))]
 fn started_over(
     alloc: Global,
     setup: &Seq<Setup>,

@@ -1,4 +1,5 @@
-//! Calls for clients that hold sealed votes or certificates and no member: what votes give, and who sealed two certificates.
+//! Calls for clients that hold sealed votes, certificates or chains and no member: what votes give, who sealed two
+//! certificates, and where a transaction stands.
 
 ghost use Rattle.std.specs.Prelude.{◌≡◌, ◌∷◌, [], IfOk, map, true};
 ghost use Rattle.quorum_core.specs.Committee.{is_roll};
@@ -12,7 +13,7 @@ use cert_rules::{CollectRefusal, collect};
 use chain_messages::{Certificate, MemberSeal, Sealed, Statement};
 use chain_types::{Address, ObjectRef, Transaction, tx_digest};
 use digest_core::Digest;
-use light_check::blame;
+use light_check::{blame, decode_chain, find};
 use quorum_core::Committee;
 use std::alloc::Global;
 use std::process::Abort;
@@ -183,4 +184,23 @@ fn who_sealed_both_is_to_blame(rt: HostRuntime) {
     same(&rt, blames(a, 0, 7, 2000, [].as_slice()), Ok(true));
     same(&rt, blames(a, 0, 8, 3000, [].as_slice()), Ok(true));
     same(&rt, blames(a, 1, 7, 3000, [].as_slice()), Ok(true));
+}
+
+/// Three checkpoints over two epochs, without seals: the first and the third list one transaction each.
+const CHAIN: &str =
+    "030000000000000000000000000000000000000000000000000000000000000000000000000000000000000000000000000111111111111111111111111111111111111111111111111111111111111111112222222222222222222222222222222222222222222222222222222222222222000000000000000000000100000000000000419ae3f7d3dba4f501fb684a86bc075594d02e0a249e2821d2a1c3bf0481a3be00010001000000000000000200000000000000a657ffa312bc559d98fab69a6ce3d900b52b3116218d1c7ee127adc906f75ef601333333333333333333333333333333333333333333333333333333333333333344444444444444444444444444444444444444444444444444444444444444440000";
+
+/// The first checkpoint that lists this transaction, and the digest of its effects there.
+fn found(alloc: Global, tx: u8) -> Option<Option<(u64, Digest)>> {
+    let bytes = hex::decode(alloc, CHAIN.as_bytes()).ok()?;
+    let chain = decode_chain(alloc, bytes.as_slice()).ok()?;
+    Some(find(&chain, &digest(tx)))
+}
+
+#[test]
+fn a_transaction_is_found_with_its_effects(rt: HostRuntime) {
+    let a = rt.alloc();
+    same(&rt, found(a, 0x11), Some(Some((0, digest(0x22)))));
+    same(&rt, found(a, 0x33), Some(Some((2, digest(0x44)))));
+    same(&rt, found(a, 0x12), Some(None));
 }
