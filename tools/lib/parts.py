@@ -25,6 +25,7 @@ PARTS = (
     Part("orders and limits in the cases", ("conformance/tables.py", "--missing")),
     Part("hunt", ("tools/test_hunt", "all")),
     Part("pages of runs", ("tools/test_view", "all")),
+    Part("faults of the system", ("tools/test_faults", "--ours"), COMMITTEE),
     Part("journal under kills", ("tools/test_journal", "--seconds", "5", "--ours"), COMMITTEE),
     Part("images of crashes", ("tools/crash_images", "--trace", "--ours"), COMMITTEE, ("tools/crash_images", "--trace", "--replays", "20", "--ours")),
     Part("conformance", ("conformance/run", "--ours"), BOTH),
