@@ -1,9 +1,10 @@
 #!/usr/bin/env python3
 """Writes the cases with a journal file: records as bytes that `replay` reads, and the bytes that `run` leaves.
 
-Written from docs/FORMATS.md and the rules alone, apart from the program:
-    journals.py          writes the cases
-    journals.py --check  says which of them are not as it would write them, one line each
+Written from docs/FORMATS.md and the rules alone, apart from the program.
+
+usage: conformance/journals.py --write   writes the cases
+       conformance/journals.py --check   writes nothing, and says which of them are not as it would write them, one line each
 """
 import hashlib
 import os
@@ -292,7 +293,7 @@ def files_of(case):
 
 
 def main(words):
-    if words not in ([], ["--check"]):
+    if words not in (["--write"], ["--check"]):
         print(__doc__, end="", file=sys.stderr)
         return 2
     wrong = 0
@@ -300,7 +301,7 @@ def main(words):
         os.makedirs(os.path.dirname(f"{HERE}/{case['name']}"), exist_ok=True)
         for ending, text in files_of(case).items():
             path = f"{HERE}/{case['name']}.{ending}"
-            if words:
+            if "--check" in words:
                 if not os.path.exists(path) or open(path, "rb").read() != text:
                     wrong += 1
                     print(f"{case['name']}.{ending} is not as journals.py writes it")

@@ -3,8 +3,8 @@
 
 Written from the rules alone, apart from the program: what each kind of transaction votes, writes and costs is worked out here.
 
-usage: conformance/many.py          writes the cases
-       conformance/many.py --check  says which of their files are not as it would write them, one line each
+usage: conformance/many.py --write   writes the cases
+       conformance/many.py --check   writes nothing, and says which of their files are not as it would write them, one line each
 """
 
 import os
@@ -152,12 +152,12 @@ def files():
 
 
 def main(words):
-    if words not in ([], ["--check"]):
+    if words not in (["--write"], ["--check"]):
         print(__doc__, end="", file=sys.stderr)
         return 2
     wrong = 0
     for path, wanted in files():
-        if not words:
+        if words == ["--write"]:
             with open(f"{HERE}/{path}", "w", encoding="utf-8") as it:
                 it.write(wanted)
         elif not os.path.exists(f"{HERE}/{path}") or open(f"{HERE}/{path}", encoding="utf-8").read() != wanted:

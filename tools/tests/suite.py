@@ -60,6 +60,14 @@ class Suite(unittest.TestCase):
         self.write("folder/good.status", "3\n")
         self.assertEqual(self.ran()[1][0], "folder/good: status 0, wanted 3")
 
+    def test_a_second_report(self):
+        """Where the rules leave two reports open either is taken, and the first one is told if it is neither."""
+        self.write("folder/good.report", "run\n1 3\n")
+        self.write("folder/good.or", "run\n1 2\n")
+        self.assertEqual(self.ran(), (0, ["1 passed, 0 failed"]))
+        self.write("folder/good.or", "run\n1 4\n")
+        self.assertEqual(self.ran(), (1, ["folder/good: another report", "-1 3", "+1 2", "failed: folder/good", "0 passed, 1 failed"]))
+
     def test_words_of_a_case(self):
         self.write("folder/good.args", "one\ntwo\n")
         self.write("folder/good.report", "one two\n1 2\n")
@@ -195,7 +203,7 @@ class Uses(unittest.TestCase):
 
     def tools(self):
         found = [it for it in glob.glob(f"{TOP}/tools/*") if os.path.isfile(it) and os.access(it, os.X_OK)]
-        return sorted([*found, f"{TOP}/conformance/run", f"{TOP}/conformance/list", f"{TOP}/conformance/chains.py", f"{TOP}/conformance/generate.py"])
+        return sorted([*found, f"{TOP}/conformance/run", f"{TOP}/conformance/list", *(f"{TOP}/conformance/{it}.py" for it in ("chains", "generate", "journals", "many"))])
 
     def ran(self, tool, *words):
         start = ["python3", tool] if tool.endswith(".py") else [tool]
