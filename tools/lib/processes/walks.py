@@ -1,0 +1,2 @@
+def walk(words, program):
+    return 2
