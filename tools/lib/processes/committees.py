@@ -166,8 +166,7 @@ class Committee:
             made = self.wallets.made[digest]
             if said:
                 effects = said[min(said)]
-                for faulty in self.faulty:
-                    said.setdefault(faulty.number, faulty.acknowledge(made, effects).what[1])
+                said.update({it.number: it.acknowledge(made, effects).what[1] for it in self.faulty if it.number not in said})
                 same = sorted(it for it, what in said.items() if what == effects)
                 if self.is_quorum(len(same)) and self.learn(made, effects):
                     self.log.say(f"final {made.name} {' '.join(map(str, same))}")

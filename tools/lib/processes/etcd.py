@@ -1,5 +1,6 @@
 """etcd on loopback: one node or a cluster of three, each in a folder of its own; a node may be killed and started again."""
 
+import concurrent.futures
 import json
 import os
 import shutil
@@ -64,9 +65,14 @@ class Etcd:
         self.nodes = [Node(f"n{place}", folder) for place in range(count)]
         self.cluster = ",".join(f"{it.name}={it.peer}" for it in self.nodes)
         self.kills = 0
+        # The system ends a node with the thread that started it, so one thread that stays starts them all.
+        self.starter = concurrent.futures.ThreadPoolExecutor(1)
         for node in self.nodes:
-            node.start(self.cluster)
+            self.start(node)
         self.wait()
+
+    def start(self, node):
+        self.starter.submit(node.start, self.cluster).result()
 
     def urls(self):
         return [it.url for it in self.nodes]
@@ -86,7 +92,7 @@ class Etcd:
                 node.child.kill()
                 node.child.wait()
                 self.kills += 1
-                node.start(self.cluster)
+                self.start(node)
                 return
 
     def stop(self):

@@ -1,24 +1,24 @@
 """What a run says of itself: kills, votes, transactions a second, and where the time went."""
 
 import os
+import random
 import time
 
 import members
 import process
 import wallets
-import random
 import wire
 
 
 def told(committee, killer, etcd, seconds, seed):
     """Writes the numbers of a run."""
-    lives = sum(it.lives for it in committee.members)
+    starts, lives = (sum(getattr(it, what) for it in committee.members) for what in ("starts", "lives"))
     votes, others = sum(len(it.given.votes) for it in committee.members), sum(len(it.given.others) for it in committee.members)
     said = sum(it.given.count for it in committee.members)
     asked = sum(it.deaths_asked for it in committee.members)
     contradicted = sum(len(it.given.contradicted) for it in committee.members)
     print(f"seed {seed}: {committee.rounds} rounds, {committee.epoch} epochs ended, {seconds:.1f} s")
-    print(f"processes: {killer.done} kills, {killer.at_once} at once at most, {asked} while a request was under way; {lives} lives of {len(committee.members)} processes")
+    print(f"processes: {killer.done} kills, {killer.at_once} at once at most, {asked} while a request or a start was under way; {starts} starts of {len(committee.members)} members, {lives} came to their first line")
     if etcd:
         print(f"etcd: {len(etcd.nodes)} nodes, {etcd.kills} kills of the leader")
     print(f"said under seals: {votes} votes, {others} Ends, acknowledgements and checkpoints, {said} times in all; {contradicted} contradicted")

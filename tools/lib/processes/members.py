@@ -53,7 +53,7 @@ class Member:
         self.process = self.ready = self.pending = None
         self.given = Given()
         self.epoch = self.seen = 0
-        self.lives = self.deaths = self.deaths_asked = 0
+        self.starts = self.lives = self.deaths_asked = 0
         self.rests_until = 0
         self.faults = []
         self.by_line = {}
@@ -64,6 +64,7 @@ class Member:
             return
         if time.monotonic() < self.rests_until:
             raise Down()
+        self.starts += 1
         self.process = process.Process(*self.start_words)
         self.ready = self.process.ready()
         if self.lives:
@@ -94,7 +95,6 @@ class Member:
                 self.standing()
                 answer = "" if tries and self.is_done(request) else self.process.ask(request)
             except process.Died:
-                self.deaths += 1
                 self.deaths_asked += 1
                 self.pending = (request, event, tries + 1)
                 continue
@@ -124,7 +124,7 @@ class Member:
     def kill(self, rests=0):
         """Ends the process as kill -9 does, whatever it is about. It is started again after so many seconds, when it is next asked."""
         it = self.process
-        if it is None or it.child.returncode is not None:
+        if it is None or it.child.poll() is not None:
             return False
         self.rests_until = time.monotonic() + rests
         it.kill()

@@ -9,7 +9,7 @@ import urllib.error
 import urllib.request
 
 SECONDS = 10
-PATIENCE = 120
+PATIENCE = 60
 
 
 class FileSequence:
