@@ -89,27 +89,31 @@ class Afterwards:
             wanted = rf"certified {len(self.chain)} included in \d+\n"
             self.expect("the chain by `committee check`", ran.returncode == 0 and re.fullmatch(wanted, ran.stdout.decode()), ran.stdout.decode())
 
-    def text(self):
-        """The run as a schedule."""
-        return self.committee.genesis + "".join(f"{line}\n" for line in self.committee.log.lines)
+    def text(self, most=None):
+        """The run as a schedule, or its first events."""
+        return self.committee.genesis + "".join(f"{line}\n" for line in self.committee.log.lines[:most])
 
-    def same_schedule(self, committee, inspect):
-        """`committee run` answers the schedule of the run as the processes answered it, and builds the same chain."""
-        text = self.text().encode()
-        ran = subprocess.run([committee, "run"], input=text, capture_output=True)
+    def same_schedule(self, program, most):
+        """`committee run` answers the first events of the run as the processes answered them."""
+        ran = subprocess.run([program, "run"], input=self.text(most).encode(), capture_output=True)
         self.expect("the schedule of the run", ran.returncode == 0, f"status {ran.returncode}: {ran.stdout[-200:].decode()}")
         heads = [line for line in ran.stdout.decode().split("\n") if line and not line.startswith("  ")]
-        self.expect("a line of the report for each line of the schedule", len(heads) == len(self.committee.log.lines))
-        others = self.other_answers(dict(enumerate(heads)))
+        self.expect("a line of the report for each line of the schedule", len(heads) == len(self.committee.log.lines[:most]))
+        others = self.other_answers(heads)
         self.expect("answers of processes and of `committee run`", not others, "; ".join(others[:3]))
         others = [line for line in heads if line.startswith("final ") and ": final by " not in line]
         self.expect("finals of `committee run`", not others, "; ".join(others[:3]))
-        if inspect:
-            members = [it.number for it in self.committee.members]
-            ran = subprocess.run([inspect, "chain", "0", ",".join(map(str, members))], input=text, capture_output=True)
-            self.expect("the chain of `inspect chain`", ran.stdout == self.bytes_of_chain(), f"status {ran.returncode}, {len(ran.stdout)} bytes")
-            ran = subprocess.run([inspect, "blame"], input=text, capture_output=True)
-            self.expect("blame by `inspect blame`", ran.returncode == 0 and ran.stdout == b"", ran.stdout.decode())
+
+    def same_chain(self, program, most):
+        """`inspect` finds the chain of the processes behind the first events, and nobody to blame."""
+        text, members = self.text(most).encode(), ",".join(str(it.number) for it in self.committee.members)
+        ran = subprocess.run([program, "chain", "0", members], input=text, capture_output=True)
+        count = wire.Reader(ran.stdout or b"\x00").length()
+        wanted = wire.sequence([wire.link(*it) for it in self.chain[:count]])
+        self.expect("the chain of `inspect chain`", ran.returncode == 0 and ran.stdout == wanted and count, f"status {ran.returncode}, {len(ran.stdout)} bytes")
+        ran = subprocess.run([program, "blame"], input=text, capture_output=True)
+        self.expect("blame by `inspect blame`", ran.returncode == 0 and ran.stdout == b"", ran.stdout.decode())
+        return count
 
     def other_answers(self, heads):
         """Where a report answers something else than a process did. What a process did and could not say is not compared."""
@@ -117,8 +121,8 @@ class Afterwards:
         for member in self.committee.members:
             said.update(member.by_line)
         found = []
-        for place, answer in said.items():
-            head = heads.get(place, "")
+        for place, head in enumerate(heads):
+            answer = said.get(place)
             if answer and in_one_word(answer, self.committee.log.lines[place]) != of_report(head):
                 found.append(f"{head!r} where a process answered {answer[:80]!r}")
         return found
