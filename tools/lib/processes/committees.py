@@ -104,8 +104,9 @@ class Committee:
             if words[0] in ("voted", "again"):
                 votes[member.number] = wire.read_sealed(bytes.fromhex(words[1]))
             elif answer:
+                cause = " ".join(words[1:3]) if words[1] == "wrong" else words[1]
                 with self.lock:
-                    self.refused[words[1]] = self.refused.get(words[1], 0) + 1
+                    self.refused[cause] = self.refused.get(cause, 0) + 1
 
     def certify(self, made):
         """Forms the certificate of a transaction if members enough gave one vote. Answers its bytes, or none."""

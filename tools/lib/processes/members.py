@@ -123,11 +123,9 @@ class Member:
 
     def kill(self, rests=0):
         """Ends the process as kill -9 does, whatever it is about. It is started again after so many seconds, when it is next asked."""
-        it = self.process
-        if it is None or it.child.poll() is not None:
+        if self.process is None or not self.process.kill():
             return False
         self.rests_until = time.monotonic() + rests
-        it.kill()
         return True
 
     def stop(self):

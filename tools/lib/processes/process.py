@@ -36,7 +36,7 @@ class Process:
     def __init__(self, program, member, genesis, journal):
         how = {"stdin": subprocess.PIPE, "stdout": subprocess.PIPE, "stderr": subprocess.DEVNULL, "bufsize": 0}
         self.child = subprocess.Popen([program, str(member), genesis, "in", journal], preexec_fn=kept.dies_with_parent(SIGKILL), **how)
-        self.member, self.left = member, b""
+        self.member, self.left, self.killed = member, b"", False
 
     def ready(self):
         """The words of its first line by their names, once it has started from its records."""
@@ -73,9 +73,12 @@ class Process:
         return self.line()
 
     def kill(self):
-        """Ends the process as kill -9 does."""
-        if self.child.returncode is None:
-            self.child.kill()
+        """Ends the process as kill -9 does. Answers whether that ended it, and not something before."""
+        if self.killed or self.child.poll() is not None:
+            return False
+        self.killed = True
+        self.child.kill()
+        return True
 
     def stop(self):
         """Ends it by the end of its input. Answers its status."""
