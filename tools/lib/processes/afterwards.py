@@ -66,7 +66,8 @@ class Afterwards:
         for place in range(count + 1):
             answers = {it.number: it.ask(f"checkpoint {place}").split(" ") for it in self.committee.members}
             spelled = {words[1] if words[0] == "checkpoint" else "none" for words in answers.values()}
-            self.expect(f"checkpoint {place} of all members", len(spelled) == 1 and (spelled == {"none"}) == (place == count), str({n: w[0] for n, w in answers.items()}))
+            alike = len(spelled) == 1 and (spelled == {"none"}) == (place == count)
+            self.expect(f"checkpoint {place} of all members", alike, str({number: words[0] for number, words in answers.items()}))
             if place < count and len(spelled) == 1:
                 seals = [(number, wire.read_sealed(bytes.fromhex(words[2])).seal) for number, words in answers.items()]
                 self.chain.append((bytes.fromhex(*spelled), seals))

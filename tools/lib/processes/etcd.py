@@ -34,8 +34,9 @@ class Node:
 
     def start(self, cluster):
         """Starts it, or starts it again over its folder."""
-        words = ["etcd", "--name", self.name, "--data-dir", f"{self.folder}/{self.name}", "--listen-client-urls", self.url, "--advertise-client-urls", self.url]
-        words += ["--listen-peer-urls", self.peer, "--initial-advertise-peer-urls", self.peer, "--initial-cluster", cluster, "--logger", "zap"]
+        words = ["etcd", "--name", self.name, "--data-dir", f"{self.folder}/{self.name}", "--logger", "zap", "--initial-cluster", cluster]
+        words += ["--listen-client-urls", self.url, "--advertise-client-urls", self.url]
+        words += ["--listen-peer-urls", self.peer, "--initial-advertise-peer-urls", self.peer]
         with open(f"{self.folder}/{self.name}.log", "ab") as log:
             how = {"stdin": subprocess.DEVNULL, "stdout": log, "stderr": log}
             self.child = subprocess.Popen(words, preexec_fn=kept.dies_with_parent(SIGKILL), **how)

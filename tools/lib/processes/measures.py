@@ -18,14 +18,17 @@ def told(committee, killer, etcd, seconds, seed):
     asked = sum(it.deaths_asked for it in committee.members)
     contradicted = sum(len(it.given.contradicted) for it in committee.members)
     print(f"seed {seed}: {committee.rounds} rounds, {committee.epoch} epochs ended, {seconds:.1f} s")
-    print(f"processes: {killer.done} kills, {killer.at_once} at once at most, {asked} while a request or a start was under way; {starts} starts of {len(committee.members)} members, {lives} came to their first line")
+    print(f"processes: {killer.done} kills, {killer.at_once} at once at most, {asked} while a request or a start was under way")
+    print(f"lives: {starts} starts of {len(committee.members)} members, {lives} came to their first line")
     if etcd:
         print(f"etcd: {len(etcd.nodes)} nodes, {etcd.kills} kills of the leader")
     print(f"said under seals: {votes} votes, {others} Ends, acknowledgements and checkpoints, {said} times in all; {contradicted} contradicted")
     made, final = len(committee.wallets.made), len(committee.final)
     refused = ", ".join(f"{count} {cause}" for cause, count in sorted(committee.refused.items()))
-    print(f"transactions: {made} made, {committee.wallets.doubles} coins spent twice; {len(committee.certificates)} certified, {final} final; votes refused: {refused or 'none'}")
-    print(f"a second: {final / seconds:.1f} final transactions; seconds of the steps: {', '.join(f'{name} {it:.1f}' for name, it in committee.seconds.items())}")
+    print(f"transactions: {made} made, {committee.wallets.doubles} coins spent twice; {len(committee.certificates)} certified, {final} final")
+    print(f"votes refused: {refused or 'none'}")
+    steps = ", ".join(f"{name} {it:.1f}" for name, it in committee.seconds.items())
+    print(f"a second: {final / seconds:.1f} final transactions; seconds of the steps: {steps}")
 
 
 def votes(program, seconds, folder, coins):

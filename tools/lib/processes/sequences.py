@@ -85,7 +85,8 @@ class EtcdSequence:
             number = self.next.get(epoch, 0)
             key = self.key(epoch, number)
             absent = {"key": key, "target": "VERSION", "result": "EQUAL", "version": "0"}
-            said, first = self.asked("txn", {"compare": [absent], "success": [{"requestPut": {"key": key, "value": value}}], "failure": [{"requestRange": {"key": key}}]})
+            put, read = {"requestPut": {"key": key, "value": value}}, {"requestRange": {"key": key}}
+            said, first = self.asked("txn", {"compare": [absent], "success": [put], "failure": [read]})
             self.next[epoch] = number + 1
             if said.get("succeeded"):
                 return number
