@@ -483,7 +483,14 @@ def taken_back():
     write("epochs/a-pending-one-is-taken-back", lines, "A transaction that was executed and is in the sequence, but waits there for its origin, was not admitted: the epoch change takes it back.", "turn.turned see.pending")
 
 
+def longest_length():
+    """A length of 2147483647, the last that is read, and the next one: the number of inputs, after the fixed fields of a transaction."""
+    lines = ["member 1 honest", *(f"raw 0 {call} {'00' * 120}{length}" for call in ("vote", "hold") for length in ("ffffffff07", "8080808008"))]
+    write("raw/longest-length", lines, "A length of 2147483647 is read, and the bytes end inside what it counts; one more is too long.", "wire.1 wire.5")
+
+
 def main():
+    longest_length()
     taken_back()
     natives_at_limits()
     other_origin()
