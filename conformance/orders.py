@@ -489,8 +489,14 @@ def longest_length():
     write("raw/longest-length", lines, "A length of 2147483647 is read, and the bytes end inside what it counts; one more is too long.", "wire.1 wire.5")
 
 
+def no_bytes():
+    """A `raw` line with a last space and no bytes after it; the same of an input is taken."""
+    write("grammar/refused-raw-of-no-bytes", ["member 1 honest", "coin g0 alice 9000", "tx t1 alice 0 g0@1 2000 x: vec(coin)", "raw 0 vote "], "A raw line needs at least one byte; an input x: does not.", "refused.4")
+
+
 def main():
     longest_length()
+    no_bytes()
     taken_back()
     natives_at_limits()
     other_origin()
