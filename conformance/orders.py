@@ -470,7 +470,34 @@ def other_origin():
     write("execution/absent-by-another-origin", lines, "A faulty quorum names t1 as the origin of a version that t0 made: the version is absent, though both are executed.", "run.absent")
 
 
+def taken_back():
+    """What an epoch change takes back: a deletion, and what stands in the sequence and was not admitted."""
+    lines = ["member 1 honest"] * 4 + ["coin g0 alice 9000", "coin g1 alice 700", "tx t1 alice 0 g0@1 2000 o:g1@1 merge(gas,i0)"]
+    lines += [*(f"vote {number} t1" for number in range(3)), "cert t1 0 1 2", "send 3 t1", "run 3 1", "show 3"]
+    for number in range(3):
+        lines += [f"close {number}", f"end {number}", f"order end {number}"]
+    lines += ["see 3 9", "turn 3", "show 3", "tx t2 alice 1 g0@1 2000 o:g1@1 a:bob transfer(i0,i1)", "vote 3 t2"]
+    write("epochs/what-was-merged-away-comes-back", lines, "A merge that is in no checkpoint is taken back: the coin that was merged away is there again, in its old version.", "turn.turned show.objects vote.voted")
+    lines = ["member 1 honest", "member 9 faulty", "coin g0 alice 9000", "tx t1 alice 0 g0@1 2000 a:bob transfer(gas,i0)", "fvote 1 t1", "cert t1 1", "send 0 t1", "run 0 1"]
+    lines += ["tx t2 bob 0 g0@2 2000 a:carol transfer(gas,i0)", "fvote 1 t2 t1", "cert t2 1", "send 0 t2", "run 0 1", "show 0", "order t2", "order end 1", "see 0 9", "turn 0", "show 0"]
+    write("epochs/a-pending-one-is-taken-back", lines, "A transaction that was executed and is in the sequence, but waits there for its origin, was not admitted: the epoch change takes it back.", "turn.turned see.pending")
+
+
+def longest_length():
+    """A length of 2147483647, the last that is read, and the next one: the number of inputs, after the fixed fields of a transaction."""
+    lines = ["member 1 honest", *(f"raw 0 {call} {'00' * 120}{length}" for call in ("vote", "hold") for length in ("ffffffff07", "8080808008"))]
+    write("raw/longest-length", lines, "A length of 2147483647 is read, and the bytes end inside what it counts; one more is too long.", "wire.1 wire.5")
+
+
+def no_bytes():
+    """A `raw` line with a last space and no bytes after it; the same of an input is taken."""
+    write("grammar/refused-raw-of-no-bytes", ["member 1 honest", "coin g0 alice 9000", "tx t1 alice 0 g0@1 2000 x: vec(coin)", "raw 0 vote "], "A raw line needs at least one byte; an input x: does not.", "refused.4")
+
+
 def main():
+    longest_length()
+    no_bytes()
+    taken_back()
     natives_at_limits()
     other_origin()
     frozen_key()
