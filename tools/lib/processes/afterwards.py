@@ -106,7 +106,7 @@ class Afterwards:
         self.expect("finals of `committee run`", not others, "; ".join(others[:3]))
 
     def same_chain(self, program, most):
-        """`inspect` finds the chain of the processes behind the first events, and nobody to blame."""
+        """`inspect` finds the chain of the processes after the first events, and nobody to blame."""
         text, members = self.text(most).encode(), ",".join(str(it.number) for it in self.committee.members)
         ran = subprocess.run([program, "chain", "0", members], input=text, capture_output=True)
         count = wire.Reader(ran.stdout or b"\x00").length()

@@ -162,6 +162,8 @@ def start(standing):
 
 def pay(standing, name, sender, coin, to, amount):
     """Makes a payment."""
+    if not amount.isdigit() or int(amount) >= 1 << 64:
+        raise Wrong(f"{amount} is no amount")
     epoch = int(standing.ask(standing.honest[0], "state").split(" ")[2])
     inputs = [wire.pure(wire.number(int(amount))), wire.pure(wire.address(to))]
     commands = [wire.split(wire.GAS, [wire.argument(0)]), wire.transfer([wire.result(0)], wire.argument(1))]
@@ -220,6 +222,13 @@ def stop(standing):
                 os.kill(int(it.read()), signal.SIGKILL)
 
 
+def member_of(standing, word):
+    """The honest member of this number."""
+    if not word.isdigit() or int(word) not in standing.honest:
+        raise Wrong(f"{word} is no honest member of {standing.folder}")
+    return int(word)
+
+
 def walk(words, program):
     """A command of a walk. Answers its status."""
     takes = {"make": 2, "start": 1, "pay": 6, "vote": 3, "finish": 2, "ask": 3, "stop": 1}
@@ -233,11 +242,13 @@ def walk(words, program):
                 raise Wrong("there is no program `validator` here: --validator names one")
             make(words[1], words[2], at)
             return 0
+        if not os.path.exists(f"{words[1]}/genesis"):
+            raise Wrong(f"there is no committee in {words[1]}: `walk make` makes one")
         standing = Standing(words[1])
         if words[0] == "vote":
-            vote(standing, words[2], [int(it) for it in words[3:]])
+            vote(standing, words[2], [member_of(standing, it) for it in words[3:]])
         elif words[0] == "ask":
-            print(standing.ask(int(words[2]), " ".join(words[3:])))
+            print(standing.ask(member_of(standing, words[2]), " ".join(words[3:])))
         else:
             {"start": start, "pay": pay, "finish": finish, "stop": stop}[words[0]](standing, *words[2 : takes[words[0]] + 1])
     except (Wrong, process.Refused) as fault:
