@@ -123,7 +123,7 @@ class Cases(unittest.TestCase):
         seen = set()
         for path in sorted(glob.glob(f"{TOP}/conformance/*/*.schedule")):
             schedule = read(path).decode("latin-1")
-            report = read(path.replace(".schedule", ".report")).decode()
+            report = read(path.replace(".schedule", ".report")).decode("latin-1")
             # A schedule that is refused hands nothing to anybody.
             if " hold " not in schedule or os.path.exists(path.replace(".schedule", ".args")) or report.startswith("refused "):
                 continue
