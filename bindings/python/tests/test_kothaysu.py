@@ -4,6 +4,7 @@ usage: python3 -m unittest discover bindings/python/tests    with $KOTHAYSU_LIBR
 """
 
 import glob
+import itertools
 import os
 import re
 import sys
@@ -46,8 +47,55 @@ def payment(gas=GAS, budget=2000, members=(0, 1, 2)):
     return reference.certificate(tx, [None], members)
 
 
+def coin_at(place, owner, balance):
+    """A reference to version 1 of the coin at this place of a schedule."""
+    named = reference.tagged("G", reference.number(place, 8)) + reference.number(1, 8)
+    content = b"\x00" + owner + b"\x00" + reference.number(0, 8) + reference.number(balance, 8)
+    return named + reference.tagged("O", named + content)
+
+
+def certificates_of(schedule):
+    """The certificates of a schedule in which users send their gas coins on, by name and in order."""
+    coins, transactions, found = {}, {}, {}
+    for kind, name, *words in (it.split() for it in schedule.splitlines() if it):
+        if kind == "coin":
+            coins[name] = coin_at(len(coins), reference.tagged("A", words[0].encode()), int(words[1]))
+        if kind == "tx":
+            sender, epoch, gas, budget, receiver, what = words
+            if what != "transfer(gas,i0)":
+                raise ValueError(f"a block that is not read here: {what}")
+            given = b"\x00\x20" + reference.tagged("A", receiver.removeprefix("a:").encode())
+            gas = coins[gas.removesuffix("@1")]
+            sender = reference.tagged("A", sender.encode())
+            transactions[name] = int(epoch), reference.transaction(sender, gas, int(epoch), int(budget), [given], [b"\x01\x01\x00\x01\x00\x00"])
+        if kind == "cert":
+            epoch, tx = transactions[name]
+            found[name] = reference.certificate(tx, [None], [int(it) for it in words], epoch)
+    return found
+
+
 class Cases(unittest.TestCase):
     """The cases of conformance, whose reports come from other programs."""
+
+    def test_blame(self):
+        """Each pair of certificates of a schedule gives the line of `inspect blame`, or none."""
+        paths = sorted(glob.glob(f"{TOP}/conformance/inspect/blame-*.schedule"))
+        self.assertGreater(len(paths), 1)
+        for path in paths:
+            schedule = read(path).decode()
+            stakes = [int(it) for it in re.findall(r"(?m)^member (\d+)", schedule)]
+            certificates = certificates_of(schedule)
+            for certificate in certificates.values():
+                self.assertEqual(len(kothaysu.check_certificate(stakes, certificate, KEYED)), 2)
+            lines = [self.line_of_blame(stakes, *pair) for pair in itertools.combinations(certificates.items(), 2)]
+            self.assertEqual("".join(lines), read(path.replace(".schedule", ".report")).decode(), path)
+
+    def line_of_blame(self, stakes, one, other):
+        found = said(kothaysu.blame, one[1], other[1])
+        if isinstance(found, kothaysu.NoRivals):
+            return ""
+        stake = sum(stakes[it] for it in found.members)
+        return f"blame {one[0]} {other[0]}: members {' '.join(map(str, found.members))} stake {stake} of {sum(stakes)}\n"
 
     def test_check(self):
         """Each chain gives the line of `committee check`."""
@@ -75,11 +123,13 @@ class Cases(unittest.TestCase):
         seen = set()
         for path in sorted(glob.glob(f"{TOP}/conformance/*/*.schedule")):
             schedule = read(path).decode("latin-1")
-            if " hold " not in schedule or os.path.exists(path.replace(".schedule", ".args")):
+            report = read(path.replace(".schedule", ".report")).decode("latin-1")
+            # A schedule that is refused hands nothing to anybody.
+            if " hold " not in schedule or os.path.exists(path.replace(".schedule", ".args")) or report.startswith("refused "):
                 continue
             stakes = [int(it) for it in re.findall(r"(?m)^member (\d+) ", schedule)]
             given = re.findall(r"(?m)^raw \d+ hold ([0-9a-f]*)$", schedule)
-            told = re.findall(r"(?m)^raw \d+ hold: (.*)$", read(path.replace(".schedule", ".report")).decode())
+            told = re.findall(r"(?m)^raw \d+ hold: (.*)$", report)
             self.assertEqual(len(given), len(told), path)
             for hexes, line in zip(given, told):
                 # A member says these before it looks whether the certificate is valid.

@@ -5,6 +5,7 @@ ghost use Rattle.disk_log.specs.Keeping.{NotOpened, Opened};
 ghost use Rattle.disk_log.specs.Log.{WalkCause};
 ghost use Rattle.sui_validator.specs.Journals.{first_of};
 
+use crate::disk_journal::DiskJournal;
 use crate::journal::FirstList;
 use disk_log::{Disk, DiskLog, OpenRefusal};
 use outside::MemKeeper;
@@ -13,9 +14,6 @@ use wire_bcs::OutOfMemory;
 
 /// A journal in memory: its records go with it.
 pub type MemJournal = FirstList<MemKeeper>;
-
-/// A journal over a disk: its records survive a crash at any moment (`disk_log`).
-pub type DiskJournal<K> = FirstList<DiskLog<K>>;
 
 /// An empty journal in memory, which never fails.
 pub fn journal_in_memory(alloc: Global) -> Result<MemJournal, OutOfMemory>
@@ -35,7 +33,9 @@ pub fn journal_over_disk<K: Disk>(
     ensures cause { IfErr result (λ e. WalkCause (K.failed disk) (K.failed e.0) (K.history disk) 1 e.1) }
 {
     match DiskLog::open(alloc, disk, 1) {
-        Ok(log) => Ok(FirstList::over(log)),
+        Ok(log) => Ok(DiskJournal {
+            list: FirstList::over(log),
+        }),
         Err(refusal) => Err(refusal),
     }
 }

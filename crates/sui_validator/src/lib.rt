@@ -9,6 +9,7 @@
 #![tactic(auto)]
 
 pub mod client;
+mod disk_journal;
 mod errors;
 mod journal;
 mod journals;

@@ -5,9 +5,10 @@
 //! `turn` end an epoch, and `ack` acknowledges what was executed. Nothing is required of a caller: each condition is a
 //! refusal, or a type.
 
+pub use crate::disk_journal::DiskJournal;
 pub use crate::errors::Error;
 pub use crate::journal::{FirstList, Journal};
-pub use crate::journals::{DiskJournal, MemJournal, journal_in_memory, journal_over_disk};
+pub use crate::journals::{MemJournal, journal_in_memory, journal_over_disk};
 pub use crate::member::Member;
 pub use crate::opening::OpenRefusal;
 pub use crate::workers::Workers;
