@@ -31,6 +31,7 @@ PARTS = (
     Part("conformance", ("conformance/run", "--ours"), BOTH),
     Part("stops at each record", ("tools/stopped", "--most", "6", "--ours"), COMMITTEE, ("tools/stopped", "--most", "1", "--ours")),
     Part("chains into check", ("tools/chains", "--ours"), BOTH),
+    Part("committee of processes", ("tools/test_processes", "--ours"), BOTH),
     Part("examples of the manual", ("tools/check_manual", "--ours"), COMMITTEE),
     Part("plain program", ("tools/baseline", "--check")),
     Part("library for C and Python", ("tools/test_library", "--check")),
