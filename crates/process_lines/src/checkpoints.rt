@@ -1,0 +1,54 @@
+//! Checkpoints in answers.
+
+ghost use Rattle.std.specs.Prelude.{◌≡◌, ◌++◌, OnOk};
+ghost use Rattle.chain_messages.specs.Messages as messages;
+ghost use Rattle.checkpoint_core.specs.Checkpoints as checkpoints;
+ghost use Rattle.process_lines.specs.Texts.{built_text, checkpoint_text, none_text};
+
+use crate::pieces::{Piece, print};
+use chain_messages::{Sealed, encode_sealed};
+use checkpoint_core::{Checkpoint, HashedCheckpoint};
+use wire_bcs::{OutOfMemory, Seq, encode};
+
+/// ` checkpoint N`
+fn print_built_one(out: &mut Seq<u8>, built: &HashedCheckpoint) -> Result<(), OutOfMemory> {
+    print(
+        out,
+        &[
+            Piece::Text(b" checkpoint "),
+            Piece::Number(built.checkpoint().number),
+        ],
+    )
+}
+
+/// ` checkpoint N` for each checkpoint that was built.
+pub fn print_built(out: &mut Seq<u8>, built: &[HashedCheckpoint]) -> Result<(), OutOfMemory> {
+    for checkpoint in built {
+        print_built_one(out, checkpoint)?;
+    }
+    Ok(())
+}
+
+/// `checkpoint BYTES SEALED`: a checkpoint, and the member's own statement of it.
+pub fn print_checkpoint(
+    out: &mut Seq<u8>,
+    checkpoint: &Checkpoint,
+    sealed: &Sealed,
+) -> Result<(), OutOfMemory> {
+    let bytes = encode(out.allocator(), checkpoint)?;
+    let sealed = encode_sealed(out.allocator(), sealed)?;
+    print(
+        out,
+        &[
+            Piece::Text(b"checkpoint "),
+            Piece::Bytes(bytes.as_slice()),
+            Piece::Text(b" "),
+            Piece::Bytes(sealed.as_slice()),
+        ],
+    )
+}
+
+/// `none`: there is no such thing.
+pub fn print_none(out: &mut Seq<u8>) -> Result<(), OutOfMemory> {
+    out.extend(b"none")
+}

@@ -1,0 +1,80 @@
+//! The answers to `object`, `version`, `effects` and `state`.
+
+ghost use Rattle.std.specs.Prelude.{◌≡◌, ◌++◌, OnOk};
+ghost use Rattle.process_lines.specs.Texts.{effects_text, halted_word, object_text, state_text};
+
+use crate::pieces::{Piece, print};
+use chain_types::Object;
+use effects_core::Effects;
+use wire_bcs::{OutOfMemory, Seq, encode};
+
+/// The state of a member in numbers.
+#[derive(Clone, Copy, Debug, PartialEq, Eq)]
+pub struct Counts {
+    pub epoch: u64,
+    /// Entries of the epoch's sequence that it has seen.
+    pub seen: u64,
+    /// Certificates that it holds.
+    pub held: u64,
+    /// Of these, those whose transactions it has executed.
+    pub executed: u64,
+    /// Checkpoints that it has built, over all epochs.
+    pub checkpoints: u64,
+    /// Live objects.
+    pub objects: u64,
+    /// Whether it met a fork.
+    pub halted: bool,
+}
+
+/// `object BYTES`
+pub fn print_object(out: &mut Seq<u8>, object: &Object) -> Result<(), OutOfMemory> {
+    let bytes = encode(out.allocator(), object)?;
+    print(out, &[Piece::Text(b"object "), Piece::Bytes(bytes.as_slice())])
+}
+
+/// `effects BYTES`
+pub fn print_effects(out: &mut Seq<u8>, effects: &Effects) -> Result<(), OutOfMemory> {
+    let bytes = encode(out.allocator(), effects)?;
+    print(out, &[Piece::Text(b"effects "), Piece::Bytes(bytes.as_slice())])
+}
+
+/// The first half of the state.
+fn print_first(out: &mut Seq<u8>, counts: &Counts) -> Result<(), OutOfMemory> {
+    print(
+        out,
+        &[
+            Piece::Text(b"state epoch "),
+            Piece::Number(counts.epoch),
+            Piece::Text(b" seen "),
+            Piece::Number(counts.seen),
+            Piece::Text(b" held "),
+            Piece::Number(counts.held),
+        ],
+    )
+}
+
+/// The second half of the state.
+fn print_second(out: &mut Seq<u8>, counts: &Counts) -> Result<(), OutOfMemory> {
+    print(
+        out,
+        &[
+            Piece::Text(b" executed "),
+            Piece::Number(counts.executed),
+            Piece::Text(b" checkpoints "),
+            Piece::Number(counts.checkpoints),
+            Piece::Text(b" objects "),
+            Piece::Number(counts.objects),
+        ],
+    )
+}
+
+/// `state epoch E seen N held H executed X checkpoints K objects O`, then `halted` or `ok`.
+pub fn print_state(out: &mut Seq<u8>, counts: &Counts) -> Result<(), OutOfMemory> {
+    print_first(out, counts)?;
+    print_second(out, counts)?;
+    if counts.halted {
+        out.extend(b" halted")
+    } else {
+        out.extend(b" ok")
+    }
+}

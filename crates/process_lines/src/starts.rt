@@ -1,0 +1,123 @@
+//! The first line of a process.
+
+ghost use Rattle.std.specs.Prelude.{◌≡◌, ◌++◌, OnOk};
+ghost use Rattle.process_lines.specs.Texts.{start_text};
+
+use crate::pieces::{Piece, print};
+use digest_core::Digest;
+use wire_bcs::{OutOfMemory, Seq};
+
+/// How a process starts, or why not.
+#[derive(Clone, Copy, Debug, PartialEq, Eq)]
+pub enum StartLine {
+    /// The member is up, in this state.
+    Ready {
+        member: u32,
+        epoch: u64,
+        seen: u64,
+        checkpoints: u64,
+        records: u64,
+    },
+    /// The journal of the member was made, for the set-up of this digest.
+    Made { member: u32, genesis: Digest },
+    /// The set-up is no schedule.
+    NoSchedule { line: u64, cause: u8 },
+    /// The set-up has lines that are none.
+    HasEvents,
+    /// The set-up has no honest member of this number.
+    NoMember { member: u32 },
+    /// The journal was not made, or not to its end.
+    NotMade,
+    OtherMember,
+    OtherGenesis,
+    /// The journal is to be made, and is there.
+    NotEmpty,
+    /// The first record from which the member does not start, counted from 0.
+    BadRecord { place: u64 },
+}
+
+/// Where a member starts from.
+fn print_ready(
+    out: &mut Seq<u8>,
+    member: u32,
+    epoch: u64,
+    seen: u64,
+    checkpoints: u64,
+    records: u64,
+) -> Result<(), OutOfMemory> {
+    print(
+        out,
+        &[
+            Piece::Text(b"ready "),
+            Piece::Number(u64::from(member)),
+            Piece::Text(b" epoch "),
+            Piece::Number(epoch),
+            Piece::Text(b" seen "),
+            Piece::Number(seen),
+        ],
+    )?;
+    print(
+        out,
+        &[
+            Piece::Text(b" checkpoints "),
+            Piece::Number(checkpoints),
+            Piece::Text(b" records "),
+            Piece::Number(records),
+        ],
+    )
+}
+
+/// Why the set-up is no schedule.
+fn print_no_schedule(out: &mut Seq<u8>, line: u64, cause: u8) -> Result<(), OutOfMemory> {
+    print(
+        out,
+        &[
+            Piece::Text(b"refused line "),
+            Piece::Number(line),
+            Piece::Text(b" cause "),
+            Piece::Number(u64::from(cause)),
+        ],
+    )
+}
+
+/// The first line of a process, without its end.
+pub fn print_start(out: &mut Seq<u8>, start: &StartLine) -> Result<(), OutOfMemory> {
+    match start {
+        StartLine::Ready {
+            member,
+            epoch,
+            seen,
+            checkpoints,
+            records,
+        } => print_ready(out, *member, *epoch, *seen, *checkpoints, *records),
+        StartLine::Made { member, genesis } => print(
+            out,
+            &[
+                Piece::Text(b"made "),
+                Piece::Number(u64::from(*member)),
+                Piece::Text(b" genesis "),
+                Piece::Id(*genesis),
+            ],
+        ),
+        StartLine::NoSchedule { line, cause } => print_no_schedule(out, *line, *cause),
+        StartLine::HasEvents => out.extend(b"genesis: has events"),
+        StartLine::NoMember { member } => print(
+            out,
+            &[
+                Piece::Text(b"genesis: no honest member "),
+                Piece::Number(u64::from(*member)),
+            ],
+        ),
+        StartLine::NotMade => out.extend(b"journal: not made"),
+        StartLine::OtherMember => out.extend(b"journal: of another member"),
+        StartLine::OtherGenesis => out.extend(b"journal: of another genesis"),
+        StartLine::NotEmpty => out.extend(b"journal: not empty"),
+        StartLine::BadRecord { place } => print(
+            out,
+            &[
+                Piece::Text(b"journal: bad record "),
+                Piece::Number(*place),
+            ],
+        ),
+    }
+}
