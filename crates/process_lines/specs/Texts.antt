@@ -65,18 +65,24 @@ fork_text key first second = concat (codes "fork " ∷ key_text key ∷ codes " 
 abbrev pub fault_text : List ℕ
 fault_text = []
 
+abbrev pub digest_word : Digest → List ℕ
+digest_word d = concat (codes " " ∷ digest_text d ∷ [])
+
 -- a space before each
 unfoldable pub digests_text : List Digest → List ℕ
-digests_text digests = flat_map (λ d. 32 ∷ digest_text d) digests
+digests_text digests = flat_map digest_word digests
 
 -- a word and digests, where there are any
 abbrev pub part_text : List ℕ → List Digest → List ℕ
 part_text word [] = []
 part_text word (d ∷ ds) = word ++ digests_text (d ∷ ds)
 
+abbrev pub built_one : Checkpoint → List ℕ
+built_one c = concat (codes " checkpoint " ∷ decimal c.number ∷ [])
+
 -- the numbers of checkpoints that were built
 unfoldable pub built_text : List Checkpoint → List ℕ
-built_text built = flat_map (λ (c : Checkpoint). codes " checkpoint " ++ decimal c.number) built
+built_text built = flat_map built_one built
 
 -- ---- votes
 
@@ -168,12 +174,13 @@ see_refusal_text no_see.OutOfMemory = fault_text
 abbrev pub executed_text : Effects → List ℕ
 executed_text e = concat (codes " " ∷ digest_text e.tx ∷ codes " " ∷ digest_text (effects_as.digest_of_effects e) ∷ [])
 
-unfoldable pub left_text : Left → List ℕ
+-- it does not fit, or this version is absent
+abbrev pub left_as : Digest → Option ObjectKey → List ℕ
+left_as tx None = concat (codes " left " ∷ digest_text tx ∷ codes " unfit" ∷ [])
+left_as tx (Some key) = concat (codes " left " ∷ digest_text tx ∷ codes " absent " ∷ key_text key ∷ [])
+
+abbrev pub left_text : Left → List ℕ
 left_text l = left_as l.tx l.key
-  where
-    left_as : Digest → Option ObjectKey → List ℕ
-    left_as tx None = concat (codes " left " ∷ digest_text tx ∷ codes " unfit" ∷ [])
-    left_as tx (Some key) = concat (codes " left " ∷ digest_text tx ∷ codes " absent " ∷ key_text key ∷ [])
 
 unfoldable pub ran_text : Ran → List ℕ
 ran_text r = codes "ran" ++ flat_map executed_text r.executed ++ flat_map left_text r.left ++ built_text r.built
@@ -256,8 +263,11 @@ state_text s = concat (codes "state epoch " ∷ decimal s.epoch ∷ codes " seen
 
 -- ---- the first line of a process
 
+abbrev pub ready_text : ℕ → ℕ → ℕ → ℕ → ℕ → List ℕ
+ready_text member epoch seen checkpoints records = concat (codes "ready " ∷ decimal member ∷ codes " epoch " ∷ decimal epoch ∷ codes " seen " ∷ decimal seen ∷ []) ++ concat (codes " checkpoints " ∷ decimal checkpoints ∷ codes " records " ∷ decimal records ∷ [])
+
 unfoldable pub start_text : StartLine → List ℕ
-start_text (start.Ready member epoch seen checkpoints records) = concat (codes "ready " ∷ decimal member ∷ codes " epoch " ∷ decimal epoch ∷ codes " seen " ∷ decimal seen ∷ []) ++ concat (codes " checkpoints " ∷ decimal checkpoints ∷ codes " records " ∷ decimal records ∷ [])
+start_text (start.Ready member epoch seen checkpoints records) = ready_text member epoch seen checkpoints records
 start_text (start.Made member genesis) = concat (codes "made " ∷ decimal member ∷ codes " genesis " ∷ digest_text genesis ∷ [])
 start_text (start.NoSchedule line cause) = concat (codes "refused line " ∷ decimal line ∷ codes " cause " ∷ decimal cause ∷ [])
 start_text start.HasEvents = codes "genesis: has events"

@@ -1,9 +1,10 @@
 //! Checkpoints in answers.
 
 ghost use Rattle.std.specs.Prelude.{◌≡◌, ◌++◌, OnOk};
+ghost use Rattle.std.specs.List.{flat_map};
 ghost use Rattle.chain_messages.specs.Messages as messages;
 ghost use Rattle.checkpoint_core.specs.Checkpoints as checkpoints;
-ghost use Rattle.process_lines.specs.Texts.{built_text, checkpoint_text, none_text};
+ghost use Rattle.process_lines.specs.Texts.{built_one, built_text, checkpoint_text, none_text};
 
 use crate::pieces::{Piece, print};
 use chain_messages::{Sealed, encode_sealed};
@@ -11,7 +12,9 @@ use checkpoint_core::{Checkpoint, HashedCheckpoint};
 use wire_bcs::{OutOfMemory, Seq, encode};
 
 /// ` checkpoint N`
-fn print_built_one(out: &mut Seq<u8>, built: &HashedCheckpoint) -> Result<(), OutOfMemory> {
+fn print_built_one(out: &mut Seq<u8>, built: &HashedCheckpoint) -> Result<(), OutOfMemory>
+    ensures { OnOk result (out.new ≡ out.old ++ built_one built.now) }
+{
     print(
         out,
         &[
@@ -22,7 +25,10 @@ fn print_built_one(out: &mut Seq<u8>, built: &HashedCheckpoint) -> Result<(), Ou
 }
 
 /// ` checkpoint N` for each checkpoint that was built.
-pub fn print_built(out: &mut Seq<u8>, built: &[HashedCheckpoint]) -> Result<(), OutOfMemory> {
+#[tactic(auto, unfolding(crate::specs::Texts::built_text))]
+pub fn print_built(out: &mut Seq<u8>, built: &[HashedCheckpoint]) -> Result<(), OutOfMemory>
+    ensures { OnOk result (out.new ≡ out.old ++ built_text built.now) }
+{
     for checkpoint in built {
         print_built_one(out, checkpoint)?;
     }
@@ -30,11 +36,16 @@ pub fn print_built(out: &mut Seq<u8>, built: &[HashedCheckpoint]) -> Result<(), 
 }
 
 /// `checkpoint BYTES SEALED`: a checkpoint, and the member's own statement of it.
+#[tactic(auto, unfolding(crate::specs::Texts::checkpoint_text))]
 pub fn print_checkpoint(
     out: &mut Seq<u8>,
     checkpoint: &Checkpoint,
     sealed: &Sealed,
-) -> Result<(), OutOfMemory> {
+) -> Result<(), OutOfMemory>
+    requires short { checkpoints.checkpoint.short checkpoint.now }
+    requires sealed { messages.sealed.short sealed.now }
+    ensures { OnOk result (out.new ≡ out.old ++ checkpoint_text checkpoint.now sealed.now) }
+{
     let bytes = encode(out.allocator(), checkpoint)?;
     let sealed = encode_sealed(out.allocator(), sealed)?;
     print(
@@ -49,6 +60,8 @@ pub fn print_checkpoint(
 }
 
 /// `none`: there is no such thing.
-pub fn print_none(out: &mut Seq<u8>) -> Result<(), OutOfMemory> {
+pub fn print_none(out: &mut Seq<u8>) -> Result<(), OutOfMemory>
+    ensures { OnOk result (out.new ≡ out.old ++ none_text) }
+{
     out.extend(b"none")
 }

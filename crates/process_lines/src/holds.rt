@@ -11,7 +11,10 @@ use digest_core::Digest;
 use wire_bcs::{OutOfMemory, Seq};
 
 /// `held ID`, or `again ID` where a certificate of the transaction was held before.
-pub fn print_held(out: &mut Seq<u8>, new: bool, tx: Option<Digest>) -> Result<(), OutOfMemory> {
+#[tactic(auto, unfolding(crate::specs::Texts::held_text))]
+pub fn print_held(out: &mut Seq<u8>, new: bool, tx: Option<Digest>) -> Result<(), OutOfMemory>
+    ensures { OnOk result (out.new ≡ out.old ++ held_text new tx) }
+{
     if new {
         out.extend(b"held")?;
     } else {
@@ -24,7 +27,10 @@ pub fn print_held(out: &mut Seq<u8>, new: bool, tx: Option<Digest>) -> Result<()
 }
 
 /// Why the certificate is not valid.
-fn print_cert_refusal(out: &mut Seq<u8>, refusal: &CertRefusal) -> Result<(), OutOfMemory> {
+#[tactic(auto, unfolding(crate::specs::Texts::cert_refusal_text))]
+fn print_cert_refusal(out: &mut Seq<u8>, refusal: &CertRefusal) -> Result<(), OutOfMemory>
+    ensures { OnOk result (out.new ≡ out.old ++ cert_refusal_text refusal.now) }
+{
     match refusal {
         CertRefusal::OutOfMemory => Ok(()),
         CertRefusal::Shape(number) => print(
@@ -55,7 +61,10 @@ fn print_cert_refusal(out: &mut Seq<u8>, refusal: &CertRefusal) -> Result<(), Ou
 }
 
 /// `refused ..`, or `fork KEY ID ID`. A fault has no line.
-pub fn print_hold_refusal(out: &mut Seq<u8>, refusal: &HoldRefusal) -> Result<(), OutOfMemory> {
+#[tactic(auto, unfolding(crate::specs::Texts::hold_refusal_text))]
+pub fn print_hold_refusal(out: &mut Seq<u8>, refusal: &HoldRefusal) -> Result<(), OutOfMemory>
+    ensures { OnOk result (out.new ≡ out.old ++ hold_refusal_text refusal.now) }
+{
     match refusal {
         HoldRefusal::Down | HoldRefusal::KeepFault | HoldRefusal::OutOfMemory => Ok(()),
         HoldRefusal::Halted { first, second } => print_halted(out, first, second),

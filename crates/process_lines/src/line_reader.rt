@@ -1,11 +1,14 @@
 //! Cutting what a source gives into lines.
 
-ghost use Rattle.std.specs.Prelude.{◌≡◌, ◌≤◌, IsErrOf, IfOk, IfSome, position, length, ◌<◌, ◌==◌};
+ghost use Rattle.std.specs.Prelude.{◌≡◌, ◌<◌, ◌≤◌, ◌==◌, ◌∷◌, ◌++◌, [], None, IfOk, IfSome, IsErrOf, OnOk, drop, length, position};
+ghost use Rattle.std.specs.Io.KnownBytes.{Consumes, IsAtEnd};
 ghost use Rattle.outside.specs.Causes.{Rose};
 ghost use Rattle.outside.specs.declared.faults.OutFault.TheVariants as fault;
+ghost use Rattle.process_lines.specs.Lines.{Fills, HasNoEnd, IsCutAt, Reads, Takes, added, got_in};
 
 use outside::{OutFault, Source};
 use std::alloc::Global;
+use std::marker::Model;
 use wire_bcs::{OutOfMemory, Seq};
 
 /// The bytes that are asked for at once.
@@ -25,13 +28,23 @@ pub enum Got {
     End,
 }
 
-/// A reader of lines, with what it read and has not given yet.
+/// A reader of lines. Contracts see what it has read and not given yet.
 #[derive(Drop)]
 pub struct LineReader {
     alloc: Global,
-    buffer: Vec<u8>,
+    room: Vec<u8>,
+    bytes: Seq<u8>,
     at: usize,
-    end: usize,
+}
+
+impl Model for LineReader {
+    ghost use Rattle.std.specs.Prelude.{ℕ, List, ◌<◌, ◌≤◌, drop, length};
+
+    ghost Value = { List ℕ };
+
+    ghost view = { λ r. drop r.at r.bytes };
+
+    ghost invariant = { λ r. (r.at ≤ length r.bytes) × (0 < length r.room.items) };
 }
 
 /// A line so far.
@@ -43,11 +56,13 @@ struct Part {
 
 impl Part {
     /// Adds the next bytes of the line.
-    fn add(&mut self, bytes: &[u8]) -> Result<(), OutOfMemory> {
+    fn add(&mut self, bytes: &[u8]) -> Result<(), OutOfMemory>
+        ensures { OnOk result (self.new ≡ added self.old bytes.now) }
+    {
         if self.too_long {
             return Ok(());
         }
-        if self.text.len() + bytes.len() as u64 > LONGEST_LINE {
+        if self.text.len().saturating_add(bytes.len() as u64) > LONGEST_LINE {
             self.too_long = true;
             return Ok(());
         }
@@ -55,7 +70,9 @@ impl Part {
     }
 
     /// The line.
-    fn whole(self) -> Got {
+    fn whole(self) -> Got
+        ensures { result ≡ got_in self }
+    {
         let Part { text, too_long } = self;
         if too_long {
             drop(text);
@@ -66,54 +83,110 @@ impl Part {
     }
 }
 
-/// The place of the end of the first line.
-fn line_end(bytes: &[u8]) -> Option<usize> {
+/// The place of the first byte that ends a line.
+fn line_end(bytes: &[u8]) -> Option<usize>
+    ensures value { result ≡ position (λ b. b == 10) bytes.now }
+    ensures low { IfSome result (λ at. at < length bytes.now) }
+{
     bytes.iter().position(|byte| *byte == b'\n')
+}
+
+/// The bytes of the first line without its end, and how many bytes it has with it; none where no line ends there.
+#[tactic(auto, using(crate::proofs::Cuts::ends_at, crate::proofs::Cuts::ends_nowhere))]
+fn first_line(bytes: &[u8]) -> Option<(&[u8], usize)>
+    ensures some { IfSome result (λ r. IsCutAt bytes.now r.0.now r.1) }
+    ensures none { result ≡ None → HasNoEnd bytes.now }
+{
+    match line_end(bytes) {
+        Some(place) => {
+            let (line, _) = bytes.split_at(place);
+            Some((line, place + 1))
+        }
+        None => None,
+    }
+}
+
+/// The next bytes of the source, none at its end.
+fn read_some<S: Source>(
+    alloc: Global,
+    source: &mut S,
+    room: &mut [u8],
+) -> Result<Seq<u8>, OutFault>
+    requires { 0 < length room.old }
+    ensures read { IfOk result (λ bytes. Consumes (S.left source.old) (S.left source.new) bytes) }
+    ensures end { IfOk result (λ bytes. bytes ≡ [] → IsAtEnd (S.left source.new)) }
+    ensures later { S.faults source.old ≤ S.faults source.new }
+    ensures fault { IsErrOf result fault.Failed → Rose (S.faults source.old) (S.faults source.new) }
+{
+    match source.read(room) {
+        Ok(count) => {
+            let (piece, _) = room.split_at(count);
+            Ok(Seq::from_slice(alloc, piece)?)
+        }
+        Err(_) => Err(OutFault::Failed),
+    }
+}
+
+/// Room for what is read at once.
+fn make_room(alloc: Global) -> Result<Vec<u8>, OutOfMemory>
+    ensures { IfOk result (λ room. length room.items ≡ 65536) }
+{
+    Ok(vec![in alloc; 0u8; PIECE]?)
 }
 
 impl LineReader {
     /// A reader that has read nothing yet.
-    pub fn new(alloc: Global) -> Result<LineReader, OutOfMemory> {
-        let buffer = vec![in alloc; 0u8; PIECE]?;
+    pub fn new(alloc: Global) -> Result<LineReader, OutOfMemory>
+        ensures { IfOk result (λ r. r ≡ []) }
+    {
+        let room = make_room(alloc)?;
         Ok(LineReader {
             alloc,
-            buffer,
+            room,
+            bytes: Seq::new(alloc),
             at: 0,
-            end: 0,
         })
     }
 
     /// Takes the line's bytes that were read. Answers whether the line ends there.
-    fn take(&mut self, part: &mut Part) -> Result<bool, OutOfMemory> {
-        let pending = &self.buffer[self.at..self.end];
-        match line_end(pending) {
-            Some(place) => {
-                part.add(&pending[..place])?;
-                self.at += place + 1;
+    fn take(&mut self, part: &mut Part) -> Result<bool, OutOfMemory>
+        ensures { IfOk result (Takes self.old self.new part.old part.new) }
+    {
+        let (_, pending) = self.bytes.as_slice().split_at(self.at);
+        match first_line(pending) {
+            Some((line, used)) => {
+                part.add(line)?;
+                self.at += used;
                 Ok(true)
             }
             None => {
                 part.add(pending)?;
-                self.at = self.end;
+                self.at += pending.len();
                 Ok(false)
             }
         }
     }
 
     /// Reads on. Answers whether the source gave something.
-    fn fill<S: Source>(&mut self, source: &mut S) -> Result<bool, OutFault> {
-        match source.read(self.buffer.as_mut_slice()) {
-            Ok(count) => {
-                self.at = 0;
-                self.end = count;
-                Ok(count > 0)
-            }
-            Err(_) => Err(OutFault::Failed),
-        }
+    fn fill<S: Source>(&mut self, source: &mut S) -> Result<bool, OutFault>
+        ensures fills { IfOk result (Fills self.new (S.left source.old) (S.left source.new)) }
+        ensures later { S.faults source.old ≤ S.faults source.new }
+        ensures fault { IsErrOf result fault.Failed → Rose (S.faults source.old) (S.faults source.new) }
+    {
+        let bytes = read_some(self.alloc, source, self.room.as_mut_slice())?;
+        let some = !bytes.is_empty();
+        self.bytes = bytes;
+        self.at = 0;
+        Ok(some)
     }
 
     /// The next line. One that is too long is read to its end.
-    pub fn next<S: Source>(&mut self, source: &mut S) -> Result<Got, OutFault> {
+    #[tactic(auto, using(crate::proofs::Cuts::line_starts, crate::proofs::Cuts::line_ends, crate::proofs::Cuts::line_goes, crate::proofs::Cuts::line_more, crate::proofs::Cuts::line_never))]
+    pub fn next<S: Source>(&mut self, source: &mut S) -> Result<Got, OutFault>
+        ensures reads { IfOk result (Reads self.old self.new (S.left source.old) (S.left source.new)) }
+        ensures later { S.faults source.old ≤ S.faults source.new }
+        ensures fault { IsErrOf result fault.Failed → Rose (S.faults source.old) (S.faults source.new) }
+    {
         let mut part = Part {
             text: Seq::new(self.alloc),
             too_long: false,

@@ -1,7 +1,9 @@
 //! The answers to `object`, `version`, `effects` and `state`.
 
-ghost use Rattle.std.specs.Prelude.{◌≡◌, ◌++◌, OnOk};
-ghost use Rattle.process_lines.specs.Texts.{effects_text, halted_word, object_text, state_text};
+ghost use Rattle.std.specs.Prelude.{◌≡◌, ◌++◌, ◌∷◌, [], OnOk, codes, decimal};
+ghost use Rattle.std.specs.List.{concat};
+ghost use Rattle.effects_core.specs.Effects as effects_as;
+ghost use Rattle.process_lines.specs.Texts.{effects_text, object_text, state_text};
 
 use crate::pieces::{Piece, print};
 use chain_types::Object;
@@ -27,19 +29,28 @@ pub struct Counts {
 }
 
 /// `object BYTES`
-pub fn print_object(out: &mut Seq<u8>, object: &Object) -> Result<(), OutOfMemory> {
+#[tactic(auto, unfolding(crate::specs::Texts::object_text))]
+pub fn print_object(out: &mut Seq<u8>, object: &Object) -> Result<(), OutOfMemory>
+    ensures { OnOk result (out.new ≡ out.old ++ object_text object.now) }
+{
     let bytes = encode(out.allocator(), object)?;
     print(out, &[Piece::Text(b"object "), Piece::Bytes(bytes.as_slice())])
 }
 
 /// `effects BYTES`
-pub fn print_effects(out: &mut Seq<u8>, effects: &Effects) -> Result<(), OutOfMemory> {
+#[tactic(auto, unfolding(crate::specs::Texts::effects_text))]
+pub fn print_effects(out: &mut Seq<u8>, effects: &Effects) -> Result<(), OutOfMemory>
+    requires { effects_as.effects.short effects.now }
+    ensures { OnOk result (out.new ≡ out.old ++ effects_text effects.now) }
+{
     let bytes = encode(out.allocator(), effects)?;
     print(out, &[Piece::Text(b"effects "), Piece::Bytes(bytes.as_slice())])
 }
 
 /// The first half of the state.
-fn print_first(out: &mut Seq<u8>, counts: &Counts) -> Result<(), OutOfMemory> {
+fn print_first(out: &mut Seq<u8>, counts: &Counts) -> Result<(), OutOfMemory>
+    ensures { OnOk result (out.new ≡ out.old ++ concat (codes "state epoch " ∷ decimal counts.now.epoch ∷ codes " seen " ∷ decimal counts.now.seen ∷ codes " held " ∷ decimal counts.now.held ∷ [])) }
+{
     print(
         out,
         &[
@@ -54,7 +65,9 @@ fn print_first(out: &mut Seq<u8>, counts: &Counts) -> Result<(), OutOfMemory> {
 }
 
 /// The second half of the state.
-fn print_second(out: &mut Seq<u8>, counts: &Counts) -> Result<(), OutOfMemory> {
+fn print_second(out: &mut Seq<u8>, counts: &Counts) -> Result<(), OutOfMemory>
+    ensures { OnOk result (out.new ≡ out.old ++ concat (codes " executed " ∷ decimal counts.now.executed ∷ codes " checkpoints " ∷ decimal counts.now.checkpoints ∷ codes " objects " ∷ decimal counts.now.objects ∷ [])) }
+{
     print(
         out,
         &[
@@ -69,7 +82,10 @@ fn print_second(out: &mut Seq<u8>, counts: &Counts) -> Result<(), OutOfMemory> {
 }
 
 /// `state epoch E seen N held H executed X checkpoints K objects O`, then `halted` or `ok`.
-pub fn print_state(out: &mut Seq<u8>, counts: &Counts) -> Result<(), OutOfMemory> {
+#[tactic(auto, unfolding(crate::specs::Texts::state_text))]
+pub fn print_state(out: &mut Seq<u8>, counts: &Counts) -> Result<(), OutOfMemory>
+    ensures { OnOk result (out.new ≡ out.old ++ state_text counts.now) }
+{
     print_first(out, counts)?;
     print_second(out, counts)?;
     if counts.halted {

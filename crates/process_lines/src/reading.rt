@@ -1,10 +1,10 @@
 //! Which request a line is.
 
-ghost use Rattle.std.specs.Prelude.{◌≡◌, ◌==◌, ◌-◌, ◌^◌, ◌≤◌, IfOk, bytes_eq, codes, map, length};
+ghost use Rattle.std.specs.Prelude.{◌≡◌, ◌==◌, IfOk, bytes_eq, map};
 ghost use Rattle.std.specs.List.{list_all, slice_split};
 ghost use Rattle.schedule_text.specs.Bytes.{number_in};
 ghost use Rattle.schedule_text.specs.Inputs.{hex_of, is_hex, is_hex_byte};
-ghost use Rattle.process_lines.specs.Requests.{bytes_in, digest_in, digest_of_bytes, number_of_word, request_of, request_of_one, request_of_three, request_of_two};
+ghost use Rattle.process_lines.specs.Requests.{bytes_in, digest_in, digest_of_bytes, number_of_word, request_of, request_of_one, request_of_three, request_of_two, see_with, version_with};
 
 use crate::request::Request;
 use digest_core::Digest;
@@ -162,7 +162,9 @@ fn request_of_two(
 }
 
 /// `see N ENTRY`, behind its word.
-fn see_of(alloc: Global, number: &[u8], entry: &[u8]) -> Result<Option<Request>, OutOfMemory> {
+fn see_of(alloc: Global, number: &[u8], entry: &[u8]) -> Result<Option<Request>, OutOfMemory>
+    ensures { IfOk result (λ r. r ≡ see_with (number_of_word number.now) (bytes_in entry.now)) }
+{
     let Some(number) = number_of(number) else {
         return Ok(None);
     };
@@ -173,7 +175,9 @@ fn see_of(alloc: Global, number: &[u8], entry: &[u8]) -> Result<Option<Request>,
 }
 
 /// `version ID V`, behind its word.
-fn version_of(alloc: Global, id: &[u8], version: &[u8]) -> Result<Option<Request>, OutOfMemory> {
+fn version_of(alloc: Global, id: &[u8], version: &[u8]) -> Result<Option<Request>, OutOfMemory>
+    ensures { IfOk result (λ r. r ≡ version_with (digest_in id.now) (number_of_word version.now)) }
+{
     let Some(id) = digest_in(alloc, id)? else {
         return Ok(None);
     };
@@ -202,11 +206,11 @@ fn request_of_three(
     Ok(None)
 }
 
-/// The words of a line, parted by one space.
-fn words_of(alloc: Global, line: &[u8]) -> Result<Vec<&[u8]>, OutOfMemory>
-    ensures { IfOk result (λ v. map (λ x. x.now) v.items ≡ slice_split (λ b. b == 32) line.now) }
+/// The parts between such bytes.
+fn parts_of(alloc: Global, byte: u8, text: &[u8]) -> Result<Vec<&[u8]>, OutOfMemory>
+    ensures { IfOk result (λ v. map (λ x. x.now) v.items ≡ slice_split (λ b. b == byte) text.now) }
 {
-    Ok(line.split(move |byte| *byte == b' ').collect(alloc)?)
+    Ok(text.split(move |b| *b == byte).collect(alloc)?)
 }
 
 /// The request that the line is, without its end.
@@ -214,7 +218,7 @@ fn words_of(alloc: Global, line: &[u8]) -> Result<Vec<&[u8]>, OutOfMemory>
 pub fn read_request(alloc: Global, line: &[u8]) -> Result<Option<Request>, OutOfMemory>
     ensures { IfOk result (λ r. r ≡ request_of line.now) }
 {
-    let words = words_of(alloc, line)?;
+    let words = parts_of(alloc, b' ', line)?;
     match words.as_slice() {
         [word] => Ok(request_of_one(word)),
         [word, text] => request_of_two(alloc, word, text),

@@ -12,7 +12,9 @@ use effects_core::HashedEffects;
 use wire_bcs::{OutOfMemory, Seq};
 
 /// ` ID EFFECTS_DIGEST`
-fn print_executed_one(out: &mut Seq<u8>, effects: &HashedEffects) -> Result<(), OutOfMemory> {
+fn print_executed_one(out: &mut Seq<u8>, effects: &HashedEffects) -> Result<(), OutOfMemory>
+    ensures { OnOk result (out.new ≡ out.old ++ executed_text effects.now) }
+{
     print(
         out,
         &[
@@ -25,7 +27,9 @@ fn print_executed_one(out: &mut Seq<u8>, effects: &HashedEffects) -> Result<(), 
 }
 
 /// What was executed.
-fn print_executed(out: &mut Seq<u8>, executed: &[HashedEffects]) -> Result<(), OutOfMemory> {
+fn print_executed(out: &mut Seq<u8>, executed: &[HashedEffects]) -> Result<(), OutOfMemory>
+    ensures { OnOk result (out.new ≡ out.old ++ flat_map executed_text executed.now) }
+{
     for effects in executed {
         print_executed_one(out, effects)?;
     }
@@ -33,7 +37,9 @@ fn print_executed(out: &mut Seq<u8>, executed: &[HashedEffects]) -> Result<(), O
 }
 
 /// ` left ID absent KEY`, or ` left ID unfit`
-fn print_left_one(out: &mut Seq<u8>, left: &Left) -> Result<(), OutOfMemory> {
+fn print_left_one(out: &mut Seq<u8>, left: &Left) -> Result<(), OutOfMemory>
+    ensures { OnOk result (out.new ≡ out.old ++ left_text left.now) }
+{
     match left.key {
         Some(key) => print(
             out,
@@ -56,7 +62,9 @@ fn print_left_one(out: &mut Seq<u8>, left: &Left) -> Result<(), OutOfMemory> {
 }
 
 /// What was left.
-fn print_left(out: &mut Seq<u8>, all: &[Left]) -> Result<(), OutOfMemory> {
+fn print_left(out: &mut Seq<u8>, all: &[Left]) -> Result<(), OutOfMemory>
+    ensures { OnOk result (out.new ≡ out.old ++ flat_map left_text all.now) }
+{
     for left in all {
         print_left_one(out, left)?;
     }
@@ -64,7 +72,10 @@ fn print_left(out: &mut Seq<u8>, all: &[Left]) -> Result<(), OutOfMemory> {
 }
 
 /// `ran ..`: what was executed, what was left, and the checkpoints that were built.
-pub fn print_ran(out: &mut Seq<u8>, ran: &Ran) -> Result<(), OutOfMemory> {
+#[tactic(auto, unfolding(crate::specs::Texts::ran_text))]
+pub fn print_ran(out: &mut Seq<u8>, ran: &Ran) -> Result<(), OutOfMemory>
+    ensures { OnOk result (out.new ≡ out.old ++ ran_text ran.now) }
+{
     out.extend(b"ran")?;
     print_executed(out, ran.executed.as_slice())?;
     print_left(out, ran.left.as_slice())?;
@@ -72,7 +83,10 @@ pub fn print_ran(out: &mut Seq<u8>, ran: &Ran) -> Result<(), OutOfMemory> {
 }
 
 /// `refused ..`. A fault has no line.
-pub fn print_run_refusal(out: &mut Seq<u8>, refusal: &RunRefusal) -> Result<(), OutOfMemory> {
+#[tactic(auto, unfolding(crate::specs::Texts::run_refusal_text))]
+pub fn print_run_refusal(out: &mut Seq<u8>, refusal: &RunRefusal) -> Result<(), OutOfMemory>
+    ensures { OnOk result (out.new ≡ out.old ++ run_refusal_text refusal.now) }
+{
     match refusal {
         RunRefusal::Down | RunRefusal::KeepFault | RunRefusal::OutOfMemory => Ok(()),
         RunRefusal::Halted { first, second } => print_halted(out, first, second),

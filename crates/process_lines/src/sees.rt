@@ -1,7 +1,7 @@
 //! The answers to `see`.
 
-ghost use Rattle.std.specs.Prelude.{◌≡◌, ◌++◌, OnOk};
-ghost use Rattle.process_lines.specs.Texts.{digests_text, ignored_text, part_text, see_refusal_text, seen_text, seen_what_text};
+ghost use Rattle.std.specs.Prelude.{◌≡◌, ◌++◌, OnOk, codes};
+ghost use Rattle.process_lines.specs.Texts.{digest_word, digests_text, ignored_text, part_text, see_refusal_text, seen_text, seen_what_text};
 
 use crate::checkpoints::print_built;
 use crate::faults::{print_fork, print_halted};
@@ -11,12 +11,17 @@ use digest_core::Digest;
 use wire_bcs::{OutOfMemory, Seq};
 
 /// ` ID`
-fn print_digest(out: &mut Seq<u8>, digest: &Digest) -> Result<(), OutOfMemory> {
+fn print_digest(out: &mut Seq<u8>, digest: &Digest) -> Result<(), OutOfMemory>
+    ensures { OnOk result (out.new ≡ out.old ++ digest_word digest.now) }
+{
     print(out, &[Piece::Text(b" "), Piece::Id(*digest)])
 }
 
 /// A space and a digest, for each.
-pub(crate) fn print_digests(out: &mut Seq<u8>, digests: &[Digest]) -> Result<(), OutOfMemory> {
+#[tactic(auto, unfolding(crate::specs::Texts::digests_text))]
+pub(crate) fn print_digests(out: &mut Seq<u8>, digests: &[Digest]) -> Result<(), OutOfMemory>
+    ensures { OnOk result (out.new ≡ out.old ++ digests_text digests.now) }
+{
     for digest in digests {
         print_digest(out, digest)?;
     }
@@ -24,7 +29,9 @@ pub(crate) fn print_digests(out: &mut Seq<u8>, digests: &[Digest]) -> Result<(),
 }
 
 /// A word and digests, where there are any.
-fn print_part(out: &mut Seq<u8>, word: &[u8], digests: &[Digest]) -> Result<(), OutOfMemory> {
+fn print_part(out: &mut Seq<u8>, word: &[u8], digests: &[Digest]) -> Result<(), OutOfMemory>
+    ensures { OnOk result (out.new ≡ out.old ++ part_text word.now digests.now) }
+{
     if digests.is_empty() {
         return Ok(());
     }
@@ -38,14 +45,19 @@ fn print_taken(
     word: &[u8],
     admitted: &[Digest],
     dropped: &[Digest],
-) -> Result<(), OutOfMemory> {
+) -> Result<(), OutOfMemory>
+    ensures { OnOk result (out.new ≡ out.old ++ (word.now ++ part_text (codes " admitted") admitted.now ++ part_text (codes " dropped") dropped.now)) }
+{
     out.extend(word)?;
     print_part(out, b" admitted".as_slice(), admitted)?;
     print_part(out, b" dropped".as_slice(), dropped)
 }
 
 /// Why an entry is ignored.
-fn print_ignored(out: &mut Seq<u8>, why: &Ignore) -> Result<(), OutOfMemory> {
+#[tactic(auto, unfolding(crate::specs::Texts::ignored_text))]
+fn print_ignored(out: &mut Seq<u8>, why: &Ignore) -> Result<(), OutOfMemory>
+    ensures { OnOk result (out.new ≡ out.old ++ (codes "seen ignored " ++ ignored_text why.now)) }
+{
     out.extend(b"seen ignored ")?;
     match why {
         Ignore::Malformed => out.extend(b"malformed"),
@@ -58,7 +70,10 @@ fn print_ignored(out: &mut Seq<u8>, why: &Ignore) -> Result<(), OutOfMemory> {
 }
 
 /// What a member made of an entry.
-fn print_what(out: &mut Seq<u8>, what: &SeenWhat) -> Result<(), OutOfMemory> {
+#[tactic(auto, unfolding(crate::specs::Texts::seen_what_text))]
+fn print_what(out: &mut Seq<u8>, what: &SeenWhat) -> Result<(), OutOfMemory>
+    ensures { OnOk result (out.new ≡ out.old ++ seen_what_text what.now) }
+{
     match what {
         SeenWhat::Taken { admitted, dropped } => print_taken(
             out,
@@ -91,13 +106,19 @@ fn print_what(out: &mut Seq<u8>, what: &SeenWhat) -> Result<(), OutOfMemory> {
 }
 
 /// `seen ..`, and ` checkpoint N` for each checkpoint that was built.
-pub fn print_seen(out: &mut Seq<u8>, seen: &Seen) -> Result<(), OutOfMemory> {
+#[tactic(auto, unfolding(crate::specs::Texts::seen_text))]
+pub fn print_seen(out: &mut Seq<u8>, seen: &Seen) -> Result<(), OutOfMemory>
+    ensures { OnOk result (out.new ≡ out.old ++ seen_text seen.now) }
+{
     print_what(out, &seen.what)?;
     print_built(out, seen.built.as_slice())
 }
 
 /// `refused ..`, or `fork KEY ID ID`. A fault has no line.
-pub fn print_see_refusal(out: &mut Seq<u8>, refusal: &SeeRefusal) -> Result<(), OutOfMemory> {
+#[tactic(auto, unfolding(crate::specs::Texts::see_refusal_text))]
+pub fn print_see_refusal(out: &mut Seq<u8>, refusal: &SeeRefusal) -> Result<(), OutOfMemory>
+    ensures { OnOk result (out.new ≡ out.old ++ see_refusal_text refusal.now) }
+{
     match refusal {
         SeeRefusal::Down | SeeRefusal::KeepFault | SeeRefusal::OutOfMemory => Ok(()),
         SeeRefusal::Halted { first, second } => print_halted(out, first, second),

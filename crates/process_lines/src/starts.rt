@@ -1,7 +1,8 @@
 //! The first line of a process.
 
-ghost use Rattle.std.specs.Prelude.{◌≡◌, ◌++◌, OnOk};
-ghost use Rattle.process_lines.specs.Texts.{start_text};
+ghost use Rattle.std.specs.Prelude.{◌≡◌, ◌++◌, ◌∷◌, [], OnOk, codes, decimal};
+ghost use Rattle.std.specs.List.{concat};
+ghost use Rattle.process_lines.specs.Texts.{ready_text, start_text};
 
 use crate::pieces::{Piece, print};
 use digest_core::Digest;
@@ -44,7 +45,9 @@ fn print_ready(
     seen: u64,
     checkpoints: u64,
     records: u64,
-) -> Result<(), OutOfMemory> {
+) -> Result<(), OutOfMemory>
+    ensures { OnOk result (out.new ≡ out.old ++ ready_text member epoch seen checkpoints records) }
+{
     print(
         out,
         &[
@@ -68,7 +71,9 @@ fn print_ready(
 }
 
 /// Why the set-up is no schedule.
-fn print_no_schedule(out: &mut Seq<u8>, line: u64, cause: u8) -> Result<(), OutOfMemory> {
+fn print_no_schedule(out: &mut Seq<u8>, line: u64, cause: u8) -> Result<(), OutOfMemory>
+    ensures { OnOk result (out.new ≡ out.old ++ concat (codes "refused line " ∷ decimal line ∷ codes " cause " ∷ decimal cause ∷ [])) }
+{
     print(
         out,
         &[
@@ -81,7 +86,10 @@ fn print_no_schedule(out: &mut Seq<u8>, line: u64, cause: u8) -> Result<(), OutO
 }
 
 /// The first line of a process, without its end.
-pub fn print_start(out: &mut Seq<u8>, start: &StartLine) -> Result<(), OutOfMemory> {
+#[tactic(auto, unfolding(crate::specs::Texts::start_text))]
+pub fn print_start(out: &mut Seq<u8>, start: &StartLine) -> Result<(), OutOfMemory>
+    ensures { OnOk result (out.new ≡ out.old ++ start_text start.now) }
+{
     match start {
         StartLine::Ready {
             member,

@@ -11,13 +11,20 @@ use chain_messages::{Sealed, encode_sealed};
 use wire_bcs::{OutOfMemory, Seq};
 
 /// `end SEALED`
-pub fn print_end(out: &mut Seq<u8>, sealed: &Sealed) -> Result<(), OutOfMemory> {
+#[tactic(auto, unfolding(crate::specs::Texts::end_text))]
+pub fn print_end(out: &mut Seq<u8>, sealed: &Sealed) -> Result<(), OutOfMemory>
+    requires short { messages.sealed.short sealed.now }
+    ensures { OnOk result (out.new ≡ out.old ++ end_text sealed.now) }
+{
     let sealed = encode_sealed(out.allocator(), sealed)?;
     print(out, &[Piece::Text(b"end "), Piece::Bytes(sealed.as_slice())])
 }
 
 /// `refused ..`. A fault has no line.
-pub fn print_end_refusal(out: &mut Seq<u8>, refusal: &EndRefusal) -> Result<(), OutOfMemory> {
+#[tactic(auto, unfolding(crate::specs::Texts::end_refusal_text))]
+pub fn print_end_refusal(out: &mut Seq<u8>, refusal: &EndRefusal) -> Result<(), OutOfMemory>
+    ensures { OnOk result (out.new ≡ out.old ++ end_refusal_text refusal.now) }
+{
     match refusal {
         EndRefusal::Down | EndRefusal::OutOfMemory => Ok(()),
         EndRefusal::Halted { first, second } => print_halted(out, first, second),
@@ -27,13 +34,20 @@ pub fn print_end_refusal(out: &mut Seq<u8>, refusal: &EndRefusal) -> Result<(), 
 }
 
 /// `ack SEALED`
-pub fn print_ack(out: &mut Seq<u8>, sealed: &Sealed) -> Result<(), OutOfMemory> {
+#[tactic(auto, unfolding(crate::specs::Texts::ack_text))]
+pub fn print_ack(out: &mut Seq<u8>, sealed: &Sealed) -> Result<(), OutOfMemory>
+    requires short { messages.sealed.short sealed.now }
+    ensures { OnOk result (out.new ≡ out.old ++ ack_text sealed.now) }
+{
     let sealed = encode_sealed(out.allocator(), sealed)?;
     print(out, &[Piece::Text(b"ack "), Piece::Bytes(sealed.as_slice())])
 }
 
 /// `refused ..`. A fault has no line.
-pub fn print_ack_refusal(out: &mut Seq<u8>, refusal: &AckRefusal) -> Result<(), OutOfMemory> {
+#[tactic(auto, unfolding(crate::specs::Texts::ack_refusal_text))]
+pub fn print_ack_refusal(out: &mut Seq<u8>, refusal: &AckRefusal) -> Result<(), OutOfMemory>
+    ensures { OnOk result (out.new ≡ out.old ++ ack_refusal_text refusal.now) }
+{
     match refusal {
         AckRefusal::Down | AckRefusal::OutOfMemory => Ok(()),
         AckRefusal::Halted { first, second } => print_halted(out, first, second),

@@ -11,7 +11,10 @@ use digest_core::Digest;
 use wire_bcs::{OutOfMemory, Seq};
 
 /// `closed`, or `again` where the member was closed before.
-pub fn print_closed(out: &mut Seq<u8>, new: bool) -> Result<(), OutOfMemory> {
+#[tactic(auto, unfolding(crate::specs::Texts::closed_text))]
+pub fn print_closed(out: &mut Seq<u8>, new: bool) -> Result<(), OutOfMemory>
+    ensures { OnOk result (out.new ≡ out.old ++ closed_text new) }
+{
     if new {
         out.extend(b"closed")
     } else {
@@ -20,7 +23,10 @@ pub fn print_closed(out: &mut Seq<u8>, new: bool) -> Result<(), OutOfMemory> {
 }
 
 /// `refused ..`. A fault has no line.
-pub fn print_close_refusal(out: &mut Seq<u8>, refusal: &CloseRefusal) -> Result<(), OutOfMemory> {
+#[tactic(auto, unfolding(crate::specs::Texts::close_refusal_text))]
+pub fn print_close_refusal(out: &mut Seq<u8>, refusal: &CloseRefusal) -> Result<(), OutOfMemory>
+    ensures { OnOk result (out.new ≡ out.old ++ close_refusal_text refusal.now) }
+{
     match refusal {
         CloseRefusal::Down | CloseRefusal::KeepFault | CloseRefusal::OutOfMemory => Ok(()),
         CloseRefusal::Halted { first, second } => print_halted(out, first, second),
@@ -29,7 +35,10 @@ pub fn print_close_refusal(out: &mut Seq<u8>, refusal: &CloseRefusal) -> Result<
 }
 
 /// `turned E undone ..`: the epoch that begins, and the transactions that were undone.
-pub fn print_turned(out: &mut Seq<u8>, epoch: u64, undone: &[Digest]) -> Result<(), OutOfMemory> {
+#[tactic(auto, unfolding(crate::specs::Texts::turned_text))]
+pub fn print_turned(out: &mut Seq<u8>, epoch: u64, undone: &[Digest]) -> Result<(), OutOfMemory>
+    ensures { OnOk result (out.new ≡ out.old ++ turned_text epoch undone.now) }
+{
     print(
         out,
         &[
@@ -42,7 +51,10 @@ pub fn print_turned(out: &mut Seq<u8>, epoch: u64, undone: &[Digest]) -> Result<
 }
 
 /// `refused ..`. A fault has no line.
-pub fn print_turn_refusal(out: &mut Seq<u8>, refusal: &TurnRefusal) -> Result<(), OutOfMemory> {
+#[tactic(auto, unfolding(crate::specs::Texts::turn_refusal_text))]
+pub fn print_turn_refusal(out: &mut Seq<u8>, refusal: &TurnRefusal) -> Result<(), OutOfMemory>
+    ensures { OnOk result (out.new ≡ out.old ++ turn_refusal_text refusal.now) }
+{
     match refusal {
         TurnRefusal::Down | TurnRefusal::KeepFault | TurnRefusal::OutOfMemory => Ok(()),
         TurnRefusal::Halted { first, second } => print_halted(out, first, second),

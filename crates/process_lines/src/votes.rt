@@ -1,7 +1,9 @@
 //! The answers to `vote`.
 
-ghost use Rattle.std.specs.Prelude.{◌≡◌, ◌++◌, OnOk, IsErrOf};
+ghost use Rattle.std.specs.Prelude.{◌≡◌, ◌++◌, ◌∷◌, [], OnOk, codes};
+ghost use Rattle.std.specs.List.{concat};
 ghost use Rattle.chain_messages.specs.Messages as messages;
+ghost use Rattle.process_lines.specs.Pieces.{digest_text, key_text};
 ghost use Rattle.process_lines.specs.Texts.{vote_refusal_text, voted_text};
 
 use crate::faults::{print_halted, print_malformed, print_wrong_epoch};
@@ -27,7 +29,9 @@ pub fn print_voted(out: &mut Seq<u8>, voted: &Voted) -> Result<(), OutOfMemory>
 }
 
 /// A word, and a version.
-fn print_with_key<'a>(out: &mut Seq<u8>, text: &'a [u8], key: &ObjectKey) -> Result<(), OutOfMemory> {
+fn print_with_key<'a>(out: &mut Seq<u8>, text: &'a [u8], key: &ObjectKey) -> Result<(), OutOfMemory>
+    ensures { OnOk result (out.new ≡ out.old ++ concat (text.now ∷ key_text key.now ∷ [])) }
+{
     print(out, &[Piece::Text(text), Piece::Key(*key)])
 }
 
@@ -37,7 +41,9 @@ fn print_taken<'a>(
     text: &'a [u8],
     key: &ObjectKey,
     by: &Digest,
-) -> Result<(), OutOfMemory> {
+) -> Result<(), OutOfMemory>
+    ensures { OnOk result (out.new ≡ out.old ++ concat (text.now ∷ key_text key.now ∷ codes " by " ∷ digest_text by.now ∷ [])) }
+{
     print(
         out,
         &[
@@ -50,7 +56,10 @@ fn print_taken<'a>(
 }
 
 /// `refused ..`. A fault has no line.
-pub fn print_vote_refusal(out: &mut Seq<u8>, refusal: &VoteRefusal) -> Result<(), OutOfMemory> {
+#[tactic(auto, unfolding(crate::specs::Texts::vote_refusal_text))]
+pub fn print_vote_refusal(out: &mut Seq<u8>, refusal: &VoteRefusal) -> Result<(), OutOfMemory>
+    ensures { OnOk result (out.new ≡ out.old ++ vote_refusal_text refusal.now) }
+{
     match refusal {
         VoteRefusal::Down | VoteRefusal::KeepFault | VoteRefusal::OutOfMemory => Ok(()),
         VoteRefusal::Halted { first, second } => print_halted(out, first, second),

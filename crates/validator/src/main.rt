@@ -48,11 +48,15 @@ fn open_file(rt: &HostRuntime, task: Task, path: &str) -> Result<FileDisk, OpenF
 /// The line that says why the journal file was not opened.
 fn unopened(fault: &OpenFault) -> &'static [u8] {
     match fault {
+        OpenFault::Held => b"journal: locked\n",
+        OpenFault::Link => b"journal: a symbolic link\n",
+        OpenFault::NotPlain => b"journal: not a plain file\n",
+        OpenFault::Replaced => b"journal: replaced\n",
+        OpenFault::TooLarge => b"journal: too large\n",
         OpenFault::System(error) if error.kind() == io::ErrorKind::NotFound => {
             b"journal: missing\n"
         }
-        OpenFault::Held => b"journal: locked\n",
-        _ => b"journal: cannot be opened\n",
+        OpenFault::System(_) => b"journal: cannot be opened\n",
     }
 }
 
@@ -74,8 +78,8 @@ fn with_files<R: Threads + Sync, I: Source, K: Sink>(
     };
     let disk = match open_file(rt, task, path) {
         Ok(disk) => disk,
-        Err(error) => {
-            return match write_all(sink, unopened(&error)) {
+        Err(fault) => {
+            return match write_all(sink, unopened(&fault)) {
                 Ok(()) => 6,
                 Err(_) => 5,
             };
