@@ -14,3 +14,4 @@ pub mod Built
 pub mod Past
 pub mod Handing
 pub mod Looking
+pub mod Catching

@@ -1,6 +1,6 @@
 -- What a follower makes of the checkpoints that a member has built. Source: Sui Lutris (a node that executes what is
 -- checkpointed).
-use Rattle.std.specs.Prelude.{◌≡◌, ℕ, ◌+◌, true, List, [], ◌∷◌, ◌++◌, find, map, slice_get, Option, Some, Err, option_map}
+use Rattle.std.specs.Prelude.{◌≡◌, ℕ, ◌+◌, true, List, [], ◌∷◌, ◌++◌, find, map, slice_get, Option, Some, Ok, Err, option_map}
 use Rattle.std.specs.FinMap.{values}
 use Rattle.digest_core.specs.declared.Digest.{Digest}
 use Rattle.chain_types.specs.declared.transactions.Transaction.{Transaction}
@@ -12,6 +12,7 @@ use Rattle.schedule_text.specs.declared.words.Event.{Event}
 use Rattle.schedule_text.specs.declared.words.Setup.{Setup}
 use Rattle.protocol_spec.specs.Chain.Words.{Each, Has, IsFront, last_of}
 use Rattle.protocol_spec.specs.Member.Member.{Member, built}
+use Rattle.protocol_spec.specs.Member.Sequential.{map_of}
 use Rattle.world_spec.specs.Setting.{Setting, Trust, setting_of}
 use Rattle.world_spec.specs.World.{Made, Seat, World, member_in}
 use Rattle.world_spec.specs.Openings.{opening_at}
@@ -20,7 +21,8 @@ use Rattle.world_spec.specs.Assumptions.{IsHonestRun, all_transactions}
 use Rattle.sequence_law.specs.Orderly.{AreApart}
 use Rattle.follower_core.specs.Followed.{Handed}
 use Rattle.follower_core.specs.declared.refusals.FollowRefusal.{FollowRefusal}
-use Rattle.follower_core.specs.Following.{Answers, AreApplied, behind_handed, is_memory, opened}
+use Rattle.follower_core.specs.Catching.{before_epoch, caught_up}
+use Rattle.follower_core.specs.Following.{Answers, AreApplied, State, behind_handed, is_memory, opened}
 
 -- ---- what is handed in
 
@@ -121,3 +123,20 @@ StandInSchedules = (trust : Trust) (lines : List Setup) (events : List Event) �
 abbrev pub OpenedAlikeInSchedules : Type 0
 OpenedAlikeInSchedules = (trust : Trust) (lines : List Setup) (events : List Event) → IsHonestRun (setting_of trust lines) events
     → (a b : Member) → IsInRun (setting_of trust lines) events a → IsInRun (setting_of trust lines) events b → IsOpenedAlike (setting_of trust lines) events a b
+
+-- ---- a follower that looks transactions up among those that lines made
+
+-- each transaction of the run is found under its digest among those that its lines made: none was read from bytes alone
+abbrev pub AllMade : Setting → List Event → Type 0
+AllMade s events = (t : Transaction) → Has (all_transactions s events) t → made_as (world_after s events) (transaction_digest t) ≡ Some t
+
+-- it takes all checkpoints of the epochs before a member's own, and has then the objects with which the member opened its epoch
+pub record ComesThrough (s : Setting) (events : List Event) (m : Member) : Type 0 where
+  pub state : State
+  pub is : caught_up (made_as (world_after s events)) (opened s.opening) (before_epoch m.epoch (built m)) ≡ Ok state
+  pub objects : state.course.map ≡ map_of m.opening
+
+-- so it does with each member, at the end of the run
+abbrev pub FollowersComeThrough : Type 0
+FollowersComeThrough = (s : Setting) (events : List Event) → IsHonestRun s events → AreApart s.opening → AllMade s events
+    → (m : ℕ) (seat : Seat) → slice_get (world_after s events).seats m ≡ Some seat → ComesThrough s events (member_in s seat)

@@ -1,5 +1,5 @@
 //! What a follower makes of the checkpoints that honest members have built.
-ghost use Rattle.blame_law.specs.Followed.{CanBeFollowedInSchedules, FollowedInSchedules, FollowersOpenAlike, FollowersStandAtOpenings, HonestCheckpointsAreFollowed, HonestCheckpointsCanBeFollowed, HonestCheckpointsWantOnlyMemory, LookedUpIsHanded, OnlyMemoryInSchedules, OpenedAlikeInSchedules, StandInSchedules};
+ghost use Rattle.blame_law.specs.Followed.{CanBeFollowedInSchedules, FollowedInSchedules, FollowersComeThrough, FollowersOpenAlike, FollowersStandAtOpenings, HonestCheckpointsAreFollowed, HonestCheckpointsCanBeFollowed, HonestCheckpointsWantOnlyMemory, LookedUpIsHanded, OnlyMemoryInSchedules, OpenedAlikeInSchedules, StandInSchedules};
 
 /// Under the run assumptions a follower that opened with the objects of the set-up applies the checkpoints that a member
 /// has built, each handed in with the transactions of the run that have its items' digests; so it refuses one for want of
@@ -34,4 +34,11 @@ pub fn followers_open_alike_in_schedules()
 /// of the run.
 pub fn looked_up_is_handed()
     ensures { LookedUpIsHanded }
+{}
+
+/// Under the run assumptions a follower that looks each transaction up among those that the lines made takes all checkpoints
+/// of the epochs before a member's own, if no transaction of the run was read from bytes alone; and it has then the objects
+/// with which the member opened its epoch.
+pub fn followers_come_through()
+    ensures { FollowersComeThrough }
 {}

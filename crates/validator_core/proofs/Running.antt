@@ -97,6 +97,11 @@ run_due m ran items e is = ap (run_record m) e ∙ ap ran_record (sym is)
 pub run_owed : (m : Member) (ran : Ran) (items : List RanItem) → run_answer bare m ≡ Ok ran → items ≡ ran_items m → is_some (ran_record items) ≡ true → is_some (due bare m runs) ≡ true
 run_owed m ran items e is some = ap (λ (o : Option Record). is_some o) (run_due m ran items e is) ∙ some
 
+-- a run that says KeepFault has it from its record
+pub run_fault_kept : (why : Unkept) (e : RunRefusal) (r : Result Ran RunRefusal) → e ≡ unkept_run why → r ≡ Err e → r ≡ Err no_run.KeepFault → why ≡ unkept.KeepFault
+run_fault_kept unkept.KeepFault e r is one fault = refl
+run_fault_kept unkept.OutOfMemory e r is one fault = absurd (cc)
+
 behind_rounds : (m : Member) (xs : List Execution) → rounds (books m) m.executed ≡ xs → counted_where (ran_record (map ran_item xs)) (with_rounds m) ≡ after_due bare m (ran_record (map ran_item xs))
 unfolding after
 behind_rounds m [] none = ap (λ (ys : List Execution). record m { executed = m.executed ++ ys }) none ∙ ap (λ (ys : List Execution). record m { executed = ys }) (append-nil m.executed)
