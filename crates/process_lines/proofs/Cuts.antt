@@ -1,16 +1,15 @@
 -- Where a line ends, and a line as it is read piece by piece.
-use Rattle.std.proofs.Common.{◌≡◌, ◌==◌, ℕ, zero, suc, ◌+◌, ◌<◌, ◌≤◌, ltb, Bool, true, false, cond, List, [], ◌∷◌, ◌++◌, length, take, drop, get_or, Option, Some, None, position, refl, sym, ap, ◌∙◌, subst, arith, append_assoc, append-nil, eqb-true, length-take, length-append}
+use Rattle.std.proofs.Common.{◌≡◌, ◌==◌, ℕ, ◌+◌, ◌<◌, ◌≤◌, ltb, Bool, true, false, cond, List, [], ◌∷◌, ◌++◌, length, take, drop, get_or, Option, Some, None, position, refl, sym, ap, ◌∙◌, subst, arith, append_assoc, append-nil, eqb-true, length-take, length-append}
 use Rattle.std.specs.Io.KnownBytes.{Consumes, IsAtEnd}
 use Rattle.std.proofs.KnownBytes.{Consumes-trans, Consumes-nil}
-use Rattle.std.specs.List.{list_any, position_from}
+use Rattle.std.specs.List.{position_from}
 use Rattle.std.proofs.lemmas.List.{drop_more, take-append-drop, get_or-take, get_or_default}
 use Rattle.std.proofs.lemmas.List.Quantifiers.{position-Some}
 use Rattle.std.proofs.lemmas.List.Folds.{list_any_none, list_any-append}
 use Rattle.std.proofs.lemmas.Bool.Decides.{nat_tests}
 use Rattle.std.proofs.lemmas.Iterator.Adapters.{position_from-zero}
-use Rattle.std.specs.Prelude.{◌||◌}
 use Rattle.process_lines.specs.declared.line_reader.Part.{Part}
-use Rattle.process_lines.specs.Lines.{Fills, HasNoEnd, IsAlong, IsCutAt, IsPart, Reads, ReadsEnd, ReadsLine, Takes, added, got_in, longest_line}
+use Rattle.process_lines.specs.Lines.{HasNoEnd, IsAlong, IsCutAt, IsPart, Reads, ReadsEnd, ReadsLine, Takes, added, got_in, longest_line}
 
 is_end : ℕ → Bool
 is_end b = b == 10
@@ -25,7 +24,7 @@ before bytes place k d none low =
     ap (λ (b : ℕ). b == 10) (get_or-take place bytes k d at ∙ get_or_default bytes k d 0 under) ∙ none k at
 
 pub ends_at : (bytes : List ℕ) (place : ℕ) → Some place ≡ position (λ b. b == 10) bytes → IsCutAt bytes (take place bytes) (place + 1)
-ends_at bytes place is = 
+ends_at bytes place is =
     let p = position-Some (λ (b : ℕ). b == 10) bytes place 0 (sym is) in
     record {
       parts = sym (take-append-drop place bytes) ∙ ap (λ t. take place bytes ++ t) (drop_more bytes place 0 p.0 ∙ ap (λ b. b ∷ drop (place + 1) bytes) (eqb-true (get_or bytes place 0) 10 p.1));

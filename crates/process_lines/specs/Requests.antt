@@ -1,5 +1,5 @@
 -- Which request a line is. Source: this profile.
-use Rattle.std.specs.Prelude.{ℕ, ◌-◌, ◌^◌, ◌==◌, Bool, List, [], ◌∷◌, length, Option, Some, None, option_map, bytes_eq, codes, if◌then◌else◌}
+use Rattle.std.specs.Prelude.{ℕ, ◌-◌, ◌^◌, ◌<◌, ◌≤◌, ◌==◌, List, [], ◌∷◌, length, Option, Some, None, option_map, bytes_eq, codes, if◌then◌else◌}
 use Rattle.std.specs.List.{slice_split}
 use Rattle.digest_core.specs.declared.Digest.{Digest}
 use Rattle.schedule_text.specs.Bytes.{number_in}
@@ -62,6 +62,22 @@ request_of_three word text more =
     if bytes_eq word (codes "see") then see_with (number_of_word text) (bytes_in more)
     else (if bytes_eq word (codes "version") then version_with (digest_in text) (number_of_word more)
     else None)
+
+-- a run has 1 to 16 workers
+abbrev pub HasWorkers : Request → Type 0
+HasWorkers (request.Vote bytes) = Unit {0}
+HasWorkers (request.Hold bytes) = Unit {0}
+HasWorkers (request.See number entry) = Unit {0}
+HasWorkers (request.Run workers) = (0 < workers) × (workers ≤ 16)
+HasWorkers request.Close = Unit {0}
+HasWorkers request.End = Unit {0}
+HasWorkers request.Turn = Unit {0}
+HasWorkers (request.Ack tx) = Unit {0}
+HasWorkers (request.Checkpoint number) = Unit {0}
+HasWorkers (request.Object id) = Unit {0}
+HasWorkers (request.Version id version) = Unit {0}
+HasWorkers (request.Effects tx) = Unit {0}
+HasWorkers request.State = Unit {0}
 
 abbrev pub request_of_words : List (List ℕ) → Option Request
 request_of_words (word ∷ []) = request_of_one word

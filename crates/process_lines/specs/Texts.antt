@@ -77,7 +77,7 @@ abbrev pub part_text : List ℕ → List Digest → List ℕ
 part_text word [] = []
 part_text word (d ∷ ds) = word ++ digests_text (d ∷ ds)
 
-abbrev pub built_one : Checkpoint → List ℕ
+unfoldable pub built_one : Checkpoint → List ℕ
 built_one c = concat (codes " checkpoint " ∷ decimal c.number ∷ [])
 
 -- the numbers of checkpoints that were built

@@ -11,17 +11,20 @@ use chain_messages::{Sealed, encode_sealed};
 use checkpoint_core::{Checkpoint, HashedCheckpoint};
 use wire_bcs::{OutOfMemory, Seq, encode};
 
+/// The number of a checkpoint.
+fn number_of(built: &HashedCheckpoint) -> u64
+    ensures { result ≡ built.now.number }
+{
+    built.checkpoint().number
+}
+
 /// ` checkpoint N`
+#[tactic(auto, unfolding(crate::specs::Texts::built_one))]
 fn print_built_one(out: &mut Seq<u8>, built: &HashedCheckpoint) -> Result<(), OutOfMemory>
     ensures { OnOk result (out.new ≡ out.old ++ built_one built.now) }
 {
-    print(
-        out,
-        &[
-            Piece::Text(b" checkpoint "),
-            Piece::Number(built.checkpoint().number),
-        ],
-    )
+    let number = number_of(built);
+    print(out, &[Piece::Text(b" checkpoint "), Piece::Number(number)])
 }
 
 /// ` checkpoint N` for each checkpoint that was built.

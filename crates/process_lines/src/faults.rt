@@ -37,17 +37,13 @@ pub(crate) fn print_malformed(out: &mut Seq<u8>, fault: &WireFault) -> Result<()
             Piece::Text(b"refused malformed at "),
             Piece::Number(fault.at),
             Piece::Text(b" why "),
-            Piece::Number(u64::from(fault.why)),
+            Piece::Number(fault.why as u64),
         ],
     )
 }
 
 /// The epoch of what was handed over, and that of the member.
-pub(crate) fn print_wrong_epoch(
-    out: &mut Seq<u8>,
-    had: u64,
-    want: u64,
-) -> Result<(), OutOfMemory>
+pub(crate) fn print_wrong_epoch(out: &mut Seq<u8>, had: u64, want: u64) -> Result<(), OutOfMemory>
     ensures { OnOk result (out.new ≡ out.old ++ wrong_epoch_text had want) }
 {
     print(

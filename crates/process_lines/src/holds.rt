@@ -37,7 +37,7 @@ fn print_cert_refusal(out: &mut Seq<u8>, refusal: &CertRefusal) -> Result<(), Ou
             out,
             &[
                 Piece::Text(b"refused shape "),
-                Piece::Number(u64::from(*number)),
+                Piece::Number(*number as u64),
             ],
         ),
         CertRefusal::Order => out.extend(b"refused order"),
@@ -54,7 +54,7 @@ fn print_cert_refusal(out: &mut Seq<u8>, refusal: &CertRefusal) -> Result<(), Ou
             out,
             &[
                 Piece::Text(b"refused bad seal "),
-                Piece::Number(u64::from(*member)),
+                Piece::Number(*member as u64),
             ],
         ),
     }

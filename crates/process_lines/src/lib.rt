@@ -22,7 +22,7 @@ mod turns;
 mod votes;
 
 pub use checkpoints::{print_built, print_checkpoint, print_none};
-pub use holds::{print_hold_refusal, print_held};
+pub use holds::{print_held, print_hold_refusal};
 pub use line_reader::{Got, LineReader};
 pub use looks::{Counts, print_effects, print_object, print_state};
 pub use reading::read_request;
@@ -31,5 +31,5 @@ pub use runs::{print_ran, print_run_refusal};
 pub use sees::{print_see_refusal, print_seen};
 pub use starts::{StartLine, print_start};
 pub use stated::{print_ack, print_ack_refusal, print_end, print_end_refusal};
-pub use turns::{print_closed, print_close_refusal, print_turn_refusal, print_turned};
+pub use turns::{print_close_refusal, print_closed, print_turn_refusal, print_turned};
 pub use votes::{print_vote_refusal, print_voted};

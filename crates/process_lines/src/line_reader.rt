@@ -107,11 +107,7 @@ fn first_line(bytes: &[u8]) -> Option<(&[u8], usize)>
 }
 
 /// The next bytes of the source, none at its end.
-fn read_some<S: Source>(
-    alloc: Global,
-    source: &mut S,
-    room: &mut [u8],
-) -> Result<Seq<u8>, OutFault>
+fn read_some<S: Source>(alloc: Global, source: &mut S, room: &mut [u8]) -> Result<Seq<u8>, OutFault>
     requires { 0 < length room.old }
     ensures read { IfOk result (λ bytes. Consumes (S.left source.old) (S.left source.new) bytes) }
     ensures end { IfOk result (λ bytes. bytes ≡ [] → IsAtEnd (S.left source.new)) }

@@ -29,12 +29,15 @@ pub struct Counts {
 }
 
 /// `object BYTES`
-#[tactic(auto, unfolding(crate::specs::Texts::object_text))]
+#[tactic(auto, unfolding(crate::specs::Texts::object_text), using(crate::proofs::Shorts::object_short))]
 pub fn print_object(out: &mut Seq<u8>, object: &Object) -> Result<(), OutOfMemory>
     ensures { OnOk result (out.new ≡ out.old ++ object_text object.now) }
 {
     let bytes = encode(out.allocator(), object)?;
-    print(out, &[Piece::Text(b"object "), Piece::Bytes(bytes.as_slice())])
+    print(
+        out,
+        &[Piece::Text(b"object "), Piece::Bytes(bytes.as_slice())],
+    )
 }
 
 /// `effects BYTES`
@@ -44,7 +47,10 @@ pub fn print_effects(out: &mut Seq<u8>, effects: &Effects) -> Result<(), OutOfMe
     ensures { OnOk result (out.new ≡ out.old ++ effects_text effects.now) }
 {
     let bytes = encode(out.allocator(), effects)?;
-    print(out, &[Piece::Text(b"effects "), Piece::Bytes(bytes.as_slice())])
+    print(
+        out,
+        &[Piece::Text(b"effects "), Piece::Bytes(bytes.as_slice())],
+    )
 }
 
 /// The first half of the state.

@@ -1,10 +1,10 @@
 //! Which request a line is.
 
-ghost use Rattle.std.specs.Prelude.{◌≡◌, ◌==◌, IfOk, bytes_eq, map};
+ghost use Rattle.std.specs.Prelude.{◌≡◌, ◌<◌, ◌≤◌, ◌==◌, IfOk, IfSome, bytes_eq, map};
 ghost use Rattle.std.specs.List.{list_all, slice_split};
 ghost use Rattle.schedule_text.specs.Bytes.{number_in};
 ghost use Rattle.schedule_text.specs.Inputs.{hex_of, is_hex, is_hex_byte};
-ghost use Rattle.process_lines.specs.Requests.{bytes_in, digest_in, digest_of_bytes, number_of_word, request_of, request_of_one, request_of_three, request_of_two, see_with, version_with};
+ghost use Rattle.process_lines.specs.Requests.{HasWorkers, bytes_in, digest_in, digest_of_bytes, number_of_word, request_of, request_of_one, request_of_three, request_of_two, see_with, version_with};
 
 use crate::request::Request;
 use digest_core::Digest;
@@ -93,7 +93,8 @@ fn number_of(word: &[u8]) -> Option<u64>
 
 /// The number of workers that the word spells. Takes no memory.
 fn workers_of(word: &[u8]) -> Option<u32>
-    ensures { result ≡ number_in 1 16 word.now }
+    ensures number { result ≡ number_in 1 16 word.now }
+    ensures range { IfSome result (λ workers. (0 < workers) × (workers ≤ 16)) }
 {
     match number_in(1, 16, word) {
         Some(number) => Some(number as u32),
@@ -111,7 +112,8 @@ fn is_word(word: &[u8], name: &[u8]) -> bool
 /// A request of one word. Takes no memory.
 #[tactic(auto, unfolding(crate::specs::Requests::request_of_one))]
 fn request_of_one(word: &[u8]) -> Option<Request>
-    ensures { result ≡ request_of_one word.now }
+    ensures request { result ≡ request_of_one word.now }
+    ensures workers { IfSome result HasWorkers }
 {
     if is_word(word, b"close".as_slice()) {
         return Some(Request::Close);
@@ -130,12 +132,9 @@ fn request_of_one(word: &[u8]) -> Option<Request>
 
 /// A request of a word and another one.
 #[tactic(auto, unfolding(crate::specs::Requests::request_of_two))]
-fn request_of_two(
-    alloc: Global,
-    word: &[u8],
-    text: &[u8],
-) -> Result<Option<Request>, OutOfMemory>
-    ensures { IfOk result (λ r. r ≡ request_of_two word.now text.now) }
+fn request_of_two(alloc: Global, word: &[u8], text: &[u8]) -> Result<Option<Request>, OutOfMemory>
+    ensures request { IfOk result (λ r. r ≡ request_of_two word.now text.now) }
+    ensures workers { IfOk result (λ r. IfSome r HasWorkers) }
 {
     if is_word(word, b"vote".as_slice()) {
         return Ok(bytes_in(alloc, text)?.map(Request::Vote));
@@ -163,7 +162,8 @@ fn request_of_two(
 
 /// `see N ENTRY`, behind its word.
 fn see_of(alloc: Global, number: &[u8], entry: &[u8]) -> Result<Option<Request>, OutOfMemory>
-    ensures { IfOk result (λ r. r ≡ see_with (number_of_word number.now) (bytes_in entry.now)) }
+    ensures request { IfOk result (λ r. r ≡ see_with (number_of_word number.now) (bytes_in entry.now)) }
+    ensures workers { IfOk result (λ r. IfSome r HasWorkers) }
 {
     let Some(number) = number_of(number) else {
         return Ok(None);
@@ -176,7 +176,8 @@ fn see_of(alloc: Global, number: &[u8], entry: &[u8]) -> Result<Option<Request>,
 
 /// `version ID V`, behind its word.
 fn version_of(alloc: Global, id: &[u8], version: &[u8]) -> Result<Option<Request>, OutOfMemory>
-    ensures { IfOk result (λ r. r ≡ version_with (digest_in id.now) (number_of_word version.now)) }
+    ensures request { IfOk result (λ r. r ≡ version_with (digest_in id.now) (number_of_word version.now)) }
+    ensures workers { IfOk result (λ r. IfSome r HasWorkers) }
 {
     let Some(id) = digest_in(alloc, id)? else {
         return Ok(None);
@@ -195,7 +196,8 @@ fn request_of_three(
     text: &[u8],
     more: &[u8],
 ) -> Result<Option<Request>, OutOfMemory>
-    ensures { IfOk result (λ r. r ≡ request_of_three word.now text.now more.now) }
+    ensures request { IfOk result (λ r. r ≡ request_of_three word.now text.now more.now) }
+    ensures workers { IfOk result (λ r. IfSome r HasWorkers) }
 {
     if is_word(word, b"see".as_slice()) {
         return see_of(alloc, text, more);
@@ -216,7 +218,8 @@ fn parts_of(alloc: Global, byte: u8, text: &[u8]) -> Result<Vec<&[u8]>, OutOfMem
 /// The request that the line is, without its end.
 #[tactic(auto, unfolding(crate::specs::Requests::request_of))]
 pub fn read_request(alloc: Global, line: &[u8]) -> Result<Option<Request>, OutOfMemory>
-    ensures { IfOk result (λ r. r ≡ request_of line.now) }
+    ensures request { IfOk result (λ r. r ≡ request_of line.now) }
+    ensures workers { IfOk result (λ r. IfSome r HasWorkers) }
 {
     let words = parts_of(alloc, b' ', line)?;
     match words.as_slice() {

@@ -95,10 +95,7 @@ fn print_what(out: &mut Seq<u8>, what: &SeenWhat) -> Result<(), OutOfMemory>
         ),
         SeenWhat::Counted { member, weight: _ } => print(
             out,
-            &[
-                Piece::Text(b"seen end "),
-                Piece::Number(u64::from(*member)),
-            ],
+            &[Piece::Text(b"seen end "), Piece::Number(*member as u64)],
         ),
         SeenWhat::Ended { .. } => out.extend(b"seen ended"),
         SeenWhat::Ignored(why) => print_ignored(out, why),

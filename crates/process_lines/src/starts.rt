@@ -20,13 +20,21 @@ pub enum StartLine {
         records: u64,
     },
     /// The journal of the member was made, for the set-up of this digest.
-    Made { member: u32, genesis: Digest },
+    Made {
+        member: u32,
+        genesis: Digest,
+    },
     /// The set-up is no schedule.
-    NoSchedule { line: u64, cause: u8 },
+    NoSchedule {
+        line: u64,
+        cause: u8,
+    },
     /// The set-up has lines that are none.
     HasEvents,
     /// The set-up has no honest member of this number.
-    NoMember { member: u32 },
+    NoMember {
+        member: u32,
+    },
     /// The journal was not made, or not to its end.
     NotMade,
     OtherMember,
@@ -34,7 +42,41 @@ pub enum StartLine {
     /// The journal is to be made, and is there.
     NotEmpty,
     /// The first record from which the member does not start, counted from 0.
-    BadRecord { place: u64 },
+    BadRecord {
+        place: u64,
+    },
+}
+
+/// The member, its epoch, and how many entries it has seen.
+fn print_seat(out: &mut Seq<u8>, member: u32, epoch: u64, seen: u64) -> Result<(), OutOfMemory>
+    ensures { OnOk result (out.new ≡ out.old ++ concat (codes "ready " ∷ decimal member ∷ codes " epoch " ∷ decimal epoch ∷ codes " seen " ∷ decimal seen ∷ [])) }
+{
+    print(
+        out,
+        &[
+            Piece::Text(b"ready "),
+            Piece::Number(member as u64),
+            Piece::Text(b" epoch "),
+            Piece::Number(epoch),
+            Piece::Text(b" seen "),
+            Piece::Number(seen),
+        ],
+    )
+}
+
+/// How much the member has built and kept.
+fn print_amounts(out: &mut Seq<u8>, checkpoints: u64, records: u64) -> Result<(), OutOfMemory>
+    ensures { OnOk result (out.new ≡ out.old ++ concat (codes " checkpoints " ∷ decimal checkpoints ∷ codes " records " ∷ decimal records ∷ [])) }
+{
+    print(
+        out,
+        &[
+            Piece::Text(b" checkpoints "),
+            Piece::Number(checkpoints),
+            Piece::Text(b" records "),
+            Piece::Number(records),
+        ],
+    )
 }
 
 /// Where a member starts from.
@@ -48,26 +90,8 @@ fn print_ready(
 ) -> Result<(), OutOfMemory>
     ensures { OnOk result (out.new ≡ out.old ++ ready_text member epoch seen checkpoints records) }
 {
-    print(
-        out,
-        &[
-            Piece::Text(b"ready "),
-            Piece::Number(u64::from(member)),
-            Piece::Text(b" epoch "),
-            Piece::Number(epoch),
-            Piece::Text(b" seen "),
-            Piece::Number(seen),
-        ],
-    )?;
-    print(
-        out,
-        &[
-            Piece::Text(b" checkpoints "),
-            Piece::Number(checkpoints),
-            Piece::Text(b" records "),
-            Piece::Number(records),
-        ],
-    )
+    print_seat(out, member, epoch, seen)?;
+    print_amounts(out, checkpoints, records)
 }
 
 /// Why the set-up is no schedule.
@@ -80,7 +104,7 @@ fn print_no_schedule(out: &mut Seq<u8>, line: u64, cause: u8) -> Result<(), OutO
             Piece::Text(b"refused line "),
             Piece::Number(line),
             Piece::Text(b" cause "),
-            Piece::Number(u64::from(cause)),
+            Piece::Number(cause as u64),
         ],
     )
 }
@@ -102,7 +126,7 @@ pub fn print_start(out: &mut Seq<u8>, start: &StartLine) -> Result<(), OutOfMemo
             out,
             &[
                 Piece::Text(b"made "),
-                Piece::Number(u64::from(*member)),
+                Piece::Number(*member as u64),
                 Piece::Text(b" genesis "),
                 Piece::Id(*genesis),
             ],
@@ -113,19 +137,16 @@ pub fn print_start(out: &mut Seq<u8>, start: &StartLine) -> Result<(), OutOfMemo
             out,
             &[
                 Piece::Text(b"genesis: no honest member "),
-                Piece::Number(u64::from(*member)),
+                Piece::Number(*member as u64),
             ],
         ),
         StartLine::NotMade => out.extend(b"journal: not made"),
-        StartLine::OtherMember => out.extend(b"journal: of another member"),
-        StartLine::OtherGenesis => out.extend(b"journal: of another genesis"),
+        StartLine::OtherMember => print(out, &[Piece::Text(b"journal: of another member")]),
+        StartLine::OtherGenesis => print(out, &[Piece::Text(b"journal: of another genesis")]),
         StartLine::NotEmpty => out.extend(b"journal: not empty"),
         StartLine::BadRecord { place } => print(
             out,
-            &[
-                Piece::Text(b"journal: bad record "),
-                Piece::Number(*place),
-            ],
+            &[Piece::Text(b"journal: bad record "), Piece::Number(*place)],
         ),
     }
 }

@@ -17,7 +17,10 @@ pub fn print_end(out: &mut Seq<u8>, sealed: &Sealed) -> Result<(), OutOfMemory>
     ensures { OnOk result (out.new ≡ out.old ++ end_text sealed.now) }
 {
     let sealed = encode_sealed(out.allocator(), sealed)?;
-    print(out, &[Piece::Text(b"end "), Piece::Bytes(sealed.as_slice())])
+    print(
+        out,
+        &[Piece::Text(b"end "), Piece::Bytes(sealed.as_slice())],
+    )
 }
 
 /// `refused ..`. A fault has no line.
@@ -40,7 +43,10 @@ pub fn print_ack(out: &mut Seq<u8>, sealed: &Sealed) -> Result<(), OutOfMemory>
     ensures { OnOk result (out.new ≡ out.old ++ ack_text sealed.now) }
 {
     let sealed = encode_sealed(out.allocator(), sealed)?;
-    print(out, &[Piece::Text(b"ack "), Piece::Bytes(sealed.as_slice())])
+    print(
+        out,
+        &[Piece::Text(b"ack "), Piece::Bytes(sealed.as_slice())],
+    )
 }
 
 /// `refused ..`. A fault has no line.

@@ -22,9 +22,15 @@ pub fn print_voted(out: &mut Seq<u8>, voted: &Voted) -> Result<(), OutOfMemory>
 {
     let sealed = encode_sealed(out.allocator(), &voted.sealed)?;
     if voted.fresh {
-        print(out, &[Piece::Text(b"voted "), Piece::Bytes(sealed.as_slice())])
+        print(
+            out,
+            &[Piece::Text(b"voted "), Piece::Bytes(sealed.as_slice())],
+        )
     } else {
-        print(out, &[Piece::Text(b"again "), Piece::Bytes(sealed.as_slice())])
+        print(
+            out,
+            &[Piece::Text(b"again "), Piece::Bytes(sealed.as_slice())],
+        )
     }
 }
 
@@ -71,7 +77,7 @@ pub fn print_vote_refusal(out: &mut Seq<u8>, refusal: &VoteRefusal) -> Result<()
             out,
             &[
                 Piece::Text(b"refused invalid "),
-                Piece::Number(u64::from(*number)),
+                Piece::Number(*number as u64),
             ],
         ),
         VoteRefusal::Unsealed => out.extend(b"refused unsealed"),

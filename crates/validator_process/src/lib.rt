@@ -9,6 +9,7 @@
 #![tactic(auto)]
 
 mod answering;
+mod asking;
 mod entries;
 mod identity;
 mod journal;

@@ -1,56 +1,98 @@
 //! `object`, `version`, `effects` and `state`: what a member has.
 
-use crate::stop::Stop;
-use chain_types::{ObjectId, ObjectKey};
+ghost use Rattle.std.specs.Prelude.{◌≡◌, ◌+◌, ◌≤◌, IfOk, is_some, length, option_copied, option_map};
+ghost use Rattle.protocol_spec.specs.Member.Calls.{effects_of};
+ghost use Rattle.protocol_spec.specs.Member.Member.{live_objects};
+ghost use Rattle.protocol_spec.specs.Member.Versions.{execution_of, live, object_in, version_at, versions};
+ghost use Rattle.process_lines.specs.Texts.{effects_text, none_text, state_text};
+ghost use Rattle.validator_process.specs.Says.{counts_of, effects_line, executed_among, object_line};
+
+use chain_types::{Object, ObjectId, ObjectKey};
 use digest_core::Digest;
 use effects_core::Effects;
 use process_lines::{Counts, print_effects, print_none, print_object, print_state};
+use std::alloc::Global;
 use validator_core::Validator;
 use wire_bcs::{OutOfMemory, Seq};
 
-/// `object ID`
-pub(crate) fn object(validator: &Validator, id: Digest, out: &mut Seq<u8>) -> Result<(), Stop> {
-    match validator.live(&ObjectId(id)) {
-        Some(object) => Ok(print_object(out, object)?),
-        None => Ok(print_none(out)?),
+/// An object that is there or not.
+fn object_text(alloc: Global, object: Option<&Object>) -> Result<Seq<u8>, OutOfMemory>
+    ensures { IfOk result (λ text. text ≡ object_line (option_copied object.entry)) }
+{
+    let mut out = Seq::new(alloc);
+    match object {
+        Some(object) => print_object(&mut out, object)?,
+        None => print_none(&mut out)?,
     }
+    Ok(out)
+}
+
+/// `object ID`
+pub(crate) fn object(
+    alloc: Global,
+    validator: &Validator,
+    id: Digest,
+) -> Result<Seq<u8>, OutOfMemory>
+    ensures { IfOk result (λ text. text ≡ object_line (live validator.now.state.opening validator.now.state.executed (record { 0 = id }))) }
+{
+    object_text(alloc, validator.live(&ObjectId(id)))
 }
 
 /// `version ID V`
 pub(crate) fn version(
+    alloc: Global,
     validator: &Validator,
     id: Digest,
     version: u64,
-    out: &mut Seq<u8>,
-) -> Result<(), Stop> {
+) -> Result<Seq<u8>, OutOfMemory>
+    ensures { IfOk result (λ text. text ≡ object_line (option_map object_in (version_at (versions validator.now.state.opening validator.now.state.executed) (record { id = record { 0 = id }; version = version })))) }
+{
     let key = ObjectKey {
         id: ObjectId(id),
         version,
     };
-    match validator.object(&key) {
-        Some(object) => Ok(print_object(out, object)?),
-        None => Ok(print_none(out)?),
-    }
+    object_text(alloc, validator.object(&key))
 }
 
-/// Effects. A list of more than 2147483647 objects counts as want of memory.
-fn print_short(out: &mut Seq<u8>, effects: &Effects) -> Result<(), OutOfMemory> {
+/// The text of effects. A list of more than 2147483647 objects counts as want of memory.
+fn effects_text(alloc: Global, effects: &Effects) -> Result<Seq<u8>, OutOfMemory>
+    ensures { IfOk result (λ text. text ≡ effects_text effects.now) }
+{
     if !effects.is_short() {
         return Err(OutOfMemory);
     }
-    print_effects(out, effects)
+    let mut out = Seq::new(alloc);
+    print_effects(&mut out, effects)?;
+    Ok(out)
+}
+
+/// `none`
+fn none_text(alloc: Global) -> Result<Seq<u8>, OutOfMemory>
+    ensures { IfOk result (λ text. text ≡ none_text) }
+{
+    let mut out = Seq::new(alloc);
+    print_none(&mut out)?;
+    Ok(out)
 }
 
 /// `effects ID`
-pub(crate) fn effects(validator: &Validator, tx: &Digest, out: &mut Seq<u8>) -> Result<(), Stop> {
+pub(crate) fn effects(
+    alloc: Global,
+    validator: &Validator,
+    tx: &Digest,
+) -> Result<Seq<u8>, OutOfMemory>
+    ensures { IfOk result (λ text. text ≡ effects_line (option_map effects_of (execution_of validator.now.state.executed tx.now))) }
+{
     match validator.effects(tx) {
-        Some(effects) => Ok(print_short(out, effects)?),
-        None => Ok(print_none(out)?),
+        Some(effects) => effects_text(alloc, effects),
+        None => none_text(alloc),
     }
 }
 
 /// How many of the held certificates are of executed transactions. Takes no memory.
-fn executed_count(validator: &Validator) -> u64 {
+fn executed_count(validator: &Validator) -> u64
+    ensures { result ≡ executed_among validator.now.state 0 validator.now.state.held }
+{
     let mut count = 0;
     let mut rest = validator.held();
     while let [held, after @ ..] = rest {
@@ -63,21 +105,35 @@ fn executed_count(validator: &Validator) -> u64 {
 }
 
 /// How many objects are live.
-fn object_count(validator: &Validator) -> Result<u64, OutOfMemory> {
+fn object_count(validator: &Validator) -> Result<u64, OutOfMemory>
+    ensures { IfOk result (λ n. n ≡ length (live_objects validator.now.state)) }
+{
     let objects = validator.live_list()?;
     Ok(objects.len())
 }
 
-/// `state`
-pub(crate) fn state(validator: &Validator, out: &mut Seq<u8>) -> Result<(), Stop> {
-    let counts = Counts {
+/// The state of a member in numbers.
+fn counts_of(validator: &Validator) -> Result<Counts, OutOfMemory>
+    ensures { IfOk result (λ counts. counts ≡ counts_of validator.now.state) }
+{
+    let objects = object_count(validator)?;
+    Ok(Counts {
         epoch: validator.epoch(),
         seen: validator.seen(),
         held: validator.held().len() as u64,
         executed: executed_count(validator),
         checkpoints: validator.checkpoints(),
-        objects: object_count(validator)?,
+        objects,
         halted: validator.fork().is_some(),
-    };
-    Ok(print_state(out, &counts)?)
+    })
+}
+
+/// `state`
+pub(crate) fn state(alloc: Global, validator: &Validator) -> Result<Seq<u8>, OutOfMemory>
+    ensures { IfOk result (λ text. text ≡ state_text (counts_of validator.now.state)) }
+{
+    let counts = counts_of(validator)?;
+    let mut out = Seq::new(alloc);
+    print_state(&mut out, &counts)?;
+    Ok(out)
 }

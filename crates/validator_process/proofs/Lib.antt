@@ -1,0 +1,3 @@
+mod Given
+mod Moving
+mod Shorts
