@@ -1,2 +1,4 @@
 pub mod Says
 pub mod Moves
+pub mod Serving
+pub mod Stops

@@ -1,98 +1,112 @@
 //! Requests, one after the other.
 
-use crate::answering::answer_line;
-use crate::stop::{Stop, unread, unwritten};
-use outside::{Keeper, Sink, Source, write_all};
-use process_lines::{Got, LineReader};
+ghost use Rattle.std.specs.Prelude.{◌≡◌, ◌<◌, ◌≤◌, [], IfOk, IsErrOf, OnErr, OnOk, length, true};
+ghost use Rattle.std.specs.Io.KnownBytes.{Appends};
+ghost use Rattle.outside.specs.Causes.{Rose};
+ghost use Rattle.outside.specs.Streams.{AppendsFront};
+ghost use Rattle.outside.specs.declared.faults.OutFault.TheVariants as out;
+ghost use Rattle.process_lines.specs.Lines.{longest_line};
+ghost use Rattle.process_lines.specs.Requests.{HasWorkers, request_of};
+ghost use Rattle.world_core.specs.Replies.{Leaves};
+ghost use Rattle.world_core.specs.declared.reply.SeatFault.TheVariants as faults;
+ghost use Rattle.validator_process.specs.declared.stop.Stop.TheVariants as stop;
+ghost use Rattle.validator_process.specs.Moves.{due_for, moved};
+ghost use Rattle.validator_process.specs.Serving.{IsAnswer, IsCutAt, IsHalfSaid, IsRefused, IsServed, Next, ServesAll, ServesSome, around, due_for_request, ended, seat_behind_request};
+ghost use Rattle.validator_process.specs.Says.{Says};
+ghost use Rattle.process_lines.specs.Texts.{bad_request_text};
+
+use crate::answering::answer;
+use crate::stop::{Stop, unanswered, unread, unwritten};
+use outside::{Keeper, OutFault, Sink, Source, write_all};
+use process_lines::{Got, LineReader, Request, read_request};
 use quorum_core::Sealer;
 use std::alloc::Global;
 use std::thread::Threads;
 use validator_core::Validator;
+use wire_bcs::{OutOfMemory, Seq};
+use world_core::SeatFault;
+
+/// The line `bad request`.
+fn bad_request(alloc: Global) -> Result<Seq<u8>, SeatFault>
+    ensures text { IfOk result (λ text. text ≡ ended bad_request_text) }
+    ensures only { IsErrOf result faults.KeepFault → ⊥ }
+{
+    match Seq::from_slice(alloc, b"bad request\n".as_slice()) {
+        Ok(text) => Ok(text),
+        Err(OutOfMemory) => Err(SeatFault::OutOfMemory),
+    }
+}
+
+/// The line that answers a request.
+fn answer_request<R: Threads + Sync, D: Keeper, S: Sealer>(
+    rt: &R,
+    alloc: Global,
+    validator: &mut Validator,
+    keeper: &mut D,
+    sealer: &S,
+    member: u32,
+    request: &Request,
+) -> Result<Seq<u8>, SeatFault>
+    requires member { validator.old.member ≡ member }
+    requires known { validator.old.member < D.width keeper.old }
+    requires up { validator.old.up ≡ true }
+    requires workers { HasWorkers request.now }
+    ensures says { IfOk result (λ text. (body : _) × (text ≡ ended body) × Says (S.accepts sealer.now) validator.old request.now body) }
+    ensures state { OnOk result (validator.new ≡ moved (S.accepts sealer.now) validator.old request.now) }
+    ensures kept { Leaves (D.lists keeper.old) (D.lists keeper.new) validator.old.member (due_for (S.accepts sealer.now) validator.old request.now) result }
+    ensures width { D.width keeper.new ≡ D.width keeper.old }
+    ensures later { D.failed keeper.old ≤ D.failed keeper.new }
+    ensures fault { IsErrOf result faults.KeepFault → Rose (D.failed keeper.old) (D.failed keeper.new) }
+{
+    let mut text = answer(rt, alloc, validator, keeper, sealer, member, request)?;
+    match text.push(b'\n') {
+        Ok(()) => Ok(text),
+        Err(OutOfMemory) => Err(SeatFault::OutOfMemory),
+    }
+}
+
+/// The line that answers a line, which is not too long.
+#[tactic(auto, using(validator_core::proofs::Settling::keeps_same))]
+fn answer_line<R: Threads + Sync, D: Keeper, S: Sealer>(
+    rt: &R,
+    alloc: Global,
+    validator: &mut Validator,
+    keeper: &mut D,
+    sealer: &S,
+    member: u32,
+    line: &[u8],
+) -> Result<Seq<u8>, SeatFault>
+    requires member { validator.old.member ≡ member }
+    requires known { validator.old.member < D.width keeper.old }
+    requires up { validator.old.up ≡ true }
+    ensures says { IfOk result (IsAnswer (S.accepts sealer.now) validator.old (request_of line.now)) }
+    ensures state { OnOk result (validator.new ≡ seat_behind_request (S.accepts sealer.now) validator.old (request_of line.now)) }
+    ensures kept { Leaves (D.lists keeper.old) (D.lists keeper.new) validator.old.member (due_for_request (S.accepts sealer.now) validator.old (request_of line.now)) result }
+    ensures width { D.width keeper.new ≡ D.width keeper.old }
+    ensures later { D.failed keeper.old ≤ D.failed keeper.new }
+    ensures fault { IsErrOf result faults.KeepFault → Rose (D.failed keeper.old) (D.failed keeper.new) }
+{
+    let request = match read_request(alloc, line) {
+        Ok(request) => request,
+        Err(OutOfMemory) => return Err(SeatFault::OutOfMemory),
+    };
+    match request {
+        Some(request) => answer_request(rt, alloc, validator, keeper, sealer, member, &request),
+        None => bad_request(alloc),
+    }
+}
 
 /// Writes bytes whole.
-pub(crate) fn say<K: Sink>(sink: &mut K, bytes: &[u8]) -> Result<(), Stop> {
+pub(crate) fn say<K: Sink>(sink: &mut K, bytes: &[u8]) -> Result<(), Stop>
+    ensures ok { OnOk result (Appends (K.held sink.old) (K.held sink.new) bytes.now) }
+    ensures some { AppendsFront (K.held sink.old) (K.held sink.new) bytes.now }
+    ensures later { K.faults sink.old ≤ K.faults sink.new }
+    ensures fault { IsErrOf result stop.WriteFault → Rose (K.faults sink.old) (K.faults sink.new) }
+    ensures only { (IsErrOf result stop.ReadFault → ⊥) × (IsErrOf result stop.KeepFault → ⊥) }
+{
     match write_all(sink, bytes) {
         Ok(()) => Ok(()),
-        Err(fault) => Err(unwritten(fault)),
+        Err(OutFault::Failed) => Err(Stop::WriteFault),
+        Err(OutFault::OutOfMemory) => Err(Stop::OutOfMemory),
     }
-}
-
-/// Answers a line: the answer is handed to the sink once the record that it rests on is kept.
-fn serve_line<R: Threads + Sync, D: Keeper, S: Sealer, K: Sink>(
-    rt: &R,
-    alloc: Global,
-    validator: &mut Validator,
-    keeper: &mut D,
-    member: u32,
-    sealer: &S,
-    line: &[u8],
-    sink: &mut K,
-) -> Result<(), Stop> {
-    let text = answer_line(rt, alloc, validator, keeper, member, sealer, line)?;
-    say(sink, text.as_slice())
-}
-
-/// Reads the next line, and answers it. Answers whether there was one.
-fn serve_next<R: Threads + Sync, D: Keeper, S: Sealer, I: Source, K: Sink>(
-    rt: &R,
-    alloc: Global,
-    validator: &mut Validator,
-    keeper: &mut D,
-    member: u32,
-    sealer: &S,
-    reader: &mut LineReader,
-    source: &mut I,
-    sink: &mut K,
-) -> Result<bool, Stop> {
-    match reader.next(source) {
-        Ok(Got::Line(line)) => {
-            serve_line(
-                rt,
-                alloc,
-                validator,
-                keeper,
-                member,
-                sealer,
-                line.as_slice(),
-                sink,
-            )?;
-            Ok(true)
-        }
-        Ok(Got::TooLong) => {
-            say(sink, b"bad request\n".as_slice())?;
-            Ok(true)
-        }
-        Ok(Got::End) => Ok(false),
-        Err(fault) => Err(unread(fault)),
-    }
-}
-
-/// Answers the requests of a source to its end. Behind 2^64 - 1 of them the process ends as for want of memory.
-pub(crate) fn serve<R: Threads + Sync, D: Keeper, S: Sealer, I: Source, K: Sink>(
-    rt: &R,
-    alloc: Global,
-    validator: &mut Validator,
-    keeper: &mut D,
-    member: u32,
-    sealer: &S,
-    source: &mut I,
-    sink: &mut K,
-) -> Result<(), Stop> {
-    let mut reader = LineReader::new(alloc)?;
-    for _ in 0..u64::MAX {
-        if !serve_next(
-            rt,
-            alloc,
-            validator,
-            keeper,
-            member,
-            sealer,
-            &mut reader,
-            source,
-            sink,
-        )? {
-            return Ok(());
-        }
-    }
-    Err(Stop::OutOfMemory)
 }

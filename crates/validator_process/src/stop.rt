@@ -1,7 +1,10 @@
 //! How a process ends early.
 
+ghost use Rattle.std.specs.Prelude.{◌≡◌};
+ghost use Rattle.validator_process.specs.Stops.{status_of, unanswered, unkept, unread, unwritten};
+
 use outside::OutFault;
-use wire_bcs::OutOfMemory;
+use world_core::SeatFault;
 
 /// Why a process ends before its input does.
 #[derive(Clone, Copy, Debug, PartialEq, Eq)]
@@ -17,7 +20,9 @@ pub(crate) enum Stop {
 
 impl Stop {
     /// The status with which the process ends.
-    pub(crate) fn status(self) -> u8 {
+    pub(crate) fn status(self) -> u8
+        ensures { result ≡ status_of self }
+    {
         match self {
             Stop::ReadFault => 4,
             Stop::WriteFault => 5,
@@ -27,32 +32,42 @@ impl Stop {
     }
 }
 
-impl From<OutOfMemory> for Stop {
-    fn from(_refusal: OutOfMemory) -> Self {
-        Stop::OutOfMemory
-    }
-}
-
-/// A fault of the sink.
-pub(crate) fn unwritten(fault: OutFault) -> Stop {
-    match fault {
-        OutFault::Failed => Stop::WriteFault,
-        OutFault::OutOfMemory => Stop::OutOfMemory,
-    }
-}
-
 /// A fault of the source.
-pub(crate) fn unread(fault: OutFault) -> Stop {
+pub(crate) fn unread(fault: OutFault) -> Stop
+    ensures { result ≡ unread fault }
+{
     match fault {
         OutFault::Failed => Stop::ReadFault,
         OutFault::OutOfMemory => Stop::OutOfMemory,
     }
 }
 
+/// A fault of the sink.
+pub(crate) fn unwritten(fault: OutFault) -> Stop
+    ensures { result ≡ unwritten fault }
+{
+    match fault {
+        OutFault::Failed => Stop::WriteFault,
+        OutFault::OutOfMemory => Stop::OutOfMemory,
+    }
+}
+
 /// A fault of the journal.
-pub(crate) fn unkept(fault: OutFault) -> Stop {
+pub(crate) fn unkept(fault: OutFault) -> Stop
+    ensures { result ≡ unkept fault }
+{
     match fault {
         OutFault::Failed => Stop::KeepFault,
         OutFault::OutOfMemory => Stop::OutOfMemory,
+    }
+}
+
+/// Why a member does not answer.
+pub(crate) fn unanswered(fault: SeatFault) -> Stop
+    ensures { result ≡ unanswered fault }
+{
+    match fault {
+        SeatFault::KeepFault => Stop::KeepFault,
+        SeatFault::OutOfMemory => Stop::OutOfMemory,
     }
 }
