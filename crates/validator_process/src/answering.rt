@@ -1,6 +1,6 @@
 //! The answer to a request.
 
-ghost use Rattle.std.specs.Prelude.{◌≡◌, ◌<◌, ◌≤◌, IfOk, IsErrOf, OnOk, true};
+ghost use Rattle.std.specs.Prelude.{◌≡◌, ◌<◌, ◌≤◌, IfOk, IsErrOf, OnOk, false, true};
 ghost use Rattle.outside.specs.Causes.{Rose};
 ghost use Rattle.process_lines.specs.Requests.{HasWorkers};
 ghost use Rattle.world_core.specs.Replies.{Leaves};

@@ -9,6 +9,7 @@ use disk_log::{Disk, RunLog};
 use outside::{Keeper, Sink};
 use process_lines::StartLine;
 use std::alloc::Global;
+use wire_bcs::OutOfMemory;
 use world_names::MakesSeals;
 
 /// Appends the first record.
@@ -19,7 +20,10 @@ fn keep_identity<F: Disk>(
     text: &[u8],
 ) -> Result<StartLine, Stop> {
     let genesis = genesis_digest(text);
-    let bytes = identity_of(alloc, member, &genesis)?;
+    let bytes = match identity_of(alloc, member, &genesis) {
+        Ok(bytes) => bytes,
+        Err(OutOfMemory) => return Err(Stop::OutOfMemory),
+    };
     match log.append(IDENTITY_LIST, bytes.as_slice()) {
         Ok(()) => Ok(StartLine::Made { member, genesis }),
         Err(fault) => Err(unkept(fault)),

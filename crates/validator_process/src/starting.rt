@@ -8,7 +8,7 @@ use crate::serving::{say, serve};
 use crate::stop::Stop;
 use disk_log::Disk;
 use outside::{Failed, Keeper, Sink, Source};
-use process_lines::{StartLine, print_start};
+use process_lines::{LineReader, StartLine, print_start};
 use std::alloc::Global;
 use std::thread::Threads;
 use validator_core::Validator;
@@ -30,8 +30,10 @@ pub(crate) fn say_start<K: Sink>(
     start: &StartLine,
     sink: &mut K,
 ) -> Result<(), Stop> {
-    let text = start_text(alloc, start)?;
-    say(sink, text.as_slice())
+    match start_text(alloc, start) {
+        Ok(text) => say(sink, text.as_slice()),
+        Err(OutOfMemory) => Err(Stop::OutOfMemory),
+    }
 }
 
 /// The status of a line that refuses a start.
@@ -89,7 +91,21 @@ fn serve_member<R: Threads + Sync, D: Keeper, S: MakesSeals, I: Source, K: Sink>
         Ok(()) => {}
         Err(stop) => return stop.status(),
     }
-    match serve(rt, alloc, validator, keeper, member, sealer, source, sink) {
+    let mut reader = match LineReader::new(alloc) {
+        Ok(reader) => reader,
+        Err(OutOfMemory) => return 7,
+    };
+    match serve(
+        rt,
+        alloc,
+        validator,
+        keeper,
+        sealer,
+        member,
+        &mut reader,
+        source,
+        sink,
+    ) {
         Ok(()) => 0,
         Err(stop) => stop.status(),
     }
