@@ -1,3 +1,5 @@
+mod Along
 mod Given
 mod Moving
+mod Served
 mod Shorts

@@ -116,7 +116,7 @@ pub record IsServed (accepts : Accepting) (q : Option Request) (held held' : Opt
   pub answers : IsAnswer accepts seat q text
   pub writes : Appends held held' text
   pub keeps : AddsLeft kept kept' seat.member (due_for_request accepts seat q)
-  pub seat : seat' ≡ seat_behind_request accepts seat q
+  pub becomes : seat' ≡ seat_behind_request accepts seat q
 
 -- it is not answered: nothing is written, and the record may be kept
 pub record IsRefused (accepts : Accepting) (q : Option Request) (held held' : Option (List ℕ)) (kept kept' : Option Journals) (seat : Seated) : Type 0 where

@@ -141,6 +141,17 @@ fn serve_line<R: Threads + Sync, D: Keeper, S: Sealer, K: Sink>(
     }
 }
 
+/// Writes `bad request`.
+fn say_bad<K: Sink>(sink: &mut K) -> Result<(), Stop>
+    ensures ok { OnOk result (Appends (K.held sink.old) (K.held sink.new) (ended bad_request_text)) }
+    ensures some { AppendsFront (K.held sink.old) (K.held sink.new) (ended bad_request_text) }
+    ensures later { K.faults sink.old ≤ K.faults sink.new }
+    ensures fault { IsErrOf result stop.WriteFault → Rose (K.faults sink.old) (K.faults sink.new) }
+    ensures only { (IsErrOf result stop.ReadFault → ⊥) × (IsErrOf result stop.KeepFault → ⊥) }
+{
+    say(sink, b"bad request\n".as_slice())
+}
+
 /// Says that a line is no request.
 #[tactic(auto, using(crate::proofs::Served::bad_served, crate::proofs::Served::bad_half_said, validator_core::proofs::Settling::keeps_same))]
 fn serve_bad<S: Sealer, D: Keeper, K: Sink>(
@@ -155,7 +166,10 @@ fn serve_bad<S: Sealer, D: Keeper, K: Sink>(
     ensures write_fault { IsErrOf result stop.WriteFault → Rose (K.faults sink.old) (K.faults sink.new) }
     ensures only { (IsErrOf result stop.ReadFault → ⊥) × (IsErrOf result stop.KeepFault → ⊥) }
 {
-    say(sink, b"bad request\n".as_slice())
+    match say_bad(sink) {
+        Ok(()) => Ok(()),
+        Err(stop) => Err(stop),
+    }
 }
 
 /// Reads the next line, and answers it. Answers whether there was one.
