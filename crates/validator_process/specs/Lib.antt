@@ -2,3 +2,5 @@ pub mod Says
 pub mod Moves
 pub mod Serving
 pub mod Stops
+pub mod Words
+pub mod Identity

@@ -79,7 +79,7 @@ pub(crate) fn make_text<F: Disk, S: MakesSeals, K: Sink>(
         Ok(world) => drop(world),
         Err(why) => return (say_unstarted(alloc, why, sink), disk),
     }
-    if disk.size() > HEAD_SIZE as u64 + 1 {
+    if disk.size() > HEAD_SIZE + 1 {
         return (say_ended(alloc, &StartLine::NotEmpty, sink), disk);
     }
     make_journal(alloc, disk, member, text, sink)
