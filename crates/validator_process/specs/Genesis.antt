@@ -48,10 +48,10 @@ started_in accepts scene m records = member_started scene m (started (rules_in a
 
 -- the first bytes of the journal are those of this member and this set-up
 abbrev pub head_checked : Head → Result Seated StartLine → Result Seated StartLine
-head_checked head.Own then = then
-head_checked head.Unmade then = Err start.NotMade
-head_checked head.OtherMember then = Err start.OtherMember
-head_checked head.OtherGenesis then = Err start.OtherGenesis
+head_checked head.Own said = said
+head_checked head.Unmade said = Err start.NotMade
+head_checked head.OtherMember said = Err start.OtherMember
+head_checked head.OtherGenesis said = Err start.OtherGenesis
 
 -- the member as it starts, or why it does not
 abbrev pub begun : Accepting → ℕ → Result Scene StartLine → Head → List (List ℕ) → Result Seated StartLine

@@ -4,3 +4,5 @@ pub mod Serving
 pub mod Stops
 pub mod Words
 pub mod Identity
+pub mod Genesis
+pub mod Starting

@@ -59,14 +59,14 @@ pub(crate) enum Head {
 fn is_front(bytes: &[u8]) -> bool
     ensures { result ≡ bytes_eq bytes.now front }
 {
-    *bytes == [1, 56, 0, 0, 0, 64, 0, 0, 0].as_slice()
+    bytes == [1, 56, 0, 0, 0, 64, 0, 0, 0].as_slice()
 }
 
 /// Whether the bytes are the mark of a validator's journal.
 fn is_mark(bytes: &[u8]) -> bool
     ensures { result ≡ bytes_eq bytes.now mark }
 {
-    *bytes == b"kothaysu validator 1".as_slice()
+    bytes == b"kothaysu validator 1".as_slice()
 }
 
 /// What the parts of the first bytes of a file are.
@@ -83,10 +83,10 @@ fn head_of_parts(
     if !is_front(gate) || !is_mark(text) {
         return Head::Unmade;
     }
-    if *number != member.to_le_bytes().as_slice() {
+    if number != member.to_le_bytes().as_slice() {
         return Head::OtherMember;
     }
-    if *digest != genesis.0.as_slice() {
+    if digest != genesis.0.as_slice() {
         return Head::OtherGenesis;
     }
     Head::Own

@@ -1,5 +1,16 @@
 //! The set-up of a process.
 
+ghost use Rattle.std.specs.Prelude.{◌≡◌, ◌==◌, Err, IfErr, IfOk, IsErrOf, Ok, length, slice_get, true};
+ghost use Rattle.outside.specs.Causes.{Rose};
+ghost use Rattle.outside.specs.Streams.{ReadsText};
+ghost use Rattle.schedule_text.specs.Schedule.{longest_text, schedule_of};
+ghost use Rattle.world_core.specs.Crews.{honest_post};
+ghost use Rattle.world_core.specs.Trusts.{trust_by};
+ghost use Rattle.validator_process.specs.declared.stop.Stop.TheVariants as stop;
+ghost use Rattle.validator_process.specs.declared.reading.Unstarted.TheVariants as unstarted;
+ghost use Rattle.validator_process.specs.Genesis.{genesis_of, scene_in};
+ghost use Rattle.validator_process.specs.Starting.{OpensAs, ReadsAs};
+
 use crate::stop::{Stop, unread};
 use outside::{Source, read_text};
 use process_lines::StartLine;
@@ -20,8 +31,12 @@ pub(crate) enum Unstarted {
     Stopped(Stop),
 }
 
-/// The text of a set-up, read to its end.
-pub(crate) fn read_genesis<G: Source>(alloc: Global, genesis: &mut G) -> Result<Seq<u8>, Stop> {
+/// The text of a set-up, read to its end or to one byte past its limit.
+pub(crate) fn read_genesis<G: Source>(alloc: Global, genesis: &mut G) -> Result<Seq<u8>, Stop>
+    ensures ok { IfOk result (λ text. ReadsText longest_text (G.left genesis.old) (G.left genesis.new) text) }
+    ensures fault { IsErrOf result stop.ReadFault → Rose (G.faults genesis.old) (G.faults genesis.new) }
+    ensures only { (IsErrOf result stop.WriteFault → ⊥) × (IsErrOf result stop.KeepFault → ⊥) }
+{
     match read_text(alloc, LONGEST_TEXT, genesis) {
         Ok(text) => Ok(text),
         Err(fault) => Err(unread(fault)),
@@ -29,7 +44,9 @@ pub(crate) fn read_genesis<G: Source>(alloc: Global, genesis: &mut G) -> Result<
 }
 
 /// The schedule that the text is, which has no events.
-fn setup_of(alloc: Global, text: &[u8]) -> Result<Schedule, Unstarted> {
+fn setup_of(alloc: Global, text: &[u8]) -> Result<Schedule, Unstarted>
+    ensures { ReadsAs (schedule_of text.now) result }
+{
     match read_schedule(alloc, text) {
         Ok(schedule) => {
             if schedule.events.is_empty() {
@@ -46,12 +63,15 @@ fn setup_of(alloc: Global, text: &[u8]) -> Result<Schedule, Unstarted> {
     }
 }
 
-/// The world of a set-up.
+/// The world of a set-up. One that has no committee, as no schedule's has, counts as want of memory.
 fn world_of<S: MakesSeals>(
     alloc: Global,
     schedule: &Schedule,
     sealer: &S,
-) -> Result<World, Unstarted> {
+) -> Result<World, Unstarted>
+    ensures ok { IfOk result (λ w. w ≡ scene_in (trust_by (S.made sealer.now) (S.accepts sealer.now)) schedule.now) }
+    ensures err { IfErr result (λ why. why ≡ unstarted.Stopped stop.OutOfMemory) }
+{
     match World::new(alloc, schedule.setup.as_slice(), sealer) {
         Ok(world) => Ok(world),
         Err(WorldRefusal::NoCommittee) => Err(Unstarted::Stopped(Stop::OutOfMemory)),
@@ -59,21 +79,25 @@ fn world_of<S: MakesSeals>(
     }
 }
 
-/// Whether the world has an honest member of this number.
-fn has_member(world: &World, member: u32) -> bool {
-    world.member(member).is_some()
-}
-
 /// The world that the text sets up, which has this honest member.
+#[tactic(auto, unfolding(crate::specs::Genesis::genesis_of))]
 pub(crate) fn open_world<S: MakesSeals>(
     alloc: Global,
     text: &[u8],
     member: u32,
     sealer: &S,
-) -> Result<World, Unstarted> {
-    let schedule = setup_of(alloc, text)?;
-    let world = world_of(alloc, &schedule, sealer)?;
-    if has_member(&world, member) {
+) -> Result<World, Unstarted>
+    ensures { OpensAs (genesis_of (trust_by (S.made sealer.now) (S.accepts sealer.now)) member text.now) result }
+{
+    let schedule = match setup_of(alloc, text) {
+        Ok(schedule) => schedule,
+        Err(why) => return Err(why),
+    };
+    let world = match world_of(alloc, &schedule, sealer) {
+        Ok(world) => world,
+        Err(why) => return Err(why),
+    };
+    if world.is_honest(member) {
         return Ok(world);
     }
     drop(world);
