@@ -1,5 +1,7 @@
 //! Opening a journal.
 
+ghost use Rattle.std.specs.Prelude.{◌≡◌, IfOk, length};
+
 use crate::identity::LISTS;
 use crate::stop::Stop;
 use disk_log::{Disk, OpenRefusal, RunLog};
@@ -14,7 +16,9 @@ pub(crate) enum Unopened {
 }
 
 /// Opens the log of a journal. A refusal hands the disk back.
-pub(crate) fn open_journal<F: Disk>(alloc: Global, disk: F) -> Result<RunLog<F>, (F, Unopened)> {
+pub(crate) fn open_journal<F: Disk>(alloc: Global, disk: F) -> Result<RunLog<F>, (F, Unopened)>
+    ensures width { IfOk result (λ log. length log.counts ≡ 65) }
+{
     match RunLog::open(alloc, disk, LISTS) {
         Ok(log) => Ok(log),
         Err((disk, OpenRefusal::DiskFault)) => Err((disk, Unopened::Stopped(Stop::KeepFault))),

@@ -1,5 +1,7 @@
 //! Making a journal.
 
+ghost use Rattle.std.specs.Prelude.{◌≡◌, length};
+
 use crate::identity::{HEAD_SIZE, IDENTITY_LIST, genesis_digest, identity_of};
 use crate::journal::open_journal;
 use crate::reading::open_world;
@@ -18,7 +20,9 @@ fn keep_identity<F: Disk>(
     log: &mut RunLog<F>,
     member: u32,
     text: &[u8],
-) -> Result<StartLine, Stop> {
+) -> Result<StartLine, Stop>
+    requires width { length log.old.counts ≡ 65 }
+{
     let genesis = genesis_digest(text);
     let bytes = match identity_of(alloc, member, &genesis) {
         Ok(bytes) => bytes,
@@ -37,7 +41,9 @@ fn make_over<F: Disk, K: Sink>(
     member: u32,
     text: &[u8],
     sink: &mut K,
-) -> u8 {
+) -> u8
+    requires width { length log.old.counts ≡ 65 }
+{
     if !log.is_empty() {
         return say_ended(alloc, &StartLine::NotEmpty, sink);
     }

@@ -1,6 +1,6 @@
 //! A member as it starts from its journal.
 
-ghost use Rattle.std.specs.Prelude.{◌≡◌, ◌<◌, ◌≤◌, Err};
+ghost use Rattle.std.specs.Prelude.{◌≡◌, ◌<◌, ◌≤◌, Err, IfOk, true};
 ghost use Rattle.outside.specs.Causes.{Rose};
 ghost use Rattle.outside.specs.Lists.{KeepsJournals};
 ghost use Rattle.validator_process.specs.declared.reading.Unstarted.TheVariants as unstarted;
@@ -26,6 +26,7 @@ pub(crate) fn open_member<D: Keeper, S: Sealer>(
 ) -> Result<Validator, Unstarted>
     requires known { member < D.width keeper.old }
     ensures starts { StartsAs (S.accepts sealer.now) world.now member (D.lists keeper.old) result }
+    ensures member { IfOk result (λ v. (v.member ≡ member) × (v.up ≡ true)) }
     ensures lists { KeepsJournals (D.lists keeper.old) (D.lists keeper.new) }
     ensures width { D.width keeper.new ≡ D.width keeper.old }
     ensures later { D.failed keeper.old ≤ D.failed keeper.new }

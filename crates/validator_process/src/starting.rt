@@ -188,7 +188,9 @@ fn serve_journal<R: Threads + Sync, F: Disk, S: MakesSeals, I: Source, K: Sink>(
     sealer: &S,
     source: &mut I,
     sink: &mut K,
-) -> (u8, F) {
+) -> (u8, F)
+    requires few { member ≤ 63 }
+{
     match open_journal(alloc, disk) {
         Ok(log) => {
             let mut log = log;
@@ -223,7 +225,9 @@ pub(crate) fn serve_text<R: Threads + Sync, F: Disk, S: MakesSeals, I: Source, K
     sealer: &S,
     source: &mut I,
     sink: &mut K,
-) -> (u8, F) {
+) -> (u8, F)
+    requires few { member ≤ 63 }
+{
     let mut disk = disk;
     let world = match open_world(alloc, text, member, sealer) {
         Ok(world) => world,

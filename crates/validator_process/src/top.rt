@@ -1,5 +1,7 @@
 //! The program.
 
+ghost use Rattle.validator_process.specs.Words.{IsInRange};
+
 use crate::making::make_text;
 use crate::reading::read_genesis;
 use crate::starting::serve_text;
@@ -24,7 +26,9 @@ fn validator_of<R: Threads + Sync, I: Source, K: Sink, F: Disk>(
     source: &mut I,
     sink: &mut K,
     disk: F,
-) -> (u8, F) {
+) -> (u8, F)
+    requires range { IsInRange task }
+{
     let sealer = program_sealer();
     match task {
         Task::Make { member } => make_text(alloc, text, disk, member, &sealer, sink),
@@ -44,7 +48,9 @@ pub fn validator<R: Threads + Sync, G: Source, I: Source, K: Sink, F: Disk>(
     source: &mut I,
     sink: &mut K,
     disk: F,
-) -> (u8, F) {
+) -> (u8, F)
+    requires range { IsInRange task }
+{
     match read_genesis(alloc, genesis) {
         Ok(text) => validator_of(rt, alloc, task, text.as_slice(), source, sink, disk),
         Err(stop) => (stop.status(), disk),
