@@ -38,11 +38,7 @@ fn start_bytes(alloc: Global, start: &StartLine) -> Result<Seq<u8>, OutOfMemory>
 }
 
 /// Writes the first line of a process.
-pub(crate) fn say_start<K: Sink>(
-    alloc: Global,
-    start: &StartLine,
-    sink: &mut K,
-) -> Result<(), Stop>
+pub(crate) fn say_start<K: Sink>(alloc: Global, start: &StartLine, sink: &mut K) -> Result<(), Stop>
     ensures ok { OnOk result (Appends (K.held sink.old) (K.held sink.new) (start_bytes start.now)) }
     ensures some { AppendsFront (K.held sink.old) (K.held sink.new) (start_bytes start.now) }
     ensures later { K.faults sink.old ≤ K.faults sink.new }

@@ -20,10 +20,7 @@ use wire_bcs::{OutOfMemory, Seq};
 use world_core::SeatFault;
 
 /// The text of an answer to `close`.
-fn close_text(
-    alloc: Global,
-    answer: &Result<bool, CloseRefusal>,
-) -> Result<Seq<u8>, OutOfMemory>
+fn close_text(alloc: Global, answer: &Result<bool, CloseRefusal>) -> Result<Seq<u8>, OutOfMemory>
     ensures { IfOk result (λ text. text ≡ close_line answer.now) }
 {
     let mut out = Seq::new(alloc);

@@ -24,10 +24,7 @@ use wire_bcs::{OutOfMemory, Seq};
 use world_core::SeatFault;
 
 /// The text of an answer to `vote`.
-fn vote_text(
-    alloc: Global,
-    answer: &Result<Voted, VoteRefusal>,
-) -> Result<Seq<u8>, OutOfMemory>
+fn vote_text(alloc: Global, answer: &Result<Voted, VoteRefusal>) -> Result<Seq<u8>, OutOfMemory>
     requires short { IfOk answer.now (λ v. messages.sealed.short v.sealed) }
     ensures { IfOk result (λ text. text ≡ vote_line answer.now) }
 {
