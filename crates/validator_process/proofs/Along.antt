@@ -1,7 +1,7 @@
 -- Lines that are served one after the other.
-use Rattle.std.proofs.Common.{◌≡◌, ◌⊎◌, inl, inr, ℕ, Bool, true, false, List, [], ◌∷◌, ◌++◌, fold, Option, Some, None, refl, sym, ap, ◌∙◌, subst, append_assoc, append-nil}
+use Rattle.std.proofs.Common.{◌≡◌, ℕ, List, [], ◌∷◌, ◌++◌, fold, Option, Some, None, refl, sym, ap, ◌∙◌, subst, append_assoc, append-nil}
 use Rattle.std.specs.List.{flat_map}
-use Rattle.std.specs.Io.KnownBytes.{Appends, Consumes}
+use Rattle.std.specs.Io.KnownBytes.{Appends}
 use Rattle.std.proofs.KnownBytes.{Appends-nil, Appends-trans, Consumes-nil, Consumes-trans}
 use Rattle.outside.specs.Lists.{Journals, with_record}
 use Rattle.journal_core.specs.declared.records.Record.{Record}
@@ -13,8 +13,8 @@ use Rattle.world_core.specs.Replies.{Accepting}
 use Rattle.process_lines.specs.declared.request.Request.{Request}
 use Rattle.process_lines.specs.declared.request.Request.TheVariants as request
 use Rattle.process_lines.specs.Lines.{HasNoEnd, ReadsLine}
-use Rattle.validator_process.specs.Moves.{call_of, moved, moved_by}
-use Rattle.validator_process.specs.Serving.{AddsRecords, Answers, AreAnswered, Around, Exchange, IsCutAt, IsOver, Next, ReadsLines, Serves, ServesAll, ServesOne, ServesSome, due_for_line, ended, records_left, request_in, seat_behind_line, seat_behind_lines, seat_behind_request, spelled, with_records}
+use Rattle.validator_process.specs.Moves.{moved}
+use Rattle.validator_process.specs.Serving.{AddsRecords, Answers, AreAnswered, Around, Exchange, ReadsLines, Serves, ServesOne, due_for_line, ended, records_left, request_in, seat_behind_line, seat_behind_lines, seat_behind_request, spelled, with_records}
 
 module _ (accepts : Accepting) where
   -- ---- one exchange more at the end

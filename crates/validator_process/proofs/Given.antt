@@ -24,12 +24,12 @@ use Rattle.answer_types.specs.declared.refusals.TurnRefusal.TheVariants as no_tu
 use Rattle.answer_types.specs.declared.refusals.VoteRefusal.{VoteRefusal}
 use Rattle.answer_types.specs.declared.refusals.VoteRefusal.TheVariants as no_vote
 use Rattle.protocol_spec.specs.Chain.Certificates.{Rules}
-use Rattle.protocol_spec.specs.Member.Calls.{Voted, ack_answer, close_answer, end_answer, hold_answer, run_answer, see_answer, turn_answer, vote_answer}
+use Rattle.protocol_spec.specs.Member.Calls.{Voted, close_answer, hold_answer, run_answer, see_answer, turn_answer, vote_answer}
 use Rattle.protocol_spec.specs.Member.Member.{Member}
 use Rattle.validator_core.specs.Calls.{Acks, Closes, Ends, Holds, Runs, Sees, Turns, Votes, close_ended, hold_ended, run_ended, see_ended, turn_ended, vote_ended}
 use Rattle.validator_core.specs.Seats.{answered}
 use Rattle.world_core.specs.Replies.{Accepting, SaysClose, SaysHold, SaysRun, SaysSee, SaysTurn, SaysVote}
-use Rattle.process_lines.specs.Texts.{ack_refusal_text, ack_text, close_refusal_text, closed_text, end_refusal_text, end_text, hold_refusal_text, ran_text, run_refusal_text, see_refusal_text, seen_text, turn_refusal_text, turned_text, vote_refusal_text, voted_text}
+use Rattle.process_lines.specs.Texts.{ack_refusal_text, end_refusal_text, vote_refusal_text}
 use Rattle.validator_process.specs.Says.{AckSays, EndSays, HearsAck, HearsEnd, VoteSays, ack_line, close_line, end_line, hold_line, run_line, see_line, turn_line, vote_line}
 
 -- ---- votes

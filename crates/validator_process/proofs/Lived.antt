@@ -1,8 +1,8 @@
 -- A life of a process that serves.
-use Rattle.std.proofs.Common.{◌≡◌, ◌⊎◌, inl, inr, ℕ, List, [], Option, None, Some, refl, ◌++◌, sym, append-nil}
+use Rattle.std.proofs.Common.{inl, inr, ℕ, List, [], Option, refl}
 use Rattle.std.specs.Io.KnownBytes.{Appends}
 use Rattle.std.proofs.KnownBytes.{Appends-nil}
-use Rattle.outside.specs.Lists.{Journals, KeepsJournals}
+use Rattle.outside.specs.Lists.{Journals}
 use Rattle.outside.specs.Streams.{AppendsFront}
 use Rattle.scene_spec.specs.Seats.{Seated}
 use Rattle.validator_core.proofs.Settling.{keeps_same}

@@ -1,7 +1,6 @@
 -- A request that changes nothing.
 use Rattle.std.proofs.Common.{◌≡◌, Option, None, refl}
 use Rattle.std.specs.Prelude.{Some}
-use Rattle.journal_core.specs.declared.records.Record.{Record}
 use Rattle.protocol_spec.specs.Chain.Certificates.{Rules}
 use Rattle.protocol_spec.specs.Member.Calls.{Call}
 use Rattle.scene_spec.specs.Seats.{Seated, rules_of_seat}

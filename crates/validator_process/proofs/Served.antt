@@ -1,8 +1,8 @@
 -- One line more is read, answered and written, or cut.
-use Rattle.std.proofs.Common.{◌≡◌, ◌⊎◌, inl, inr, ℕ, ◌<◌, ◌≤◌, leb, Bool, true, false, cond, List, [], ◌∷◌, ◌++◌, length, Option, Some, None, refl, sym, subst, arith}
+use Rattle.std.proofs.Common.{◌≡◌, ◌⊎◌, inl, inr, ℕ, ◌<◌, ◌≤◌, leb, Bool, true, false, cond, List, length, Option, Some, None, refl, subst, arith}
 use Rattle.std.proofs.lemmas.Bool.Decides.{nat_tests}
 use Rattle.std.specs.Io.KnownBytes.{Appends, Keeps}
-use Rattle.outside.specs.Lists.{Journals, KeepsJournals}
+use Rattle.outside.specs.Lists.{Journals}
 use Rattle.outside.specs.Streams.{AppendsFront}
 use Rattle.scene_spec.specs.Posts.{AddsLeft, MayAddLeft}
 use Rattle.scene_spec.specs.Seats.{Seated}

@@ -1,5 +1,5 @@
 -- What a member seals can be spelled.
-use Rattle.std.proofs.Common.{◌≡◌, ℕ, ◌≤◌, List, length, Option, refl, sym, subst, arith}
+use Rattle.std.proofs.Common.{◌≡◌, ℕ, ◌≤◌, length, Option, subst, arith}
 use Rattle.std.specs.Prelude.{Result, Ok, Err, IfOk, Some, None}
 use Rattle.wire_bcs.specs.Digests.{digest}
 use Rattle.digest_core.specs.declared.Digest.{Digest}
@@ -12,7 +12,6 @@ use Rattle.answer_types.specs.declared.answers.Voted.{Voted as Sent}
 use Rattle.answer_types.specs.declared.refusals.AckRefusal.{AckRefusal}
 use Rattle.answer_types.specs.declared.refusals.AckRefusal.TheVariants as no_ack
 use Rattle.answer_types.specs.declared.refusals.EndRefusal.{EndRefusal}
-use Rattle.answer_types.specs.declared.refusals.EndRefusal.TheVariants as no_end
 use Rattle.answer_types.specs.declared.refusals.VoteRefusal.{VoteRefusal}
 use Rattle.protocol_spec.specs.Chain.Certificates.{Rules}
 use Rattle.protocol_spec.specs.Chain.Words.{first_some, refused_or, unless_refused}

@@ -1,10 +1,7 @@
 -- A member that started from its records, or did not.
-use Rattle.std.proofs.Common.{◌≡◌, ℕ, List, Option, refl, sym, ap, ◌∙◌}
-use Rattle.std.specs.Prelude.{Result, Ok, Err}
+use Rattle.std.proofs.Common.{ℕ, Option, sym, ap, ◌∙◌}
+use Rattle.std.specs.Prelude.{Ok, Err}
 use Rattle.outside.specs.Lists.{Journals}
-use Rattle.answer_types.specs.declared.refusals.StartRefusal.{StartRefusal}
-use Rattle.protocol_spec.specs.Member.Member.{Member}
-use Rattle.scene_spec.specs.Posts.{seat_at}
 use Rattle.scene_spec.specs.Scene.{Scene, rules_in}
 use Rattle.scene_spec.specs.Seats.{Seated}
 use Rattle.world_core.specs.Replies.{Accepting}

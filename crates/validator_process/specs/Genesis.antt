@@ -1,6 +1,5 @@
 -- How a member starts: from the text of a set-up, from what its journal is, and from its records. Source: this profile.
-use Rattle.std.specs.Prelude.{◌≡◌, ◌==◌, ℕ, List, [], ◌∷◌, length, Option, slice_get, Result, Ok, Err, if◌then◌else◌}
-use Rattle.digest_core.specs.declared.Digest.{Digest}
+use Rattle.std.specs.Prelude.{◌==◌, ℕ, List, length, slice_get, Result, Ok, Err, if◌then◌else◌}
 use Rattle.schedule_text.specs.declared.words.Schedule.{Schedule}
 use Rattle.schedule_text.specs.Schedule.{Refused, schedule_of}
 use Rattle.answer_types.specs.declared.refusals.StartRefusal.{StartRefusal}

@@ -1,5 +1,5 @@
 -- What a request does to the member of a process, and the record that it leaves. Source: this profile.
-use Rattle.std.specs.Prelude.{List, Option, Some, None}
+use Rattle.std.specs.Prelude.{Option, Some, None}
 use Rattle.journal_core.specs.declared.records.Record.{Record}
 use Rattle.protocol_spec.specs.Chain.Certificates.{Rules}
 use Rattle.protocol_spec.specs.Member.Calls.{Call, closes, due, holds, runs, sees, turns, votes}

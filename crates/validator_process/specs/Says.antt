@@ -25,7 +25,7 @@ use Rattle.answer_types.specs.declared.refusals.RunRefusal.{RunRefusal}
 use Rattle.answer_types.specs.declared.refusals.SeeRefusal.{SeeRefusal}
 use Rattle.answer_types.specs.declared.refusals.TurnRefusal.{TurnRefusal}
 use Rattle.answer_types.specs.declared.refusals.VoteRefusal.{VoteRefusal}
-use Rattle.protocol_spec.specs.Chain.Certificates.{Rules, read_certificate}
+use Rattle.protocol_spec.specs.Chain.Certificates.{read_certificate}
 use Rattle.protocol_spec.specs.Member.Calls.{Voted, ack_answer, called, close_answer, effects_of, end_answer, hold_answer, run_answer, see_answer, turn_answer, turns, vote_answer}
 use Rattle.protocol_spec.specs.Member.Member.{Member, built, fork_of, live_objects}
 use Rattle.protocol_spec.specs.Member.Versions.{execution_of, live, object_in, version_at, versions}

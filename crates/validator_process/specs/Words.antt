@@ -1,5 +1,5 @@
 -- The words of the program. Source: this profile.
-use Rattle.std.specs.Prelude.{◌&&◌, ◌≤◌, ℕ, List, [], ◌∷◌, Option, Some, None, bytes_eq, codes, option_map, if◌then◌else◌}
+use Rattle.std.specs.Prelude.{◌&&◌, ◌≤◌, ℕ, List, [], ◌∷◌, Option, None, bytes_eq, codes, option_map, if◌then◌else◌}
 use Rattle.schedule_text.specs.Bytes.{number_in}
 use Rattle.validator_process.specs.declared.words.Task.{Task}
 use Rattle.validator_process.specs.declared.words.Task.TheVariants as task

@@ -1,5 +1,5 @@
-use Rattle.std.proofs.Common.{◌≡◌, ◌≤◌, ◌++◌, ◌∷◌, [], List, ℕ, Bool, true, refl, sym, subst, ◌∙◌, arith}
-use Rattle.validator_process.specs.Serving.{Exchange, Next, Serves, ServesOne, around}
+use Rattle.std.proofs.Common.{◌++◌, ◌∷◌, [], List, ℕ, Bool, refl, sym, subst, ◌∙◌, arith}
+use Rattle.validator_process.specs.Serving.{Next, Serves, around}
 use Rattle.validator_process.proofs.Along.{same_member, same_up, serves_none, serves_push}
 use Rattle.validator_process.proofs.serving.serve.Goals as goal
 
