@@ -7,13 +7,14 @@
 //! its status, and says on standard error what a status other than 0, 3 and 8 means.
 #![tactic(auto)]
 
+ghost use Rattle.validator_process.specs.Words.{IsInRange};
+
 use outside::{Sink, Source, write_all};
 use outside_std::{FileDisk, InSource, Missing, OpenFault, OutSink};
-use std::env;
 use std::fs::File;
-use std::io;
 use std::process::ExitCode;
 use std::thread::Threads;
+use std::{env, io};
 use validator_process::{Task, task_of, validator};
 
 /// The words behind the program's name.
@@ -23,6 +24,14 @@ fn words_of(rt: &HostRuntime) -> io::Result<Vec<String>> {
         words.push(word)?;
     }
     Ok(words)
+}
+
+/// The status where the words cannot be had: words that are not UTF-8 are wrong words.
+fn status_of_words(error: &io::Error) -> u8 {
+    match error.kind() {
+        io::ErrorKind::InvalidData => 2,
+        _ => 7,
+    }
 }
 
 /// What standard error says of a status.
@@ -69,7 +78,9 @@ fn with_files<R: Threads + Sync, I: Source, K: Sink>(
     path: &str,
     source: &mut I,
     sink: &mut K,
-) -> u8 {
+) -> u8
+    requires range { IsInRange task }
+{
     let Ok(file) = File::open(rt, genesis) else {
         return match write_all(sink, b"genesis: cannot be opened\n") {
             Ok(()) => 4,
@@ -92,8 +103,9 @@ fn with_files<R: Threads + Sync, I: Source, K: Sink>(
 
 /// Does what the words say over the standard streams, with threads of `threads`.
 fn status_of<R: Threads + Sync>(threads: &R, rt: &HostRuntime) -> u8 {
-    let Ok(words) = words_of(rt) else {
-        return 7;
+    let words = match words_of(rt) {
+        Ok(words) => words,
+        Err(error) => return status_of_words(&error),
     };
     let Some(task) = task_of(words.as_slice()) else {
         return 2;

@@ -1,4 +1,5 @@
 mod Along
+mod Ended
 mod Given
 mod Lived
 mod Moving

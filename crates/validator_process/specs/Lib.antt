@@ -6,3 +6,4 @@ pub mod Words
 pub mod Identity
 pub mod Genesis
 pub mod Starting
+pub mod Ending

@@ -5,8 +5,11 @@ ghost use Rattle.std.specs.Io.KnownBytes.{Appends, Keeps};
 ghost use Rattle.outside.specs.Causes.{Rose};
 ghost use Rattle.outside.specs.Streams.{AppendsFront};
 ghost use Rattle.outside.specs.Lists.{KeepsJournals};
+ghost use Rattle.world_core.specs.Trusts.{trust_by};
+ghost use Rattle.validator_process.specs.declared.identity.Head.TheVariants as head;
 ghost use Rattle.validator_process.specs.declared.reading.Unstarted.TheVariants as unstarted;
 ghost use Rattle.validator_process.specs.declared.stop.Stop.TheVariants as stop;
+ghost use Rattle.validator_process.specs.Ending.{EndsJournal, EndsLife, EndsText, HasHead, IsHeadRefused, IsSaid, SaysUnopened, SaysUnstarted};
 ghost use Rattle.validator_process.specs.Genesis.{line_status};
 ghost use Rattle.validator_process.specs.Starting.{LivesCut, LivesWhole, start_bytes};
 
@@ -114,7 +117,10 @@ fn status_of(start: &StartLine) -> u8
 }
 
 /// Says how a process starts or why it does not. Answers the status.
-pub(crate) fn say_ended<K: Sink>(alloc: Global, start: &StartLine, sink: &mut K) -> u8 {
+#[tactic(auto, using(crate::proofs::Ended::said_whole, crate::proofs::Ended::said_cut))]
+pub(crate) fn say_ended<K: Sink>(alloc: Global, start: &StartLine, sink: &mut K) -> u8
+    ensures { IsSaid start.now (K.held sink.old) (K.held sink.new) (K.faults sink.old) (K.faults sink.new) result }
+{
     match say_start(alloc, start, sink) {
         Ok(()) => status_of(start),
         Err(stop) => stop.status(),
@@ -122,7 +128,9 @@ pub(crate) fn say_ended<K: Sink>(alloc: Global, start: &StartLine, sink: &mut K)
 }
 
 /// Says why no member starts. Answers the status.
-pub(crate) fn say_unstarted<K: Sink>(alloc: Global, why: Unstarted, sink: &mut K) -> u8 {
+pub(crate) fn say_unstarted<K: Sink>(alloc: Global, why: Unstarted, sink: &mut K) -> u8
+    ensures { SaysUnstarted why (K.held sink.old) (K.held sink.new) (K.faults sink.old) (K.faults sink.new) result }
+{
     match why {
         Unstarted::Refused(start) => say_ended(alloc, &start, sink),
         Unstarted::Stopped(stop) => stop.status(),
@@ -130,7 +138,9 @@ pub(crate) fn say_unstarted<K: Sink>(alloc: Global, why: Unstarted, sink: &mut K
 }
 
 /// Says why a journal was not opened. Answers the status.
-pub(crate) fn say_unopened<K: Sink>(alloc: Global, why: Unopened, sink: &mut K) -> u8 {
+pub(crate) fn say_unopened<K: Sink>(alloc: Global, why: Unopened, sink: &mut K) -> u8
+    ensures { SaysUnopened why (K.held sink.old) (K.held sink.new) (K.faults sink.old) (K.faults sink.new) result }
+{
     match why {
         Unopened::BadList => say_ended(alloc, &StartLine::NotMade, sink),
         Unopened::Stopped(stop) => stop.status(),
@@ -138,6 +148,7 @@ pub(crate) fn say_unopened<K: Sink>(alloc: Global, why: Unopened, sink: &mut K) 
 }
 
 /// Starts the member from an open log, and serves. Answers the status.
+#[tactic(auto, using(crate::proofs::Ended::lived_whole, crate::proofs::Ended::lived_cut, crate::proofs::Ended::unstarted_life))]
 fn serve_over<R: Threads + Sync, D: Keeper, S: MakesSeals, I: Source, K: Sink>(
     rt: &R,
     alloc: Global,
@@ -149,6 +160,7 @@ fn serve_over<R: Threads + Sync, D: Keeper, S: MakesSeals, I: Source, K: Sink>(
     sink: &mut K,
 ) -> u8
     requires known { member < D.width keeper.old }
+    ensures { EndsLife (S.accepts sealer.now) world member (I.left source.old) (I.left source.new) (K.held sink.old) (K.held sink.new) (D.lists keeper.old) (D.lists keeper.new) (I.faults source.old) (I.faults source.new) (K.faults sink.old) (K.faults sink.new) (D.failed keeper.old) (D.failed keeper.new) result }
 {
     let opened = open_member(&world, member, sealer, keeper);
     drop(world);
@@ -175,6 +187,7 @@ fn serve_over<R: Threads + Sync, D: Keeper, S: MakesSeals, I: Source, K: Sink>(
 }
 
 /// Opens the log of a disk that is a journal of the member, and serves. Gives the disk back.
+#[tactic(auto, using(crate::proofs::Ended::journal_life, crate::proofs::Ended::unopened_ends))]
 fn serve_journal<R: Threads + Sync, F: Disk, S: MakesSeals, I: Source, K: Sink>(
     rt: &R,
     alloc: Global,
@@ -186,6 +199,7 @@ fn serve_journal<R: Threads + Sync, F: Disk, S: MakesSeals, I: Source, K: Sink>(
     sink: &mut K,
 ) -> (u8, F)
     requires few { member ≤ 63 }
+    ensures { EndsJournal (S.accepts sealer.now) world member (F.history disk) (F.history result.1) (I.left source.old) (I.left source.new) (K.held sink.old) (K.held sink.new) (I.faults source.old) (I.faults source.new) (K.faults sink.old) (K.faults sink.new) (F.failed disk) (F.failed result.1) result.0 }
 {
     match open_journal(alloc, disk) {
         Ok(log) => {
@@ -201,7 +215,12 @@ fn serve_journal<R: Threads + Sync, F: Disk, S: MakesSeals, I: Source, K: Sink>(
 }
 
 /// Whether the first bytes of a disk are those of a journal of this member and this set-up, else why not.
-fn check_head<F: Disk>(disk: &mut F, member: u32, text: &[u8]) -> Result<(), Unstarted> {
+fn check_head<F: Disk>(disk: &mut F, member: u32, text: &[u8]) -> Result<(), Unstarted>
+    ensures own { OnOk result (HasHead (F.history disk.old) member text.now head.Own) }
+    ensures refused { IfErr result (λ why. IsHeadRefused why (F.history disk.old) member text.now (F.failed disk.old) (F.failed disk.new)) }
+    ensures history { F.history disk.new ≡ F.history disk.old }
+    ensures later { F.failed disk.old ≤ F.failed disk.new }
+{
     match read_head(disk, member, &genesis_digest(text)) {
         Ok(Head::Own) => Ok(()),
         Ok(Head::Unmade) => Err(Unstarted::Refused(StartLine::NotMade)),
@@ -212,6 +231,7 @@ fn check_head<F: Disk>(disk: &mut F, member: u32, text: &[u8]) -> Result<(), Uns
 }
 
 /// Starts the member of the set-up that the text is from its journal, and serves. Gives the disk back.
+#[tactic(auto, using(crate::proofs::Ended::no_genesis, crate::proofs::Ended::begun_ends, crate::proofs::Ended::no_journal))]
 pub(crate) fn serve_text<R: Threads + Sync, F: Disk, S: MakesSeals, I: Source, K: Sink>(
     rt: &R,
     alloc: Global,
@@ -223,6 +243,7 @@ pub(crate) fn serve_text<R: Threads + Sync, F: Disk, S: MakesSeals, I: Source, K
     sink: &mut K,
 ) -> (u8, F)
     requires few { member ≤ 63 }
+    ensures { EndsText (trust_by (S.made sealer.now) (S.accepts sealer.now)) (S.accepts sealer.now) member text.now (F.history disk) (F.history result.1) (I.left source.old) (I.left source.new) (K.held sink.old) (K.held sink.new) (I.faults source.old) (I.faults source.new) (K.faults sink.old) (K.faults sink.new) (F.failed disk) (F.failed result.1) result.0 }
 {
     let mut disk = disk;
     let world = match open_world(alloc, text, member, sealer) {

@@ -20,7 +20,9 @@ pub enum Task {
 
 impl Task {
     /// The place of the word that names the set-up; that of the journal stands two further.
-    pub fn genesis_place(self) -> usize {
+    pub fn genesis_place(self) -> usize
+        ensures { result ≤ 2 }
+    {
         match self {
             Task::Make { .. } => 2,
             Task::Serve { .. } => 1,
