@@ -4,7 +4,8 @@ use Rattle.std.specs.Prelude.{Result, Ok, Err}
 use Rattle.std.specs.Io.KnownBytes.{Appends}
 use Rattle.outside.specs.Causes.{Rose}
 use Rattle.outside.specs.Lists.{Journals, KeepsJournals}
-use Rattle.outside.specs.Streams.{AppendsFront}
+use Rattle.outside.specs.Streams.{AppendsFront, ReadsText}
+use Rattle.schedule_text.specs.Schedule.{longest_text}
 use Rattle.disk_log.specs.Disk.{History, IfTold}
 use Rattle.disk_log.specs.Log.{WalkCause}
 use Rattle.disk_log.specs.Records.{bad_member, counted}
@@ -23,7 +24,9 @@ use Rattle.validator_process.specs.declared.reading.Unstarted.{Unstarted}
 use Rattle.validator_process.specs.declared.reading.Unstarted.TheVariants as unstarted
 use Rattle.validator_process.specs.declared.stop.Stop.{Stop}
 use Rattle.validator_process.specs.declared.stop.Stop.TheVariants as stop
-use Rattle.validator_process.specs.Ending.{EndsJournal, EndsLife, EndsText, HasHead, IsHeadRefused, HasCause, IsOfWrite, IsSaid, IsStatus, IsUnopenedBy, SaysUnopened, SaysUnstarted, kept_in}
+use Rattle.validator_process.specs.Ending.{EndsJournal, EndsLife, EndsProcess, EndsTask, EndsText, HasHead, IsHeadRefused, HasCause, IsOfWrite, IsSaid, IsStatus, IsUnopenedBy, SaysUnopened, SaysUnstarted, kept_in, program_trust}
+use Rattle.validator_process.specs.declared.words.Task.{Task}
+use Rattle.validator_process.specs.declared.words.Task.TheVariants as task
 use Rattle.validator_process.specs.Genesis.{genesis_of, line_status}
 use Rattle.validator_process.specs.Starting.{IsInside, LivesCut, LivesWhole, OpensAs, StartsAs, start_bytes}
 use Rattle.validator_process.specs.Stops.{status_of}
@@ -178,3 +181,31 @@ module _ (trust : Trust) (accepts : Accepting) (m : ℕ) (text : List ℕ) (told
 pub no_journal : (trust : Trust) (accepts : Accepting) (m : ℕ) (text : List ℕ) (told told' : Option History) (left held held' : Option (List ℕ)) (r w w' k k' status : ℕ) (scene : Scene) (why : Unstarted)
     → genesis_of trust m text ≡ Ok scene → IsHeadRefused why told m text k k' → told' ≡ told → SaysUnstarted why held held' w w' status → EndsText trust accepts m text told told' left left held held' r r w w' k k' status
 no_journal trust accepts m text told told' left held held' r w w' k k' status scene why genesis is same said = inr (inl (record { scene = scene; genesis = genesis; why = why; is = is; said = said; unread = refl; disk = same }))
+
+-- ---- the program
+
+module _ (told told' : Option History) (left left' held held' : Option (List ℕ)) (r r' w w' k k' status : ℕ) where
+  pub same_trust : (t : Trust) (m : ℕ) (text : List ℕ) → t ≡ program_trust → EndsText t t.accepts m text told told' left left' held held' r r' w w' k k' status → EndsTask (task.Serve m) text told told' left left' held held' r r' w w' k k' status
+  same_trust t m text same ends = subst (λ (x : Trust). EndsText x x.accepts m text told told' left left' held held' r r' w w' k k' status) same ends
+
+  pub task_done : (it : Task) (setup setup' : Option (List ℕ)) (g g' : ℕ) (text : List ℕ) → ReadsText longest_text setup setup' text → EndsTask it text told told' left left' held held' r r' w w' k k' status
+      → EndsProcess it setup setup' g g' told told' left left' held held' r r' w w' k k' status
+  task_done it setup setup' g g' text reads does = inr (record { text = text; reads = reads; does = does })
+
+setup_cause : (g g' : ℕ) (why : Stop) → (why ≡ stop.ReadFault → Rose g g') → (why ≡ stop.WriteFault → ⊥) → (why ≡ stop.KeepFault → ⊥) → HasCause why g g' 0 0 0 0
+setup_cause g g' stop.ReadFault rose unwritten unkept = rose refl
+setup_cause g g' stop.WriteFault rose unwritten unkept = absurd (unwritten refl)
+setup_cause g g' stop.KeepFault rose unwritten unkept = absurd (unkept refl)
+setup_cause g g' stop.OutOfMemory rose unwritten unkept = tt
+
+pub setup_unread : (it : Task) (setup setup' : Option (List ℕ)) (g g' : ℕ) (told : Option History) (left held : Option (List ℕ)) (r w k : ℕ) (why : Stop) (given : Result (List ℕ) Stop) → given ≡ Err why → (given ≡ Err stop.ReadFault → Rose g g')
+    → (given ≡ Err stop.WriteFault → ⊥) × (given ≡ Err stop.KeepFault → ⊥) → EndsProcess it setup setup' g g' told told left left held held r r w w k k (status_of why)
+setup_unread it setup setup' g g' told left held r w k why given is rose only = inl (record {
+  why = why;
+  cause = setup_cause g g' why (λ e. rose (is ∙ ap (λ (s : Stop). Err s) e)) (λ e. only.0 (is ∙ ap (λ (s : Stop). Err s) e)) (λ e. only.1 (is ∙ ap (λ (s : Stop). Err s) e));
+  ends = refl;
+  unread = refl;
+  unsaid = refl;
+  disk = refl;
+  uncounted = refl;
+})

@@ -3,11 +3,13 @@ use Rattle.std.specs.Prelude.{◌≡◌, ◌⊎◌, ℕ, ◌≤◌, List, Option
 use Rattle.std.specs.Io.KnownBytes.{Appends}
 use Rattle.outside.specs.Causes.{Rose}
 use Rattle.outside.specs.Lists.{Journals, KeepsJournals}
-use Rattle.outside.specs.Streams.{AppendsFront}
 use Rattle.disk_log.specs.Disk.{History, IfTold}
 use Rattle.disk_log.specs.Records.{bad_member, counted}
 use Rattle.disk_log.specs.Running.{HoldsLists, Unchanged, lists_in}
+use Rattle.world_spec.specs.Keyed.{keyed, program_secret}
 use Rattle.world_spec.specs.Setting.{Trust}
+use Rattle.outside.specs.Streams.{AppendsFront, ReadsText}
+use Rattle.schedule_text.specs.Schedule.{longest_text}
 use Rattle.scene_spec.specs.Scene.{Scene}
 use Rattle.scene_spec.specs.Seats.{Seated}
 use Rattle.world_core.specs.Replies.{Accepting}
@@ -21,6 +23,8 @@ use Rattle.validator_process.specs.declared.reading.Unstarted.{Unstarted}
 use Rattle.validator_process.specs.declared.reading.Unstarted.TheVariants as unstarted
 use Rattle.validator_process.specs.declared.stop.Stop.{Stop}
 use Rattle.validator_process.specs.declared.stop.Stop.TheVariants as stop
+use Rattle.validator_process.specs.declared.words.Task.{Task}
+use Rattle.validator_process.specs.declared.words.Task.TheVariants as task
 use Rattle.validator_process.specs.Genesis.{genesis_of, line_status}
 use Rattle.validator_process.specs.Identity.{genesis_digest, head_of_file}
 use Rattle.validator_process.specs.Starting.{IsInside, LivesCut, LivesWhole, StartsAs, start_bytes}
@@ -200,3 +204,35 @@ EndsText trust accepts m text told told' left left' held held' r r' w w' k k' st
     IsNoGenesis trust m text told told' left left' held held' w w' k k' status
     ⊎ IsNoJournal trust m text told told' left left' held held' w w' k k' status
     ⊎ IsBegun trust accepts m text told told' left left' held held' r r' w w' k k' status
+
+-- ---- the program
+
+-- the seals of the program
+abbrev pub program_trust : Trust
+program_trust = keyed program_secret
+
+-- the task of a text ended; one that makes a journal reads no request
+abbrev pub EndsTask : Task → List ℕ → Option History → Option History → Option (List ℕ) → Option (List ℕ) → Option (List ℕ) → Option (List ℕ) → ℕ → ℕ → ℕ → ℕ → ℕ → ℕ → ℕ → Type 0
+EndsTask (task.Make m) text told told' left left' held held' r r' w w' k k' status = (left' ≡ left) × (r' ≡ r)
+EndsTask (task.Serve m) text told told' left left' held held' r r' w w' k k' status = EndsText program_trust program_trust.accepts m text told told' left left' held held' r r' w w' k k' status
+
+-- the set-up was not read: nothing else is read, written and kept
+pub record IsUnread (g g' : ℕ) (told told' : Option History) (left left' held held' : Option (List ℕ)) (k k' status : ℕ) : Type 0 where
+  pub why : Stop
+  pub cause : HasCause why g g' 0 0 0 0
+  pub ends : status ≡ status_of why
+  pub unread : left' ≡ left
+  pub unsaid : held' ≡ held
+  pub disk : told' ≡ told
+  pub uncounted : k' ≡ k
+
+-- it was read, and the task ended
+pub record IsDone (it : Task) (setup setup' : Option (List ℕ)) (told told' : Option History) (left left' held held' : Option (List ℕ)) (r r' w w' k k' status : ℕ) : Type 0 where
+  pub text : List ℕ
+  pub reads : ReadsText longest_text setup setup' text
+  pub does : EndsTask it text told told' left left' held held' r r' w w' k k' status
+
+abbrev pub EndsProcess : Task → Option (List ℕ) → Option (List ℕ) → ℕ → ℕ → Option History → Option History → Option (List ℕ) → Option (List ℕ) → Option (List ℕ) → Option (List ℕ) → ℕ → ℕ → ℕ → ℕ → ℕ → ℕ → ℕ → Type 0
+EndsProcess it setup setup' g g' told told' left left' held held' r r' w w' k k' status =
+    IsUnread g g' told told' left left' held held' k k' status
+    ⊎ IsDone it setup setup' told told' left left' held held' r r' w w' k k' status
