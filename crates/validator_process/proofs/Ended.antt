@@ -1,14 +1,13 @@
 -- How a process ends.
-use Rattle.std.proofs.Common.{◌≡◌, ◌⊎◌, inl, inr, ℕ, ◌≤◌, List, Option, Some, None, subst, refl, sym, ◌∙◌, ap, arith}
+use Rattle.std.proofs.Common.{◌≡◌, inl, inr, ℕ, ◌≤◌, List, Option, Some, None, subst, refl, sym, ◌∙◌, ap, arith}
 use Rattle.std.specs.Prelude.{Result, Ok, Err}
 use Rattle.std.specs.Io.KnownBytes.{Appends}
 use Rattle.outside.specs.Causes.{Rose}
 use Rattle.outside.specs.Lists.{Journals, KeepsJournals}
 use Rattle.outside.specs.Streams.{AppendsFront, ReadsText}
 use Rattle.schedule_text.specs.Schedule.{longest_text}
-use Rattle.disk_log.specs.Disk.{History, IfTold}
+use Rattle.disk_log.specs.Disk.{History}
 use Rattle.disk_log.specs.Log.{WalkCause}
-use Rattle.disk_log.specs.Records.{bad_member, counted}
 use Rattle.disk_log.specs.Running.{HoldsLists, Unchanged}
 use Rattle.disk_log.specs.declared.refusals.OpenRefusal.TheVariants as refused
 use Rattle.world_spec.specs.Setting.{Trust}
@@ -28,7 +27,7 @@ use Rattle.validator_process.specs.Ending.{EndsJournal, EndsLife, EndsProcess, E
 use Rattle.validator_process.specs.declared.words.Task.{Task}
 use Rattle.validator_process.specs.declared.words.Task.TheVariants as task
 use Rattle.validator_process.specs.Genesis.{genesis_of, line_status}
-use Rattle.validator_process.specs.Starting.{IsInside, LivesCut, LivesWhole, OpensAs, StartsAs, start_bytes}
+use Rattle.validator_process.specs.Starting.{LivesCut, LivesWhole, OpensAs, StartsAs, start_bytes}
 use Rattle.validator_process.specs.Stops.{status_of}
 
 -- ---- statuses
