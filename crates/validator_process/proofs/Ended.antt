@@ -71,6 +71,19 @@ module _ (line : StartLine) (held held' : Option (List ℕ)) (w w' : ℕ) where
     writes = writes;
   })
 
+module _ (held held' : Option (List ℕ)) (w w' status : ℕ) where
+  pub said_status : (line : StartLine) → IsSaid line held held' w w' status → IsStatus status
+  said_status line (inl whole) = subst IsStatus (sym whole.ends) (start_status line)
+  said_status line (inr cut) = subst IsStatus (sym cut.ends) (stop_status cut.why)
+
+  pub unstarted_status : (why : Unstarted) → SaysUnstarted why held held' w w' status → IsStatus status
+  unstarted_status (unstarted.Refused line) said = said_status line said
+  unstarted_status (unstarted.Stopped why) said = subst IsStatus (sym said.0) (stop_status why)
+
+  pub unopened_status : (why : Unopened) → SaysUnopened why held held' w w' status → IsStatus status
+  unopened_status unopened.BadList said = said_status start.NotMade said
+  unopened_status (unopened.Stopped why) said = subst IsStatus (sym said.0) (stop_status why)
+
 -- ---- a life over a keeper
 
 rose_later : (first mid last : ℕ) → first ≤ mid → Rose mid last → Rose first last

@@ -211,9 +211,9 @@ EndsText trust accepts m text told told' left left' held held' r r' w w' k k' st
 abbrev pub program_trust : Trust
 program_trust = keyed program_secret
 
--- the task of a text ended; one that makes a journal reads no request
+-- the task of a text ended; one that makes a journal reads no request, and ends with one of the statuses
 abbrev pub EndsTask : Task → List ℕ → Option History → Option History → Option (List ℕ) → Option (List ℕ) → Option (List ℕ) → Option (List ℕ) → ℕ → ℕ → ℕ → ℕ → ℕ → ℕ → ℕ → Type 0
-EndsTask (task.Make m) text told told' left left' held held' r r' w w' k k' status = (left' ≡ left) × (r' ≡ r)
+EndsTask (task.Make m) text told told' left left' held held' r r' w w' k k' status = (left' ≡ left) × (r' ≡ r) × IsStatus status
 EndsTask (task.Serve m) text told told' left left' held held' r r' w w' k k' status = EndsText program_trust program_trust.accepts m text told told' left left' held held' r r' w w' k k' status
 
 -- the set-up was not read: nothing else is read, written and kept

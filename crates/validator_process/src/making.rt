@@ -1,6 +1,7 @@
 //! Making a journal.
 
 ghost use Rattle.std.specs.Prelude.{◌≡◌, length};
+ghost use Rattle.validator_process.specs.Ending.{IsStatus};
 
 use crate::identity::{HEAD_SIZE, IDENTITY_LIST, genesis_digest, identity_of};
 use crate::journal::open_journal;
@@ -35,6 +36,7 @@ fn keep_identity<F: Disk>(
 }
 
 /// Appends the first record to a log that has none. Answers the status.
+#[tactic(auto, using(crate::proofs::Ended::said_status, crate::proofs::Ended::stop_status))]
 fn make_over<F: Disk, K: Sink>(
     alloc: Global,
     log: &mut RunLog<F>,
@@ -43,6 +45,7 @@ fn make_over<F: Disk, K: Sink>(
     sink: &mut K,
 ) -> u8
     requires width { length log.old.counts ≡ 65 }
+    ensures { IsStatus result }
 {
     if !log.is_empty() {
         return say_ended(alloc, &StartLine::NotEmpty, sink);
@@ -54,13 +57,16 @@ fn make_over<F: Disk, K: Sink>(
 }
 
 /// Makes the journal on a disk that has no more than an interrupted making leaves. Gives the disk back.
+#[tactic(auto, using(crate::proofs::Ended::unopened_status))]
 fn make_journal<F: Disk, K: Sink>(
     alloc: Global,
     disk: F,
     member: u32,
     text: &[u8],
     sink: &mut K,
-) -> (u8, F) {
+) -> (u8, F)
+    ensures { IsStatus result.0 }
+{
     match open_journal(alloc, disk) {
         Ok(log) => {
             let mut log = log;
@@ -73,6 +79,7 @@ fn make_journal<F: Disk, K: Sink>(
 
 /// Makes the journal of the member of the set-up that the text is. A disk that has more bytes than an interrupted making
 /// leaves is refused, and nothing is written to it. Gives the disk back.
+#[tactic(auto, using(crate::proofs::Ended::said_status, crate::proofs::Ended::unstarted_status))]
 pub(crate) fn make_text<F: Disk, S: MakesSeals, K: Sink>(
     alloc: Global,
     text: &[u8],
@@ -80,7 +87,9 @@ pub(crate) fn make_text<F: Disk, S: MakesSeals, K: Sink>(
     member: u32,
     sealer: &S,
     sink: &mut K,
-) -> (u8, F) {
+) -> (u8, F)
+    ensures { IsStatus result.0 }
+{
     match open_world(alloc, text, member, sealer) {
         Ok(world) => drop(world),
         Err(why) => return (say_unstarted(alloc, why, sink), disk),
