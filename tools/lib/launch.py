@@ -13,6 +13,8 @@ import programs
 HELP, VERSION = ([], ["help"], ["--help"], ["-h"]), ["--version"]
 # The commands that read no schedule from standard input: nothing has to be said after them.
 NO_SCHEDULE = ("make", "check")
+# The programs that read a schedule from standard input.
+READS_SCHEDULE = ("committee", "inspect")
 REFUSED = 3
 HANDED_ON = (signal.SIGINT, signal.SIGTERM, signal.SIGHUP, signal.SIGQUIT, signal.SIGUSR1, signal.SIGUSR2)
 
@@ -83,7 +85,7 @@ class Launch:
         at = self.program()
         if isinstance(at, str):
             at = self.ended(at)
-        if at == REFUSED and self.words[:1] not in ([it] for it in NO_SCHEDULE):
+        if at == REFUSED and self.name in READS_SCHEDULE and self.words[:1] not in ([it] for it in NO_SCHEDULE):
             self.say(f"the text is not a schedule. What to change: {self.advice()}")
         return 1 if at is None else at
 

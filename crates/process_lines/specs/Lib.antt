@@ -1,0 +1,4 @@
+pub mod Requests
+pub mod Pieces
+pub mod Texts
+pub mod Lines

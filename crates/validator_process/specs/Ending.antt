@@ -1,0 +1,238 @@
+-- How a process ends: its status, why it stopped, and the line that says why no member starts. Source: this profile.
+use Rattle.std.specs.Prelude.{◌≡◌, ◌⊎◌, ℕ, ◌≤◌, List, Option, Some, Ok, Err}
+use Rattle.std.specs.Io.KnownBytes.{Appends}
+use Rattle.outside.specs.Causes.{Rose}
+use Rattle.outside.specs.Lists.{Journals, KeepsJournals}
+use Rattle.disk_log.specs.Disk.{History, IfTold}
+use Rattle.disk_log.specs.Records.{bad_member, counted}
+use Rattle.disk_log.specs.Running.{HoldsLists, Unchanged, lists_in}
+use Rattle.world_spec.specs.Keyed.{keyed, program_secret}
+use Rattle.world_spec.specs.Setting.{Trust}
+use Rattle.outside.specs.Streams.{AppendsFront, ReadsText}
+use Rattle.schedule_text.specs.Schedule.{longest_text}
+use Rattle.scene_spec.specs.Scene.{Scene}
+use Rattle.scene_spec.specs.Seats.{Seated}
+use Rattle.world_core.specs.Replies.{Accepting}
+use Rattle.process_lines.specs.declared.starts.StartLine.{StartLine}
+use Rattle.process_lines.specs.declared.starts.StartLine.TheVariants as start
+use Rattle.validator_process.specs.declared.identity.Head.{Head}
+use Rattle.validator_process.specs.declared.identity.Head.TheVariants as head
+use Rattle.validator_process.specs.declared.journal.Unopened.{Unopened}
+use Rattle.validator_process.specs.declared.journal.Unopened.TheVariants as unopened
+use Rattle.validator_process.specs.declared.reading.Unstarted.{Unstarted}
+use Rattle.validator_process.specs.declared.reading.Unstarted.TheVariants as unstarted
+use Rattle.validator_process.specs.declared.stop.Stop.{Stop}
+use Rattle.validator_process.specs.declared.stop.Stop.TheVariants as stop
+use Rattle.validator_process.specs.declared.words.Task.{Task}
+use Rattle.validator_process.specs.declared.words.Task.TheVariants as task
+use Rattle.validator_process.specs.Genesis.{genesis_of, line_status}
+use Rattle.validator_process.specs.Identity.{genesis_digest, head_of_file}
+use Rattle.validator_process.specs.Starting.{IsInside, LivesCut, LivesWhole, StartsAs, start_bytes}
+use Rattle.validator_process.specs.Stops.{status_of}
+
+-- ---- statuses
+
+-- the statuses that a process ends with
+abbrev pub IsStatus : ℕ → Type 0
+IsStatus n = (n ≡ 0) ⊎ (n ≡ 3) ⊎ (n ≡ 4) ⊎ (n ≡ 5) ⊎ (n ≡ 6) ⊎ (n ≡ 7) ⊎ (n ≡ 8)
+
+-- a stop by a fault comes only if the count of its stream or of the journal rose
+abbrev pub HasCause : Stop → ℕ → ℕ → ℕ → ℕ → ℕ → ℕ → Type 0
+HasCause stop.ReadFault r r' w w' k k' = Rose r r'
+HasCause stop.WriteFault r r' w w' k k' = Rose w w'
+HasCause stop.KeepFault r r' w w' k k' = Rose k k'
+HasCause stop.OutOfMemory r r' w w' k k' = Unit {0}
+
+-- the stop of a write
+abbrev pub IsOfWrite : Stop → ℕ → ℕ → Type 0
+IsOfWrite stop.ReadFault w w' = ⊥
+IsOfWrite stop.WriteFault w w' = Rose w w'
+IsOfWrite stop.KeepFault w w' = ⊥
+IsOfWrite stop.OutOfMemory w w' = Unit {0}
+
+-- ---- a line that ends a process
+
+-- it was written whole
+pub record IsSaidWhole (line : StartLine) (held held' : Option (List ℕ)) (status : ℕ) : Type 0 where
+  pub ends : status ≡ line_status line
+  pub writes : Appends held held' (start_bytes line)
+
+-- a prefix of it was written
+pub record IsSaidCut (line : StartLine) (held held' : Option (List ℕ)) (w w' status : ℕ) : Type 0 where
+  pub why : Stop
+  pub ends : status ≡ status_of why
+  pub cause : IsOfWrite why w w'
+  pub writes : AppendsFront held held' (start_bytes line)
+
+abbrev pub IsSaid : StartLine → Option (List ℕ) → Option (List ℕ) → ℕ → ℕ → ℕ → Type 0
+IsSaid line held held' w w' status = IsSaidWhole line held held' status ⊎ IsSaidCut line held held' w w' status
+
+-- why no member starts: a line says it, or nothing is written
+abbrev pub SaysUnstarted : Unstarted → Option (List ℕ) → Option (List ℕ) → ℕ → ℕ → ℕ → Type 0
+SaysUnstarted (unstarted.Refused line) held held' w w' status = IsSaid line held held' w w' status
+SaysUnstarted (unstarted.Stopped why) held held' w w' status = (status ≡ status_of why) × (held' ≡ held)
+
+abbrev pub SaysUnopened : Unopened → Option (List ℕ) → Option (List ℕ) → ℕ → ℕ → ℕ → Type 0
+SaysUnopened unopened.BadList held held' w w' status = IsSaid start.NotMade held held' w w' status
+SaysUnopened (unopened.Stopped why) held held' w w' status = (status ≡ status_of why) × (held' ≡ held)
+
+-- ---- a life over a keeper, from the told lists at its start
+
+-- the member started, said so, and served to the end of the source
+pub record LivedWhole (accepts : Accepting) (scene : Scene) (m : ℕ) (left left' held held' : Option (List ℕ)) (kept kept' : Option Journals) (status : ℕ) : Type 0 where
+  pub seat : Seated
+  pub mid : Option Journals
+  pub starts : StartsAs accepts scene m kept (Ok seat)
+  pub same : KeepsJournals kept mid
+  pub lives : LivesWhole accepts seat left left' held held' mid kept'
+  pub ends : status ≡ 0
+
+-- it started, and was cut
+pub record LivedCut (accepts : Accepting) (scene : Scene) (m : ℕ) (left left' held held' : Option (List ℕ)) (kept kept' : Option Journals) (r r' w w' k k' status : ℕ) : Type 0 where
+  pub seat : Seated
+  pub mid : Option Journals
+  pub why : Stop
+  pub starts : StartsAs accepts scene m kept (Ok seat)
+  pub same : KeepsJournals kept mid
+  pub lives : LivesCut accepts seat left left' held held' mid kept'
+  pub ends : status ≡ status_of why
+  pub cause : HasCause why r r' w w' k k'
+
+-- it did not start: a record is bad, and a line says so
+pub record IsRefusedStart (accepts : Accepting) (scene : Scene) (m : ℕ) (left left' held held' : Option (List ℕ)) (kept kept' : Option Journals) (w w' status : ℕ) : Type 0 where
+  pub line : StartLine
+  pub starts : StartsAs accepts scene m kept (Err (unstarted.Refused line))
+  pub unread : left' ≡ left
+  pub said : IsSaid line held held' w w' status
+  pub same : KeepsJournals kept kept'
+
+-- it did not start, for a fault of the journal or of memory: nothing is read and written
+pub record IsStoppedStart (left left' held held' : Option (List ℕ)) (kept kept' : Option Journals) (k k' status : ℕ) : Type 0 where
+  pub why : Stop
+  pub inside : IsInside why
+  pub ends : status ≡ status_of why
+  pub cause : why ≡ stop.KeepFault → Rose k k'
+  pub unread : left' ≡ left
+  pub unsaid : held' ≡ held
+  pub same : KeepsJournals kept kept'
+
+abbrev pub EndsLife : Accepting → Scene → ℕ → Option (List ℕ) → Option (List ℕ) → Option (List ℕ) → Option (List ℕ) → Option Journals → Option Journals → ℕ → ℕ → ℕ → ℕ → ℕ → ℕ → ℕ → Type 0
+EndsLife accepts scene m left left' held held' kept kept' r r' w w' k k' status =
+    LivedWhole accepts scene m left left' held held' kept kept' status
+    ⊎ LivedCut accepts scene m left left' held held' kept kept' r r' w w' k k' status
+    ⊎ IsRefusedStart accepts scene m left left' held held' kept kept' w w' status
+    ⊎ IsStoppedStart left left' held held' kept kept' k k' status
+
+-- ---- a life over a disk
+
+-- what a disk tells as a keeper of the lists of a journal
+abbrev pub kept_in : Option History → Option Journals
+kept_in told = lists_in 65 told
+
+-- why a journal was not opened: a record that counts is of no list, or a fault
+abbrev pub IsUnopenedBy : Unopened → Option History → ℕ → ℕ → Type 0
+IsUnopenedBy unopened.BadList told k k' = IfTold told (λ h. (at : ℕ) × (bad_member 65 0 (counted h.now.reads) ≡ Some at))
+IsUnopenedBy (unopened.Stopped why) told k k' = IsInside why × (why ≡ stop.KeepFault → Rose k k')
+
+-- the journal was opened, and the life over its lists ended; the disk holds the lists that it left
+pub record IsLife (accepts : Accepting) (scene : Scene) (m : ℕ) (told told' : Option History) (left left' held held' : Option (List ℕ)) (r r' w w' k k' status : ℕ) : Type 0 where
+  pub opened : ℕ
+  pub width : ℕ
+  pub lists : Option Journals
+  pub later : k ≤ opened
+  pub ends : EndsLife accepts scene m left left' held held' (kept_in told) lists r r' w w' opened k' status
+  pub holds : HoldsLists width k' told' lists
+
+-- it was not opened: the records that count are those of before
+pub record IsUnopened (told told' : Option History) (left left' held held' : Option (List ℕ)) (w w' k k' status : ℕ) : Type 0 where
+  pub why : Unopened
+  pub cause : IsUnopenedBy why told k k'
+  pub unread : left' ≡ left
+  pub said : SaysUnopened why held held' w w' status
+  pub stays : Unchanged told told'
+
+abbrev pub EndsJournal : Accepting → Scene → ℕ → Option History → Option History → Option (List ℕ) → Option (List ℕ) → Option (List ℕ) → Option (List ℕ) → ℕ → ℕ → ℕ → ℕ → ℕ → ℕ → ℕ → Type 0
+EndsJournal accepts scene m told told' left left' held held' r r' w w' k k' status =
+    IsLife accepts scene m told told' left left' held held' r r' w w' k k' status
+    ⊎ IsUnopened told told' left left' held held' w w' k k' status
+
+-- ---- the whole of a process that serves, from the text of its set-up
+
+-- the first bytes of the disk are this head, where the disk tells its bytes
+abbrev pub HasHead : Option History → ℕ → List ℕ → Head → Type 0
+HasHead told m text it = IfTold told (λ h. it ≡ head_of_file m (genesis_digest text) h.now.reads)
+
+-- why the head of a disk lets no member start
+abbrev pub IsHeadRefused : Unstarted → Option History → ℕ → List ℕ → ℕ → ℕ → Type 0
+IsHeadRefused (unstarted.Refused start.NotMade) told m text k k' = HasHead told m text head.Unmade
+IsHeadRefused (unstarted.Refused start.OtherMember) told m text k k' = HasHead told m text head.OtherMember
+IsHeadRefused (unstarted.Refused start.OtherGenesis) told m text k k' = HasHead told m text head.OtherGenesis
+IsHeadRefused (unstarted.Refused line) told m text k k' = ⊥
+IsHeadRefused (unstarted.Stopped why) told m text k k' = (why ≡ stop.KeepFault) × Rose k k'
+
+-- the text makes no committee with this member, or memory was refused: nothing is read, and the disk is as it was
+pub record IsNoGenesis (trust : Trust) (m : ℕ) (text : List ℕ) (told told' : Option History) (left left' held held' : Option (List ℕ)) (w w' k k' status : ℕ) : Type 0 where
+  pub why : Unstarted
+  pub is : (line : StartLine) → why ≡ unstarted.Refused line → genesis_of trust m text ≡ Err line
+  pub memory : (it : Stop) → why ≡ unstarted.Stopped it → it ≡ stop.OutOfMemory
+  pub said : SaysUnstarted why held held' w w' status
+  pub unread : left' ≡ left
+  pub disk : told' ≡ told
+  pub uncounted : k' ≡ k
+
+-- the file is not this member's journal of this set-up, or its head was not read: nothing is read, and the disk's moments are as they were
+pub record IsNoJournal (trust : Trust) (m : ℕ) (text : List ℕ) (told told' : Option History) (left left' held held' : Option (List ℕ)) (w w' k k' status : ℕ) : Type 0 where
+  pub scene : Scene
+  pub genesis : genesis_of trust m text ≡ Ok scene
+  pub why : Unstarted
+  pub is : IsHeadRefused why told m text k k'
+  pub said : SaysUnstarted why held held' w w' status
+  pub unread : left' ≡ left
+  pub disk : told' ≡ told
+
+-- the file is this member's journal of this set-up, and what followed ended
+pub record IsBegun (trust : Trust) (accepts : Accepting) (m : ℕ) (text : List ℕ) (told told' : Option History) (left left' held held' : Option (List ℕ)) (r r' w w' k k' status : ℕ) : Type 0 where
+  pub scene : Scene
+  pub genesis : genesis_of trust m text ≡ Ok scene
+  pub own : HasHead told m text head.Own
+  pub mid : ℕ
+  pub later : k ≤ mid
+  pub ends : EndsJournal accepts scene m told told' left left' held held' r r' w w' mid k' status
+
+abbrev pub EndsText : Trust → Accepting → ℕ → List ℕ → Option History → Option History → Option (List ℕ) → Option (List ℕ) → Option (List ℕ) → Option (List ℕ) → ℕ → ℕ → ℕ → ℕ → ℕ → ℕ → ℕ → Type 0
+EndsText trust accepts m text told told' left left' held held' r r' w w' k k' status =
+    IsNoGenesis trust m text told told' left left' held held' w w' k k' status
+    ⊎ IsNoJournal trust m text told told' left left' held held' w w' k k' status
+    ⊎ IsBegun trust accepts m text told told' left left' held held' r r' w w' k k' status
+
+-- ---- the program
+
+-- the seals of the program
+abbrev pub program_trust : Trust
+program_trust = keyed program_secret
+
+-- the task of a text ended; one that makes a journal reads no request, and ends with one of the statuses
+abbrev pub EndsTask : Task → List ℕ → Option History → Option History → Option (List ℕ) → Option (List ℕ) → Option (List ℕ) → Option (List ℕ) → ℕ → ℕ → ℕ → ℕ → ℕ → ℕ → ℕ → Type 0
+EndsTask (task.Make m) text told told' left left' held held' r r' w w' k k' status = (left' ≡ left) × (r' ≡ r) × IsStatus status
+EndsTask (task.Serve m) text told told' left left' held held' r r' w w' k k' status = EndsText program_trust program_trust.accepts m text told told' left left' held held' r r' w w' k k' status
+
+-- the set-up was not read: nothing else is read, written and kept
+pub record IsUnread (g g' : ℕ) (told told' : Option History) (left left' held held' : Option (List ℕ)) (k k' status : ℕ) : Type 0 where
+  pub why : Stop
+  pub cause : HasCause why g g' 0 0 0 0
+  pub ends : status ≡ status_of why
+  pub unread : left' ≡ left
+  pub unsaid : held' ≡ held
+  pub disk : told' ≡ told
+  pub uncounted : k' ≡ k
+
+-- it was read, and the task ended
+pub record IsDone (it : Task) (setup setup' : Option (List ℕ)) (told told' : Option History) (left left' held held' : Option (List ℕ)) (r r' w w' k k' status : ℕ) : Type 0 where
+  pub text : List ℕ
+  pub reads : ReadsText longest_text setup setup' text
+  pub does : EndsTask it text told told' left left' held held' r r' w w' k k' status
+
+abbrev pub EndsProcess : Task → Option (List ℕ) → Option (List ℕ) → ℕ → ℕ → Option History → Option History → Option (List ℕ) → Option (List ℕ) → Option (List ℕ) → Option (List ℕ) → ℕ → ℕ → ℕ → ℕ → ℕ → ℕ → ℕ → Type 0
+EndsProcess it setup setup' g g' told told' left left' held held' r r' w w' k k' status =
+    IsUnread g g' told told' left left' held held' k k' status
+    ⊎ IsDone it setup setup' told told' left left' held held' r r' w w' k k' status

@@ -1,0 +1,37 @@
+-- The first record of a journal, which says of which member and of which set-up it is. Source: this profile.
+use Rattle.std.specs.Prelude.{ℕ, ◌&&◌, nat_le, List, [], ◌∷◌, ◌++◌, length, take, drop, bytes_eq, codes, if◌then◌else◌}
+use Rattle.std.specs.Int.{w32, to_le_bytes}
+use Rattle.digest_core.specs.declared.Digest.{Digest}
+use Rattle.digest_core.specs.Tagged.{tagged_digest}
+use Rattle.validator_process.specs.declared.identity.Head.{Head}
+use Rattle.validator_process.specs.declared.identity.Head.TheVariants as head
+
+-- the digest of the text of a set-up, under the tag `J`
+abbrev pub genesis_digest : List ℕ → Digest
+genesis_digest text = tagged_digest 74 text
+
+abbrev pub mark : List ℕ
+mark = codes "kothaysu validator 1"
+
+-- the record: the mark, the member, and the digest of the set-up
+abbrev pub identity_bytes : ℕ → Digest → List ℕ
+identity_bytes m genesis = mark ++ to_le_bytes w32 m ++ genesis.0
+
+-- an open gate, 56 bytes, of list 64
+abbrev pub front : List ℕ
+front = 1 ∷ 56 ∷ 0 ∷ 0 ∷ 0 ∷ 64 ∷ 0 ∷ 0 ∷ 0 ∷ []
+
+-- what the parts of the first bytes are
+abbrev pub head_of_parts : ℕ → Digest → List ℕ → List ℕ → List ℕ → List ℕ → Head
+head_of_parts m genesis gate text number digest =
+    if bytes_eq gate front && bytes_eq text mark
+    then (if bytes_eq number (to_le_bytes w32 m) then (if bytes_eq digest genesis.0 then head.Own else head.OtherGenesis) else head.OtherMember)
+    else head.Unmade
+
+-- what the first 65 bytes of a file are
+unfoldable pub head_of_bytes : ℕ → Digest → List ℕ → Head
+head_of_bytes m genesis bytes = head_of_parts m genesis (take 9 bytes) (take 20 (drop 9 bytes)) (take 4 (drop 20 (drop 9 bytes))) (drop 4 (drop 20 (drop 9 bytes)))
+
+-- what a file is: a shorter one is not made
+abbrev pub head_of_file : ℕ → Digest → List ℕ → Head
+head_of_file m genesis file = if nat_le (length file) 65 then head.Unmade else head_of_bytes m genesis (take 65 file)

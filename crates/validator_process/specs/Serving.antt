@@ -1,0 +1,192 @@
+-- Lines that are answered one after the other, and what is left where a fault cuts them. Source: this profile.
+use Rattle.std.specs.Prelude.{◌≡◌, ◌⊎◌, ℕ, nat_le, Bool, true, false, List, [], ◌∷◌, ◌++◌, fold, length, Option, Some, None, if◌then◌else◌}
+use Rattle.std.specs.List.{flat_map}
+use Rattle.std.specs.Io.KnownBytes.{Appends, Consumes, Keeps}
+use Rattle.outside.specs.Lists.{Journals, KeepsJournals, with_record}
+use Rattle.outside.specs.Streams.{AppendsFront}
+use Rattle.journal_core.specs.declared.records.Record.{Record}
+use Rattle.journal_core.specs.Records as journals
+use Rattle.protocol_spec.specs.Chain.Words.{Each}
+use Rattle.scene_spec.specs.Posts.{AddsLeft, MayAddLeft}
+use Rattle.scene_spec.specs.Seats.{Seated}
+use Rattle.world_core.specs.Replies.{Accepting}
+use Rattle.process_lines.specs.declared.request.Request.{Request}
+use Rattle.process_lines.specs.Lines.{HasNoEnd, ReadsEnd, ReadsLine, longest_line}
+use Rattle.process_lines.specs.Requests.{request_of}
+use Rattle.process_lines.specs.Texts.{bad_request_text}
+use Rattle.validator_process.specs.Moves.{due_for, moved}
+use Rattle.validator_process.specs.Says.{Says}
+
+-- a line that was read, without its end, and what was written for it
+pub record Exchange : Type 0 where
+  pub line : List ℕ
+  pub text : List ℕ
+
+abbrev pub ended : List ℕ → List ℕ
+ended line = line ++ 10 ∷ []
+
+-- ---- one line
+
+-- the request that it is; a line that is too long is none
+abbrev pub request_in : List ℕ → Option Request
+request_in line = if nat_le (length line) longest_line then request_of line else None
+
+abbrev pub seat_behind_request : Accepting → Seated → Option Request → Seated
+seat_behind_request accepts seat None = seat
+seat_behind_request accepts seat (Some q) = moved accepts seat q
+
+abbrev pub due_for_request : Accepting → Seated → Option Request → Option Record
+due_for_request accepts seat None = None
+due_for_request accepts seat (Some q) = due_for accepts seat q
+
+abbrev pub IsAnswer : Accepting → Seated → Option Request → List ℕ → Type 0
+IsAnswer accepts seat None text = text ≡ ended bad_request_text
+IsAnswer accepts seat (Some q) text = (body : List ℕ) × (text ≡ ended body) × Says accepts seat q body
+
+-- the member behind a line, and the record that it leaves
+abbrev pub seat_behind_line : Accepting → Seated → List ℕ → Seated
+seat_behind_line accepts seat line = seat_behind_request accepts seat (request_in line)
+
+abbrev pub due_for_line : Accepting → Seated → List ℕ → Option Record
+due_for_line accepts seat line = due_for_request accepts seat (request_in line)
+
+abbrev pub Answers : Accepting → Seated → Exchange → Type 0
+Answers accepts seat x = IsAnswer accepts seat (request_in x.line) x.text
+
+-- ---- lines in order
+
+-- each is answered by the member behind those before it
+abbrev pub AreAnswered : Accepting → Seated → List Exchange → Type 0
+AreAnswered accepts seat [] = Unit {0}
+AreAnswered accepts seat (x ∷ xs) = Answers accepts seat x × AreAnswered accepts (seat_behind_line accepts seat x.line) xs
+
+abbrev pub seat_behind_lines : Accepting → Seated → List Exchange → Seated
+seat_behind_lines accepts seat [] = seat
+seat_behind_lines accepts seat (x ∷ xs) = seat_behind_lines accepts (seat_behind_line accepts seat x.line) xs
+
+abbrev pub spelled : Option Record → List (List ℕ)
+spelled None = []
+spelled (Some x) = journals.journal_record.spell x ∷ []
+
+-- the records that they leave, in order
+abbrev pub records_left : Accepting → Seated → List Exchange → List (List ℕ)
+records_left accepts seat [] = []
+records_left accepts seat (x ∷ xs) = spelled (due_for_line accepts seat x.line) ++ records_left accepts (seat_behind_line accepts seat x.line) xs
+
+-- told lists grew by these records of a member
+abbrev pub with_records : Journals → ℕ → List (List ℕ) → Journals
+with_records lists m records = fold (λ (l : Journals) bytes. with_record l m bytes) lists records
+
+abbrev pub AddsRecords : Option Journals → Option Journals → ℕ → List (List ℕ) → Type 0
+AddsRecords None now m records = Unit {0}
+AddsRecords (Some lists) now m records = now ≡ Some (with_records lists m records)
+
+-- the lines, each with its end, were pending, or were read behind what was
+pub record ReadsLines (pending pending' : List ℕ) (left left' : Option (List ℕ)) (xs : List Exchange) : Type 0 where
+  pub bytes : List ℕ
+  pub read : Consumes left left' bytes
+  pub parts : pending ++ bytes ≡ flat_map (λ (x : Exchange). ended x.line) xs ++ pending'
+  pub whole : Each (λ (x : Exchange). HasNoEnd x.line) xs
+
+-- what a process reads, writes and keeps: what is pending, what the source has left, what the sink holds, the told lists,
+-- and the member
+pub record Around : Type 0 where
+  pub pending : List ℕ
+  pub left : Option (List ℕ)
+  pub held : Option (List ℕ)
+  pub kept : Option Journals
+  pub seat : Seated
+
+abbrev pub around : List ℕ → Option (List ℕ) → Option (List ℕ) → Option Journals → Seated → Around
+around pending left held kept seat = record { pending = pending; left = left; held = held; kept = kept; seat = seat }
+
+-- these lines were read, answered and written, and their records are kept
+pub record Serves (accepts : Accepting) (xs : List Exchange) (old new : Around) : Type 0 where
+  pub reads : ReadsLines old.pending new.pending old.left new.left xs
+  pub answers : AreAnswered accepts old.seat xs
+  pub writes : Appends old.held new.held (flat_map (λ (x : Exchange). x.text) xs)
+  pub keeps : AddsRecords old.kept new.kept old.seat.member (records_left accepts old.seat xs)
+  pub seat : new.seat ≡ seat_behind_lines accepts old.seat xs
+
+-- ---- one line more
+
+-- a request, or none, is answered: the answer is written, and the record is kept
+pub record IsServed (accepts : Accepting) (q : Option Request) (held held' : Option (List ℕ)) (kept kept' : Option Journals) (seat seat' : Seated) : Type 0 where
+  pub text : List ℕ
+  pub answers : IsAnswer accepts seat q text
+  pub writes : Appends held held' text
+  pub keeps : AddsLeft kept kept' seat.member (due_for_request accepts seat q)
+  pub becomes : seat' ≡ seat_behind_request accepts seat q
+
+-- it is not answered: nothing is written, and the record may be kept
+pub record IsRefused (accepts : Accepting) (q : Option Request) (held held' : Option (List ℕ)) (kept kept' : Option Journals) (seat : Seated) : Type 0 where
+  pub writes : Keeps held held'
+  pub keeps : MayAddLeft kept kept' seat.member (due_for_request accepts seat q)
+
+-- a front of the answer is written, and the record is kept
+pub record IsHalfSaid (accepts : Accepting) (q : Option Request) (held held' : Option (List ℕ)) (kept kept' : Option Journals) (seat : Seated) : Type 0 where
+  pub text : List ℕ
+  pub answers : IsAnswer accepts seat q text
+  pub writes : AppendsFront held held' text
+  pub keeps : AddsLeft kept kept' seat.member (due_for_request accepts seat q)
+
+-- a line is read, answered and written, and its record is kept
+pub record ServesOne (accepts : Accepting) (x : Exchange) (old new : Around) : Type 0 where
+  pub reads : ReadsLine old.pending new.pending old.left new.left x.line
+  pub answers : Answers accepts old.seat x
+  pub writes : Appends old.held new.held x.text
+  pub keeps : AddsLeft old.kept new.kept old.seat.member (due_for_line accepts old.seat x.line)
+  pub seat : new.seat ≡ seat_behind_line accepts old.seat x.line
+
+-- there is no line more
+pub record IsOver (old new : Around) : Type 0 where
+  pub ends : ReadsEnd old.pending old.left new.left
+  pub writes : new.held ≡ old.held
+  pub keeps : new.kept ≡ old.kept
+
+abbrev pub Next : Accepting → Around → Around → Bool → Type 0
+Next accepts old new true = (x : Exchange) × ServesOne accepts x old new
+Next accepts old new false = IsOver old new
+
+-- ---- the line at which a process is cut
+
+-- it was not read
+pub record IsUnread (old new : Around) : Type 0 where
+  pub writes : Keeps old.held new.held
+  pub keeps : KeepsJournals old.kept new.kept
+
+-- it was read, and not answered: nothing was written, and its record may be kept
+pub record IsUnanswered (accepts : Accepting) (old new : Around) : Type 0 where
+  pub line : List ℕ
+  pub reads : ReadsLine old.pending new.pending old.left new.left line
+  pub writes : Keeps old.held new.held
+  pub keeps : MayAddLeft old.kept new.kept old.seat.member (due_for_line accepts old.seat line)
+
+-- it was answered, and a front of the answer was written: its record is kept
+pub record IsUnwritten (accepts : Accepting) (old new : Around) : Type 0 where
+  pub exchange : Exchange
+  pub reads : ReadsLine old.pending new.pending old.left new.left exchange.line
+  pub answers : Answers accepts old.seat exchange
+  pub writes : AppendsFront old.held new.held exchange.text
+  pub keeps : AddsLeft old.kept new.kept old.seat.member (due_for_line accepts old.seat exchange.line)
+
+abbrev pub IsCutAt : Accepting → Around → Around → Type 0
+IsCutAt accepts old new = IsUnread old new ⊎ IsUnanswered accepts old new ⊎ IsUnwritten accepts old new
+
+-- ---- a whole life
+
+-- the source was read to its end, and all its lines were served
+pub record ServesAll (accepts : Accepting) (old new : Around) : Type 0 where
+  pub exchanges : List Exchange
+  pub last : Around
+  pub serves : Serves accepts exchanges old last
+  pub ends : ReadsEnd last.pending last.left new.left
+  pub writes : new.held ≡ last.held
+  pub keeps : new.kept ≡ last.kept
+
+-- it was cut: some lines were served, and one more in part
+pub record ServesSome (accepts : Accepting) (old new : Around) : Type 0 where
+  pub exchanges : List Exchange
+  pub last : Around
+  pub serves : Serves accepts exchanges old last
+  pub cut : IsCutAt accepts last new

@@ -1,0 +1,82 @@
+-- What the steps of a start answer, against the definition; want of memory and a fault of the journal say nothing here.
+use Rattle.std.specs.Prelude.{◌≡◌, ◌⊎◌, ◌==◌, ℕ, true, List, [], length, Option, Result, Ok, Err}
+use Rattle.std.specs.Io.KnownBytes.{Appends}
+use Rattle.outside.specs.Lists.{Journals, KeepsJournals}
+use Rattle.outside.specs.Streams.{AppendsFront}
+use Rattle.schedule_text.specs.declared.words.Schedule.{Schedule}
+use Rattle.schedule_text.specs.Schedule.{Refused}
+use Rattle.scene_spec.specs.Scene.{Scene}
+use Rattle.scene_spec.specs.Seats.{Seated}
+use Rattle.world_spec.specs.Setting.{Trust}
+use Rattle.world_core.specs.Replies.{Accepting}
+use Rattle.world_core.specs.SeatRestarts.{IsJournal}
+use Rattle.process_lines.specs.declared.starts.StartLine.{StartLine}
+use Rattle.process_lines.specs.Texts.{start_text}
+use Rattle.validator_process.specs.declared.reading.Unstarted.{Unstarted}
+use Rattle.validator_process.specs.declared.reading.Unstarted.TheVariants as unstarted
+use Rattle.validator_process.specs.declared.stop.Stop.{Stop}
+use Rattle.validator_process.specs.declared.stop.Stop.TheVariants as stop
+use Rattle.validator_process.specs.Genesis.{ready_line, scene_of, started_in}
+use Rattle.validator_process.specs.Serving.{ServesAll, ServesSome, around, ended}
+
+-- a stop that is none of a stream
+abbrev pub IsInside : Stop → Type 0
+IsInside stop.ReadFault = ⊥
+IsInside stop.WriteFault = ⊥
+IsInside stop.KeepFault = Unit {0}
+IsInside stop.OutOfMemory = Unit {0}
+
+-- a schedule without events, or the line that says why there is none, whoever the member is
+abbrev pub ReadsAs : Result Schedule Refused → Result Schedule Unstarted → Type 0
+ReadsAs said (Ok s) = (said ≡ Ok s) × ((length s.events == 0) ≡ true)
+ReadsAs said (Err (unstarted.Refused line)) = (trust : Trust) (m : ℕ) → scene_of trust m said ≡ Err line
+ReadsAs said (Err (unstarted.Stopped why)) = why ≡ stop.OutOfMemory
+
+abbrev pub OpensAs : Result Scene StartLine → Result Scene Unstarted → Type 0
+OpensAs said (Ok scene) = said ≡ Ok scene
+OpensAs said (Err (unstarted.Refused line)) = said ≡ Err line
+OpensAs said (Err (unstarted.Stopped why)) = why ≡ stop.OutOfMemory
+
+abbrev pub BeginsAs : Result Seated StartLine → Result Seated Unstarted → Type 0
+BeginsAs said (Ok seat) = said ≡ Ok seat
+BeginsAs said (Err (unstarted.Refused line)) = said ≡ Err line
+BeginsAs said (Err (unstarted.Stopped why)) = IsInside why
+
+-- ---- from the records of a keeper
+
+-- the member started from its records, or one of them is bad
+abbrev pub StartsAs : Accepting → Scene → ℕ → Option Journals → Result Seated Unstarted → Type 0
+StartsAs accepts scene m told (Ok seat) = (records : List (List ℕ)) × IsJournal told m records × (started_in accepts scene m records ≡ Ok seat)
+StartsAs accepts scene m told (Err (unstarted.Refused line)) = (records : List (List ℕ)) × IsJournal told m records × (started_in accepts scene m records ≡ Err line)
+StartsAs accepts scene m told (Err (unstarted.Stopped why)) = IsInside why
+
+-- ---- a member that is up says so, and serves
+
+abbrev pub start_bytes : StartLine → List ℕ
+start_bytes line = ended (start_text line)
+
+-- it said where it starts from, and served to the end of the source
+pub record LivesWhole (accepts : Accepting) (seat : Seated) (left left' held held' : Option (List ℕ)) (kept kept' : Option Journals) : Type 0 where
+  pub said : Option (List ℕ)
+  pub pending : List ℕ
+  pub last : Seated
+  pub ready : Appends held said (start_bytes (ready_line seat))
+  pub serves : ServesAll accepts (around [] left said kept seat) (around pending left' held' kept' last)
+
+-- it said so, and served some lines
+pub record LivesSome (accepts : Accepting) (seat : Seated) (left left' held held' : Option (List ℕ)) (kept kept' : Option Journals) : Type 0 where
+  pub said : Option (List ℕ)
+  pub pending : List ℕ
+  pub last : Seated
+  pub ready : Appends held said (start_bytes (ready_line seat))
+  pub serves : ServesSome accepts (around [] left said kept seat) (around pending left' held' kept' last)
+
+-- a front of a first line is written, and nothing is read and kept
+pub record SaysFront (line : StartLine) (left left' held held' : Option (List ℕ)) (kept kept' : Option Journals) : Type 0 where
+  pub unread : left' ≡ left
+  pub writes : AppendsFront held held' (start_bytes line)
+  pub keeps : KeepsJournals kept kept'
+
+abbrev pub LivesCut : Accepting → Seated → Option (List ℕ) → Option (List ℕ) → Option (List ℕ) → Option (List ℕ) → Option Journals → Option Journals → Type 0
+LivesCut accepts seat left left' held held' kept kept' =
+    SaysFront (ready_line seat) left left' held held' kept kept' ⊎ LivesSome accepts seat left left' held held' kept kept'

@@ -1,0 +1,30 @@
+//! One member of a committee as a process: it keeps each record in its journal file before it answers, is killed at any
+//! moment, starts again from the file, and goes on.
+//!
+//! [`validator`] is the program over any source, sink and disk. `init` makes a journal: its first record says of which
+//! member and of which set-up it is. A start reads that record before anything is written, starts the member from its
+//! records, writes one line, and then answers requests, a line each, until the source ends. An answer is handed to the
+//! sink once the record that it rests on is in the file for good. A fault of the file, of memory or of a stream ends the
+//! process, and nothing that was not kept is answered.
+#![tactic(auto)]
+
+mod answering;
+mod asking;
+mod entries;
+mod identity;
+mod journal;
+mod looking;
+mod making;
+mod opening;
+mod reading;
+mod serving;
+mod starting;
+mod stating;
+mod stop;
+mod top;
+mod turning;
+mod voting;
+mod words;
+
+pub use top::validator;
+pub use words::{Task, task_of};

@@ -1,0 +1,73 @@
+//! How a process ends early.
+
+ghost use Rattle.std.specs.Prelude.{◌≡◌};
+ghost use Rattle.validator_process.specs.Stops.{status_of, unanswered, unkept, unread, unwritten};
+
+use outside::OutFault;
+use world_core::SeatFault;
+
+/// Why a process ends before its input does.
+#[derive(Clone, Copy, Debug, PartialEq, Eq)]
+pub(crate) enum Stop {
+    /// The source did not give what it has.
+    ReadFault,
+    /// The sink did not take the bytes.
+    WriteFault,
+    /// The journal did not keep a record, or did not give one.
+    KeepFault,
+    OutOfMemory,
+}
+
+impl Stop {
+    /// The status with which the process ends.
+    pub(crate) fn status(self) -> u8
+        ensures { result ≡ status_of self }
+    {
+        match self {
+            Stop::ReadFault => 4,
+            Stop::WriteFault => 5,
+            Stop::KeepFault => 6,
+            Stop::OutOfMemory => 7,
+        }
+    }
+}
+
+/// A fault of the source.
+pub(crate) fn unread(fault: OutFault) -> Stop
+    ensures { result ≡ unread fault }
+{
+    match fault {
+        OutFault::Failed => Stop::ReadFault,
+        OutFault::OutOfMemory => Stop::OutOfMemory,
+    }
+}
+
+/// A fault of the sink.
+pub(crate) fn unwritten(fault: OutFault) -> Stop
+    ensures { result ≡ unwritten fault }
+{
+    match fault {
+        OutFault::Failed => Stop::WriteFault,
+        OutFault::OutOfMemory => Stop::OutOfMemory,
+    }
+}
+
+/// A fault of the journal.
+pub(crate) fn unkept(fault: OutFault) -> Stop
+    ensures { result ≡ unkept fault }
+{
+    match fault {
+        OutFault::Failed => Stop::KeepFault,
+        OutFault::OutOfMemory => Stop::OutOfMemory,
+    }
+}
+
+/// Why a member does not answer.
+pub(crate) fn unanswered(fault: SeatFault) -> Stop
+    ensures { result ≡ unanswered fault }
+{
+    match fault {
+        SeatFault::KeepFault => Stop::KeepFault,
+        SeatFault::OutOfMemory => Stop::OutOfMemory,
+    }
+}
