@@ -106,12 +106,24 @@ class Afterwards:
         self.expect("finals of `committee run`", not others, "; ".join(others[:3]))
 
     def same_chain(self, program, most):
-        """`inspect` finds the chain of the processes after the first events, and nobody to blame."""
-        text, members = self.text(most).encode(), ",".join(str(it.number) for it in self.committee.members)
-        ran = subprocess.run([program, "chain", "0", members], input=text, capture_output=True)
-        count = wire.Reader(ran.stdout or b"\x00").length()
-        wanted = wire.sequence([wire.link(*it) for it in self.chain[:count]])
-        self.expect("the chain of `inspect chain`", ran.returncode == 0 and ran.stdout == wanted and count, f"status {ran.returncode}, {len(ran.stdout)} bytes")
+        """`inspect` finds of each member the front of this chain that it has after the first events, and nobody to blame.
+
+        Where the events are cut, a member may be down, and of those that are up one may have built more than another.
+        """
+        text, whole = self.text(most).encode(), most is None or most >= len(self.committee.log.lines)
+        counts, others = [], []
+        for number in (it.number for it in self.committee.members):
+            ran = subprocess.run([program, "chain", str(number), str(number)], input=text, capture_output=True)
+            if ran.stdout == f"inspect chain {number}: no honest member that is up\n".encode() and not whole:
+                continue
+            counts.append(wire.Reader(ran.stdout or b"\x00").length())
+            front = self.chain[: counts[-1]]
+            wanted = wire.sequence([wire.link(spelled, [it for it in seals if it[0] == number]) for spelled, seals in front])
+            if ran.returncode or ran.stdout != wanted:
+                others.append(f"member {number}: status {ran.returncode}, {len(ran.stdout)} bytes")
+        count = max(counts, default=0)
+        complete = not whole or set(counts) == {len(self.chain)}
+        self.expect("the chains of `inspect chain`", not others and complete and (count or not counts), "; ".join(others))
         ran = subprocess.run([program, "blame"], input=text, capture_output=True)
         self.expect("blame by `inspect blame`", ran.returncode == 0 and ran.stdout == b"", ran.stdout.decode())
         return count
