@@ -6,7 +6,7 @@ use Rattle.std.proofs.KnownBytes.{Appends-nil, Appends-trans, Consumes-nil, Cons
 use Rattle.outside.specs.Lists.{Journals, with_record}
 use Rattle.journal_core.specs.declared.records.Record.{Record}
 use Rattle.journal_core.specs.Records as journals
-use Rattle.protocol_spec.specs.Chain.Words.{Each}
+use Rattle.protocol_spec.proofs.ListLemmas.{each_push}
 use Rattle.scene_spec.specs.Posts.{AddsLeft}
 use Rattle.scene_spec.specs.Seats.{Seated}
 use Rattle.world_core.specs.Replies.{Accepting}
@@ -37,10 +37,6 @@ module _ (accepts : Accepting) where
 texts_push : {A : Type 0} (f : A → List ℕ) (xs : List A) (x : A) → flat_map f (xs ++ x ∷ []) ≡ flat_map f xs ++ f x
 texts_push f [] x = append-nil (f x)
 texts_push f (y ∷ xs) x = ap (λ t. f y ++ t) (texts_push f xs x) ∙ sym (append_assoc (f y) (flat_map f xs) (f x))
-
-each_push : {A : Type 0} (P : A → Type 0) (xs : List A) (x : A) → Each P xs → P x → Each P (xs ++ x ∷ [])
-each_push P [] x before last = (last, tt)
-each_push P (y ∷ xs) x before last = (before.0, each_push P xs x before.1 last)
 
 -- ---- records
 
