@@ -20,8 +20,8 @@ import time
 
 from crates import TOP, cache, kit, sources_sum, sum_of_file
 
-# Each case is one more chance to see the program while it stands.
-CASES, PAUSE = 6, 0.01
+# Each case is one more chance to see the program while it stands, for some 40 milliseconds; on a busy machine some are missed.
+CASES, PAUSE = 60, 0.01
 WEEK = 7 * 24 * 3600
 KEPT, NOT_KEPT, NOT_BUILT = "kept", "not kept", "not built"
 PR_SET_PDEATHSIG = 1

@@ -10,6 +10,7 @@ import collections
 Part = collections.namedtuple("Part", "name words programs unproved early", defaults=((), None, False))
 NOT_RUN = ("not run",)
 COMMITTEE, BOTH = ("committee",), ("committee", "inspect")
+EXAMPLES = ("example_client", "example_node", "example_file", "example_payment")
 
 PARTS = (
     Part("edits that must fail", ("tools/edits", "--check"), early=True),
@@ -34,5 +35,6 @@ PARTS = (
     Part("committee of processes", ("tools/test_processes", "--ours"), BOTH),
     Part("examples of the manual", ("tools/check_manual", "--ours"), COMMITTEE),
     Part("plain program", ("tools/baseline", "--check")),
+    Part("examples over the library", ("tools/test_examples", "--check"), EXAMPLES),
     Part("library for C and Python", ("tools/test_library", "--check")),
 )

@@ -1,14 +1,28 @@
 """Tests of the pages: their links lead somewhere, and they stay as short as they are meant to be."""
 
+import contextlib
 import glob
+import importlib.machinery
+import importlib.util
+import io
 import os
+import tempfile
 import unittest
+import unittest.mock
 
 import manual
 
 TOP = manual.TOP
 MADE = ("docs/DEFINITIONS.md", "docs/CRATES.md")
-MOST_BY_HAND, MOST_README = 220_000, 7_500
+MOST_BY_HAND, MOST_README = 212_000, 7_500
+
+
+def speed():
+    """tools/speed as a module."""
+    loader = importlib.machinery.SourceFileLoader("speed", f"{TOP}/tools/speed")
+    module = importlib.util.module_from_spec(importlib.util.spec_from_loader("speed", loader))
+    loader.exec_module(module)
+    return module
 
 
 def pages():
@@ -32,3 +46,55 @@ class Pages(unittest.TestCase):
         sizes = {path: os.path.getsize(f"{TOP}/{path}") for path in ("README.md", *(it for it in pages() if it.startswith("docs/") and it not in MADE))}
         self.assertLessEqual(sizes["README.md"], MOST_README)
         self.assertLessEqual(sum(sizes.values()), MOST_BY_HAND, sizes)
+
+
+class SpeedPage(unittest.TestCase):
+    def setUp(self):
+        self.speed = speed()
+        with open(self.speed.PAGE) as file:
+            self.page = file.read()
+
+    def test_the_page_has_a_row_for_each_schedule(self):
+        """The marks stand in it, and what stands between them is a table of the schedules, in their order."""
+        between = self.page.split(self.speed.BEGIN)[1].split(self.speed.END)[0].splitlines()
+        self.assertEqual(between[:2], self.speed.HEAD)
+        wanted = [self.speed.in_words(f"({letter}) {name}") for letter, name, _, _ in self.speed.known()]
+        self.assertEqual([line.split(" | ")[0].removeprefix("| ") for line in between[2:]], wanted)
+
+    def test_rows_replace_what_stands_between_the_marks(self):
+        row = self.speed.page_row("(d) transfers 10000", [(0.96, 152 * 1024), (0.64, 119 * 1024)])
+        written = self.speed.written_into(self.page, [row])
+        self.assertIn("\n| 10,000 transfers, each voted for by three members, certified, sent and run at once | 0.96 s | 0.64 s | 1.5 | 152 MB | 119 MB | 1.3 |\n", written)
+        self.assertNotIn("`make 2000`", written)
+        self.assertEqual(written.split(self.speed.BEGIN)[0], self.page.split(self.speed.BEGIN)[0])
+        self.assertEqual(written.split(self.speed.END)[1], self.page.split(self.speed.END)[1])
+
+    def test_a_page_without_its_marks_is_not_written(self):
+        for page in (self.page.replace(self.speed.BEGIN, ""), self.page.replace(self.speed.END, ""), self.page + self.speed.BEGIN):
+            self.assertIsNone(self.speed.written_into(page, []))
+
+    def written_by(self, texts, *words):
+        """The status of a run over stubs of two programs, and the page that it leaves."""
+        rows = [("a", "make 2000", ["make", "2000"], None)]
+        with tempfile.TemporaryDirectory() as room:
+            page = f"{room}/SPEED.md"
+            for path, text in ((page, self.page), (f"{room}/a", f"#!/bin/sh\n{texts[0]}\n"), (f"{room}/b", f"#!/bin/sh\n{texts[1]}\n")):
+                with open(path, "w") as file:
+                    file.write(text)
+                os.chmod(path, 0o755)
+            quiet = contextlib.redirect_stdout(io.StringIO()), contextlib.redirect_stderr(io.StringIO())
+            with unittest.mock.patch.object(self.speed, "PAGE", page), unittest.mock.patch.object(self.speed, "known", lambda: rows), quiet[0], quiet[1]:
+                status = self.speed.main([f"{room}/a", f"{room}/b", "--runs", "1", *words])
+            with open(page) as file:
+                return status, file.read()
+
+    def test_a_whole_run_writes_the_page(self):
+        status, page = self.written_by(("echo $2", "echo $2"), "--write")
+        self.assertEqual(status, 0)
+        self.assertEqual(len(page.split(self.speed.BEGIN)[1].split(self.speed.END)[0].splitlines()), 3)
+
+    def test_what_does_not_write_the_page(self):
+        """A run without the word, of programs that differ, or of a part of the schedules."""
+        self.assertEqual(self.written_by(("echo $2", "echo $2")), (0, self.page))
+        self.assertEqual(self.written_by(("echo $2", "echo 3"), "--write"), (1, self.page))
+        self.assertEqual(self.written_by(("echo $2", "echo $2"), "--write", "--only", "a"), (2, self.page))

@@ -39,7 +39,7 @@ goes-free writers opening (suc n) a = goes-next opening (take_free writers openi
 
 -- ---- the cuts, and what was admitted since the last mark, are what was admitted
 
--- what a mark leaves behind it stays behind it
+-- what a mark leaves after it stays after it
 drop-more : {A : Type 0} (n : ℕ) (xs front ys : List A) → front ++ drop n xs ≡ xs → length front ≡ n → front ++ drop n (xs ++ ys) ≡ xs ++ ys
 drop-more {A = A} n xs front ys e k =
     subst (λ (m : ℕ). front ++ drop m (xs ++ ys) ≡ xs ++ ys) k
@@ -47,7 +47,7 @@ drop-more {A = A} n xs front ys e k =
     (ap (λ (zs : List A). front ++ drop (length front) zs) (append_assoc front (drop n xs) ys)
     ∙ ap (λ (zs : List A). front ++ zs) (drop_all front (drop n xs ++ ys)) ∙ sym (append_assoc front (drop n xs) ys)))
 
--- the cut transactions are those admitted before the mark; where the epoch has ended, all of them
+-- the cut transactions are those admitted before the mark; if the epoch has ended, all of them
 record IsCutUp (q : Sequence) : Type 0 where
   marked : length (flat_map admitted_in q.cuts) ≡ q.admission.marked
   joined : flat_map admitted_in q.cuts ++ drop q.admission.marked q.admission.admitted ≡ q.admission.admitted

@@ -1,4 +1,4 @@
--- What the sequence of an ended epoch gives stays as it is while the sequences grow; so do the openings behind it.
+-- What the sequence of an ended epoch gives stays as it is while the sequences grow; so do the openings after it.
 use Rattle.std.proofs.Common.{refl, sym, subst, ap, ◌∙◌, arith}
 use Rattle.std.specs.Prelude.{◌≡◌, ◌<◌, ℕ, zero, suc, Bool, true, false, cond, List, [], ◌∷◌, ◌++◌, map, fold}
 use Rattle.std.specs.FinMap.{values}
@@ -35,7 +35,7 @@ module _ (r : Rules) (opening : List Object) (epoch : ℕ) where
   fold-append q [] back = refl
   fold-append q (entry ∷ front) back = fold-append (saw r opening epoch q (messages.entry.spell entry)) front back
 
-  -- entries behind the end give nothing more
+  -- entries after the end give nothing more
   pub seen-ended : (front longer : List Entry) → IsFront front longer → (seen r opening epoch (map messages.entry.spell front)).ended ≡ true
       → seen r opening epoch (map messages.entry.spell longer) ≡ seen r opening epoch (map messages.entry.spell front)
   unfolding seen

@@ -47,7 +47,7 @@ same-execution h k g d t =
     ap (λ (x : Digest). let y : Execution = record { digest = x; consumed = consumed_keys h.cert.tx; gave = g } in y) d
     ∙ ap (λ (x : Transaction). let y : Execution = record { digest = k.digest; consumed = consumed_keys x; gave = g } in y) t
 
--- the execution of a transaction, where it was executed
+-- the execution of a transaction, if it was executed
 pub execution-there : (executed : List Execution) (tx : Digest) → is_executed executed tx ≡ true → (x : Execution) × Has executed x × (x.digest ≡ tx)
 execution-there executed tx e = go (execution_of executed tx) refl e
   where

@@ -14,12 +14,12 @@ use Rattle.protocol_spec.specs.Chain.Collecting.{Collected, lacks, short, differ
 use Rattle.protocol_spec.specs.Chain.Words.{IsFront}
 use Rattle.protocol_spec.specs.Member.Calls.{Call, votes, holds, runs, closes, ends, turns, acks}
 use Rattle.world_spec.specs.Setting.{Name, Setting}
-use Rattle.world_spec.specs.World.{Seat, Made, World, Reached, finds_down, stops, answers, reached_seat, behind, called_seat, called_in, called_if, sees_on, is_honest, member_at, next_call, entries_at}
+use Rattle.world_spec.specs.World.{Seat, Made, World, Reached, finds_down, stops, answers, reached_seat, behind, called_seat, called_in, called_if, sees_on, is_honest, member_at, next_call, entries_at, called_over, armed_seat, started_seat}
 use Rattle.world_spec.specs.Names.{made_named, cert_named}
-use Rattle.world_spec.specs.Making.{made_by_line}
-use Rattle.world_spec.specs.Step.{happens, says, voted_on, fvoted, formed, formed_as, votes_collected, sent, ordered, honest_end, ordered_end, risen_if, has_ended, appended_entry, sealed_end, acked, on_seat, armed_seat, started_seat, entries_left, end_in, last_said}
+use Rattle.world_spec.specs.Making.{made_over}
+use Rattle.world_spec.specs.Step.{happens, says, voted_on, fvoted, formed, formed_as, votes_collected, sent, ordered, honest_end, ordered_end, risen_if, has_ended, appended_entry, sealed_end, acked, on_seat, entries_left, end_in, last_said, happens_over}
 
--- each epoch's entries are a front of what they become
+-- each epoch's entries are a prefix of what they become
 abbrev pub Grown : List (List Entry) → List (List Entry) → Type 0
 Grown old new = (epoch : ℕ) → IsFront (entries_at old epoch) (entries_at new epoch)
 
@@ -57,7 +57,7 @@ seat-same s w m call None = refl
 seat-same s w m call (Some seat) = behind-same s w m call seat (reached_seat s call seat)
 
 pub called-same : (s : Setting) (w : World) (m : ℕ) (call : Call) → (called_in s w m call).sequences ≡ w.sequences
-unfolding called_in
+unfolding called_over
 called-same s w m call = seat-same s w m call (slice_get w.seats m)
 
 pub called_if-same : (s : Setting) (w : World) (m : ℕ) (call : Option Call) → (called_if s w m call).sequences ≡ w.sequences
@@ -129,7 +129,7 @@ module _ (s : Setting) where
   grows-acked w m spoiled (Some t) = grows-if (is_honest w m) w _ _ (grows-called w m (acks t.digest)) (grown-same w.sequences)
 
   pub grows-line : (w : World) (e : Event) → Grown w.sequences (happens s w e).sequences
-  unfolding happens made_by_line
+  unfolding happens_over made_over
   grows-line w (event.Tx name sender spoiled epoch gas budget inputs commands) = grown-same w.sequences
   grows-line w (event.Vote m tx) = grows-voted w m (made_named w tx)
   grows-line w (event.Fvote m tx origins) = grows-fvoted w m origins (made_named w tx)

@@ -14,9 +14,9 @@ use Rattle.protocol_spec.specs.Chain.Words.{Each}
 use Rattle.protocol_spec.specs.Member.Member.{Member, state}
 use Rattle.protocol_spec.specs.Member.Calls.{Call, votes, holds, sees, runs, closes, ends, turns, acks, due}
 use Rattle.world_spec.specs.Setting.{Setting}
-use Rattle.world_spec.specs.World.{Seat, Made, World, Reached, finds_down, stops, answers, new_world, member_in, state_of, reached_seat, stopped_seat, appended, behind, called_seat, called_in, called_if, sees_on, next_call_of, next_call, numbered_call, entries_at, member_at}
+use Rattle.world_spec.specs.World.{Seat, Made, World, Reached, finds_down, stops, answers, new_world, member_in, state_of, reached_seat, stopped_seat, appended, behind, called_seat, called_in, called_if, sees_on, next_call_of, next_call, numbered_call, entries_at, member_at, called_over}
 use Rattle.world_spec.specs.Names.{made_named, cert_named}
-use Rattle.world_spec.specs.Step.{happens, entries_left}
+use Rattle.world_spec.specs.Step.{happens, entries_left, happens_over}
 use Rattle.world_spec.specs.Run.{run, world_after}
 use Rattle.world_spec.specs.Assumptions.{vote_call, send_call, ack_call, calls_of}
 use Rattle.safety_law.proofs.InWorld.{each-set, kept-line, new-seats, stopped-due, answered-due}
@@ -67,7 +67,7 @@ module _ (s : Setting) (P : List (List Entry) → List Record → Type 0)
         (kept-answer x (answered-due s (Keeps sequences) (P sequences) (λ records call x g d p. g records x d p) seat call before x e) (each_at (λ (y : Seat). P sequences y.records) w.seats m seat all at))
 
     kept-called : With sequences w.seats → With sequences (called_in s w m call).seats
-    unfolding called_in
+    unfolding called_over
     kept-called all = subst (λ (o : Option Seat). With sequences (called_seat s w m call o).seats) (sym at) (kept-behind (reached_seat s call seat) refl all)
 
   sees-entry : (w : World) (m : ℕ) (seat : Seat) → slice_get w.seats m ≡ Some seat → (ended : Bool) (e : Option Entry) → slice_get (entries_at w.sequences (member_in s seat).epoch) (member_in s seat).sequence.number ≡ e → AllSeats w
@@ -106,7 +106,7 @@ module _ (s : Setting) (P : List (List Entry) → List Record → Type 0)
   keeps-acked w (Some t) = (λ records x d p. step w.sequences records (acks t.digest) x tt d p, tt)
 
   kept-sees : (w : World) (m entries : ℕ) → AllSeats w → AllSeats (happens s w (event.See m entries))
-  unfolding happens
+  unfolding happens_over
   kept-sees w m entries all = sees-all (min entries (entries_left w (member_at s w m))) w m all
 
   kept : (w : World) (e : Event) → AllSeats w → AllSeats (happens s w e)

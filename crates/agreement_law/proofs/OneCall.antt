@@ -1,4 +1,4 @@
--- What a call on one member keeps of all seats, where the seat that it reaches is known.
+-- What a call on one member keeps of all seats, if the seat that it reaches is known.
 use Rattle.std.proofs.Common.{refl}
 use Rattle.std.specs.Prelude.{◌≡◌, ℕ, Bool, true, false, List, [], ◌∷◌, ◌++◌, slice_get, Option, Some, None}
 use Rattle.journal_core.specs.declared.records.Record.{Record}
@@ -6,7 +6,7 @@ use Rattle.protocol_spec.proofs.ListLemmas.{each_at}
 use Rattle.protocol_spec.specs.Chain.Words.{Each}
 use Rattle.protocol_spec.specs.Member.Calls.{Call, due}
 use Rattle.world_spec.specs.Setting.{Setting}
-use Rattle.world_spec.specs.World.{Seat, World, Reached, finds_down, stops, answers, member_in, reached_seat, stopped_seat, appended, behind, called_seat, called_in}
+use Rattle.world_spec.specs.World.{Seat, World, Reached, finds_down, stops, answers, member_in, reached_seat, stopped_seat, appended, behind, called_seat, called_in, called_over}
 use Rattle.safety_law.proofs.InWorld.{each-set, stopped-due, answered-due}
 
 module _ (s : Setting) (P : List Record → Type 0) (w : World) (call : Call)
@@ -35,5 +35,5 @@ module _ (s : Setting) (P : List Record → Type 0) (w : World) (call : Call)
   seat-keeps m (Some seat) at all = behind-keeps m seat at (reached_seat s call seat) refl all
 
   pub one-call : (m : ℕ) → AllSeats w.seats → AllSeats (called_in s w m call).seats
-  unfolding called_in
+  unfolding called_over
   one-call m all = seat-keeps m (slice_get w.seats m) refl all

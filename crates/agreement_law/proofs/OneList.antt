@@ -1,4 +1,4 @@
--- What members have built, at whatever moments and in whatever epochs, are fronts of one list of checkpoints.
+-- What members have built, at whatever moments and in whatever epochs, are prefixes of one list of checkpoints.
 use Rattle.std.proofs.Common.{refl, sym, subst, ap, ◌∙◌, arith, append_assoc, append-nil}
 use Rattle.std.proofs.lemmas.Bool.{cond-true}
 use Rattle.std.proofs.lemmas.List.{length-append, length-drop, length-map, take-append-le, drop-append-le}

@@ -1,4 +1,4 @@
--- Every member opens each epoch with what the epochs before left: line by line of a run, whose fronts are honest too.
+-- Every member opens each epoch with what the epochs before left: line by line of a run, whose prefixes are honest too.
 use Rattle.std.proofs.Common.{refl, sym, subst, ap, ◌∙◌, arith, append_assoc, append-nil}
 use Rattle.std.specs.Prelude.{◌≡◌, ℕ, zero, suc, min, List, [], ◌∷◌, ◌++◌, slice_get, Option, Some, None, option_map, option_and_then}
 use Rattle.chain_messages.specs.declared.messages.Certificate.{Certificate}
@@ -14,7 +14,7 @@ use Rattle.protocol_spec.specs.Member.Calls.{Call, turns, due}
 use Rattle.world_spec.specs.Setting.{Setting}
 use Rattle.world_spec.specs.World.{Seat, Made, World, new_world, member_in, called_if, state_of, next_call_of, next_call, next_entry, numbered_call, entries_at, member_at}
 use Rattle.world_spec.specs.Names.{made_named, cert_named}
-use Rattle.world_spec.specs.Step.{happens, entries_left}
+use Rattle.world_spec.specs.Step.{happens, entries_left, happens_over}
 use Rattle.world_spec.specs.Openings.{opening_at}
 use Rattle.world_spec.specs.Run.{run, world_after}
 use Rattle.world_spec.specs.Assumptions.{vote_call, send_call, call_list, see_calls, ack_call, calls_of, IsHonestRun}
@@ -31,7 +31,7 @@ use Rattle.agreement_law.proofs.Ended.{more-left, same-opening, same-past}
 use Rattle.agreement_law.proofs.OneCall.{one-call}
 use Rattle.agreement_law.proofs.Turned.{turn-left}
 
--- ---- the calls of a line that is no turn
+-- ---- the calls of a line that is not a turn
 
 abbrev NoTurn : Call → Type 0
 NoTurn call = appended_by call ≡ Some a_turn → ⊥
@@ -63,7 +63,7 @@ pub no-turn-acked : (t : Option Made) → Each NoTurn (ack_call t)
 no-turn-acked None = tt
 no-turn-acked (Some t) = (λ q. absurd (cc), tt)
 
--- ---- a record that is no turn leaves the epoch and its opening
+-- ---- a record that is not a turn leaves the epoch and its opening
 
 module _ (s : Setting) where
   abbrev Left : List (List Entry) → List Record → Type 0
@@ -112,7 +112,7 @@ module _ (s : Setting) where
   other-left w e never all = grown-left w e (kept-line s NoTurn (Left w.sequences) (call-left w.sequences) w e never all)
 
   turn-line : (w : World) → TurnsLeft w → (m : ℕ) → WorldLeft w → AllLeft w.sequences (happens s w (event.Turn m)).seats
-  unfolding happens
+  unfolding happens_over
   turn-line w turn m all = one-call s (Left w.sequences) w turns turn m all
 
   line-left : (w : World) (e : Event) → TurnsLeft w → WorldLeft w → WorldLeft (happens s w e)

@@ -1,4 +1,4 @@
--- The steps of an executed front are orderly.
+-- The steps of an executed prefix are orderly.
 use Rattle.std.proofs.Common.{inl, inr, refl, sym, subst, ap, ◌∙◌, append_assoc, arith}
 use Rattle.std.specs.Prelude.{◌≡◌, ◌⊎◌, ◌<◌, ◌≤◌, ℕ, zero, suc, Bool, true, false, ◌||◌, List, [], ◌∷◌, ◌++◌, map, zip, slice_get, Some, None}
 use Rattle.std.specs.List.{list_any}
@@ -181,7 +181,7 @@ module _ (s : Setting) (events : List Event) (honest : IsHonestRun s events) (n 
     pub orderly-at : IsOrderly m.opening (map (step_of m) before) (step_of m a)
     orderly-at = record { fit = step.fit; sources = from; apart = keys-apart; fresh = fresh; once = touched-once }
 
-  -- ---- the whole front
+  -- ---- the whole prefix
 
   along-steps : (before xs back : List Admitted) → m.sequence.admission.admitted ≡ (before ++ xs) ++ back → Along (IsInOrder m.opening) [] before → Along (IsInOrder m.opening) before xs
       → ((b : Admitted) → Has before b → IsStepOf m b) → ((b : Admitted) → Has xs b → IsStepOf m b)

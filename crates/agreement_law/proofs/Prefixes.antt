@@ -1,4 +1,4 @@
--- Admission and the cuts only grow, and a member has seen a front of its epoch's sequence.
+-- Admission and the cuts only grow, and a member has seen a prefix of its epoch's sequence.
 use Rattle.std.proofs.Common.{inl, inr, refl, sym, subst, ap, ◌∙◌, append_assoc}
 use Rattle.std.specs.Prelude.{◌≡◌, ◌⊎◌, ℕ, zero, suc, ◌+◌, Bool, true, false, cond, not, ◌==◌, List, [], ◌∷◌, ◌++◌, map, fold, find, length, slice_get, Option, Some, None}
 use Rattle.chain_types.specs.declared.objects.Object.{Object}
@@ -28,7 +28,7 @@ use Rattle.agreement_law.proofs.InSequences.{Comes, in_sequences}
 
 -- ---- lists
 
--- of two fronts of one list the one is a front of the other
+-- of two prefixes of one list the one is a prefix of the other
 pub either-front : {A : Type 0} (xs ys us vs : List A) → xs ++ us ≡ ys ++ vs → IsFront xs ys ⊎ IsFront ys xs
 either-front [] ys us vs e = inl (ys, refl)
 either-front (x ∷ xs) [] us vs e = inr (x ∷ xs, refl)
@@ -44,7 +44,7 @@ either-front {A = A} (x ∷ xs) (y ∷ ys) us vs e = go (either-front xs ys us v
     go (inl (more, h)) = inl (more, rw (h, heads x y (xs ++ us) (ys ++ vs) e) refl)
     go (inr (more, h)) = inr (more, rw (h, heads x y (xs ++ us) (ys ++ vs) e) refl)
 
--- the element behind a front is the first of the rest
+-- the element after a prefix is the first of the rest
 next-of : {A : Type 0} (front rest : List A) (e : A) → slice_get (front ++ rest) (length front) ≡ Some e → (more : List A) × (rest ≡ e ∷ more)
 next-of [] [] e h = absurd (cc)
 next-of [] (x ∷ rest) e h = (rest, ap (λ (z : _). z ∷ rest) (same x e h))

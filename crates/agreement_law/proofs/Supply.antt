@@ -64,7 +64,7 @@ delivers-run s total (e ∷ events) w h = each_join (Delivers s.rules total) (ca
 -- ---- what a call gives
 
 module _ (r : Rules) (total : List Certificate) where
-  -- where the refusal is none
+  -- if the refusal is none
   new-given : (m : Member) (d c : Certificate) (closed : Bool) (refusal : Option CertRefusal) (fork : Option Fork) → cert_refusal r d ≡ refusal → d.tx.epoch ≡ m.epoch → Has total d
       → where_true (is_hold_kept (unless_refused (first_some (where_true closed no_hold.Closed ∷ option_map no_hold.Cert refusal ∷ option_map (λ (f : Fork). no_hold.Fork f.key f.first f.second) fork ∷ [])) true)) (record_as.Hold d) ≡ Some (record_as.Hold c)
       → IsGiven r total m.epoch (transaction_digest c.tx) c

@@ -1,4 +1,4 @@
--- A member turns where its epoch has ended and all that it admitted is done; it opens the next epoch with what one thread
+-- A member turns if its epoch has ended and all that it admitted is done; it opens the next epoch with what one thread
 -- leaves.
 use Rattle.std.proofs.Common.{inl, inr, refl, sym, subst, ap, ◌∙◌, arith, append-nil}
 use Rattle.std.specs.Prelude.{◌≡◌, ◌⊎◌, ◌<◌, ◌+◌, ℕ, zero, suc, Bool, true, List, [], ◌∷◌, map, flat_map, slice_get, Option, Some, None}

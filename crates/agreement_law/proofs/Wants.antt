@@ -108,7 +108,7 @@ module _ (opening : List Object) (before : List Admitted) (c : Certificate) (id 
       go false t (inl e) rest = absurd (let s = subst (λ (z : ObjectId). id_eq z id ≡ true) (sym (same-id e)) (id_self id) in cc)
 
 module _ (opening : List Object) (front back : List Admitted) (adm : Admission) (a : Admitted) (split : adm.admitted ≡ front ++ (a ∷ back)) (next : IsInOrder opening front a) where
-  -- what is assigned to an admitted transaction is what admission assigned behind those before it
+  -- what is assigned to an admitted transaction is what admission assigned after those before it
   pub assigned-is : assigned_of adm a.digest ≡ Some (assignments opening front a.cert)
   unfolding assigned_of admit
   assigned-is =

@@ -29,7 +29,7 @@ abbrev pub MembersFollowTheSequence : Type 0
 MembersFollowTheSequence = (s : Setting) (events : List Event) (m : ℕ) (seat : Seat) → slice_get (world_after s events).seats m ≡ Some seat
     → IsTaken s.rules (entries_at (world_after s events).sequences (member_in s seat).epoch) (member_in s seat)
 
--- the admitted transactions and the cuts of the one are fronts of those of the other
+-- the admitted transactions and the cuts of the one are prefixes of those of the other
 pub record IsEarlier (q p : Sequence) : Type 0 where
   pub admitted : IsFront q.admission.admitted p.admission.admitted
   pub cuts : IsFront q.cuts p.cuts

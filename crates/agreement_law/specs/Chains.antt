@@ -16,7 +16,7 @@ use Rattle.sequence_law.specs.Orderly.{Step, gave, tx_of, AreApart}
 use Rattle.agreement_law.specs.Steps.{step_of}
 use Rattle.agreement_law.specs.Orderly.{IsExecutedFront}
 
--- what stands under each id behind these steps
+-- what stands under each id after these steps
 abbrev pub standing : List Object → List Step → Objects
 standing opening before = (fold_all (map_of opening) (map tx_of before)).map
 

@@ -14,7 +14,7 @@ use Rattle.world_spec.specs.Setting.{Setting}
 use Rattle.world_spec.specs.World.{Seat, member_in}
 use Rattle.world_spec.specs.Run.{world_after}
 
--- Behind these executions, one of a held certificate, on the objects that it wants, which were there and fit it;
+-- After these executions, one of a held certificate, on the objects that it wants, which were there and fit it;
 -- no key is written twice. If it has a shared input it was admitted.
 pub record IsExplained (b : Books) (before : List Execution) (x : Execution) : Type 0 where
   pub of : Held

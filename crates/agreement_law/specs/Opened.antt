@@ -32,7 +32,7 @@ abbrev pub GasHoldsIn : List Object → Sequence → Type 0
 GasHoldsIn opening q = GasHolds (opened_with (map_of opening)) (checkpointed q)
 
 -- An epoch that opened with these objects, and what its sequence gave: it has ended, the objects have different ids,
--- and one thread executes all checkpointed transactions in order; where gas coins hold amounts, each may run where it stands, with new ids.
+-- and one thread executes all checkpointed transactions in order; if gas coins hold amounts, each may run where it stands, with new ids.
 pub record IsOver (opening : List Object) (q : Sequence) : Type 0 where
   pub ended : q.ended ≡ true
   pub apart : AreApart opening

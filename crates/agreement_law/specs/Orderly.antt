@@ -35,7 +35,7 @@ pub record IsExecutedFront (m : Member) (front : List Admitted) : Type 0 where
   pub is_front : IsFront front m.sequence.admission.admitted
   pub executed : Each (λ (a : Admitted). is_executed m.executed a.digest ≡ true) front
 
--- the steps of an executed front are orderly
+-- the steps of an executed prefix are orderly
 abbrev pub StepsOrderly : Type 0
 StepsOrderly = (s : Setting) (events : List Event) → IsHonestRun s events → AreApart s.opening
     → (m : ℕ) (seat : Seat) → slice_get (world_after s events).seats m ≡ Some seat

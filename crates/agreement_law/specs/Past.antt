@@ -17,7 +17,7 @@ use Rattle.agreement_law.specs.Checkpointed.{admitted_in}
 abbrev pub items_of_thread : List Object → List Cut → List Item
 items_of_thread opening cuts = map item_with (zip (flat_map admitted_in cuts) (fold_all (map_of opening) (flat_map txs_in cuts)).effects)
 
--- the checkpoints of these cuts, behind those before: each takes as many of the items as its cut has transactions
+-- the checkpoints of these cuts, after those before: each takes as many of the items as its cut has transactions
 abbrev pub checkpoints_with : ℕ → List Item → List Checkpoint → List Cut → List Checkpoint
 checkpoints_with epoch items before [] = before
 checkpoints_with epoch items before (c ∷ cs) = checkpoints_with epoch (drop (length c.txs) items) (before ++ record {

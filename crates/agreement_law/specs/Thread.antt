@@ -23,7 +23,7 @@ transaction_of a = a.cert.tx
 abbrev pub effects_in_execution : Execution → Effects
 effects_in_execution x = x.gave.effects
 
--- the member's own effects of a transaction, none where it did not execute it
+-- the member's own effects of a transaction, none if it did not execute it
 abbrev pub effects_at : Member → Admitted → Option Effects
 effects_at m a = option_map effects_in_execution (execution_of m.executed a.digest)
 

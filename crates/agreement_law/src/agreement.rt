@@ -10,12 +10,12 @@ pub fn members_follow_the_sequence()
 {}
 
 /// Of two members of one epoch with equal opening objects, the admitted transactions and the cuts of the one are
-/// fronts of those of the other.
+/// prefixes of those of the other.
 pub fn one_sequence()
     ensures { OneSequence }
 {}
 
-/// What a member admitted is in order: distinct, each behind its origins, with the versions that admission assigns
+/// What a member admitted is in order: distinct, each after its origins, with the versions that admission assigns
 /// there; and each was delivered in the run, is valid and of the member's epoch.
 pub fn every_admission()
     ensures { EveryAdmission }
@@ -32,7 +32,7 @@ pub fn executions_explained()
     ensures { ExecutionsExplained }
 {}
 
-/// Where the certificates of one digest are alike, two members of one epoch that opened it with equal objects give the
+/// If the certificates of one digest are alike, two members of one epoch that opened it with equal objects give the
 /// same for each transaction that both executed, in whatever order they executed.
 pub fn executions_agree()
     ensures { ExecutionsAgree }

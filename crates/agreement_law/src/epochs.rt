@@ -37,7 +37,7 @@ pub fn built_is_of_thread()
 {}
 
 /// So all members build one list of checkpoints: of what two of them have built, at whatever two moments and in whatever
-/// epochs, the one is a front of the other. Who follows one honest member never takes a checkpoint back by turning to
+/// epochs, the one is a prefix of the other. Anyone who follows one honest member never takes a checkpoint back by turning to
 /// another.
 pub fn one_list_of_checkpoints()
     ensures { OneListOfCheckpoints }
@@ -65,7 +65,7 @@ pub fn set_up_is_backed()
     ensures { SetUpIsBacked }
 {}
 
-/// Where no line of the set-up makes a cap of the currency of gas, it has none.
+/// If no line of the set-up makes a cap of the currency of gas, it has none.
 pub fn set_up_has_no_gas_cap()
     ensures { SetUpHasNoGasCap }
 {}

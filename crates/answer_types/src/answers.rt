@@ -16,7 +16,7 @@ pub struct Assigned {
     pub mutable: bool,
 }
 
-/// A vote. `fresh` is false where the member had voted for this transaction before.
+/// A vote. `fresh` is false if the member had voted for this transaction before.
 #[derive(Debug, Drop)]
 pub struct Voted {
     pub sealed: Sealed,
@@ -57,7 +57,7 @@ pub enum SeenWhat {
         tx: Digest,
         id: ObjectId,
     },
-    /// What was taken right behind the mark.
+    /// What was taken right after the mark.
     Commit {
         admitted: Seq<Digest>,
         dropped: Seq<Digest>,
@@ -67,7 +67,7 @@ pub enum SeenWhat {
         member: u32,
         weight: u64,
     },
-    /// The same, where the epoch ends here.
+    /// The same, if the epoch ends here.
     Ended {
         member: u32,
         weight: u64,
@@ -83,7 +83,7 @@ pub struct Seen {
 }
 
 /// A held certificate that a run left although what it waited for is executed: the first version
-/// that is not there, or none where it does not fit.
+/// that is not there, or none if it does not fit.
 #[derive(Clone, Copy, Debug, PartialEq, Eq)]
 pub struct Left {
     pub tx: Digest,

@@ -1,6 +1,6 @@
-//! Crashes behind each device call of three runs: one of three short records, and what the members of two worked schedules
+//! Crashes after each device call of three runs: one of three short records, and what the members of two worked schedules
 //! keep. The records of these are those of an independent script, which has their digests and seals from SHA-256 and their
-//! spellings from the rules.
+//! encodings from the rules.
 
 use crate::same::same;
 use disk_log::{DiskLog, MemDisk};
@@ -8,11 +8,11 @@ use outside::Keeper;
 use std::alloc::Global;
 use wire_bcs::OutOfMemory;
 
-/// A record: its member, the nine bytes that stand in front of it in the file, which are its gate, its length and its
+/// A record: its member, the nine bytes that stand before it in the file, which are its gate, its length and its
 /// member, and its bytes as hexadecimal digits.
 type Row = (u32, [u8; 9], &'static str);
 
-/// A vote for t1, behind a transaction with 500 for bob.
+/// A vote for t1, after a transaction with 500 for bob.
 const VOTE: &str =
     "0000000000000000008664e69e5d6097e16cbe321bca1759cc2f4e908a4045089a58592cfd335e41f0805c8476ced89a9d1feb86\
 c99137b7049dcfc88a198c062a07a3458d16584c40010000000000000072955c7862d0b42671fb1238e910ac9487c4625bbd99f8\
@@ -34,7 +34,7 @@ const RAN: &str =
 d3a4a92ce254f0747ad1e41a88a2";
 
 /// A transfer among four members: three vote, and member 0 holds the certificate and executes it. Each record has what
-/// stands in front of it in the file.
+/// stands before it in the file.
 const TRANSFER: &[Row] = &[
     (0, [1, 183, 0, 0, 0, 0, 0, 0, 0], VOTE),
     (1, [1, 183, 0, 0, 0, 1, 0, 0, 0], VOTE),
@@ -123,7 +123,7 @@ struct Run {
     file: Vec<u8>,
 }
 
-/// Adds a record to the run, and to its file behind what stands in front of it there.
+/// Adds a record to the run, and to its file after what stands before it there.
 fn add(alloc: Global, run: &mut Run, row: &Row) -> Result<(), OutOfMemory> {
     let (member, front, digits) = *row;
     let Ok(bytes) = hex::decode(alloc, digits) else {
@@ -233,7 +233,7 @@ fn runs_on(alloc: Global, run: &Run, disk: MemDisk, acknowledged: u64) -> bool {
         && found - acknowledged <= 1
 }
 
-/// Whether the run goes on behind a crash at this call.
+/// Whether the run goes on after a crash at this call.
 fn is_survived(alloc: Global, run: &Run, call: u64, choice: u64) -> Result<bool, OutOfMemory> {
     let (acknowledged, disk) = run_to(alloc, run.records.as_slice(), call)?;
     let disk = disk.crash(choice)?;
@@ -243,9 +243,9 @@ fn is_survived(alloc: Global, run: &Run, call: u64, choice: u64) -> Result<bool,
 /// Numbers of crashes. Of the places that were written or tried since the last sync, 0 leaves all as they were, 4 all as
 /// written, and 8 another byte, 255, in all. With 1 and 2 the first of them is as written or 255, and the file ends there
 /// unless it was longer; with 3 and 5 it is as it was or 255 and the others are as written; with 6 and 7 it is as it was or
-/// as written and the others are 255. Each 9 more move one place from the others to the first ones: 70 and 79 write a front
+/// as written and the others are 255. Each 9 more move one place from the others to the first ones: 70 and 79 write a prefix
 /// of eight and nine places, up to the record, and leave 255 in its place; 73 lets the file end there; 907 and 1803 leave
-/// 255 or the end in the middle of a long one. With the greater numbers all are 1, an open gate, where a record of this
+/// 255 or the end in the middle of a long one. With the greater numbers all are 1, an open gate, if a record of this
 /// size is written: of 66, 183 and 292 bytes.
 const TRANSFER_CHOICES: &[u64] = &[
     0, 1, 2, 3, 4, 5, 6, 7, 8, 10, 70, 73, 75, 79, 82, 907, 1803, 171458, 438920, 688094,
@@ -257,13 +257,13 @@ const EPOCHS_CHOICES: &[u64] = &[
     489212,
 ];
 
-/// The same for the short run: 10 writes a front of two places, 73 one of nine; at 22868, 25154 and 27440 all are 1, an
-/// open gate, where they are 10, 11 or 12.
+/// The same for the short run: 10 writes a prefix of two places, 73 one of nine; at 22868, 25154 and 27440 all are 1, an
+/// open gate, if they are 10, 11 or 12.
 const SHORT_CHOICES: &[u64] = &[
     0, 1, 2, 3, 4, 5, 6, 7, 8, 10, 12, 37, 39, 70, 73, 75, 79, 82, 22868, 25154, 27440, 999999996,
 ];
 
-/// The first of these choices such that the run does not go on behind the crash at this call.
+/// The first of these choices such that the run does not go on after the crash at this call.
 fn first_lost_at(
     alloc: Global,
     run: &Run,
@@ -278,7 +278,7 @@ fn first_lost_at(
     Ok(None)
 }
 
-/// The first call and choice such that the run does not go on behind the crash.
+/// The first call and choice such that the run does not go on after the crash.
 fn first_lost(
     alloc: Global,
     run: &Run,
@@ -293,7 +293,7 @@ fn first_lost(
     Ok(None)
 }
 
-/// How many records are acknowledged where this call of the disk fails.
+/// How many records are acknowledged if this call of the disk fails.
 fn acknowledged(alloc: Global, rows: &[Row], call: u64) -> Result<u64, OutOfMemory> {
     let run = run_of(alloc, rows)?;
     let (acknowledged, disk) = run_to(alloc, run.records.as_slice(), call)?;
@@ -301,7 +301,7 @@ fn acknowledged(alloc: Global, rows: &[Row], call: u64) -> Result<u64, OutOfMemo
     Ok(acknowledged)
 }
 
-/// The first call and choice such that the run of these records does not go on behind the crash.
+/// The first call and choice such that the run of these records does not go on after the crash.
 fn lost(
     alloc: Global,
     rows: &[Row],
@@ -327,7 +327,7 @@ fn runs_go_on_behind_each_crash(rt: HostRuntime) {
     same(&rt, lost(alloc, EPOCHS, 40, EPOCHS_CHOICES), Ok(None));
 }
 
-/// Whether a crash behind this call of the short run leaves these bytes.
+/// Whether a crash after this call of the short run leaves these bytes.
 fn leaves(alloc: Global, call: u64, choice: u64, image: &[u8]) -> Result<bool, OutOfMemory> {
     let run = run_of(alloc, SHORT)?;
     let (_acknowledged, disk) = run_to(alloc, run.records.as_slice(), call)?;
@@ -339,17 +339,17 @@ fn leaves(alloc: Global, call: u64, choice: u64, image: &[u8]) -> Result<bool, O
 
 /// Calls of the short run, choices, and what a crash leaves.
 const IMAGES: &[(u64, u64, &[u8])] = &[
-    // The fifth call is the sync behind the first record, whose gate is closed: ten bytes are not stable.
+    // The fifth call is the sync after the first record, whose gate is closed: ten bytes are not stable.
     (5, 0, &[0]),
     (5, 10, &[0, 1, 0]),
     (5, 3, &[0, 0, 0, 0, 0, 0, 0, 0, 0, 5, 0]),
     (5, 4, &[0, 1, 0, 0, 0, 0, 0, 0, 0, 5, 0]),
     (5, 22868, &[0, 1, 1, 1, 1, 1, 1, 1, 1, 1, 1]),
-    // The seventh call is the sync behind the gate of the first record: it is old, new or another.
+    // The seventh call is the sync after the gate of the first record: it is old, new or another.
     (7, 0, &[0, 1, 0, 0, 0, 0, 0, 0, 0, 5, 0]),
     (7, 1, &[1, 1, 0, 0, 0, 0, 0, 0, 0, 5, 0]),
     (7, 2, &[255, 1, 0, 0, 0, 0, 0, 0, 0, 5, 0]),
-    // Behind it the record is stable, and the next write is tried.
+    // After it the record is stable, and the next write is tried.
     (8, 0, &[1, 1, 0, 0, 0, 0, 0, 0, 0, 5, 0]),
 ];
 

@@ -61,7 +61,7 @@ fn add_inputs(alloc: Global, inputs: &mut Seq<Input>, input: Input) -> Result<()
     }
 }
 
-/// Pure bytes and, behind them, this input.
+/// Pure bytes and, after them, this input.
 fn inputs_of(alloc: Global, input: Input) -> Result<Seq<Input>, OutOfMemory> {
     let mut inputs = Seq::new(alloc);
     match add_inputs(alloc, &mut inputs, input) {
@@ -78,7 +78,7 @@ fn fits_all(alloc: Global, tx: &Transaction, objects: &[Object]) -> Result<bool,
     Ok(fits(tx, &objects))
 }
 
-/// Whether the objects fit alice's transaction with a budget of 2000, this gas coin and, behind Pure
+/// Whether the objects fit alice's transaction with a budget of 2000, this gas coin and, after Pure
 /// bytes, this input.
 fn fit(alloc: Global, gas: &Object, input: Input, objects: &[Object]) -> Result<bool, OutOfMemory> {
     let inputs = inputs_of(alloc, input)?;

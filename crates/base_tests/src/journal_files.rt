@@ -18,7 +18,7 @@ fn number_of(answer: Result<(), LogRefusal>) -> u8 {
 }
 
 /// How many records of members 0 and 1 an opening finds; 100 and the place of a bad member, 200
-/// where it was refused otherwise.
+/// if it was refused otherwise.
 fn found(alloc: Global, contents: &[u8]) -> Result<(u64, u64), OutOfMemory> {
     if contents.len() >= 1 << 63 {
         return Ok((200, 0));
@@ -49,36 +49,36 @@ fn counts(log: DiskLog<MemDisk>) -> (u64, u64) {
     both
 }
 
-/// A record of member 1 with the bytes 7 and 8, behind a gate, and the next gate.
+/// A record of member 1 with the bytes 7 and 8, after a gate, and the next gate.
 const ONE: &[u8] = &[1, 2, 0, 0, 0, 1, 0, 0, 0, 7, 8, 0];
 
-/// The same behind a closed gate.
+/// The same after a closed gate.
 const CLOSED: &[u8] = &[0, 2, 0, 0, 0, 1, 0, 0, 0, 7, 8, 0];
 
-/// The same behind a gate of which something else came through.
+/// The same after a gate of which something else came through.
 const ODD: &[u8] = &[255, 2, 0, 0, 0, 1, 0, 0, 0, 7, 8, 0];
 
-/// A torn record behind a closed gate.
+/// A torn record after a closed gate.
 const TORN: &[u8] = &[0, 1, 1, 1, 1, 1, 1, 1];
 
-/// A record of member 0 with the byte 5, behind a gate, and the next gate.
+/// A record of member 0 with the byte 5, after a gate, and the next gate.
 const FIVE: &[u8] = &[1, 1, 0, 0, 0, 0, 0, 0, 0, 5, 0];
 
 /// Files, and how many records of members 0 and 1 an opening finds in them.
 const FILES: &[(&[u8], (u64, u64))] = &[
-    // Behind the first write and its sync of an append: anything behind the closed gate.
+    // After the first write and its sync of an append: anything after the closed gate.
     (&[0], (0, 0)),
     (CLOSED, (0, 0)),
     (TORN, (0, 0)),
-    // Behind the write of the gate: any gate, with all that is behind it.
+    // After the write of the gate: any gate, with all that is after it.
     (ODD, (0, 0)),
     (ONE, (0, 1)),
     (&[0, 1, 0, 0, 0, 0, 0, 0, 0, 5, 0], (0, 0)),
-    // A member that is none of two; a length that goes past the end; no gate behind the record.
+    // A member that is none of two; a length that goes past the end; no gate after the record.
     (&[1, 1, 0, 0, 0, 2, 0, 0, 0, 5, 0], (100, 0)),
     (&[1, 255, 255, 255, 255, 0, 0, 0, 0, 5, 0], (0, 0)),
     (&[1, 1, 0, 0, 0, 1, 0, 0, 0, 5], (0, 0)),
-    // What stands behind the gate that ends the records means nothing.
+    // What stands after the gate that ends the records means nothing.
     (&[1, 0, 0, 0, 0, 0, 0, 0, 0, 0, 1, 0, 0, 0, 0], (1, 0)),
 ];
 
@@ -89,7 +89,7 @@ fn an_opening_finds_what_counts(rt: HostRuntime) {
     }
 }
 
-/// What an append is answered (9 where there was none), the bytes that the disk has then, and how many records of members 0
+/// What an append is answered (9 if there was none), the bytes that the disk has then, and how many records of members 0
 /// and 1 an opening finds in them.
 #[derive(Drop)]
 struct Left {
@@ -143,8 +143,8 @@ const APPENDS: &[Row] = &[
     (&[1], &[5], &[7], 4, &[0], (0, 0)),
     // The opening of an empty file makes three calls, so the fifth is the first sync of the append.
     (&[], &[5], &[7, 8], 4, CLOSED, (0, 0)),
-    // Behind the first write and its sync the record in progress does not count, whole or torn; nor behind a gate of which
-    // something else came through. Behind the open gate it does.
+    // After the first write and its sync the record in progress does not count, whole or torn; nor after a gate of which
+    // something else came through. After the open gate it does.
     (
         CLOSED,
         &[],
@@ -172,12 +172,12 @@ const APPENDS: &[Row] = &[
     (ONE, &[], &[9], 0, ONE_AND_NINE, (0, 2)),
 ];
 
-/// The record of the bytes 7 and 8, and one of the byte 9 behind it.
+/// The record of the bytes 7 and 8, and one of the byte 9 after it.
 const ONE_AND_NINE: &[u8] = &[
     1, 2, 0, 0, 0, 1, 0, 0, 0, 7, 8, 1, 1, 0, 0, 0, 1, 0, 0, 0, 9, 0,
 ];
 
-/// Whether the row holds.
+/// Whether appending to the row's contents gives what the row says.
 fn is_left(alloc: Global, row: &Row) -> Result<bool, OutOfMemory> {
     let (contents, failing, bytes, answer, file, found) = *row;
     let left = left_by(alloc, contents, failing, bytes)?;
@@ -193,7 +193,7 @@ fn an_append_leaves_its_record(rt: HostRuntime) {
     }
 }
 
-/// Appends the byte 5 as a record of member 0, and once more where it was refused.
+/// Appends the byte 5 as a record of member 0, and once more if it was refused.
 fn appended_twice(log: DiskLog<MemDisk>) -> ((u8, u8), MemDisk) {
     let mut log = log;
     if log.members() < 1 {
@@ -208,8 +208,8 @@ fn appended_twice(log: DiskLog<MemDisk>) -> ((u8, u8), MemDisk) {
     ((first, second), log.into_disk())
 }
 
-/// What the log of an empty disk answers to a record of member 0, and to a second one behind a first that was refused (9
-/// where there was none); whether the record then stands in the file; and what an opening finds.
+/// What the log of an empty disk answers to a record of member 0, and to a second one after a first that was refused (9
+/// if there was none); whether the record then stands in the file; and what an opening finds.
 fn twice_left(alloc: Global, failing: &[u64]) -> Result<((u8, u8), bool, (u64, u64)), OutOfMemory> {
     let disk = MemDisk::new(alloc, &[], failing)?;
     let (answers, disk) = match DiskLog::open(alloc, disk, 2) {
@@ -232,7 +232,7 @@ fn a_log_is_shut_behind_a_fault(rt: HostRuntime) {
     );
 }
 
-/// Two appends of a run on an empty disk, 0 where they were kept, 1 at a fault, 2 for want of
+/// Two appends of a run on an empty disk, 0 if they were kept, 1 at a fault, 2 for running out of
 /// memory; and how many records of member 1 an opening of the same disk then finds.
 fn run_left(alloc: Global, failing: &[u64]) -> Result<(u8, u8, u64), OutOfMemory> {
     let disk = MemDisk::new(alloc, &[], failing)?;
@@ -266,7 +266,7 @@ fn kept_as(answer: Result<(), OutFault>) -> u8 {
 
 #[test]
 fn the_log_of_a_run(rt: HostRuntime) {
-    // A fault of the disk is a fault, and the log that is shut behind it gives no room.
+    // A fault of the disk is a fault, and the log that is shut after it gives no room.
     same(&rt, run_left(rt.alloc(), &[]), Ok((0, 0, 2)));
     same(&rt, run_left(rt.alloc(), &[5]), Ok((1, 2, 0)));
 }

@@ -80,7 +80,7 @@ fn line_at(place: usize) -> Line {
     }
 }
 
-/// Whether the line is printed so.
+/// Whether the line is printed as wanted.
 fn prints(alloc: Global, line: Line, want: &str) -> bool {
     let mut out = Seq::new(alloc);
     let printed = print_line(&line, &mut out).is_ok();
@@ -107,7 +107,7 @@ fn mark(alloc: Global) -> Result<Line, OutOfMemory> {
     Ok(entry(text))
 }
 
-/// Bytes that are no transaction, though a line itself made them.
+/// Bytes that are not a transaction, though a line itself made them.
 fn unread(alloc: Global) -> Result<Line, OutOfMemory> {
     let (tx, text) = (
         Seq::from_slice(alloc, b"t1")?,

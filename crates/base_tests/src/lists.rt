@@ -4,7 +4,7 @@ use crate::same::same;
 use std::alloc::Global;
 use wire_bcs::{Duplicate, OutOfMemory, Seq};
 
-/// The list 7, 8 with 9 in the place of 7; what stood there; its copy; what a list with more behind it gives back.
+/// The list 7, 8 with 9 in the place of 7; what stood there; its copy; what a list with more after it gives back.
 type Told = (u64, i32, Vec<i32>, Option<i32>, Vec<i32>);
 
 /// Adds to the list and takes its last item off.

@@ -40,7 +40,7 @@ fn two(alloc: Global, first: Item, second: Item) -> Result<Seq<Given>, OutOfMemo
     Ok(args)
 }
 
-/// The code with which a burn of a coin of 5 under a cap of currency 2 aborts, 0 where it does not.
+/// The code with which a burn of a coin of 5 under a cap of currency 2 aborts, 0 if it does not.
 fn burned(alloc: Global, supply: u64, currency: u64) -> Result<u8, OutOfMemory> {
     let cap = Content::Cap {
         currency: 2,

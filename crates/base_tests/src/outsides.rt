@@ -98,7 +98,7 @@ fn takes_bytes(rt: HostRuntime) {
     same(&rt, takes(rt.alloc()), Ok((answers, true)));
 }
 
-/// How much a source gives three times, where it does not fail.
+/// How much a source gives three times, if it does not fail.
 fn draws<S: Source>(
     source: &mut S,
     buffer: &mut [u8; 4],

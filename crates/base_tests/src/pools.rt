@@ -153,7 +153,7 @@ impl Gate for Meeting {
     fn leave(&self, _task: u32) {}
 }
 
-/// Whether two tasks give 0 and 1 behind this gate, by two workers.
+/// Whether two tasks give 0 and 1 after this gate, by two workers.
 fn meet<R: Threads + Sync>(rt: &R, alloc: Global, gate: &Meeting) -> Result<bool, PlanRefusal> {
     let plan = plan_over(alloc, 2, &[], Own::Number)?;
     let (board, seat) = Board::lay(alloc, &plan)?;

@@ -5,12 +5,12 @@ ghost use Rattle.std.specs.Prelude.{◌≡◌, true};
 use std::fmt::Debug;
 use std::process::Abort;
 
-/// Stops the test where two values differ.
+/// Stops the test if two values differ.
 pub(crate) fn same<T: PartialEq + Debug + Drop>(rt: &impl Abort, got: T, want: T) {
     assert_eq!(rt; got, want);
 }
 
-/// Stops the test where a thing does not hold.
+/// Stops the test if a thing does not hold.
 pub(crate) fn holds(rt: &impl Abort, it: bool)
     ensures { it ≡ true }
 {

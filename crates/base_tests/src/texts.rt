@@ -4,7 +4,7 @@ use crate::same::same;
 use schedule_text::{ScheduleRefusal, read_schedule};
 use std::alloc::{AllocError, Global};
 
-/// The line and the cause of a refusal; two zeros where there is none.
+/// The line and the cause of a refusal; two zeros if there is none.
 fn refusal_of(alloc: Global, text: &str) -> (u64, u8) {
     match read_schedule(alloc, text.as_bytes()) {
         Err(ScheduleRefusal::Refused { line, cause }) => (line, cause),
@@ -22,7 +22,7 @@ fn add_line(alloc: Global, text: &mut String, number: u32) -> Result<(), AllocEr
     text.push_str(line.as_str())
 }
 
-/// 65,535 transactions behind two lines of the set-up, and one more. That its name is not new would come later.
+/// 65,535 transactions after two lines of the set-up, and one more. That its name is not new would come later.
 fn too_many(alloc: Global) -> Result<String, AllocError> {
     let mut text = String::new(alloc);
     text.push_str("member 1 honest\ncoin g0 alice 5\n")?;

@@ -95,7 +95,7 @@ module _ (s : Setting) (events : List Event) (few : FewFaulty s) where
 next-number : (c : Checkpoint) → wanted_number (option_map tip_of (Some c)) ≡ c.number + 1
 next-number c = refl
 
--- the link at a place has its number, where the first has this one
+-- the link at a place has its number, if the first has this one
 link-number : (stakes : List ℕ) (accepts : Accepting) (before : Option Checkpoint) (number : ℕ) → wanted_number (option_map tip_of before) ≡ number → (links : List Link) → IsCertifiedBehind stakes accepts before links
     → (place : ℕ) (l : Link) → slice_get links place ≡ Some l → l.checkpoint.number ≡ number + place
 link-number stakes accepts before number first [] is place l at = absurd (cc)

@@ -73,7 +73,7 @@ blamed-is c d b e = go (are_rivals c d) refl (shared_key c d) refl e
         let both = shares c d key at in
         subst (IsDouble c d) same (record { epoch = two.0; differ = two.1; first = both.0; second = both.1; members = refl })
 
--- each who is blamed has a seal under both
+-- each member that is blamed has a seal under both
 pub sealed-first : (c d : Certificate) (m : ℕ) → Has (sealed_both c d) m → Has (sealers c) m
 sealed-first c d m h = among-has (sealers c) m (kept_has (is_among (sealers c)) (sealers d) m h).1
 

@@ -133,7 +133,7 @@ module _ (r : Rules) (m : Member) where
       subst (λ (cs : List Cut). IsFront (chained m.epoch m.held m.executed m.past m.sequence.cuts) (chained m.epoch held executed m.past cs)) (sym e)
       (chained-front m.epoch m.held held m.executed executed more_held more_executed m.sequence.cuts more m.past)
 
-  -- what a member has built is a front of what it has built behind one more record
+  -- what a member has built is a prefix of what it has built after one more record
   pub built-after : (x : Record) → IsFront (built m) (built (after r m x))
   unfolding built after
   built-after (record_as.Vote tx origins) = front_whole (built m)

@@ -71,7 +71,7 @@ module _ (epoch : ℕ) (held : List Held) (executed : List Execution) where
       }
       go false e rest = record { cuts = []; front = (c ∷ cs, refl); done = tt; is = ap (λ (b : Bool). cond b (chained epoch held executed next cs) before) e }
 
--- the front of a list with one more is a front of the list, or all
+-- the prefix of a list with one more is a prefix of the list, or all
 front-or-all : {A : Type 0} (xs rest ys : List A) (y : A) → xs ++ rest ≡ ys ++ y ∷ [] → IsFront xs ys ⊎ (xs ≡ ys ++ y ∷ [])
 front-or-all [] rest ys y e = inl (ys, refl)
 front-or-all {A = A} (x ∷ xs) rest [] y e = inr (one xs e)
@@ -122,7 +122,7 @@ module _ (txs : List Transaction) (m : Member) where
     all-handed cs (before ++ checkpoint_behind m.epoch m.executed before c ∷ []) (λ a h. digests a (has_right c.txs (flat_map admitted_in cs) a h)) (λ a h. known a (has_right c.txs (flat_map admitted_in cs) a h)),
   )
 
--- ---- a follower behind the checkpoints of the epochs before
+-- ---- a follower after the checkpoints of the epochs before
 
 -- these checkpoints, with transactions among these, are applied
 pub record AreFollowed (s : Setting) (txs : List Transaction) (checkpoints : List Checkpoint) : Type 0 where
@@ -137,13 +137,13 @@ left_by s txs checkpoints f = behind_handed (opened s.opening) f.handed
 abbrev pub fresh_course : List Object → Course
 fresh_course opening = record { map = map_of opening; ran = []; gone = [] }
 
--- behind the checkpoints of the epochs before a member's, a follower is where the member opened its epoch
+-- after the checkpoints of the epochs before a member's, a follower is where the member opened its epoch
 pub record IsAtOpening (s : Setting) (txs : List Transaction) (m : Member) : Type 0 where
   pub past : AreFollowed s txs m.past
   pub course : (left_by s txs m.past past).course ≡ fresh_course m.opening
   pub tip : IsTip (left_by s txs m.past past).tip m.epoch m.past
 
--- and behind all those of an epoch that has ended
+-- and after all those of an epoch that has ended
 pub record IsAtEnd (s : Setting) (txs : List Transaction) (m : Member) : Type 0 where
   pub all : AreFollowed s txs (built m)
   pub objects : (left_by s txs (built m) all).course.map ≡ after_steps m.opening (map (step_of m) (flat_map admitted_in m.sequence.cuts))
@@ -214,7 +214,7 @@ module _ (s : Setting) (events : List Event) (n : ℕ) (seat : Seat) (at : slice
       let to = are-done m.epoch m.held m.executed m.sequence.cuts m.past in
       are-followed to.cuts to.front to.done (built m) (sym (to.is ∙ chained-handed m to.cuts m.past to.done))
 
-  -- behind all of its epoch the follower turns, where the epoch has ended and the member has built them all
+  -- after all of its epoch the follower turns, if the epoch has ended and the member has built them all
   pub at-end : (member_in s seat).sequence.ended ≡ true → Each (IsBuilt (member_in s seat)) (member_in s seat).sequence.cuts → IsAtEnd s txs (member_in s seat)
   unfolding built are-followed
   at-end ended done =
@@ -245,7 +245,7 @@ module _ (s : Setting) (events : List Event) (n : ℕ) (seat : Seat) (at : slice
   abbrev HasEnded : Type 0
   HasEnded = (member.sequence.ended ≡ true) × Each (IsBuilt member) member.sequence.cuts
 
-  -- where it can turn, it has
+  -- if it can turn, it has
   pub turn-built : CanTurn (member_in s seat) → Each (IsBuilt (member_in s seat)) (member_in s seat).sequence.cuts
   turn-built can =
       let front = all-cut s events n seat at in
@@ -258,7 +258,7 @@ module _ (s : Setting) (events : List Event) (n : ℕ) (seat : Seat) (at : slice
   none-last : (cs : List Cut) (d : Cut) → Each IsNotLast cs → Has cs d → d.last ≡ true → ⊥
   none-last cs d others h last = let no = each_has IsNotLast cs d others h in cc
 
-  -- where it has built the last one, the epoch has ended, and it has
+  -- if it has built the last one, the epoch has ended, and it has
   pub last-built : (c : Checkpoint) → Has (built (member_in s seat)) c → c.last ≡ true → c.epoch ≡ (member_in s seat).epoch
       → ((member_in s seat).sequence.ended ≡ true) × Each (IsBuilt (member_in s seat)) (member_in s seat).sequence.cuts
   unfolding built

@@ -1,4 +1,4 @@
--- Which cut of an epoch is its last: where the epoch has ended the last one, else none.
+-- Which cut of an epoch is its last: if the epoch has ended the last one, else none.
 use Rattle.std.proofs.Common.{refl}
 use Rattle.std.specs.Prelude.{◌≡◌, ℕ, Bool, true, false, cond, List, [], ◌∷◌, ◌++◌, fold}
 use Rattle.chain_types.specs.declared.objects.Object.{Object}

@@ -68,7 +68,7 @@ module _ (txs : List Transaction) (apart : TransactionsApart txs) where
       let same = same-txs h.txs k.txs (one.listed ∙ ap (λ (c : Checkpoint). map tx_listed c.items) e ∙ sym two.listed) one.known two.known in
       ap (λ (c : Checkpoint). as_handed c h.txs) e ∙ ap (as_handed k.checkpoint) same
 
-  -- of what is handed in with the first of some checkpoints, and with all of them, the one is a front of the other
+  -- of what is handed in with the first of some checkpoints, and with all of them, the one is a prefix of the other
   front-same : (hs ks : List Handed) → IsFront (map checkpoint_in hs) (map checkpoint_in ks) → Each (IsHandedFrom txs) hs → Each (IsHandedFrom txs) ks → IsFront hs ks
   front-same [] ks front one two = (ks, refl)
   front-same (h ∷ hs) [] (more, e) one two = absurd (cc)
@@ -102,7 +102,7 @@ epochs-from (x ∷ xs) s applied h (inr there) =
     let grows = epoch-grows s x.checkpoint x.txs in
     omega (arith, rest, grows)
 
--- behind the last checkpoint of an epoch the next epoch begins
+-- after the last checkpoint of an epoch the next epoch begins
 after-last : (hs : List Handed) (s : State) (c : Checkpoint) → AreApplied s hs → last_of (map checkpoint_in hs) ≡ Some c → c.last ≡ true → (behind_handed s hs).tip.epoch ≡ c.epoch + 1
 after-last [] s c applied e last = absurd (cc)
 after-last (h ∷ []) s c applied e last = go (same h.checkpoint e)
@@ -114,7 +114,7 @@ after-last (h ∷ []) s c applied e last = go (same h.checkpoint e)
     go q = ap (λ (b : Bool). cond b (s.tip.epoch + 1) s.tip.epoch) (ap (λ (d : Checkpoint). d.last) q ∙ last) ∙ ap (λ (n : ℕ). n + 1) (sym (epoch-is s h.checkpoint h.txs applied.0) ∙ ap (λ (d : Checkpoint). d.epoch) q)
 after-last (h ∷ k ∷ hs) s c applied e last = after-last (k ∷ hs) (behind_checkpoint s h.checkpoint h.txs) c applied.1 e last
 
--- the last of a list stands in its back, where there is one
+-- the last of a list stands in its back, if there is one
 last-has : {A : Type 0} (xs ys : List A) (y c : A) → last_of (xs ++ (y ∷ ys)) ≡ Some c → Has (y ∷ ys) c
 last-has [] [] y c e = inl (cc)
 last-has [] (z ∷ ys) y c e = inr (last-has [] ys z c e)
@@ -125,8 +125,8 @@ last-in : {A : Type 0} (xs : List A) (c : A) → last_of xs ≡ Some c → Has x
 last-in [] c e = absurd (cc)
 last-in (x ∷ xs) c e = last-has [] xs x c e
 
--- Behind the last checkpoint of an epoch a follower has applied no more and no fewer than those of the epochs up to it:
--- the epoch that comes next tells.
+-- After the last checkpoint of an epoch a follower has applied no more and no fewer than those of the epochs up to it:
+-- the epoch that comes next shows it.
 module _ (s : State) (epoch : ℕ) (whole : List Handed) (all_applied : AreApplied s whole) (tip : (behind_handed s whole).tip.epoch ≡ epoch + 1) (below : (h : Handed) → Has whole h → h.checkpoint.epoch ≤ epoch)
     (handed : List Handed) (applied : AreApplied s handed) (c : Checkpoint) (epoch_is : c.epoch ≡ epoch) (ends : last_of (map checkpoint_in handed) ≡ Some c) (last : c.last ≡ true) where
   shorter : (more : List Handed) → whole ≡ handed ++ more → handed ≡ whole
@@ -217,7 +217,7 @@ module _ (s : Setting) (events : List Event) (run_is : IsHonestRun s events) (di
     pub can-be-followed : CanBeFollowed s events m
     can-be-followed = (all-followed.handed, record { first = ([], sym all-followed.are ∙ sym (append-nil (map checkpoint_in all-followed.handed))); each = all-followed.each }, all-followed.are)
 
-    -- ---- behind the last checkpoint of an epoch
+    -- ---- after the last checkpoint of an epoch
 
     end-then : (c : Checkpoint) → Has (built m) c → c.last ≡ true → IsEnd s distinct txs qs m c.epoch
     end-then c h last =

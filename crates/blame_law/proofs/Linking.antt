@@ -20,13 +20,13 @@ use Rattle.follower_core.specs.Following.{State, behind_checkpoint, refusal_befo
 use Rattle.blame_law.proofs.Stepping.{IsBehind, MayStand}
 use Rattle.blame_law.proofs.Placing.{AllStand, all-stand, item_in}
 
--- the checkpoint behind these, with these items
+-- the checkpoint after these, with these items
 abbrev pub checkpoint_with : ℕ → List Checkpoint → List Item → Bool → Checkpoint
 checkpoint_with epoch before items last = record { epoch = epoch; number = length before; parent = digest_before (last_of before); items = items; last = last }
 
 -- ---- the tip
 
--- a follower behind these checkpoints, whose next one is of this epoch
+-- a follower after these checkpoints, whose next one is of this epoch
 pub record IsTip (tip : Tip) (epoch : ℕ) (before : List Checkpoint) : Type 0 where
   pub up : tip.up ≡ true
   pub number : wanted_number tip.before ≡ length before
@@ -82,13 +82,13 @@ map-size f g [] = refl
 map-size f g (x ∷ xs) = let rest = map-size f g xs in omega (arith, rest)
 
 module _ (opening : List Object) (distinct : AreApart opening) (epoch : ℕ) where
-  -- in an epoch that opened with these objects, behind these steps and these checkpoints
+  -- in an epoch that opened with these objects, after these steps and these checkpoints
   pub record IsState (s : State) (steps : List Step) (before : List Checkpoint) : Type 0 where
     pub course : IsBehind opening s.course steps
     pub over : IsGoneOver opening steps
     pub tip : IsTip s.tip epoch before
 
-  -- behind the last checkpoint of the epoch
+  -- after the last checkpoint of the epoch
   pub record IsTurned (s : State) (steps : List Step) (before : List Checkpoint) : Type 0 where
     pub objects : s.course.map ≡ after_steps opening steps
     pub course : s.course ≡ turned s.course

@@ -125,7 +125,7 @@ module _ (s : Setting) (events : List Event) (n : ℕ) (seat : Seat) (at : slice
     pub gone-over : IsGoneOver (member_in s seat).opening (map (step_of (member_in s seat)) (flat_map admitted_in cuts))
     gone-over = goes-over m.opening opens.distinct steps [] (record { orderly = tt; finds = tt; known = tt }) orderly
 
-    -- valid certificates alone are admitted, so each shape is valid (agreement_law: EveryAdmission)
+    -- only valid certificates are admitted, so each shape is valid (agreement_law: EveryAdmission)
     shapes : (x : Step) → Has steps x → shape_fault x.tx ≡ None
     shapes x h =
         let a = has_mapped (step_of m) front x h in

@@ -1,4 +1,4 @@
--- Behind the checkpoints of the epochs before its own a follower is where the member opened its epoch: epoch by epoch.
+-- After the checkpoints of the epochs before its own a follower is where the member opened its epoch: epoch by epoch.
 use Rattle.std.proofs.Common.{inl, inr, refl, sym, subst, ap, ◌∙◌, append_assoc, append-nil, arith}
 use Rattle.std.specs.Prelude.{◌≡◌, ◌⊎◌, ◌<◌, ◌≤◌, ℕ, zero, suc, ◌+◌, true, List, [], ◌++◌, flat_map, length, map, slice_get, Some}
 use Rattle.std.specs.FinMap.{values}
@@ -67,7 +67,7 @@ module _ (s : Setting) (txs : List Transaction) (m : Member) (opening : m.openin
 same-course : (c : Course) (m : Objects) (opening : List Object) → c ≡ record { map = c.map; ran = []; gone = [] } → c.map ≡ m → m ≡ map_of opening → c ≡ fresh_course opening
 same-course c m opening fresh one two = fresh ∙ ap (λ (k : Objects). let d : Course = record { map = k; ran = []; gone = [] } in d) (one ∙ two)
 
--- what a follower has behind the last checkpoint of an epoch is what it has at the opening of the next one
+-- what a follower has after the last checkpoint of an epoch is what it has at the opening of the next one
 module _ (s : Setting) (txs : List Transaction) (old m : Member) (end : IsAtEnd s txs old) (epoch : m.epoch ≡ old.epoch + 1) (past : m.past ≡ built old)
     (opening : m.opening ≡ values (after_steps old.opening (map (step_of old) (flat_map admitted_in old.sequence.cuts)))) where
   abbrev what_stays : Objects
@@ -113,7 +113,7 @@ module _ (s : Setting) (distinct : AreApart s.opening) (txs : List Transaction) 
   unfolding all_delivered
   within-front front back within c h = within c (all-front delivered s front back (new_world s) c h)
 
-  -- a member that has built all checkpoints of an epoch, which has ended, at a front of the run, and a follower that was
+  -- a member that has built all checkpoints of an epoch, which has ended, at a prefix of the run, and a follower that was
   -- where that one opened the epoch
   module _ (front back : List Event) (run_is : IsHonestRun s (front ++ back)) (within : IsWithin (front ++ back)) (k : ℕ) (a : Seat) (there : slice_get (world_after s front).seats k ≡ Some a)
       (ended : (member_in s a).sequence.ended ≡ true) (done : Each (IsBuilt (member_in s a)) (member_in s a).sequence.cuts) (before : IsAtOpening s txs (member_in s a)) where
@@ -179,13 +179,13 @@ module _ (s : Setting) (distinct : AreApart s.opening) (txs : List Transaction) 
       less : (k : ℕ) → k ≡ suc e → e < k
       less k q = omega (arith, q)
 
-  -- behind the checkpoints of the epochs before, a follower is where a member opened its epoch
+  -- after the checkpoints of the epochs before, a follower is where a member opened its epoch
   pub at-opening : (events : List Event) → IsHonestRun s events → ((c : Certificate) → Has (all_delivered s events) c → Has txs c.tx) → (n : ℕ) (seat : Seat) → slice_get (world_after s events).seats n ≡ Some seat → IsAtOpening s txs (member_in s seat)
   at-opening events run_is within n seat at = at-opening-of (member_in s seat).epoch events run_is within n seat at refl
 
-  -- ---- behind the last checkpoint of an epoch
+  -- ---- after the last checkpoint of an epoch
 
-  -- the checkpoints of the epochs up to this one, which begin those that a member has built; behind them a follower is
+  -- the checkpoints of the epochs up to this one, which begin those that a member has built; after them a follower is
   -- where the next epoch opens
   pub record IsEnd (sequences : List (List Entry)) (m : Member) (epoch : ℕ) : Type 0 where
     pub checkpoints : List Checkpoint

@@ -23,7 +23,7 @@ module _ (opening : List Object) (distinct : AreApart opening) where
       rw (digest_self (transaction_digest x.tx), not-stuck opening distinct before over x may m is, gives opening distinct before over x may m is)
       (rw (digest_self (digest_of_effects (gave x).effects)) refl)
 
-  -- behind all of them
+  -- after all of them
   pub record AllStand (m : Course) (place : ℕ) (before xs : List Step) : Type 0 where
     pub none : first_bad m place (map item_in xs) (map tx_of xs) ≡ None
     pub course : IsBehind opening (behind_all m (map tx_of xs)) (before ++ xs)

@@ -30,7 +30,7 @@ use Rattle.headline_law.proofs.Dropping.{any-none}
 
 -- ---- lists
 
--- where no id of a list comes twice, none of its front does
+-- if no id of a list comes twice, none of its prefix does
 repeats-front : (xs ys : List ObjectId) → repeats id_eq (xs ++ ys) ≡ false → repeats id_eq xs ≡ false
 repeats-front [] ys e = refl
 repeats-front (x ∷ xs) ys e =
@@ -55,13 +55,13 @@ has-inserted (x ∷ xs) ks id h = go (has-inserted xs (insert_key id_eq ks x) id
     go (inl k) = one (list_any (id_eq x) ks) k
     go (inr k) = inr (inr k)
 
--- ---- a follower behind steps
+-- ---- a follower after steps
 
 abbrev pub digest_in : Step → Digest
 digest_in x = transaction_digest x.tx
 
 module _ (opening : List Object) where
-  -- in an epoch that opened with these objects, behind these steps
+  -- in an epoch that opened with these objects, after these steps
   pub record IsBehind (m : Course) (before : List Step) : Type 0 where
     pub objects : m.map ≡ after_steps opening before
     pub ran : m.ran ≡ map digest_in before
@@ -157,7 +157,7 @@ module _ (opening : List Object) where
       unfolding is_stuck
       not-stuck = rw (may.shape, not-ran, gives) not-bad
 
-      -- ---- and behind it
+      -- ---- and after it
 
       pub over-is : IsGoneOver opening (before ++ x ∷ [])
       over-is = over-next opening distinct before over x may.orderly

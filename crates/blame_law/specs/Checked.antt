@@ -31,7 +31,7 @@ pub record IsBuiltIn (s : Setting) (w : World) (c : Checkpoint) : Type 0 where
   pub honest : seat.honest ≡ true
   pub among : Has (built (member_in s seat)) c
 
--- a checkpoint of the chain and one that an honest member has built have different digests, where they are different
+-- a checkpoint of the chain and one that an honest member has built have different digests, if they are different
 abbrev pub CheckpointsApart : Setting → World → List Link → Type 0
 CheckpointsApart s w links = (l : Link) → Has links l → (c : Checkpoint) → IsBuiltIn s w c → digest_of_checkpoint c ≡ digest_of_checkpoint l.checkpoint → c ≡ l.checkpoint
 
@@ -40,7 +40,7 @@ pub record IsHonestChain (s : Setting) (w : World) (links : List Link) : Type 0 
   pub no_forgery : AreUnforged s w links
   pub checkpoints : CheckpointsApart s w links
 
--- each checkpoint of a certified chain is one that an honest member has built, where under a third of the stake is faulty
+-- each checkpoint of a certified chain is one that an honest member has built, if under a third of the stake is faulty
 abbrev pub CertifiedIsBuilt : Type 0
 CertifiedIsBuilt = (s : Setting) (events : List Event) → FewFaulty s
     → (links : List Link) → IsCertified s.rules.stakes s.rules.accepts links → IsHonestChain s (world_after s events) links

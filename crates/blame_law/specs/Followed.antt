@@ -42,7 +42,7 @@ pub record AreHanded (s : Setting) (events : List Event) (checkpoints : List Che
   pub first : IsFront (map checkpoint_in handed) checkpoints
   pub each : Each (IsHandedFrom (all_transactions s events)) handed
 
--- the transaction of this digest that a line of the run made, none where none did
+-- the transaction of this digest that a line of the run made, none if none did
 abbrev pub made_as : World → Digest → Option Transaction
 made_as w tx = option_map (λ (t : Made). t.signed.tx) (find (λ (t : Made). digest_eq t.digest tx) w.txs)
 
@@ -53,7 +53,7 @@ LookedUpIsHanded = (s : Setting) (events : List Event) (c : Checkpoint) (txs : L
 
 -- ---- the laws
 
--- a member's state at a moment of the run, behind a front of its lines
+-- a member's state at a moment of the run, after a prefix of its lines
 pub record IsInRun (s : Setting) (events : List Event) (m : Member) : Type 0 where
   pub front : List Event
   pub back : List Event
@@ -68,7 +68,7 @@ pub record IsInRun (s : Setting) (events : List Event) (m : Member) : Type 0 whe
 abbrev pub IsFollowed : Setting → List Event → Member → Type 0
 IsFollowed s events m = (handed : List Handed) → AreHanded s events (built m) handed → AreApplied (opened s.opening) handed
 
--- so a follower that has applied those before refuses the next one for want of memory alone
+-- so a follower that has applied those before refuses the next one only if it runs out of memory
 abbrev pub OnlyMemoryIsWanting : Setting → List Event → Member → Type 0
 OnlyMemoryIsWanting s events m = (before : List Handed) (next : Handed) → AreHanded s events (built m) (before ++ next ∷ [])
     → (refusal : FollowRefusal) → Answers (behind_handed (opened s.opening) before) next.checkpoint next.txs (Err refusal) → is_memory refusal ≡ true
@@ -77,14 +77,14 @@ OnlyMemoryIsWanting s events m = (before : List Handed) (next : Handed) → AreH
 abbrev pub CanBeFollowed : Setting → List Event → Member → Type 0
 CanBeFollowed s events m = (handed : List Handed) × AreHanded s events (built m) handed × (map checkpoint_in handed ≡ built m)
 
--- behind the last checkpoint of an epoch the follower's live objects, by ascending id, are those with which the next
+-- after the last checkpoint of an epoch the follower's live objects, by ascending id, are those with which the next
 -- epoch opens
 abbrev pub StandsAtOpenings : Setting → List Event → Member → Type 0
 StandsAtOpenings s events m = (handed : List Handed) → AreHanded s events (built m) handed
     → (c : Checkpoint) → last_of (map checkpoint_in handed) ≡ Some c → c.last ≡ true
     → values (behind_handed (opened s.opening) handed).course.map ≡ opening_at s (world_after s events).sequences (c.epoch + 1)
 
--- behind the last checkpoint of an epoch that the one has built, they are those with which the other opened the next epoch
+-- after the last checkpoint of an epoch that the one has built, they are those with which the other opened the next epoch
 abbrev pub IsOpenedAlike : Setting → List Event → Member → Member → Type 0
 IsOpenedAlike s events a b = (handed : List Handed) → AreHanded s events (built a) handed
     → (c : Checkpoint) → last_of (map checkpoint_in handed) ≡ Some c → c.last ≡ true → b.epoch ≡ c.epoch + 1
@@ -126,7 +126,7 @@ OpenedAlikeInSchedules = (trust : Trust) (lines : List Setup) (events : List Eve
 
 -- ---- a follower that looks transactions up among those that lines made
 
--- each transaction of the run is found under its digest among those that its lines made: none was read from bytes alone
+-- each transaction of the run is found under its digest among those that its lines made: none was read only from bytes
 abbrev pub AllMade : Setting → List Event → Type 0
 AllMade s events = (t : Transaction) → Has (all_transactions s events) t → made_as (world_after s events) (transaction_digest t) ≡ Some t
 

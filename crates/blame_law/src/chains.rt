@@ -1,7 +1,7 @@
 //! What a certified chain says of the checkpoints of honest members.
 ghost use Rattle.blame_law.specs.Checked.{CertifiedAgrees, CertifiedAgreesInSchedules, CertifiedIsBuilt};
 
-/// Each checkpoint of a certified chain is one that an honest member has built, where under a third of the stake is
+/// Each checkpoint of a certified chain is one that an honest member has built, if under a third of the stake is
 /// faulty, no seal of an honest member in the chain is forged, and no digests of checkpoints collide.
 pub fn certified_is_built()
     ensures { CertifiedIsBuilt }

@@ -2,8 +2,8 @@
 ghost use Rattle.blame_law.specs.Followed.{CanBeFollowedInSchedules, FollowedInSchedules, FollowersComeThrough, FollowersOpenAlike, FollowersStandAtOpenings, HonestCheckpointsAreFollowed, HonestCheckpointsCanBeFollowed, HonestCheckpointsWantOnlyMemory, LookedUpIsHanded, OnlyMemoryInSchedules, OpenedAlikeInSchedules, StandInSchedules};
 
 /// Under the run assumptions a follower that opened with the objects of the set-up applies the checkpoints that a member
-/// has built, each handed in with the transactions of the run that have its items' digests; so it refuses one for want of
-/// memory alone. And each item has such a transaction.
+/// has built, each handed in with the transactions of the run that have its items' digests; so it refuses one only if it runs out of
+/// memory. And each item has such a transaction.
 pub fn honest_checkpoints_are_followed()
     ensures applied { HonestCheckpointsAreFollowed }
     ensures memory { HonestCheckpointsWantOnlyMemory }
@@ -17,7 +17,7 @@ pub fn honest_checkpoints_are_followed_in_schedules()
     ensures known { CanBeFollowedInSchedules }
 {}
 
-/// Behind the last checkpoint of an epoch its live objects, by ascending id, are those with which the next epoch opens, and
+/// After the last checkpoint of an epoch its live objects, by ascending id, are those with which the next epoch opens, and
 /// so those with which every member opened it.
 pub fn followers_open_alike()
     ensures stands { FollowersStandAtOpenings }
@@ -37,7 +37,7 @@ pub fn looked_up_is_handed()
 {}
 
 /// Under the run assumptions a follower that looks each transaction up among those that the lines made takes all checkpoints
-/// of the epochs before a member's own, if no transaction of the run was read from bytes alone; and it has then the objects
+/// of the epochs before a member's own, if no transaction of the run was read only from bytes; and it has then the objects
 /// with which the member opened its epoch.
 pub fn followers_come_through()
     ensures { FollowersComeThrough }

@@ -1,4 +1,4 @@
-//! Who sealed for two transactions of one epoch that consume one version is faulty, where no seal is forged and no digests
+//! A member that sealed for two transactions of one epoch that consume one version is faulty, if no seal is forged and no digests
 //! collide; those who sealed two valid certificates of such have more than a third of the stake. A certified chain is made
 //! of what honest members have built, and what a member has built a follower applies.
 #![tactic(auto)]
@@ -15,13 +15,13 @@ pub use followers::{
     looked_up_is_handed,
 };
 
-/// Where no statement is forged and no digests of transactions collide, no honest member is blamed for two certified
+/// If no statement is forged and no digests of transactions collide, no honest member is blamed for two certified
 /// transactions of a run: whoever is, did vote twice. How many are faulty plays no part.
 pub fn none_is_honest()
     ensures { NoneIsHonest }
 {}
 
-/// Two valid certificates that consume one version blame members with more than a third of the stake. So where two are
+/// Two valid certificates that consume one version blame members with more than a third of the stake. So if two are
 /// seen, the assumption on faulty stake is known to be broken, and by whom.
 pub fn they_have_more_than_a_third()
     ensures { TheyHaveMoreThanAThird }

@@ -108,7 +108,7 @@ turned-object : (b : Bool) (first : Option Value) (i : Item) → first ≡ Some 
 turned-object true first i e = e
 turned-object false first i e = subst (λ (v : Option Value). Turned false v (object i)) (sym e) (like-same i)
 
--- places from a number on are looked up behind it
+-- places from a number on are looked up after it
 abbrev pub Behind : List Slot → ℕ → List Slot → Type 0
 Behind whole n slots = (m : ℕ) → n ≤ m → value_in (input m) whole ≡ value_in (input m) slots
 
@@ -169,7 +169,7 @@ kept-start t tx objects = record {
   all_caps = λ c. refl;
 }
 
--- ---- the block behind all commands
+-- ---- the block after all commands
 
 -- and no result holds a value
 pub record IsDone (t : Transaction) (tx : Digest) (objects : List Object) (b : Block) : Type 0 where

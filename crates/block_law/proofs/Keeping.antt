@@ -34,7 +34,7 @@ use Rattle.block_law.proofs.Payer.{Pays, ends}
 use Rattle.block_law.proofs.Effects.{IsInput, inputs-first, first_ids, places-ids, objects-ids}
 use Rattle.block_law.proofs.Sums.{places_weight, unwritten, whole-weight, holds, objects_weight, objects-append, start-done, placed-times, spent-most, spent_ids, left-weight}
 
--- ---- the gas coin behind a block
+-- ---- the gas coin after a block
 
 has-count : (placed : List Placed) (p : Placed) → Has placed p → 1 ≤ placed_weight (counts p.item.id) placed
 has-count [] p has = absurd has

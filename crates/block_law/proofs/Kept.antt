@@ -115,7 +115,7 @@ is_result gas = false
 is_result (input n) = false
 is_result (result c k) = true
 
--- the first places are these, and those behind them are results
+-- the first places are these, and those after them are results
 abbrev pub Stands : List Place → List Slot → Type 0
 Stands [] slots = Each (λ (s : Slot). is_result s.place ≡ true) slots
 Stands (p ∷ places) [] = ⊥

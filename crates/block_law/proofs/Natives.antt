@@ -39,7 +39,7 @@ use Rattle.block_law.proofs.Steps.{Balanced, IsStep, drawn-next, drawn-same, ok-
 
 -- ---- what is balanced
 
--- contents that hold no money and are no cap
+-- contents that hold no money and are not a cap
 pub record IsEmpty (k : Content) : Type 0 where
   pub money : (c : ℕ) → money_of c k ≡ 0
   pub supply : (c : ℕ) → supply_of c k ≡ 0

@@ -1,4 +1,4 @@
--- Behind every command the gas coin and the withheld budget are an amount together, wherever the coin is.
+-- After every command the gas coin and the withheld budget are an amount together, wherever the coin is.
 use Rattle.std.proofs.Common.{refl, ap, sym, subst, ◌∙◌, inl, inr}
 use Rattle.std.specs.Prelude.{◌≡◌, ◌≤◌, ◌<◌, ◌+◌, ◌-◌, ℕ, zero, suc, Bool, true, false, cond, not, ◌&&◌, nat_lt, nat_le, List, [], ◌∷◌, ◌++◌, map, sum, length, slice_get, option_map, Option, Some, None, Result, Ok, Err}
 use Rattle.std.specs.List.{list_any, enumerate_from}
@@ -219,7 +219,7 @@ module _ (t : Transaction) (id : ObjectId) where
         go true moves = put-every (Pays b.placed) (place_of x.0) None d.slots paying (spent-pays cmd b.placed (place_of x.0) kept moves)
         go false moves = paying
 
-    -- an argument for a parameter that is no coin by reference is not the gas coin
+    -- an argument for a parameter that is not a coin by reference is not the gas coin
     abbrev no_coin : Need → Bool
     no_coin number = true
     no_coin address = true

@@ -84,7 +84,7 @@ module _ (whole : List Input) (id : ObjectId) (initial : ℕ) (o : Object) where
   lies n (inputs.Shared x k false ∷ is) (p ∷ os) from (inl e) = absurd (let first = ap (λ (z : Input × Object). z.0) e in cc)
   lies n (inputs.Shared x k false ∷ is) (p ∷ os) from (inr h) = lies (suc n) is os (from-next whole n (inputs.Shared x k false) is from) h
 
--- ---- a place is found behind all commands
+-- ---- a place is found after all commands
 
 place-refl : (p : Place) → place_eq p p ≡ true
 place-refl gas = refl

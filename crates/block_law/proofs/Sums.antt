@@ -1,4 +1,4 @@
--- What the objects behind a block hold together, against what those before it held.
+-- What the objects after a block hold together, against what those before it held.
 use Rattle.std.proofs.Common.{refl, ap, sym, subst, ◌∙◌}
 use Rattle.std.specs.Prelude.{◌≡◌, ◌≤◌, ◌+◌, ℕ, suc, Bool, true, false, cond, List, [], ◌∷◌, ◌++◌, map, filter_map, find, slice_get, option_map, Option, Some, None}
 use Rattle.std.specs.List.{list_any, cons_option}
@@ -184,7 +184,7 @@ module _ (w : Item → ℕ) where
       let rest = inputs-weight t first whole placed (suc n) is os slots (next t first whole placed n (inputs.Shared id initial false) is (object (item_of o)) (input_slots (suc n) is os) s slots at) in
       omega (arith, here, rest)
 
-  -- the same of the whole block
+  -- likewise for the whole block
   pub whole-weight : (t : Transaction) (tx : Digest) (coin : Object) (os : List Object) (b : Block) → IsDone t tx (coin ∷ os) b → slots_weight w b.slots ≡ places_weight b.slots (written_places t (coin ∷ os)) + unwritten t.inputs os
   whole-weight t tx coin os b is = go b.slots is.kept.stands is.kept.good is.used
     where
@@ -381,7 +381,7 @@ spent-most slots x (y ∷ ys) = go (value_in y.0 slots) (spent-most slots x ys)
     go None rest = omega (arith, rest)
     go (Some v) rest = omega (arith, rest)
 
--- what the written objects weigh behind the block, but for the rest of the gas
+-- what the written objects weigh after the block, but for the rest of the gas
 pub left-weight : (f : Content → ℕ) (t : Transaction) (tx : Digest) (version : ℕ) (coin : Object) (os : List Object) (b : Block) → IsDone t tx (coin ∷ os) b → ((x : ObjectId) → times x (first_ids (written_places t (coin ∷ os))) + times x (drawn_ids tx b.made) ≤ 1)
     → objects_weight f (filter_map (λ (x : Place × Object). after_block version b x.0 x.1) (written_places t (coin ∷ os))) + objects_weight f (created_objects tx version b) + unwritten (holds f) t.inputs os ≡ block_weight (holds f) b
 left-weight f t tx version coin os b is apart =

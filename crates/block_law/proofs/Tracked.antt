@@ -1,4 +1,4 @@
--- Behind every command an object that is marked as new has an id that the transaction drew, and only such objects were
+-- After every command an object that is marked as new has an id that the transaction drew, and only such objects were
 -- shared.
 use Rattle.std.proofs.Common.{refl, sym, subst, arith}
 use Rattle.std.specs.Prelude.{◌≡◌, ◌≤◌, ◌<◌, ◌+◌, ◌-◌, ℕ, zero, suc, Bool, true, false, cond, not, nat_lt, nat_le, List, [], ◌∷◌, ◌++◌, map, sum, sum_by, length, slice_get, option_map, Option, Some, None, Result, Ok, Err}
@@ -46,7 +46,7 @@ module _ (tx : Digest) (version : ℕ) where
   abbrev pub Marked : ℕ → Item → Type 0
   Marked made i = i.fresh ≡ true → IsDrawn made i.id
 
-  -- an object that left the block: shared only where it is new, since the version of the transaction
+  -- an object that left the block: shared only if it is new, since the version of the transaction
   abbrev pub Left : ℕ → ObjectId → Owner → Type 0
   Left made id (owner.Address a) = Unit {0}
   Left made id (owner.Shared initial) = (initial ≡ version) × IsDrawn made id
@@ -194,7 +194,7 @@ module _ (tx : Digest) (version : ℕ) where
       abbrev one : Item
       one = item_at args 0
 
-      -- a change of the first argument, behind one test or two
+      -- a change of the first argument, after one test or two
       changes : (cs : List Content) (n : ℕ) → Gives made (gives here cs (Some (holding n one)))
       changes cs n = gives-given cs (Some (holding n one)) (item-marked 0)
 

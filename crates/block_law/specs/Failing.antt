@@ -19,7 +19,7 @@ abbrev pub paid : ℕ → ℕ → ℕ → Object → Object
 paid version balance price coin = record coin { version = version; content = content.Coin 0 (balance - price) }
 
 -- these effects have a failure, draw no id, delete nothing; the gas coin pays, and the inputs that may be written
--- differ in their version alone
+-- differ only in their version
 pub record PaysGas (t : Transaction) (coin : Object) (others : List Object) (x : Executed) : Type 0 where
   pub balance : ℕ
   pub held : coin.content ≡ content.Coin 0 balance

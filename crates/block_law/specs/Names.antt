@@ -28,7 +28,7 @@ touched_ids t e = named_ids t ++ drawn_ids e.tx e.created
 abbrev pub effect_ids : Effects → List ObjectId
 effect_ids e = map (λ (w : Written). w.id) e.written ++ e.deleted
 
--- where no drawn id is another or a named one, no id is written twice, deleted twice, or written and deleted
+-- if no drawn id is another or a named one, no id is written twice, deleted twice, or written and deleted
 abbrev pub EffectsNameEachIdOnce : Type 0
 EffectsNameEachIdOnce =
     (t : Transaction) (objects : List Object) → fits t objects ≡ true →

@@ -15,7 +15,7 @@ use Rattle.protocol_spec.specs.Chain.Keys.{objects_of, version_of, fits}
 use Rattle.protocol_spec.specs.Block.Execution.{execution}
 use Rattle.block_law.specs.Names.{drawn_id, touched_ids}
 
--- the version since which an object is shared, none where it is not
+-- the version since which an object is shared, none if it is not
 abbrev pub shared_since : Owner → Option ℕ
 shared_since (owner.Address a) = None
 shared_since (owner.Shared initial) = Some initial
@@ -57,7 +57,7 @@ pub record IsNew (t : Transaction) (objects : List Object) (p : Object) : Type 0
   pub id : drawn_id (transaction_digest t) number ≡ p.id
   pub share : IsSharedFrom (version_of objects) p.owner
 
--- each written object is the one or the other, where all ids that the transaction names or draws are apart
+-- each written object is the one or the other, if all ids that the transaction names or draws are apart
 abbrev pub WritesStayShared : Type 0
 WritesStayShared =
     (t : Transaction) (objects : List Object) → fits t objects ≡ true → repeats id_eq (touched_ids t (execution t objects).effects) ≡ false →

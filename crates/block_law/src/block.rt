@@ -13,7 +13,7 @@ pub fn effects_name_what_is_touched()
     ensures { EffectsNameWhatIsTouched }
 {}
 
-/// Where all ids that a transaction names or draws are apart, its effects name each id at most once.
+/// If all ids that a transaction names or draws are apart, its effects name each id at most once.
 pub fn effects_name_each_id_once()
     ensures { EffectsNameEachIdOnce }
 {}

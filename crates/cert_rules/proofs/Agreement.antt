@@ -98,7 +98,7 @@ valid_from rules t votes roll enough same sound =
     (ap (λ b. where_true (not b) (refused.ShortStake (weight rules.stakes (members_of c)) (total_of rules.stakes))) heavy)
     (seals_good rules c votes same sound.seals)
 
--- ---- the same of what the call found
+-- ---- likewise for what the call found
 
 ascending : (stakes : List ℕ) (votes : List Sealed) → is_roll stakes (voters votes) ≡ true → ascends (voters votes) ≡ true
 ascending stakes votes roll = (and_parts (ascends (voters votes)) (all_known stakes (voters votes)) roll).0

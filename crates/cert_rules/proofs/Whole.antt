@@ -54,7 +54,7 @@ first_part (refused.ShortStake w t) a b h = ap (λ o. or_else o b) h
 first_part (refused.BadSeal m) a b h = ap (λ o. or_else o b) h
 first_part refused.OutOfMemory a b h = tt
 
--- where the first part has none, it is the second's
+-- if the first part has none, it is the second's
 second_part : (r : Result (Unit {0}) CertRefusal) (a b : Option CertRefusal) → a ≡ None → Checks r b → Checks r (or_else a b)
 second_part r a b none h = subst (λ o. Checks r (or_else o b)) (sym none) h
 
@@ -108,7 +108,7 @@ few_objects t few = let kept = few_kept t.inputs in omega arith
 pub same_few : (c : Certificate) → length c.tx.inputs ≤ 256 → true ≡ (length c.origins == length (objects_of c.tx)) → length c.origins ≤ 257
 same_few c few e = let objects = few_objects c.tx few in let same = eqb-true (length c.origins) (length (objects_of c.tx)) (sym e) in omega arith
 
--- a vote with few origins may be spelled
+-- a vote with few origins may be encoded
 pub vote_short : (epoch : ℕ) (tx : Digest) (origins : List (Option Digest)) → length origins ≤ 257 → messages.statement.short (statement.Vote epoch tx origins)
 unfolding messages.statement digest
 vote_short epoch tx origins few = (tt, (tt, (omega arith, λ k d l. origin_short _)))

@@ -100,7 +100,7 @@ module _ (same : Sealed → Sealed → Bool) where
           last None e none = none e
           last (Some c) e none = none e
 
-  -- where all agree, the stake is a quorum
+  -- if all agree, the stake is a quorum
   pub quorum_true : (stakes : List ℕ) (votes : List Sealed) → ascends (voters votes) ≡ true → collected same stakes (vote_by votes) (voters votes) ≡ whole → is_quorum stakes (weight stakes (voters votes)) ≡ true
   quorum_true stakes votes up e = go (is_quorum stakes (weight stakes (voters votes))) refl (sym (is_collected stakes votes up) ∙ e)
     where

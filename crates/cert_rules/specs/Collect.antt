@@ -35,7 +35,7 @@ voters votes = map (λ (v : Sealed). v.member) votes
 
 -- ---- what collecting them gives
 
--- the vote, where it is this member's
+-- the vote, if it is this member's
 abbrev pub vote_if : ℕ → Sealed → Option Sealed
 vote_if m v = where_true (v.member == m) v
 
@@ -72,7 +72,7 @@ pub record AreSound (rules : Rules) (t : Transaction) (votes : List Sealed) : Ty
 
 -- ---- what the call answers against it
 
--- memory was refused, or this value where all agree, or the cause why they do not
+-- memory was refused, or this value if all agree, or the cause why they do not
 abbrev pub Gives : {X : Type 0} → Result X CollectRefusal → X → Collected → Type 0
 Gives (Ok x) value c = (c ≡ whole) × (x ≡ value)
 Gives (Err (refusal.Short weight total)) value c = c ≡ short weight total

@@ -11,16 +11,16 @@ collected_as (given.Short weight total) = short weight total
 collected_as (given.Differ a b) = differ a b
 collected_as given.Whole = whole
 
--- the member, where it has no word
+-- the member, if it has no word
 abbrev pub lacks_word : {A : Type 0} → (ℕ → Option A) → ℕ → Option Collected
 lacks_word reads m = lacks_where m (reads m)
 
--- whether two words, where there are both, differ
+-- whether two words, if there are both, differ
 abbrev pub differs : {A : Type 0} → (A → A → Bool) → Option A → Option A → Bool
 differs same None b = false
 differs same (Some x) None = false
 differs same (Some x) (Some y) = not (same x y)
 
--- the two members, where their words differ
+-- the two members, if their words differ
 abbrev pub differs_in : {A : Type 0} → (A → A → Bool) → (ℕ → Option A) → ℕ → ℕ → Option Collected
 differs_in same reads a b = differ_from same a (reads a) b (reads b)

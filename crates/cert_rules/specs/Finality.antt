@@ -56,7 +56,7 @@ pub record IsFinality (acks : List Sealed) (f : Finality) : Type 0 where
   pub all : Each (λ (s : Sealed). s.statement ≡ statement.Ack f.epoch f.tx f.effects) acks
   pub members : f.members ≡ voters acks
 
--- memory was refused, or the finality where they are of a quorum and agree, or the cause why they make none
+-- memory was refused, or the finality if they are of a quorum and agree, or the cause why they make none
 abbrev pub MakesFinal : Result Finality CollectRefusal → List Sealed → Collected → Type 0
 MakesFinal (Ok f) acks c = (c ≡ whole) × IsFinality acks f
 MakesFinal (Err (refusal.Short weight total)) acks c = c ≡ short weight total

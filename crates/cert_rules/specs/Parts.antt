@@ -26,6 +26,6 @@ member_refusal stakes members =
     where_true (not (is_roll stakes members)) refused.Order ∷
     where_true (not (is_quorum stakes (weight stakes members))) (refused.ShortStake (weight stakes members) (total_of stakes)) ∷ [])
 
--- the seal over these bytes, where it is not accepted
+-- the seal over these bytes, if it is not accepted
 abbrev pub refused_seal : (Signer → List ℕ → Digest → Bool) → List ℕ → MemberSeal → Option CertRefusal
 refused_seal accepts bytes s = where_true (not (accepts (signers.Member s.member) bytes s.seal)) (refused.BadSeal s.member)

@@ -12,7 +12,7 @@ ghost use Rattle.cert_rules.specs.Parts.{member_refusal, object_refusal, refused
 use chain_messages::{Certificate, MemberSeal, Statement, encode_statement, members_of};
 use chain_types::{CertRefusal, object_count};
 use digest_core::Digest;
-use quorum_core::{Committee, Sealer, Signer};
+use quorum_core::{Checker, Committee, Signer};
 use std::alloc::Global;
 use tx_check::{ShapeRefusal, check_shape};
 use wire_bcs::{Duplicate, OutOfMemory, Seq};
@@ -63,7 +63,7 @@ fn check_members(committee: &Committee, members: &[u32]) -> Result<(), CertRefus
     Ok(())
 }
 
-/// The spelling of the vote that the seals are over.
+/// The encoding of the vote that the seals are over.
 fn vote_bytes(alloc: Global, cert: &Certificate, digest: &Digest) -> Result<Seq<u8>, OutOfMemory>
     requires digest { digest.now ≡ transaction_digest cert.now.tx }
     requires few { length cert.now.origins ≤ 257 }
@@ -78,13 +78,17 @@ fn vote_bytes(alloc: Global, cert: &Certificate, digest: &Digest) -> Result<Seq<
 }
 
 /// Whether each seal is accepted over the bytes, or the first that is not.
-fn check_seals<S: Sealer>(sealer: &S, bytes: &[u8], seals: &[MemberSeal]) -> Result<(), CertRefusal>
-    ensures { result ≡ unless_refused (first_of (refused_seal (S.accepts sealer.now) bytes.now) seals.now) tt }
+fn check_seals<C: Checker>(
+    checker: &C,
+    bytes: &[u8],
+    seals: &[MemberSeal],
+) -> Result<(), CertRefusal>
+    ensures { result ≡ unless_refused (first_of (refused_seal (C.accepts checker.now) bytes.now) seals.now) tt }
 {
     let mut rest = seals;
     while let [seal, after @ ..] = rest {
         let member = seal.member;
-        if !sealer.check(&Signer::Member(member), bytes, &seal.seal) {
+        if !checker.check(&Signer::Member(member), bytes, &seal.seal) {
             return Err(CertRefusal::BadSeal { member });
         }
         rest = after;
@@ -94,15 +98,15 @@ fn check_seals<S: Sealer>(sealer: &S, bytes: &[u8], seals: &[MemberSeal]) -> Res
 
 /// Whether a certificate of the committee is valid, or the first reason why it is not; `digest` is its
 /// transaction's. The limit of writers plays no part. A transaction of any size may be given.
-pub fn check_cert<S: Sealer>(
+pub fn check_cert<C: Checker>(
     alloc: Global,
     cert: &Certificate,
     digest: &Digest,
     committee: &Committee,
-    sealer: &S,
+    checker: &C,
 ) -> Result<(), CertRefusal>
     requires { digest.now ≡ transaction_digest cert.now.tx }
-    ensures { (writers : Option ℕ) → Checks result (cert_refusal (rules_of committee.now writers (S.accepts sealer.now)) cert.now) }
+    ensures { (writers : Option ℕ) → Checks result (cert_refusal (rules_of committee.now writers (C.accepts checker.now)) cert.now) }
 {
     check_objects(alloc, cert)?;
     let Ok(members) = members_of(alloc, cert.seals.as_slice()) else {
@@ -112,5 +116,5 @@ pub fn check_cert<S: Sealer>(
     let Ok(bytes) = vote_bytes(alloc, cert, digest) else {
         return Err(CertRefusal::OutOfMemory);
     };
-    check_seals(sealer, bytes.as_slice(), cert.seals.as_slice())
+    check_seals(checker, bytes.as_slice(), cert.seals.as_slice())
 }

@@ -12,7 +12,7 @@ use quorum_core::Committee;
 pub enum Collected {
     /// This member, the first such, has no word.
     Lacks(u32),
-    /// Their stake is no quorum.
+    /// Their stake is not a quorum.
     Short { weight: u64, total: u64 },
     /// The first member `a` and the first other `b` whose words differ.
     Differ { a: u32, b: u32 },
@@ -30,7 +30,7 @@ pub trait LastWords {
     /// The last word of a member.
     ghost reads: { Self → ℕ → Option Self.Word };
 
-    /// The last word of a member; none where it has none. Takes no memory.
+    /// The last word of a member; none if it has none. Takes no memory.
     fn last_word(&self, member: u32) -> Option<&Self::Word>
         ensures { option_copied result ≡ reads self.now member };
 
@@ -39,7 +39,7 @@ pub trait LastWords {
         ensures { result ≡ same a.now b.now };
 }
 
-/// Whether the words of two members, where there are both, differ. Takes no memory.
+/// Whether the words of two members, if there are both, differ. Takes no memory.
 fn differ<W: LastWords>(words: &W, a: u32, b: u32) -> bool
     ensures { result ≡ differs W.same (W.reads words.now a) (W.reads words.now b) }
 {

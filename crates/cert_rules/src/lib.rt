@@ -1,14 +1,14 @@
 //! Certificates: which are valid, and how votes become one (Sui Lutris).
 //!
-//! A certificate is a transaction with the votes of a quorum that agree. [`check_cert`] tells
+//! A certificate is a transaction with the votes of a quorum that agree. [`check_cert`] says
 //! whether one is valid, or the first reason why it is not: the shape of its transaction, one
 //! origin for each object, members in order, their stake, and each seal over the vote. [`collect`]
 //! makes one of votes, or says that their stake is short or which two differ. What is promised is
 //! said by definitions, one equation a call. Of votes whose seals are accepted it makes a valid
-//! certificate, where the transaction has a valid shape and the votes name one origin for each
-//! object. A check spells the vote once and checks one seal a member.
+//! certificate, if the transaction has a valid shape and the votes name one origin for each
+//! object. A check encodes the vote once and checks one seal a member.
 //!
-//! What the words of members on something give together, votes or acknowledgements, is told by
+//! What the words of members on something give together, votes or acknowledgements, is said by
 //! [`collect_words`], over any [`LastWords`]; [`collect`] stands on it too, and [`collect_acks`], which says what the
 //! acknowledgements of a quorum make final.
 #![tactic(auto)]

@@ -20,7 +20,7 @@ use wire_bcs::{Duplicate, OutOfMemory, Seq};
 /// Why votes make no certificate, in the order in which the cases are tried.
 #[derive(Clone, Copy, Debug, PartialEq, Eq)]
 pub enum CollectRefusal {
-    /// The stake of the voters is no quorum.
+    /// The stake of the voters is not a quorum.
     Short { weight: u64, total: u64 },
     /// The first member `a` and the first other `b` that named other origins.
     Differ { a: u32, b: u32 },
@@ -35,7 +35,7 @@ impl From<OutOfMemory> for CollectRefusal {
     }
 }
 
-/// The origins that a vote names; none where the statement is no vote.
+/// The origins that a vote names; none if the statement is not a vote.
 fn voted_origins(statement: &Statement) -> &[Option<Digest>]
     ensures { result.now ≡ voted_origins statement.now }
 {
@@ -162,7 +162,7 @@ pub fn collect(
     ensures exact { Gives result (certificate_of tx.now votes.now) (sealed_collected committee.now votes.now) }
     // Each vote is the statement that the seals of the certificate are over.
     ensures agree { IfOk result (λ cert. Each (λ vote. vote.statement ≡ vote_of cert) votes.now) }
-    // So it is valid where the votes are sealed well and the transaction has a valid shape.
+    // So it is valid if the votes are sealed well and the transaction has a valid shape.
     ensures valid { IfOk result (λ cert. (rules : Rules) → rules.stakes ≡ committee.now → AreSound rules tx.now votes.now → cert_refusal rules cert ≡ None) }
 {
     let members = voters(alloc, votes.as_slice())?;

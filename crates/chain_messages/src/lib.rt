@@ -1,11 +1,13 @@
-//! What the members of the committee tell each other: statements, certificates and the entries of
+//! What the members of the committee send each other: statements, certificates and the entries of
 //! the consensus sequence.
 #![tactic(auto)]
 
+mod encoded;
 mod members;
 mod messages;
 mod messages_wire;
 
+pub use encoded::{decode_certificate_with, decode_entry_with};
 pub use members::members_of;
 pub use messages::{Certificate, Entry, MemberSeal, Sealed, Statement};
 pub use messages_wire::{

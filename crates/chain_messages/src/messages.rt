@@ -8,7 +8,7 @@ use wire_bcs::Seq;
 #[derive(Debug, Drop)]
 pub enum Statement {
     /// A vote for a transaction, with one origin for each of its objects: the transaction of this
-    /// epoch that produced the version, or none where the epoch opened with it.
+    /// epoch that produced the version, or none if the epoch opened with it.
     Vote {
         epoch: u64,
         tx: Digest,

@@ -236,7 +236,7 @@ impl Duplicate for Entry {
     }
 }
 
-/// The one spelling of a statement. Its lists are at most 2147483647 long.
+/// The one encoding of a statement. Its lists are at most 2147483647 long.
 pub fn encode_statement(alloc: Global, value: &Statement) -> Result<Seq<u8>, OutOfMemory>
     requires { codecs.statement.short value.now }
     ensures { IfOk result (λ bytes. bytes ≡ codecs.statement.spell value.now) }
@@ -244,13 +244,13 @@ pub fn encode_statement(alloc: Global, value: &Statement) -> Result<Seq<u8>, Out
     encode(alloc, value)
 }
 
-/// The statement that all the bytes spell. A fault comes exactly where there is none, and is the first.
+/// The statement that all the bytes encode. A fault comes exactly if there is none, and is the first.
 pub fn decode_statement(alloc: Global, bytes: &[u8]) -> Result<Statement, Unread>
-    // What is read is spelled so, and is a value of its type.
+    // What is read is encoded so, and is a value of its type.
     ensures found { IfOk result (λ x. (bytes.now ≡ codecs.statement.spell x) × codecs.statement.fits x) }
     // So it may be written again.
     ensures short { IfOk result codecs.statement.short }
-    // What is spelled so is read, unless memory runs out.
+    // What is encoded so is read, unless memory runs out.
     ensures only { (x : _) → codecs.statement.fits x → bytes.now ≡ codecs.statement.spell x → Decodes bytes.now result (Ok x) }
     // Which fault it is.
     ensures exact { Decodes bytes.now result (whole codecs.statement bytes.now) }
@@ -258,7 +258,7 @@ pub fn decode_statement(alloc: Global, bytes: &[u8]) -> Result<Statement, Unread
     decode(alloc, bytes)
 }
 
-/// The one spelling of a sealed statement. Its lists are at most 2147483647 long.
+/// The one encoding of a sealed statement. Its lists are at most 2147483647 long.
 pub fn encode_sealed(alloc: Global, value: &Sealed) -> Result<Seq<u8>, OutOfMemory>
     requires { codecs.sealed.short value.now }
     ensures { IfOk result (λ bytes. bytes ≡ codecs.sealed.spell value.now) }
@@ -266,13 +266,13 @@ pub fn encode_sealed(alloc: Global, value: &Sealed) -> Result<Seq<u8>, OutOfMemo
     encode(alloc, value)
 }
 
-/// The sealed statement that all the bytes spell. A fault comes exactly where there is none, and is the first.
+/// The sealed statement that all the bytes encode. A fault comes exactly if there is none, and is the first.
 pub fn decode_sealed(alloc: Global, bytes: &[u8]) -> Result<Sealed, Unread>
-    // What is read is spelled so, and is a value of its type.
+    // What is read is encoded so, and is a value of its type.
     ensures found { IfOk result (λ x. (bytes.now ≡ codecs.sealed.spell x) × codecs.sealed.fits x) }
     // So it may be written again.
     ensures short { IfOk result codecs.sealed.short }
-    // What is spelled so is read, unless memory runs out.
+    // What is encoded so is read, unless memory runs out.
     ensures only { (x : _) → codecs.sealed.fits x → bytes.now ≡ codecs.sealed.spell x → Decodes bytes.now result (Ok x) }
     // Which fault it is.
     ensures exact { Decodes bytes.now result (whole codecs.sealed bytes.now) }
@@ -280,7 +280,7 @@ pub fn decode_sealed(alloc: Global, bytes: &[u8]) -> Result<Sealed, Unread>
     decode(alloc, bytes)
 }
 
-/// The one spelling of a certificate. Its lists are at most 2147483647 long.
+/// The one encoding of a certificate. Its lists are at most 2147483647 long.
 pub fn encode_certificate(alloc: Global, value: &Certificate) -> Result<Seq<u8>, OutOfMemory>
     requires { codecs.certificate.short value.now }
     ensures { IfOk result (λ bytes. bytes ≡ codecs.certificate.spell value.now) }
@@ -288,13 +288,13 @@ pub fn encode_certificate(alloc: Global, value: &Certificate) -> Result<Seq<u8>,
     encode(alloc, value)
 }
 
-/// The certificate that all the bytes spell. A fault comes exactly where there is none, and is the first.
+/// The certificate that all the bytes encode. A fault comes exactly if there is none, and is the first.
 pub fn decode_certificate(alloc: Global, bytes: &[u8]) -> Result<Certificate, Unread>
-    // What is read is spelled so, and is a value of its type.
+    // What is read is encoded so, and is a value of its type.
     ensures found { IfOk result (λ x. (bytes.now ≡ codecs.certificate.spell x) × codecs.certificate.fits x) }
     // So it may be written again.
     ensures short { IfOk result codecs.certificate.short }
-    // What is spelled so is read, unless memory runs out.
+    // What is encoded so is read, unless memory runs out.
     ensures only { (x : _) → codecs.certificate.fits x → bytes.now ≡ codecs.certificate.spell x → Decodes bytes.now result (Ok x) }
     // Which fault it is.
     ensures exact { Decodes bytes.now result (whole codecs.certificate bytes.now) }
@@ -302,7 +302,7 @@ pub fn decode_certificate(alloc: Global, bytes: &[u8]) -> Result<Certificate, Un
     decode(alloc, bytes)
 }
 
-/// The one spelling of an entry. Its lists are at most 2147483647 long.
+/// The one encoding of an entry. Its lists are at most 2147483647 long.
 pub fn encode_entry(alloc: Global, value: &Entry) -> Result<Seq<u8>, OutOfMemory>
     requires { codecs.entry.short value.now }
     ensures { IfOk result (λ bytes. bytes ≡ codecs.entry.spell value.now) }
@@ -310,13 +310,13 @@ pub fn encode_entry(alloc: Global, value: &Entry) -> Result<Seq<u8>, OutOfMemory
     encode(alloc, value)
 }
 
-/// The entry that all the bytes spell. A fault comes exactly where there is none, and is the first.
+/// The entry that all the bytes encode. A fault comes exactly if there is none, and is the first.
 pub fn decode_entry(alloc: Global, bytes: &[u8]) -> Result<Entry, Unread>
-    // What is read is spelled so, and is a value of its type.
+    // What is read is encoded so, and is a value of its type.
     ensures found { IfOk result (λ x. (bytes.now ≡ codecs.entry.spell x) × codecs.entry.fits x) }
     // So it may be written again.
     ensures short { IfOk result codecs.entry.short }
-    // What is spelled so is read, unless memory runs out.
+    // What is encoded so is read, unless memory runs out.
     ensures only { (x : _) → codecs.entry.fits x → bytes.now ≡ codecs.entry.spell x → Decodes bytes.now result (Ok x) }
     // Which fault it is.
     ensures exact { Decodes bytes.now result (whole codecs.entry bytes.now) }

@@ -1,4 +1,4 @@
--- A transaction whose lists are short enough can be spelled.
+-- A transaction whose lists are short enough can be encoded.
 use Rattle.std.proofs.Common.{◌≡◌, ℕ, zero, suc, ◌<◌, Bool, true, false, ◌||◌, List, [], ◌∷◌, length, refl, arith}
 use Rattle.std.specs.Prelude.{All, slice_index_or}
 use Rattle.std.specs.List.{list_any}

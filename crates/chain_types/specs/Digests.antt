@@ -1,4 +1,4 @@
--- The digests of objects and transactions (this profile: tagged SHA-256 of the spelling); which versions a
+-- The digests of objects and transactions (this profile: tagged SHA-256 of the encoding); which versions a
 -- transaction consumes, how many objects it has, and the version that it writes (Sui documentation:
 -- versions are Lamport clocks; which versions count is this profile's choice).
 use Rattle.std.specs.Prelude.{ℕ, suc, max, Bool, true, false, List, ◌∷◌, length, filter, filter_map, fold, Option, Some, None}

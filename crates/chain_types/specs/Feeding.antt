@@ -4,7 +4,7 @@ use Rattle.std.proofs.Common.{subst, append_assoc}
 use Rattle.digest_core.specs.declared.Hasher.{Hasher}
 use Rattle.digest_core.specs.Tagged.{Hashes}
 
--- whatever the hasher was fed before, it was fed the text behind it
+-- whatever the hasher was fed before, it was fed the text after it
 pub record Feeds (old new : Hasher) (text : List ℕ) : Type 0 where
   pub feeds : (fed : List ℕ) → Hashes old fed → Hashes new (fed ++ text)
 

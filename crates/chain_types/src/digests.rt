@@ -1,4 +1,4 @@
-//! Digests of objects, taken without memory: the hasher is fed the spelling piece by piece.
+//! Digests of objects, taken without memory: the hasher is fed the encoding piece by piece.
 
 ghost use Rattle.std.specs.Prelude.{◌≡◌, ◌<◌};
 ghost use Rattle.wire_bcs.specs.Uleb.{uleb};

@@ -5,6 +5,8 @@
 #![tactic(auto)]
 
 mod digests;
+mod encoded;
+mod hashed;
 mod keys;
 mod long;
 mod objects;
@@ -14,6 +16,8 @@ mod transactions;
 mod transactions_wire;
 
 pub use digests::object_digest;
+pub use encoded::{decode_signed_with, encoded_digest};
+pub use hashed::HashedObject;
 pub use keys::{lamport, object_count, owned_keys};
 pub use long::has_long_list;
 pub use objects::{

@@ -28,7 +28,7 @@ pub struct ObjectRef {
 /// Who may use an object (Sui documentation, object ownership).
 #[derive(Clone, Copy, Debug, PartialEq, Eq)]
 pub enum Owner {
-    /// The user of this address alone.
+    /// Only the user of this address.
     Address(Address),
     /// Everyone, in the order of consensus, from this initial version on.
     Shared(u64),

@@ -24,7 +24,7 @@ pub enum DecideRefusal {
 /// Why a certificate is not valid, in the order in which the cases are tried.
 #[derive(Clone, Copy, Debug, PartialEq, Eq)]
 pub enum CertRefusal {
-    /// The shape's fault, 1 to 12, or 13 where there is not one origin for each object.
+    /// The shape's fault, 1 to 12, or 13 if there is not one origin for each object.
     Shape(u8),
     /// The members do not ascend, repeat, or are not known.
     Order,

@@ -322,7 +322,7 @@ impl Duplicate for SignedTx {
     }
 }
 
-/// The one spelling of a transaction. Its lists are at most 2147483647 long.
+/// The one encoding of a transaction. Its lists are at most 2147483647 long.
 pub fn encode_tx(alloc: Global, tx: &Transaction) -> Result<Seq<u8>, OutOfMemory>
     requires { codecs.transaction.short tx.now }
     ensures { IfOk result (λ bytes. bytes ≡ codecs.transaction.spell tx.now) }
@@ -340,7 +340,7 @@ pub fn tx_digest(alloc: Global, tx: &Transaction) -> Result<Digest, OutOfMemory>
     Ok(digest_of(TAG_TRANSACTION, bytes.as_slice()))
 }
 
-/// The one spelling of a signed transaction. Its lists are at most 2147483647 long.
+/// The one encoding of a signed transaction. Its lists are at most 2147483647 long.
 pub fn encode_signed(alloc: Global, signed: &SignedTx) -> Result<Seq<u8>, OutOfMemory>
     requires { codecs.signed.short signed.now }
     ensures { IfOk result (λ bytes. bytes ≡ codecs.signed.spell signed.now) }
@@ -348,14 +348,14 @@ pub fn encode_signed(alloc: Global, signed: &SignedTx) -> Result<Seq<u8>, OutOfM
     encode(alloc, signed)
 }
 
-/// The signed transaction that all the bytes spell. A fault comes exactly where there is none, and is the
+/// The signed transaction that all the bytes encode. A fault comes exactly if there is none, and is the
 /// first.
 pub fn decode_signed(alloc: Global, bytes: &[u8]) -> Result<SignedTx, Unread>
-    // What is read is spelled so, and is a value of its type.
+    // What is read is encoded so, and is a value of its type.
     ensures found { IfOk result (λ x. (bytes.now ≡ codecs.signed.spell x) × codecs.signed.fits x) }
     // So it may be written again.
     ensures short { IfOk result codecs.signed.short }
-    // What is spelled so is read, unless memory runs out.
+    // What is encoded so is read, unless memory runs out.
     ensures only { (x : _) → codecs.signed.fits x → bytes.now ≡ codecs.signed.spell x → Decodes bytes.now result (Ok x) }
     // Which fault it is.
     ensures exact { Decodes bytes.now result (whole codecs.signed bytes.now) }

@@ -1,4 +1,4 @@
--- A checkpoint can be spelled exactly where its list is short.
+-- A checkpoint can be encoded exactly if its list is short.
 use Rattle.std.proofs.Common.{◌<◌, length}
 use Rattle.wire_bcs.specs.Digests.{digest}
 use Rattle.wire_bcs.specs.Items.{length_limit}

@@ -5,12 +5,12 @@ use Rattle.checkpoint_core.specs.declared.checkpoints.Checkpoint.{Checkpoint}
 use Rattle.checkpoint_core.specs.declared.links.LinkRefusal.{LinkRefusal}
 use Rattle.checkpoint_core.specs.declared.links.LinkRefusal.TheVariants as refused
 
--- the number and the digest of a checkpoint behind which another can come
+-- the number and the digest of a checkpoint after which another can come
 abbrev pub HasNext : Option (ℕ × Digest) → Type 0
 HasNext None = Unit {0}
 HasNext (Some before) = before.0 < 2 ^ 64 - 1
 
--- the number and the parent of the checkpoint behind this number and digest; the first has number 0 and 32 zero bytes
+-- the number and the parent of the checkpoint after this number and digest; the first has number 0 and 32 zero bytes
 abbrev pub wanted_number : Option (ℕ × Digest) → ℕ
 wanted_number None = 0
 wanted_number (Some before) = before.0 + 1

@@ -66,11 +66,11 @@ impl Duplicate for Checkpoint {
     }
 }
 
-/// How long a list is at least that cannot be spelled.
+/// How long a list is at least that cannot be encoded.
 const TOO_LONG: u64 = 2_147_483_648;
 
 impl Checkpoint {
-    /// Whether it can be spelled: it has at most 2147483647 items. Takes no memory.
+    /// Whether it can be encoded: it has at most 2147483647 items. Takes no memory.
     #[tactic(auto, using(crate::proofs::Shorts::few_short, crate::proofs::Shorts::short_few))]
     pub fn is_short(&self) -> bool
         ensures short { result ≡ true → codecs.checkpoint.short self.now }

@@ -10,7 +10,7 @@ use std::alloc::Global;
 use std::marker::Model;
 use wire_bcs::{Duplicate, OutOfMemory};
 
-/// A checkpoint that was built, with its digest: who asks for it needs no memory and hashes nothing. Contracts see
+/// A checkpoint that was built, with its digest: asking for it takes no memory and hashes nothing. Contracts see
 /// the checkpoint.
 #[derive(Debug, Drop)]
 pub struct HashedCheckpoint {
@@ -31,7 +31,7 @@ impl Model for HashedCheckpoint {
 }
 
 impl HashedCheckpoint {
-    /// Takes the digest of a checkpoint. One of 2^31 items counts as want of memory.
+    /// Takes the digest of a checkpoint. One of 2^31 items counts as running out of memory.
     pub fn new(alloc: Global, checkpoint: Checkpoint) -> Result<HashedCheckpoint, OutOfMemory>
         ensures { IfOk result (λ s. s ≡ checkpoint) }
     {

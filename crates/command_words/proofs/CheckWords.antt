@@ -1,4 +1,4 @@
--- The stakes and the digest that words spell.
+-- The stakes and the digest that words denote.
 use Rattle.std.proofs.Common.{◌≡◌, ◌∙◌, ◌==◌, ◌&&◌, ◌<◌, ◌≤◌, ◌+◌, ℕ, suc, Bool, true, false, nat_le, nat_lt, List, [], ◌∷◌, ◌++◌, length, take, set, Option, Some, None, Result, Ok, Err, MatchResult, if◌then◌else◌, refl, sym, ap, subst, arith, append-nil, length-append}
 use Rattle.std.specs.Prelude.{option_and_then, option_map}
 use Rattle.std.specs.List.{slice_split}
@@ -60,7 +60,7 @@ not_empty ps p rest stakes is e = go (number_in 1 4294967295 p) (each_of (number
     go (Some n) None e = absurd (cc)
     go (Some n) (Some xs) e = let same : n ∷ xs ≡ stakes = cc in subst (λ (ys : List ℕ). (length ys == 0) ≡ false) same (grind (arith, nat_tests))
 
--- the stakes that a word spells are those of a committee
+-- the stakes that a word denotes are those of a committee
 pub spelled_committee : (word stakes : List ℕ) → stakes_in word ≡ Some stakes → committee_of stakes ≡ Ok stakes
 unfolding numbers_in committee_of
 spelled_committee word stakes is = go (each_of (number_in 1 4294967295) (parts word)) refl is

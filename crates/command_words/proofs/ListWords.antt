@@ -1,4 +1,4 @@
--- The numbers that words spell.
+-- The numbers that words denote.
 use Rattle.std.proofs.Common.{◌≡◌, ◌∙◌, ◌==◌, ◌<◌, ◌≤◌, ◌+◌, ℕ, false, true, nat_le, List, [], ◌∷◌, ◌++◌, length, take, set, Option, Some, None, refl, sym, ap, arith, append-nil, length-append}
 use Rattle.std.specs.Prelude.{option_and_then}
 use Rattle.std.specs.List.{slice_split}
@@ -31,7 +31,7 @@ one_read low high word row count text part after number reads cut is room =
     ∙ (ap (λ (first : Option ℕ). after_front (take count row) (with_both first (each_of (number_in low high) after) (λ y ys. y ∷ ys))) is
     ∙ (ap (λ (ps : List (List ℕ)). after_front (take count row) (each_of (number_in low high) ps)) (sym cut) ∙ reads)))
 
--- a part that is no number
+-- a part that is not a number
 pub not_read : (low high : ℕ) (word row : List ℕ) (count : ℕ) (text part : List ℕ) (after : List (List ℕ)) → ReadsOn low high word row count (parts text) → parts text ≡ part ∷ after
     → None ≡ number_in low high part → None ≡ numbers_in low high word
 unfolding each_of numbers_in
@@ -40,7 +40,7 @@ not_read low high word row count text part after reads cut is =
     ap (λ (first : Option ℕ). after_front (take count row) (with_both first (each_of (number_in low high) after) (λ y ys. y ∷ ys))) is
     ∙ (ap (λ (ps : List (List ℕ)). after_front (take count row) (each_of (number_in low high) ps)) (sym cut) ∙ reads))
 
--- a part behind 64
+-- a part after 64
 pub too_many : (low high : ℕ) (word row : List ℕ) (count : ℕ) (text part : List ℕ) (after : List (List ℕ)) (number : ℕ) → ReadsOn low high word row count (parts text) → parts text ≡ part ∷ after
     → Some number ≡ number_in low high part → count ≡ 64 → length row ≡ 64 → None ≡ numbers_in low high word
 unfolding each_of numbers_in

@@ -29,7 +29,7 @@ abbrev pub check_of : Option (List ℕ) → Option Digest → Option Command
 check_of None tx = None
 check_of (Some stakes) tx = check_with stakes tx
 
--- what stands behind `check`
+-- what follows `check`
 unfoldable pub check_words : List ℕ → List ℕ → Option Command
 check_words stakes tx = check_of (stakes_in stakes) (digest_in tx)
 

@@ -12,7 +12,7 @@ abbrev pub run_in : List (List ℕ) → Option Command
 run_in (name ∷ []) = if bytes_eq name (codes "run") then Some command.Run else None
 run_in words = None
 
--- `make` and a number from 1 to 10,000, in decimal digits with no zero in front
+-- `make` and a number from 1 to 10,000, in decimal digits with no leading zero
 abbrev pub make_in : List (List ℕ) → Option Command
 make_in (name ∷ number ∷ []) = if bytes_eq name (codes "make") then option_map command.Make (number_in 1 10000 number) else None
 make_in words = None
@@ -47,7 +47,7 @@ IsInRange (command.Replay member) = member ≤ 63
 
 -- ---- a journal file
 
--- the place of the last of three words or more, where the one before it is `in`
+-- the place of the last of three words or more, if the one before it is `in`
 abbrev pub place_in : List (List ℕ) → Option ℕ
 place_in words =
     if nat_le 3 (length words) && bytes_eq (slice_index_or words (length words - 2) []) (codes "in")

@@ -17,7 +17,7 @@ use quorum_core::Committee;
 /// The highest stake.
 const MOST_STAKE: u64 = 4_294_967_295;
 
-/// The committee whose stakes the word spells, joined by commas.
+/// The committee whose stakes the word denotes, joined by commas.
 #[tactic(auto, using(crate::proofs::CheckWords::read_is_committee))]
 fn committee_in(word: &[u8]) -> Option<Committee>
     ensures { result ≡ stakes_in word.now }
@@ -57,7 +57,7 @@ fn decoded(word: &[u8]) -> Option<Digest>
     }
 }
 
-/// The digest that the word spells: 64 hexadecimal digits in lower case.
+/// The digest that the word denotes: 64 hexadecimal digits in lower case.
 #[tactic(auto, unfolding(crate::specs::CheckWords::digest_in))]
 fn digest_in(word: &[u8]) -> Option<Digest>
     ensures { result ≡ digest_in word.now }
@@ -71,7 +71,7 @@ fn digest_in(word: &[u8]) -> Option<Digest>
     decoded(word)
 }
 
-/// What stands behind `check`.
+/// What follows `check`.
 #[tactic(auto, unfolding(crate::specs::CheckWords::check_words))]
 fn check_words(stakes: &[u8], tx: &[u8]) -> Option<Command>
     ensures is { result ≡ check_words stakes.now tx.now }

@@ -19,7 +19,7 @@ fn comma_in(text: &[u8]) -> Option<usize>
     text.iter().position(|byte| *byte == b',')
 }
 
-/// What stands before the first comma, and what stands behind it.
+/// What stands before the first comma, and what follows it.
 #[tactic(auto, unfolding(schedule_text::specs::Bytes::cut_at))]
 fn cut_comma(text: &[u8]) -> Option<(&[u8], &[u8])>
     ensures value { option_map (λ p. (p.0.now, p.1.now)) result ≡ cut_at 44 text.now }
@@ -40,7 +40,7 @@ fn first_part(text: &[u8]) -> (&[u8], Option<&[u8]>)
     }
 }
 
-/// The number from `low` to `high` that the part spells.
+/// The number from `low` to `high` that the part denotes.
 fn number_of(low: u64, high: u64, part: &[u8]) -> Option<u32>
     requires { high ≤ 4294967295 }
     ensures { result ≡ number_in low high part.now }
@@ -51,8 +51,8 @@ fn number_of(low: u64, high: u64, part: &[u8]) -> Option<u32>
     }
 }
 
-/// Writes the numbers from `low` to `high` that the word spells, joined by commas, into the front of the row. Answers
-/// how many; none exactly where it does not spell 1 to 64. Takes no memory.
+/// Writes the numbers from `low` to `high` that the word denotes, joined by commas, to the start of the row. Answers
+/// how many; none exactly if it does not denote 1 to 64. Takes no memory.
 pub fn read_numbers(low: u64, high: u64, word: &[u8], row: &mut [u32]) -> Option<usize>
     requires size { length row.old ≡ 64 }
     requires high { high ≤ 4294967295 }

@@ -38,7 +38,7 @@ fn replay_command<'a>(alloc: Global) -> Result<Command<'a>, AllocError> {
     bare(alloc, "replay").arg(Arg::new(alloc, "M").required(true))
 }
 
-/// The program with one more command, where there was memory for both.
+/// The program with one more command, if there was memory for both.
 fn with_command<'a>(
     program: Command<'a>,
     command: Result<Command<'a>, AllocError>,
@@ -64,7 +64,7 @@ fn parsed<'a>(alloc: Global, words: &'a [String]) -> Result<ArgMatches<'a>, Erro
 }
 
 /// Whether clap takes the words. Nothing rests on what it takes: which words are a command is decided by
-/// [`crate::command_of`] alone, and clap refuses those for want of memory.
+/// [`crate::command_of`] only, and clap refuses those if out of memory.
 pub fn is_parsed(alloc: Global, words: &[String]) -> bool {
     parsed(alloc, words).is_ok()
 }

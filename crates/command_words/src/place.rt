@@ -6,7 +6,7 @@ ghost use Rattle.command_words.specs.Words.{names_replay, place_in};
 
 use crate::words::is_word;
 
-/// The place of the last word, exactly where there are at least three words and the last but one is
+/// The place of the last word, exactly if there are at least three words and the last but one is
 /// `in`: the word there is the path of a journal file, and the words before `in` are a command.
 /// Takes no memory.
 pub fn place_of(words: &[String]) -> Option<u64>

@@ -35,7 +35,7 @@ pub enum Command {
     Replay { member: u32 },
 }
 
-/// Whether the word is this one.
+/// Whether the word has this name.
 pub(crate) fn is_word(word: &str, name: &str) -> bool
     ensures { result ≡ bytes_eq word.now name.now }
 {

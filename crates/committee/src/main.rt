@@ -1,7 +1,7 @@
 //! `committee run` reads a schedule from standard input, runs it, and writes the report. `make N` makes one of N
 //! transactions and sums its run up, `replay M` starts member M from records that were kept, `check`, `follow` and `desk`
-//! are a client, a follower and callers of a vote desk. Behind a command `in FILE` keeps the records in a file, and not in
-//! memory alone.
+//! are a client, a follower and callers of a vote desk. After a command `in FILE` keeps the records in a file, and not in
+//! memory only.
 //!
 //! [`committee_core::committee`] is the program over any source, sink and keeper, and [`committee_core::committee_in`] over
 //! a journal file; their clauses are what is promised. `main` hands it the real standard streams, and a keeper in memory or
@@ -20,7 +20,7 @@ use std::process::ExitCode;
 use std::sync::Wait;
 use std::thread::Threads;
 
-/// The words behind the program's name.
+/// The words after the program's name.
 fn words_of(rt: &HostRuntime) -> io::Result<Vec<String>> {
     let mut words = Vec::new(rt.alloc());
     for word in env::args(rt)?.skip(1) {
@@ -29,7 +29,7 @@ fn words_of(rt: &HostRuntime) -> io::Result<Vec<String>> {
     Ok(words)
 }
 
-/// The status where the words cannot be had: words that are not UTF-8 are wrong words.
+/// The status if the words cannot be had: words that are not UTF-8 are wrong words.
 fn status_of_words(error: &io::Error) -> u8 {
     match error.kind() {
         io::ErrorKind::InvalidData => 2,

@@ -56,18 +56,18 @@ not_so is a = never (is.1 a)
     never : IsTrue false → ⊥
     never h = cc
 
--- who is no member does not differ
+-- one that is not a member does not differ
 past_all : (posts : List Post) (place : ℕ) (l : Link) (m : ℕ) → length posts ≤ m → Differs posts place l m → ⊥
 past_all posts place l m most (c, e, other) = clash (sym (ap (λ (p : Option Post). checkpoint_at p place) (no_post posts m most)) ∙ e)
 
--- where none of the members does, none does
+-- if none of the members does, none does
 pub none_at_all : (posts : List Post) (place : ℕ) (l : Link) (end : ℕ) → ((m : ℕ) → m < end → Differs posts place l m → ⊥) → length posts ≤ end → (m : ℕ) → Differs posts place l m → ⊥
 none_at_all posts place l end below most m d = elim (cases_lt m end) [
   | inl low ↦ below m low d
   | inr high ↦ past_all posts place l m (omega (arith, most, high)) d
 ]
 
--- and where none does at the links, none does at all
+-- and if none does at the links, none does at all
 pub all_agree : (posts : List Post) (links : List Link) (end : ℕ) → ((p : ℕ) → p < end → NoneDiffers posts links p) → length links ≤ end → AllAgree posts links
 all_agree posts links end before most place l there = before place (let low = in_range links place l there in omega (arith, low, most)) l there
 

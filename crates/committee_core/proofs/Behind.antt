@@ -1,4 +1,4 @@
--- What is written and kept behind a front of the events.
+-- What is written and kept after a prefix of the events.
 use Rattle.std.proofs.Common.{◌≡◌, ◌≤◌, ◌<◌, ◌+◌, inl, inr, ℕ, List, [], ◌∷◌, ◌++◌, map, length, take, drop, get_or, Option, Some, None, refl, sym, ap, ◌∙◌, subst, append_assoc, append-nil, take-append-drop}
 use Rattle.std.proofs.lemmas.Grind.{flat_map-append}
 use Rattle.std.proofs.lemmas.List.{drop_more, take_all, take_more}
@@ -40,7 +40,7 @@ reads-next : (start : Option Journals) (front : List Event) (e : Event) (back : 
 reads-next start front e back (inl told) = inl told
 reads-next start front e back (inr all) = inr ((each_back ReadsNone front (e ∷ back) all).0)
 
--- ---- runs of fronts
+-- ---- runs of prefixes
 
 run-append : (s : Setting) (front back : List Event) (w : World) → run s (front ++ back) w ≡ run s back (run s front w)
 run-append s [] back w = refl
@@ -58,7 +58,7 @@ text-append s front back w = ap lines_text (report-append s front back w) ∙ fl
 text-line : (s : Setting) (e : Event) (back : List Event) (w : World) → lines_text (report_from s (e ∷ back) w) ≡ lines_text (lines_of s w e) ++ lines_text (report_from s back (happens s w e))
 text-line s e back w = flat_map-append text_of (lines_of s w e) (report_from s back (happens s w e))
 
--- every member starts from its journal, where the entries behind the front can be kept
+-- every member starts from its journal, if the entries after the prefix can be kept
 abbrev StartsBehind : Setting → List Event → Type 0
 StartsBehind s front = AreKeepable (run s front (new_world s)).sequences → Restarts s (run s front (new_world s))
 
@@ -66,7 +66,7 @@ starts-at : (s : Setting) (es front back : List Event) → StartsAlong s es → 
 unfolding world_after
 starts-at s es front back along is = along front back is
 
--- ---- behind a front
+-- ---- after a prefix
 
 pub record Behind (trust : Trust) (s : Setting) (start : Option Journals) (held0 : Option (List ℕ)) (front : List Event) (sc : Scene) (told : Option Journals) (held : Option (List ℕ)) : Type 0 where
   pub shows : Shows trust s (run s front (new_world s)) sc
@@ -153,7 +153,7 @@ whole-shown trust s start held0 i sc told held done so = λ reads.
 
 -- ---- cuts
 
--- a front of the lines of the next event was written
+-- a prefix of the lines of the next event was written
 front-written : (s : Setting) (front : List Event) (e : Event) (back : List Event) (a b c : Option (List ℕ)) → Appends a b (lines_text (report_from s front (new_world s)))
     → AppendsFront b c (lines_text (lines_of s (run s front (new_world s)) e)) → AppendsFront a c (lines_text (report_from s (front ++ e ∷ back) (new_world s)))
 front-written s front e back a b c done (more, left, split, extra) =
@@ -195,7 +195,7 @@ cut-untaken trust l s start held0 front e back sc told told' held held' is wide 
     ahead-of trust l (setting_in trust s) start told' front e back
     (kept-untaken trust l (setting_in trust s) (run (setting_in trust s) front (new_world (setting_in trust s))) sc e start told told' b.shows b.tells wide cut.kept))
 
--- it was taken, and a front of its lines was written
+-- it was taken, and a prefix of its lines was written
 cut-unwritten : (trust : Trust) (l : SceneLaws trust) (s : Schedule) (start : Option Journals) (held0 : Option (List ℕ)) (front : List Event) (e : Event) (back : List Event) (sc : Scene) (told told' : Option Journals) (held held' : Option (List ℕ))
     → s.events ≡ front ++ e ∷ back → AreAtLeast start (length sc.posts) → (ReadsBack start front → Behind trust (setting_in trust s) start held0 front sc told held)
     → StartsAlong (setting_in trust s) s.events → IsUnwritten trust e sc told told' held held' → RunsFront trust s held0 held' start told'

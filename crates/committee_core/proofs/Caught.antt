@@ -73,7 +73,7 @@ module _ (known : Known) (opening handed : List Object) (m : Member) (epoch : �
   pub differs_here : (number place : ℕ) → caught_up known (opened handed) (before_epoch epoch (built m)) ≡ Err (stopped.Differs number place) → IsVerdict known opening (asked_up m) (verdict.Differs number place)
   differs_here number place is = differs_at known opening m number place (follower_is (Err (stopped.Differs number place)) is)
 
--- ---- behind a run
+-- ---- after a run
 
 chosen : (h u : Bool) (x : Seated) → option_map (λ (q : Seated). q.state) (cond h (cond u (Some x) None) None) ≡ cond h (cond u (Some x.state) None) None
 chosen true true x = refl
@@ -95,7 +95,7 @@ module _ (s : Setting) (w : World) (m : ℕ) (v : Verdict) where
   unfolding Sees
   shown trust sc shows sees = subst (λ (a : Asked). IsVerdict (made_as w) s.opening a v) (asked_post s 0 w.seats m) (subst Sees shows.scene sees)
 
--- what is seen of the member behind a run is true of it
+-- what is seen of the member after a run is true of it
 pub found : (text : List ℕ) (m : ℕ) (kept kept' : Option Journals) (sc : Scene) (v : Verdict) → RunsSilently program_trust text kept kept' sc
     → IsVerdict (transaction_of sc.known) sc.opening (asked_at (slice_get sc.posts m)) v → Finds text m kept kept' v
 unfolding Sees

@@ -1,4 +1,4 @@
--- The definition's world behind a front of the events, as the code's scene shows it.
+-- The definition's world after a prefix of the events, as the code's scene shows it.
 use Rattle.std.proofs.Common.{◌≡◌, ◌≤◌, ◌<◌, ◌⊎◌, inl, inr, ℕ, zero, suc, Bool, true, false, List, [], ◌∷◌, ◌++◌, map, length, Option, Some, None, Ok, Err, slice_get, refl, sym, ap, ◌∙◌, subst, arith}
 use Rattle.outside.specs.Lists.{Journals, journal_of, with_record}
 use Rattle.protocol_spec.proofs.ListLemmas.{set_length}
@@ -15,7 +15,7 @@ use Rattle.scene_spec.specs.Starts.{started}
 use Rattle.world_spec.specs.Setting.{Setting, Trust}
 use Rattle.world_spec.specs.World as worlds
 use Rattle.world_spec.specs.World.{World}
-use Rattle.world_spec.specs.Step.{happens}
+use Rattle.world_spec.specs.Step.{happens, happens_over}
 use Rattle.world_spec.specs.Report.{lines_of}
 use Rattle.world_spec.specs.Run.{records_of, run}
 use Rattle.scene_spec.specs.Posts.{Post, with_all}
@@ -29,14 +29,14 @@ use Rattle.committee_core.specs.Steps.{IsTaken}
 use Rattle.committee_core.proofs.Restarting.{restart-of}
 use Rattle.run_law.proofs.SceneSteps.{posts-shown}
 
--- ---- told lists
+-- ---- observable lists
 
--- lists that were told at the start are told, are as many, and are the journals of the world
+-- lists that were observable at the start are observable, are as many, and are the journals of the world
 abbrev pub TellsFrom : Option Journals → Option Journals → World → Type 0
 TellsFrom None now w = Unit {0}
 TellsFrom (Some start) now w = (lists : Journals) × (now ≡ Some lists) × (length lists ≡ length start) × Tells (Some lists) w
 
--- each of them is a front of its journal
+-- each of them is a prefix of its journal
 abbrev pub FrontFrom : Option Journals → Option Journals → World → Type 0
 FrontFrom None now w = Unit {0}
 FrontFrom (Some start) now w = (lists : Journals) × (now ≡ Some lists) × TellsFront (Some lists) w
@@ -46,7 +46,7 @@ all-length [] lists m = refl
 all-length (x ∷ records) lists m =
     all-length records (with_record lists m (journals.journal_record.spell x)) m ∙ set_length lists m (journal_of lists m ++ journals.journal_record.spell x ∷ [])
 
--- lists that were told are told behind a line
+-- observable lists stay observable after a line
 abbrev IsToldAs : Journals → Option Journals → Type 0
 IsToldAs lists now = (lists' : Journals) × (now ≡ Some lists') × (length lists' ≡ length lists)
 
@@ -85,7 +85,7 @@ seats-none s k (suc m) (seat ∷ seats) h = seats-none s (suc k) m seats h
 
 -- ---- a taken event
 
--- the records that it leaves are added to told lists
+-- the records that it leaves are added to observable lists
 leaves-told : (trust : Trust) (l : SceneLaws trust) (s : Setting) (w : World) (sc : Scene) (e : Event) (lists : Journals) (now : Option Journals)
     → Shows trust s w sc → length w.seats ≤ length lists → Tells (Some lists) w → AddsLine (records_left (rules_in trust.accepts sc) sc (work_of sc e)) (Some lists) now
     → (lists' : Journals) × (now ≡ Some lists') × (length lists' ≡ length lists) × Tells (Some lists') (happens s w e)
@@ -100,14 +100,14 @@ may-leave-told trust l s w sc e lists now shows room tells left =
     let told = may-told lists now (records_left (rules_in trust.accepts sc) sc (work_of sc e)) left in
     (told.0, told.1, subst (λ (j : Option Journals). TellsFront j (happens s w e)) told.1 (l.cut s w sc e (Some lists) now shows room tells left))
 
--- the scene shows the world behind the event, the lines are the definition's, and told lists are its journals
+-- the scene shows the world after the event, the lines are the definition's, and observable lists are its journals
 pub record IsFollowed (trust : Trust) (s : Setting) (w : World) (e : Event) (now : Scene) (given : List Line) : Type 0 where
   pub shows : Shows trust s (happens s w e) now
   pub lines : given ≡ lines_of s w e
 
 -- a restart of a member that is not there
 unknown-happens : (s : Setting) (w : World) (m : ℕ) → slice_get w.seats m ≡ None → happens s w (event.Restart m) ≡ w
-unfolding happens
+unfolding happens_over
 unknown-happens s w m away = rw away refl
 
 -- the event restarts a member, and what is read back is its journal
@@ -132,7 +132,7 @@ restart-followed trust l s w sc now m lists given None at shows starts tells bac
       lines = back.says ∙ ap (λ (kept : List (List ℕ)). line.Restart m (restart_text.Records (length kept)) ∷ []) (sym bare) ∙ sym (l.restarted s w m);
     }
 
--- lists are told, or the event reads none
+-- lists are observable, or the event reads none
 abbrev pub ReadsTold : Option Journals → Event → Type 0
 ReadsTold start e = IsTold start ⊎ ReadsNone e
 
@@ -160,7 +160,7 @@ pub followed : (trust : Trust) (l : SceneLaws trust) (s : Setting) (w : World) (
 followed trust l s w sc now e start told told' given shows starts tells reads taken =
     followed-as trust l s w sc now e start told told' given (is_restart e) refl shows starts tells reads taken
 
--- told lists behind a taken event
+-- observable lists after a taken event
 pub kept-taken : (trust : Trust) (l : SceneLaws trust) (s : Setting) (w : World) (sc now : Scene) (e : Event) (start told told' : Option Journals) (given : List Line)
     → Shows trust s w sc → TellsFrom start told w → AreAtLeast start (length sc.posts) → IsTaken trust e sc now told told' given → TellsFrom start told' (happens s w e)
 kept-taken trust l s w sc now e None told told' given shows tells wide taken = tt
@@ -172,7 +172,7 @@ kept-taken trust l s w sc now e (Some start) told told' given shows (lists, same
     (subst (λ (j : Option Journals). AddsLine (records_left (rules_in trust.accepts sc) sc (work_of sc e)) j told') same taken.kept) in
     (left.0, left.1, left.2 ∙ size, left.3)
 
--- and behind one that was not taken
+-- and after one that was not taken
 pub kept-untaken : (trust : Trust) (l : SceneLaws trust) (s : Setting) (w : World) (sc : Scene) (e : Event) (start told told' : Option Journals)
     → Shows trust s w sc → TellsFrom start told w → AreAtLeast start (length sc.posts) → MayAddLine (records_left (rules_in trust.accepts sc) sc (work_of sc e)) told told' → FrontFrom start told' (happens s w e)
 kept-untaken trust l s w sc e None told told' shows tells wide left = tt
@@ -196,7 +196,7 @@ front-ahead trust l s (Some start) told (e ∷ es) w (lists, same, tells) =
 no-err : {A E : Type 0} (e : E) (a : A) → Err e ≡ Ok a → ⊥
 no-err e a h = absurd (cc)
 
--- a bad record is not read back from told lists
+-- a bad record is not read back from observable lists
 bad-none : (trust : Trust) (s : Setting) (w : World) (sc : Scene) (m member place : ℕ) (lists : Journals) (seat : Option worlds.Seat) → slice_get w.seats m ≡ seat
     → Shows trust s w sc → Restarts s w → Tells (Some lists) w → StaysDown trust.accepts (Some lists) m sc member place → ⊥
 unfolding started

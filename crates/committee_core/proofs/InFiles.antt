@@ -94,7 +94,7 @@ module _ (words : List (List ℕ)) (told told' : Option History) (left : Option 
 
 -- ---- it was opened
 
--- what was opened tells of what was there before
+-- what was opened says what was there before
 module _ (words : List (List ℕ)) (old told : Option History) (end : ℕ) (opened : Opened old told end most_members) where
   all-members : AreOfMembers old
   all-members = at old opened

@@ -1,4 +1,4 @@
--- The run that `make` makes: no line of it stops, starts or reads a member's records, so member 0 stands behind it.
+-- The run that `make` makes: no line of it stops, starts or reads a member's records, so member 0 stands after it.
 use Rattle.std.proofs.Common.{◌≡◌, ◌≤◌, ◌==◌, ◌%◌, ◌+◌, ◌++◌, inl, inr, ℕ, zero, suc, Bool, true, false, cond, List, [], ◌∷◌, slice_get, Option, Some, None, option_map, option_and_then, Result, Ok, Err, refl, sym, ap, ◌∙◌, subst, append-nil, arith}
 use Rattle.std.specs.List.{flat_map, range_with_len}
 use Rattle.std.specs.Io.KnownBytes.{Appends}
@@ -95,7 +95,7 @@ seat-first [] seats first all = absurd first
 seat-first (honest ∷ flags) [] first all = absurd all
 seat-first (honest ∷ flags) (seat ∷ seats) first all = record { seat = seat; at = refl; honest = all.0.0 ∙ first; up = all.0.1 }
 
--- member 0 is honest and up behind the run
+-- member 0 is honest and up after the run
 pub first-made : (trust : Trust) (number : ℕ) → FirstSeat (world_after (setting_in trust (made number 4)) (made number 4).events).seats
 unfolding setting_of world_after new_world
 first-made trust number =

@@ -17,7 +17,7 @@ use Rattle.command_words.specs.Words.{IsInRange}
 use Rattle.committee_core.proofs.Made.{kept_none, made_cut}
 use Rattle.validator_core.proofs.Settling.{keeps_same}
 
--- words that are no command
+-- words that are not a command
 pub unused : (c : Option Command) (o : Outside) → c ≡ None → Ends c o o 2
 unused None o is = record { two = refl; same = refl }
 unused (Some c) o is = absurd (cc)
@@ -34,7 +34,7 @@ replay_other n seven (inl is) = omega (arith, seven, is)
 replay_other n seven (inr (inl is)) = omega (arith, seven, is)
 replay_other n seven (inr (inr is)) = omega (arith, seven, is)
 
--- want of memory before anything was done
+-- running out of memory before anything was done
 starved-run : (o : Outside) → RunEnds o o 7
 starved-run o = record {
   known = inr (inr (inr (inr (inr refl))));
@@ -121,7 +121,7 @@ starved law (command.Follow member) range o empty = starved-follow member o
 starved law (command.Desk callers) range o empty = starved-desk callers o
 starved law (command.Replay member) range o empty = starved-replay member o
 
--- where told lists have no record, a command may begin
+-- if observable lists have no record, a command may begin
 pub begins_empty : (c : Option Command) (told : Option Journals) → AreEmpty told → BeginsEmpty c told
 begins_empty None told empty = tt
 begins_empty (Some command.Run) told empty = empty

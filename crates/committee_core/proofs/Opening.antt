@@ -38,7 +38,7 @@ few_posts trust lines sc is h =
     let size : length sc.posts ≡ length (stakes_of lines) = ap (λ (x : Scene). length x.posts) is ∙ posts-of _ _ 0 (honest_of lines) ∙ as_many lines in
     omega (arith, few, size)
 
--- told lists are as many as the keeper has
+-- observable lists are as many as the keeper has
 pub wide_enough : (lists : Option Journals) (n k : ℕ) → HasMembers lists k → n ≤ k → AreAtLeast lists n
 wide_enough None n k members fits = tt
 wide_enough (Some lists) n k members fits = let size : length lists ≡ k = members in omega (arith, size, fits)

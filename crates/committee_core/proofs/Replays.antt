@@ -215,7 +215,7 @@ honest_is trust s sc m opened =
 
 -- ---- an ending, by records
 
--- the records of a member's list, where it is told
+-- the records of a member's list, if it is observable
 records-in : Option Journals → ℕ → List (List ℕ)
 records-in None m = []
 records-in (Some lists) m = journal_of lists m

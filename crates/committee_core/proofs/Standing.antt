@@ -8,10 +8,10 @@ use Rattle.protocol_spec.specs.Chain.Collecting.{Collected, lacks, short, differ
 use Rattle.protocol_spec.specs.Chain.Words.{Each}
 use Rattle.protocol_spec.specs.Member.Calls.{Call, votes, holds, runs, closes, ends, turns, acks, due}
 use Rattle.world_spec.specs.Setting.{Name, Setting}
-use Rattle.world_spec.specs.World.{Made, Seat, World, behind, called_if, called_in, called_seat, finds_down, is_honest, member_at, member_in, new_seat, next_call, reached_up, sees_on}
+use Rattle.world_spec.specs.World.{Made, Seat, World, behind, called_if, called_in, called_seat, finds_down, is_honest, member_at, member_in, new_seat, next_call, reached_up, sees_on, called_over}
 use Rattle.world_spec.specs.Names.{made_named, cert_named}
-use Rattle.world_spec.specs.Making.{made_by_line}
-use Rattle.world_spec.specs.Step.{acked, end_in, end_ordered, entries_left, formed, formed_as, fvoted, happens, honest_end, last_said, ordered, ordered_end, risen_if, sent, voted_on, votes_collected}
+use Rattle.world_spec.specs.Making.{made_over}
+use Rattle.world_spec.specs.Step.{acked, end_in, end_ordered, entries_left, formed, formed_as, fvoted, happens, honest_end, last_said, ordered, ordered_end, risen_if, sent, voted_on, votes_collected, happens_over}
 use Rattle.world_spec.specs.Run.{run}
 
 -- the line neither stops nor starts a member
@@ -89,7 +89,7 @@ module _ (s : Setting) (flags : List Bool) where
   step-called_seat w m call (Some seat) at q = step-behind w m call seat seat.up seat.armed (due s.rules (member_in s seat) call) at (unarmed-at flags w.seats m seat q at) q
 
   step-called : (w : World) (m : ℕ) (call : Call) → Stand w → Stand (called_in s w m call)
-  unfolding called_in
+  unfolding called_over
   step-called w m call q = step-called_seat w m call (slice_get w.seats m) refl q
 
   step-called_if : (w : World) (m : ℕ) (call : Option Call) → Stand w → Stand (called_if s w m call)
@@ -149,7 +149,7 @@ module _ (s : Setting) (flags : List Bool) where
   step-acked w m spoiled (Some t) q = step-if (is_honest w m) _ _ (step-called w m (acks t.digest) q) q
 
   step-happens : (w : World) (e : Event) → IsQuiet e → Stand w → Stand (happens s w e)
-  unfolding happens made_by_line
+  unfolding happens_over made_over
   step-happens w (event.Tx name sender spoiled epoch gas budget inputs commands) quiet q = q
   step-happens w (event.Vote m tx) quiet q = step-voted w m (made_named w tx) q
   step-happens w (event.Fvote m tx origins) quiet q = step-fvoted w m origins (made_named w tx) q
@@ -171,7 +171,7 @@ module _ (s : Setting) (flags : List Bool) where
   step-happens w (event.Ack m tx spoiled) quiet q = step-acked w m spoiled (made_named w tx) q
   step-happens w (event.Final tx members) quiet q = q
 
-  -- each member stands behind lines that stop and start none
+  -- each member stands after lines that stop and start none
   pub run-standing : (events : List Event) (w : World) → Each IsQuiet events → Stand w → Stand (run s events w)
   run-standing [] w quiet q = q
   run-standing (e ∷ events) w quiet q = run-standing events (happens s w e) quiet.1 (step-happens w e quiet.0 q)

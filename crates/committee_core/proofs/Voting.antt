@@ -23,10 +23,10 @@ use Rattle.protocol_spec.specs.Member.Member.{fresh}
 use Rattle.world_spec.specs.Setting.{Setting, Trust}
 use Rattle.world_spec.specs.World as worlds
 use Rattle.world_spec.specs.World.{Made, World, honest_seat, is_honest, new_world}
-use Rattle.world_spec.specs.Making.{made_by_line}
+use Rattle.world_spec.specs.Making.{made_over}
 use Rattle.world_spec.specs.Names.{tx_name}
 use Rattle.world_spec.specs.Run.{run, world_after}
-use Rattle.world_spec.specs.Step.{happens}
+use Rattle.world_spec.specs.Step.{happens, happens_over}
 use Rattle.scene_spec.specs.Known.{Known, names_of}
 use Rattle.scene_spec.specs.Posts.{seat_at}
 use Rattle.scene_spec.specs.Scene.{Scene}
@@ -118,7 +118,7 @@ legal_at member opened accepts keeper lists r is kept legal =
 
 -- a `tx` line leaves the seats
 same-seats : (s : Setting) (w : World) (e : Event) → is_tx e ≡ true → (happens s w e).seats ≡ w.seats
-unfolding happens made_by_line
+unfolding happens_over made_over
 same-seats s w (event.Tx name sender spoiled epoch gas budget inputs commands) is = refl
 same-seats s w (event.Vote m tx) is = absurd (cc)
 same-seats s w (event.Fvote m tx origins) is = absurd (cc)
@@ -148,7 +148,7 @@ first-honest : (s : Setting) (seats : List worlds.Seat) → honest_post (slice_g
 first-honest s [] = refl
 first-honest s (seat ∷ seats) = refl
 
--- member 0 is honest in the world behind the lines where the set-up makes it so
+-- member 0 is honest in the world after the lines if the set-up makes it so
 pub honest_behind : (trust : Trust) (s : Schedule) (sc : Scene) (b : Bool) → are_txs s ≡ true → Shows trust (setting_in trust s) (desk_world trust s) sc → b ≡ honest_post (slice_get sc.posts 0) → is_honest (new_world (setting_in trust s)) 0 ≡ b
 unfolding world_after
 honest_behind trust s sc b are shows is =

@@ -50,7 +50,7 @@ program_seals secret is = subst (λ (x : List ℕ). trust_by (λ signer bytes. k
 
 -- ---- a whole text
 
--- what is read where longer texts are refused is not longer
+-- if longer texts are refused, what is read is not longer
 short_where : (limit n : ℕ) (long : Bool) (refused : Refused) (rest : Result Schedule Refused) (s : Schedule) → long ≡ nat_lt limit n
     → (if long then Err refused else rest) ≡ Ok s → n ≤ limit
 short_where limit n true refused rest s is e = absurd (cc)

@@ -68,7 +68,7 @@ is_tx (event.Final tx members) = false
 abbrev pub are_txs : Schedule → Bool
 are_txs s = list_all is_tx s.events
 
--- the world behind the lines, in which each `tx` line has made its transaction
+-- the world after the lines, in which each `tx` line has made its transaction
 abbrev pub desk_world : Trust → Schedule → World
 desk_world trust s = world_after (setting_in trust s) s.events
 
@@ -90,7 +90,7 @@ pub record AreVotes (trust : Trust) (callers : ℕ) (s : Schedule) (entries : Li
 
 -- ---- what is written of it
 
--- the digest of the transaction that the bytes spell
+-- the digest of the transaction that the bytes encode
 abbrev pub digest_read : Result SignedTx WireFault → Digest
 digest_read (Ok x) = transaction_digest x.tx
 digest_read (Err fault) = zero_digest
@@ -126,7 +126,7 @@ only_tx_text = codes "desk: only tx lines" ++ 10 ∷ []
 abbrev pub none_honest_text : List ℕ
 none_honest_text = codes "desk: no honest member" ++ 10 ∷ []
 
--- ---- how it ends where nothing fails: a status, and the bytes that it writes
+-- ---- how it ends if nothing fails: a status, and the bytes that it writes
 
 -- one history is written
 pub record IsVoted (trust : Trust) (callers : ℕ) (s : Schedule) (status : ℕ) (text : List ℕ) : Type 0 where
@@ -141,7 +141,7 @@ EndsBy false honest trust callers s status text = (status ≡ 8) × (text ≡ on
 EndsBy true false trust callers s status text = (status ≡ 8) × (text ≡ none_honest_text)
 EndsBy true true trust callers s status text = IsVoted trust callers s status text
 
--- and a text that is no schedule is refused
+-- and a text that is not a schedule is refused
 abbrev pub EndsAs : Trust → ℕ → Result Schedule Refused → ℕ → List ℕ → Type 0
 EndsAs trust callers (Ok s) status text = EndsBy (are_txs s) (is_honest (new_world (setting_in trust s)) 0) trust callers s status text
 EndsAs trust callers (Err r) status text = (status ≡ 3) × (text ≡ refusal_text r)
@@ -152,7 +152,7 @@ pub record IsSaid (trust : Trust) (callers : ℕ) (read : Result Schedule Refuse
   pub ends : EndsAs trust callers read status said
   pub written : Writes held held' said
 
--- nothing was written, or a front
+-- nothing was written, or a prefix
 abbrev pub IsSaidCut : Trust → ℕ → Result Schedule Refused → Option (List ℕ) → Option (List ℕ) → Type 0
 IsSaidCut trust callers read held held' = Keeps held held' ⊎ ((status : ℕ) × IsSaid trust callers read AppendsFront status held held')
 
@@ -162,7 +162,7 @@ pub record SaysOfDesk (callers : ℕ) (Writes : Writing) (status : ℕ) (left le
   pub read : ReadsText longest_text left left' text
   pub says : IsSaid program_trust callers (schedule_of text) Writes status held held'
 
--- nothing was written, or a front of what may be written for the text
+-- nothing was written, or a prefix of what may be written for the text
 abbrev pub IsDeskCut : ℕ → Option (List ℕ) → Option (List ℕ) → Option (List ℕ) → Option (List ℕ) → Type 0
 IsDeskCut callers left left' held held' = Keeps held held' ⊎ ((status : ℕ) × SaysOfDesk callers AppendsFront status left left' held held')
 

@@ -1,4 +1,4 @@
--- What the program promises of each command: a relation between what source, sink and keeper tell and count before and behind it,
+-- What the program promises of each command: a relation between what source, sink and keeper show and count before and after it,
 -- and the status.
 use Rattle.std.specs.Prelude.{◌≡◌, ◌⊎◌, ℕ, List, Option, Some, None}
 use Rattle.std.specs.Io.KnownBytes.{Keeps}
@@ -39,7 +39,7 @@ pub record CheckEnds (stakes : List ℕ) (tx : Digest) (before now : Outside) (s
   pub cut : (status ≡ 5) ⊎ (status ≡ 7) → IsCheckCut stakes program_trust.accepts tx before.left now.left before.held now.held
   pub kept : now.kept ≡ before.kept
 
--- words that are no command: nothing is read, written, kept and counted
+-- words that are not a command: nothing is read, written, kept and counted
 pub record IsUnused (before now : Outside) (status : ℕ) : Type 0 where
   pub two : status ≡ 2
   pub same : now ≡ before
@@ -54,7 +54,7 @@ Ends (Some (command.Follow member)) before now status = FollowEnds member before
 Ends (Some (command.Desk callers)) before now status = DeskEnds callers before now status
 Ends (Some (command.Replay member)) before now status = ReplayEnds member before now status
 
--- the keeper has no record where it tells its lists, if the command is one that runs events
+-- the keeper has no record when it shows its lists, if the command is one that runs events
 abbrev pub BeginsEmpty : Option Command → Option Journals → Type 0
 BeginsEmpty None kept = Unit {0}
 BeginsEmpty (Some command.Run) kept = AreEmpty kept

@@ -33,7 +33,7 @@ use Rattle.committee_core.specs.Ways.{MeetsBadRecord}
 
 -- ---- what is said of a member
 
--- a member that is asked for: whether the set-up makes it honest, and its state where it is honest and up
+-- a member that is asked for: whether the set-up makes it honest, and its state if it is honest and up
 pub record Asked : Type 0 where
   pub honest : Bool
   pub state : Option Member
@@ -117,16 +117,16 @@ IsVerdictFrom m s verdict.Unequal = values s.course.map ≡ opening_objects m �
 IsVerdictFrom m s (verdict.Equal checkpoints epoch objects) =
     (values s.course.map ≡ opening_objects m) × (checkpoints ≡ applied_in s.tip) × (epoch ≡ m.epoch) × (objects ≡ length (values s.course.map))
 
--- ---- behind the run of a text
+-- ---- after the run of a text
 
--- what is true of a member behind all lines of a schedule; transactions are known that lines made
+-- what is true of a member after all lines of a schedule; transactions are known that lines made
 abbrev pub IsVerdictBehind : Schedule → ℕ → Verdict → Type 0
 IsVerdictBehind s m v =
     let at : Setting = setting_in program_trust s in
     let w : World = world_after at s.events in
     IsVerdict (made_as w) at.opening (asked_in at w m) v
 
--- the text is a schedule whose events all ran, with this verdict behind them where what is read back is what was appended; its
+-- the text is a schedule whose events all ran, with this verdict after them if what is read back is what was appended; its
 -- journals were kept, and the headline holds at each moment
 pub record Finds (text : List ℕ) (m : ℕ) (kept kept' : Option Journals) (v : Verdict) : Type 0 where
   pub schedule : Schedule
@@ -156,12 +156,12 @@ pub data FrontOf (text : List ℕ) (m : ℕ) (held held' : Option (List ℕ)) (k
   unsaid : (v : Verdict) → Finds text m kept kept' v → AppendsFront held held' (verdict_text m v) → FrontOf text m held held' kept kept'
   unrefused : (r : Refused) → schedule_of text ≡ Err r → KeepsJournals kept kept' → AppendsFront held held' (refusal_text r) → FrontOf text m held held' kept kept'
 
--- nothing was written and kept, or a front of what was to be
+-- nothing was written and kept, or a prefix of what was to be
 abbrev pub FollowsFront : ℕ → Option (List ℕ) → Option (List ℕ) → Option (List ℕ) → Option (List ℕ) → Option Journals → Option Journals → Type 0
 FollowsFront m left left' held held' kept kept' =
     (Keeps held held' × KeepsJournals kept kept') ⊎ ((text : List ℕ) × ReadsText longest_text left left' text × FrontOf text m held held' kept kept')
 
--- a record that was read back in the run is bad. A keeper that tells its lists gives none.
+-- a record that was read back in the run is bad. A keeper that shows its lists gives none.
 pub record FollowsBad (left left' : Option (List ℕ)) (kept : Option Journals) : Type 0 where
   pub text : List ℕ
   pub schedule : Schedule

@@ -20,7 +20,7 @@ IsRun words = words ≡ codes "run" ∷ []
 unfoldable pub program_trust : Trust
 program_trust = keyed program_secret
 
--- the headline, behind each front of the lines, whichever of them ran
+-- the headline, after each prefix of the lines, whichever of them ran
 abbrev pub HoldsAlong : Schedule → Type 0
 HoldsAlong s = (front rest : List Event) → s.events ≡ front ++ rest → IsPromised (setting_in program_trust s) front
 
@@ -35,7 +35,7 @@ pub record IsWhole (left left' held held' : Option (List ℕ)) (kept kept' : Opt
   pub runs : RunsWhole program_trust schedule held held' kept kept'
   pub holds : HoldsAlong schedule
 
--- the bytes read, to the end or to one past the limit, are no schedule, and the line that says why was written
+-- the bytes read, to the end or to one past the limit, are not a schedule, and the line that says why was written
 pub record IsRefused (left left' held held' : Option (List ℕ)) (kept kept' : Option Journals) : Type 0 where
   pub text : List ℕ
   pub refused : Refused
@@ -54,13 +54,13 @@ pub record IsBad (left left' held held' : Option (List ℕ)) (kept : Option Jour
   pub meets : MeetsBadRecord program_trust schedule Appends held held' kept
   pub holds : HoldsAlong schedule
 
--- the text was read whole, and a front of what is to be written and kept for it was written and kept
+-- the text was read whole, and a prefix of what is to be written and kept for it was written and kept
 pub record WritesFront (left left' held held' : Option (List ℕ)) (kept kept' : Option Journals) : Type 0 where
   pub text : List ℕ
   pub read : ReadsText longest_text left left' text
   pub cut : TextCut program_trust (schedule_of text) held held' kept kept'
   pub holds : (s : Schedule) → schedule_of text ≡ Ok s → HoldsAlong s
 
--- a run that was cut: nothing was written and kept, or a front
+-- a run that was cut: nothing was written and kept, or a prefix
 abbrev pub IsCut : Option (List ℕ) → Option (List ℕ) → Option (List ℕ) → Option (List ℕ) → Option Journals → Option Journals → Type 0
 IsCut left left' held held' kept kept' = (Keeps held held' × KeepsJournals kept kept') ⊎ WritesFront left left' held held' kept kept'

@@ -1,4 +1,4 @@
--- What the program promises where the records are kept in a journal file.
+-- What the program promises if the records are kept in a journal file.
 use Rattle.std.specs.Prelude.{◌≡◌, ◌⊎◌, ℕ, ◌≤◌, true, false, List, [], ◌∷◌, ◌++◌, Option, None, Some, codes, decimal}
 use Rattle.std.specs.Io.KnownBytes.{Appends, Keeps}
 use Rattle.outside.specs.Causes.{Rose}
@@ -46,7 +46,7 @@ IsBadMember open_refusal.OutOfMemory P = ⊥
 
 -- ---- over an open log, whose gate stands at `end`
 
--- the records in front of the gate are refused, since the words do not replay
+-- the records before the gate are refused, since the words do not replay
 pub record IsFull (words : List (List ℕ)) (told told' : Option History) (end : ℕ) (before now : Outside) (status : ℕ) : Type 0 where
   pub known : (status ≡ 5) ⊎ (status ≡ 7) ⊎ (status ≡ 8)
   pub unread : (now.left ≡ before.left) × (now.read_faults ≡ before.read_faults)
@@ -65,7 +65,7 @@ pub record EndsOver (command : Option Command) (told' : Option History) (before 
   pub ends : Ends command before (record now { kept = lists }) status
   pub holds : HoldsLists width now.keep_faults told' lists
 
--- the words may run over the records in front of the gate
+-- the words may run over the records before the gate
 abbrev pub MayRun : List (List ℕ) → Option History → ℕ → Type 0
 MayRun words told end = (names_replay words ≡ true) ⊎ IfTold told (λ h. records_to h.now.reads end ≡ [])
 
@@ -88,7 +88,7 @@ pub record IsUncalled (words : List (List ℕ)) (told told' : Option History) (b
   pub cut : (status ≡ 5) ⊎ (status ≡ 7) → Keeps before.held now.held ⊎ ((line : List ℕ) × IsRefusedBy words told line × AppendsFront before.held now.held line)
 
 -- the command ended over the log as over any keeper, whose lists are those of the records that count: those before are what
--- the disk gave, and those behind it are what the disk holds. Its count of faults is the disk's, since the log was opened.
+-- the disk gave, and those after it are what the disk holds. Its count of faults is the disk's, since the log was opened.
 pub record IsCalled (words : List (List ℕ)) (told told' : Option History) (before now : Outside) (status : ℕ) : Type 0 where
   pub opened : ℕ
   pub width : ℕ
@@ -102,6 +102,6 @@ pub record IsCalled (words : List (List ℕ)) (told told' : Option History) (bef
 abbrev pub EndsInFile : List (List ℕ) → Option History → Option History → Outside → Outside → ℕ → Type 0
 EndsInFile words told told' before now status = IsUncalled words told told' before now status ⊎ IsCalled words told told' before now status
 
--- what the disk tells as a keeper of 64 members
+-- what the disk shows as a keeper of 64 members
 abbrev pub kept_in : Option History → Option Journals
 kept_in told = lists_in most_members told

@@ -10,12 +10,12 @@ use Rattle.world_spec.specs.Run.{journal, world_after}
 use Rattle.scene_spec.specs.Worlds.{AreKeepable, IsFront, Restarts, is_restart}
 use Rattle.committee_core.specs.Report.{setting_in}
 
--- lists are told
+-- lists are observable
 abbrev pub IsTold : Option Journals → Type 0
 IsTold None = ⊥
 IsTold (Some lists) = Unit {0}
 
--- told lists have no record
+-- observable lists have no record
 abbrev pub AreEmpty : Option Journals → Type 0
 AreEmpty None = Unit {0}
 AreEmpty (Some lists) = (m : ℕ) → journal_of lists m ≡ []
@@ -24,26 +24,26 @@ AreEmpty (Some lists) = (m : ℕ) → journal_of lists m ≡ []
 abbrev pub ReadsNone : Event → Type 0
 ReadsNone e = is_restart e ≡ false
 
--- what these lines read back is what was appended: the keeper tells its lists, or no line reads any
+-- what these lines read back is what was appended: the keeper shows its lists, or no line reads any
 abbrev pub ReadsBack : Option Journals → List Event → Type 0
 ReadsBack kept events = IsTold kept ⊎ Each ReadsNone events
 
--- lists that were told are told, and are the members' journals of the schedule's run
+-- observable lists stay observable, and are the members' journals of the schedule's run
 abbrev pub KeepsRun : Trust → Schedule → Option Journals → Option Journals → Type 0
 KeepsRun trust s None now = Unit {0}
 KeepsRun trust s (Some old) now = (lists : Journals) × (now ≡ Some lists) × ((m : ℕ) → journal_of lists m ≡ journal (setting_in trust s) s.events m)
 
--- each is a front of its member's journal
+-- each is a prefix of its member's journal
 abbrev pub KeepsFronts : Trust → Schedule → Option Journals → Option Journals → Type 0
 KeepsFronts trust s None now = Unit {0}
 KeepsFronts trust s (Some old) now = (lists : Journals) × (now ≡ Some lists) × ((m : ℕ) → IsFront (journal_of lists m) (journal (setting_in trust s) s.events m))
 
--- lists that are told are as many as this at least
+-- lists that are observable are as many as this at least
 abbrev pub AreAtLeast : Option Journals → ℕ → Type 0
 AreAtLeast None n = Unit {0}
 AreAtLeast (Some lists) n = n ≤ length lists
 
--- every member starts from its journal, behind each front of these events whose entries can be kept
+-- every member starts from its journal, after each prefix of these events whose entries can be kept
 abbrev pub StartsAlong : Setting → List Event → Type 0
 StartsAlong s events = (front back : List Event) → events ≡ front ++ back → AreKeepable (world_after s front).sequences → Restarts s (world_after s front)
 

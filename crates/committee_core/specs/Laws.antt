@@ -19,13 +19,13 @@ use Rattle.scene_spec.specs.Worlds.{HasRoom, Restarts, Shows, Tells, TellsFront,
 use Rattle.committee_core.specs.Journals.{StartsWhereRead}
 
 pub record SceneLaws (trust : Trust) : Type 0 where
-  -- the scene of the set-up shows the first world, and each step the world behind the line, with its lines
+  -- the scene of the set-up shows the first world, and each step the world after the line, with its lines
   pub first : (lines : List Setup) → Shows trust (setting_of trust lines) (new_world (setting_of trust lines)) (new_scene (setting_of trust lines) lines)
   pub steps : (s : Setting) (w : World) (sc : Scene) (e : Event) → Shows trust s w sc → is_restart e ≡ false → Shows trust s (happens s w e) (steps_to trust sc e)
   pub lines : (s : Setting) (w : World) (sc : Scene) (e : Event) → Shows trust s w sc → is_restart e ≡ false → lines_of s w e ≡ lines_in trust sc e
   pub restart : (s : Setting) (w : World) (sc : Scene) (m : ℕ) (state : Member) → Shows trust s w sc → Restarts s w → m < length w.seats → started s.rules s.opening (journal_in w m) ≡ Ok state → Shows trust s (happens s w (event.Restart m)) (record sc { posts = started_at sc.terms sc.posts m state })
   pub restarted : (s : Setting) (w : World) (m : ℕ) → lines_of s w (event.Restart m) ≡ line.Restart m (restart_text.Records (length (journal_in w m))) ∷ []
-  -- told lists follow the journals: behind a line whose records were added, and behind one that was cut
+  -- observable lists follow the journals: after a line whose records were added, and after one that was cut
   pub told : (s : Setting) (w : World) (sc : Scene) (e : Event) (before now : Option Journals) → Shows trust s w sc → HasRoom before w → Tells before w → AddsLine (records_left (rules_in trust.accepts sc) sc (work_of sc e)) before now → Tells now (happens s w e)
   pub cut : (s : Setting) (w : World) (sc : Scene) (e : Event) (before now : Option Journals) → Shows trust s w sc → HasRoom before w → Tells before w → MayAddLine (records_left (rules_in trust.accepts sc) sc (work_of sc e)) before now → TellsFront now (happens s w e)
   pub fronts : (told : Option Journals) (w : World) → Tells told w → TellsFront told w

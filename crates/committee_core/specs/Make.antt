@@ -25,13 +25,13 @@ use Rattle.outside.specs.Streams.{AppendsFront}
 abbrev pub summary_text : ℕ → Sums → List ℕ
 summary_text number sums = text_of (line.Make number sums.transactions sums.checkpoints sums.objects sums.sum)
 
--- the schedule that is made, and member 0 behind its whole run; the headline holds at each moment of it
+-- the schedule that is made, and member 0 after its whole run; the headline holds at each moment of it
 pub record IsMade (number : ℕ) (s : Schedule) (m : Member) : Type 0 where
   pub is : schedule_of (make_text_of number 4) ≡ Ok s
   pub stands : member_at (setting_in program_trust s) (world_after (setting_in program_trust s) s.events) 0 ≡ Some m
   pub holds : HoldsAlong s
 
--- what the code sees of the world behind it has the sums of its member 0, and its records were kept
+-- what the code sees of the world after it has the sums of its member 0, and its records were kept
 pub record RunsMade (number : ℕ) (kept kept' : Option Journals) (sc : Scene) : Type 0 where
   pub schedule : Schedule
   pub member : Member
@@ -47,7 +47,7 @@ pub record IsSummed (number : ℕ) (kept kept' : Option Journals) (given : sums_
   pub is : given ≡ told.sums_of member
   pub journals : KeepsRun program_trust schedule kept kept'
 
--- fronts of its records were kept
+-- prefixes of its records were kept
 pub record KeepsMade (number : ℕ) (kept kept' : Option Journals) : Type 0 where
   pub schedule : Schedule
   pub member : Member
@@ -62,7 +62,7 @@ pub record MakesWhole (number : ℕ) (held held' : Option (List ℕ)) (kept kept
   pub written : Appends held held' (summary_text number (sums_of member))
   pub journals : KeepsRun program_trust schedule kept kept'
 
--- a front of the summary was written, and fronts of the records were kept
+-- a prefix of the summary was written, and prefixes of the records were kept
 pub record MakesFront (number : ℕ) (held held' : Option (List ℕ)) (kept kept' : Option Journals) : Type 0 where
   pub schedule : Schedule
   pub member : Member

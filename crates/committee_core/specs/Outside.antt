@@ -1,4 +1,4 @@
--- What the program's source, sink and keeper tell and count at one moment.
+-- What the program's source, sink and keeper show and count at one moment.
 use Rattle.std.specs.Prelude.{ℕ, List, Option}
 use Rattle.outside.specs.Lists.{Journals}
 

@@ -32,7 +32,7 @@ abbrev pub restarted_lines : Trust → Schedule → ℕ → ℕ → Member → L
 restarted_lines trust s m count state =
     line.Restart m (restart_text.Records count) ∷ shown (setting_in trust s) (new_world (setting_in trust s)) m state.epoch (live_objects state)
 
--- how a replay ends where nothing fails: its status, and the bytes that it writes
+-- how a replay ends if nothing fails: its status, and the bytes that it writes
 pub record Ending : Type 0 where
   pub status : ℕ
   pub text : List ℕ
@@ -50,7 +50,7 @@ member_ending trust s m records =
     then start_ending trust s m (length records) (started (setting_in trust s).rules (setting_in trust s).opening records)
     else record { status = 8; text = no_member_text m }
 
--- and a text that is no schedule is refused
+-- and a text that is not a schedule is refused
 abbrev pub text_ending : Trust → ℕ → Result Schedule Refused → List (List ℕ) → Ending
 text_ending trust m (Ok s) records = member_ending trust s m records
 text_ending trust m (Err r) records = record { status = 3; text = refusal_text r }
@@ -59,14 +59,14 @@ text_ending trust m (Err r) records = record { status = 3; text = refusal_text r
 abbrev pub Writing : Type 1
 Writing = Option (List ℕ) → Option (List ℕ) → List ℕ → Type 0
 
--- an ending by records of the member, which are those of its list where lists are told
+-- an ending by records of the member, which are those of its list if lists are observable
 pub record Says (ending : List (List ℕ) → Ending) (m : ℕ) (Writes : Writing) (status : ℕ) (kept : Option Journals) (held held' : Option (List ℕ)) : Type 0 where
   pub records : List (List ℕ)
   pub are : IsJournal kept m records
   pub ends : (ending records).status ≡ status
   pub written : Writes held held' (ending records).text
 
--- nothing was written, or a front of an ending
+-- nothing was written, or a prefix of an ending
 abbrev pub SaysFront : (List (List ℕ) → Ending) → ℕ → Option Journals → Option (List ℕ) → Option (List ℕ) → Type 0
 SaysFront ending m kept held held' = Keeps held held' ⊎ ((status : ℕ) × Says ending m AppendsFront status kept held held')
 

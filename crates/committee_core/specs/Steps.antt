@@ -28,7 +28,7 @@ pub record Passes (trust : Trust) (e : Event) (sc now : Scene) (told told' : Opt
   pub taken : IsTaken trust e sc now told told' given
   pub written : Appends held held' (lines_text given)
 
--- a front of its lines was written
+-- a prefix of its lines was written
 pub record IsUnwritten (trust : Trust) (e : Event) (sc : Scene) (told told' : Option Journals) (held held' : Option (List ℕ)) : Type 0 where
   pub now : Scene
   pub given : List Line

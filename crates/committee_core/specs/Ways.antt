@@ -1,4 +1,4 @@
--- How the run of a schedule ends: what is written and kept then. Each speaks of the bytes and the lists before and behind it.
+-- How the run of a schedule ends: what is written and kept then. Each speaks of the bytes and the lists before and after it.
 use Rattle.std.specs.Prelude.{◌≡◌, ◌⊎◌, ℕ, List, ◌∷◌, ◌++◌, Option, None, Result, Ok, Err}
 use Rattle.std.specs.Io.KnownBytes.{Appends}
 use Rattle.outside.specs.Lists.{Journals, KeepsJournals}
@@ -24,7 +24,7 @@ pub record RunsWhole (trust : Trust) (s : Schedule) (held held' : Option (List �
   pub written : ReadsBack kept s.events → Appends held held' (report_text trust s)
   pub journals : KeepsRun trust s kept kept'
 
--- what the code sees of the world behind all events is the definition's, where what is read back is what was appended
+-- what the code sees of the world after all events is the definition's, if what is read back is what was appended
 abbrev pub ShowsRun : Trust → Schedule → Option Journals → Scene → Type 0
 ShowsRun trust s kept sc = ReadsBack kept s.events → Shows trust (setting_in trust s) (world_after (setting_in trust s) s.events) sc
 
@@ -44,7 +44,7 @@ pub record HasBad (s : Setting) (place : ℕ) : Type 0 where
   pub stops : started s.rules s.opening records ≡ Err (no_start.BadRecord place why)
 
 -- a record that was read back is bad: the report of the lines before it is written, and the line that says so.
--- A keeper that tells its lists gives none.
+-- A keeper that shows its lists gives none.
 pub record MeetsBadRecord (trust : Trust) (s : Schedule) (Writes : Option (List ℕ) → Option (List ℕ) → List ℕ → Type 0) (held held' : Option (List ℕ)) (kept : Option Journals) : Type 0 where
   pub front : List Event
   pub back : List Event
@@ -64,7 +64,7 @@ abbrev pub TextCut : Trust → Result Schedule Refused → Option (List ℕ) →
 TextCut trust (Ok s) held held' kept kept' = RunsCut trust s held held' kept kept'
 TextCut trust (Err r) held held' kept kept' = AppendsFront held held' (refusal_text r) × KeepsJournals kept kept'
 
--- the text is a schedule whose events all ran, no report was written, and this is seen of the world behind them
+-- the text is a schedule whose events all ran, no report was written, and this is seen of the world after them
 pub record RunsSilently (trust : Trust) (text : List ℕ) (kept kept' : Option Journals) (sc : Scene) : Type 0 where
   pub schedule : Schedule
   pub is : schedule_of text ≡ Ok schedule

@@ -131,7 +131,7 @@ fn first_difference(world: &World, links: &[Link]) -> Option<(u64, u32)>
 }
 
 /// Whether a chain is certified by the committee of the world, and agrees with what its honest members have built that
-/// are up (Sui Lutris); a member agrees as far as it has built checkpoints. Where the world is that of a run under the
+/// are up (Sui Lutris); a member agrees as far as it has built checkpoints. If the world is that of a run under the
 /// run assumptions, no accepted seal of an honest member in the chain is forged, and no digests of checkpoints collide,
 /// it never differs.
 pub fn agrees<S: Sealer>(

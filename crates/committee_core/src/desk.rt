@@ -50,7 +50,7 @@ use wire_bcs::{OutOfMemory, Seq, Unread};
 use world_core::{Replayed, RestartFault, World};
 use world_names::MakesSeals;
 
-/// How the command ends where nothing fails: its status, and the bytes that it writes.
+/// How the command ends if nothing fails: its status, and the bytes that it writes.
 #[derive(Drop)]
 struct Said {
     status: u8,
@@ -91,7 +91,7 @@ fn signed_requests(alloc: Global, world: &World) -> Result<Seq<Seq<u8>>, OutOfMe
     Err(OutOfMemory)
 }
 
-/// The digest of the transaction that the bytes spell, zeros where they spell none.
+/// The digest of the transaction that the bytes encode, zeros if they encode none.
 #[tactic(auto, unfolding(protocol_spec::specs::Chain::Certificates::read_signed))]
 fn signed_digest(alloc: Global, bytes: &[u8]) -> Result<Digest, OutOfMemory>
     ensures { IfOk result (λ digest. digest ≡ digest_read (read_signed bytes.now)) }
@@ -208,7 +208,7 @@ fn calls_in<R: Threads + Wait + Sync, S: Sealer + Drop + Send + Sync>(
     )
 }
 
-/// The world behind all lines of a schedule. Nothing of its run is written, and its records go to a keeper of its own.
+/// The world after all lines of a schedule. Nothing of its run is written, and its records go to a keeper of its own.
 fn world_of<R: Threads + Sync, S: MakesSeals>(
     rt: &R,
     alloc: Global,
@@ -304,7 +304,7 @@ fn print_refused(line: u64, cause: u8, text: &mut Seq<u8>) -> Result<(), OutOfMe
     printed
 }
 
-/// Why a text is no schedule.
+/// Why a text is not a schedule.
 fn said_refused(alloc: Global, line: u64, cause: u8) -> Result<Said, OutOfMemory>
     ensures { IfOk result (λ said. said ≡ record { status = 3; text = text_of (report_line.Refused line cause) }) }
 {

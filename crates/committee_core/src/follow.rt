@@ -24,7 +24,7 @@ use std::alloc::Global;
 use std::thread::Threads;
 use wire_bcs::OutOfMemory;
 
-/// Runs a text and writes no report: answers what is said of the member behind the schedule that it is.
+/// Runs a text and writes no report: answers what is said of the member after the schedule that it is.
 fn find_verdict<R: Threads + Sync, D: Keeper>(
     rt: &R,
     alloc: Global,
@@ -79,7 +79,7 @@ fn say_verdict<K: Sink>(alloc: Global, member: u32, verdict: Verdict, sink: &mut
     }
 }
 
-/// Runs a text that was read, and writes what is said of the member behind it. Answers the status.
+/// Runs a text that was read, and writes what is said of the member after it. Answers the status.
 fn follow_text<R: Threads + Sync, K: Sink, D: Keeper>(
     rt: &R,
     alloc: Global,

@@ -152,14 +152,14 @@ fn over_log<R: Threads + Wait + Sync, S: Source, K: Sink, F: Disk>(
 ///
 /// | Status | Comes | Written, kept |
 /// |---|---|---|
-/// | 8 | where a record that counts is of no member below 64, and the line was written | `journal: bad member at A`, the place of the first such record's gate |
-/// | 8 | else where a record counts, and the first word is not `replay`, and the line was written | `journal: not empty` |
-/// | 5, 7 | only where the sink's count of faults rose, or for want of memory | a front of such a line |
-/// | 6 | only where the disk's count of faults rose in the opening | nothing |
+/// | 8 | if a record that counts is of no member below 64, and the line was written | `journal: bad member at A`, the place of the first such record's gate |
+/// | 8 | else if a record counts, and the first word is not `replay`, and the line was written | `journal: not empty` |
+/// | 5, 7 | only if the sink's count of faults rose, or if out of memory | a prefix of such a line |
+/// | 6 | only if the disk's count of faults rose in the opening | nothing |
 ///
 /// Under these the records that count are those of before. Else the status is that of [`committee`],
 /// with all that its clauses say of the keeper's lists and its count of faults said of the lists of
-/// the records that count and of the disk's count. So 6 comes only where the disk's count of faults
+/// the records that count and of the disk's count. So 6 comes only if the disk's count of faults
 /// rose, or a record read back is bad; a log that has no room answers 7.
 pub fn committee_in<R: Threads + Wait + Sync, S: Source, K: Sink, F: Disk>(
     rt: &R,

@@ -35,7 +35,7 @@ enum Unmade {
     OutOfMemory,
 }
 
-/// The world behind the generator's schedule of so many transactions.
+/// The world after the generator's schedule of so many transactions.
 fn made_world<R: Threads + Sync, D: Keeper>(
     rt: &R,
     alloc: Global,

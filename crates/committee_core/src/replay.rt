@@ -152,7 +152,7 @@ fn say_no_member<K: Sink>(alloc: Global, member: u32, sink: &mut K) -> u8
     }
 }
 
-/// Writes why a text is no schedule. Answers the status.
+/// Writes why a text is not a schedule. Answers the status.
 pub(crate) fn say_refused<K: Sink>(alloc: Global, line: u64, cause: u8, sink: &mut K) -> u8
     ensures known { (result ≡ 3) ⊎ (result ≡ 5) ⊎ (result ≡ 7) }
     ensures written { result ≡ 3 → Appends (K.held sink.old) (K.held sink.new) (text_of (report_line.Refused line cause)) }

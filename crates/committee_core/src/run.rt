@@ -1,4 +1,4 @@
-//! Running a schedule from its set-up on, line by line, up to the world behind it.
+//! Running a schedule from its set-up on, line by line, up to the world after it.
 
 ghost use Rattle.std.specs.Prelude.{◌≡◌, ◌≤◌, Ok, length, IfOk, OnErr, OnOk, IsErrOf};
 ghost use Rattle.std.specs.Io.KnownBytes.{Appends};
@@ -74,7 +74,7 @@ pub(crate) fn open_world<S: MakesSeals>(
     }
 }
 
-/// Runs a schedule from its set-up on. Answers the world behind it.
+/// Runs a schedule from its set-up on. Answers the world after it.
 #[tactic(auto, using(crate::proofs::Opening::wide_enough, crate::proofs::Whole::nothing_run))]
 pub(crate) fn run_schedule<R: Threads + Sync, S: MakesSeals, K: Sink, D: Keeper>(
     rt: &R,
@@ -98,7 +98,7 @@ pub(crate) fn run_schedule<R: Threads + Sync, S: MakesSeals, K: Sink, D: Keeper>
     ensures kept_later { D.failed keeper.old ≤ D.failed keeper.new }
     ensures keep_fault { IsErrOf result stop.KeepFault → Rose (D.failed keeper.old) (D.failed keeper.new) }
 {
-    // told lists are as many as the keeper has
+    // observable lists are as many as the keeper has
     let _ = keeper.members();
     match open_world(alloc, schedule, sealer) {
         Ok(mut world) => match run_events(rt, alloc, &mut world, schedule, sealer, sink, keeper) {

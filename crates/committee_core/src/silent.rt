@@ -1,4 +1,4 @@
-//! Running a text without a report: the world behind it.
+//! Running a text without a report: the world after it.
 
 ghost use Rattle.std.specs.Prelude.{◌≡◌, ◌<◌, ◌≤◌, ℕ, None, Ok, Err, length, IfOk, OnErr, IsErrOf};
 ghost use Rattle.std.specs.Io.KnownBytes.{Appends, WriteAppends};
@@ -22,7 +22,7 @@ use std::thread::Threads;
 use world_core::World;
 use world_names::MakesSeals;
 
-/// Where no report is wanted: takes every piece whole, and keeps nothing.
+/// The sink of a run without a report: takes every piece whole, and keeps nothing.
 #[derive(Drop)]
 pub(crate) struct Silence;
 
@@ -41,10 +41,10 @@ impl Sink for Silence {
     }
 }
 
-/// Why there is no world behind a text.
+/// Why there is no world after a text.
 #[derive(Clone, Copy, Debug, PartialEq, Eq)]
 pub enum Unrun {
-    /// The text is no schedule.
+    /// The text is not a schedule.
     Refused { line: u64, cause: u8 },
     /// The keeper did not keep a record, or did not give one.
     KeepFault,
@@ -53,7 +53,7 @@ pub enum Unrun {
     OutOfMemory,
 }
 
-/// Runs a text and writes no report: answers the world behind the schedule that it is.
+/// Runs a text and writes no report: answers the world after the schedule that it is.
 #[tactic(auto, using(crate::proofs::Members::read_committee, crate::proofs::Whole::nothing_done, crate::proofs::Whole::schedule_cut, crate::proofs::Whole::ran_silently))]
 pub(crate) fn run_silent<R: Threads + Sync, S: MakesSeals, D: Keeper>(
     rt: &R,
@@ -85,8 +85,8 @@ pub(crate) fn run_silent<R: Threads + Sync, S: MakesSeals, D: Keeper>(
     }
 }
 
-/// Runs a text under the seals of the program and writes no report: answers the world behind the schedule that it is.
-/// The keeper has a list for each of 64 members, and no record where it tells its lists.
+/// Runs a text under the seals of the program and writes no report: answers the world after the schedule that it is.
+/// The keeper has a list for each of 64 members, and no record if it shows its lists.
 pub fn world_behind<R: Threads + Sync, D: Keeper>(
     rt: &R,
     alloc: Global,

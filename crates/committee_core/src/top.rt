@@ -43,22 +43,22 @@ fn obey<R: Threads + Wait + Sync, S: Source, K: Sink, D: Keeper>(
     }
 }
 
-/// Runs the program: does what the words say, over a keeper with a list for each of 64 members. Where the words run
-/// events, it has no record where it tells its lists. Answers the status.
+/// Runs the program: does what the words say, over a keeper with a list for each of 64 members. If the words run
+/// events, it has no record if it shows its lists. Answers the status.
 ///
 /// `run`: runs the schedule that the source holds.
 ///
 /// | Status | Comes | Written, kept |
 /// |---|---|---|
-/// | 0 | where all events ran, and the source was read to its end | the whole report; each told list is its member's journal |
-/// | 3 | only if the bytes are no schedule, and the line was written | `refused line L cause C`; told lists stay |
-/// | 4 | only where the source's count of faults rose | nothing; told lists stay |
-/// | 5 | only where the sink's count of faults rose | a front of what was to be written; each told list is a front of its journal |
-/// | 6 | only where the keeper's count of faults rose, or a record read back is bad | a front of the report, and after a bad record `restart M: bad record PLACE` |
-/// | 7 | for want of memory | as at 5 |
+/// | 0 | if all events ran, and the source was read to its end | the whole report; each observable list is its member's journal |
+/// | 3 | only if the bytes are not a schedule, and the line was written | `refused line L cause C`; observable lists stay |
+/// | 4 | only if the source's count of faults rose | nothing; observable lists stay |
+/// | 5 | only if the sink's count of faults rose | a prefix of what was to be written; each observable list is a prefix of its journal |
+/// | 6 | only if the keeper's count of faults rose, or a record read back is bad | a prefix of the report, and after a bad record `restart M: bad record PLACE` |
+/// | 7 | if out of memory | as at 5 |
 ///
-/// A keeper that tells its lists never gives a bad record. Of the report over one that does not is
-/// said nothing behind the first restart.
+/// A keeper that shows its lists never gives a bad record. Of the report over one that does not, nothing
+/// is said after the first restart.
 ///
 /// `make N`, for N from 1 to 10,000: runs the generator's schedule of N transactions, whose late member runs on 4
 /// workers, and writes `make N: transactions A checkpoints B objects C sum D`: the transactions in the checkpoints that
@@ -66,10 +66,10 @@ fn obey<R: Threads + Wait + Sync, S: Source, K: Sink, D: Keeper>(
 ///
 /// | Status | Comes | Written, kept |
 /// |---|---|---|
-/// | 0 | where all events ran | the line; each told list is its member's journal |
-/// | 5 | only where the sink's count of faults rose | a front of the line; each told list is a front of its journal |
-/// | 6 | only where the keeper's count of faults rose | as at 5 |
-/// | 7 | for want of memory | as at 5 |
+/// | 0 | if all events ran | the line; each observable list is its member's journal |
+/// | 5 | only if the sink's count of faults rose | a prefix of the line; each observable list is a prefix of its journal |
+/// | 6 | only if the keeper's count of faults rose | as at 5 |
+/// | 7 | if out of memory | as at 5 |
 ///
 /// `check STAKES TX`, for 1 to 64 stakes from 1 to 4294967295, joined by commas, and the 64 hexadecimal digits of a
 /// digest: reads a chain of checkpoints from the source, at most 16777216 bytes, and says whether it is certified by a
@@ -78,11 +78,11 @@ fn obey<R: Threads + Wait + Sync, S: Source, K: Sink, D: Keeper>(
 ///
 /// | Status | Comes | Written |
 /// |---|---|---|
-/// | 0 | only if the bytes spell a certified chain, and the line was written | `certified N included in K` with the number of links and the number of the first checkpoint that lists the transaction, or `certified N not included` |
-/// | 4 | only where the source's count of faults rose | nothing |
-/// | 5 | only where the sink's count of faults rose | a front of the line |
-/// | 7 | for want of memory | a front of the line |
-/// | 8 | only if there are more bytes, or they spell no chain, or one that is not certified, and the line was written | `refused too large`, `refused malformed at A why W`, `refused link P cause C` |
+/// | 0 | only if the bytes encode a certified chain, and the line was written | `certified N included in K` with the number of links and the number of the first checkpoint that lists the transaction, or `certified N not included` |
+/// | 4 | only if the source's count of faults rose | nothing |
+/// | 5 | only if the sink's count of faults rose | a prefix of the line |
+/// | 7 | if out of memory | a prefix of the line |
+/// | 8 | only if there are more bytes, or they encode no chain, or one that is not certified, and the line was written | `refused too large`, `refused malformed at A why W`, `refused link P cause C` |
 ///
 /// `follow M`, for M from 0 to 63: runs the schedule that the source holds, and writes no report. Then a follower that opens
 /// with the objects of the set-up takes the checkpoints that member M built in the epochs before its own, each with the
@@ -90,12 +90,12 @@ fn obey<R: Threads + Wait + Sync, S: Source, K: Sink, D: Keeper>(
 ///
 /// | Status | Comes | Written, kept |
 /// |---|---|---|
-/// | 0 | where all events ran, and the objects are the same | `follow M: equal checkpoints B epoch E objects C`: the checkpoints that were taken, the member's epoch, and the follower's live objects; each told list is its member's journal |
+/// | 0 | if all events ran, and the objects are the same | `follow M: equal checkpoints B epoch E objects C`: the checkpoints that were taken, the member's epoch, and the follower's live objects; each observable list is its member's journal |
 /// | 3, 4 | as for `run` | as for `run` |
-/// | 5 | only where the sink's count of faults rose | a front of the line; each told list is a front of its journal |
-/// | 6 | only where the keeper's count of faults rose, or a record read back is bad | nothing; lists as at 5 |
-/// | 7 | for want of memory | as at 5 |
-/// | 8 | where all events ran, and one of these applies | the first that does of `follow M: no honest member`, `follow M: down`, `follow M: stuck N P` and `follow M: differs N P`, with the number of the first checkpoint that is not applied and the place of its first bad transaction, `follow M: unequal`; lists as at 0 |
+/// | 5 | only if the sink's count of faults rose | a prefix of the line; each observable list is a prefix of its journal |
+/// | 6 | only if the keeper's count of faults rose, or a record read back is bad | nothing; lists as at 5 |
+/// | 7 | if out of memory | as at 5 |
+/// | 8 | if all events ran, and one of these applies | the first that does of `follow M: no honest member`, `follow M: down`, `follow M: stuck N P` and `follow M: differs N P`, with the number of the first checkpoint that is not applied and the place of its first bad transaction, `follow M: unequal`; lists as at 0 |
 ///
 /// `desk N`, for N from 1 to 16: puts member 0 of the set-up of the schedule that the source holds, whose events are all
 /// `tx`, behind a vote desk, and lets N callers, each in a thread of its own, ask it for its votes. A caller asks for the
@@ -103,11 +103,11 @@ fn obey<R: Threads + Wait + Sync, S: Source, K: Sink, D: Keeper>(
 ///
 /// | Status | Comes | Written |
 /// |---|---|---|
-/// | 0 | where all were asked for, and none lacked memory | `desk 0: calls C`, and for each call, in the order in which they were made, two spaces and the line of its vote: one history of them all |
-/// | 3 | only if the bytes are no schedule, and the line was written | `refused line L cause C` |
-/// | 4 | only where the source's count of faults rose | nothing |
-/// | 5 | only where the sink's count of faults rose | a front of what was to be written |
-/// | 7 | for want of memory | as at 5 |
+/// | 0 | if all were asked for, and none lacked memory | `desk 0: calls C`, and for each call, in the order in which they were made, two spaces and the line of its vote: one history of them all |
+/// | 3 | only if the bytes are not a schedule, and the line was written | `refused line L cause C` |
+/// | 4 | only if the source's count of faults rose | nothing |
+/// | 5 | only if the sink's count of faults rose | a prefix of what was to be written |
+/// | 7 | if out of memory | as at 5 |
 /// | 8 | only if an event is no `tx` line, or member 0 is not honest, and the line was written | `desk: only tx lines`, else `desk: no honest member` |
 ///
 /// `replay M`, for M from 0 to 63: starts member M of the set-up of the schedule that the source holds, whose events do
@@ -115,15 +115,15 @@ fn obey<R: Threads + Wait + Sync, S: Source, K: Sink, D: Keeper>(
 ///
 /// | Status | Comes | Written |
 /// |---|---|---|
-/// | 0 | where the member started | `restart M: records N`, and the lines of `show M` for the member in that state, by the names of the set-up |
-/// | 3 | only if the bytes are no schedule, and the line was written | `refused line L cause C` |
-/// | 4 | only where the source's count of faults rose | nothing |
-/// | 5 | only where the sink's count of faults rose | a front of what was to be written |
-/// | 6 | where a record is bad, or where the keeper's count of faults rose | `restart M: bad record PLACE`; nothing behind a fault |
-/// | 7 | for want of memory | as at 5 |
+/// | 0 | if the member started | `restart M: records N`, and the lines of `show M` for the member in that state, by the names of the set-up |
+/// | 3 | only if the bytes are not a schedule, and the line was written | `refused line L cause C` |
+/// | 4 | only if the source's count of faults rose | nothing |
+/// | 5 | only if the sink's count of faults rose | a prefix of what was to be written |
+/// | 6 | if a record is bad, or if the keeper's count of faults rose | `restart M: bad record PLACE`; nothing after a fault |
+/// | 7 | if out of memory | as at 5 |
 /// | 8 | only if the set-up has no honest member M, and the line was written | `replay M: no honest member` |
 ///
-/// Status 2 comes exactly where the words are no command: nothing is read, written and kept then.
+/// Status 2 comes exactly if the words are not a command: nothing is read, written and kept then.
 #[tactic(auto, using(crate::proofs::Obeying::unused, crate::proofs::Obeying::obeyed, crate::proofs::Obeying::starved))]
 pub fn committee<R: Threads + Wait + Sync, S: Source, K: Sink, D: Keeper>(
     rt: &R,

@@ -94,7 +94,7 @@ fn are_same_objects(one: &[Object], other: &[Object]) -> bool
     others.is_empty()
 }
 
-/// What is said of a member behind whose checkpoints the follower stands.
+/// What is said of a member after whose checkpoints the follower stands.
 fn verdict_at(validator: &Validator, follower: &Follower) -> Result<Verdict, OutOfMemory>
     ensures { IfOk result (IsVerdictFrom validator.now.state follower.now) }
 {
@@ -167,7 +167,7 @@ pub(crate) fn verdict_status(verdict: Verdict) -> u8
     }
 }
 
-/// Prints a number behind a text.
+/// Prints a number after a text.
 fn print_number(text: &mut Seq<u8>, front: &[u8], number: u64) -> Result<(), OutOfMemory>
     ensures { OnOk result (text.new ≡ text.old ++ front.now ++ decimal number) }
 {
@@ -176,7 +176,7 @@ fn print_number(text: &mut Seq<u8>, front: &[u8], number: u64) -> Result<(), Out
     text.extend(buffer.format(number).as_bytes())
 }
 
-/// Prints two numbers, each behind its text.
+/// Prints two numbers, each after its text.
 fn print_two(
     text: &mut Seq<u8>,
     front: &[u8],

@@ -84,7 +84,7 @@ module _ {V : Type 0} where
       let r : values_at a ps ≡ values_at b ps = values_same a b ps (λ e t. same e (omega (arith, t))) in
       ap (λ o. option_to_list o ++ values_at a ps) e ∙ ap (λ l. option_to_list (value_of b p) ++ l) r
 
-  -- where each is known, there are as many values as places
+  -- if each is known, there are as many values as places
   pub length-values_at : (a : List (Option V)) (ps : List ℕ) → ((e : ℕ) → 0 < times e ps → (v : V) × (value_of a e ≡ Some v)) → length (values_at a ps) ≡ length ps
   length-values_at a [] full = refl
   length-values_at a (p ∷ ps) full =
@@ -174,7 +174,7 @@ module _ {J V O : Type 0} (output : J → List V → O) (values : J → List V �
       → slice_get (values j (values_at (edge_values output values es js) (places_to es u))) m ≡ Some v → value_of (edge_values output values es js) (get_or (places_from es u) m 0) ≡ Some v
   task_value u j at m v lt given = value_from output values es (replicate (length es) None) 0 js u u j (λ e h. (plan.forward e h).0) none_known (omega arith) at m v lt given
 
-  -- an edge has a value where all edges from earlier tasks have one
+  -- an edge has a value if all edges from earlier tasks have one
   known_at : (u e : ℕ) → e < length es → source es e ≡ u → ((x : ℕ) → x < length es → source es x < u → (v : V) × (value_of (edge_values output values es js) x ≡ Some v))
       → (v : V) × (value_of (edge_values output values es js) e ≡ Some v)
   known_at u e lt q below =

@@ -1,4 +1,4 @@
--- What `Plan::new` finds: that every edge goes forward where none is bad, and rows of places, none at the start and one more filed.
+-- What `Plan::new` finds: that every edge goes forward if none is bad, and rows of places, none at the start and one more filed.
 use Rattle.std.proofs.Common.{◌≡◌, ◌≢◌, ℕ, ◌+◌, ◌<◌, zero, suc, Bool, true, false, cond, not, ◌&&◌, eqb, ltb, List, [], ◌∷◌, ◌++◌, length, get_or, set, take, replicate, sym, refl, ap, ◌∙◌, subst, eq-eqb, ne_eqb, length-set, get_or-set_same, get_or-set_other, arith}
 use Rattle.std.proofs.lemmas.List.{take_more, length-take-le, length-replicate, get_or-replicate}
 use mathlib.Core.Logic.{dite}
@@ -25,7 +25,7 @@ none_pass {X = X} p i (x ∷ xs) d none k lt = go (p x) refl none (none_pass p (
 forward_one : (a b n : ℕ) → not (ltb a b && ltb b n) ≡ false → (a < b) × (b < n)
 forward_one a b n e = grind (arith, nat_tests)
 
--- where no edge is bad, each goes forward
+-- if no edge is bad, each goes forward
 pub forward_all : (tasks : ℕ) (es : List Edge) → first_bad tasks es ≡ None → (place : ℕ) → place < length es → (source es place < target es place) × (target es place < tasks)
 forward_all tasks es none place lt =
     let bad : Edge → Bool = λ edge. not (is_forward tasks edge) in

@@ -100,7 +100,7 @@ impl<J: Job> Plan<J> {
 }
 
 impl<J: Job + Drop> Plan<J> {
-    /// The plan of these jobs and edges. Refused with `BadEdge` exactly where an edge does not go from a smaller to a larger
+    /// The plan of these jobs and edges. Refused with `BadEdge` exactly if an edge does not go from a smaller to a larger
     /// task number below the number of tasks, naming the first such edge. After a refusal the jobs and edges are gone.
     pub fn new(alloc: Global, jobs: Seq<J>, edges: Seq<Edge>) -> Result<Plan<J>, PlanRefusal>
         requires few { (length jobs < 2 ^ 31) × (length edges < 2 ^ 31) }

@@ -58,7 +58,7 @@ module _ {V : Type 0} (es : List Edge) (n workers k : ℕ) where
       (λ f t r. inl r)
       o.valid)
 
-  -- where memory was refused, nothing is owed but that what is due is due rightly
+  -- if memory was refused, nothing is owed but that what is due is due rightly
   pub owed_starved : (v : View V) (due due' : List ℕ) (starved : Bool) → ((t : ℕ) → times t due' ≤ times t due) → IsOwed es n workers k v due starved → IsOwed es n workers k v due' true
   owed_starved v due due' starved less o = record { heard = λ f. absurd (true≢false f); dealt = λ f. absurd (true≢false f); valid = λ t d. o.valid t (let l = less t in omega (arith, d)) }
 

@@ -16,7 +16,7 @@ pub if_both : {X E : Type 0} (r : Result X E) {P Q R : X → Type 0} → IfOk r 
 if_both (Ok x) p q f = f x p q
 if_both (Err e) p q f = tt
 
--- one where the slot is filled, else none
+-- one if the slot is filled, else none
 abbrev pub filled : {O : Type 0} → List (Option O) → ℕ → ℕ
 filled slots t = cond (is_some (get_or slots t None)) 1 0
 

@@ -37,7 +37,7 @@ module _ {V : Type 0} (es : List Edge) (n : ℕ) where
   pub all_gone : (v : View V) (task : ℕ) → 0 < times task v.mine → HasAll task v → HasAll (task + 1) (with_gone v task)
   all_gone v task here all t lt = dite (ℕ_discrete task t) (λ q. subst (λ k. 0 < times k v.mine) q here) (λ ne. all t (omega arith))
 
-  -- where nothing was left, the pass claims nothing
+  -- if nothing was left, the pass claims nothing
   pub none_mine : (v : View V) (task : ℕ) → task < n → times task v.mine ≡ 0 → (times task v.gone ≡ 0) × (0 < count_in es task → 0 < times task v.ready) → NoneLeft es n v → ⊥
   none_mine v task lt fresh told none = let h = none task lt told.1 in let z = told.0 in omega (arith, h, z, fresh)
 
@@ -50,7 +50,7 @@ module _ {V : Type 0} (es : List Edge) (n : ℕ) where
       (λ none. left.dealt f t lt none (omega arith) (mod-lt (sources_below es t) some))
       (λ many. left.heard f t (told (omega arith)))
 
-  -- each edge is paid once and taken once, where each task is claimed once
+  -- each edge is paid once and taken once, if each task is claimed once
   pub edges_once : (v : View V) → ((e : ℕ) → e < length es → (source es e < target es e) × (target es e < n)) → IsClean es v → HasAll n v → (0 < n → (t : ℕ) → times t v.mine ≤ 1)
       → (e : ℕ) → e < length es → (times e v.paid ≡ 1) × (times e v.taken ≡ 1)
   edges_once v forward clean all once e lt =

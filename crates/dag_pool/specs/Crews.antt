@@ -27,7 +27,7 @@ module _ {J V O G : Type 0} {g : Ghosts J V O} where
     pub inside : task < length (plan_of crew).jobs
     pub begun : IsBegun (plan_of crew).edges (length (plan_of crew).jobs) (plan_outputs (plan_of crew)) task (view post.seat) post.outputs.items
 
-  -- what the worker of this number owes, where these tasks are due
+  -- what the worker of this number owes, if these tasks are due
   abbrev pub Owes : Crew J G V O g → ℕ → List ℕ → Post J V O → Type 0
   Owes crew number due post = IsOwed (plan_of crew).edges (length (plan_of crew).jobs) crew.workers number (view post.seat) due post.starved
 

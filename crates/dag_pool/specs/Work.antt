@@ -22,7 +22,7 @@ module _ {V : Type 0} where
     pub same : w ≡ record v { taken = w.taken }
     pub counts : (e : ℕ) → times e w.taken ≡ times e v.taken + times e edges
 
-  -- the view paid these edges, and nothing else, but that tasks may have been told to be ready
+  -- the view paid these edges, and nothing else, but that tasks may have been reported ready
   pub record Paid (v : View V) (edges : List ℕ) (w : View V) : Type 0 where
     pub same : w ≡ record v { paid = w.paid; ready = w.ready }
     pub counts : (e : ℕ) → times e w.paid ≡ times e v.paid + times e edges

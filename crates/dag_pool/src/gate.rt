@@ -1,12 +1,23 @@
-//! Who is told of each execution.
+//! What is notified of each execution.
+
+ghost use Rattle.std.specs.Prelude.{ℕ};
 
 /// Is told when a task is about to run, and when it has run, in the thread that runs it.
 pub trait Gate {
-    /// The task was claimed, and runs next.
-    fn enter(&self, task: u32);
+    /// What holds of a task that has entered.
+    ghost entered: { Self → ℕ → Type 0 } = { λ _ _. Unit {0} };
 
-    /// The task has run.
-    fn leave(&self, task: u32);
+    /// What holds of a task that has left.
+    ghost left: { Self → ℕ → Type 0 } = { λ _ _. Unit {0} };
+
+    /// The task was claimed, and runs next.
+    fn enter(&self, task: u32)
+        ensures { entered self.now task };
+
+    /// The task has run. It had entered before.
+    fn leave(&self, task: u32)
+        requires { entered self.now task }
+        ensures { left self.now task };
 }
 
 /// Lets every task pass.

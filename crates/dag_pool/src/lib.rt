@@ -3,8 +3,8 @@
 //! [`run_plan`] goes by a board that was laid over the plan: a worker claims a task on it, takes the task's inputs from it,
 //! runs the job, and pays the values to it. Whatever the number of workers and the order of their steps, the outputs are
 //! those of the plan, and the seat that comes back has claimed every task, and has paid and taken every edge, once each; how
-//! often a job is called is in no clause. Tasks go round by decks, one for each worker; what is proved of a run rests on the
-//! board alone. A [`Gate`] is told of each execution. Beneath stands [`run_team`], for work that can be handed out in parts.
+//! often a job is called is in no clause. Tasks go round by decks, one for each worker; what is proved of a run rests only on the
+//! board. A [`Gate`] is notified of each execution. Beneath stands [`run_team`], for work that can be handed out in parts.
 //!
 //! No speed is promised: a worker that finds nothing retires for good, so after a narrow place in a plan only those run on
 //! that had something. Nor does any proof say that two workers run at one time.

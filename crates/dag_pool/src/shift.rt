@@ -80,7 +80,7 @@ impl<J: Job, G: Gate> Team<Shift<J>> for Crew<'_, J, G> {
     }
 }
 
-// Whether one of them is so.
+// Whether any of three things that the workers report is so.
 fn any_of(one: bool, two: bool, three: bool) -> bool
     ensures { result ≡ false → (one ≡ false) × (two ≡ false) × (three ≡ false) }
 {

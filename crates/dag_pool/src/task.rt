@@ -15,7 +15,7 @@ use dag_core::Job;
 use steal_board::{BoardSeat, Claim};
 use wire_bcs::{OutOfMemory, Seq};
 
-/// Claims a task, and executes it where the claim is won. Answers whether it was. Where memory is refused before the claim,
+/// Claims a task, and executes it if the claim is won. Answers whether it was. If memory is refused before the claim,
 /// the task is not claimed, and the worker is starved.
 pub(crate) fn try_task<J: Job, G: Gate>(
     crew: &Crew<'_, J, G>,
@@ -46,7 +46,7 @@ pub(crate) fn try_task<J: Job, G: Gate>(
     }
 }
 
-/// Executes a task that was just claimed. Where memory is refused now, the task is lost.
+/// Executes a task that was just claimed, between the two calls of the gate. Where memory is refused now, the task is lost.
 pub(crate) fn execute<J: Job, G: Gate>(
     crew: &Crew<'_, J, G>,
     post: &mut Post<J>,
@@ -58,6 +58,7 @@ pub(crate) fn execute<J: Job, G: Gate>(
     ensures good { OnOk result (IsGood crew.now post.new) }
     ensures mine { OnOk result ((view post.new.seat).mine ≡ (view post.old.seat).mine) }
     ensures owed { OnOk result ((number : ℕ) → Owes crew.now number post.old.due.items post.old → Owes crew.now number post.new.due.items post.new) }
+    ensures passed { OnOk result (G.left crew.now.gate.now task) }
 {
     let inputs = take_inputs(crew, &mut post.seat, task)?;
     crew.gate.enter(task);
@@ -138,7 +139,7 @@ fn pay_edge<J: Job, G>(crew: &Crew<'_, J, G>, post: &mut Post<J>, place: u32, va
     }
 }
 
-/// Notes a task that is to be claimed once more. Where memory is refused, the worker is starved.
+/// Notes a task that is to be claimed once more. If memory is refused, the worker is starved.
 pub(crate) fn note<J: Job>(post: &mut Post<J>, task: u32)
     ensures { Notes post.old task post.new }
 {

@@ -31,7 +31,7 @@ pub(crate) fn run_turns<J: Job, G: Gate>(
     Ok(())
 }
 
-// Executes one task, where there is one to be had.
+// Executes one task, if there is one to be had.
 fn turn<J: Job, G: Gate>(
     crew: &Crew<'_, J, G>,
     post: &mut Post<J>,
@@ -105,7 +105,7 @@ fn steal(kit: &mut Kit, place: usize) -> Stolen
     }
 }
 
-// Executes what was stolen, where it is won.
+// Executes what was stolen, if it is won.
 fn try_stolen<J: Job, G: Gate>(
     crew: &Crew<'_, J, G>,
     post: &mut Post<J>,
@@ -124,7 +124,7 @@ fn try_stolen<J: Job, G: Gate>(
     }
 }
 
-// Executes the task that a deck's item names, where it is won. What this makes ready goes on the worker's own deck.
+// Executes the task that a deck's item names, if it is won. What this makes ready goes on the worker's own deck.
 fn try_item<J: Job, G: Gate>(
     crew: &Crew<'_, J, G>,
     post: &mut Post<J>,
@@ -190,7 +190,7 @@ pub(crate) fn take_dealt<J: Job, G>(crew: &Crew<'_, J, G>, post: &mut Post<J>, n
     }
 }
 
-// Notes a task, where it has no incoming edges and is dealt to the worker. Answers whether it has none.
+// Notes a task, if it has no incoming edges and is dealt to the worker. Answers whether it has none.
 fn take_if_dealt<J: Job, G>(
     crew: &Crew<'_, J, G>,
     post: &mut Post<J>,

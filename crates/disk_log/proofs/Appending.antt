@@ -1,4 +1,4 @@
--- A record more behind the gate of a log.
+-- A record more after the gate of a log.
 use Rattle.std.proofs.Common.{◌≡◌, ◌≢◌, ◌⊎◌, inl, inr, ℕ, ◌+◌, ◌^◌, ◌<◌, ◌≤◌, Bool, true, false, List, [], ◌∷◌, ◌++◌, length, map, set, take, drop, get_or, refl, sym, ◌∙◌, ap, subst, arith, length-append, length-set, Option, Some, None, Result, Ok, Err}
 use Rattle.std.proofs.lemmas.List.{map-set, length-take-le, length_push}
 use Rattle.outside.specs.declared.faults.OutFault.{OutFault}
@@ -106,7 +106,7 @@ kept-front old new end rows kept same lt =
       lists = subst (λ (l : List ℕ). IsListed l rows (records_to new.now.reads end)) (sym same) (subst (IsListed (take end old.now.reads) rows) (sym records-same) kept.lists);
     }
 
--- ---- the same, where the moments may be told, with what becomes of the log
+-- ---- the same, if the moments may be observable, with what becomes of the log
 
 pub lands : (old new : Option History) (end member : ℕ) (bytes : List ℕ) (rows : Rows) → IsInside end rows → member < length rows → length bytes < 256 ^ 4 → member < 256 ^ 4 → IfTold old (IsKept end rows) → Recorded old new end member bytes (Ok tt)
     → Appends old new end member bytes (Ok tt) × IfTold new (IsKept (end + 9 + length bytes) (with_span rows member (record { at = end + 9; count = length bytes }))) × IfTold new (λ h. IsReady h (end + 9 + length bytes))

@@ -1,4 +1,4 @@
--- The moments of a file in memory, behind one change more.
+-- The moments of a file in memory, after one change more.
 use Rattle.std.proofs.Common.{◌≡◌, ◌⊎◌, inl, inr, ℕ, zero, suc, ◌+◌, ◌-◌, ◌^◌, ◌<◌, ◌≤◌, max, Bool, true, false, List, [], ◌∷◌, ◌++◌, length, take, drop, get_or, set, refl, sym, ◌∙◌, ap, subst, arith, length-append, length-take, length-drop, Some, Option}
 use Rattle.std.specs.Prelude.{All, if◌then◌else◌}
 use Rattle.disk_log.specs.declared.moment.Moment.{Moment}
@@ -22,7 +22,7 @@ grown-now h (c ∷ changes) = grown-now (behind_change h c) changes ∙ ap (λ (
 settled_is : (bytes : List ℕ) → IsSettled (settled_at bytes) bytes
 settled_is bytes = record { reads = refl; stable = refl; most = refl; ranges = refl }
 
--- a sync behind the last change makes what reads give stable, or it was so already
+-- a sync after the last change makes what reads give stable, or it was so already
 settles : (h : History) (change : Change) (changes : List Change) → Settles (grown h (change ∷ changes)) (Some (grown h (last_synced (change ∷ changes))))
 settles h change [] = last change.synced refl
   where

@@ -26,14 +26,14 @@ counted-step gate rest =
     ap (λ (l : List Record). if is_counted gate rest then record_in rest ∷ l else [])
     (enough (length rest) (length (behind_record rest)) (behind_record rest) (omega (arith, length-drop (8 + count_in rest) rest)) (omega arith))
 
--- nothing counts behind a gate that is not open
+-- nothing counts after a gate that is not open
 pub counted-closed : (gate : ℕ) (rest : List ℕ) → gate ≢ 1 → counted (gate ∷ rest) ≡ []
 counted-closed gate rest shut = counted-step gate rest ∙ test (gate == 1) (grind (arith, nat_tests))
   where
     test : (b : Bool) → b ≡ false → (if b && nat_lt (8 + count_in rest) (length rest) then record_in rest ∷ counted (behind_record rest) else []) ≡ []
     test b is = rw is refl
 
--- nor where the record does not lie in the file with the next gate
+-- nor if the record does not lie in the file with the next gate
 pub counted-short : (gate : ℕ) (rest : List ℕ) → length rest ≤ 8 + count_in rest → counted (gate ∷ rest) ≡ []
 counted-short gate rest short = counted-step gate rest ∙ test (gate == 1) (nat_lt (8 + count_in rest) (length rest)) (grind (arith, nat_tests))
   where
@@ -47,7 +47,7 @@ counted-open rest long = counted-step 1 rest ∙ test (nat_lt (8 + count_in rest
     test : (b : Bool) → b ≡ true → (if b then record_in rest ∷ counted (behind_record rest) else []) ≡ record_in rest ∷ counted (behind_record rest)
     test b is = rw is refl
 
--- a whole record behind an open gate
+-- a whole record after an open gate
 module _ (head bytes rest : List ℕ) (eight : length head ≡ 8) (size : value_of (take 4 head) ≡ length bytes) where
   count-is : count_in (head ++ (bytes ++ rest)) ≡ length bytes
   count-is = ap value_of (take-append-le 4 head (bytes ++ rest) (omega arith)) ∙ size

@@ -13,7 +13,7 @@ all_taken (x ∷ xs) = ap (λ l. x ∷ l) (all_taken xs)
 tail_is : {A : Type 0} (x : A) (xs : List A) → take (length (x ∷ xs) - 1) (drop 1 (x ∷ xs)) ≡ xs
 tail_is x xs = let less : length (x ∷ xs) - 1 ≡ length xs = omega arith in rw less (all_taken xs)
 
--- one change more is behind
+-- one more change comes after
 pub one_behind : (whole m n : Moment) (rest : List Change) (c : Change) → c ≡ get_or rest 0 c → 1 ≤ length rest → moment_by m rest ≡ whole → n ≡ moment_behind m c → moment_by n (take (length rest - 1) (drop 1 rest)) ≡ whole
 one_behind whole m n [] c first some same is = absurd (omega (arith, some))
 one_behind whole m n (d ∷ rest) c first some same is =

@@ -1,4 +1,4 @@
--- What stands in a file at a gate, when something is written behind it, and when it is opened.
+-- What stands in a file at a gate, when something is written after it, and when it is opened.
 use Rattle.std.proofs.Common.{◌≡◌, ◌≢◌, ◌⊎◌, inl, inr, ⊎_elim, ℕ, suc, ◌+◌, ◌-◌, ◌*◌, ◌^◌, ◌<◌, ◌≤◌, max, List, [], ◌∷◌, ◌++◌, length, take, drop, get_or, refl, sym, ◌∙◌, ap, subst, arith, append_assoc, length-append, length-take, length-drop, take-append-drop}
 use Rattle.std.proofs.lemmas.List.{append-nil, take_at, drop_at, drop_more, take_all, drop_all, take-append-le, drop-drop, get_or_at, take-take}
 use Rattle.std.proofs.lemmas.Bool.{cases_eq}
@@ -9,7 +9,7 @@ use Rattle.disk_log.specs.Records.{Record, Whole, counted, records_to, head_of, 
 use Rattle.disk_log.proofs.Counting.{counted-whole, counted-closed, counted-record, Whole-push}
 use Rattle.disk_log.proofs.Moments.{torn-front, torn-back}
 
--- a file in three parts: before a gate, the gate, and what is behind it
+-- a file in three parts: before a gate, the gate, and what is after it
 pub split : (file : List ℕ) (end : ℕ) → end < length file → file ≡ take end file ++ get_or file end 0 ∷ drop (end + 1) file
 split file end lt = sym (take-append-drop end file) ∙ ap (λ (l : List ℕ). take end file ++ l) (drop_more file end 0 lt)
 
@@ -29,15 +29,15 @@ pub head-member : (member : ℕ) (bytes : List ℕ) → member < 256 ^ 4 → val
 head-member member bytes fits =
     ap value_of (drop_at (low_first 4 (length bytes)) (low_first 4 member) 4 (length-low_first 4 (length bytes))) ∙ value_of-low_first 4 member fits
 
--- ---- a file of a front, a gate, and what stands behind it
+-- ---- a file of a prefix, a gate, and what stands after it
 
 module _ (front : List ℕ) (records : List Record) (whole : Whole front records) where
-  -- nothing counts behind a gate that is not open, whatever stands there
+  -- nothing counts after a gate that is not open, whatever stands there
   pub counts-front : (gate : ℕ) (rest : List ℕ) → gate ≢ 1 → counted (front ++ gate ∷ rest) ≡ records
   counts-front gate rest shut =
       counted-whole front records whole gate rest ∙ ap (λ (l : List Record). records ++ l) (counted-closed gate rest shut) ∙ append-nil records
 
-  -- a whole record behind a gate counts or it does not
+  -- a whole record after a gate counts or it does not
   pub counts-gate : (gate : ℕ) (head bytes rest : List ℕ) → length head ≡ 8 → value_of (take 4 head) ≡ length bytes → HasOldOrNew records (record { member = value_of (drop 4 head); bytes = bytes }) (front ++ gate ∷ (head ++ (bytes ++ 0 ∷ rest)))
   counts-gate gate head bytes rest eight size = choice (cases_eq gate 1)
     where
@@ -49,7 +49,7 @@ module _ (front : List ℕ) (records : List Record) (whole : Whole front records
           ∙ ap (λ (l : List Record). records ++ l) (counted-record head bytes (0 ∷ rest) eight size (omega arith))
           ∙ ap (λ (l : List Record). records ++ record { member = value_of (drop 4 head); bytes = bytes } ∷ l) (counted-closed 0 rest (omega arith)))
 
--- what is torn behind the gate leaves the gate
+-- what is torn after the gate leaves the gate
 pub torn-behind : (front : List ℕ) (gate : ℕ) (rest : List ℕ) (end count : ℕ) (c : List ℕ) → length front ≡ end → IsTorn (end + 1) count (front ++ gate ∷ rest) c → (x : List ℕ) × (c ≡ front ++ gate ∷ x)
 torn-behind front gate rest end count c size torn =
     let long : length (front ++ gate ∷ rest) ≡ end + 1 + length rest = omega (arith, length-append front (gate ∷ rest), size) in
@@ -60,7 +60,7 @@ torn-behind front gate rest end count c size torn =
     ∙ ap (λ (l : List ℕ). take (end + 1) l) group ∙ take_at (front ++ gate ∷ []) rest (end + 1) one in
     (drop (end + 1) c, sym (take-append-drop (end + 1) c) ∙ ap (λ (l : List ℕ). l ++ drop (end + 1) c) same ∙ append_assoc front (gate ∷ []) (drop (end + 1) c))
 
--- and a torn gate leaves what is before it and behind
+-- and a torn gate leaves what is before it and after
 pub torn-gate : (front : List ℕ) (gate : ℕ) (rest : List ℕ) (end : ℕ) (c : List ℕ) → length front ≡ end → IsTorn end 1 (front ++ gate ∷ rest) c → (g : ℕ) × (c ≡ front ++ g ∷ rest)
 torn-gate front gate rest end c size torn =
     let long : length (front ++ gate ∷ rest) ≡ end + 1 + length rest = omega (arith, length-append front (gate ∷ rest), size) in

@@ -13,7 +13,7 @@ use Rattle.disk_log.proofs.Counting.{counted-closed, counted-short}
 pub stands : (bytes : List ℕ) → length bytes ≡ 4 → value_of bytes ≡ from_le_bytes w32 bytes
 stands bytes len = sym (from_le_bytes-is w32 bytes (omega arith) len)
 
--- where fewer than ten bytes are left nothing counts
+-- if fewer than ten bytes are left nothing counts
 pub few : (file : List ℕ) → length file < 10 → counted file ≡ []
 few [] lt = refl
 few (gate ∷ rest) lt = counted-short gate rest (omega arith)
@@ -48,7 +48,7 @@ module _ (file bytes : List ℕ) (left : ℕ) (size : length file ≡ left) (is 
           choice (inl is-open) = counted-short gate rest (omega (arith, so is-open))
           choice (inr shut) = counted-closed gate rest shut
 
--- the same, where the bytes may be told
+-- the same, if the bytes may be observable
 pub told-few : (told : Option History) (extent at left : ℕ) → HasExtent told extent → at ≤ extent → left ≡ extent - at → left < 10 → IfTold told (λ h. counted (drop at h.now.reads) ≡ [])
 told-few None extent at left has le is lt = tt
 told-few (Some h) extent at left has le is lt = few (drop at h.now.reads) (omega (arith, length-drop at h.now.reads))

@@ -27,7 +27,7 @@ length-added_to lists (x ∷ records) =
 pub length-journals : (n : ℕ) (records : List Record) → length (journals_of n records) ≡ n
 length-journals n records = length-added_to (replicate n []) records ∙ length-replicate n []
 
--- ---- ranges that lie in a front
+-- ---- ranges that lie in a prefix
 
 abbrev Lies : ℕ → Span → Type 0
 Lies end span = span.at + span.count ≤ end
@@ -61,7 +61,7 @@ inside-with end new rows m span le lies lt all =
 pub inside-none : (n : ℕ) → IsInside 0 (replicate n [])
 inside-none n = All-replicate (All (Lies 0)) n [] (λ k d lt. absurd (omega arith))
 
--- one record more behind the front: its range gives its bytes
+-- one record more after the prefix: its range gives its bytes
 pub listed-more : (front block : List ℕ) (rows : Rows) (records : List Record) (m : ℕ) (bytes : List ℕ) (span : Span) → m < length rows → IsInside (length front) rows → bytes_at (front ++ block) span ≡ bytes → IsListed front rows records → IsListed (front ++ block) (with_span rows m span) (records ++ record { member = m; bytes = bytes } ∷ [])
 listed-more front block rows records m bytes span lt inside gives listed =
     let f : Span → List ℕ = bytes_at (front ++ block) in

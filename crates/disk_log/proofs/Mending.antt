@@ -1,4 +1,4 @@
--- A gate that is open or missing, behind the records that count.
+-- A gate that is open or missing, after the records that count.
 use Rattle.std.proofs.Common.{◌≡◌, ◌≢◌, ◌⊎◌, inl, inr, ⊎_elim, ℕ, suc, ◌+◌, ◌-◌, ◌<◌, ◌≤◌, max, Bool, true, false, List, [], ◌∷◌, ◌++◌, length, take, drop, get_or, refl, sym, ◌∙◌, ap, subst, arith, append_assoc, length-append, length-take, length-drop, Option, Some, None, Result, Ok, Err}
 use Rattle.std.proofs.lemmas.List.{take_at, get_or_at, append-nil, drop_at, drop_more, get_or-drop}
 use Rattle.std.specs.Prelude.{nat_lt}
@@ -20,7 +20,7 @@ lt-or-le m n = decide (nat_lt m n) refl
     decide true is = inl (grind (arith, nat_tests))
     decide false is = inr (grind (arith, nat_tests))
 
--- behind a gate that is open and from which nothing counts, nothing counts whatever the gate is
+-- after a gate that is open and from which nothing counts, nothing counts whatever the gate is
 still-none : (gate : ℕ) (rest : List ℕ) → counted (1 ∷ rest) ≡ [] → counted (gate ∷ rest) ≡ []
 still-none gate rest is = choice (lt-or-le (8 + count_in rest) (length rest))
   where
@@ -162,7 +162,7 @@ module _ (h : History) (end : ℕ) (read : IsReadTo end h) where
   pub unread : (e : OutFault) → Mended (Some h) (Some h) end (Err e)
   unread e = (h, refl, record { any_moment = stays P h here; front = refl; ready = tt })
 
--- ---- the same, where the moments may be told
+-- ---- the same, if the moments may be observable
 
 pub told-closed : (old new : Option History) (end : ℕ) → new ≡ old → IfTold old (IsReadTo end) → IfTold old (λ h. ClosedIs end h.now.reads true) → Mended old new end (Ok tt)
 told-closed None new end same read closed = same

@@ -50,7 +50,7 @@ settled-image m bytes s c image =
     image.kept k (omega (arith, ap length s.stable)) (subst (λ (r : List Span). IsOutside r k) (sym s.ranges) tt)
     ∙ ap (λ (l : List ℕ). get_or l k 0) s.stable)
 
--- and behind a write or a try, any bytes in its range
+-- and after a write or a try, any bytes in its range
 pub touched-image : (m n : Moment) (bytes : List ℕ) (at count : ℕ) → IsSettled m bytes → IsTouched m n at count → (c : List ℕ) → IsImage n c → IsTorn at count bytes c
 touched-image m n bytes at count s t c image =
     let stable : n.stable ≡ bytes = t.stable ∙ s.stable in
@@ -107,7 +107,7 @@ torn-written at old bytes le = record {
         ∙ get_or-drop (at + length bytes) old (k - (at + length bytes)) 0
         ∙ ap (λ (i : ℕ). get_or old i 0) there
 
--- ---- a write and a sync behind it
+-- ---- a write and a sync after it
 
 pub put-refused : (old new : Option History) (at : ℕ) (bytes : List ℕ) (e : OutFault) → IfTold old IsQuiet → Written old new at bytes (Err e) → Put old new at bytes (Err e)
 put-refused None new at bytes e quiet written = written
@@ -126,7 +126,7 @@ put-refused (Some h) new at bytes fault.OutOfMemory quiet is =
 abbrev P-of : History → ℕ → List ℕ → List ℕ → Type 0
 P-of h at bytes = IsTorn at (length bytes) h.now.reads
 
--- the moments behind the write
+-- the moments after the write
 wrote-moments : (h : History) (m : Moment) (at : ℕ) (bytes : List ℕ) → IsQuiet h → IsTouched h.now m at (length bytes) → LeavesOnly (P-of h at bytes) h (later h m)
 wrote-moments h m at bytes quiet touched =
     let here : (c : List ℕ) → IsImage h.now c → P-of h at bytes c = λ c image. subst (P-of h at bytes) (sym (settled-image h.now h.now.reads quiet c image)) (torn-same at (length bytes) h.now.reads) in
@@ -160,7 +160,7 @@ put-unsynced (Some h) mid new at bytes f quiet le (m, is, touched, reads) synced
       record { torn = wrote-moments h m at bytes quiet touched; ended = subst (P-of h at bytes) (sym reads) (torn-written at h.now.reads bytes le) },
     )
 
--- the told bytes are as many as the size says
+-- the observable bytes are as many as the size says
 pub within : (told : Option History) (extent at : ℕ) → HasExtent told extent → at ≤ extent → IfTold told (λ h. at ≤ length h.now.reads)
 within None extent at has le = tt
 within (Some h) extent at has le = omega arith

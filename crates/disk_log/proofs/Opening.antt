@@ -1,4 +1,4 @@
--- Opening a log: a sync, the walk over the records, and the gate behind them.
+-- Opening a log: a sync, the walk over the records, and the gate after them.
 use Rattle.std.proofs.Common.{◌≡◌, ◌⊎◌, inl, inr, ℕ, ◌+◌, ◌<◌, ◌≤◌, Bool, true, false, List, [], ◌∷◌, ◌++◌, length, take, drop, get_or, refl, sym, ◌∙◌, ap, subst, arith, Option, Some, None, Result, Ok, Err}
 use Rattle.std.proofs.lemmas.List.{append-nil}
 use Rattle.outside.specs.declared.faults.OutFault.{OutFault}
@@ -12,13 +12,13 @@ use Rattle.disk_log.specs.Keeping.{IsKept, IsOpened, Opened, NotOpened, OpensOnl
 use Rattle.disk_log.proofs.Gates.{split, counts-front}
 use Rattle.disk_log.proofs.Moments.{weaker, stays, settled-image}
 
--- behind whole records and a gate that is ready, they count and no others
+-- after whole records and a gate that is ready, they count and no others
 pub ready-leaves : (h : History) (end : ℕ) → Whole (take end h.now.reads) (records_to h.now.reads end) → end < length h.now.reads → IsReady h end → LeavesRecords h (records_to h.now.reads end)
 ready-leaves h end whole lt ready image is =
     ap counted (settled-image h.now h.now.reads ready.quiet image is ∙ split h.now.reads end lt)
     ∙ counts-front (take end h.now.reads) (records_to h.now.reads end) whole (get_or h.now.reads end 0) (drop (end + 1) h.now.reads) ready.closed
 
--- behind the first sync all is stable, and reads give the same
+-- after the first sync all is stable, and reads give the same
 abbrev pub IsSynced : History → History → Type 0
 IsSynced old mid = Settles old (Some mid) × IsQuiet mid × (mid.now.reads ≡ old.now.reads)
 
@@ -54,7 +54,7 @@ refused-at-once (Some h) new f s = inl s
 here : (old m : History) → IsSynced old m → (c : List ℕ) → IsImage m.now c → counted c ≡ counted old.now.reads
 here old m s c image = ap counted (settled-image m.now m.now.reads s.1 c image ∙ s.2)
 
--- behind it
+-- after it
 pub refused-later : (old mid new : Option History) → SyncedTold old mid → new ≡ mid → NotOpened old new
 refused-later None mid new s same = same ∙ s
 refused-later (Some h) mid new (m, is, s) same = inr (m, same ∙ is, (m, s.0, stays (λ c. counted c ≡ counted h.now.reads) m (here h m s)))

@@ -1,4 +1,4 @@
--- A record that is put behind a gate, which is then opened.
+-- A record that is put after a gate, which is then opened.
 use Rattle.std.proofs.Common.{◌≡◌, ◌≢◌, ◌⊎◌, inl, inr, ⊎_elim, ℕ, ◌+◌, ◌-◌, ◌*◌, ◌^◌, ◌<◌, ◌≤◌, max, List, [], ◌∷◌, ◌++◌, length, take, drop, get_or, refl, sym, ◌∙◌, ap, subst, arith, append_assoc, length-append, length-take, length-drop, Option, Some, None, Result, Ok, Err}
 use Rattle.std.specs.Prelude.{MatchResult}
 use Rattle.std.proofs.lemmas.List.{take_at, get_or_at}
@@ -36,7 +36,7 @@ module _ (old : History) (end member : ℕ) (bytes : List ℕ) (at : IsAtGate en
   parts : old.now.reads ≡ front ++ gate ∷ rest
   parts = split old.now.reads end at.whole.inside
 
-  -- the first write, behind the gate
+  -- the first write, after the gate
   behind : (c : List ℕ) → IsTorn (end + 1) (length (body_of member bytes)) old.now.reads c → P c
   behind c torn =
       let is = torn-behind front gate rest end (length (body_of member bytes)) c size (subst (λ (l : List ℕ). IsTorn (end + 1) (length (body_of member bytes)) l c) parts torn) in
@@ -64,7 +64,7 @@ module _ (old : History) (end member : ℕ) (bytes : List ℕ) (at : IsAtGate en
     },
   )
 
-  -- behind it the record stands whole, and the gate is as it was
+  -- after it the record stands whole, and the gate is as it was
   abbrev junk : List ℕ
   junk = drop (length (body_of member bytes)) rest
 
@@ -90,7 +90,7 @@ module _ (old : History) (end member : ℕ) (bytes : List ℕ) (at : IsAtGate en
   long : (g : ℕ) → length (front ++ g ∷ tail) ≡ end + 10 + length bytes + length junk
   long g = omega (arith, length-append front (g ∷ tail), size, length-append (head_of member bytes) (bytes ++ 0 ∷ junk), length-head member bytes, length-append bytes (0 ∷ junk))
 
-  -- the file with the record, as the front that it makes and the gate behind it
+  -- the file with the record, as the prefix that it makes and the gate after it
   regrouped : front ++ 1 ∷ tail ≡ (front ++ 1 ∷ (head_of member bytes ++ bytes)) ++ 0 ∷ junk
   regrouped =
       ap (λ (l : List ℕ). front ++ 1 ∷ l) (sym (append_assoc (head_of member bytes) bytes (0 ∷ junk)))
@@ -169,14 +169,14 @@ module _ (old : History) (end member : ℕ) (bytes : List ℕ) (at : IsAtGate en
       },
     )
 
--- ---- the same, where the moments may be told
+-- ---- the same, if the moments may be observable
 
 pub record-refused : (old new : Option History) (end member : ℕ) (bytes body : List ℕ) (e : OutFault) → body ≡ body_of member bytes → IfTold old (IsAtGate end) → length bytes < 256 ^ 4 → member < 256 ^ 4 → Put old new (end + 1) body (Err e) → Recorded old new end member bytes (Err e)
 record-refused None new end member bytes body e is at short fits put = put
 record-refused (Some h) new end member bytes body e is at short fits put =
     refused h end member bytes at short fits new e (subst (λ (l : List ℕ). Put (Some h) new (end + 1) l (Err e)) is put)
 
--- behind a put all is stable
+-- after a put all is stable
 pub put-quiet : (old mid : Option History) (at : ℕ) (bytes : List ℕ) → Put old mid at bytes (Ok tt) → IfTold mid IsQuiet
 put-quiet None mid at bytes put = subst (λ (o : Option History). IfTold o IsQuiet) (sym put) tt
 put-quiet (Some h) mid at bytes (m, is, put) = subst (λ (o : Option History). IfTold o IsQuiet) (sym is) (quiet-is m (with_bytes h.now.reads at bytes) put.ended)

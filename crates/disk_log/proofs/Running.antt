@@ -1,4 +1,4 @@
--- The log of a run: what a crash leaves behind each call.
+-- The log of a run: what a crash leaves after each call.
 use Rattle.std.proofs.Common.{◌≡◌, ◌≢◌, ◌⊎◌, ◌↔◌, inl, inr, ℕ, ◌+◌, ◌<◌, ◌≤◌, Bool, true, false, List, [], ◌∷◌, ◌++◌, length, length-set, get_or, refl, sym, ◌∙◌, ap, subst, arith, Option, Some, None, Result, Ok, Err}
 use Rattle.outside.specs.Causes.{Rose}
 use Rattle.outside.specs.Lists.{Journals, AddsRecord, Appended, KeepsJournals}
@@ -158,7 +158,7 @@ pub counts-many : (counts : List ℕ) (member : ℕ) (result : Result (Unit {0})
 counts-many counts member (Ok done) counts' is = ap length is ∙ length-set counts member (get_or counts member 0 + 1)
 counts-many counts member (Err refusal) counts' is = ap length is
 
--- ---- the disk behind a run
+-- ---- the disk after a run
 
 pub held_lists : (told : Option History) (faults end members : ℕ) (shut : Bool) → IsRunning told faults end shut → IfTold told (λ h. AreSeen (moments h)) → HoldsLists members faults told (told_lists told end members)
 held_lists None faults end members shut running seen = refl

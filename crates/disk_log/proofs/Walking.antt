@@ -11,11 +11,11 @@ use Rattle.disk_log.specs.Records.{Record, Whole, none, counted, count_in, recor
 use Rattle.disk_log.proofs.Counting.{counted-open, counted-whole, counted-closed, Whole-push}
 use Rattle.disk_log.proofs.Listing.{listed-more}
 
--- a file that is a front and whole records, from the front alone
+-- a file that is a prefix and whole records, from the prefix only
 pub records-of : (front : List ℕ) (records : List Record) → Whole front records → counted (front ++ 0 ∷ []) ≡ records
 records-of front records whole = counted-whole front records whole 0 [] ∙ ap (λ (l : List Record). records ++ l) (counted-closed 0 [] (omega arith)) ∙ append-nil records
 
--- the bytes of a range behind a front and nine bytes
+-- the bytes of a range after a prefix and nine bytes
 pub bytes-behind : (front head bytes : List ℕ) (end : ℕ) → length front ≡ end → length head ≡ 8 → bytes_at (front ++ 1 ∷ (head ++ bytes)) (record { at = end + 9; count = length bytes }) ≡ bytes
 bytes-behind front head bytes end size eight =
     let group : front ++ 1 ∷ (head ++ bytes) ≡ (front ++ 1 ∷ head) ++ bytes = sym (append_assoc front (1 ∷ head) bytes) in
@@ -144,7 +144,7 @@ module _ (reads : List ℕ) (at : ℕ) (rows : Rows) (member count : ℕ) (w : I
         ∙ ap (λ (n : ℕ). bad_member n (at + 9 + count) (counted (drop (at + 9 + count) reads))) (sym width);
   }
 
--- ---- the same, where the bytes may be told
+-- ---- the same, if the bytes may be observable
 
 pub told-on : (told : Option History) (at : ℕ) (rows : Rows) (member count : ℕ) → member < length rows → IsInside at rows → IfTold told (λ h. IsWalked at rows h.now.reads) → IfTold told (λ h. IsNext (drop at h.now.reads) member count) → IfTold told (λ h. IsWalked (at + 9 + count) (with_span rows member (record { at = at + 9; count = count })) h.now.reads)
 told-on None at rows member count lt inside walked next = tt

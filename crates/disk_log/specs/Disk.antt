@@ -37,7 +37,7 @@ pub record IsTorn (at count : ℕ) (old new : List ℕ) : Type 0 where
 abbrev pub with_bytes : List ℕ → ℕ → List ℕ → List ℕ
 with_bytes old at bytes = take at old ++ bytes ++ drop (at + length bytes) old
 
--- behind a write or a try of so many bytes at a place
+-- after a write or a try of so many bytes at a place
 pub record IsTouched (old new : Moment) (at count : ℕ) : Type 0 where
   pub stable : new.stable ≡ old.stable
   pub most : new.most ≡ max old.most (at + count)
@@ -45,7 +45,7 @@ pub record IsTouched (old new : Moment) (at count : ℕ) : Type 0 where
 
 -- ---- all moments
 
--- the moments so far: those behind, the first of them first, and the one that is now
+-- the moments so far: the past ones, the first of them first, and the one that is now
 pub record History : Type 0 where
   pub past : List Moment
   pub now : Moment
@@ -74,7 +74,7 @@ pub record LeavesOnly (P : List ℕ → Type 0) (old new : History) : Type 0 whe
   pub is : moments new ≡ moments old ++ more
   pub each : EachImage P (old.now ∷ more)
 
--- what holds of the moments, where they are told
+-- what holds of the moments, if they are observable
 abbrev pub IfTold : Option History → (History → Type 0) → Type 0
 IfTold None P = Unit {0}
 IfTold (Some h) P = P h
@@ -83,7 +83,7 @@ IfTold (Some h) P = P h
 abbrev pub IsQuiet : History → Type 0
 IsQuiet h = IsSettled h.now h.now.reads
 
--- ---- what the calls of a disk do to told moments
+-- ---- what the calls of a disk do to observable moments
 
 -- one moment more, in which what reads give has these bytes at their place
 abbrev pub Wrote : History → Option History → ℕ → List ℕ → Type 0
@@ -95,8 +95,8 @@ abbrev pub Tried : History → Option History → ℕ → ℕ → Type 0
 Tried old new at count =
     (m : Moment) × (new ≡ Some (later old m)) × IsTouched old.now m at count × IsTorn at count old.now.reads m.reads
 
--- what a write does: at Ok the bytes are written, after a fault they were tried, and where memory was refused
--- nothing changed. A disk that tells no moments never does
+-- what a write does: at Ok the bytes are written, after a fault they were tried, and if memory was refused
+-- nothing changed. A disk that shows no moments never does
 abbrev pub Written : Option History → Option History → ℕ → List ℕ → Result (Unit {0}) OutFault → Type 0
 Written None new at bytes result = new ≡ None
 Written (Some old) new at bytes result = MatchResult result (λ _. Wrote old new at bytes) (after_fault old new at bytes)
@@ -120,7 +120,7 @@ abbrev pub IsGiven : Option History → ℕ → List ℕ → Type 0
 IsGiven None at bytes = Unit {0}
 IsGiven (Some h) at bytes = bytes ≡ take (length bytes) (drop at h.now.reads)
 
--- the size is that of the told bytes
+-- the size is that of the observable bytes
 abbrev pub HasExtent : Option History → ℕ → Type 0
 HasExtent None extent = Unit {0}
 HasExtent (Some h) extent = length h.now.reads ≡ extent
@@ -133,7 +133,7 @@ GrowsTo old new end result = MatchResult result (λ _. new ≡ max old end) (aft
     after_fault old new end fault.Failed = (old ≤ new) × (new ≤ max old end)
     after_fault old new end fault.OutOfMemory = new ≡ old
 
--- ---- a write and a sync behind it, on a disk whose bytes are stable
+-- ---- a write and a sync after it, on a disk whose bytes are stable
 
 -- what a put that failed leaves
 abbrev pub after_put : History → History → ℕ → ℕ → OutFault → Type 0
@@ -141,12 +141,12 @@ after_put old new at count fault.Failed = IsTorn at count old.now.reads new.now.
 after_put old new at count fault.OutOfMemory = new ≡ old
 
 -- until the end of the call a crash leaves any bytes in the range and the old ones elsewhere; at Ok the bytes are
--- stable, and where memory was refused nothing changed
+-- stable, and if memory was refused nothing changed
 pub record IsPut (old new : History) (at : ℕ) (bytes : List ℕ) (result : Result (Unit {0}) OutFault) : Type 0 where
   pub torn : LeavesOnly (IsTorn at (length bytes) old.now.reads) old new
   pub ended : MatchResult result (λ _. IsSettled new.now (with_bytes old.now.reads at bytes)) (after_put old new at (length bytes))
 
--- the same, where the moments are told
+-- the same, if the moments are observable
 abbrev pub Put : Option History → Option History → ℕ → List ℕ → Result (Unit {0}) OutFault → Type 0
 Put None new at bytes result = new ≡ None
 Put (Some old) new at bytes result = (h : History) × (new ≡ Some h) × IsPut old h at bytes result

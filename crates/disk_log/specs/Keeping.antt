@@ -10,7 +10,7 @@ use Rattle.disk_log.specs.Disk.{History, IsImage, LeavesOnly, IfTold, Settles}
 use Rattle.disk_log.specs.Log.{Rows, IsInside, IsListed, HasOldOrNew, IsReady}
 use Rattle.disk_log.specs.Records.{Record, Whole, counted, records_to, journals_of, bad_member}
 
--- a log: its disk, where the gate stands behind the acknowledged records, how many each member has, whether
+-- a log: its disk, where the gate stands after the acknowledged records, how many each member has, whether
 -- an append met a fault of the disk, and its own count of faults
 pub record LogState (D : Type 0) : Type 0 where
   pub disk : D
@@ -34,7 +34,7 @@ pub record IsGood (told : Option History) (extent end members : ℕ) (shut : Boo
   pub kept : IfTold told (IsKept end rows)
   pub ready : shut ≡ false → IfTold told (λ h. IsReady h end)
 
--- the lists of the members, where the disk tells its bytes
+-- the lists of the members, if the disk shows its bytes
 abbrev pub told_lists : Option History → ℕ → ℕ → Option Journals
 told_lists None end members = None
 told_lists (Some h) end members = Some (journals_of members (records_to h.now.reads end))
@@ -45,35 +45,35 @@ LeavesRecords h records = (image : List ℕ) → IsImage h.now image → counted
 
 -- ---- appending
 
--- the acknowledged records behind an append
+-- the acknowledged records after an append
 abbrev pub records_behind : List Record → Record → Result (Unit {0}) LogRefusal → List Record
 records_behind records r (Ok _) = records ++ r ∷ []
 records_behind records r (Err _) = records
 
--- where the gate stands behind an append
+-- where the gate stands after an append
 abbrev pub end_behind : ℕ → ℕ → Result (Unit {0}) LogRefusal → ℕ
 end_behind end count (Ok _) = end + 9 + count
 end_behind end count (Err _) = end
 
--- how many records the members have behind an append
+-- how many records the members have after an append
 abbrev pub counts_behind : List ℕ → ℕ → Result (Unit {0}) LogRefusal → List ℕ
 counts_behind counts member (Ok _) = slice_set counts member (slice_index counts member + 1)
 counts_behind counts member (Err _) = counts
 
--- whether a log is shut behind an append
+-- whether a log is shut after an append
 abbrev pub shut_behind : Bool → Result (Unit {0}) LogRefusal → Bool
 shut_behind shut (Err log.DiskFault) = true
 shut_behind shut result = shut
 
 -- At each moment of the call a crash leaves a file in which the acknowledged records count, and the one of this
--- call or not. Behind it the acknowledged records are those of before, with this one at Ok; and unless the disk
+-- call or not. After it the acknowledged records are those of before, with this one at Ok; and unless the disk
 -- met a fault, a crash leaves a file in which they count and no others.
 pub record IsAppended (old new : History) (end : ℕ) (r : Record) (result : Result (Unit {0}) LogRefusal) : Type 0 where
   pub any_moment : LeavesOnly (HasOldOrNew (records_to old.now.reads end) r) old new
   pub records : records_to new.now.reads (end_behind end (length r.bytes) result) ≡ records_behind (records_to old.now.reads end) r result
   pub between : result ≢ Err log.DiskFault → LeavesRecords new (records_behind (records_to old.now.reads end) r result)
 
--- the same, where the moments are told
+-- the same, if the moments are observable
 abbrev pub Appends : Option History → Option History → ℕ → ℕ → List ℕ → Result (Unit {0}) LogRefusal → Type 0
 Appends None new end member bytes result = new ≡ None
 Appends (Some old) new end member bytes result =
@@ -102,7 +102,7 @@ abbrev pub Opened : Option History → Option History → ℕ → ℕ → Type 0
 Opened None new end members = new ≡ None
 Opened (Some old) new end members = (h : History) × (new ≡ Some h) × IsOpened old h end members
 
--- where it was refused, the first sync failed and no moment passed, or the same is true of each moment
+-- if it was refused, the first sync failed and no moment passed, or the same is true of each moment
 abbrev pub NotOpened : Option History → Option History → Type 0
 NotOpened None new = new ≡ None
 NotOpened (Some old) new = (new ≡ Some old) ⊎ ((h : History) × (new ≡ Some h) × OpensOnly old h)

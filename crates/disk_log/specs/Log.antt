@@ -32,7 +32,7 @@ row_of rows member = slice_index_or rows member []
 abbrev pub with_span : Rows → ℕ → Span → Rows
 with_span rows member span = slice_set rows member (row_of rows member ++ span ∷ [])
 
--- what the ranges give are the lists of the members behind these records
+-- what the ranges give are the lists of the members after these records
 abbrev pub IsListed : List ℕ → Rows → List Record → Type 0
 IsListed front rows records = map (map (bytes_at front)) rows ≡ journals_of (length rows) records
 
@@ -52,15 +52,15 @@ pub record IsReady (h : History) (end : ℕ) : Type 0 where
   pub quiet : IsQuiet h
   pub closed : slice_index h.now.reads end ≢ 1
 
--- ---- a record behind the gate
+-- ---- a record after the gate
 
--- the record stands in the file, whole and open, and the gate behind it is ready
+-- the record stands in the file, whole and open, and the gate after it is ready
 pub record IsAdded (old new : History) (end member : ℕ) (bytes : List ℕ) : Type 0 where
   pub front : take (end + 9 + length bytes) new.now.reads ≡ take end old.now.reads ++ 1 ∷ (head_of member bytes ++ bytes)
   pub inside : end + 9 + length bytes < length new.now.reads
   pub ready : IsReady new (end + 9 + length bytes)
 
--- after a fault nothing is said but what every moment allows; where memory was refused the gate is ready
+-- after a fault nothing is said but what every moment allows; if memory was refused the gate is ready
 abbrev pub after_fault : History → ℕ → OutFault → Type 0
 after_fault new end fault.Failed = Unit {0}
 after_fault new end fault.OutOfMemory = IsReady new end
@@ -72,12 +72,12 @@ pub record IsRecorded (old new : History) (end member : ℕ) (bytes : List ℕ) 
   pub inside : end < length new.now.reads
   pub ended : MatchResult result (λ _. IsAdded old new end member bytes) (after_fault new end)
 
--- the same, where the moments are told
+-- the same, if the moments are observable
 abbrev pub Recorded : Option History → Option History → ℕ → ℕ → List ℕ → Result (Unit {0}) OutFault → Type 0
 Recorded None new end member bytes result = new ≡ None
 Recorded (Some old) new end member bytes result = (h : History) × (new ≡ Some h) × IsRecorded old h end member bytes result
 
--- the gate is ready behind whole records
+-- the gate is ready after whole records
 pub record IsAtGate (end : ℕ) (h : History) : Type 0 where
   pub whole : IsWhole h end
   pub ready : IsReady h end
@@ -96,7 +96,7 @@ abbrev pub NextIs : List ℕ → Option Head → Type 0
 NextIs file None = counted file ≡ []
 NextIs file (Some head) = IsNext file head.member head.count
 
--- what nine bytes at a gate say, where so many are left from the gate on
+-- what nine bytes at a gate say, if so many are left from the gate on
 abbrev pub HeadSays : List ℕ → ℕ → Option Head → Type 0
 HeadSays bytes left None = slice_index bytes 0 ≡ 1 → left ≤ 9 + count_in (drop 1 bytes)
 HeadSays bytes left (Some head) =
@@ -110,18 +110,18 @@ pub record IsWalked (at : ℕ) (rows : Rows) (reads : List ℕ) : Type 0 where
   pub lists : IsListed (take at reads) rows (records_to reads at)
   pub known : bad_member (length rows) 0 (counted reads) ≡ bad_member (length rows) at (counted (drop at reads))
 
--- and no more counts behind it
+-- and no more counts after it
 pub record IsWalkedThrough (at : ℕ) (rows : Rows) (reads : List ℕ) : Type 0 where
   pub walked : IsWalked at rows reads
   pub through : counted (drop at reads) ≡ []
 
--- why records could not be read: after a fault the count rose, and a bad member is the first of the told bytes
+-- why records could not be read: after a fault the count rose, and a bad member is the first of the observable bytes
 pub record WalkCause (before now : ℕ) (told : Option History) (members : ℕ) (refusal : OpenRefusal) : Type 0 where
   pub later : before ≤ now
   pub fault : refusal ≡ refused.DiskFault → Rose before now
   pub bad : (at : ℕ) → refusal ≡ refused.BadMember at → IfTold told (λ h. bad_member members 0 (counted h.now.reads) ≡ Some at)
 
--- ---- the gate behind the records
+-- ---- the gate after the records
 
 -- what is done at the gate leaves what counts, at any moment; at Ok the gate is ready
 pub record IsMended (old new : History) (end : ℕ) (result : Result (Unit {0}) OutFault) : Type 0 where

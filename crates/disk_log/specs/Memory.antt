@@ -20,7 +20,7 @@ pub record DiskState : Type 0 where
 abbrev pub settled_at : List ℕ → Moment
 settled_at bytes = record { reads = bytes; stable = bytes; most = length bytes; ranges = [] }
 
--- behind a write, or a try, which leaves what reads give
+-- after a write, or a try, which leaves what reads give
 abbrev pub touched_by : Moment → Change → Moment
 touched_by m change = record {
   reads = if change.failed then m.reads else with_bytes m.reads change.at change.bytes;
@@ -29,12 +29,12 @@ touched_by m change = record {
   ranges = m.ranges ++ record { at = change.at; count = length change.bytes } ∷ [];
 }
 
--- the moments of a change: its own, and that of the sync behind it if there was one
+-- the moments of a change: its own, and that of the sync after it if there was one
 abbrev pub behind_change : History → Change → History
 behind_change h change =
     if change.synced then later (later h (touched_by h.now change)) (settled_at (touched_by h.now change).reads) else later h (touched_by h.now change)
 
--- the moments behind these changes
+-- the moments after these changes
 abbrev pub grown : History → List Change → History
 grown h [] = h
 grown h (change ∷ changes) = grown (behind_change h change) changes
@@ -43,7 +43,7 @@ grown h (change ∷ changes) = grown (behind_change h change) changes
 abbrev pub history_of : List ℕ → List Change → History
 history_of first changes = grown (record { past = []; now = settled_at first }) changes
 
--- the last of them, alone
+-- only the last of them
 abbrev pub moment_behind : Moment → Change → Moment
 moment_behind m change = if change.synced then settled_at (touched_by m change).reads else touched_by m change
 
@@ -57,7 +57,7 @@ last_synced [] = []
 last_synced (change ∷ []) = record change { synced = true } ∷ []
 last_synced (change ∷ next ∷ changes) = change ∷ last_synced (next ∷ changes)
 
--- a disk behind a write: one change more, unless memory was refused
+-- a disk after a write: one change more, unless memory was refused
 abbrev pub behind_write : DiskState → ℕ → List ℕ → Result (Unit {0}) OutFault → DiskState
 behind_write disk at bytes (Err fault.OutOfMemory) = disk
 behind_write disk at bytes result = record disk {
@@ -66,7 +66,7 @@ behind_write disk at bytes result = record disk {
   faults = faults_after disk.turns disk.faults;
 }
 
--- a disk behind a sync: the last change is synced, unless the call was to fail
+-- a disk after a sync: the last change is synced, unless the call was to fail
 abbrev pub behind_sync : DiskState → DiskState
 behind_sync disk = record disk {
   changes = if fails_next disk.turns then disk.changes else last_synced disk.changes;
@@ -74,6 +74,6 @@ behind_sync disk = record disk {
   faults = faults_after disk.turns disk.faults;
 }
 
--- a disk behind a read
+-- a disk after a read
 abbrev pub behind_read : DiskState → DiskState
 behind_read disk = record disk { turns = after_call disk.turns; faults = faults_after disk.turns disk.faults }

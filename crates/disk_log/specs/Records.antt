@@ -8,7 +8,7 @@ pub record Record : Type 0 where
   pub member : ℕ
   pub bytes : List ℕ
 
--- ---- what stands behind a gate: the length of the bytes, the member, the bytes, and the next gate
+-- ---- what stands after a gate: the length of the bytes, the member, the bytes, and the next gate
 
 abbrev pub count_in : List ℕ → ℕ
 count_in rest = value_of (take 4 rest)
@@ -35,7 +35,7 @@ counted_by (suc fuel) (gate ∷ rest) =
 abbrev pub counted : List ℕ → List Record
 counted file = counted_by (length file) file
 
--- the records that count in the front of a file up to a gate, were that gate closed
+-- the records that count in the prefix of a file up to a gate, were that gate closed
 abbrev pub records_to : List ℕ → ℕ → List Record
 records_to file end = counted (take end file ++ 0 ∷ [])
 
@@ -46,15 +46,15 @@ pub data Whole : List ℕ → List Record → Type 0 where
 
 -- ---- records and members
 
--- what stands before the bytes of a record, behind its gate
+-- what stands before the bytes of a record, after its gate
 abbrev pub head_of : ℕ → List ℕ → List ℕ
 head_of member bytes = low_first 4 (length bytes) ++ low_first 4 member
 
--- what stands behind the gate of a record, with the next gate closed
+-- what stands after the gate of a record, with the next gate closed
 abbrev pub body_of : ℕ → List ℕ → List ℕ
 body_of member bytes = head_of member bytes ++ bytes ++ 0 ∷ []
 
--- the lists of the members behind these records
+-- the lists of the members after these records
 abbrev pub added_to : Journals → List Record → Journals
 added_to lists [] = lists
 added_to lists (r ∷ records) = added_to (with_record lists r.member r.bytes) records

@@ -22,18 +22,18 @@ pub record Holds (faults : ℕ) (records : List Record) (h : History) : Type 0 w
   pub reads : HasRecords faults records h.now.reads
   pub crash : LeavesThese faults records h
 
--- a disk that tells its bytes holds these lists of so many members; one that does not tells none
+-- a disk that shows its bytes holds these lists of so many members; one that does not shows none
 abbrev pub HoldsLists : ℕ → ℕ → Option History → Option Journals → Type 0
 HoldsLists members faults None lists = lists ≡ None
 HoldsLists members faults (Some h) lists = (records : List Record) × (lists ≡ Some (journals_of members records)) × Holds faults records h
 
--- what is true of the log of a run: up to its gate stand the records that the disk holds, and it is shut only where a
+-- what is true of the log of a run: up to its gate stand the records that the disk holds, and it is shut only if a
 -- call of the disk has failed
 pub record IsRunning (told : Option History) (faults end : ℕ) (shut : Bool) : Type 0 where
   pub left : IfTold told (λ h. LeavesThese faults (records_to h.now.reads end) h)
   pub stopped : shut ≡ true → 0 < faults
 
--- what a run is answered for an append to its log: a fault is one of the disk, and all else is want of memory
+-- what a run is answered for an append to its log: a fault is one of the disk, and all else is running out of memory
 abbrev pub run_answer : Result (Unit {0}) LogRefusal → Result (Unit {0}) OutFault
 run_answer (Ok done) = Ok done
 run_answer (Err log.DiskFault) = Err fault.Failed
@@ -47,11 +47,11 @@ pub record IsRunAppend (told told' : Option History) (end end' : ℕ) (shut : Bo
   pub shuts : (answer ≡ Err log.Shut) ↔ (shut ≡ true)
   pub gate : end' ≡ end_behind end (length bytes) answer
 
--- whether no record counts in front of a gate
+-- whether no record counts before a gate
 abbrev pub IsEmptyTo : ℕ → Bool → History → Type 0
 IsEmptyTo end empty h = IsTrue empty ↔ (records_to h.now.reads end ≡ [])
 
--- ---- where no record was added
+-- ---- if no record was added
 
 -- the records that count are those of before, in what reads give and, unless the disk is as it was, in each file
 -- that a crash may leave now
@@ -63,7 +63,7 @@ abbrev pub Unchanged : Option History → Option History → Type 0
 Unchanged None new = new ≡ None
 Unchanged (Some old) new = (h : History) × (new ≡ Some h) × IsUnchanged old h
 
--- the lists of so many members in what reads give, where the disk tells its bytes
+-- the lists of so many members in what reads give, if the disk shows its bytes
 abbrev pub lists_in : ℕ → Option History → Option Journals
 lists_in members None = None
 lists_in members (Some h) = Some (journals_of members (counted h.now.reads))

@@ -43,7 +43,7 @@ fn content_of(digit: u64) -> Content {
     }
 }
 
-/// The pick that a number stands for, where the first of these places is `start` and `most` the
+/// The pick that a number stands for, if the first of these places is `start` and `most` the
 /// greatest size. `MemDisk::crash` says how.
 fn pick_of(choice: u64, start: u64, most: u64) -> Pick {
     let width = most.saturating_sub(start).max(1);
@@ -56,7 +56,7 @@ fn pick_of(choice: u64, start: u64, most: u64) -> Pick {
     }
 }
 
-/// The first place that lies in a range, or `most` where none does before it.
+/// The first place that lies in a range, or `most` if none does before it.
 fn first_touched(ranges: &[Span], most: u64) -> u64 {
     let mut first = most;
     for span in ranges {
@@ -121,7 +121,7 @@ fn touched_byte(moment: &Moment, pick: &Pick, place: u64) -> u8 {
     }
 }
 
-/// The byte that a crash leaves at a place: the stable one, or 0 past the stable size, where the
+/// The byte that a crash leaves at a place: the stable one, or 0 past the stable size, if the
 /// place lies in none of the ranges.
 fn byte_left(moment: &Moment, pick: &Pick, place: u64) -> u8
     ensures { MayStand moment.now place result }
@@ -168,8 +168,8 @@ impl MemDisk {
     /// `choice / 3 % 3` what stands in the later ones: 0 what was stable, 1 what reads give, 2
     /// another byte. `choice / 9` says how many the first ones are beyond one, counted round as far
     /// as the greatest size goes, and each round the other byte is one less, from 255 on. The file
-    /// has the greatest size where the later ones are not as they were, else it ends behind the
-    /// first ones, or, where these are as they were too, at the stable size; never before that.
+    /// has the greatest size if the later ones are not as they were, else it ends after the
+    /// first ones, or, if these are as they were too, at the stable size; never before that.
     pub fn crash(self, choice: u64) -> Result<MemDisk, OutOfMemory>
         ensures image { IfOk result (λ d. IsImage (history_of self.first self.changes).now d.first) }
         ensures anew { IfOk result (λ d. d ≡ record { first = d.first; changes = []; turns = record { calls = 0; failing = [] }; faults = 0 }) }

@@ -7,9 +7,9 @@ ghost use Rattle.disk_log.specs.Disk.{History, AreSeen, HasExtent, IfTold, IsGiv
 use outside::{Failed, OutFault};
 
 /// A file of bytes, which grows and never shrinks. What was written is safe from a crash once a
-/// sync has succeeded behind it.
+/// sync has succeeded after it.
 pub trait Disk {
-    /// The moments so far, where they are told.
+    /// The moments so far, if they are observable.
     ghost history: { Self → Option History };
 
     /// The size in bytes.
@@ -27,7 +27,7 @@ pub trait Disk {
     fn faults(&self) -> u64
         ensures { result ≡ failed self.now };
 
-    /// Fills the buffer with the bytes from `at` on. Takes no memory. It is no moment of its own.
+    /// Fills the buffer with the bytes from `at` on. Takes no memory. It is not a moment of its own.
     fn read_at(&mut self, at: u64, buffer: &mut [u8]) -> Result<(), Failed>
         requires { at + length buffer.old ≤ extent self.old }
         ensures given { OnOk result (IsGiven (history self.old) at buffer.new) }
@@ -37,7 +37,7 @@ pub trait Disk {
         ensures failed { IsErr result → Rose (failed self.old) (failed self.new) };
 
     /// Writes the bytes from `at` on, over what is there and past the end. Until a sync, a crash may
-    /// leave any bytes there. After `Failed` what reads give may have changed there too; where
+    /// leave any bytes there. After `Failed` what reads give may have changed there too; if
     /// memory was refused nothing changed.
     fn write_at(&mut self, at: u64, bytes: &[u8]) -> Result<(), OutFault>
         requires at { at ≤ extent self.old }
@@ -53,9 +53,9 @@ pub trait Disk {
         ensures later { failed self.old ≤ failed self.new }
         ensures failed { IsErr result → Rose (failed self.old) (failed self.new) };
 
-    /// The told bytes are as many as the size says.
+    /// The observable bytes are as many as the size says.
     ghost sized: { (disk : Self) → HasExtent (history disk) (extent disk) };
 
-    /// At each told moment what reads give is one of the files that a crash may leave.
+    /// At each observable moment what reads give is one of the files that a crash may leave.
     ghost seen: { (disk : Self) → IfTold (history disk) (λ h. AreSeen (moments h)) };
 }

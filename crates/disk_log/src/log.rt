@@ -26,7 +26,7 @@ use wire_bcs::{OutOfMemory, Seq};
 const LIMIT: u64 = 1 << 63;
 
 /// A log of records of so many members over a disk. Contracts see the disk, where the gate stands
-/// behind the acknowledged records, how many each member has, whether an append met a fault of the
+/// after the acknowledged records, how many each member has, whether an append met a fault of the
 /// disk, and the log's own count of faults.
 pub struct DiskLog<K: Disk> {
     alloc: Global,
@@ -50,7 +50,7 @@ impl<K: Disk> Model for DiskLog<K> {
     ghost invariant = { λ s. IsGood (K.history s.disk) (K.extent s.disk) s.end s.members s.shut s.index };
 }
 
-/// What is known of a log when its records are read: where the gate stands behind them, and where
+/// What is known of a log when its records are read: where the gate stands after them, and where
 /// they stand.
 #[derive(Drop)]
 struct Reading {
@@ -58,7 +58,7 @@ struct Reading {
     index: Index,
 }
 
-/// Syncs the disk, reads the records that count, and closes the gate behind them.
+/// Syncs the disk, reads the records that count, and closes the gate after them.
 fn read_log<K: Disk>(alloc: Global, disk: &mut K, members: u32) -> Result<Reading, OpenRefusal>
     ensures good { IfOk result (λ r. IsGood (K.history disk.new) (K.extent disk.new) r.end members false r.index) }
     ensures opened { IfOk result (λ r. Opened (K.history disk.old) (K.history disk.new) r.end members) }
@@ -87,9 +87,9 @@ fn read_log<K: Disk>(alloc: Global, disk: &mut K, members: u32) -> Result<Readin
 
 impl<K: Disk> DiskLog<K> {
     /// Opens a file that a crash may have left, or anything else: a log of the records that count
-    /// in it. It begins with a sync; behind the records that count it closes a gate that is open or
+    /// in it. It begins with a sync; after the records that count it closes a gate that is open or
     /// missing. `BadMember` comes exactly at the first record that counts whose member is not below
-    /// `members`, where neither the disk nor memory refused before. A refusal hands the disk back.
+    /// `members`, if neither the disk nor memory refused before. A refusal hands the disk back.
     pub fn open(alloc: Global, disk: K, members: u32) -> Result<DiskLog<K>, (K, OpenRefusal)>
         ensures opened { IfOk result (λ log. Opened (K.history disk) (K.history log.disk) log.end members) }
         ensures width { IfOk result (λ log. length log.counts ≡ members) }
@@ -131,7 +131,7 @@ impl<K: Disk> DiskLog<K> {
     }
 }
 
-/// Puts a record behind the gate at `end`, into the file and into the index. The index has its room
+/// Puts a record after the gate at `end`, into the file and into the index. The index has its room
 /// before the gate is opened.
 fn append_to<K: Disk>(
     alloc: Global,
@@ -174,9 +174,9 @@ fn append_to<K: Disk>(
 }
 
 impl<K: Disk> DiskLog<K> {
-    /// Appends a record of a known member. It writes all behind the gate, with the next gate
+    /// Appends a record of a known member. It writes all after the gate, with the next gate
     /// closed, syncs, opens the gate and syncs: four calls of the disk. At `Ok` the record is
-    /// acknowledged. Where memory was refused the log goes on, since the gate was not opened; after
+    /// acknowledged. If memory was refused the log goes on, since the gate was not opened; after
     /// `DiskFault` the log is shut, and the file is to be opened again.
     pub fn append_record(&mut self, member: u32, bytes: &[u8]) -> Result<(), LogRefusal>
         requires known { member < length self.old.counts }

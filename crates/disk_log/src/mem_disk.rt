@@ -16,7 +16,7 @@ use std::alloc::Global;
 use std::marker::Model;
 use wire_bcs::{OutOfMemory, Seq};
 
-/// A write or a tried write, and whether a sync has succeeded behind it and before the next one.
+/// A write or a tried write, and whether a sync has succeeded after it and before the next one.
 #[derive(Debug, Drop)]
 pub struct Change {
     pub at: u64,
@@ -25,7 +25,7 @@ pub struct Change {
     pub synced: bool,
 }
 
-/// A disk in memory. It tells all its moments, and fails at the calls of given numbers.
+/// A disk in memory. It shows all its moments, and fails at the calls of given numbers.
 #[derive(Drop)]
 pub struct MemDisk {
     first: Seq<u8>,
@@ -57,7 +57,7 @@ fn make_room(changes: &mut Vec<Change>) -> Result<(), OutOfMemory>
     Ok(())
 }
 
-/// Notes that a sync has succeeded behind the last change.
+/// Notes that a sync has succeeded after the last change.
 fn note_sync(changes: &mut Vec<Change>)
     ensures { changes.new.items ≡ last_synced changes.old.items }
 {

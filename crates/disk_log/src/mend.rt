@@ -1,4 +1,4 @@
-//! The gate behind the records that count.
+//! The gate after the records that count.
 
 ghost use Rattle.std.specs.Prelude.{◌≡◌, ◌⊎◌, ◌<◌, ◌≤◌, ◌^◌, IfOk, IsErr, OnOk, IsTrue};
 ghost use Rattle.outside.specs.Causes.{KeepCause, Rose};
@@ -30,7 +30,7 @@ fn is_closed<K: Disk>(disk: &mut K, at: u64) -> Result<bool, Failed>
     }
 }
 
-/// Closes the gate behind the records that count, where it is open or missing.
+/// Closes the gate after the records that count, if it is open or missing.
 pub(crate) fn mend<K: Disk>(disk: &mut K, end: u64) -> Result<(), OutFault>
     requires within { end ≤ K.extent disk.old }
     requires gate { (end ≡ 0) ⊎ (end < K.extent disk.old) }

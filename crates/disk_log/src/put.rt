@@ -8,7 +8,7 @@ use crate::disk::Disk;
 use outside::{Failed, OutFault};
 
 /// Writes the bytes from `at` on and syncs, on a disk whose bytes are all stable: two calls of it.
-/// After `Failed` the range may have changed; where memory was refused nothing did.
+/// After `Failed` the range may have changed; if memory was refused nothing did.
 pub(crate) fn put<K: Disk>(disk: &mut K, at: u64, bytes: &[u8]) -> Result<(), OutFault>
     requires quiet { IfTold (K.history disk.old) IsQuiet }
     requires at { at ≤ K.extent disk.old }

@@ -12,7 +12,7 @@ use outside::OutFault;
 use std::alloc::Global;
 use wire_bcs::{OutOfMemory, Seq};
 
-/// What stands behind the gate of a record: the length of its bytes and the member, 4 bytes each
+/// What stands after the gate of a record: the length of its bytes and the member, 4 bytes each
 /// with the lowest first, the bytes, and the next gate, closed.
 pub(crate) fn body(alloc: Global, member: u32, bytes: &[u8]) -> Result<Seq<u8>, OutOfMemory>
     requires { length bytes.now < 2 ^ 31 }
@@ -26,8 +26,8 @@ pub(crate) fn body(alloc: Global, member: u32, bytes: &[u8]) -> Result<Seq<u8>, 
     Ok(body)
 }
 
-/// Puts a record behind the closed gate at `end`, and then opens the gate: four calls of the disk.
-/// `body` is what stands behind the gate.
+/// Puts a record after the closed gate at `end`, and then opens the gate: four calls of the disk.
+/// `body` is what stands after the gate.
 pub(crate) fn add_record<K: Disk>(
     disk: &mut K,
     end: u64,

@@ -28,7 +28,7 @@ impl From<OutOfMemory> for OpenRefusal {
 pub enum LogRefusal {
     /// An earlier append met a fault of the disk: open the file again.
     Shut,
-    /// The record and the gate behind it would end at 2^63 or more.
+    /// The record and the gate after it would end at 2^63 or more.
     Full,
     OutOfMemory,
     /// The disk did not do its work, and its count of faults rose. The record stands or does not.

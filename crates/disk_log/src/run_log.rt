@@ -17,7 +17,7 @@ use std::marker::Model;
 use wire_bcs::Seq;
 
 /// A log as the keeper of a run, whose count of faults is the disk's own. A log that is full, or
-/// shut by an earlier fault, has no room for a record: that counts as want of memory, since the disk
+/// shut by an earlier fault, has no room for a record: that counts as running out of memory, since the disk
 /// met no fault then. Contracts see the log.
 pub struct RunLog<K: Disk> {
     log: DiskLog<K>,
@@ -83,7 +83,7 @@ fn passed(answer: Result<(), LogRefusal>) -> Result<(), OutFault>
     }
 }
 
-/// The lists are those of the records that were acknowledged, where the disk tells its bytes.
+/// The lists are those of the records that were acknowledged, if the disk shows its bytes.
 impl<K: Disk> Keeper for RunLog<K> {
     ghost lists = { λ l. told_lists (K.history l.disk) l.end (length l.counts) };
 

@@ -32,7 +32,7 @@ fn number(bytes: &[u8]) -> u32
     u32::from_le_bytes(cells)
 }
 
-/// What the nine bytes at a gate say of a record, if it counts where the ones before it do and
+/// What the nine bytes at a gate say of a record, if it counts when the ones before it do and
 /// `left` bytes are left from the gate on.
 fn head_in(bytes: &[u8], left: u64) -> Option<Head>
     requires { length bytes.now ≡ 9 }
@@ -51,7 +51,7 @@ fn head_in(bytes: &[u8], left: u64) -> Option<Head>
     })
 }
 
-/// The record whose gate stands at `at`, if it counts where the ones before it do.
+/// The record whose gate stands at `at`, if it counts when the ones before it do.
 fn read_next<K: Disk>(disk: &mut K, at: u64) -> Result<Option<Head>, Failed>
     requires { at ≤ K.extent disk.old }
     ensures next { IfOk result (λ next. IfTold (K.history disk.old) (λ h. NextIs (drop at h.now.reads) next)) }
@@ -74,7 +74,7 @@ fn read_next<K: Disk>(disk: &mut K, at: u64) -> Result<Option<Head>, Failed>
 }
 
 /// Reads the record whose gate stands at `at` into the index. Answers where the next gate stands,
-/// or none where the record does not count.
+/// or none if the record does not count.
 fn step<K: Disk>(disk: &mut K, index: &mut Index, at: u64) -> Result<Option<u64>, OpenRefusal>
     requires within { at ≤ K.extent disk.old }
     requires inside { IsInside at index.old }
@@ -107,7 +107,7 @@ fn step<K: Disk>(disk: &mut K, index: &mut Index, at: u64) -> Result<Option<u64>
     }
 }
 
-/// Reads the records that count into an index that is empty. Answers where the gate behind them
+/// Reads the records that count into an index that is empty. Answers where the gate after them
 /// stands.
 pub(crate) fn walk<K: Disk>(disk: &mut K, index: &mut Index) -> Result<u64, OpenRefusal>
     requires { index.old ≡ replicate (length index.old) [] }

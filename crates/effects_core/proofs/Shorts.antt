@@ -1,4 +1,4 @@
--- Effects can be spelled exactly where their lists are short.
+-- Effects can be encoded exactly if their lists are short.
 use Rattle.std.proofs.Common.{◌<◌, length}
 use Rattle.wire_bcs.specs.Digests.{digest}
 use Rattle.wire_bcs.specs.Items.{length_limit}

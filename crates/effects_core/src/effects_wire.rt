@@ -119,11 +119,11 @@ impl Duplicate for Effects {
     }
 }
 
-/// How long a list is at least that cannot be spelled.
+/// How long a list is at least that cannot be encoded.
 const TOO_LONG: u64 = 2_147_483_648;
 
 impl Effects {
-    /// Whether they can be spelled: their lists are at most 2147483647 long. Takes no memory.
+    /// Whether they can be encoded: their lists are at most 2147483647 long. Takes no memory.
     #[tactic(auto, using(crate::proofs::Shorts::effects_short, crate::proofs::Shorts::short_written, crate::proofs::Shorts::short_deleted))]
     pub fn is_short(&self) -> bool
         ensures short { result ≡ true → codecs.effects.short self.now }

@@ -10,7 +10,7 @@ use std::alloc::Global;
 use std::marker::Model;
 use wire_bcs::{Duplicate, OutOfMemory};
 
-/// The effects of an executed transaction, with their digest: who asks for it needs no memory and hashes nothing.
+/// The effects of an executed transaction, with their digest: asking for it takes no memory and hashes nothing.
 /// Contracts see the effects.
 #[derive(Debug, Drop)]
 pub struct HashedEffects {
@@ -31,7 +31,7 @@ impl Model for HashedEffects {
 }
 
 impl HashedEffects {
-    /// Takes the digest of effects. A list of 2^31 objects, more than a transaction can write, counts as want of memory.
+    /// Takes the digest of effects. A list of 2^31 objects, more than a transaction can write, counts as running out of memory.
     pub fn new(alloc: Global, effects: Effects) -> Result<HashedEffects, OutOfMemory>
         ensures { IfOk result (λ s. s ≡ effects) }
     {

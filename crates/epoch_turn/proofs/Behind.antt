@@ -1,4 +1,4 @@
--- What was built stays a front of what can be, as more is admitted, cut and executed.
+-- What was built stays a prefix of what can be, as more is admitted, cut and executed.
 use Rattle.std.proofs.Common.{◌≡◌, ◌∙◌, refl, sym, ap, subst, arith, ℕ, suc, ◌≤◌, Bool, true, false, cond, List, [], ◌∷◌, ◌++◌, length, take, drop, length-drop, append-nil}
 use Rattle.std.specs.Prelude.{Option, is_some, map}
 use Rattle.std.specs.List.{list_all}

@@ -1,4 +1,4 @@
--- How many at the front of a list pass a test.
+-- How many at the start of a list pass a test.
 use Rattle.std.proofs.Common.{◌≡◌, ◌∙◌, refl, sym, ap, arith, ℕ, zero, suc, ◌+◌, ◌≤◌, Bool, true, false, not, cond, ◌&&◌, List, [], ◌∷◌, ◌++◌, length, take, drop}
 use Rattle.std.specs.Prelude.{Option, Some, None, find, is_some, option_map, slice_get}
 use Rattle.std.specs.Option.{option_or}
@@ -18,7 +18,7 @@ front_most test (x ∷ xs) = by (test x) (front_most test xs)
     by true most = omega (arith, most)
     by false most = omega arith
 
--- a front that passes is no longer than the longest
+-- a prefix that passes is no longer than the longest
 pub front_reaches : {A : Type 0} (test : A → Bool) (n : ℕ) (xs : List A) → n ≤ length xs → list_all test (take n xs) ≡ true → n ≤ front_length test xs
 front_reaches test zero xs few all = omega arith
 front_reaches test (suc n) [] few all = absurd (omega (arith, few))
@@ -37,7 +37,7 @@ front_passes test (suc n) (x ∷ xs) few = by (test x) few (front_passes test n 
     by true e more = more (omega (arith, e))
     by false e more = absurd (omega (arith, e))
 
--- behind a front that passes, what is left of the longest
+-- after a prefix that passes, what is left of the longest
 pub front_behind : {A : Type 0} (test : A → Bool) (n : ℕ) (xs : List A) → n ≤ front_length test xs → n + front_length test (drop n xs) ≡ front_length test xs
 front_behind test zero xs few = omega arith
 front_behind test (suc n) [] few = absurd (omega (arith, few))
@@ -55,7 +55,7 @@ found_stays test xs more some = find-append test xs more ∙ first (find test xs
     first None p some = absurd (cc)
     first (Some x) p some = refl
 
--- the first that does not pass stands behind the front
+-- the first that does not pass stands after the prefix
 pub first_behind : {A B : Type 0} (test : A → Bool) (of : A → B) (xs : List A) → option_map of (slice_get xs (front_length test xs)) ≡ first_of (λ x. where_true (not (test x)) (of x)) xs
 first_behind test of [] = refl
 first_behind {A} {B} test of (x ∷ xs) = by (test x) (first_behind test of xs)
@@ -69,7 +69,7 @@ first_behind {A} {B} test of (x ∷ xs) = by (test x) (first_behind test of xs)
         alone (Some y) = refl
     by false rest = refl
 
--- so many more are found behind it
+-- so many more are found after it
 pub front_further : {A : Type 0} (test : A → Bool) (n more : ℕ) (xs rest : List A) → n ≤ front_length test xs → rest ≡ drop n xs → more ≡ front_length test rest → n + more ≡ front_length test xs
 front_further test n more xs rest front is count = let all = front_behind test n xs front in let same = count ∙ ap (front_length test) is in omega (arith, same, all)
 

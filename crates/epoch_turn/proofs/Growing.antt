@@ -80,7 +80,7 @@ drop_more (suc m) n (x ∷ xs) = ap (λ k. drop k (x ∷ xs)) (next m n) ∙ dro
     next : (m n : ℕ) → suc m + n ≡ suc (m + n)
     next m n = omega arith
 
--- fronts of one list that are as long are the same
+-- prefixes of one list that are as long are the same
 same_front : {A : Type 0} (xs ys us vs : List A) → xs ++ us ≡ ys ++ vs → length xs ≡ length ys → xs ≡ ys
 same_front [] [] us vs e long = refl
 same_front [] (y ∷ ys) us vs e long = absurd (omega (arith, long))

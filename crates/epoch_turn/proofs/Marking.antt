@@ -28,7 +28,7 @@ pub size_cons : (m : CutMark) (ms : List CutMark) → size_of (m ∷ ms) ≡ m.s
 size_cons m ms = refl
 
 module _ (epoch : ℕ) (executed : List Execution) where
-  -- where the first cut is not done, nothing is added
+  -- if the first cut is not done, nothing is added
   pub stops : (g : Growth) (ready : ℕ) (left : List Due) (rest : List CutMark) → 1 ≤ length rest → ready ≡ front_length (is_due_done executed) left → size_of rest ≤ length left
       → ready < (first_of_marks rest).size → grown_all epoch executed g left rest ≡ g
   stops g ready left [] some is sizes less = absurd (omega (arith, some))

@@ -16,7 +16,7 @@ use Rattle.epoch_turn.specs.Chains.{AreHeld, Chaining, IsBehind, IsBuilt, IsTold
 use Rattle.epoch_turn.proofs.Behind.{behind_executed, chain_due, chain_executed, chain_marks}
 use Rattle.epoch_turn.proofs.Told.{all_found, chained_is, told_held}
 
--- all that can be built, by what the chain was told
+-- all that can be built, by what was said to the chain
 built_due : (epoch : ℕ) (held : List Held) (executed : List Execution) (admitted : List Admitted) (c : Chaining) → IsTold held admitted c → chained epoch held executed c.past (cuts_of admitted c.marks) ≡ due_chain epoch executed c.past c.due c.marks
 built_due epoch held executed admitted c told = sym (ap (λ (ds : List Due). due_chain epoch executed c.past ds c.marks) told ∙ chained_is held executed epoch c.past admitted c.marks)
 

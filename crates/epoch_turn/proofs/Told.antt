@@ -156,7 +156,7 @@ digests_cut held admitted (m ∷ ms) =
 pub are_cut : (c : Chaining) → AreCut c (cut_of_chain c)
 are_cut c held admitted told = ap (λ (ds : List Due). map tx_of (take (size_of c.marks) ds)) told ∙ digests_cut held admitted c.marks
 
--- ---- what a chain is told, one admitted transaction after the other
+-- ---- what is said to a chain, one admitted transaction after the other
 
 told_push : (held : List Held) (admitted : List Admitted) (place : ℕ) (d : Due) → Some d ≡ option_map (due_of held) (slice_get admitted place) → map (due_of held) (take place admitted) ++ d ∷ [] ≡ map (due_of held) (take (suc place) admitted)
 told_push held [] place d is = absurd (cc)

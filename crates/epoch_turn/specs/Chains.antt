@@ -14,7 +14,7 @@ use Rattle.epoch_turn.specs.declared.due.CutMark.{CutMark}
 use Rattle.epoch_turn.specs.Dues.{cuts_of, due_of, is_due_done, due_item, front_length, size_of}
 
 -- The checkpoints of the epochs before, and all that were built; the epoch's admitted transactions, and how many of
--- them each of its cuts has; and how many at their front were found done.
+-- them each of its cuts has; and how many at their start were found done.
 pub record Chaining : Type 0 where
   pub past : List Checkpoint
   pub built : List Checkpoint
@@ -28,7 +28,7 @@ nothing_built = record { past = []; built = []; due = []; marks = []; done = 0 }
 abbrev pub tx_of : Due → Digest
 tx_of d = d.tx
 
--- ---- what is told
+-- ---- what is said
 
 abbrev pub with_due : Chaining → Due → Chaining
 with_due c d = record c { due = c.due ++ d ∷ [] }
@@ -54,7 +54,7 @@ turned c = record { past = c.built; built = c.built; due = []; marks = []; done 
 
 -- ---- what is built
 
--- the checkpoint of a cut behind those before it
+-- the checkpoint of a cut after those before it
 abbrev pub due_checkpoint : ℕ → List Execution → List Checkpoint → List Due → Bool → Checkpoint
 due_checkpoint epoch executed before txs last = record {
   epoch = epoch;
@@ -76,12 +76,12 @@ due_chain epoch executed before due (m ∷ ms) =
 abbrev pub advanced : ℕ → List Execution → Chaining → Chaining
 advanced epoch executed c = record c { built = due_chain epoch executed c.past c.due c.marks; done = front_length (is_due_done executed) c.due }
 
--- what was built and found done so far is a front of what can be
+-- what was built and found done so far is a prefix of what can be
 pub record IsBehind (epoch : ℕ) (executed : List Execution) (c : Chaining) : Type 0 where
   pub front : IsFront c.built (due_chain epoch executed c.past c.due c.marks)
   pub found : c.done ≤ front_length (is_due_done executed) c.due
 
--- it is where nothing is admitted yet
+-- it is if nothing is admitted yet
 abbrev pub StartsBehind : Chaining → Type 0
 StartsBehind c = (epoch : ℕ) (executed : List Execution) → IsBehind epoch executed c
 
@@ -95,11 +95,11 @@ StaysBehind old new = (epoch : ℕ) (executed : List Execution) → IsBehind epo
 
 -- ---- what a chain stands for, at a member that has these certificates and executions
 
--- what it was told are these
+-- what was said to it are these
 abbrev pub IsTold : List Held → List Admitted → Chaining → Type 0
 IsTold held admitted c = c.due ≡ map (due_of held) admitted
 
--- the cuts stay where more is admitted
+-- the cuts stay if more is admitted
 abbrev pub KeepsCuts : Chaining → Chaining → Type 0
 KeepsCuts old new = (held : List Held) (admitted more : List Admitted) → IsTold held admitted old → cuts_of (admitted ++ more) new.marks ≡ cuts_of admitted old.marks
 

@@ -11,18 +11,18 @@ use Rattle.protocol_spec.specs.Member.Checkpoints.{held_of, names_same_origins, 
 use Rattle.epoch_turn.specs.declared.due.Due.{Due}
 use Rattle.epoch_turn.specs.declared.due.CutMark.{CutMark}
 
--- an admitted transaction, where these certificates are held
+-- an admitted transaction, if these certificates are held
 abbrev pub due_of : List Held → Admitted → Due
 due_of held a = record { tx = a.digest; same = names_same_origins (held_of held a.digest) a }
 
--- it is done where these are executed
+-- it is done if these are executed
 abbrev pub is_due_done : List Execution → Due → Bool
 is_due_done executed d = is_executed executed d.tx && d.same
 
 abbrev pub due_item : List Execution → Due → Item
 due_item executed d = record { tx = d.tx; effects = effects_digest_of (execution_of executed d.tx) }
 
--- how many at the front of a list pass a test
+-- how many at the start of a list pass a test
 abbrev pub front_length : {A : Type 0} → (A → Bool) → List A → ℕ
 front_length test [] = 0
 front_length test (x ∷ xs) = if test x then suc (front_length test xs) else 0

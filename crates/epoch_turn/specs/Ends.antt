@@ -18,7 +18,7 @@ said_of_weight stakes w = if is_quorum stakes w then counted.Ended w else counte
 abbrev pub said_of_end : List ℕ → List ℕ → ℕ → Counted
 said_of_end stakes members member = if is_among members member then counted.Repeat else said_of_weight stakes (weight stakes (members ++ member ∷ []))
 
--- the greatest committee, by its number of members alone
+-- the greatest committee, only by its number of members
 abbrev pub greatest : List ℕ
 greatest = replicate 64 0
 
@@ -29,7 +29,7 @@ pub record IsCount (count : ℕ) (members : List ℕ) : Type 0 where
   pub known : all_known greatest members ≡ true
 
 -- what a member's sequence makes of it: a repeat changes nothing; else the member is counted, and the epoch ends
--- where those counted are a quorum with it
+-- if those counted are a quorum with it
 abbrev pub CountsAs : Rules → Sequence → ℕ → List ℕ → Counted → Type 0
 CountsAs r q member members counted.Repeat = (is_among q.counted member ≡ true) × (members ≡ q.counted)
 CountsAs r q member members (counted.Weight w) = (ends_with_member r q member ≡ false) × (members ≡ (counted_as false q member).counted) × (w ≡ weight r.stakes members)

@@ -16,7 +16,7 @@ use Rattle.epoch_turn.specs.declared.rows.Rows.{Rows}
 use Rattle.epoch_turn.specs.Chains.{Chaining}
 use Rattle.epoch_turn.specs.Dues.{is_due_done, due_item, size_of}
 
--- a tip stands behind these checkpoints
+-- a tip stands after these checkpoints
 pub record Ends (items : List Checkpoint) (tip : Tip) : Type 0 where
   pub number : tip.number ≡ length items
   pub digest : tip.digest ≡ digest_before (last_of items)
@@ -38,7 +38,7 @@ pub record IsKept (t : Rows) : Type 0 where
 
 -- ---- steps of building
 
--- the items so far, and behind them those of these transactions
+-- the items so far, and after them those of these transactions
 abbrev pub items_after : List Execution → List Item → List Due → List Item
 items_after executed items [] = items
 items_after executed items (d ∷ ds) = items_after executed (items ++ due_item executed d ∷ []) ds
@@ -53,7 +53,7 @@ next_checkpoint epoch executed tip txs last = record {
   last = last;
 }
 
--- the tip behind one more checkpoint, with so many transactions and this digest
+-- the tip after one more checkpoint, with so many transactions and this digest
 abbrev pub tip_after : Tip → ℕ → Digest → Tip
 tip_after tip size digest = record {
   number = tip.number + 1;
@@ -77,7 +77,7 @@ grown_all epoch executed g due (m ∷ ms) =
     then grown_all epoch executed (grown epoch executed g (take m.size due) m.last) (drop m.size due) ms
     else g
 
--- what the cuts behind a chain's last checkpoint add
+-- what the cuts after a chain's last checkpoint add
 abbrev pub growth_of : ℕ → List Execution → Rows → Growth
 growth_of epoch executed t = grown_all epoch executed (record { fresh = []; tip = t.tip }) (drop t.tip.taken t.due.items) (drop t.tip.cuts t.marks.items)
 

@@ -16,7 +16,7 @@ Opens kept opening = KeepsShared kept opening × IsSingle opening
 abbrev pub change_in : Stored → ObjectId → Change
 change_in s id = record { id = id; lives = live s.opening s.executed id }
 
--- the objects so far, and behind them those with these ids
+-- the objects so far, and after them those with these ids
 abbrev pub changes_after : Stored → List Change → List ObjectId → List Change
 changes_after s changes [] = changes
 changes_after s changes (id ∷ ids) = changes_after s (changes ++ change_in s id ∷ []) ids

@@ -15,7 +15,7 @@ use version_store::Store;
 use wire_bcs::{OutOfMemory, Seq};
 
 /// The checkpoints of a member, over all its epochs. Contracts see them, and of the present epoch what was admitted,
-/// where it was cut, and how much of it at the front was found done.
+/// where it was cut, and how much of it at the start was found done.
 #[derive(Drop)]
 pub struct Chain {
     rows: Rows,
@@ -45,7 +45,7 @@ impl Chain {
         }
     }
 
-    /// Tells what was admitted next. A refusal changes nothing.
+    /// Reports what was admitted next. A refusal changes nothing.
     pub fn admit(&mut self, due: Due) -> Result<(), OutOfMemory>
         ensures ok { OnOk result (self.new ≡ with_due self.old due) }
         ensures cuts { OnOk result (KeepsCuts self.old self.new) }
@@ -55,7 +55,7 @@ impl Chain {
         self.rows.admit(due)
     }
 
-    /// Tells of a Commit mark: what was admitted since the last cut is cut, if anything was (Sui Lutris). A refusal
+    /// Reports a Commit mark: what was admitted since the last cut is cut, if anything was (Sui Lutris). A refusal
     /// changes nothing.
     pub fn mark(&mut self) -> Result<(), OutOfMemory>
         ensures ok { OnOk result (self.new ≡ with_mark self.old) }
@@ -66,7 +66,7 @@ impl Chain {
         self.rows.mark()
     }
 
-    /// Tells of the end of the epoch: what was admitted since the last cut is the last cut, empty or not. A refusal
+    /// Reports the end of the epoch: what was admitted since the last cut is the last cut, empty or not. A refusal
     /// changes nothing.
     pub fn end(&mut self) -> Result<(), OutOfMemory>
         ensures ok { OnOk result (self.new ≡ with_cut true self.old) }
@@ -94,7 +94,7 @@ impl Chain {
         self.rows.advance(self.alloc, epoch, store)
     }
 
-    /// The first admitted transaction that was not found done; none exactly where all were. Takes no memory.
+    /// The first admitted transaction that was not found done; none exactly if all were. Takes no memory.
     pub fn waits(&self) -> Option<Digest>
         ensures value { result ≡ option_map tx_of (slice_get self.now.due self.now.done) }
         ensures first { FindsFirst result self.now }
@@ -124,7 +124,7 @@ impl Chain {
         self.rows.tip.transactions
     }
 
-    /// The checkpoint of this number; none exactly where it was not built. Takes no memory.
+    /// The checkpoint of this number; none exactly if it was not built. Takes no memory.
     pub fn checkpoint(&self, number: u64) -> Option<&Checkpoint>
         ensures { option_map (λ (c : _). c.now) result ≡ slice_get self.now.built number }
     {

@@ -54,7 +54,7 @@ fn is_done(due: &Due, store: &Store) -> bool
     store.is_executed(&due.tx) && due.same
 }
 
-/// How many of them at the front are done.
+/// How many of them at the start are done.
 pub(crate) fn front_done(due: &[Due], store: &Store) -> usize
     ensures value { result ≡ front_length (is_due_done store.now.executed) due.now }
     ensures most { result ≤ length due.now }

@@ -13,9 +13,9 @@ use std::marker::Model;
 pub enum Counted {
     /// The member was counted before.
     Repeat,
-    /// The weight of the members counted so far, which are no quorum.
+    /// The weight of the members counted so far, which are not a quorum.
     Weight(u64),
-    /// Their weight, where they are a quorum: the epoch ends.
+    /// Their weight, if they are a quorum: the epoch ends.
     Ended(u64),
 }
 
@@ -71,7 +71,7 @@ impl EndCount {
         &self.members[..self.count as usize]
     }
 
-    /// Puts a member behind the others. Takes no memory.
+    /// Puts a member after the others. Takes no memory.
     fn push(&mut self, member: u32)
         requires room { length self.old < 64 }
         requires low { member < 64 }
@@ -82,7 +82,7 @@ impl EndCount {
         self.count += 1;
     }
 
-    /// Counts a member that said End, unless it was counted before: the epoch ends where those counted are a quorum
+    /// Counts a member that said End, unless it was counted before: the epoch ends if those counted are a quorum
     /// with it (Sui Lutris). The committee knows the member. Takes no memory.
     #[tactic(auto, using(crate::proofs::Counting::has_room))]
     pub fn count(&mut self, committee: &Committee, member: u32) -> Counted

@@ -19,7 +19,7 @@ use wire_bcs::{OutOfMemory, Seq};
 pub(crate) struct Tip {
     /// The number of the next checkpoint.
     pub(crate) number: u64,
-    /// The digest of the last one; 32 zero bytes where there is none.
+    /// The digest of the last one; 32 zero bytes if there is none.
     pub(crate) digest: Digest,
     /// How many transactions stand in all of them.
     pub(crate) transactions: u64,
@@ -29,14 +29,14 @@ pub(crate) struct Tip {
     pub(crate) taken: usize,
 }
 
-/// Checkpoints that are new, and where the chain ends behind them.
+/// Checkpoints that are new, and where the chain ends after them.
 #[derive(Drop)]
 pub(crate) struct Growth {
     pub(crate) fresh: Seq<HashedCheckpoint>,
     pub(crate) tip: Tip,
 }
 
-/// The digest of what an executed transaction did; 32 zero bytes where it was not executed. Takes no memory.
+/// The digest of what an executed transaction did; 32 zero bytes if it was not executed. Takes no memory.
 #[tactic(auto, using(crate::proofs::Building::digest_known, crate::proofs::Building::digest_unknown))]
 fn effects_digest_in(store: &Store, tx: &Digest) -> Digest
     ensures { result ≡ effects_digest_of (execution_of store.now.executed tx.now) }
@@ -47,7 +47,7 @@ fn effects_digest_in(store: &Store, tx: &Digest) -> Digest
     }
 }
 
-/// The items of these transactions, one behind the other.
+/// The items of these transactions, one after the other.
 fn collect_items(alloc: Global, store: &Store, txs: &[Due]) -> Result<Seq<Item>, OutOfMemory>
     ensures { IfOk result (λ items. items ≡ items_after store.now.executed [] txs.now) }
 {
@@ -92,8 +92,8 @@ impl Tip {
         })
     }
 
-    /// Where the chain ends behind one more checkpoint, with so many transactions and this digest. A number or a count
-    /// past its type counts as want of memory.
+    /// Where the chain ends after one more checkpoint, with so many transactions and this digest. A number or a count
+    /// past its type counts as running out of memory.
     fn behind(&self, size: usize, digest: Digest) -> Result<Tip, OutOfMemory>
         ensures { IfOk result (λ tip. tip ≡ tip_after self.now size digest) }
     {
@@ -115,7 +115,7 @@ impl Tip {
 }
 
 impl Growth {
-    /// Adds a checkpoint with so many transactions. One that cannot be spelled counts as want of memory.
+    /// Adds a checkpoint with so many transactions. One that cannot be encoded counts as running out of memory.
     fn push(&mut self, alloc: Global, size: usize, next: Checkpoint) -> Result<(), OutOfMemory>
         ensures { OnOk result (self.new ≡ grown_by self.old size next) }
     {
@@ -141,7 +141,7 @@ impl Growth {
     }
 
     /// Adds the checkpoints of the cuts of these transactions, up to the first that is not done; so many transactions
-    /// at the front are.
+    /// at the start are.
     pub(crate) fn add_all(
         &mut self,
         alloc: Global,

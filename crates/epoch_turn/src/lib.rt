@@ -1,11 +1,11 @@
 //! What a member does towards the end of an epoch: it counts the members that said End, and builds checkpoints.
 //!
-//! An [`EndCount`] tells when the members that said End are a quorum. A [`Chain`] is told what was admitted and where
+//! An [`EndCount`] says when the members that said End are a quorum. A [`Chain`] learns what was admitted and where
 //! it was cut, and each [`Chain::advance`] builds the checkpoints of the cuts up to the first that has a transaction which
 //! is not done by then: at constant work for each transaction, since what is done stays done. Its numbers and parents go
-//! on over the epochs. [`tell`] tells it what an admission has let in, [`first_unordered`] finds what keeps a member from saying that
-//! its epoch is to end, and [`revert_uncut`] and [`renew`] open the next one. [`next_opening`] does so for whoever holds a
-//! store and the checkpointed transactions alone.
+//! on over the epochs. [`tell`] reports to it what an admission has let in, [`first_unordered`] finds what keeps a member from saying that
+//! its epoch is to end, and [`revert_uncut`] and [`renew`] open the next one. [`next_opening`] does so for whoever holds only a
+//! store and the checkpointed transactions.
 #![tactic(auto)]
 
 mod chain;

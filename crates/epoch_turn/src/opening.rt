@@ -16,7 +16,7 @@ use version_store::Store;
 use wire_bcs::{OutOfMemory, Seq};
 
 /// Undoes what was executed and stands in no cut, and answers the undone transactions, oldest first (epoch change of Sui
-/// Lutris). Where memory is refused the store is not to be used.
+/// Lutris). If memory is refused the store is not to be used.
 pub fn revert_uncut(chain: &Chain, store: &mut Store) -> Result<Seq<Digest>, OutOfMemory>
     ensures store { OnOk result (store.new ≡ reverted_to (cut_of_chain chain.now) store.old) }
     ensures undone { IfOk result (λ txs. txs ≡ undone (cut_of_chain chain.now) store.old) }
@@ -71,7 +71,7 @@ fn changes_of(alloc: Global, store: &Store, ids: &[ObjectId]) -> Result<Seq<Chan
 }
 
 /// Makes the admission that of the epoch that opens with the live objects of this one's store. Time grows with what the
-/// epoch wrote and deleted. Where memory is refused it is not to be used.
+/// epoch wrote and deleted. If memory is refused it is not to be used.
 #[tactic(auto, using(crate::proofs::Renewing::changes_own))]
 pub fn renew(alloc: Global, store: &Store, admission: &mut Admission) -> Result<(), OutOfMemory>
     requires { Opens admission.old.opening store.now.opening }

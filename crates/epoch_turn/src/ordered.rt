@@ -1,4 +1,4 @@
-//! Held certificates and the sequence: how many at the front are in it, and the first that is not.
+//! Held certificates and the sequence: how many at the start are in it, and the first that is not.
 
 ghost use Rattle.std.specs.Prelude.{◌≡◌, ◌+◌, ◌≤◌, drop, length, option_map, slice_get};
 ghost use Rattle.answer_types.specs.declared.answers.Held.{Held as H};
@@ -34,8 +34,8 @@ fn front_ordered(held: &[Held], admission: &Admission) -> usize
     count
 }
 
-/// How many of the first that are held are in the sequence, up to the first that is not, where so many are known to be.
-/// Looks at those behind them alone. Takes no memory.
+/// How many of the first that are held are in the sequence, up to the first that is not, if so many are known to be.
+/// Looks only at those after them. Takes no memory.
 #[tactic(auto, using(crate::proofs::Fronts::front_within))]
 pub fn ordered_on(held: &[Held], admission: &Admission, ordered: usize) -> usize
     requires { ordered ≤ front_length (is_ordered admission.now.admission) held.now }

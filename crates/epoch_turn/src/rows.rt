@@ -28,7 +28,7 @@ pub(crate) struct Rows {
     pub(crate) marks: Vec<CutMark>,
     /// How many of the transactions they have.
     pub(crate) cut: usize,
-    /// How many of the transactions at the front are done.
+    /// How many of the transactions at the start are done.
     pub(crate) done: usize,
 }
 
@@ -134,7 +134,7 @@ impl Rows {
         self.done = 0;
     }
 
-    /// How many of the transactions at the front are done now.
+    /// How many of the transactions at the start are done now.
     #[tactic(auto, using(crate::proofs::Fronts::front_behind))]
     fn find_done(&self, store: &Store) -> usize
         requires kept { IsKept self.now }

@@ -1,4 +1,4 @@
-//! A chain of checkpoints is told what was admitted.
+//! A chain of checkpoints learns what was admitted.
 
 ghost use Rattle.std.specs.Prelude.{◌≡◌, ◌+◌, ◌<◌, ◌≤◌, IfOk, OnOk, Some, length, option_map, slice_get, take};
 ghost use Rattle.protocol_spec.specs.Chain.Tests.{origins_eq};
@@ -25,7 +25,7 @@ fn is_same(held: &HeldBook, tx: &Digest, cert: &Certificate) -> bool
     }
 }
 
-/// What a chain is told of the transaction that was admitted at a place.
+/// What a chain learns of the transaction that was admitted at a place.
 fn due_at(held: &HeldBook, admission: &Admission, place: usize) -> Option<Due>
     ensures { result ≡ option_map (due_of held.now) (slice_get admission.now.admission.admitted place) }
 {
@@ -59,7 +59,7 @@ fn tell_one(
     }
 }
 
-/// Tells the chain of the transactions that were admitted from a place on. Where memory is refused it was told of some
+/// Reports to the chain the transactions that were admitted from a place on. If memory is refused it knows of some
 /// of them.
 pub fn tell(
     chain: &mut Chain,

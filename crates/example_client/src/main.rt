@@ -25,11 +25,11 @@ fn links_of(alloc: Global, chain: &[u8], committee: &Committee) -> Result<u64, R
 fn tell(rt: &HostRuntime, chain: &[u8], committee: &Committee, tx: &Digest) -> io::Result<()> {
     match links_of(rt.alloc(), chain, committee) {
         Ok(links) => println!(rt; "certified: {links} links")?,
-        Err(refusal) => return println!(rt; "not certified: {refusal:?}"),
+        Err(refusal) => return println!(rt; "not certified: {refusal}"),
     }
     match find_transaction(rt.alloc(), chain, tx) {
         Ok((number, _effects)) => println!(rt; "the transaction stands in checkpoint {number}"),
-        Err(refusal) => println!(rt; "the transaction is not found: {refusal:?}"),
+        Err(refusal) => println!(rt; "the transaction is not found: {refusal}"),
     }
 }
 

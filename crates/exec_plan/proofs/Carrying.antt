@@ -1,4 +1,4 @@
--- A task whose makers are all kept gets what is present behind what is kept, so what is kept is what is ready in turn.
+-- A task whose makers are all kept gets what is present after what is kept, so what is kept is what is ready in turn.
 use Rattle.std.proofs.Common.{◌≡◌, ℕ, suc, ◌+◌, Bool, true, false, cond, not, ◌&&◌, ◌||◌, List, [], ◌∷◌, ◌++◌, map, length, Option, Some, None, is_some, inl, inr, refl, ap, sym, subst, ◌∙◌, append_assoc, append-nil, arith}
 use Rattle.std.specs.Prelude.{◌⊎◌, filter_map, find, flat_map, option_map, slice_get, zip}
 use Rattle.std.specs.List.{cons_option, list_all, list_any}
@@ -64,7 +64,7 @@ unnumbered tx (h ∷ hs) e = go (is_of tx h) (number_of tx hs) e (unnumbered tx 
     go false None e more = more refl
     go false (Some k) e more = absurd (cc)
 
--- the number of a transaction behind one more certificate: the same, or that of this one
+-- the number of a transaction after one more certificate: the same, or that of this one
 number_push : (tx : Digest) (hs : List Held) (h : Held) (n : ℕ) → number_of tx (hs ++ h ∷ []) ≡ Some n
     → (number_of tx hs ≡ Some n) ⊎ ((number_of tx hs ≡ None) × (is_of tx h ≡ true) × (n ≡ length hs))
 number_push tx [] h n e = go (is_of tx h) refl e
@@ -155,7 +155,7 @@ module _ {W : Type 0} (want : W → Want) (there : W → Option Object) where
       go (Some o) (inl (objects, all, none, are)) = inl (o ∷ objects, ap (onto_some o) all, alone (lacks ws) ∙ none, ap (λ os. o ∷ os) are)
       go (Some o) (inr (x, none, first)) = inr (x, ap (onto_some o) none, alone (lacks ws) ∙ first)
 
--- ---- behind what is kept
+-- ---- after what is kept
 
 module _ (b : Books) (executed : List Execution) (all : List Held) where
   abbrev vs : List Version
@@ -177,7 +177,7 @@ module _ (b : Books) (executed : List Execution) (all : List Held) where
     done : outcome n ≡ outcomes.Done gave
     made : (key : ObjectKey) → made_of kept key tx ≡ find (is_at key) gave.objects
 
-  -- what is kept of the tasks in front: only planned transactions, none executed before, each with what it wrote
+  -- what is kept of the earlier tasks: only planned transactions, none executed before, each with what it wrote
   pub record Stands (front : List Held) (kept : List Execution) : Type 0 where
     fresh : (tx : Digest) → is_planned front tx ≡ true → is_executed executed tx ≡ false
     known : (tx : Digest) → is_executed kept tx ≡ true → is_planned front tx ≡ true
@@ -204,7 +204,7 @@ module _ (b : Books) (executed : List Execution) (all : List Held) where
         go None is e = absurd (cc)
         go (Some v) is e = ap (option_map object_in) (find_front test vs (flat_map written_by kept) v is) ∙ e
 
-    -- what no task in front makes, none of the kept ones made
+    -- what no earlier task makes, none of the kept ones made
     lacks_still : (w : Wanted) → maker_number front w.producer ≡ None → there w ≡ found vs w
     lacks_still w none = found_apart b.opening executed kept w (go w.producer none)
       where
@@ -217,7 +217,7 @@ module _ (b : Books) (executed : List Execution) (all : List Held) where
             out false e = e
             out true e = absurd (clash (stands.known tx e) (unnumbered tx front none))
 
-    -- what a kept task in front makes, its edge carries
+    -- what a kept earlier task makes, its edge carries
     carried_is_found : (w : Wanted) (n to : ℕ) → maker_number front w.producer ≡ Some n → is_made now w ≡ true → carry (record { from = n; to = to; key = w.key }) ≡ carry_as (there w)
     carried_is_found w n to number made = go w.producer number made
       where
@@ -234,7 +234,7 @@ module _ (b : Books) (executed : List Execution) (all : List Held) where
                 let is : IsDone kept tx n = stands.done tx n number ran in
                 ap (λ (o : Outcome). carry_of o w.key) is.done ∙ ap carry_as (sym (is.made w.key))
 
-    -- so where all makers are executed, what is there of each want is what is found
+    -- so if all makers are executed, what is there of each want is what is found
     carries_are : (ws : List Wanted) → list_all (is_made now) ws ≡ true
         → (carried (map (want_as vs front) ws) (map carry (filter_map (link_of vs front) ws)) ≡ map (λ w. carry_as (there w)) ws)
         × (list_any is_not_run (map carry (filter_map (link_of vs front) ws)) ≡ false)
@@ -335,7 +335,7 @@ module _ (b : Books) (executed : List Execution) (all : List Held) where
       waiting made outcomes.Unfit = refl
       waiting made outcomes.Waits = refl
 
-      -- it is kept exactly where it is ready
+      -- it is kept exactly if it is ready
       keep_is : keep_as b.opening now task comes ≡ ready b now h
       keep_is = go (list_all (is_made now) ws) refl
         where
@@ -357,7 +357,7 @@ module _ (b : Books) (executed : List Execution) (all : List Held) where
           go true made = ap (keep_as b.opening now task) (comes_as made) ∙ by made (sorted (want_as vs front) there ws) ∙ sym ready_now
           go false made = waiting made comes ∙ sym (sym (ready_alike stored a b.held h) ∙ unmade_rests stored a h made)
 
-      -- ---- and behind it the kept ones stand as before
+      -- ---- and after it the kept ones stand as before
 
       task_here : slice_get (tasks vs a all) (length front) ≡ Some task
       task_here =
@@ -390,7 +390,7 @@ module _ (b : Books) (executed : List Execution) (all : List Held) where
           go (inl before) = stands.fresh tx before
           go (inr this) = subst (λ (d : Digest). is_executed executed d ≡ false) (of_this tx this) joined.not_before
 
-      -- where it is not kept
+      -- if it is not kept
       stands_without : Stands (front ++ h ∷ []) kept
       stands_without = record {
         fresh = still_fresh;
@@ -425,7 +425,7 @@ module _ (b : Books) (executed : List Execution) (all : List Held) where
             ap (λ e. found (versions b.opening e) (record { key = key; producer = Some (producers.Tx tx) })) (sym (append_assoc executed kept (x ∷ [])))
             ∙ found_apart b.opening now (x ∷ []) (record { key = key; producer = Some (producers.Tx tx) }) (not_among tx (x ∷ []) (other tx there))
 
-        -- a task in front that was kept
+        -- an earlier task that was kept
         done_before : (tx : Digest) (n : ℕ) → number_of tx front ≡ Some n → is_executed (kept ++ x ∷ []) tx ≡ true → IsDone (kept ++ x ∷ []) tx n
         done_before tx n number ran = go (or_true (is_executed kept tx) (is_executed (x ∷ []) tx) (sym (executed_join kept (x ∷ []) tx) ∙ ran))
           where
@@ -451,7 +451,7 @@ module _ (b : Books) (executed : List Execution) (all : List Held) where
             gave : (g : Executed) × (comes ≡ outcomes.Done g) × (x.gave ≡ g)
             gave = kept_gave x comes (keep_is ∙ gives)
 
-        -- where it is kept
+        -- if it is kept
         stands_with : Stands (front ++ h ∷ []) (kept ++ x ∷ [])
         stands_with = record {
           fresh = still_fresh;
@@ -589,7 +589,7 @@ module _ (b : Books) (executed : List Execution) (all : List Held) where
           ∙ append_assoc kept (x ∷ []) (in_turn b ((executed ++ kept) ++ x ∷ []) mid))
           (more (kept ++ x ∷ []) (stands_with front kept stands h (mid ++ hs) whole along.0 x e))
 
-  -- what came of a task whose makers were all executed in front of it
+  -- what came of a task whose makers were all executed before it
   pub came : (front back : List Held) (h : Held) → all ≡ front ++ h ∷ back → Along (Joins b executed) [] all → list_all (is_made (executed ++ in_turn b executed front)) (wants_of a h) ≡ true
       → outcome_of (task_of vs a (links vs a all) front h) (inputs_at vs a all (length front))
       ≡ outcome_on h.cert.tx (map (λ w. carry_as (found (versions b.opening (executed ++ in_turn b executed front)) w)) (wants_of a h))

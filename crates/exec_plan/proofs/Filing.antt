@@ -110,7 +110,7 @@ pub front_filed : (s : Stored) (a : Admission) (held : List Held) (rest : List �
 front_filed s a held [] old new kept here some filed = absurd (omega (arith, some))
 front_filed s a held (p ∷ ps) old new kept here some filed = subst (λ (qs : List ℕ). IsFiled s a qs held new) (sym (tail_is p ps)) (one_filed s a held p ps old new kept here filed)
 
--- ---- behind an admission
+-- ---- after an admission
 
 -- the places of the newly admitted are to be filed, and all else stands where it stood
 pub woken : (s : Stored) (after : Admission) (txs : List Digest) (held : List Held) (old new : Waiting) (freed : List ℕ) → StoodBefore s after txs held old → new.next.keys ≡ old.next.keys
@@ -151,7 +151,7 @@ open_or_stays s a held w filed place h at = go (filed.at place h at)
     go (is_behind may b) = inr (unmade_stays s a h (makes_not s.executed a h b.maker b.makes b.first))
     go (is_loose has) = absurd has
 
--- ---- lists behind transactions
+-- ---- lists after transactions
 
 pub push_keeps : {A : Type 0} → (xs : List A) (x y : A) → Has xs y → Has (xs ++ x ∷ []) y
 push_keeps [] x y has = absurd has
@@ -183,7 +183,7 @@ now_listed old new tx after p has reads =
 pub none_freed : (lists : Lists) (all : List Digest) → Frees lists lists [] all all
 none_freed lists all = record { at = λ tx place has. inr (record { listed = has; out = refl }) }
 
--- the places behind one more transaction are freed
+-- the places under one more transaction are freed
 pub one_freed : (old mid new : Lists) (freed more : List ℕ) (x : Digest) (left all : List Digest) → Frees old mid freed (x ∷ left) all → more ≡ freed ++ listed mid x
     → ((q : Digest) → digest_eq x q ≡ false → listed new q ≡ listed mid q) → Frees old new more left all
 one_freed old mid new freed more x left all frees is others = record { at = λ tx place has. go tx place (frees.at tx place has) }

@@ -1,4 +1,4 @@
--- The members of a round, one after the other, can each be executed behind those before it.
+-- The members of a round, one after the other, can each be executed after those before it.
 use Rattle.std.proofs.Common.{◌≡◌, Bool, true, false, cond, not, ◌||◌, List, [], ◌∷◌, ◌++◌, map, Some, is_some, refl, ap, ◌∙◌}
 use Rattle.std.specs.Prelude.{find, flat_map}
 use Rattle.std.specs.List.{list_any}
@@ -34,9 +34,9 @@ executed_join (x ∷ xs) ys tx = go (digest_eq x.digest tx) (executed_join xs ys
 both_false : (a b : Bool) → a ≡ false → b ≡ false → (a || b) ≡ false
 both_false a b p q = ap (λ c. c || b) p ∙ q
 
--- ---- versions behind more executions
+-- ---- versions after more executions
 
--- the objects of an execution are held where it writes them
+-- the objects of an execution are held if it writes them
 holds_objects : (tx : Digest) (objects : List Object) (key : ObjectKey) → holds_key (map (written tx) objects) key ≡ has_key (map object_key objects) key
 holds_objects tx [] key = refl
 holds_objects tx (o ∷ os) key = ap (λ b. b || holds_key (map (written tx) os) key) (test_turned key_eq key_same key_self (object_key o) key) ∙ ap (λ b. key_eq key (object_key o) || b) (holds_objects tx os key)
@@ -54,7 +54,7 @@ holds_join opening before more key =
     ∙ any_both (λ (v : Version). key_eq (object_key v.object) key) (versions opening before) (flat_map written_by more)
     ∙ ap (λ b. holds_key (versions opening before) key || b) (holds_written more key)
 
--- keys that are neither held nor written by the round are held nowhere behind it
+-- keys that are neither held nor written by the round are held nowhere after it
 none_held : (opening : List Object) (before more : List Execution) (keys : List ObjectKey) → list_any (holds_key (versions opening before)) keys ≡ false → list_any (writes more) keys ≡ false
     → list_any (holds_key (versions opening (before ++ more))) keys ≡ false
 none_held opening before more [] p q = refl
@@ -63,7 +63,7 @@ none_held opening before more (k ∷ ks) p q =
     (holds_join opening before more k ∙ both_false (holds_key (versions opening before) k) (writes more k) (or_false_left (holds_key (versions opening before) k) (list_any (holds_key (versions opening before)) ks) p) (or_false_left (writes more k) (list_any (writes more) ks) q))
     (none_held opening before more ks (or_false_right (holds_key (versions opening before) k) (list_any (holds_key (versions opening before)) ks) p) (or_false_right (writes more k) (list_any (writes more) ks) q))
 
--- what is new is still new behind a round that writes none of it
+-- what is new is still new after a round that writes none of it
 pub still_new : (opening : List Object) (before more : List Execution) (keys : List ObjectKey) → writes_new (versions opening before) keys ≡ true → list_any (writes more) keys ≡ false
     → writes_new (versions opening (before ++ more)) keys ≡ true
 still_new opening before more keys new none =

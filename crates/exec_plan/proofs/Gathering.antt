@@ -24,7 +24,7 @@ outcome_by t (gathered.Lacking w) = outcomes.Absent w.key w.origin
 abbrev lacks : List Want → List Carry → Option Want
 lacks ws inputs = first_of lacking (zip ws (carried ws inputs))
 
--- what comes of it behind these objects
+-- what comes of it after these objects
 abbrev outcome_behind : Transaction → List Object → List Carry → Option Want → Outcome
 outcome_behind t objects there None = outcome_with t (objects ++ filter_map object_of there)
 outcome_behind t objects there (Some w) = outcomes.Absent w.key w.origin

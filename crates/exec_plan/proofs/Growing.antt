@@ -40,7 +40,7 @@ pub assigned_is : (a : Admission) (tx : Digest) → is_some (assigned_of a tx) �
 unfolding assigned_of
 assigned_is a tx = some_mapped assigned_in (find (of_tx tx) a.admitted) ∙ found_any tx a.admitted
 
--- one that names a shared object may run where versions are assigned to it
+-- one that names a shared object may run if versions are assigned to it
 pub let_is : (a : Admission) (h : Held) {b : Bool} → has_shared_input h.cert.tx ≡ true → b ≡ is_some (assigned_of a h.digest) → b ≡ is_let a h
 let_is a h shared is = is ∙ assigned_is a h.digest ∙ ap (λ s. not s || is_admitted a.admitted h.digest) (sym shared)
 
@@ -73,7 +73,7 @@ module _ (before after : Admission) (txs : List Digest) (admits : Admits before 
       ∙ any_both (of_tx tx) before.admitted admits.more
       ∙ ap (λ b. is_admitted before.admitted tx || b) (sym (ap (λ ds. is_among ds tx) admits.named ∙ named_any tx admits.more))
 
-  -- a certificate may run where it might before, or is newly admitted
+  -- a certificate may run if it might before, or is newly admitted
   pub let_grow : (h : Held) → is_let before h ≡ true → is_let after h ≡ true
   let_grow h may = go (not (has_shared_input h.cert.tx)) (is_admitted before.admitted h.digest) refl may
     where
@@ -135,12 +135,12 @@ goes_admits a b (more, e) = record {
   named = ap (map digest_of_admitted) (ap (drop (length a.admitted)) e ∙ drop_all a.admitted more);
 }
 
--- between an admission and that behind an entry, what stands behind the earlier ones was admitted
+-- between an admission and that after an entry, what stands after the earlier ones was admitted
 entry_admits : (a : Admitting) (h : Held) → Admits a.admission (with_entry a h).admission (admitted_since a.admission (with_entry a h).admission)
 unfolding entered
 entry_admits a h = goes_admits a.admission (with_entry a h).admission (goes_free a.writers a.opening (length (a.admission.pending ++ h ∷ [])) (record a.admission { pending = a.admission.pending ++ h ∷ [] }))
 
--- the same of a mark
+-- likewise for a mark
 mark_admits : (a : Admitting) → Admits a.admission (with_mark a).admission (admitted_since a.admission (with_mark a).admission)
 unfolding passed_mark
 mark_admits a = goes_admits a.admission (with_mark a).admission (goes_free a.writers a.opening (length a.admission.pending) (record a.admission { marked = length a.admission.admitted }))

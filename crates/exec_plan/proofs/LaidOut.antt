@@ -63,7 +63,7 @@ front_mapped f done new (y ∷ ys) x first some more whole =
     ∙ append_assoc done (f y ∷ []) (map f ys)
     ∙ whole
 
--- the same, where an item may give nothing
+-- the same, if an item may give nothing
 pub front_picked : {A B : Type 0} (f : A → Option B) (done new : List B) (rest : List A) (x : A) {all : List B} → x ≡ get_or rest 0 x → 1 ≤ length rest → new ≡ done ++ option_to_list (f x)
     → done ++ filter_map f rest ≡ all → new ++ filter_map f (take (length rest - 1) (drop 1 rest)) ≡ all
 front_picked f done new [] x first some more whole = absurd (omega (arith, some))
@@ -132,7 +132,7 @@ module _ (vs : List Version) (front : List Held) where
 -- ---- what tasks hand on
 
 module _ (vs : List Version) (a : Admission) where
-  -- where no link comes from a task, it hands on nothing more
+  -- if no link comes from a task, it hands on nothing more
   gives_same : (links : List Link) (l : Link) (n : ℕ) → l.from ≢ n → gives_of (links ++ l ∷ []) n ≡ gives_of links n
   gives_same links l n other =
       ap (map key_of_link) (filter-append (comes_from n) links (l ∷ []) ∙ ap (λ b. filter (comes_from n) links ++ cond b (l ∷ []) []) (ne_eqb l.from n other) ∙ append-nil (filter (comes_from n) links))
@@ -147,7 +147,7 @@ module _ (vs : List Version) (a : Admission) where
       joined [] = refl
       joined (k ∷ ks) = ap (λ xs. k.key ∷ xs) (joined ks)
 
-  -- tasks behind the one that a link comes from stay
+  -- tasks after the one that a link comes from stay
   later_same : (links : List Link) (l : Link) (hs front : List Held) → l.from < length front → tasks_after vs a links front hs ≡ tasks_after vs a (links ++ l ∷ []) front hs
   later_same links l [] front low = refl
   later_same links l (h ∷ hs) front low =

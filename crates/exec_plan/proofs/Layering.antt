@@ -51,7 +51,7 @@ turn_join b executed (h ∷ hs) ys = go (ready b executed h) (λ e. turn_join b 
         (more (executed ++ x ∷ [])
         ∙ ap (λ e. in_turn b (executed ++ x ∷ []) hs ++ in_turn b e ys) (append_assoc executed (x ∷ []) (in_turn b (executed ++ x ∷ []) hs)))
 
--- ---- what is wanted, behind executions of others
+-- ---- what is wanted, after executions of others
 
 -- none of these transactions makes the version
 abbrev pub stranger_by : List Execution → Option Producer → Type 0
@@ -81,15 +81,15 @@ all_apart opening before more (w ∷ ws) others =
     ap (λ (o : Option Object). o ∷ map (found (versions opening (before ++ more))) ws) (found_apart opening before more w others.0)
     ∙ ap (λ (os : List (Option Object)). found (versions opening before) w ∷ os) (all_apart opening before more ws others.1)
 
--- ---- what is ready behind members of one round
+-- ---- what is ready after members of one round
 
--- the execution, where it writes nothing that these write
+-- the execution, if it writes nothing that these write
 abbrev pub unless_clash : List Execution → Option Execution → Option Execution
 unless_clash round None = None
 unless_clash round (Some x) = cond (clashes round x) None (Some x)
 
 module _ (b : Books) (before more : List Execution) (h : Held) where
-  -- a certificate is ready behind executions of others where it is ready before them, and does not clash with them
+  -- a certificate is ready after executions of others if it is ready before them, and does not clash with them
   pub ready_apart : is_executed more h.digest ≡ false → Each (AreStrangers more) (wants_of b.admission h) → ready b (before ++ more) h ≡ unless_clash more (ready b before h)
   unfolding ready present
   ready_apart out others =
@@ -157,7 +157,7 @@ module _ (test : Held → Bool) where
       same = cc
   listed_at (k ∷ ks) (suc n) h at tx is = or_right (digest_eq tx k.digest) (list_any (digest_eq tx) (map digest_of_held ks)) (listed_at ks n h at tx is)
 
-  -- where no transaction is held twice, who has the digest of a picked one is picked
+  -- if no transaction is held twice, a certificate with the digest of a picked one is picked
   pub is_picked : (hs : List Held) → AreApart hs → (place : ℕ) (h : Held) → slice_get hs place ≡ Some h → is_planned (filter test hs) h.digest ≡ true → test h ≡ true
   is_picked [] apart place h at there = absurd (cc)
   is_picked (k ∷ ks) apart zero h at there = subst (λ (x : Held). test x ≡ true) same (go (test k) refl (ap (λ (x : Held). is_planned (filter test (k ∷ ks)) x.digest) same ∙ there))
@@ -191,7 +191,7 @@ module _ (test : Held → Bool) where
           either (inl same) = subst P (digest_same h.digest tx same) (each h is)
           either (inr more) = rest more
 
--- who is executed in turn is one of those gone over
+-- whatever is executed in turn is one of those gone over
 pub turn_planned : (b : Books) (hs : List Held) (executed : List Execution) (tx : Digest) → is_executed (in_turn b executed hs) tx ≡ true → is_planned hs tx ≡ true
 turn_planned b [] executed tx there = absurd (cc)
 turn_planned b (h ∷ hs) executed tx there = go (ready b executed h) refl there (λ e. turn_planned b hs e tx)
@@ -218,7 +218,7 @@ pub opening_other : (more : List Execution) → AreOthers producers.Opening more
 opening_other [] = tt
 opening_other (x ∷ xs) = (refl, opening_other xs)
 
--- where none of these was executed or planned before, they make nothing of what is supplied
+-- if none of these was executed or planned before, they make nothing of what is supplied
 abbrev pub AreNewcomers : List Execution → List Held → List Execution → Type 0
 AreNewcomers executed planned more = (tx : Digest) → is_executed more tx ≡ true → (is_executed executed tx || is_planned planned tx) ≡ false
 
@@ -261,7 +261,7 @@ supplied_more executed planned more (w ∷ ws) all =
 -- ---- a layer is a round
 
 module _ (b : Books) (executed : List Execution) (planned : List Held) where
-  -- What stands behind the layers so far: of the transactions executed now, each was executed before or is planned, and
+  -- What stands after the layers so far: of the transactions executed now, each was executed before or is planned, and
   -- what was executed before is; a planned certificate is not ready, and all that makes what it wants was executed before
   -- or is planned.
   pub record IsBehind (now : List Execution) : Type 0 where
@@ -311,7 +311,7 @@ module _ (b : Books) (executed : List Execution) (planned : List Held) where
         go true is none rest = ap (λ c. is_made now w && c) (rest none) ∙ and_false (is_made now w)
         go false is none rest = ap (λ c. c && list_all (is_made now) ws) (by w.producer is)
 
-    -- who is in no layer so far, and not in this one, is not ready
+    -- a certificate in no layer so far, and not in this one, is not ready
     out_rests : (place : ℕ) (h : Held) → slice_get b.held place ≡ Some h → joins_layer b executed planned h ≡ false → ready b now h ≡ None
     unfolding ready
     out_rests place h at out = go (is_executed executed h.digest) refl (is_planned planned h.digest) refl (may_run b h) refl (list_all (is_supplied executed planned) (wants_of b.admission h)) refl out
@@ -441,7 +441,7 @@ module _ (b : Books) (executed : List Execution) (planned : List Held) where
         (λ h is. let joined : Joins h = joins h is in false_both (is_executed executed h.digest) (is_planned planned h.digest) joined.not_before joined.not_planned)
         tx (turn_planned b (layer_of b executed planned) now tx there)
 
-    -- and behind it none of them is ready
+    -- and after it none of them is ready
     layer_rests : AreApart b.held → (place : ℕ) (h : Held) → slice_get b.held place ≡ Some h → joins_layer b executed planned h ≡ true
         → ready b (now ++ in_turn b now (layer_of b executed planned)) h ≡ None
     unfolding round_of
@@ -464,7 +464,7 @@ module _ (b : Books) (executed : List Execution) (planned : List Held) where
             ready_apart b now round h out (strangers executed planned round round_new (wants_of b.admission h) (joins h is).all)
             ∙ behind_round out (ready b now h) refl
 
--- so the next layer stands behind the next round
+-- so the next layer stands after the next round
 pub behind_more : (b : Books) (executed : List Execution) (planned : List Held) (now : List Execution) → IsBehind b executed planned now → AreApart b.held
     → IsBehind b executed (planned ++ layer_of b executed planned) (now ++ in_turn b now (layer_of b executed planned))
 behind_more b executed planned now behind apart = record {
@@ -581,7 +581,7 @@ layers_along (suc n) b executed planned apart =
     (subst (λ f. Along (Joins b executed) f (layer_of b executed planned)) (append-nil planned) (layer_along b executed planned b.held [] apart (none_planned b.held)))
     (layers_along n b executed (planned ++ layer_of b executed planned) apart)
 
--- each planned certificate joins a layer behind those in front of it
+-- each planned certificate joins a layer after those before it
 pub planned_along : (b : Books) (executed : List Execution) → AreApart b.held → Along (Joins b executed) [] (planned_of b executed)
 unfolding planned_of
 planned_along b executed apart = layers_along (length b.held) b executed [] apart

@@ -26,7 +26,7 @@ and_assoc true true false m = refl
 and_assoc true false z m = refl
 and_assoc false y z m = refl
 
--- a certificate is left where it waits for no transaction, nor for an origin
+-- a certificate is left if it waits for no transaction, nor for an origin
 pub left_so : (s : Stored) (a : Admission) (h : Held)
     → left_in s a h ≡ where_true (may_be_left s.executed a h && not (is_some (awaited_of s.executed a h))) (record { tx = h.digest; key = first_of (missing (held_in s)) (wants_of a h) })
 left_so s a h =
@@ -89,7 +89,7 @@ unlet_stays s a h out =
     go true y z l = refl
     go false y z l = refl
 
--- those left of ascending places are all that are left, where those at other places are not
+-- those left of ascending places are all that are left, if those at other places are not
 pub left_of_places : (s : Stored) (a : Admission) (held : List Held) (places : List ℕ) → IsStrictlySortedBy nat_cmp places → ((i : ℕ) (h : Held) → slice_get held i ≡ Some h → Has places i ⊎ (left_in s a h ≡ None))
     → left_after s a held [] places ≡ left (books_of s a held) s.executed
 unfolding left

@@ -56,7 +56,7 @@ goes_to n l = eqb l.to n
 abbrev pub comes_from : ℕ → Link → Bool
 comes_from n l = eqb l.from n
 
--- a link comes from a task in front of the one that it goes to, and that is below a number
+-- a link comes from a task before the one that it goes to, and that is below a number
 abbrev pub IsForward : ℕ → Link → Type 0
 IsForward n l = (l.from < l.to) × (l.to < n)
 
@@ -260,7 +260,7 @@ get_map f [] n d lt = absurd (omega (arith, lt))
 get_map f (x ∷ xs) zero d lt = refl
 get_map f (x ∷ xs) (suc n) d lt = get_map f xs n d (omega (arith, lt))
 
--- lists of one length are the same where each item of the one stands in the other
+-- lists of one length are the same if each item of the one stands in the other
 pub same_lists : {A : Type 0} (xs ys : List A) → length xs ≡ length ys → ((n : ℕ) (y : A) → slice_get ys n ≡ Some y → slice_get xs n ≡ Some y) → xs ≡ ys
 same_lists [] [] counted same = refl
 same_lists [] (y ∷ ys) counted same = absurd (cc)

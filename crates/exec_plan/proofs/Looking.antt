@@ -70,7 +70,7 @@ one_named txs d tx = go (list_any (digest_eq d) txs) refl
         absorb (list_any (digest_eq tx) txs) (digest_eq tx d) (λ same. ap (λ (x : Digest). list_any (digest_eq x) txs) (digest_same tx d same) ∙ there)
     go false there = any_both (digest_eq tx) txs (d ∷ []) ∙ ap (λ b. list_any (digest_eq tx) txs || b) (sym (or_none (digest_eq tx d)))
 
--- who is named behind more names
+-- who is named after more names
 pub all_named : (more txs : List Digest) (tx : Digest) → list_any (digest_eq tx) (insert_all digest_eq txs more) ≡ (list_any (digest_eq tx) txs || list_any (digest_eq tx) more)
 all_named [] txs tx = or_none (list_any (digest_eq tx) txs)
 all_named (d ∷ ds) txs tx =
@@ -176,7 +176,7 @@ module _ (s : Stored) (a : Admission) (all : List Held) where
       picks_layer (p ∷ ps) hs (front ++ h ∷ []) (is ∙ sym (append_assoc front (h ∷ []) hs)) (subst (λ n. Picks Rests n (p ∷ ps) hs) (sym (longer front h)) picks.1)
       ∙ sym (rests h hs picks.0)
 
-  -- the layer of ascending places is the layer of all, where those at other places do not join
+  -- the layer of ascending places is the layer of all, if those at other places do not join
   layer_of_places : (places : List ℕ) → IsStrictlySortedBy nat_cmp places → ((i : ℕ) (h : Held) → slice_get all i ≡ Some h → Has places i ⊎ (joins_now s a h ≡ false)) → layer_in places ≡ filter (joins_now s a) all
   layer_of_places places sorted names = picks_layer places all [] refl (picks_of Rests all 0 places (ascends places sorted) (low places) named)
     where
@@ -233,7 +233,7 @@ front_digests held txs new (p ∷ ps) some is whole =
     go None = refl
     go (Some h) = append_assoc txs (h.digest ∷ []) (map digest_of_held (picked held ps))
 
--- ---- behind a layer
+-- ---- after a layer
 
 planned_at : (test : Held → Bool) (hs : List Held) (place : ℕ) (h : Held) → slice_get hs place ≡ Some h → test h ≡ true → is_planned (filter test hs) h.digest ≡ true
 planned_at test [] place h at is = absurd (cc)
@@ -282,7 +282,7 @@ module _ (s : Stored) (a : Admission) (held : List Held) (txs : List Digest) whe
   has_joined : (place : ℕ) (h : Held) → slice_get held place ≡ Some h → joins_now before a h ≡ true → list_any (digest_eq h.digest) names ≡ true
   has_joined place h at is = planned_is layer h.digest ∙ planned_at (joins_now before a) held place h at is
 
-  -- where all that a certificate wants is made, it is executed or joins the layer
+  -- if all that a certificate wants is made, it is executed or joins the layer
   run_or_joins : (place : ℕ) (h : Held) → slice_get held place ≡ Some h → is_let a h ≡ true → are_made before.executed a h ≡ true → is_executed after.executed h.digest ≡ true
   run_or_joins place h at may made = known_more h.digest ∙ go (is_executed before.executed h.digest) refl
     where
@@ -393,7 +393,7 @@ module _ (s : Stored) (a : Admission) (held : List Held) where
       layer : joining (as_if txs s) a held ≡ layer_of b s.executed planned
       layer = layer_is s a held txs planned goes.agrees
 
-  -- where the layer is empty, or none is left, all is planned
+  -- if the layer is empty, or none is left, all is planned
   pub goes_last : (left : ℕ) (txs : List Digest) (planned more : List Held) → Goes s a held left txs planned → more ≡ planned ++ joining (as_if txs s) a held → is_empty_list (joining (as_if txs s) a held) ≡ true
       → more ≡ planned_of b s.executed
   goes_last left txs planned more goes is none =
@@ -408,7 +408,7 @@ module _ (s : Stored) (a : Admission) (held : List Held) where
   pub goes_end : (left : ℕ) (txs : List Digest) (planned : List Held) → Goes s a held left txs planned → left ≡ 0 → planned ≡ planned_of b s.executed
   goes_end left txs planned goes none = sym (append-nil planned) ∙ ap (λ n. planned ++ layers_within n b s.executed planned) (sym none) ∙ goes.whole
 
-  -- ---- behind a plan
+  -- ---- after a plan
 
   pub parks : (txs : List Digest) (planned : List Held) (old new : Waiting) (taken looked all : List ℕ) → Agrees txs planned → IsWaiting (as_if txs s) a held old → AreTaken held txs taken
       → looked ≡ old.next.keys → new.unadmitted.entries ≡ old.unadmitted.entries → new.behind.entries ≡ old.behind.entries → all ≡ taken ++ looked → AreParked s a planned all held new

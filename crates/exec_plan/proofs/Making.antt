@@ -80,7 +80,7 @@ module _ (executed : List Execution) where
   not_all_made (w ∷ ws) d (inr has) first = any_and_false (is_made executed w) (list_all (is_made executed) ws) (not_all_made ws d has first)
 
 module _ (executed : List Execution) (a : Admission) (h : Held) where
-  -- where a certificate waits for nothing, all is made
+  -- if a certificate waits for nothing, all is made
   pub waits_for_none : awaited_of executed a h ≡ None → are_made executed a h ≡ true
   waits_for_none e = all_made executed (wants_of a h) e
 
@@ -91,7 +91,7 @@ module _ (executed : List Execution) (a : Admission) (h : Held) where
   pub makes_not : (d : Digest) → Makes d a h → is_executed executed d ≡ false → are_made executed a h ≡ false
   makes_not d makes first = not_all_made executed (wants_of a h) d makes first
 
-  -- it waits for a transaction exactly where not all is made
+  -- it waits for a transaction exactly if not all is made
   pub waits_where : are_made executed a h ≡ not (is_some (awaited_of executed a h))
   waits_where = go (awaited_of executed a h) refl
     where

@@ -1,4 +1,4 @@
--- What is ready behind a list of executions, and when it is not.
+-- What is ready after a list of executions, and when it is not.
 use Rattle.std.proofs.Common.{◌≡◌, Bool, true, false, cond, not, ◌&&◌, List, Option, Some, None, refl, ap, sym, subst}
 use Rattle.chain_types.specs.declared.objects.Object.{Object}
 use Rattle.answer_types.specs.declared.pieces.Executed.{Executed}

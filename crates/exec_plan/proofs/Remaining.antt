@@ -83,7 +83,7 @@ module _ (b : Books) (executed : List Execution) where
       go false join false pl true is more = omega (arith, more)
       go false join false pl false is more = omega (arith, more)
 
-  -- none joins behind so many layers as there were certificates that were not planned
+  -- none joins after so many layers as there were certificates that were not planned
   none_joins : (n : ℕ) (planned : List Held) → length (filter (is_out planned) b.held) ≤ n → (place : ℕ) (h : Held) → slice_get b.held place ≡ Some h
       → joining (planned ++ layers_within n b executed planned) h ≡ false
   none_joins zero planned few place h at = go (joining (planned ++ []) h) refl
@@ -117,7 +117,7 @@ module _ (b : Books) (executed : List Execution) where
       lower : length (filter (is_out (planned ++ layer)) b.held) + length layer ≤ length (filter (is_out planned) b.held)
       lower = fewer planned layer b.held (λ p k e join. passes_planned (joining planned) b.held p k e join)
 
-      -- where the layer is empty, all behind it are
+      -- if the layer is empty, all after it are
       ends : (m : ℕ) → layer ≡ [] → layers_within m b executed planned ≡ []
       ends zero none = refl
       ends (suc m) none = ap (λ l. l ++ layers_within m b executed (planned ++ l)) none ∙ ap (layers_within m b executed) (append-nil planned) ∙ ends m none
@@ -222,7 +222,7 @@ along_behind : (b : Books) (executed : List Execution) (xs ys before : List Held
 along_behind b executed [] ys before along = subst (λ f. Along (Joins b executed) f ys) (sym (append-nil before)) along
 along_behind b executed (x ∷ xs) ys before along = subst (λ f. Along (Joins b executed) f ys) (append_assoc before (x ∷ []) xs) (along_behind b executed xs ys (before ++ x ∷ []) along.1)
 
--- those behind were neither executed nor planned in front
+-- the later ones were neither executed nor planned before
 along_new : (b : Books) (executed : List Execution) (hs front : List Held) → Along (Joins b executed) front hs → (tx : Digest) → is_planned hs tx ≡ true → (is_executed executed tx || is_planned front tx) ≡ false
 along_new b executed [] front along tx there = absurd (cc)
 along_new b executed (h ∷ hs) front along tx there = go (or_true (digest_eq h.digest tx) (is_planned hs tx) there) (along_new b executed hs (front ++ h ∷ []) along.1 tx)
@@ -264,7 +264,7 @@ split_at (h ∷ hs) tx there = go (digest_eq h.digest tx) refl there (split_at h
           first = ap (λ c. c || is_planned rest.front tx) is ∙ rest.first;
         }
 
--- where no transaction is held twice, a transaction has one certificate
+-- if no transaction is held twice, a transaction has one certificate
 listed : (hs : List Held) (place : ℕ) (h : Held) → slice_get hs place ≡ Some h → (tx : Digest) → digest_eq tx h.digest ≡ true → list_any (digest_eq tx) (map digest_of_held hs) ≡ true
 listed [] place h at tx is = absurd (cc)
 listed (k ∷ ks) zero h at tx is = or_left (digest_eq tx k.digest) (list_any (digest_eq tx) (map digest_of_held ks)) (ap (λ (x : Held). digest_eq tx x.digest) same ∙ is)
@@ -301,7 +301,7 @@ each_behind : {A : Type 0} (P : A → Type 0) (xs ys : List A) (y : A) → Each 
 each_behind P [] ys y each = each.0
 each_behind P (x ∷ xs) ys y each = each_behind P xs ys y each.1
 
--- what is said of each where a test holds
+-- what is said of each if a test holds
 filtered : {A B : Type 0} (f : A → Option B) (test : A → Bool) (says : A → B) (xs : List A) → ((place : ℕ) (x : A) → slice_get xs place ≡ Some x → f x ≡ where_true (test x) (says x)) → filter_map f xs ≡ map says (filter test xs)
 filtered f test says [] each = refl
 filtered f test says (x ∷ xs) each =

@@ -1,4 +1,4 @@
--- A round of some places is the round of all certificates, where those left out are not ready; a run's rounds.
+-- A round of some places is the round of all certificates, if those left out are not ready; a run's rounds.
 use Rattle.std.proofs.Common.{◌≡◌, ℕ, zero, suc, ◌+◌, ◌-◌, ◌<◌, Bool, true, false, List, [], ◌∷◌, ◌++◌, length, Some, None, inl, inr, refl, ap, sym, subst, ◌∙◌, append-nil, arith}
 use Rattle.std.specs.Prelude.{◌⊎◌, ◌==◌, ◌≤◌, slice_get}
 use Rattle.std.specs.List.{AllByRecursion}
@@ -12,7 +12,7 @@ use Rattle.exec_plan.specs.Places.{Picks}
 
 -- ---- places
 
--- the element behind a front
+-- the element after a prefix
 pub at_front : {A : Type 0} (front : List A) (x : A) (xs : List A) → slice_get (front ++ x ∷ xs) (length front) ≡ Some x
 at_front [] x xs = refl
 at_front (y ∷ front) x xs = at_front front x xs
@@ -39,7 +39,7 @@ each_map : {A : Type 0} → (P Q : A → Type 0) → ((x : A) → P x → Q x) �
 each_map P Q weaker [] each = tt
 each_map P Q weaker (x ∷ xs) each = (weaker x each.0, each_map P Q weaker xs each.1)
 
--- ascending places pick what they name, where all else is idle
+-- ascending places pick what they name, if all else is idle
 module _ (Idle : Held → Type 0) where
   -- which certificates of a tail are picked
   abbrev Names : ℕ → List ℕ → List Held → Type 0
@@ -92,7 +92,7 @@ module _ (Idle : Held → Type 0) where
             more (p ∷ ps) up (omega (arith, less), each_map (λ q. p < q) (λ q. suc n ≤ q) (λ q next. omega (arith, less, next)) ps up.0) (later n (p ∷ ps) h hs names),
           )
 
--- behind the last certificate there is none
+-- after the last certificate there is none
 pub at_none : (hs : List Held) (p : ℕ) → length hs ≤ p → slice_get hs p ≡ None
 at_none [] p far = refl
 at_none (h ∷ hs) zero far = absurd (omega (arith, far))

@@ -51,7 +51,7 @@ none_by key p (x ∷ xs) others =
     find_none (is_wanted key (Some p)) (written_by x) (flat_map written_by xs) (none_by key p xs others.1)
     ∙ not_by key p x.digest x.gave.objects others.0
 
--- who was not executed is none of those that were
+-- one that was not executed is none of those that were
 pub not_among : (tx : Digest) (xs : List Execution) → is_executed xs tx ≡ false → AreOthers (producers.Tx tx) xs
 not_among tx [] none = tt
 not_among tx (x ∷ xs) none = go (digest_eq x.digest tx) refl none (λ rest. not_among tx xs rest)
@@ -77,7 +77,7 @@ not_made opening executed key tx none =
     (find_none (is_wanted key (Some (producers.Tx tx))) (map opened opening) (flat_map written_by executed) (none_by key (producers.Tx tx) executed (not_among tx executed none))
     ∙ not_opened key tx opening)
 
--- ---- what is written, behind more executions
+-- ---- what is written, after more executions
 
 still_held : (opening : List Object) (before more : List Execution) (keys : List ObjectKey) → list_any (holds_key (versions opening before)) keys ≡ true → list_any (holds_key (versions opening (before ++ more))) keys ≡ true
 still_held opening before more [] held = absurd (cc)
@@ -93,7 +93,7 @@ still_held opening before more (k ∷ ks) held = go (holds_key (versions opening
         any_of true e = refl
         any_of false e = e
 
--- what is not new is not new behind more executions
+-- what is not new is not new after more executions
 pub never_new : (opening : List Object) (before more : List Execution) (keys : List ObjectKey) → writes_new (versions opening before) keys ≡ false → writes_new (versions opening (before ++ more)) keys ≡ false
 never_new opening before more keys old = go (list_any (holds_key (versions opening before)) keys) refl (repeats key_eq keys) old
   where

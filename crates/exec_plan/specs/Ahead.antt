@@ -31,7 +31,7 @@ joins_of s a (Some h) = joins_now s a h
 abbrev pub layer_places : Stored → Admission → List Held → List ℕ → List ℕ
 layer_places s a held places = filter (λ p. joins_of s a (slice_get held p)) places
 
--- these transactions, and that of one more certificate, where there is one
+-- these transactions, and that of one more certificate, if there is one
 abbrev pub with_digest : List Digest → Option Held → List Digest
 with_digest txs None = txs
 with_digest txs (Some h) = txs ++ h.digest ∷ []
@@ -44,8 +44,8 @@ Agrees txs planned = (tx : Digest) → list_any (digest_eq tx) txs ≡ is_planne
 abbrev pub AreTaken : List Held → List Digest → List ℕ → Type 0
 AreTaken held txs taken = (place : ℕ) (h : Held) → slice_get held place ≡ Some h → list_any (digest_eq h.digest) txs ≡ true → Has taken place
 
--- Behind a plan a certificate is executed; or it needs its admission, and its place is kept until then; or its place is
--- kept behind a transaction that makes what it wants and is neither executed nor planned; or it was taken.
+-- After a plan a certificate is executed; or it needs its admission, and its place is kept until then; or its place is
+-- kept under a transaction that makes what it wants and is neither executed nor planned; or it was taken.
 pub data Parked (s : Stored) (a : Admission) (planned : List Held) (taken : List ℕ) (w : Waiting) (place : ℕ) (h : Held) : Type 0 where
   has_run : is_executed s.executed h.digest ≡ true → Parked s a planned taken w place h
   lacks_admission : is_let a h ≡ false → Has (listed w.unadmitted.entries h.digest) place → Parked s a planned taken w place h

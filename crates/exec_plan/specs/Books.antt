@@ -35,7 +35,7 @@ AreApart held = repeats digest_eq (map digest_of_held held) ≡ false
 abbrev pub is_let : Admission → Held → Bool
 is_let a h = may_run (record { opening = []; held = []; admission = a }) h
 
--- what the certificate's execution gives, where it is ready in this store
+-- what the certificate's execution gives, if it is ready in this store
 abbrev pub ready_in : Stored → Admission → Held → Option Execution
 ready_in s a h = ready (books_of s a []) s.executed h
 
@@ -45,7 +45,7 @@ digest_of x = x.digest
 abbrev pub effects_of : Execution → Effects
 effects_of x = x.gave.effects
 
--- the certificate as a run leaves it, where it is not executed although all that it waits for is
+-- the certificate as a run leaves it, if it is not executed although all that it waits for is
 abbrev pub left_in : Stored → Admission → Held → Option Left
 left_in s a h = where_true (is_due (books_of s a []) s.executed h) (left_as (books_of s a []) s.executed h)
 

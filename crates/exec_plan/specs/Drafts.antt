@@ -15,7 +15,7 @@ use Rattle.exec_plan.specs.declared.task.Want.{Want}
 use Rattle.exec_plan.specs.declared.link.Link.{Link}
 use Rattle.exec_plan.specs.Tasks.{Planned, edge_of, link_as, links_after, origin_of, slot_as, tasks_after}
 
--- the number of a version's maker, where these transactions are planned
+-- the number of a version's maker, if these transactions are planned
 abbrev pub number_in : List Digest → Option Producer → Option ℕ
 number_in keys None = None
 number_in keys (Some producers.Opening) = None
@@ -69,7 +69,7 @@ abbrev pub drafted_after : List Version → Admission → Drafted → List Held 
 drafted_after vs a d [] = d
 drafted_after vs a d (h ∷ hs) = drafted_after vs a (drafted_with vs (wants_of a h) d h) hs
 
--- the certificates at these places, where there are any
+-- the certificates at these places, if there are any
 abbrev pub picked : List Held → List ℕ → List Held
 picked held places = filter_map (slice_get held) places
 

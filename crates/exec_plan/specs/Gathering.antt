@@ -14,7 +14,7 @@ is_lacking (carries.Object o) = false
 is_lacking carries.Lacks = true
 is_lacking carries.NotRun = false
 
--- the objects so far, and behind them those of these wants; or the first want of which there is nothing
+-- the objects so far, and after them those of these wants; or the first want of which there is nothing
 abbrev pub gathered_after : List Object → List Want → List Carry → Gathered
 gathered_after objects [] inputs = gathered.All objects
 gathered_after objects (w ∷ ws) inputs =

@@ -16,7 +16,7 @@ is_of tx h = digest_eq h.digest tx
 abbrev pub is_planned : List Held → Digest → Bool
 is_planned planned tx = list_any (is_of tx) planned
 
--- who makes the version is executed or planned; nobody need be for an opening object, or for one that was not assigned
+-- the transaction that makes the version is executed or planned; none need be for an opening object, or for one that was not assigned
 abbrev pub is_maker_planned : List Execution → List Held → Option Producer → Bool
 is_maker_planned executed planned None = true
 is_maker_planned executed planned (Some producers.Opening) = true
@@ -32,11 +32,11 @@ joins_layer b executed planned h =
     not (is_executed executed h.digest) && not (is_planned planned h.digest) && may_run b h
     && list_all (is_supplied executed planned) (wants_of b.admission h)
 
--- the layer behind those planned, in order of holding
+-- the layer after those planned, in order of holding
 abbrev pub layer_of : Books → List Execution → List Held → List Held
 layer_of b executed planned = filter (joins_layer b executed planned) b.held
 
--- at most so many layers; behind an empty one all are empty
+-- at most so many layers; after an empty one all are empty
 abbrev pub layers_within : ℕ → Books → List Execution → List Held → List Held
 layers_within zero b executed planned = []
 layers_within (suc n) b executed planned = layer_of b executed planned ++ layers_within n b executed (planned ++ layer_of b executed planned)
@@ -47,12 +47,12 @@ planned_of b executed = layers_within (length b.held) b executed []
 
 -- ---- in turn
 
--- what comes next, behind this one more execution where there is one
+-- what comes next, after this one more execution if there is one
 abbrev pub onto_kept : (List Execution → List Execution) → List Execution → Option Execution → List Execution
 onto_kept next executed None = next executed
 onto_kept next executed (Some x) = x ∷ next (executed ++ x ∷ [])
 
--- what is executed where one goes over these certificates once, and executes each that is ready behind those before it
+-- what is executed if one goes over these certificates once, and executes each that is ready after those before it
 abbrev pub in_turn : Books → List Execution → List Held → List Execution
 in_turn b executed [] = []
 in_turn b executed (h ∷ hs) = onto_kept (λ more. in_turn b more hs) executed (ready b executed h)

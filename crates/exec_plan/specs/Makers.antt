@@ -10,7 +10,7 @@ use Rattle.protocol_spec.specs.Member.Versions.{Execution, is_executed}
 use Rattle.protocol_spec.specs.Member.Admission.{Admission}
 use Rattle.protocol_spec.specs.Member.Rounds.{Wanted, is_maker_done, wants_of}
 
--- the transaction that makes a version, where it is not executed
+-- the transaction that makes a version, if it is not executed
 abbrev pub unmade_by : List Execution → Option Producer → Option Digest
 unmade_by executed None = None
 unmade_by executed (Some producers.Opening) = None

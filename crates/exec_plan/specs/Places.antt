@@ -6,7 +6,7 @@ use Rattle.answer_types.specs.declared.answers.Held.{Held}
 use Rattle.protocol_spec.specs.Chain.Words.{Each}
 
 -- the places, in order, of some of these certificates, of which the first has this place; those left out are idle,
--- and at places behind the last there is none
+-- and at places after the last there is none
 abbrev pub Picks : (Held → Type 0) → ℕ → List ℕ → List Held → Type 0
 Picks Idle place places [] = Each (λ p. place ≤ p) places
 Picks Idle place [] (h ∷ hs) = Idle h × Picks Idle (suc place) [] hs

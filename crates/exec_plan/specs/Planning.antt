@@ -6,16 +6,16 @@ use Rattle.exec_plan.specs.Books.{AreApart}
 use Rattle.exec_plan.specs.Layers.{in_turn, planned_of}
 use Rattle.exec_plan.specs.Tasks.{kept_of, left_of_outputs, outputs_of, tasks_of}
 
--- whatever is held and was executed, where no transaction is held twice: the same executions, in the same order
+-- whatever is held and was executed, if no transaction is held twice: the same executions, in the same order
 abbrev pub KeepsTheRounds : Type 0
 KeepsTheRounds = (b : Books) (executed : List Execution) → AreApart b.held
     → kept_of b.opening executed (tasks_of b executed) (outputs_of b executed) ≡ rounds b executed
 
--- who goes once over the planned certificates, in order, executes the rounds
+-- going once over the planned certificates, in order, executes the rounds
 abbrev pub TurnsAreRounds : Type 0
 TurnsAreRounds = (b : Books) (executed : List Execution) → AreApart b.held → in_turn b executed (planned_of b executed) ≡ rounds b executed
 
--- and what is left of the outputs, behind what is kept of them, is what the run leaves
+-- and what is left of the outputs, after what is kept of them, is what the run leaves
 abbrev pub LeavesTheLeft : Type 0
 LeavesTheLeft = (b : Books) (executed : List Execution) → AreApart b.held
     → left_of_outputs b (executed ++ kept_of b.opening executed (tasks_of b executed) (outputs_of b executed)) (outputs_of b executed) ≡ left b (executed ++ rounds b executed)

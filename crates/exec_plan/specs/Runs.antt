@@ -6,7 +6,7 @@ use Rattle.protocol_spec.specs.Member.Versions.{Execution, is_executed, versions
 use Rattle.protocol_spec.specs.Member.Rounds.{writes_new}
 use Rattle.version_store.specs.Stores.{Stored}
 
--- the transaction is not executed behind these, and all that it writes is new
+-- the transaction is not executed after these, and all that it writes is new
 abbrev pub IsNext : List Object → List Execution → Execution → Type 0
 IsNext opening executed x = (is_executed executed x.digest ≡ false) × (writes_new (versions opening executed) (written_keys x.gave) ≡ true)
 

@@ -45,13 +45,13 @@ abbrev pub number_of : Digest → List Held → Option ℕ
 number_of tx [] = None
 number_of tx (h ∷ hs) = if is_of tx h then Some 0 else option_map suc (number_of tx hs)
 
--- the number of the task that makes a version, among the tasks in front
+-- the number of the task that makes a version, among the earlier tasks
 abbrev pub maker_number : List Held → Option Producer → Option ℕ
 maker_number front None = None
 maker_number front (Some producers.Opening) = None
 maker_number front (Some (producers.Tx tx)) = number_of tx front
 
--- the object, where it is held; else an edge, where a task in front makes it
+-- the object, if it is held; else an edge, if an earlier task makes it
 abbrev pub slot_as : Option Object → Option ℕ → Slot
 slot_as (Some o) maker = slots.Here o
 slot_as None (Some number) = slots.Edge
@@ -65,7 +65,7 @@ origin_of (Some producer) = producer
 abbrev pub want_as : List Version → List Held → Wanted → Want
 want_as held front w = record { key = w.key; origin = origin_of w.producer; slot = slot_as (found held w) (maker_number front w.producer) }
 
--- what the edge to the task with this number carries, where there is one
+-- what the edge to the task with this number carries, if there is one
 abbrev pub link_as : ℕ → ObjectKey → Option Object → Option ℕ → Option Link
 link_as to key (Some o) maker = None
 link_as to key None None = None
@@ -74,7 +74,7 @@ link_as to key None (Some from) = Some (record { from = from; to = to; key = key
 abbrev pub link_of : List Version → List Held → Wanted → Option Link
 link_of held front w = link_as (length front) w.key (found held w) (maker_number front w.producer)
 
--- what these tasks want of those in front and of one another, task by task, each in the order of its objects
+-- what these tasks want of the earlier ones and of one another, task by task, each in the order of its objects
 abbrev pub links_after : List Version → Admission → List Held → List Held → List Link
 links_after held a front [] = []
 links_after held a front (h ∷ hs) = filter_map (link_of held front) (wants_of a h) ++ links_after held a (front ++ h ∷ []) hs
@@ -97,7 +97,7 @@ task_of held a links front h = record {
   gives = gives_of links (length front);
 }
 
--- the tasks of these certificates, behind those in front
+-- the tasks of these certificates, after the earlier ones
 abbrev pub tasks_after : List Version → Admission → List Link → List Held → List Held → List Planned
 tasks_after held a links front [] = []
 tasks_after held a links front (h ∷ hs) = task_of held a links front h ∷ tasks_after held a links (front ++ h ∷ []) hs
@@ -138,7 +138,7 @@ first_carry slots.Lacks inputs = carries.Lacks
 first_carry slots.Edge [] = carries.NotRun
 first_carry slots.Edge (input ∷ inputs) = input
 
--- and what the edges behind it carry
+-- and what the edges after it carry
 abbrev pub other_carries : Slot → List Carry → List Carry
 other_carries (slots.Here o) inputs = inputs
 other_carries slots.Lacks inputs = inputs
@@ -154,7 +154,7 @@ is_not_run (carries.Object o) = false
 is_not_run carries.Lacks = false
 is_not_run carries.NotRun = true
 
--- the want, where nothing is there of it
+-- the want, if nothing is there of it
 abbrev pub lacking : (Want × Carry) → Option Want
 lacking (w, carries.Object o) = None
 lacking (w, carries.Lacks) = Some w
@@ -207,11 +207,11 @@ outputs_of b executed = outputs output_of values_of (edges_of b executed) (tasks
 
 -- ---- what is kept
 
--- who makes the wanted version is the opening, or is executed
+-- the maker of the wanted version is the opening, or is executed
 abbrev pub is_origin_kept : List Execution → Want → Bool
 is_origin_kept executed w = is_maker_done executed (Some w.origin)
 
--- An executed task is kept behind these where all that makes what it wants is among them, and none of the keys that it
+-- An executed task is kept after these if all that makes what it wants is among them, and none of the keys that it
 -- writes is held or written twice.
 abbrev pub keep_as : List Object → List Execution → Planned → Outcome → Option Execution
 keep_as opening executed t (outcomes.Done gave) =
@@ -234,14 +234,14 @@ abbrev pub outcome_for : List (Digest × Outcome) → Digest → Option Outcome
 outcome_for [] tx = None
 outcome_for (o ∷ os) tx = if digest_eq o.0 tx then Some o.1 else outcome_for os tx
 
--- the first version that was not there, none where all were
+-- the first version that was not there, none if all were
 abbrev pub key_lacking : Outcome → Option ObjectKey
 key_lacking (outcomes.Absent key origin) = Some key
 key_lacking (outcomes.Done gave) = None
 key_lacking outcomes.Unfit = None
 key_lacking outcomes.Waits = None
 
--- a certificate whose task was not kept is left, where all that it waits for is executed behind these
+-- a certificate whose task was not kept is left, if all that it waits for is executed after these
 abbrev pub left_by : Books → List Execution → Held → Option Outcome → Option Left
 left_by b executed h None = None
 left_by b executed h (Some o) = where_true (is_due b executed h) (record { tx = h.digest; key = key_lacking o })

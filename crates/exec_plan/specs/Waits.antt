@@ -11,7 +11,7 @@ use Rattle.exec_plan.specs.Behind.{KeepsListed, listed}
 use Rattle.exec_plan.specs.Books.{is_let}
 use Rattle.exec_plan.specs.Makers.{Makes, are_made}
 
--- the place is kept behind a transaction that is not executed and makes what the certificate wants
+-- the place is kept under a transaction that is not executed and makes what the certificate wants
 pub record IsBehind (executed : List Execution) (a : Admission) (w : Waiting) (place : ℕ) (h : Held) : Type 0 where
   pub maker : Digest
   pub listed : Has (listed w.behind.entries maker) place
@@ -19,7 +19,7 @@ pub record IsBehind (executed : List Execution) (a : Admission) (w : Waiting) (p
   pub first : is_executed executed maker ≡ false
 
 -- A certificate is executed; or it needs its admission, and its place is kept until then; or all that makes what it
--- wants is executed, and the next run looks at it; or it is behind a transaction that is not executed; or its place is
+-- wants is executed, and the next run looks at it; or it is under a transaction that is not executed; or its place is
 -- one of those still to be filed.
 pub data Filed (s : Stored) (a : Admission) (loose : List ℕ) (w : Waiting) (place : ℕ) (h : Held) : Type 0 where
   was_run : is_executed s.executed h.digest ≡ true → Filed s a loose w place h

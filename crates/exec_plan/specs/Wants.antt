@@ -16,12 +16,12 @@ named_in (inputs.Owned r) = named.Version (key_of r)
 named_in (inputs.Immutable r) = named.Version (key_of r)
 named_in (inputs.Shared id initial mutable) = named.Shared id initial
 
--- what is wanted of an object of this origin, where these versions are assigned
+-- what is wanted of an object of this origin, if these versions are assigned
 abbrev pub want_of : Option (List Assigned) → Named → Option Digest → Wanted
 want_of assigned (named.Version key) origin = wanted_version key origin
 want_of assigned (named.Shared id initial) origin = wanted_as id initial (assigned_id assigned id)
 
--- what is wanted so far, and behind it what is wanted of these, each of its origin
+-- what is wanted so far, and after it what is wanted of these, each of its origin
 abbrev pub wants_after : Option (List Assigned) → List Wanted → List Named → List (Option Digest) → List Wanted
 wants_after assigned wants [] origins = wants
 wants_after assigned wants (n ∷ ns) [] = wants

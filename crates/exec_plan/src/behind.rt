@@ -1,4 +1,4 @@
-//! Places that are kept behind transactions.
+//! Places that are kept under transactions.
 
 ghost use Rattle.std.specs.Prelude.{◌≡◌, ◌++◌, ◌∷◌, [], IfOk, OnErr, OnOk, false, unwrap_or};
 ghost use Rattle.digest_core.specs.declared.Digest.{Digest as Key};
@@ -20,7 +20,7 @@ fn one_place(alloc: Global, place: usize) -> Result<Seq<usize>, OutOfMemory>
     Ok(places)
 }
 
-/// Adds a place behind a transaction. What was kept is kept, whatever the result.
+/// Adds a place under a transaction. What was kept is kept, whatever the result.
 pub(crate) fn add_behind(
     alloc: Global,
     behind: &mut IndexMap<Digest, Seq<usize>>,
@@ -37,7 +37,7 @@ pub(crate) fn add_behind(
     Ok(())
 }
 
-/// Takes out the places behind a transaction. Takes no memory.
+/// Takes out the places under a transaction. Takes no memory.
 fn take_behind(behind: &mut IndexMap<Digest, Seq<usize>>, tx: &Digest) -> Option<Seq<usize>>
     ensures taken { listed behind.old.entries tx.now ≡ unwrap_or result [] }
     ensures others { (d : Key) → digest_eq tx.now d ≡ false → listed behind.new.entries d ≡ listed behind.old.entries d }
@@ -45,7 +45,7 @@ fn take_behind(behind: &mut IndexMap<Digest, Seq<usize>>, tx: &Digest) -> Option
     behind.swap_remove(tx)
 }
 
-/// Takes out the places behind a transaction, and adds them to those that were freed.
+/// Takes out the places under a transaction, and adds them to those that were freed.
 fn free_one(
     behind: &mut IndexMap<Digest, Seq<usize>>,
     freed: &mut Seq<usize>,
@@ -60,7 +60,7 @@ fn free_one(
     }
 }
 
-/// Takes out the places behind these transactions.
+/// Takes out the places under these transactions.
 pub(crate) fn free_behind(
     alloc: Global,
     behind: &mut IndexMap<Digest, Seq<usize>>,

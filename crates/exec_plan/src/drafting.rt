@@ -13,7 +13,7 @@ use crate::inputs::{Want as Need, found, wants};
 use crate::link::Link;
 use crate::task::{Slot, Task, Want};
 use answer_types::Held;
-use chain_types::{Object, ObjectKey, Producer};
+use chain_types::{HashedObject, ObjectKey, Producer};
 use dag_core::{Edge, Plan, PlanRefusal};
 use digest_core::Digest;
 use indexmap::IndexSet;
@@ -23,10 +23,10 @@ use version_assign::Admission;
 use version_store::Store;
 use wire_bcs::{OutOfMemory, Seq};
 
-/// A plan has fewer tasks and edges than this; more count as want of memory.
+/// A plan has fewer tasks and edges than this; more count as running out of memory.
 pub(crate) const LIMIT: usize = 2_147_483_648;
 
-/// The number of the task that makes a version, where these are the planned transactions.
+/// The number of the task that makes a version, if these are the planned transactions.
 fn number_in(numbers: &IndexSet<Digest>, maker: &Option<Producer>) -> Option<u32>
     requires { length numbers.now.keys < 2 ^ 31 }
     ensures { result ≡ number_in numbers.now.keys maker.now }
@@ -42,7 +42,7 @@ fn number_in(numbers: &IndexSet<Digest>, maker: &Option<Producer>) -> Option<u32
 }
 
 /// Where a version comes from that is held, or that the task with this number makes.
-fn slot_of(found: Option<&Object>, maker: Option<u32>) -> Slot
+fn slot_of(found: Option<&HashedObject>, maker: Option<u32>) -> Slot
     ensures { result ≡ slot_as (option_copied found.entry) maker }
 {
     match found {
@@ -54,8 +54,13 @@ fn slot_of(found: Option<&Object>, maker: Option<u32>) -> Slot
     }
 }
 
-/// What the edge to a task carries, where there is one.
-fn link_of(to: u32, key: ObjectKey, found: Option<&Object>, maker: Option<u32>) -> Option<Link>
+/// What the edge to a task carries, if there is one.
+fn link_of(
+    to: u32,
+    key: ObjectKey,
+    found: Option<&HashedObject>,
+    maker: Option<u32>,
+) -> Option<Link>
     ensures { result ≡ link_as to key (option_copied found.entry) maker }
 {
     match found {
@@ -67,7 +72,7 @@ fn link_of(to: u32, key: ObjectKey, found: Option<&Object>, maker: Option<u32>) 
     }
 }
 
-/// Who makes a version: the opening, where nobody is named.
+/// Who makes a version: the opening, if nobody is named.
 fn origin_of(maker: Option<Producer>) -> Producer
     ensures { result ≡ origin_of maker }
 {
@@ -77,7 +82,7 @@ fn origin_of(maker: Option<Producer>) -> Producer
     }
 }
 
-/// Adds a link, where there is one.
+/// Adds a link, if there is one.
 fn add_link(links: &mut Seq<Link>, link: Option<Link>) -> Result<(), OutOfMemory>
     ensures { OnOk result (links.new ≡ links.old ++ option_to_list link) }
 {
@@ -94,7 +99,7 @@ struct Wanted {
     links: Seq<Link>,
 }
 
-/// Adds what is wanted of one version, and the link to the next task, where there is one.
+/// Adds what is wanted of one version, and the link to the next task, if there is one.
 fn add_need(
     store: &Store,
     numbers: &IndexSet<Digest>,
@@ -118,7 +123,7 @@ fn add_need(
     add_link(links, link_of(to, need.key(), there, number))
 }
 
-/// What the next task behind these wants, and the links to it.
+/// What the next task after these wants, and the links to it.
 fn wanting(
     alloc: Global,
     store: &Store,
@@ -236,7 +241,7 @@ impl Draft {
 }
 
 impl Draft {
-    /// The plan. A plan of 2^31 tasks or edges counts as want of memory.
+    /// The plan. A plan of 2^31 tasks or edges counts as running out of memory.
     pub(crate) fn into_plan(self, alloc: Global) -> Result<Plan<Task>, OutOfMemory>
         requires { IsDraft self }
         ensures jobs { IfOk result (λ plan. plan.jobs ≡ self.tasks) }
@@ -254,7 +259,7 @@ impl Draft {
     }
 }
 
-/// With the task of the certificate at a place, where there is one.
+/// With the task of the certificate at a place, if there is one.
 #[tactic(auto, using(protocol_spec::proofs::ListLemmas::each_at))]
 fn with_at(
     draft: Draft,

@@ -11,7 +11,7 @@ ghost use Rattle.exec_plan.specs.Wants.{named_in, want_of, wants_after};
 ghost use Rattle.version_store.specs.Stores.{held_in};
 
 use answer_types::{Assigned, Held};
-use chain_types::{Input, Object, ObjectId, ObjectKey, Producer, Transaction};
+use chain_types::{HashedObject, Input, ObjectId, ObjectKey, Producer, Transaction};
 use digest_core::Digest;
 use std::alloc::Global;
 use std::marker::Model;
@@ -60,7 +60,7 @@ pub(crate) enum Named {
     Shared { id: ObjectId, initial: u64 },
 }
 
-/// What a transaction wants: a version, and who made it; nobody, where a shared object was not assigned.
+/// What a transaction wants: a version, and who made it; nobody, if a shared object was not assigned.
 /// Contracts see the definitions' record of it.
 #[derive(Debug, Drop)]
 pub(crate) struct Want {
@@ -193,7 +193,7 @@ fn want_of(admission: &Admission, tx: &Digest, named: Named, origin: Option<Dige
     }
 }
 
-/// What a transaction wants of these objects, each of its origin, behind what it wants so far.
+/// What a transaction wants of these objects, each of its origin, after what it wants so far.
 fn wants_after(
     all: Seq<Want>,
     admission: &Admission,
@@ -237,8 +237,8 @@ pub(crate) fn wants(
     )
 }
 
-/// The object that is wanted, where it is held.
-pub(crate) fn found<'a>(store: &'a Store, want: &Want) -> Option<&'a Object>
+/// The object that is wanted, if it is held.
+pub(crate) fn found<'a>(store: &'a Store, want: &Want) -> Option<&'a HashedObject>
     ensures { option_copied result ≡ found (held_in store.now) want.now }
 {
     match want.maker() {

@@ -13,10 +13,10 @@ ghost use Rattle.exec_plan.specs.Tasks.{is_origin_kept, keep_as, kept_of};
 ghost use Rattle.exec_plan.specs.declared.task.Outcome.TheVariants.{Done};
 
 use crate::task::{Outcome, Task, Want};
-use answer_types::Executed;
 use chain_types::Producer;
 use digest_core::Digest;
 use effects_core::HashedEffects;
+use ptb_run::HashedExecuted;
 use std::alloc::Global;
 use version_store::Store;
 use wire_bcs::{Duplicate, OutOfMemory, Seq};
@@ -46,22 +46,22 @@ fn are_kept(store: &Store, wants: &[Want]) -> bool
 }
 
 /// Whether what a task gave is kept: all that makes what it wants is executed, and all that it writes is new.
-fn keeps(store: &Store, task: &Task, gave: &Executed) -> Result<bool, OutOfMemory>
+fn keeps(store: &Store, task: &Task, gave: &HashedExecuted) -> Result<bool, OutOfMemory>
     ensures { IfOk result (λ keeps. keeps ≡ (list_all (is_origin_kept store.now.executed) task.now.wants && writes_new (held_in store.now) (written_keys gave.now))) }
 {
     if !are_kept(store, task.wants()) {
         return Ok(false);
     }
-    store.are_new(&gave.objects)
+    store.are_new(gave.objects())
 }
 
-/// Writes what a task gave, where it is kept, and adds a copy of its effects.
+/// Writes what a task gave, if it is kept, and adds a copy of its effects.
 fn keep_done(
     alloc: Global,
     store: &mut Store,
     effects: &mut Seq<HashedEffects>,
     task: &Task,
-    gave: &Executed,
+    gave: &HashedExecuted,
 ) -> Result<(), OutOfMemory>
     requires named { gave.now.effects.tx ≡ task.now.digest }
     requires first { is_executed store.old.executed task.now.digest ≡ false }
@@ -72,14 +72,14 @@ fn keep_done(
     if !keeps(store, task, gave)? {
         return Ok(());
     }
-    let hashed = HashedEffects::new(alloc, gave.effects.copy()?)?;
-    effects.push(hashed.copy()?)?;
+    effects.push(gave.effects().copy()?)?;
+    let hashed = gave.effects().copy()?;
     let consumed = task.consumed(alloc)?;
-    let objects = gave.objects.copy()?;
+    let objects = gave.objects().copy()?;
     store.write(hashed, objects, &consumed)
 }
 
-/// The same of what came of a task.
+/// Likewise for what came of a task.
 fn keep_one(
     alloc: Global,
     store: &mut Store,
@@ -101,7 +101,7 @@ fn keep_one(
     }
 }
 
-/// The same of all these tasks, from the first on.
+/// Likewise for all these tasks, from the first on.
 pub(crate) fn keep_all(
     alloc: Global,
     store: &mut Store,

@@ -19,7 +19,7 @@ use version_assign::Admission;
 use version_store::Store;
 use wire_bcs::{OutOfMemory, Seq};
 
-/// Whether the transaction that an origin names is executed, where it names one.
+/// Whether the transaction that an origin names is executed, if it names one.
 fn is_origin_done(store: &Store, origin: &Option<Digest>) -> bool
     ensures { result ≡ is_origin_done store.now.executed origin.now }
 {
@@ -52,7 +52,7 @@ fn may_be_left(store: &Store, admission: &Admission, held: &Held) -> bool
         && are_origins_done(store, held.cert.origins.as_slice())
 }
 
-/// The certificate as it is left, where it is.
+/// The certificate as it is left, if it is.
 #[tactic(auto, using(crate::proofs::LeftOver::left_so))]
 fn left_one(
     alloc: Global,
@@ -76,7 +76,7 @@ fn left_one(
     }))
 }
 
-/// The same of the certificate at a place, none where there is none.
+/// Likewise for the certificate at a place, none if there is none.
 fn left_at(
     alloc: Global,
     store: &Store,
@@ -92,7 +92,7 @@ fn left_at(
     }
 }
 
-/// Those left so far, and one more, where there is one.
+/// Those left so far, and one more, if there is one.
 fn add_left(left: &mut Seq<Left>, one: Option<Left>) -> Result<(), OutOfMemory>
     ensures { OnOk result (left.new ≡ left_add left.old one) }
 {
@@ -123,7 +123,7 @@ fn left_among(
 }
 
 /// The held certificates that are not executed although all that they wait for is, in order of holding:
-/// each with the first version that is not held, or with none where what it wants is held and it does not
+/// each with the first version that is not held, or with none if what it wants is held and it does not
 /// fit, or what it writes is not new. One that names a shared object is among them once it is admitted.
 /// Looks at the certificates that wait for nothing and are not executed.
 #[tactic(auto, using(crate::proofs::Filing::left_now))]

@@ -1,18 +1,18 @@
 //! The execution of held certificates in rounds, by a plan of tasks.
 //!
 //! A run executes the certificates that a member holds, round after round: a round has those that are
-//! ready behind the rounds before it, in order of holding, and reads the store as it was before the round.
+//! ready after the rounds before it, in order of holding, and reads the store as it was before the round.
 //! A certificate with a shared input runs once it is admitted, and reads the version that admission
-//! assigned. [`left`] tells which certificates a run leaves although all that they waited for is executed.
-//! A [`Waiting`] keeps the places of the held certificates that are not executed: behind their own
-//! transaction until that is admitted, and then behind a transaction that makes what they want. A run looks
+//! assigned. [`left`] says which certificates a run leaves although all that they waited for is executed.
+//! A [`Waiting`] keeps the places of the held certificates that are not executed: under their own
+//! transaction until that is admitted, and then under a transaction that makes what they want. A run looks
 //! at those that wait for nothing, and at those that wait for what it plans.
 //!
 //! No round is executed as such. [`plan_ready`] makes a [`Task`] for each certificate whose turn may come, layer after
 //! layer, and an edge for each version that one makes for a later one, and executes nothing. Whoever evaluates the
 //! plan, on one thread or on many, hands its outputs to [`settle`], which keeps those that the rounds execute, writes
-//! them and answers their effects. A task may turn out not to be kept: where one that makes what it wants is not,
-//! where what it wants is lacking or does not fit it, and where it writes a version that is there. [`run_planned`] does
+//! them and answers their effects. A task may turn out not to be kept: if one that makes what it wants is not,
+//! if what it wants is lacking or does not fit it, and if it writes a version that is there. [`run_planned`] does
 //! all three on the caller's thread, [`run_pooled`] on workers in threads of their own. That what is kept is the
 //! rounds, and what is left is what the rounds leave, are [`plan_keeps_the_rounds`] and [`plan_leaves_the_left`], laws
 //! over the definitions. No member executes a block but by a task.

@@ -13,7 +13,7 @@ use std::alloc::Global;
 use version_assign::Admission;
 use wire_bcs::OutOfMemory;
 
-/// The transaction that makes a version, where it is not executed.
+/// The transaction that makes a version, if it is not executed.
 fn unmade_by(past: &Past<'_>, maker: &Option<Producer>) -> Option<Digest>
     ensures { result ≡ unmade_by past.now.executed maker.now }
 {
@@ -43,7 +43,7 @@ pub(crate) fn first_unmade(past: &Past<'_>, wants: &[Want]) -> Option<Digest>
     None
 }
 
-/// The first transaction, not executed, that makes a version that the certificate wants; none where all are
+/// The first transaction, not executed, that makes a version that the certificate wants; none if all are
 /// executed.
 pub(crate) fn awaited(
     alloc: Global,

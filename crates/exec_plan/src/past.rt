@@ -33,7 +33,7 @@ impl<'a> Past<'a> {
         Past { store, planned }
     }
 
-    /// The store as it is, where none is planned.
+    /// The store as it is, if none is planned.
     pub(crate) fn of(store: &'a Store, none: &'a IndexSet<Digest>) -> Past<'a>
         requires { none.now.keys ≡ [] }
         ensures { result ≡ store.now }

@@ -41,7 +41,7 @@ fn joins(
     Ok(awaited.is_none())
 }
 
-/// The same of the certificate at a place, where there is one.
+/// Likewise for the certificate at a place, if there is one.
 fn joins_at(
     alloc: Global,
     past: &Past<'_>,
@@ -57,7 +57,7 @@ fn joins_at(
     }
 }
 
-/// Adds a place, where it is to be.
+/// Adds a place, if it is to be.
 fn add_where(places: &mut Seq<usize>, place: usize, is: bool) -> Result<(), OutOfMemory>
     ensures { OnOk result (places.new ≡ (if is then places.old ++ place ∷ [] else places.old)) }
 {
@@ -87,7 +87,7 @@ fn layer_among(
     Ok(layer)
 }
 
-/// Adds the transaction of the certificate at a place, where there is one.
+/// Adds the transaction of the certificate at a place, if there is one.
 fn add_digest(txs: &mut Seq<Digest>, held: &[Held], place: usize) -> Result<(), OutOfMemory>
     ensures { OnOk result (txs.new ≡ with_digest txs.old (slice_get held.now place)) }
 {

@@ -2,7 +2,7 @@
 
 ghost use Rattle.exec_plan.specs.Planning.{KeepsTheRounds, LeavesTheLeft, TurnsAreRounds};
 
-/// Who goes once over the planned certificates, in order, and executes each that is ready behind those before it,
+/// Going once over the planned certificates, in order, and executing each that is ready after those before it,
 /// executes the rounds.
 #[tactic(auto, using(crate::proofs::Layering::turns_are_rounds))]
 pub fn layers_are_rounds()
@@ -15,7 +15,7 @@ pub fn plan_keeps_the_rounds()
     ensures { KeepsTheRounds }
 {}
 
-/// What is left of the outputs, behind what is kept of them, is what the run leaves, in order of holding.
+/// What is left of the outputs, after what is kept of them, is what the run leaves, in order of holding.
 #[tactic(auto, using(crate::proofs::Remaining::leaves_left))]
 pub fn plan_leaves_the_left()
     ensures { LeavesTheLeft }

@@ -30,7 +30,7 @@ fn workers_for(ready: &Ready, workers: u32) -> u32
 
 /// Executes, by 1 to 16 workers, all held certificates that are ready, and answers their effects in the order of the rounds
 /// (Sui Lutris; rounds are this profile's own). Each held certificate stands under its transaction's digest, and its
-/// transaction has a valid shape; no transaction is held twice. The gate is told of each execution. The only error is that
+/// transaction has a valid shape; no transaction is held twice. The gate is notified of each execution. The only error is that
 /// memory is refused: part of the rounds may then be executed, and nothing is promised of the store, but for its opening, and
 /// of what waits.
 pub fn run_pooled<R: Threads + Sync, G: Gate + Sync>(

@@ -27,9 +27,9 @@ use version_store::Store;
 use wire_bcs::{OutOfMemory, Seq};
 
 /// Settles the outputs of a run's plan: writes what is kept of them, which is what the rounds execute, and answers its
-/// effects in order. From the first output on, what a task gave is kept where all that makes what it wants is executed by
+/// effects in order. From the first output on, what a task gave is kept if all that makes what it wants is executed by
 /// then, and all that it writes is new (this profile). The plan is that of [`plan_ready`] over this store, admission and
-/// list, and the outputs are the plan's, in the order of its tasks. Behind it each held certificate that is not executed
+/// list, and the outputs are the plan's, in the order of its tasks. After it each held certificate that is not executed
 /// waits again. The only error is that memory is refused: part of the rounds is then executed, and nothing is promised of
 /// the store, but for its opening, and of what waits. Looks at what was planned.
 pub fn settle(

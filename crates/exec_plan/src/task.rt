@@ -10,11 +10,11 @@ ghost use Rattle.exec_plan.specs.Drafts.{bare_task, with_give};
 ghost use Rattle.exec_plan.specs.Gathering.{gathered_after, is_lacking};
 ghost use Rattle.exec_plan.specs.Tasks.{carry_as, carry_of, first_carry, is_at, is_not_run, object_of, other_carries, outcome_of, outcome_with};
 
-use answer_types::{Executed, Held};
-use chain_types::{Object, ObjectKey, Producer, Transaction, owned_keys};
+use answer_types::Held;
+use chain_types::{HashedObject, Object, ObjectKey, Producer, Transaction, owned_keys};
 use dag_core::Job;
 use digest_core::Digest;
-use ptb_run::{execute, fits};
+use ptb_run::{HashedExecuted, execute_hashed, fits_hashed};
 use std::alloc::Global;
 use std::marker::Model;
 use wire_bcs::{Duplicate, OutOfMemory, Seq};
@@ -23,7 +23,7 @@ use wire_bcs::{Duplicate, OutOfMemory, Seq};
 /// that this was not executed.
 #[derive(Clone, Copy, Debug)]
 pub enum Carry {
-    Object(Object),
+    Object(HashedObject),
     Lacks,
     NotRun,
 }
@@ -32,7 +32,7 @@ pub enum Carry {
 #[derive(Debug, Drop)]
 pub enum Outcome {
     /// It was executed.
-    Done(Executed),
+    Done(HashedExecuted),
     /// This version, the first that is lacking, is not there.
     Absent { key: ObjectKey, origin: Producer },
     /// What it wants is there and does not fit it.
@@ -44,7 +44,7 @@ pub enum Outcome {
 /// Where a wanted version comes from: it is held, an earlier task makes it, or nobody does.
 #[derive(Clone, Copy, Debug)]
 pub enum Slot {
-    Here(Object),
+    Here(HashedObject),
     Edge,
     Lacks,
 }
@@ -80,7 +80,7 @@ impl Model for Task {
 /// What there is of the wants of a task: all objects, or the first want of which there is nothing.
 #[derive(Debug, Drop)]
 enum Gathered {
-    All(Seq<Object>),
+    All(Seq<HashedObject>),
     Lacking(Want),
 }
 
@@ -103,7 +103,7 @@ fn any_not_run(inputs: &[Carry]) -> bool
     false
 }
 
-/// What is there of a want, and what the edges behind it carry.
+/// What is there of a want, and what the edges after it carry.
 fn carry_for<'a>(slot: &Slot, inputs: &'a [Carry]) -> (Carry, &'a [Carry])
     ensures first { result.0 ≡ first_carry slot.now inputs.now }
     ensures others { result.1.now ≡ other_carries slot.now inputs.now }
@@ -125,8 +125,8 @@ fn is_lacking(carry: &Carry) -> bool
     matches!(carry, Carry::Lacks)
 }
 
-/// Adds the object, where there is one.
-fn add_object(objects: &mut Seq<Object>, carry: &Carry) -> Result<(), OutOfMemory>
+/// Adds the object, if there is one.
+fn add_object(objects: &mut Seq<HashedObject>, carry: &Carry) -> Result<(), OutOfMemory>
     ensures { OnOk result (objects.new ≡ objects.old ++ option_to_list (object_of carry.now)) }
 {
     match carry {
@@ -136,7 +136,7 @@ fn add_object(objects: &mut Seq<Object>, carry: &Carry) -> Result<(), OutOfMemor
     }
 }
 
-/// The objects of a task's wants, where its edges carry these.
+/// The objects of a task's wants, if its edges carry these.
 fn gather(alloc: Global, wants: &[Want], inputs: &[Carry]) -> Result<Gathered, OutOfMemory>
     ensures { IfOk result (λ gathered. gathered ≡ gathered_after [] wants.now inputs.now) }
 {
@@ -160,7 +160,7 @@ fn carry_of(outcome: &Outcome, key: &ObjectKey) -> Carry
     ensures { result ≡ carry_of outcome.now key.now }
 {
     match outcome {
-        Outcome::Done(gave) => written_at(gave.objects.as_slice(), key),
+        Outcome::Done(gave) => written_at(gave.objects().as_slice(), key),
         Outcome::Absent { .. } => Carry::NotRun,
         Outcome::Unfit => Carry::NotRun,
         Outcome::Waits => Carry::NotRun,
@@ -204,17 +204,22 @@ impl Task {
     }
 
     /// What comes of it on these objects.
-    fn outcome_with(&self, alloc: Global, objects: &Seq<Object>) -> Result<Outcome, OutOfMemory>
+    fn outcome_with(
+        &self,
+        alloc: Global,
+        objects: &Seq<HashedObject>,
+    ) -> Result<Outcome, OutOfMemory>
         ensures { IfOk result (λ outcome. outcome ≡ outcome_with self.now.tx objects.now) }
     {
-        if !fits(&self.tx, objects) {
+        let inputs = HashedObject::plain(alloc, objects.as_slice())?;
+        if !fits_hashed(&self.tx, objects.as_slice(), inputs.as_slice()) {
             return Ok(Outcome::Unfit);
         }
-        let gave = execute(alloc, &self.tx, &self.digest, objects)?;
+        let gave = execute_hashed(alloc, &self.tx, &self.digest, &inputs)?;
         Ok(Outcome::Done(gave))
     }
 
-    /// What comes of it where its edges carry these.
+    /// What comes of it if its edges carry these.
     #[tactic(auto, using(crate::proofs::Gathering::gathered_is))]
     fn outcome(&self, alloc: Global, inputs: &[Carry]) -> Result<Outcome, OutOfMemory>
         ensures { IfOk result (λ outcome. outcome ≡ outcome_of self.now inputs.now) }
@@ -242,13 +247,13 @@ fn key_of(object: &Object) -> ObjectKey
     }
 }
 
-/// The object with this key, where one was written.
-fn written_at(objects: &[Object], key: &ObjectKey) -> Carry
+/// The object with this key, if one was written.
+fn written_at(objects: &[HashedObject], key: &ObjectKey) -> Carry
     ensures { result ≡ carry_as (find (is_at key.now) objects.now) }
 {
     let mut rest = objects;
     while let [object, after @ ..] = rest {
-        if key_of(object) == *key {
+        if key_of(object.object()) == *key {
             return Carry::Object(*object);
         }
         rest = after;

@@ -29,15 +29,15 @@ use wire_bcs::{OutOfMemory, Seq};
 pub struct Waiting {
     /// The places of certificates that wait for nothing.
     next: BTreeSet<usize>,
-    /// The places of those that need an admission, each behind its own transaction.
+    /// The places of those that need an admission, each under its own transaction.
     unadmitted: IndexMap<Digest, Seq<usize>>,
-    /// The places of all others, each behind a transaction that is not executed.
+    /// The places of all others, each under a transaction that is not executed.
     behind: IndexMap<Digest, Seq<usize>>,
     alloc: Global,
 }
 
 impl Waiting {
-    /// Nothing waits where nothing is held. Takes no memory.
+    /// Nothing waits if nothing is held. Takes no memory.
     #[tactic(auto, using(crate::proofs::Filing::nothing_waits))]
     pub fn new(alloc: Global) -> Waiting
         ensures { (s : Stored) (a : A) → IsWaiting s a [] result }
@@ -50,7 +50,7 @@ impl Waiting {
         }
     }
 
-    /// Keeps a held certificate's place until its transaction is admitted, behind the first transaction that it
+    /// Keeps a held certificate's place until its transaction is admitted, under the first transaction that it
     /// waits for, or for the next run.
     fn file(
         &mut self,
@@ -77,7 +77,7 @@ impl Waiting {
         }
     }
 
-    /// One more certificate is held, behind these.
+    /// One more certificate is held, after these.
     fn hold_behind(
         &mut self,
         past: &Past<'_>,
@@ -92,7 +92,7 @@ impl Waiting {
         self.file(past, admission, held.len(), new)
     }
 
-    /// One more certificate is held, behind these. After a refusal all that waited waits.
+    /// One more certificate is held, after these. After a refusal all that waited waits.
     pub fn hold(
         &mut self,
         store: &Store,
@@ -125,7 +125,7 @@ impl Waiting {
         self.file_each(&Past::of(store, &none), admission, held, woken.as_slice())
     }
 
-    /// The same as [`Waiting::hold`] does, of the certificate at a place, where there is one.
+    /// The same as [`Waiting::hold`] does, of the certificate at a place, if there is one.
     fn file_at(
         &mut self,
         past: &Past<'_>,
@@ -142,7 +142,7 @@ impl Waiting {
         }
     }
 
-    /// The same of the certificates at these places.
+    /// Likewise for the certificates at these places.
     pub(crate) fn file_each(
         &mut self,
         past: &Past<'_>,
@@ -181,7 +181,7 @@ impl Waiting {
         Ok(places)
     }
 
-    /// Takes out the places behind these transactions, which were executed.
+    /// Takes out the places under these transactions, which were executed.
     pub(crate) fn free(&mut self, txs: &[Digest]) -> Result<Seq<usize>, OutOfMemory>
         ensures unadmitted { self.new.unadmitted.entries ≡ self.old.unadmitted.entries }
         ensures freed { IfOk result (λ freed. Frees self.old.behind.entries self.new.behind.entries freed [] txs.now) }

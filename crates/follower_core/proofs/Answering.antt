@@ -23,7 +23,7 @@ pub front_none : {A : Type 0} → (x : Option A) (xs : List (Option A)) → firs
 front_none None xs h = (refl, h)
 front_none (Some y) xs h = absurd (cc)
 
--- ---- where nothing is refused
+-- ---- if nothing is refused
 
 pub passed : (r : Option FollowRefusal) (u : Unit {0}) → Ok u ≡ unless r → r ≡ None
 passed None u h = refl
@@ -79,7 +79,7 @@ module _ (tip : Tip) (c : Checkpoint) (txs : List Transaction) where
   pub number_is : refusal_before tip c txs ≡ None → c.number ≡ applied_in tip
   number_is h = numbered tip.before c (linked (link_answer tip.before c) (cases_behind h).0)
 
-  -- no early refusal is want of memory
+  -- no early refusal is for lack of memory
   pub early_is_no_memory : (e : FollowRefusal) → refusal_before tip c txs ≡ Some e → is_memory e ≡ false
   unfolding refusal_before
   early_is_no_memory e h = first tip.up h

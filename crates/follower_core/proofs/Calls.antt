@@ -20,7 +20,7 @@ module _ (m : Course) (tip : Tip) (s : State) (c : Checkpoint) (txs : List Trans
   at_course : Seen → m ≡ s.course
   at_course view = ap (λ (t : State). t.course) view
 
-  -- ---- where no transaction was looked at
+  -- ---- if no transaction was looked at
 
   early : (e : FollowRefusal) → Seen → Err e ≡ unless (refusal_before tip c txs) → refusal_before s.tip c txs ≡ Some e
   early e view h = ap (λ t. refusal_before t c txs) (sym (at_tip view)) ∙ turned_away (refusal_before tip c txs) e h
@@ -34,7 +34,7 @@ module _ (m : Course) (tip : Tip) (s : State) (c : Checkpoint) (txs : List Trans
   pub early_stays : (e : FollowRefusal) → Seen → Err e ≡ unless (refusal_before tip c txs) → s ≡ state_behind s c txs (Err e)
   early_stays e view h = ap (λ b. cond b (record { course = s.course; tip = record { before = s.tip.before; epoch = s.tip.epoch; up = false } }) s) (sym (early_is_no_memory s.tip c txs e (early e view h)))
 
-  -- ---- where they were
+  -- ---- if they were
 
   free : (u : Unit {0}) → Ok u ≡ unless (refusal_before tip c txs) → refusal_before tip c txs ≡ None
   free u h = passed (refusal_before tip c txs) u h

@@ -124,7 +124,7 @@ ok_same : (r : Result State CatchUpRefusal) (s t : State) → r ≡ Ok s → r �
 ok_same r s t one other = cc
 
 module _ (known : Known) (epoch : ℕ) where
-  -- what a checkpoint leads to, in front of others
+  -- what a checkpoint leads to, before others
   stepped : (b : Bool) (s t : State) (c : Checkpoint) (cs : List Checkpoint) → cond b (applied_by known s c) (Ok s) ≡ Ok t → caught_up known s (cond b (c ∷ cs) cs) ≡ caught_up known t cs
   stepped true s t c cs h = ap (λ (r : Result State CatchUpRefusal). caught_from r (λ (u : State). caught_up known u cs)) h
   stepped false s t c cs h = ap (λ (u : State). caught_up known u cs) (ok_same (Ok s) s t refl h)

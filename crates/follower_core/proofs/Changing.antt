@@ -15,7 +15,7 @@ at_change : (m : Objects) (k : ObjectId) (c : Option Object) (id : ObjectId) →
 at_change m k None id = get-remove ids_total m k id ∙ ap (λ b. cond b None (get m id)) (sym (ids_tie id k))
 at_change m k (Some o) id = get-insert ids_total m k o id ∙ ap (λ b. cond b (Some o) (get m id)) (sym (ids_tie id k))
 
--- what is found where objects are changed
+-- what is found if objects are changed
 pub now_under : (es : Entries) (cs : Changes) (id : ObjectId) → get (changed_by es cs) id ≡ overlaid (lookup (id_eq id) cs) (lookup (id_eq id) es)
 now_under es [] id = under es id
 now_under es (c ∷ cs) id = at_change (changed_by es cs) c.0 c.1 id ∙ ap (cond (id_eq id c.0) c.1) (now_under es cs id) ∙ by (id_eq id c.0)

@@ -1,4 +1,4 @@
--- How many items a checkpoint has that can be spelled.
+-- How many items a checkpoint has that can be encoded.
 use Rattle.std.proofs.Common.{◌≤◌, length, arith}
 use Rattle.checkpoint_core.specs.declared.checkpoints.Checkpoint.{Checkpoint}
 use Rattle.checkpoint_core.specs.Checkpoints.{checkpoint}

@@ -77,7 +77,7 @@ unfolding later_seen
 none_seen [] = refl
 none_seen (o ∷ os) = none_seen os
 
--- seen from the front, an id comes twice where one does
+-- seen from the start, an id comes twice if one does
 pub repeats_whole : (os : List Object) → repeats_after [] os ≡ repeats id_eq (map (λ (o : Object). o.id) os)
 unfolding ids_of
 repeats_whole os = after_is [] os ∙ ap (λ b. b || repeats id_eq (ids_of os)) (none_seen os)

@@ -9,7 +9,7 @@ use Rattle.protocol_spec.specs.Chain.Words.{all_some, onto_some}
 use Rattle.protocol_spec.specs.Member.Sequential.{Objects, at_version, named_in, read_by}
 use Rattle.follower_core.specs.Steps.{reads_from, with_read}
 
--- the objects in front of those that are found
+-- the objects before those that are found
 behind_these : List Object → Option (List Object) → Option (List Object)
 behind_these done None = None
 behind_these done (Some os) = Some (done ++ os)

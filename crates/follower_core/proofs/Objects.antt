@@ -33,7 +33,7 @@ found_under id (e ∷ es) = ap (λ b. cond b (Some e.1) (find id_cmp id es)) (sy
 pub under : (es : Entries) (id : ObjectId) → get (objects_under es) id ≡ lookup (id_eq id) es
 under es id = get-from_entries ids_total es id ∙ found_under id es
 
--- two maps are one where the same is found
+-- two maps are one if the same is found
 pub same_objects : (m n : Objects) → ((id : ObjectId) → get m id ≡ get n id) → m ≡ n
 same_objects m n same = same_map ids_total ids_unique m n same
 

@@ -1,5 +1,5 @@
 -- How far a follower comes that takes checkpoints in order, each with the transactions that are known by the digests of its
--- items. Source: Sui Lutris; what is told of the first that it does not apply is this profile's own.
+-- items. Source: Sui Lutris; what is said of the first that it does not apply is this profile's own.
 use Rattle.std.specs.Prelude.{ℕ, ◌+◌, nat_lt, Bool, true, false, List, [], ◌∷◌, filter, Option, Some, None, Result, Ok, Err, if◌then◌else◌}
 use Rattle.digest_core.specs.declared.Digest.{Digest}
 use Rattle.chain_types.specs.declared.transactions.Transaction.{Transaction}
@@ -11,7 +11,7 @@ use Rattle.follower_core.specs.declared.refusals.FollowRefusal.{FollowRefusal}
 use Rattle.follower_core.specs.declared.refusals.FollowRefusal.TheVariants as refused
 use Rattle.follower_core.specs.Following.{State, behind_checkpoint, refusal_of}
 
--- the transaction of a digest, none where it is not known
+-- the transaction of a digest, none if it is not known
 abbrev pub Known : Type 0
 Known = Digest → Option Transaction
 
@@ -29,8 +29,8 @@ found_from known place (i ∷ is) = with_found (known i.tx) place (found_from kn
 
 -- ---- one checkpoint
 
--- what is told of the checkpoint of this number where a follower refuses it. (One that was built and is handed in with the
--- transactions of its items is refused only where one of them is stuck or differs.)
+-- what is said of the checkpoint of this number if a follower refuses it. (One that was built and is handed in with the
+-- transactions of its items is refused only if one of them is stuck or differs.)
 abbrev pub refusal_as : ℕ → FollowRefusal → CatchUpRefusal
 refusal_as n refused.Down = stopped.Stuck n 0
 refusal_as n (refused.Link refusal) = stopped.Stuck n 0

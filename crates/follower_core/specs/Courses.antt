@@ -34,7 +34,7 @@ abbrev pub given_on : Transaction → Option (List Object) → Option Executed
 given_on t None = None
 given_on t (Some objects) = if fits t objects then Some (execution t objects) else None
 
--- what the sequential execution gives for a transaction on these objects, none where it has no effects
+-- what the sequential execution gives for a transaction on these objects, none if it has no effects
 unfoldable pub given : Objects → Transaction → Option Executed
 given m t = given_on t (read_by m t)
 
@@ -50,7 +50,7 @@ abbrev pub behind_given : Course → Transaction → Option Executed → Course
 behind_given m t None = m
 behind_given m t (Some x) = with_given m (transaction_digest t) x
 
--- one transaction, which changes nothing where it has no effects
+-- one transaction, which changes nothing if it has no effects
 abbrev pub behind : Course → Transaction → Course
 behind m t = behind_given m t (given m.map t)
 
@@ -88,7 +88,7 @@ abbrev pub differs_in : ℕ → Option Executed → Digest → Option FollowRefu
 differs_in place None want = None
 differs_in place (Some x) want = differs place (digest_of_effects x.effects) want
 
--- why a transaction does not stand at a place under this item; none where it does
+-- why a transaction does not stand at a place under this item; none if it does
 unfoldable pub place_refusal : Course → ℕ → Item → Transaction → Option FollowRefusal
 place_refusal m place item t = first_some (
     where_true (not (digest_eq (transaction_digest t) item.tx)) (refused.WrongTx place) ∷

@@ -22,7 +22,7 @@ joined handed = flat_map (λ (h : Handed). h.txs) handed
 unfoldable pub followed : List Object → List Handed → Objects
 followed opening handed = (fold_all (map_of opening) (joined handed)).map
 
--- and the effects of each, none where it had none
+-- and the effects of each, none if it had none
 unfoldable pub followed_effects : List Object → List Handed → List (Option Effects)
 followed_effects opening handed = (fold_all (map_of opening) (joined handed)).effects
 

@@ -62,7 +62,7 @@ refusal_before tip c txs = first_some (
     where_true (not (c.epoch == tip.epoch)) (refused.Epoch c.epoch tip.epoch) ∷
     where_true (not (length txs == length c.items)) (refused.Count (length txs) (length c.items)) ∷ [])
 
--- the first cause in order, none where the checkpoint is applied
+-- the first cause in order, none if the checkpoint is applied
 unfoldable pub refusal_of : State → Checkpoint → List Transaction → Option FollowRefusal
 refusal_of s c txs = first_some (refusal_before s.tip c txs ∷ first_bad s.course 0 c.items txs ∷ [])
 
@@ -89,7 +89,7 @@ Answers s c txs (Err refusal) =
     (is_memory refusal ≡ false → refusal_of s c txs ≡ Some refusal)
     × (is_memory refusal ≡ true → refusal_before s.tip c txs ≡ None)
 
--- where memory was refused the follower is down, and any other refusal changes nothing
+-- if memory was refused the follower is down, and any other refusal changes nothing
 abbrev pub state_behind : State → Checkpoint → List Transaction → Result ℕ FollowRefusal → State
 state_behind s c txs (Ok count) = behind_checkpoint s c txs
 state_behind s c txs (Err refusal) = if is_memory refusal then record { course = s.course; tip = record { before = s.tip.before; epoch = s.tip.epoch; up = false } } else s

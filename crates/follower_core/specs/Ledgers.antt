@@ -29,7 +29,7 @@ abbrev pub changed : Objects → ObjectId → Option Object → Objects
 changed m id None = without_id m id
 changed m id (Some o) = insert m id o
 
--- the objects under these ids, where these are changed
+-- the objects under these ids, if these are changed
 abbrev pub changed_by : Entries → Changes → Objects
 changed_by entries [] = objects_under entries
 changed_by entries (e ∷ es) = changed (changed_by entries es) e.0 e.1

@@ -22,7 +22,7 @@ abbrev pub with_read : List Object → Option Object → Option (List Object)
 with_read done None = None
 with_read done (Some o) = Some (done ++ o ∷ [])
 
--- the objects so far and those of the inputs behind them, none once one is missing
+-- the objects so far and those of the inputs after them, none once one is missing
 abbrev pub reads_from : Objects → Option (List Object) → List Input → Option (List Object)
 reads_from m None is = None
 reads_from m (Some done) [] = Some done
@@ -58,12 +58,12 @@ without_ids m ids = record m { map = fold without_id m.map ids; gone = insert_al
 
 -- ---- what stands
 
--- what is given, none where it is bad
+-- what is given, none if it is bad
 abbrev pub good : Course → Transaction → Option Executed → Option Executed
 good m t None = None
 good m t (Some x) = if is_bad m t (Some x) then None else Some x
 
--- what a transaction gives, none where it is stuck
+-- what a transaction gives, none if it is stuck
 unfoldable pub standing : Course → Transaction → Option Executed
 standing m t =
     if is_some (shape_fault t) then None else

@@ -15,18 +15,18 @@ pub trait Archive {
     // The checkpoints, in order.
     ghost kept: { Self → List Checkpoint };
 
-    // The transaction of a digest, none where it is not there.
+    // The transaction of a digest, none if it is not there.
     ghost known: { Self → Digest → Option Transaction };
 
     /// How many checkpoints there are.
     fn checkpoints(&self) -> u64
         ensures { result ≡ length (kept self.now) };
 
-    /// The checkpoint at this place, counted from 0; none exactly where there is none.
+    /// The checkpoint at this place, counted from 0; none exactly if there is none.
     fn checkpoint(&self, place: u64) -> Option<&Checkpoint>
         ensures { option_map (λ (c : _). c.now) result ≡ slice_get (kept self.now) place };
 
-    /// The transaction of this digest, which can be spelled; none exactly where it is not there.
+    /// The transaction of this digest, which can be encoded; none exactly if it is not there.
     fn transaction(&self, tx: &Digest) -> Option<&Transaction>
         ensures short { IfSome result (λ t. transaction.short t.now) }
         ensures value { option_map (λ (t : _). t.now) result ≡ known self.now tx.now };

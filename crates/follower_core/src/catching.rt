@@ -16,10 +16,10 @@ use std::alloc::Global;
 use wire_bcs::{Duplicate, OutOfMemory, Seq};
 
 /// Why a follower that takes checkpoints in order comes no further. Checkpoints go by their numbers; places are those of
-/// a checkpoint's transactions, counted from 0, and the first bad place is told.
+/// a checkpoint's transactions, counted from 0, and the first bad place is reported.
 #[derive(Clone, Copy, Debug, PartialEq, Eq)]
 pub enum CatchUpRefusal {
-    /// The transaction is not known, or cannot be executed behind those before it.
+    /// The transaction is not known, or cannot be executed after those before it.
     Stuck { number: u64, place: u64 },
     /// What the transaction did is not what is listed.
     Differs { number: u64, place: u64 },
@@ -55,7 +55,7 @@ impl From<OutOfMemory> for Unfound {
     }
 }
 
-/// The transaction of a digest, copied; none where it is not known.
+/// The transaction of a digest, copied; none if it is not known.
 fn copy_of<A: Archive>(archive: &A, tx: &Digest) -> Result<Option<Transaction>, OutOfMemory>
     ensures short { IfOk result (λ found. IfSome found transaction.short) }
     ensures value { IfOk result (λ found. found ≡ A.known archive.now tx.now) }
@@ -92,7 +92,7 @@ fn find_all<A: Archive>(
     Ok(txs)
 }
 
-/// What is told of a checkpoint of this number that a follower refused.
+/// What is said of a checkpoint of this number that a follower refused.
 fn refusal_as(number: u64, refusal: &FollowRefusal) -> CatchUpRefusal
     ensures { result ≡ refusal_as number refusal.now }
 {
@@ -147,7 +147,7 @@ fn take<A: Archive>(
     }
 }
 
-/// Hands the checkpoint at a place to a follower, where it is of an epoch before this one.
+/// Hands the checkpoint at a place to a follower, if it is of an epoch before this one.
 fn take_at<A: Archive>(
     alloc: Global,
     archive: &A,
@@ -170,7 +170,7 @@ fn take_at<A: Archive>(
     }
 }
 
-/// The follower of a chain that begins with these objects, behind all checkpoints of the archive of the epochs before
+/// The follower of a chain that begins with these objects, after all checkpoints of the archive of the epochs before
 /// this one, taken in order; or why the first that it does not apply is refused. Time grows with what they hold.
 #[tactic(auto, using(crate::proofs::Caught::begins, crate::proofs::Caught::passes, crate::proofs::Caught::caught_whole, crate::proofs::Caught::caught_count, crate::proofs::Caught::caught_refused))]
 pub fn catch_up<A: Archive>(

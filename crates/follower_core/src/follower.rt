@@ -59,7 +59,7 @@ fn is_memory(refusal: &FollowRefusal) -> bool
     }
 }
 
-/// Settles what stands now, and begins a new epoch behind a last checkpoint.
+/// Settles what stands now, and begins a new epoch after a last checkpoint.
 fn settle(ledger: &mut Ledger, last: bool) -> Result<(), OutOfMemory>
     ensures kept { OnOk result (ledger.new.kept ≡ (if last then turned ledger.old.present else ledger.old.present)) }
     ensures present { OnOk result (ledger.new.present ≡ (if last then turned ledger.old.present else ledger.old.present)) }
@@ -119,10 +119,10 @@ impl Follower {
 
     /// Applies the next checkpoint with its transactions, and answers how many checkpoints were applied.
     ///
-    /// Refusals in order: `Down` where memory was refused at an earlier checkpoint; `Link`; `Epoch`; `Count`; then at the
-    /// first bad place `WrongTx`, `Stuck` or `Differs`; last, `OutOfMemory`. A transaction is stuck where its shape is not
+    /// Refusals in order: `Down` if memory was refused at an earlier checkpoint; `Link`; `Epoch`; `Count`; then at the
+    /// first bad place `WrongTx`, `Stuck` or `Differs`; last, `OutOfMemory`. A transaction is stuck if its shape is not
     /// valid, an object that it names is not live or does not fit, a transaction of its digest was applied before in this
-    /// epoch, it writes one id twice, or it creates an object whose id has a version in this epoch. Behind `OutOfMemory`
+    /// epoch, it writes one id twice, or it creates an object whose id has a version in this epoch. After `OutOfMemory`
     /// the follower is down; any other refusal changes nothing. Time grows with what the checkpoint holds. Fewer than
     /// 2^64 - 1 checkpoints were applied, and the lists are at most 2147483647 long.
     pub fn apply(

@@ -6,7 +6,7 @@ ghost use Rattle.effects_core.specs.Effects.{digest_of_effects};
 ghost use Rattle.follower_core.specs.Followed.{Handed, followed, followed_effects, told_effects};
 ghost use Rattle.follower_core.specs.Following.{AreApplied, behind_handed, opened};
 
-/// Behind any list of applied checkpoints a follower has the objects that the sequential execution leaves of all their
+/// After any list of applied checkpoints a follower has the objects that the sequential execution leaves of all their
 /// transactions, whichever epochs they are of, and each item's effects digest is that of the sequential execution.
 pub fn applied_is_followed()
     ensures objects { (opening : List Object) (handed : List Handed) → AreApplied (opened opening) handed → (behind_handed (opened opening) handed).course.map ≡ followed opening handed }

@@ -57,7 +57,7 @@ impl Model for Ledger {
     ghost invariant = { λ l. (l.ran_kept ≤ length l.ran.keys) × (l.gone_kept ≤ length l.gone.keys) };
 }
 
-/// What stands under an id: the change, where there is one, and else the object.
+/// What stands under an id: the change, if there is one, and else the object.
 fn overlaid<'a>(
     changes: &'a IndexMap<ObjectId, Option<Object>>,
     objects: &'a IndexMap<ObjectId, Object>,
@@ -151,7 +151,7 @@ impl Ledger {
         }
     }
 
-    /// The object under an id; none exactly where there is none. Takes no memory.
+    /// The object under an id; none exactly if there is none. Takes no memory.
     #[tactic(auto, using(crate::proofs::Ledgers::got))]
     pub(crate) fn get(&self, id: &ObjectId) -> Option<&Object>
         ensures { option_copied result ≡ get self.now.present.map id.now }

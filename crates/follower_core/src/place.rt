@@ -55,7 +55,7 @@ fn write(ledger: &mut Ledger, tx: &Digest, executed: &Executed) -> Result<(), Ou
 }
 
 /// Whether the digest of the effects is the wanted one. A list of 2^31 objects, more than a transaction can write, counts
-/// as want of memory.
+/// as running out of memory.
 fn check_effects(
     alloc: Global,
     place: u64,
@@ -78,7 +78,7 @@ fn check_effects(
     Ok(())
 }
 
-/// Executes a transaction and compares it with the item, or tells why it does not stand at this place.
+/// Executes a transaction and compares it with the item, or says why it does not stand at this place.
 #[tactic(auto, using(crate::proofs::Places::wrong_tx, crate::proofs::Places::stuck, crate::proofs::Places::last_is, crate::proofs::Places::is_new, crate::proofs::Places::leads))]
 fn apply_one(
     alloc: Global,

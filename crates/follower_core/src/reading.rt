@@ -11,7 +11,7 @@ use chain_types::{Input, Object, ObjectId, Transaction};
 use std::alloc::Global;
 use wire_bcs::{OutOfMemory, Seq};
 
-/// The object under an id, where it has this version.
+/// The object under an id, if it has this version.
 fn versioned<'a>(ledger: &'a Ledger, id: &ObjectId, version: u64) -> Option<&'a Object>
     ensures { option_copied result ≡ at_version version (get ledger.now.present.map id.now) }
 {
@@ -49,7 +49,7 @@ fn is_object(input: &Input) -> bool
     }
 }
 
-/// The gas coin and the objects that the inputs name, none where one of them is missing.
+/// The gas coin and the objects that the inputs name, none if one of them is missing.
 fn read_inputs(
     alloc: Global,
     ledger: &Ledger,
@@ -73,7 +73,7 @@ fn read_inputs(
     Ok(Some(objects))
 }
 
-/// The objects that a transaction names, in order; none where one of them is not live, or not of the named version.
+/// The objects that a transaction names, in order; none if one of them is not live, or not of the named version.
 #[tactic(auto, using(crate::proofs::Inputs::read_all, crate::proofs::Inputs::read_none))]
 pub(crate) fn read(
     alloc: Global,

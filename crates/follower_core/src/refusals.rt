@@ -8,7 +8,7 @@ use digest_core::Digest;
 use wire_bcs::OutOfMemory;
 
 /// Why a checkpoint is not applied, in the order in which the cases are tried. Places are those of its transactions,
-/// counted from 0, and the first bad place is told.
+/// counted from 0, and the first bad place is reported.
 #[derive(Clone, Copy, Debug, PartialEq, Eq)]
 pub enum FollowRefusal {
     /// Memory was refused at an earlier checkpoint.
@@ -29,7 +29,7 @@ pub enum FollowRefusal {
     WrongTx {
         place: u64,
     },
-    /// The transaction cannot be executed behind those before it.
+    /// The transaction cannot be executed after those before it.
     Stuck {
         place: u64,
     },

@@ -1,4 +1,4 @@
-//! Whether a transaction can stand behind others, and what it gives.
+//! Whether a transaction can stand after others, and what it gives.
 
 ghost use Rattle.std.specs.Prelude.{◌≡◌, ◌++◌, ◌||◌, ◌∷◌, [], IfOk, None, OnOk, Some, false, is_some, map};
 ghost use Rattle.std.specs.List.{list_any};
@@ -35,7 +35,7 @@ fn has_fault(alloc: Global, tx: &Transaction) -> Result<bool, OutOfMemory>
     }
 }
 
-/// What the sequential execution gives for a transaction of valid shape, none where it has no effects.
+/// What the sequential execution gives for a transaction of valid shape, none if it has no effects.
 #[tactic(auto, unfolding(crate::specs::Courses::given))]
 fn given(
     alloc: Global,
@@ -173,7 +173,7 @@ fn is_bad(
     Ok(creates_any(ledger, &named, executed.objects.as_slice()))
 }
 
-/// What a transaction of valid shape gives, none where it gives nothing or what it gives is bad.
+/// What a transaction of valid shape gives, none if it gives nothing or what it gives is bad.
 fn good_given(
     alloc: Global,
     ledger: &Ledger,
@@ -196,7 +196,7 @@ fn good_given(
     }
 }
 
-/// What a transaction gives behind those before it, none where it is stuck.
+/// What a transaction gives after those before it, none if it is stuck.
 #[tactic(auto, unfolding(crate::specs::Steps::standing), using(crate::proofs::Ids::no_fault))]
 pub(crate) fn standing(
     alloc: Global,

@@ -66,7 +66,7 @@ pub(crate) fn check(
     Ok(())
 }
 
-/// The epoch behind a checkpoint.
+/// The epoch after a checkpoint.
 fn epoch_behind(epoch: u64, last: bool) -> u64
     requires { epoch < 2 ^ 64 - 1 }
     ensures { result ≡ (if last then epoch + 1 else epoch) }
@@ -74,7 +74,7 @@ fn epoch_behind(epoch: u64, last: bool) -> u64
     if last { epoch + 1 } else { epoch }
 }
 
-/// What a follower goes on from behind a checkpoint.
+/// What a follower goes on from after a checkpoint.
 pub(crate) fn tip_behind(
     alloc: Global,
     tip: &Tip,

@@ -1,4 +1,4 @@
--- What a member has executed it has admitted, where it closed and all that it holds is in the sequence: along its
+-- What a member has executed it has admitted, if it closed and all that it holds is in the sequence: along its
 -- executions each one's origins are admitted, so it does not wait; and without shared inputs it is not dropped.
 use Rattle.std.proofs.Common.{inl, inr, refl, sym, subst, ap, arith}
 use Rattle.std.specs.Prelude.{◌≡◌, ◌⊎◌, ℕ, Bool, true, false, not, ◌||◌, List, [], ◌∷◌, ◌++◌, filter_map, find, length, map, slice_get, zip, Option, Some, None}
@@ -47,7 +47,7 @@ use Rattle.headline_law.proofs.Waiting.{IsIdle, nothing-free}
 
 -- ---- lists
 
--- where nothing is found no element passes
+-- if nothing is found no element passes
 not-found : {A : Type 0} (test : A → Bool) (xs : List A) (x : A) → find test xs ≡ None → Has xs x → test x ≡ false
 not-found test [] x e h = absurd h
 not-found {A = A} test (y ∷ ys) x e (inl same) = subst (λ (z : A). test z ≡ false) same (none-found test y ys e).0
@@ -79,7 +79,7 @@ no-mutable (inputs.Shared id initial mutable ∷ is) e = absurd (cc)
 free-without : (writers : Option ℕ) (a : Admission) (h : Held) → has_shared_input h.cert.tx ≡ false → ((d : Option Digest) → Has h.cert.origins d → is_origin_admitted a d ≡ true) → is_free writers a h ≡ true
 free-without writers a h none each = rw (has-all (is_origin_admitted a) h.cert.origins each, no-mutable h.cert.tx.inputs none) refl
 
--- ---- an origin that a certificate names was executed, where its object was present
+-- ---- an origin that a certificate names was executed, if its object was present
 
 module _ (m : Member) (before : List Execution) (h : Held) (objects : List Object) (there : present (books m) before h ≡ Some objects) where
   was-found : (i : Input) (d : Option Digest) → Has (joined_inputs h.cert) (i, d) → (o : Object) × (found (versions m.opening before) (wanted_by (assigned_of m.sequence.admission h.digest) (i, d)) ≡ Some o)

@@ -19,7 +19,7 @@ use Rattle.safety_law.proofs.Once.{has-push}
 
 -- ---- lists
 
--- where an element stands in a list with one more: it is that one, or it stood there before
+-- if an element stands in a list with one more: it is that one, or it stood there before
 pub push-split : {A : Type 0} (xs : List A) (x : A) (front : List A) (y : A) (rest : List A) → xs ++ x ∷ [] ≡ front ++ (y ∷ rest) → ((front ≡ xs) × (x ≡ y)) ⊎ ((more : List A) × (xs ≡ front ++ (y ∷ more)))
 push-split {A = A} [] x [] y rest e = inl (refl, head e)
   where
@@ -144,7 +144,7 @@ after-past r m (record_as.Ran2 items) = front_whole m.past
 abbrev pub PastIsBefore : Member → Type 0
 PastIsBefore m = (c : Checkpoint) → Has m.past c → c.epoch < m.epoch
 
--- behind a turn, those of the epoch that the member left are what it had built there
+-- after a turn, those of the epoch that the member left are what it had built there
 abbrev pub IsBeyond : Member → Member → Type 0
 IsBeyond p m = (p.epoch < m.epoch) × ((c : Checkpoint) → Has m.past c → c.epoch ≡ p.epoch → Has (built p) c)
 

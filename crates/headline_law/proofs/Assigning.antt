@@ -20,7 +20,7 @@ use Rattle.headline_law.proofs.Rising.{writes-it, rising}
 use Rattle.block_law.proofs.Written.{chosen-from}
 
 module _ (opening : List Object) where
-  -- what is assigned is the current version, of an input that may write it where the assignment says so
+  -- what is assigned is the current version, of an input that may write it if the assignment says so
   record IsCurrent (before : List Admitted) (a : Admitted) (u : Assigned) : Type 0 where
     version_is : u.version ≡ (current opening before a.cert u.id).0
     written : u.mutable ≡ true → writes u.id a ≡ true
@@ -44,7 +44,7 @@ module _ (opening : List Object) where
       let i = chosen-from (assignment opening before a.cert) (objects_of a.cert.tx) u (subst (λ (us : List Assigned). Has us u) (ap (λ (x : Admitted). x.assigned) next.versions) h) in
       is-current before a u i.0 i.1 i.2
 
-  -- ---- one behind those in order
+  -- ---- one after those in order
 
   assigned-above : (before : List Admitted) (b : Admitted) → Along (IsInOrder opening) [] before → IsInOrder opening before b → IsAssignedAbove before b
   assigned-above before b along next a h u v one two same mutable =

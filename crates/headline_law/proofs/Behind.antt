@@ -1,4 +1,4 @@
--- The state behind a member's run is one of a run of the world: it starts again, and runs. Neither line delivers anything.
+-- The state after a member's run is one of a run of the world: it starts again, and runs. Neither line delivers anything.
 use Rattle.std.proofs.Common.{refl, sym, subst, ap, ◌∙◌, append_assoc, append-nil}
 use Rattle.std.specs.Prelude.{◌≡◌, ℕ, true, List, [], ◌∷◌, ◌++◌, map, slice_get, Option, Some, None, Ok}
 use Rattle.chain_types.specs.declared.transactions.Transaction.{Transaction}
@@ -16,8 +16,8 @@ use Rattle.protocol_spec.specs.Member.Rounds.{rounds}
 use Rattle.protocol_spec.specs.Member.Member.{Member, books, after, state}
 use Rattle.protocol_spec.specs.Member.Calls.{runs, run_answer, ran_item, ran_items, ran_record, run_record, due}
 use Rattle.world_spec.specs.Setting.{Setting}
-use Rattle.world_spec.specs.World.{Seat, Made, Formed, World, new_world, member_in, Reached, finds_down, stops, answers, reached_seat, behind, appended, called_seat, called_in}
-use Rattle.world_spec.specs.Step.{started_seat, on_seat, happens}
+use Rattle.world_spec.specs.World.{Seat, Made, Formed, World, new_world, member_in, Reached, finds_down, stops, answers, reached_seat, behind, appended, called_seat, called_over, started_seat}
+use Rattle.world_spec.specs.Step.{on_seat, happens, happens_over}
 use Rattle.world_spec.specs.Run.{run, world_after}
 use Rattle.world_spec.specs.Assumptions.{asked, delivered, delivered_ends, all_of, all_formed, all_delivered, all_transactions, NoForgery, IsHonestRun}
 use Rattle.safety_law.proofs.Apart.{state-push}
@@ -42,7 +42,7 @@ module _ (s : Setting) (n : ℕ) where
   KeepsMade w v = (v.txs ≡ w.txs) × (v.certs ≡ w.certs)
 
   restart-keeps : (w : World) → KeepsMade w (happens s w (event.Restart n))
-  unfolding happens
+  unfolding happens_over
   restart-keeps w = go (slice_get w.seats n)
     where
       go : (o : Option Seat) → KeepsMade w (on_seat w n started_seat o)
@@ -50,7 +50,7 @@ module _ (s : Setting) (n : ℕ) where
       go (Some seat) = (refl, refl)
 
   run-keeps : (w : World) → KeepsMade w (happens s w (event.Run n 1))
-  unfolding happens called_in
+  unfolding happens_over called_over
   run-keeps w = go (slice_get w.seats n)
     where
       reach : (seat : Seat) (r : Reached) → KeepsMade w (behind s w n runs seat r)
@@ -103,7 +103,7 @@ module _ (s : Setting) (n : ℕ) where
     };
   }
 
-  -- ---- the member behind it
+  -- ---- the member after it
 
   -- it holds and admitted the same, and executed the rounds besides
   pub record IsBehind (m : Member) (new : Member) : Type 0 where
@@ -123,14 +123,14 @@ module _ (s : Setting) (n : ℕ) where
   ran_seat seat = record seat { up = true; armed = None; records = appended seat.records (due s.rules (member_in s seat) runs) }
 
   restarted : (w : World) (seat : Seat) → slice_get w.seats n ≡ Some seat → slice_get (happens s w (event.Restart n)).seats n ≡ Some (started_seat seat)
-  unfolding happens
+  unfolding happens_over
   restarted w seat e = subst (λ (o : Option Seat). slice_get (on_seat w n started_seat o).seats n ≡ Some (started_seat seat)) (sym e) (set_get w.seats n seat (started_seat seat) e)
 
   has-run : (w : World) (seat : Seat) → slice_get w.seats n ≡ Some (started_seat seat) → slice_get (happens s w (event.Run n 1)).seats n ≡ Some (ran_seat seat)
-  unfolding happens called_in
+  unfolding happens_over called_over
   has-run w seat e = subst (λ (o : Option Seat). slice_get (called_seat s w n runs o).seats n ≡ Some (ran_seat seat)) (sym e) (set_get w.seats n (started_seat seat) (ran_seat seat) e)
 
-  -- a member whose run answers is behind it in a longer run
+  -- a member whose run answers stands after it in a longer run
   pub record IsRunOn (events : List Event) (m : Member) : Type 0 where
     pub honest : IsHonestRun s (events ++ start_and_run)
     pub new : Seat

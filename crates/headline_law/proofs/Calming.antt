@@ -1,5 +1,5 @@
 -- What a member answers that holds no two certificates that consume one version: it is not halted, and it meets a fork
--- only where the call leaves two such certificates with it.
+-- only if the call leaves two such certificates with it.
 use Rattle.std.proofs.Common.{inl, inr, refl, sym, subst}
 use Rattle.std.specs.Prelude.{◌≡◌, ◌⊎◌, ℕ, Bool, true, false, cond, not, ◌==◌, nat_le, List, [], ◌∷◌, ◌++◌, map, Option, Some, None, option_map, is_some, Result, Ok, Err}
 use Rattle.wire_bcs.specs.declared.fault.WireFault.{WireFault}
@@ -160,7 +160,7 @@ module _ (s : Setting) (w : World) where
   pub checkpoints-calm : (cs : List Checkpoint) → Each IsCalmLine (checkpoint_lines w cs)
   checkpoints-calm cs = calm-mapped (checkpoint_line w) cs (λ c. refl)
 
-  -- the entry is taken, and behind it the member holds two certificates that consume one version
+  -- the entry is taken, and after it the member holds two certificates that consume one version
   pub record SeesFork (m : Member) (number : ℕ) (bytes : List ℕ) : Type 0 where
     pub taken : first_some (see_cases m number) ≡ None
     pub fork : Fork
@@ -183,7 +183,7 @@ module _ (s : Setting) (w : World) where
   what-calm (seen_as.Ended m weight) = refl
   what-calm (seen_as.Ignored cause) = ignored-calm cause
 
-  -- what keeps the member from the entry, where it is halted as said, full, past the end, or at another number
+  -- what keeps the member from the entry: it is halted as said, full, past the end, or at another number
   abbrev see_causes : Member → ℕ → Option Fork → Bool → Bool → Bool → List (Option SeeRefusal)
   see_causes m number f over ended gap = option_map (λ (f : Fork). no_see.Halted f.first f.second) f ∷ where_true over no_see.Full ∷ where_true ended no_see.Over ∷ where_true gap (no_see.Gap number m.sequence.number) ∷ []
 

@@ -1,4 +1,4 @@
--- Each vote in a journal was cast behind some front of the run.
+-- Each vote in a journal was cast after some prefix of the run.
 use Rattle.std.proofs.Common.{inl, inr, sym, subst, ap, ◌∙◌, append_assoc, append-nil}
 use Rattle.std.proofs.lemmas.Bool.{eqb-true}
 use Rattle.std.specs.Prelude.{◌≡◌, ◌⊎◌, ℕ, zero, suc, min, true, not, ◌==◌, List, [], ◌∷◌, ◌++◌, slice_get, Option, Some, None, option_map, option_and_then, Result, Ok, Err}
@@ -25,7 +25,7 @@ use Rattle.protocol_spec.specs.Member.Calls.{Call, votes, new_vote_cases, voted_
 use Rattle.world_spec.specs.Setting.{Setting}
 use Rattle.world_spec.specs.World.{Seat, Made, World, new_world, member_in, called_if, state_of, next_call_of, next_call, next_entry, numbered_call, member_at}
 use Rattle.world_spec.specs.Names.{made_named, cert_named}
-use Rattle.world_spec.specs.Step.{happens, entries_left, voted_on}
+use Rattle.world_spec.specs.Step.{happens, entries_left, voted_on, happens_over}
 use Rattle.world_spec.specs.Run.{world_after}
 use Rattle.world_spec.specs.Assumptions.{send_call, call_list, see_calls, ack_call, calls_of, signed_read}
 use Rattle.safety_law.proofs.InWorld.{each-any, kept-line, new-seats}
@@ -72,7 +72,7 @@ module _ (r : Rules) (m : Member) (tx : Transaction) (origins : List (Option Dig
   unfolding due vote_answer
   due-names bytes e = read-names (read_signed bytes) (vote_stopped m) e
 
--- ---- the calls of a line that is no vote
+-- ---- the calls of a line that is not a vote
 
 abbrev NoVote : Call → Type 0
 NoVote call = appended_by call ≡ Some a_vote → ⊥
@@ -158,11 +158,11 @@ module _ (s : Setting) where
     called-line m (Some t) all = one-call s (CastIn front) w (votes (transactions.signed.spell t.signed)) (vote-kept front (transactions.signed.spell t.signed)) m all
 
     vote-line : (m : ℕ) (tx : List ℕ) → AllCast front w.seats → AllCast front (happens s w (event.Vote m tx)).seats
-    unfolding happens
+    unfolding happens_over
     vote-line m tx all = called-line m (made_named w tx) all
 
     raw-line : (m : ℕ) (bytes : List ℕ) → AllCast front w.seats → AllCast front (happens s w (event.RawVote m bytes)).seats
-    unfolding happens
+    unfolding happens_over
     raw-line m bytes all = one-call s (CastIn front) w (votes bytes) (vote-kept front bytes) m all
 
     line-cast : (e : Event) → AllCast front w.seats → AllCast front (happens s w e).seats

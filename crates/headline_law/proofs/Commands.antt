@@ -1,4 +1,4 @@
--- Behind every command all that a block holds are amounts, where it opened so.
+-- After every command all that a block holds are amounts, if it opened so.
 use Rattle.std.proofs.Common.{refl, ap, sym, subst, ◌∙◌, arith}
 use Rattle.std.proofs.lemmas.Bool.{leb-false, ltb-false}
 use Rattle.std.specs.Prelude.{◌≡◌, ◌≤◌, ◌<◌, ◌+◌, ◌-◌, ℕ, suc, Bool, true, false, cond, nat_lt, nat_le, List, [], ◌∷◌, ◌++◌, map, sum, length, option_map, Option, Some, None, Result, Ok, Err}
@@ -136,7 +136,7 @@ module _ (all : Bool) where
     low-as : (after : Block) → after.placed ≡ b.placed → Every Lying after.slots → IsLow after
     low-as after same slots = record { slots = slots; placed = subst (Each (LowPlaced all)) (sym same) it.placed }
 
-    -- Merge refuses a sum that is no amount
+    -- Merge refuses a sum that is not an amount
     merge-low : (target : Argument) (sources : List Argument) (o : Option Item) (after : Block) → merge t b target o sources ≡ Ok after → IsLow after
     merge-low target sources None after e = absurd (cc)
     merge-low target sources (Some i) after e = subst IsLow merged.1 (low-as (merge_block b target i sources) (spend-placed sources b)

@@ -1,4 +1,4 @@
--- What is ready before a run, or behind some of its rounds, is executed by it, if nothing keeps it out of its round.
+-- What is ready before a run, or after some of its rounds, is executed by it, if nothing keeps it out of its round.
 use Rattle.std.proofs.Common.{inl, inr, refl, sym, subst, ap, append_assoc, append-nil, ◌∙◌}
 use Rattle.std.specs.Prelude.{◌≡◌, ◌⊎◌, ℕ, zero, suc, Bool, true, false, cond, nat_le, List, [], ◌∷◌, ◌++◌, length, Option, Some, None, option_map, Ok}
 use Rattle.answer_types.specs.declared.answers.Held.{Held}
@@ -38,7 +38,7 @@ module _ (b : Books) (executed : List Execution) where
           ap (round_among b executed []) split ∙ (among-append front (h ∷ back) [] ∙ ap (λ (o : Option Execution). round_among b executed (round_add round o) back) e) in
           placed front back split (clashes round x) refl (λ k. subst (λ (r : List Execution). Has r x) (sym whole) (among-more b executed back (round_add round (Some x)) x k))
 
-  -- where nothing is ready the round is empty
+  -- if nothing is ready the round is empty
   among-empty : (hs : List Held) → ((h : Held) → Has hs h → ready b executed h ≡ None) → round_among b executed [] hs ≡ []
   among-empty [] none = refl
   among-empty (h ∷ hs) none = ap (λ (o : Option Execution). round_among b executed (round_add [] o) hs) (none h (inl refl)) ∙ among-empty hs (λ k there. none k (inr there))
@@ -61,7 +61,7 @@ module _ (b : Books) where
       ap (λ (r : List Execution). r ++ rounds_within n b (executed ++ r)) none
       ∙ (ap (rounds_within n b) (append-nil executed) ∙ rounds-empty n executed none)
 
-  -- so many rounds, and more behind them
+  -- so many rounds, and more after them
   rounds-append : (n k : ℕ) (executed : List Execution) → rounds_within (beyond n k) b executed ≡ rounds_within n b executed ++ rounds_within k b (executed ++ rounds_within n b executed)
   rounds-append zero k executed = ap (rounds_within k b) (sym (append-nil executed))
   rounds-append (suc n) k executed =
@@ -82,7 +82,7 @@ more-or-less (suc n) (suc limit) = go (more-or-less n limit)
     go (inl (k, e)) = inl (k, ap suc e)
     go (inr (k, e)) = inr (k, ap suc e)
 
--- where something is ready behind so many rounds, the round behind these is one of the run's
+-- if something is ready after so many rounds, the round after these is one of the run's
 pub is-one-round : (b : Books) (executed : List Execution) (n : ℕ) (h : Held) (x : Execution) → Has b.held h → ready b (executed ++ rounds_within n b executed) h ≡ Some x
     → (more : List Execution) × (rounds b executed ≡ rounds_within n b executed ++ (round_of b (executed ++ rounds_within n b executed) ++ more))
 unfolding rounds
@@ -91,7 +91,7 @@ is-one-round b executed n h x held e = go (more-or-less n (length b.held))
     behind : List Execution
     behind = executed ++ rounds_within n b executed
 
-    -- behind the run's last round nothing is ready
+    -- after the run's last round nothing is ready
     none : (k : ℕ) → n ≡ beyond (length b.held) k → ready b behind h ≡ None
     none k q =
         let all : List Execution = rounds_within (length b.held) b executed in

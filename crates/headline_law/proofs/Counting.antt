@@ -163,7 +163,7 @@ module _ (s : Setting) where
       (λ records call x k d all. subst (HasGiven s.rules total) (sym (state-push s.rules s.opening records x)) (after-given s.rules total (state s.rules s.opening records) call x k d all))
       (none-given s.rules total s.opening) events (brings-run total events (new_world s) (λ x h. h)) m seat at
 
-  -- where it was delivered it was unforged, and the world grew on
+  -- if it was delivered it was unforged, and the world grew on
   unforged-at : (x : Sealed) (events : List Event) (w : World) → NoForgery s events w → Has (all_of delivered_ends s events w) x → (v : World) × IsUnforgedEnd s v x × IsGrown v (run s events w)
   unforged-at x [] w none h = absurd h
   unforged-at x (e ∷ events) w none h = go (has_parts (delivered_ends s w e) (all_of delivered_ends s events (happens s w e)) x h) (unforged-at x events (happens s w e) none.2)

@@ -20,7 +20,7 @@ use Rattle.headline_law.proofs.Ready.{due-idle, due-may, due-have}
 use Rattle.headline_law.proofs.Keys.{present-is-ready, nothing-clashes}
 use Rattle.headline_law.proofs.Rounds.{IsReadyOn, ready-says, round-takes}
 
--- nothing is left where nothing is due
+-- nothing is left if nothing is due
 pub none-left : (b : Books) (executed : List Execution) → ((h : Held) → Has b.held h → is_due b executed h ≡ true → ⊥) → left b executed ≡ []
 unfolding left
 none-left b executed none = ap (map (left_as b executed)) (none-due b.held (λ h there. there))
@@ -46,7 +46,7 @@ module _ (s : Setting) (events : List Event) (honest : IsHonestRun s events) (di
         ready_is = present-is-ready s events honest distinct n seat at h have.0 (record { is_held = held; may = due-may (books m) m.executed h due; there = have.1 }) (due-idle (books m) m.executed h due);
       }
 
-  -- nothing is due where nothing is ready
+  -- nothing is due if nothing is ready
   pub none-due : IsRunOut (books m) m.executed → (h : Held) → Has m.held h → is_due (books m) m.executed h ≡ true → ⊥
   none-due out h held due =
       let is = (due-is-ready h held due).ready_is in

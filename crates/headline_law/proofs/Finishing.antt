@@ -1,4 +1,4 @@
--- A run executes all that was admitted, one behind the other: each waits for admitted ones before it. So it builds the
+-- A run executes all that was admitted, one after the other: each waits for admitted ones before it. So it builds the
 -- checkpoint of each cut.
 use Rattle.std.proofs.Common.{inl, inr, refl, sym, subst, ◌∙◌, append_assoc, append-nil}
 use Rattle.std.specs.Prelude.{◌≡◌, ◌⊎◌, ℕ, Bool, true, false, not, List, [], ◌∷◌, ◌++◌, map, flat_map, slice_get, Option, Some, None, option_map, Ok, nat_le, Err}
@@ -214,7 +214,7 @@ module _ (s : Setting) (events : List Event) (honest : IsHonestRun s events) (di
       let front = all-cut s events n seat at in
       admitted-done a (subst (λ (zs : List Admitted). Has zs a) (sym front.1) (has_left (flat_map admitted_in m.sequence.cuts) front.0 a (flat_has admitted_in m.sequence.cuts c a h k)))))
 
-  -- behind the run no admitted certificate keeps the member in its epoch
+  -- after the run no admitted certificate keeps the member in its epoch
   none-waits : (txs : List Admitted) → ((a : Admitted) → Has txs a → Has admitted a) → first_of (not_done (with_rounds m)) txs ≡ None
   none-waits [] inside = refl
   none-waits (a ∷ txs) inside = rw (admitted-done a (inside a (inl refl)), none-waits txs (λ b h. inside b (inr h))) refl

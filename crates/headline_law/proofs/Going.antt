@@ -1,4 +1,4 @@
--- What a `run` line executes: all that is ready, where its member can run.
+-- What a `run` line executes: all that is ready, if its member can run.
 use Rattle.std.proofs.Common.{inl, inr, refl, sym, subst, ap, append-nil, ◌∙◌}
 use Rattle.std.specs.Prelude.{◌≡◌, ◌⊎◌, ℕ, Bool, true, false, cond, List, [], ◌∷◌, ◌++◌, map, slice_get, Option, Some, None, Ok}
 use Rattle.journal_core.specs.declared.records.Record.{Record}
@@ -14,9 +14,9 @@ use Rattle.protocol_spec.specs.Member.Rounds.{rounds}
 use Rattle.protocol_spec.specs.Member.Member.{Member, after, books}
 use Rattle.protocol_spec.specs.Member.Calls.{due, ran_item, ran_record, run_answer, run_record, runs}
 use Rattle.world_spec.specs.Setting.{Setting}
-use Rattle.world_spec.specs.World.{Seat, World, answers, appended, behind, called_in, called_seat, finds_down, member_in, reached, reached_at, reached_seat, reached_up}
-use Rattle.world_spec.specs.Step.{happens}
-use Rattle.world_spec.specs.Report.{checkpoint_lines, effects_line, left_line, lines_of, run_answered, run_reached}
+use Rattle.world_spec.specs.World.{Seat, World, answers, appended, behind, called_over, called_seat, finds_down, member_in, reached_over, reached_at, reached_seat, reached_up}
+use Rattle.world_spec.specs.Step.{happens, happens_over}
+use Rattle.world_spec.specs.Report.{checkpoint_lines, effects_line, left_line, lines_of, run_answered, run_reached, lines_over}
 use Rattle.world_spec.specs.Run.{world_after}
 use Rattle.safety_law.proofs.Apart.{state-push}
 use Rattle.safety_law.proofs.Grown.{world-append}
@@ -25,7 +25,7 @@ use Rattle.headline_law.proofs.Completing.{runs-complete}
 use Rattle.headline_law.specs.Executing.{CanRun, LineExecutes, ReadyIsExecuted}
 
 module _ (s : Setting) (seat : Seat) where
-  -- what a run leaves in the records, where so much was executed
+  -- what a run leaves in the records, if so much was executed
   run-due : (ran : Ran) → run_answer s.rules (member_in s seat) ≡ Ok ran → due s.rules (member_in s seat) runs ≡ ran_record (map ran_item (rounds (books (member_in s seat)) (member_in s seat).executed))
   unfolding due
   run-due ran e = ap (run_record (member_in s seat)) e
@@ -33,7 +33,7 @@ module _ (s : Setting) (seat : Seat) where
   abbrev left-behind : Option Record → Seat
   left-behind x = record seat { records = appended seat.records x }
 
-  -- behind it all rounds are executed
+  -- after it all rounds are executed
   ran-executed : (executed : List Execution) → rounds (books (member_in s seat)) (member_in s seat).executed ≡ executed
       → (member_in s (left-behind (ran_record (map ran_item executed)))).executed ≡ (member_in s seat).executed ++ executed
   unfolding after
@@ -60,9 +60,9 @@ module _ (s : Setting) (events : List Event) (m workers : ℕ) (seat : Seat) (at
   abbrev new : Seat
   new = left-behind s seat (ran_record (map ran_item executed))
 
-  -- the world behind the line
+  -- the world after the line
   world-behind : (ran : Ran) → run_answer s.rules (member_in s seat) ≡ Ok ran → happens s w (event.Run m workers) ≡ behind s w m runs seat (answers (member_in s seat) (ran_record (map ran_item executed)))
-  unfolding happens called_in
+  unfolding happens_over called_over
   world-behind ran e =
       ap (called_seat s w m runs) at
       ∙ (ap (behind s w m runs seat) (run-reached s seat can)
@@ -75,7 +75,7 @@ module _ (s : Setting) (events : List Event) (m workers : ℕ) (seat : Seat) (at
 
   -- the lines of the run
   lines-are : (ran : Ran) → run_answer s.rules (member_in s seat) ≡ Ok ran → lines_of s w (event.Run m workers) ≡ run_answered s w m (Ok ran)
-  unfolding lines_of reached
+  unfolding lines_over reached_over
   lines-are ran e =
       ap (λ (o : Option Seat). run_reached s w m (reached_at s runs o)) at
       ∙ (ap (run_reached s w m) (run-reached s seat can) ∙ ap (run_answered s w m) e)

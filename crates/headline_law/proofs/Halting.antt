@@ -1,5 +1,5 @@
 -- A line of the report that says that a member met two certificates that consume one version comes of a member that
--- holds two such, before the line or behind it.
+-- holds two such, before the line or after it.
 use Rattle.std.proofs.Common.{inl, inr, refl, sym, subst, ap, append_assoc, append-nil, ◌∙◌}
 use Rattle.std.specs.Prelude.{◌≡◌, ◌⊎◌, ℕ, zero, suc, min, Bool, true, false, cond, not, ◌==◌, List, [], ◌∷◌, ◌++◌, slice_get, Option, Some, None, option_map, option_and_then, Ok}
 use Rattle.chain_messages.specs.Messages as messages
@@ -22,10 +22,10 @@ use Rattle.protocol_spec.specs.Member.Sequence.{held_as}
 use Rattle.protocol_spec.specs.Member.Member.{Fork, Member, after, fork_in, fork_of, fork_with, live_objects}
 use Rattle.protocol_spec.specs.Member.Calls.{Call, votes, holds, sees, runs, closes, ends, turns, acks, due, full, hold_answer, hold_record, run_answer, see_record}
 use Rattle.world_spec.specs.Setting.{Name, Setting}
-use Rattle.world_spec.specs.World.{Made, Reached, Seat, World, finds_down, stops, answers, behind, called_if, called_in, called_seat, is_honest, member_at, member_in, next_call, next_call_of, next_entry, numbered_call, reached, reached_at, reached_up, sees_on, state_of}
+use Rattle.world_spec.specs.World.{Made, Reached, Seat, World, finds_down, stops, answers, behind, called_if, called_in, called_seat, is_honest, member_at, member_in, next_call, next_call_of, next_entry, numbered_call, reached, reached_at, reached_up, sees_on, state_of, called_over, reached_over, is_seat_up, by_records}
 use Rattle.world_spec.specs.Names.{cert_named, made_named, shown_order}
-use Rattle.world_spec.specs.Step.{entries_left, happens, sent}
-use Rattle.world_spec.specs.Report.{Lines, ack_lines, ack_reached, and_lines, call_lines, cert_lines, close_reached, end_reached, entries_lines, entry_reached, final_lines, fvote_lines, hold_reached, hold_said, is_seat_up, lines_of, none_taken, object_line, run_reached, see_halted, see_up, send_said, show_up, turn_reached, vote_lines, vote_reached, vote_said}
+use Rattle.world_spec.specs.Step.{entries_left, happens, sent, happens_over}
+use Rattle.world_spec.specs.Report.{Lines, ack_lines, ack_reached, and_lines, call_lines, cert_lines, close_reached, end_reached, entries_lines, entry_reached, final_lines, fvote_lines, hold_reached, hold_said, lines_of, none_taken, object_line, run_reached, see_halted, see_up, send_said, show_up, turn_reached, vote_lines, vote_reached, vote_said, lines_over}
 use Rattle.safety_law.proofs.Apart.{state-push}
 use Rattle.headline_law.specs.Alarms.{halts_ack, halts_close, halts_end, halts_send, halts_vote}
 use Rattle.headline_law.proofs.Calming.{IsCalmLine, MeetsFork, SeesFork, ack-calm, calm-mapped, close-calm, end-calm, hold-calm, run-calm, see-calm, turn-calm, vote-calm}
@@ -81,7 +81,7 @@ module _ (s : Setting) where
     behind_is : called_in s w m call ≡ behind s w m call seat (answers before x)
 
   answered : (w : World) (m : ℕ) (call : Call) (before : Member) (x : Option Record) → reached s w m call ≡ answers before x → IsAnswered w m call before x
-  unfolding reached called_in
+  unfolding reached_over called_over
   answered w m call before x e = go (slice_get w.seats m) refl e
     where
       first : (a : Member) (y : Option Record) → answers a y ≡ answers before x → a ≡ before
@@ -137,7 +137,7 @@ module _ (s : Setting) where
   unfolding fork_of after
   held-fork m c f e = fork-last [] m.held (held_as c) f e
 
-  hold-said : (w : World) (m : ℕ) (bytes : List ℕ) → NotForked w m → (halts_send (hold_said s w m bytes) ≡ false) ⊎ IsForked (called_in s w m (holds bytes)) m
+  hold-said : (w : World) (m : ℕ) (bytes : List ℕ) → NotForked w m → (halts_send (hold_said (by_records s) s w m bytes) ≡ false) ⊎ IsForked (called_in s w m (holds bytes)) m
   hold-said w m bytes none = go (reached s w m (holds bytes)) refl
     where
       met : (before : Member) (x : Option Record) → reached s w m (holds bytes) ≡ answers before x → MeetsFork s w before bytes → IsForked (called_in s w m (holds bytes)) m
@@ -161,7 +161,7 @@ module _ (s : Setting) where
   unfolding due
   due-seen w m number bytes it = ap (see_record m number bytes) it.taken
 
-  call-calm : (w : World) (m : ℕ) (call : Option Call) → NotForked w m → Each IsCalmLine (call_lines s w m call).0 ⊎ IsForked (called_if s w m call) m
+  call-calm : (w : World) (m : ℕ) (call : Option Call) → NotForked w m → Each IsCalmLine (call_lines (by_records s) s w m call).0 ⊎ IsForked (called_if s w m call) m
   call-calm w m None none = inl tt
   call-calm w m (Some (votes bytes)) none = inl tt
   call-calm w m (Some (holds bytes)) none = inl tt
@@ -191,7 +191,7 @@ module _ (s : Setting) where
       rest = full no_see.Full m ∷ where_true m.sequence.ended no_see.Over ∷ where_true (not (number == m.sequence.number)) (no_see.Gap number m.sequence.number) ∷ []
 
   stays-forked : (w : World) (m : ℕ) (number : ℕ) (bytes : List ℕ) → IsForked w m → IsForked (called_in s w m (sees number bytes)) m
-  unfolding called_in
+  unfolding called_over
   stays-forked w m number bytes it = subst (λ (o : Option Seat). IsForked (called_seat s w m (sees number bytes) o) m) (sym it.at) (go it.seat.up it.seat.armed (due s.rules (member_in s it.seat) (sees number bytes)) (due-forked (member_in s it.seat) it.fork it.is number bytes))
     where
       same : IsForked (behind s w m (sees number bytes) it.seat (answers (member_in s it.seat) None)) m
@@ -222,20 +222,20 @@ module _ (s : Setting) where
   and-calm (ls, true) rest one two = each_join IsCalmLine ls rest one two
   and-calm (ls, false) rest one two = one
 
-  entries-calm : (n : ℕ) (w : World) (m : ℕ) → NotForked w m → Each IsCalmLine (entries_lines s n w m) ⊎ IsForked (sees_on s n w m) m
+  entries-calm : (n : ℕ) (w : World) (m : ℕ) → NotForked w m → Each IsCalmLine (entries_lines (by_records s) s n w m) ⊎ IsForked (sees_on s n w m) m
   entries-calm zero w m none = inl tt
   entries-calm (suc n) w m none = go (call-calm w m (next_call s w m) none) (forked-or-not next m) (entries-calm n next m)
     where
       next : World
       next = called_if s w m (next_call s w m)
 
-      joined : Each IsCalmLine (call_lines s w m (next_call s w m)).0 → Each IsCalmLine (entries_lines s n next m) ⊎ IsForked (sees_on s n next m) m
-          → Each IsCalmLine (and_lines (call_lines s w m (next_call s w m)) (entries_lines s n next m)) ⊎ IsForked (sees_on s n next m) m
-      joined one (inl rest) = inl (and-calm (call_lines s w m (next_call s w m)) (entries_lines s n next m) one rest)
+      joined : Each IsCalmLine (call_lines (by_records s) s w m (next_call s w m)).0 → Each IsCalmLine (entries_lines (by_records s) s n next m) ⊎ IsForked (sees_on s n next m) m
+          → Each IsCalmLine (and_lines (call_lines (by_records s) s w m (next_call s w m)) (entries_lines (by_records s) s n next m)) ⊎ IsForked (sees_on s n next m) m
+      joined one (inl rest) = inl (and-calm (call_lines (by_records s) s w m (next_call s w m)) (entries_lines (by_records s) s n next m) one rest)
       joined one (inr it) = inr it
 
-      go : Each IsCalmLine (call_lines s w m (next_call s w m)).0 ⊎ IsForked next m → IsForked next m ⊎ NotForked next m → (NotForked next m → Each IsCalmLine (entries_lines s n next m) ⊎ IsForked (sees_on s n next m) m)
-          → Each IsCalmLine (and_lines (call_lines s w m (next_call s w m)) (entries_lines s n next m)) ⊎ IsForked (sees_on s n next m) m
+      go : Each IsCalmLine (call_lines (by_records s) s w m (next_call s w m)).0 ⊎ IsForked next m → IsForked next m ⊎ NotForked next m → (NotForked next m → Each IsCalmLine (entries_lines (by_records s) s n next m) ⊎ IsForked (sees_on s n next m) m)
+          → Each IsCalmLine (and_lines (call_lines (by_records s) s w m (next_call s w m)) (entries_lines (by_records s) s n next m)) ⊎ IsForked (sees_on s n next m) m
       go (inr it) other rest = inr (sees-forked n next m it)
       go (inl one) (inl it) rest = inr (sees-forked n next m it)
       go (inl one) (inr free) rest = joined one (rest free)
@@ -247,7 +247,7 @@ module _ (s : Setting) where
   -- ---- a line of a schedule
 
   module _ (w : World) (free : NoneForked w) where
-    vote-said : (m : ℕ) (bytes : List ℕ) → halts_vote (vote_said s w m bytes) ≡ false
+    vote-said : (m : ℕ) (bytes : List ℕ) → halts_vote (vote_said (by_records s) s w m bytes) ≡ false
     vote-said m bytes = go (reached s w m (votes bytes)) refl
       where
         go : (r : Reached) → reached s w m (votes bytes) ≡ r → halts_vote (vote_reached s w bytes r) ≡ false
@@ -255,7 +255,7 @@ module _ (s : Setting) where
         go (stops kept x) e = refl
         go (answers before x) e = vote-calm s w before bytes (answered-free w m (votes bytes) before x (free m) e)
 
-    vote-line : (m : ℕ) (tx : Name) (t : Option Made) → Each IsCalmLine (vote_lines s w m tx t)
+    vote-line : (m : ℕ) (tx : Name) (t : Option Made) → Each IsCalmLine (vote_lines (by_records s) s w m tx t)
     vote-line m tx None = (refl, tt)
     vote-line m tx (Some t) = (vote-said m (transactions.signed.spell t.signed), tt)
 
@@ -271,18 +271,18 @@ module _ (s : Setting) where
     final-line tx ms None = (refl, tt)
     final-line tx ms (Some t) = (refl, tt)
 
-    hold-here : (m : ℕ) (bytes : List ℕ) → NoneForked (called_in s w m (holds bytes)) → halts_send (hold_said s w m bytes) ≡ false
+    hold-here : (m : ℕ) (bytes : List ℕ) → NoneForked (called_in s w m (holds bytes)) → halts_send (hold_said (by_records s) s w m bytes) ≡ false
     hold-here m bytes later = go (hold-said w m bytes (free m))
       where
-        go : (halts_send (hold_said s w m bytes) ≡ false) ⊎ IsForked (called_in s w m (holds bytes)) m → halts_send (hold_said s w m bytes) ≡ false
+        go : (halts_send (hold_said (by_records s) s w m bytes) ≡ false) ⊎ IsForked (called_in s w m (holds bytes)) m → halts_send (hold_said (by_records s) s w m bytes) ≡ false
         go (inl calm) = calm
         go (inr it) = not-both (called_in s w m (holds bytes)) m later it
 
-    send-here : (m : ℕ) (c : Option Certificate) → NoneForked (sent s w m c) → halts_send (send_said s w m c) ≡ false
+    send-here : (m : ℕ) (c : Option Certificate) → NoneForked (sent s w m c) → halts_send (send_said (by_records s) s w m c) ≡ false
     send-here m None later = refl
     send-here m (Some c) later = hold-here m (messages.certificate.spell c) later
 
-    see-here : (m n : ℕ) (up : Bool) (member : Option Member) → member_at s w m ≡ member → NoneForked (sees_on s (min n (entries_left w member)) w m) → Each IsCalmLine (see_up s w m n up member)
+    see-here : (m n : ℕ) (up : Bool) (member : Option Member) → member_at s w m ≡ member → NoneForked (sees_on s (min n (entries_left w member)) w m) → Each IsCalmLine (see_up (by_records s) s w m n up member)
     see-here m n false member at later = (refl, tt)
     see-here m n true None at later = (refl, tt)
     see-here m n true (Some member) at later = go (fork_of member) (none (slice_get w.seats m) refl at) (entries-calm (min n (entries_left w (Some member))) w m (free m))
@@ -294,10 +294,10 @@ module _ (s : Setting) where
             same : (x : Member) → Some x ≡ Some member → x ≡ member
             same x e = cc
 
-        go : (f : Option Fork) → f ≡ None → Each IsCalmLine (entries_lines s (min n (entries_left w (Some member))) w m) ⊎ IsForked (sees_on s (min n (entries_left w (Some member))) w m) m
-            → Each IsCalmLine (see_halted s w m (min n (entries_left w (Some member))) f)
+        go : (f : Option Fork) → f ≡ None → Each IsCalmLine (entries_lines (by_records s) s (min n (entries_left w (Some member))) w m) ⊎ IsForked (sees_on s (min n (entries_left w (Some member))) w m) m
+            → Each IsCalmLine (see_halted (by_records s) s w m (min n (entries_left w (Some member))) f)
         go (Some f) e lines = absurd (cc)
-        go None e (inl calm) = taken-calm m (entries_lines s (min n (entries_left w (Some member))) w m) calm
+        go None e (inl calm) = taken-calm m (entries_lines (by_records s) s (min n (entries_left w (Some member))) w m) calm
         go None e (inr it) = not-both (sees_on s (min n (entries_left w (Some member))) w m) m later it
 
     run-here : (m : ℕ) → ((seat : Seat) → slice_get w.seats m ≡ Some seat → (ran : Ran) → run_answer s.rules (member_in s seat) ≡ Ok ran → ran.left ≡ []) → Each IsCalmLine (run_reached s w m (reached s w m runs))
@@ -334,7 +334,7 @@ module _ (s : Setting) where
         go (stops kept x) e = (refl, tt)
         go (answers before x) e = turn-calm s w m before (answered-free w m turns before x (free m) e)
 
-    ack-line : (m : ℕ) (tx : Name) (t : Option Made) → Each IsCalmLine (ack_lines s w m tx t)
+    ack-line : (m : ℕ) (tx : Name) (t : Option Made) → Each IsCalmLine (ack_lines (by_records s) s w m tx t)
     ack-line m tx None = (refl, tt)
     ack-line m tx (Some t) = (said (is_honest w m), tt)
       where
@@ -352,9 +352,9 @@ module _ (s : Setting) where
     show-here m true None = (refl, tt)
     show-here m false member = (refl, tt)
 
-    -- no line says so where no member is forked before it or behind it, and no run leaves anything
+    -- no line says so if no member is forked before it or after it, and no run leaves anything
     pub line-calm : (e : Event) → NoneForked (happens s w e) → ((m : ℕ) (seat : Seat) → slice_get w.seats m ≡ Some seat → (ran : Ran) → run_answer s.rules (member_in s seat) ≡ Ok ran → ran.left ≡ []) → Each IsCalmLine (lines_of s w e)
-    unfolding lines_of happens
+    unfolding lines_over happens_over
     line-calm (event.Tx name sender spoiled epoch gas budget inputs commands) later leaves = (refl, tt)
     line-calm (event.Vote m tx) later leaves = vote-line m tx (made_named w tx)
     line-calm (event.Fvote m tx origins) later leaves = fvote-line m tx origins (made_named w tx)

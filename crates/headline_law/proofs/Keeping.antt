@@ -1,4 +1,4 @@
--- Under the run assumptions nothing is kept out of its round, so a run executes all that is ready before it or behind some
+-- Under the run assumptions nothing is kept out of its round, so a run executes all that is ready before it or after some
 -- of its rounds.
 use Rattle.std.proofs.Common.{inl, inr, sym, subst, ap, append_assoc, ◌∙◌}
 use Rattle.std.specs.Prelude.{◌≡◌, ◌⊎◌, ℕ, true, List, [], ◌∷◌, ◌++◌, flat_map, map, slice_get, Some, Ok}
@@ -38,7 +38,7 @@ present-still b before more h os e = subst (λ (vs : List Version). all_some (ma
 
 -- ---- no two write one key
 
--- two that may be executed on these objects behind these executions, and write one key, are one
+-- two that may be executed on these objects after these executions, and write one key, are one
 abbrev AreAlike : Books → List Execution → Type 0
 AreAlike b executed = (h k : Held) (objects others : List Object) → Has b.held h → Has b.held k → may_run b h ≡ true → may_run b k ≡ true → present b executed h ≡ Some objects → present b executed k ≡ Some others
     → (key : ObjectKey) → Has (written_keys (execution h.cert.tx objects)) key → Has (written_keys (execution k.cert.tx others)) key → h.digest ≡ k.digest
@@ -50,7 +50,7 @@ module _ (b : Books) (executed : List Execution) (alike : AreAlike b (executed +
   one : (more : List Execution) × (rounds b executed ≡ rounds_within n b executed ++ (round_of b behind ++ more))
   one = is-one-round b executed n h x held e
 
-  -- what is present in the round is present behind the run
+  -- what is present in the round is present after the run
   still : (k : Held) (os : List Object) → present b behind k ≡ Some os → present b (executed ++ rounds b executed) k ≡ Some os
   still k os p = subst (λ (xs : List Execution). present b xs k ≡ Some os) (append_assoc executed (rounds_within n b executed) (round_of b behind ++ one.0) ∙ ap (λ (r : List Execution). executed ++ r) (sym one.1)) (present-still b behind (round_of b behind ++ one.0) k os p)
 
@@ -61,7 +61,7 @@ module _ (b : Books) (executed : List Execution) (alike : AreAlike b (executed +
   digest-of : (k : Held) (y : Execution) → ready b behind k ≡ Some y → y.digest ≡ k.digest
   digest-of k y q = ap (λ (z : Execution). z.digest) (ready-says b behind k y q).is
 
-  -- who keeps it out is of the same transaction
+  -- the one that keeps it out is of the same transaction
   kept-same : (k : Held) (y : Execution) → Has b.held k → ready b behind k ≡ Some y → (key : ObjectKey) → Has (written_keys x.gave) key → Has (written_keys y.gave) key → h.digest ≡ k.digest
   kept-same k y there q key wrote written =
       let rx = ready-says b behind h x e in

@@ -148,7 +148,7 @@ module _ (opening : List Object) (Among : Step → Type 0) (f : IsFamily opening
   abbrev Below : ℕ → Type 0
   Below n = (a b : Object) → There a → There b → a.id ≡ b.id → a.version ≤ b.version → b.version < n → IsLinked a b
 
-  -- what a transaction took, where another took a lower version for the same version
+  -- what a transaction took, if another took a lower version for the same version
   not-passed : (x : Step) → Among x → (p : Object) → Has (gave x).objects p → (a b : Object) → MayWrite x a → b.version < p.version → IsPassed Among a b → ⊥
   not-passed x ax p wrote a b took less e =
       let same = same-version e.by x (f.takers e.by x e.among ax a e.took took) in

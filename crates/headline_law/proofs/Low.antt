@@ -1,4 +1,4 @@
--- Contents that hold amounts: of money alone, or of values too.
+-- Contents that hold amounts: of money only, or of values too.
 use Rattle.std.proofs.Common.{arith}
 use Rattle.std.specs.Prelude.{◌≡◌, ◌<◌, ◌-◌, ℕ, zero, suc, Bool, true, false, List, [], ◌∷◌, slice_index}
 use Rattle.std.specs.Int.{w64, from_le_bytes}
@@ -10,7 +10,7 @@ use Rattle.protocol_spec.specs.Chain.Tests.{kind_eq}
 use Rattle.protocol_spec.specs.Block.Natives.{kind_of, amount_of, with_amount, amount_limit}
 use Rattle.headline_law.specs.Amounts.{money_held}
 
--- what must be below the limit: all amounts, or money alone
+-- what must be below the limit: all amounts, or money only
 abbrev pub held : Bool → Content → ℕ
 held true k = amount_of k
 held false k = money_held k

@@ -32,7 +32,7 @@ use Rattle.headline_law.specs.Headline.{Agree, AreSafe, Holds, IsPromised, Stand
 use Rattle.protocol_spec.proofs.ListLemmas.{append_nil}
 
 module _ (text : List ℕ) (t : Schedule) (read : schedule_of text ≡ Ok t) (trust : Trust) (front back : List Event) (cut : t.events ≡ front ++ back) (honest : IsHonestRun (setting_of trust t.setup) front) where
-  -- a front, and nothing behind it
+  -- a prefix, and nothing after it
   honest_here : IsHonestRun (setting_of trust t.setup) (front ++ [])
   honest_here = subst (IsHonestRun (setting_of trust t.setup)) (sym (append_nil front)) honest
 

@@ -1,4 +1,4 @@
--- What natives give holds amounts, where what they are given does.
+-- What natives give holds amounts, if what they are given does.
 use Rattle.std.proofs.Common.{refl, arith}
 use Rattle.std.proofs.lemmas.Bool.{leb-false, ltb-false}
 use Rattle.std.specs.Prelude.{◌≡◌, ◌<◌, ◌+◌, ◌-◌, ℕ, zero, suc, Bool, true, false, not, nat_lt, nat_le, List, [], ◌∷◌, sum_by, slice_get, Option, Some, None}
@@ -62,13 +62,13 @@ module _ (all : Bool) where
     left-low : (i : Item) (who : Owner) → LowItem i → Gives (owned_by_all s i who)
     left-low i who low = record { results_are = tt; changed_is = tt; left_is = low }
 
-    -- a change of an item to an amount, behind a test that it is one
+    -- a change of an item to an amount, after a test that it is one
     behind-limit : (n code : ℕ) (cs : List Content) (i : Item) → (n < amount_limit → Each (Low all) cs) → Gives (abort_if (nat_le amount_limit n) code (gives s cs (Some (holding n i))))
     behind-limit n code cs i low = unless-stops (nat_le amount_limit n) code (gives s cs (Some (holding n i))) (λ e.
         let less = leb-false amount_limit n e in
         gives-low cs (Some (holding n i)) (low less) (with-low all n i.content less))
 
-    -- a change to less, behind any test
+    -- a change to less, after any test
     behind-less : (stops : Bool) (n code : ℕ) (i : Item) → LowItem i → Gives (abort_if stops code (gives s [] (Some (holding (amount_of i.content - n) i))))
     behind-less stops n code i low = unless-stops stops code (gives s [] (Some (holding (amount_of i.content - n) i))) (λ e. gives-low [] (Some (holding (amount_of i.content - n) i)) tt (less-low all n i.content low))
 
@@ -158,7 +158,7 @@ module _ (all : Bool) where
       one : LowItem (item_at args 0)
       one = item-low args low 0
 
-      -- each holds where a fact of its number does
+      -- each holds if a fact of its number does
       abbrev EachWhere : (ℕ → Type 0) → List Gave → Type 0
       EachWhere P [] = Unit {0}
       EachWhere P (g ∷ gs) = (P 0 → Gives g) × EachWhere (λ n. P (suc n)) gs

@@ -1,4 +1,4 @@
--- Where a `final` line says that a transaction is final, the members of the line acknowledged one effects digest of it.
+-- If a `final` line says that a transaction is final, the members of the line acknowledged one effects digest of it.
 use Rattle.std.proofs.Common.{inl, inr, refl, sym, subst, ap, ◌∙◌}
 use Rattle.std.proofs.lemmas.Bool.{eqb-true}
 use Rattle.std.specs.Prelude.{◌≡◌, ℕ, Bool, true, false, not, ◌&&◌, ◌==◌, List, [], ◌∷◌, Option, Some, None}
@@ -21,7 +21,7 @@ use Rattle.world_spec.specs.Setting.{Name, Setting}
 use Rattle.world_spec.specs.Names.{made_named}
 use Rattle.world_spec.specs.World.{Made, World, said_by}
 use Rattle.world_spec.specs.Step.{ack_in, last_said}
-use Rattle.world_spec.specs.Report.{acks_collected, final_collected, final_lines, lines_of}
+use Rattle.world_spec.specs.Report.{acks_collected, final_collected, final_lines, lines_of, lines_over}
 use Rattle.safety_law.proofs.Apart.{none-of}
 use Rattle.safety_law.proofs.Steps.{last-said}
 use Rattle.safety_law.proofs.Totals.{each-all}
@@ -56,7 +56,7 @@ module _ (stakes : List ℕ) (reads : ℕ → Option Digest) where
   differs-cause [] e = cc
   differs-cause (a ∷ ms) e = first-cause (λ b. differ_from digest_eq a (reads a) b (reads b)) ms (λ b. differ-cause a b (reads a) (reads b)) e
 
-  -- where the whole is collected, no cause applies
+  -- if the whole is collected, no cause applies
   record IsFree (ms : List ℕ) : Type 0 where
     none_lacks : first_of (λ m. lacks_where m (reads m)) ms ≡ None
     enough : too_short stakes ms ≡ None
@@ -160,7 +160,7 @@ module _ (s : Setting) (w : World) where
     said : (m : ℕ) → Has members m → Has w.said (said_by m (statement.Ack made.signed.tx.epoch made.digest effects))
 
   says-final : (name : Name) (asked members : List ℕ) → Has (lines_of s w (event.Final name asked)) (final_by name members) → IsSaidOf name members
-  unfolding lines_of
+  unfolding lines_over
   says-final name asked members h = go (made_named w name) refl h
     where
       said-of : (t : Made) → made_named w name ≡ Some t → (c : Collected) → acks_collected s w t asked ≡ c → final_collected asked c ≡ final_text.FinalBy members → IsSaidOf name members
@@ -183,7 +183,7 @@ module _ (s : Setting) (w : World) where
 
 -- the members of the line are those that it asks for
 pub printed-asked : (s : Setting) (w : World) (name other : Name) (asked members : List ℕ) → Has (lines_of s w (event.Final other asked)) (final_by name members) → (other ≡ name) × (asked ≡ members)
-unfolding lines_of
+unfolding lines_over
 printed-asked s w name other asked members h = go (made_named w other) h
   where
     names : (a b : FinalText) → line.Final other a ≡ line.Final name b → other ≡ name

@@ -111,7 +111,7 @@ module _ (m : Member) (x : Step) (it : IsRunnable m x) where
       shared (inl e) = absurd (cc)
       shared (inr h) = any-shared it.of.cert.tx.inputs h
 
-  -- of a longer admission, in which its certificate stands behind these, it reads the version that is assigned there
+  -- of a longer admission, in which its certificate stands after these, it reads the version that is assigned there
   module _ (adm : Admission) (more : IsFront m.sequence.admission.admitted adm.admitted) (front back : List Admitted) (a : Admitted) (split : adm.admitted ≡ front ++ (a ∷ back)) (next : IsInOrder m.opening front a)
       (digest : it.of.digest ≡ a.digest) (tx : it.of.cert.tx ≡ a.cert.tx) (origins : it.of.cert.origins ≡ a.cert.origins) where
     there-as : all_some (map (found (versions m.opening m.executed)) (map (wanted_by (Some (assignments m.opening front a.cert))) (zip (objects_of a.cert.tx) a.cert.origins))) ≡ Some x.inputs

@@ -27,7 +27,7 @@ use Rattle.headline_law.proofs.Telling.{IsAsking, IsOther, asks-or-other}
 
 -- ---- where a line of the report comes from
 
--- behind these events the schedule asks, and the answer is this line
+-- after these events the schedule asks, and the answer is this line
 record IsTold (s : Setting) (events : List Event) (w : World) (name : Name) (members : List ℕ) : Type 0 where
   front : List Event
   back : List Event
@@ -66,7 +66,7 @@ module _ (s : Setting) (name : Name) (members : List ℕ) where
 -- ---- what it says holds for good
 
 module _ (s : Setting) (events : List Event) (run_is : IsHonestRun s events) (distinct : AreApart s.opening) (name : Name) (members : List ℕ) where
-  -- what is final behind a front stands
+  -- what is final after a prefix stands
   stays : (front back : List Event) → events ≡ front ++ back → (it : IsFinalHere s (world_after s front) name members) → StandsForGood s events it.made.signed.tx.epoch it.made.digest it.effects
   stays front back whole it early late split =
       stands s early late (subst (IsHonestRun s) split run_is) distinct it.made.signed.tx.epoch it.made.digest it.effects members it.final.quorum (λ k h.
@@ -91,7 +91,7 @@ read-reports text t read trust run_is name members h =
     let it = told (setting_of trust t.setup) name members t.events h in
     was-final (setting_of trust t.setup) t.events run_is (set-up-apart trust t.setup) name members (read-roll text t read trust it.front name members it.back it.split) it
 
--- and in the report of each front of its lines
+-- and in the report of each prefix of its lines
 pub read-front : (text : List ℕ) (t : Schedule) → schedule_of text ≡ Ok t → (trust : Trust) → (front back : List Event) → t.events ≡ front ++ back → IsHonestRun (setting_of trust t.setup) front
     → (name : Name) (members : List ℕ) → Has (report (setting_of trust t.setup) front) (final_by name members) → WasFinal (setting_of trust t.setup) front name members
 read-front text t read trust front back cut honest name members h =

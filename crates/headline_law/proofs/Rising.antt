@@ -151,7 +151,7 @@ module _ (opening : List Object) (id : ObjectId) where
   top-all v [] before top along = subst (IsTop v) (sym (append-nil before)) top
   top-all v (y ∷ mid) before top along = subst (IsTop v) (append_assoc before (y ∷ []) mid) (top-all v mid (before ++ y ∷ []) (top-push v before y along.0 top) along.1)
 
-  -- of two admitted transactions the later one is assigned a greater version, where the earlier one writes the object
+  -- of two admitted transactions the later one is assigned a greater version, if the earlier one writes the object
   pub rising : (front mid rest : List Admitted) (a b : Admitted) → Along (IsInOrder opening) [] (front ++ (a ∷ (mid ++ (b ∷ rest)))) → writes id a ≡ true → (current opening front a.cert id).0 < (current opening (front ++ (a ∷ mid)) b.cert id).0
   rising front mid rest a b along w =
       let behind = along-rest (IsInOrder opening) [] front (a ∷ (mid ++ (b ∷ rest))) along in

@@ -1,5 +1,5 @@
--- Behind the rounds of a run nothing is ready: each round that executes anything leaves fewer certificates open. And a
--- round takes all that is ready, where no two that are ready write one key.
+-- After the rounds of a run nothing is ready: each round that executes anything leaves fewer certificates open. And a
+-- round takes all that is ready, if no two that are ready write one key.
 use Rattle.std.proofs.Common.{inl, inr, refl, sym, subst, ap, ◌∙◌, arith, append_assoc, append-nil}
 use Rattle.std.proofs.lemmas.Bool.{eqb-true}
 use Rattle.std.specs.Prelude.{◌≡◌, ◌⊎◌, ◌<◌, ◌≤◌, ◌+◌, ◌==◌, ℕ, zero, suc, Bool, true, false, cond, not, ◌&&◌, List, [], ◌∷◌, ◌++◌, find, length, Option, Some, None, is_some}
@@ -117,7 +117,7 @@ module _ (b : Books) (executed : List Execution) where
       go None e none (inr r) rest = rest none r
       go (Some x) e none there rest = absurd (subst (λ (xs : List Execution). Has xs x) none (among-more hs (round_add [] (Some x)) x (taken x)))
 
-  -- where the round is empty nothing is ready
+  -- if the round is empty nothing is ready
   none-ready : round_of b executed ≡ [] → (h : Held) → Has b.held h → ready b executed h ≡ None
   unfolding round_of
   none-ready none h there = among-none b.held none h there
@@ -230,7 +230,7 @@ module _ (b : Books) where
       count-lower executed (round_of b executed) b.held from.0 from.1 says.idle
       (was-executed (executed ++ round_of b executed) x from.0.digest (has_right executed (round_of b executed) x h) (ap (λ (z : Execution). z.digest) says.is))
 
-  -- behind an empty round all are empty
+  -- after an empty round all are empty
   empty-ends : (n : ℕ) (executed : List Execution) → round_of b executed ≡ [] → rounds_within n b executed ≡ []
   empty-ends zero executed none = refl
   empty-ends (suc n) executed none =

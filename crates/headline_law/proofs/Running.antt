@@ -1,4 +1,4 @@
--- No run leaves anything: the state behind it is one of a longer run of the world, where what is due is ready.
+-- No run leaves anything: the state after it is one of a longer run of the world, if what is due is ready.
 use Rattle.std.proofs.Common.{refl, sym, subst, ap, ◌∙◌}
 use Rattle.std.specs.Prelude.{◌≡◌, ℕ, Bool, true, false, List, [], ◌∷◌, ◌++◌, slice_get, Option, Some, None, Result, Ok}
 use Rattle.std.specs.List.{list_all}
@@ -47,7 +47,7 @@ module _ (s : Setting) (events : List Event) (honest : IsHonestRun s events) (di
   abbrev m : Member
   m = member_in s seat
 
-  -- nothing is due where nothing is ready
+  -- nothing is due if nothing is ready
   abbrev NoneDue : Books → List Execution → Type 0
   NoneDue b executed = IsRunOut b executed → (h : Held) → Has b.held h → is_due b executed h ≡ true → ⊥
 

@@ -1,5 +1,5 @@
--- Each statement of an honest member was made in a state in which it was: an acknowledgement where it had executed the
--- transaction with these effects, an End where it had closed and all that it held was in the sequence.
+-- Each statement of an honest member was made in a state in which it was: an acknowledgement if it had executed the
+-- transaction with these effects, an End if it had closed and all that it held was in the sequence.
 use Rattle.std.proofs.Common.{inl, inr, refl, sym, ap, ◌∙◌, append_assoc, append-nil}
 use Rattle.std.specs.Prelude.{◌≡◌, ℕ, true, false, not, ◌==◌, List, [], ◌∷◌, ◌++◌, map, slice_get, Option, Some, None, Result, Ok, Err}
 use Rattle.digest_core.specs.declared.Digest.{Digest}

@@ -159,7 +159,7 @@ module _ (r : Rules) (opening : List Object) where
   along-behind {A = A} P before [] back along = subst (λ (xs : List A). Along P xs back) (sym (append-nil before)) along
   along-behind {A = A} P before (x ∷ front) back along = subst (λ (xs : List A). Along P xs back) (append_assoc before (x ∷ []) front) (along-behind P (before ++ x ∷ []) front back along.1)
 
-  -- from a front of a journal to all of it, in one epoch
+  -- from a prefix of a journal to all of it, in one epoch
   module _ (records : List Record) (each : Along (IsDueBehind r opening) [] records) (front : List Record) (is : IsFront front records) (epoch : ℕ) (early : (at front).epoch ≡ epoch) (late : (at records).epoch ≡ epoch) where
     forward : IsOnward (at front) (at records)
     forward = subst (λ (rs : List Record). IsOnward (at front) (at rs)) (sym is.1)

@@ -24,9 +24,9 @@ use Rattle.protocol_spec.specs.Member.Member.{Fork, Member, fork_of, live_object
 use Rattle.protocol_spec.specs.Member.Calls.{Call, votes, holds, sees, runs, closes, ends, turns, acks, run_answer, see_answer, turn_answer}
 use Rattle.world_spec.specs.Setting.{Name, Setting}
 use Rattle.world_spec.specs.Names.{made_named, shown_order, tx_name}
-use Rattle.world_spec.specs.World.{Made, Reached, World, finds_down, stops, answers, called_if, member_at, next_call, reached}
+use Rattle.world_spec.specs.World.{Made, Reached, World, finds_down, stops, answers, called_if, member_at, next_call, reached, is_seat_up, by_records}
 use Rattle.world_spec.specs.Step.{entries_left}
-use Rattle.world_spec.specs.Report.{Lines, ack_lines, and_lines, call_lines, cert_lines, checkpoint_line, checkpoint_lines, effects_line, entries_lines, entry_lines, entry_reached, fvote_lines, is_seat_up, left_line, left_line_of, lines_of, none_taken, object_line, run_answered, run_reached, see_halted, see_up, show_up, status_line, turn_answered, turn_reached, vote_lines}
+use Rattle.world_spec.specs.Report.{Lines, ack_lines, and_lines, call_lines, cert_lines, checkpoint_line, checkpoint_lines, effects_line, entries_lines, entry_lines, entry_reached, fvote_lines, left_line, left_line_of, lines_of, none_taken, object_line, run_answered, run_reached, see_halted, see_up, show_up, status_line, turn_answered, turn_reached, vote_lines, lines_over}
 
 -- whether a line of the report speaks of finality
 abbrev pub is_final_line : Line → Bool
@@ -44,7 +44,7 @@ module _ (s : Setting) (w : World) where
   other-checkpoints : (cs : List Checkpoint) → Each IsOther (checkpoint_lines w cs)
   other-checkpoints cs = each-mapped (checkpoint_line w) cs (λ c. refl)
 
-  other-vote : (m : ℕ) (tx : Name) (t : Option Made) → Each IsOther (vote_lines s w m tx t)
+  other-vote : (m : ℕ) (tx : Name) (t : Option Made) → Each IsOther (vote_lines (by_records s) s w m tx t)
   other-vote m tx None = (refl, tt)
   other-vote m tx (Some t) = (refl, tt)
 
@@ -56,7 +56,7 @@ module _ (s : Setting) (w : World) where
   other-cert tx ms None = (refl, tt)
   other-cert tx ms (Some t) = (refl, tt)
 
-  other-ack : (m : ℕ) (tx : Name) (t : Option Made) → Each IsOther (ack_lines s w m tx t)
+  other-ack : (m : ℕ) (tx : Name) (t : Option Made) → Each IsOther (ack_lines (by_records s) s w m tx t)
   other-ack m tx None = (refl, tt)
   other-ack m tx (Some t) = (refl, tt)
 
@@ -78,7 +78,7 @@ module _ (s : Setting) (w : World) where
   other-reached m number bytes (stops kept x) = (refl, tt)
   other-reached m number bytes (answers before x) = other-entry m number (see_answer s.rules before number bytes)
 
-  other-call : (m : ℕ) (call : Option Call) → Each IsOther (call_lines s w m call).0
+  other-call : (m : ℕ) (call : Option Call) → Each IsOther (call_lines (by_records s) s w m call).0
   other-call m None = tt
   other-call m (Some (sees number bytes)) = other-reached m number bytes (reached s w m (sees number bytes))
   other-call m (Some (votes bytes)) = tt
@@ -98,15 +98,15 @@ other-none m [] each = (refl, tt)
 other-none m (l ∷ ls) each = each
 
 module _ (s : Setting) where
-  other-entries : (n : ℕ) (w : World) (m : ℕ) → Each IsOther (entries_lines s n w m)
+  other-entries : (n : ℕ) (w : World) (m : ℕ) → Each IsOther (entries_lines (by_records s) s n w m)
   other-entries zero w m = tt
-  other-entries (suc n) w m = other-and (call_lines s w m (next_call s w m)) (entries_lines s n (called_if s w m (next_call s w m)) m) (other-call s w m (next_call s w m)) (other-entries n (called_if s w m (next_call s w m)) m)
+  other-entries (suc n) w m = other-and (call_lines (by_records s) s w m (next_call s w m)) (entries_lines (by_records s) s n (called_if s w m (next_call s w m)) m) (other-call s w m (next_call s w m)) (other-entries n (called_if s w m (next_call s w m)) m)
 
-  other-halted : (w : World) (m n : ℕ) (fork : Option Fork) → Each IsOther (see_halted s w m n fork)
+  other-halted : (w : World) (m n : ℕ) (fork : Option Fork) → Each IsOther (see_halted (by_records s) s w m n fork)
   other-halted w m n (Some fork) = (refl, tt)
-  other-halted w m n None = other-none m (entries_lines s n w m) (other-entries n w m)
+  other-halted w m n None = other-none m (entries_lines (by_records s) s n w m) (other-entries n w m)
 
-  other-see : (w : World) (m n : ℕ) (up : Bool) (member : Option Member) → Each IsOther (see_up s w m n up member)
+  other-see : (w : World) (m n : ℕ) (up : Bool) (member : Option Member) → Each IsOther (see_up (by_records s) s w m n up member)
   other-see w m n true (Some member) = other-halted w m (min n (entries_left w (Some member))) (fork_of member)
   other-see w m n true None = (refl, tt)
   other-see w m n false member = (refl, tt)
@@ -168,7 +168,7 @@ pub record IsAsking (e : Event) : Type 0 where
   pub is : e ≡ event.Final name members
 
 pub asks-or-other : (s : Setting) (w : World) (e : Event) → IsAsking e ⊎ Each IsOther (lines_of s w e)
-unfolding lines_of
+unfolding lines_over
 asks-or-other s w (event.Tx name sender spoiled epoch gas budget inputs commands) = inr (refl, tt)
 asks-or-other s w (event.Vote m tx) = inr (other-vote s w m tx (made_named w tx))
 asks-or-other s w (event.Fvote m tx origins) = inr (other-fvote s w m tx origins (made_named w tx))

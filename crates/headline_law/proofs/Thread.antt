@@ -1,4 +1,4 @@
--- One thread's map holds amounts, behind any transactions.
+-- One thread's map holds amounts, after any transactions.
 use Rattle.std.proofs.Common.{refl, ap, sym, subst, ◌∙◌, arith}
 use Rattle.std.proofs.lemmas.Bool.{ltb-true, ltb-false}
 use Rattle.std.specs.Prelude.{◌≡◌, ◌<◌, ℕ, Bool, true, false, cond, ◌&&◌, ◌==◌, nat_lt, nat_le, List, [], ◌∷◌, ◌++◌, map, fold, Option, Some, None}
@@ -27,7 +27,7 @@ use Rattle.agreement_law.specs.Opened.{HasEffects, GasHolds}
 use Rattle.headline_law.specs.Amounts.{money_held, HoldsAmount}
 use Rattle.headline_law.proofs.Written.{money-stays}
 
--- ---- objects that hold too much weigh 1: where none does, all together weigh nothing
+-- ---- objects that hold too much weigh 1: if none does, all together weigh nothing
 
 abbrev excess : Content → ℕ
 excess k = cond (nat_lt (money_held k) amount_limit) 0 1
@@ -161,7 +161,7 @@ last-effects : (xs : List (Option Effects)) (y : Option Effects) → Each HasEff
 last-effects [] y each = each.0
 last-effects (x ∷ xs) y each = last-effects xs y each.1
 
--- effects are added behind those before
+-- effects are added after those before
 one-front : (f : Folded) (t : Transaction) → Each HasEffects (fold_one f t).effects → Each HasEffects f.effects
 unfolding fold_one
 one-front f t each = go (read_by f.map t) each

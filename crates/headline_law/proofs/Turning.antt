@@ -14,7 +14,7 @@ use Rattle.protocol_spec.specs.Member.Calls.{Call, turns, due}
 use Rattle.world_spec.specs.Setting.{Setting}
 use Rattle.world_spec.specs.World.{Seat, World, new_world, member_in, member_at}
 use Rattle.world_spec.specs.Names.{made_named, cert_named}
-use Rattle.world_spec.specs.Step.{happens, entries_left}
+use Rattle.world_spec.specs.Step.{happens, entries_left, happens_over}
 use Rattle.world_spec.specs.Run.{world_after}
 use Rattle.world_spec.specs.Assumptions.{calls_of}
 use Rattle.safety_law.proofs.InWorld.{kept-line, new-seats}
@@ -27,7 +27,7 @@ use Rattle.agreement_law.proofs.Opened.{no-turn-sees, no-turn-voted, no-turn-sen
 use Rattle.agreement_law.proofs.Turned.{CanTurn, turn-due}
 use Rattle.headline_law.proofs.Along.{IsBeyond, IsTurn, built-beyond, cancel, epoch-grows, first-beyond, more-beyond, past-built, past-grows, push-split, same-or-less, turn-between, turn-epoch, turn-past}
 
--- ---- the calls of a line that is no turn
+-- ---- the calls of a line that is not a turn
 
 abbrev NoTurn : Call → Type 0
 NoTurn call = appended_by call ≡ Some a_turn → ⊥
@@ -35,7 +35,7 @@ NoTurn call = appended_by call ≡ Some a_turn → ⊥
 -- ---- line by line
 
 module _ (s : Setting) where
-  -- behind a front of the run a member had these records, and could turn
+  -- after a prefix of the run a member had these records, and could turn
   pub record IsTurning (events : List Event) (records : List Record) : Type 0 where
     pub front : List Event
     pub back : List Event
@@ -87,7 +87,7 @@ module _ (s : Setting) where
     other-line e never all = kept-line s NoTurn (TurnsIn front) (other-kept front) w e never all
 
     turn-line : (m : ℕ) → AllTurn front w.seats → AllTurn front (happens s w (event.Turn m)).seats
-    unfolding happens
+    unfolding happens_over
     turn-line m all = one-call s (TurnsIn front) w turns (turn-kept front) m all
 
     line-turn : (e : Event) → AllTurn front w.seats → AllTurn front (happens s w e).seats
@@ -150,7 +150,7 @@ module _ (s : Setting) where
     pub epoch_is : (member_in s seat).epoch ≡ epoch
     pub covers : (early : List Record) → IsFront early records → (of early).epoch ≡ epoch → IsFront early seat.records
 
-  -- where it left the epoch, it could turn there, and has the checkpoints that it had built
+  -- if it left the epoch, it could turn there, and has the checkpoints that it had built
   pub record HasLeft (events : List Event) (records : List Record) (epoch : ℕ) : Type 0 where
     pub last : IsLast events records epoch
     pub can : CanTurn (member_in s last.seat)
@@ -181,7 +181,7 @@ module _ (s : Setting) where
         go (inl f) = f
         go (inr (more, q)) = late more q
 
-    -- what was built behind the turn is kept
+    -- what was built after the turn is kept
     kept-built : (front back : List Record) → seat.records ≡ front ++ (record_as.Turn ∷ back) → IsFront (built (of front)) (built (of seat.records))
     kept-built front back split =
         front_then (built (of front)) (of seat.records).past (built (of seat.records))

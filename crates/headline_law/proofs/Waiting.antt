@@ -1,4 +1,4 @@
--- Behind every entry no pending certificate is free: what is free is taken, one after the other, and each that is taken leaves the pending ones.
+-- After every entry no pending certificate is free: what is free is taken, one after the other, and each that is taken leaves the pending ones.
 use Rattle.std.proofs.Common.{inl, inr, refl, ap, arith}
 use Rattle.std.specs.Prelude.{◌≡◌, ◌≤◌, ◌<◌, ℕ, zero, suc, Bool, true, false, cond, List, [], ◌∷◌, ◌++◌, filter, find, fold, length, Option, Some, None}
 use Rattle.chain_types.specs.declared.objects.Object.{Object}
@@ -10,7 +10,7 @@ use Rattle.protocol_spec.specs.Chain.Certificates.{Rules}
 use Rattle.protocol_spec.specs.Member.Admission.{Admission, is_free, not_of, taken_as, taken, is_dropped, taken_next, take_free, entered, passed_mark, admit}
 use Rattle.protocol_spec.specs.Member.Sequence.{Sequence, What, takes, commits, counts, ignores, nothing_seen, what_of, counted_as, ends_with_member, with_what, with_entry, saw, seen}
 
--- ---- a filter leaves no more, and fewer where one element fails
+-- ---- a filter leaves no more, and fewer if one element fails
 
 module _ {A : Type 0} (test : A → Bool) where
   no-more : (xs : List A) → length (filter test xs) ≤ length xs

@@ -60,7 +60,7 @@ not-shared t none i (inr h) = any-none is_shared_input t.inputs i none (has-kept
 
 -- ---- each object
 
--- what is found for an input fits it, where it is not shared
+-- what is found for an input fits it, if it is not shared
 found-fits : (m : Member) (t : Transaction) (a : Option (List Assigned)) (i : Input) (d : Option Digest) → is_shared_input i ≡ false → FitsAsNamed m t i d → (o : Object) → found (versions m.opening m.executed) (wanted_by a (i, d)) ≡ Some o → fits_input t i o ≡ true
 found-fits m t a (inputs.Pure bytes) d none fit o e = absurd (nobody (versions m.opening m.executed) (shared_key (record { 0 = record { 0 = [] } }) 0) o e)
 found-fits m t a (inputs.Owned r) d none fit o e = fit o e

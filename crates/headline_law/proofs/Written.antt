@@ -1,4 +1,4 @@
--- What an execution writes holds amounts, where what it reads does.
+-- What an execution writes holds amounts, if what it reads does.
 use Rattle.std.proofs.Common.{refl, arith}
 use Rattle.std.specs.Prelude.{◌≡◌, ◌<◌, ◌+◌, ◌-◌, ℕ, suc, min, Bool, true, false, cond, List, [], ◌∷◌, map, find, filter_map, option_map, Option, Some, None, Result, Ok, Err}
 use Rattle.std.specs.List.{cons_option}

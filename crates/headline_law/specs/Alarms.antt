@@ -30,7 +30,7 @@ use Rattle.world_spec.specs.Run.{report}
 use Rattle.world_spec.specs.Assumptions.{IsHonestRun}
 use Rattle.sequence_law.specs.Orderly.{AreApart}
 
--- `fork K T1 T2`, where a member meets two certificates that consume one version, and `halted T1 T2` ever after
+-- `fork K T1 T2`, if a member meets two certificates that consume one version, and `halted T1 T2` ever after
 abbrev pub halts_vote : VoteText → Bool
 halts_vote (vote_text.Halted first second) = true
 halts_vote text = false

@@ -34,10 +34,10 @@ HasBytes (inputs.Owned r) = Unit {0}
 HasBytes (inputs.Immutable r) = Unit {0}
 HasBytes (inputs.Shared id initial mutable) = Unit {0}
 
--- where what a transaction reads holds amounts, so does what it writes, in success and in failure
+-- if what a transaction reads holds amounts, so does what it writes, in success and in failure
 abbrev pub MoneyStaysAmounts : Type 0
 MoneyStaysAmounts = (t : Transaction) (objects : List Object) → Each HoldsAmount objects → Each HoldsAmount (execution t objects).objects
 
--- the same of values too, which may come from pure bytes
+-- likewise for values too, which may come from pure bytes
 abbrev pub AmountsStayAmounts : Type 0
 AmountsStayAmounts = (t : Transaction) (objects : List Object) → Each HasBytes t.inputs → Each IsAmount objects → Each IsAmount (execution t objects).objects

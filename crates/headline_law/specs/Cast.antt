@@ -12,7 +12,7 @@ use Rattle.world_spec.specs.Setting.{Setting}
 use Rattle.world_spec.specs.World.{Seat, member_in}
 use Rattle.world_spec.specs.Run.{world_after}
 
--- Behind some front of the run a member of the transaction's epoch was in a state in which no case refused its vote, and
+-- After some prefix of the run a member of the transaction's epoch was in a state in which no case refused its vote, and
 -- the vote names the origins that the rule gives there.
 pub record WasCast (s : Setting) (events : List Event) (tx : Transaction) (origins : List (Option Digest)) : Type 0 where
   pub front : List Event

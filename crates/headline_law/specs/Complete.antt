@@ -23,7 +23,7 @@ pub record MayExecute (m : Member) (h : Held) (objects : List Object) : Type 0 w
   pub may : may_run (books m) h ≡ true
   pub there : present (books m) m.executed h ≡ Some objects
 
--- where it was not executed, none of its keys is there already, and none is written twice
+-- if it was not executed, none of its keys is there already, and none is written twice
 abbrev pub WritesNewKeys : Type 0
 WritesNewKeys = (s : Setting) (events : List Event) → IsHonestRun s events → AreApart s.opening
     → (m : ℕ) (seat : Seat) → slice_get (world_after s events).seats m ≡ Some seat

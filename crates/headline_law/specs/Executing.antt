@@ -21,14 +21,14 @@ pub record CanRun (s : Setting) (seat : Seat) : Type 0 where
   pub runs_on : fork_of (member_in s seat) ≡ None
   pub room : nat_le record_limit (member_in s seat).records ≡ false
 
--- behind a `run` line the member has executed this, and a line of the report says with which effects
+-- after a `run` line the member has executed this, and a line of the report says with which effects
 pub record LineExecutes (s : Setting) (events : List Event) (m workers : ℕ) (x : Execution) : Type 0 where
   pub seat : Seat
   pub there : slice_get (world_after s (events ++ event.Run m workers ∷ [])).seats m ≡ Some seat
   pub executed : Has (member_in s seat).executed x
   pub told : Has (lines_of s (world_after s events) (event.Run m workers)) (effects_line (world_after s events) x.gave.effects)
 
--- so it is with all that the member holds and that is ready before the line, or behind some rounds of its run: but for what
+-- so it is with all that the member holds and that is ready before the line, or after some rounds of its run: but for what
 -- writes a key that a certificate held before it writes in the same round
 abbrev pub ReadyIsExecuted : Setting → List Event → Type 0
 ReadyIsExecuted s events = (m workers : ℕ) (seat : Seat) → slice_get (world_after s events).seats m ≡ Some seat → CanRun s seat

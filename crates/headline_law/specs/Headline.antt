@@ -61,19 +61,19 @@ pub record Stands (s : Setting) (w : World) (m : Member) : Type 0 where
   pub opens : OpensAsLeft s w.sequences m
   -- the checkpoints that it has built are the first of that thread: numbers, parents, transactions, effects
   pub builds : IsFront (built m) (past_at s w.sequences (suc m.epoch))
-  -- and in its epoch its effects are those of that thread whole, and not their digests alone: of each first cuts whose checkpoints it has built
+  -- and in its epoch its effects are those of that thread whole, and not only their digests: of each first cuts whose checkpoints it has built
   pub effects : (cuts : List Cut) → IsFront cuts m.sequence.cuts → Each (IsBuilt m) cuts → AreOfThread s w.sequences m cuts
   -- it holds no two certificates that consume one version, so it is not halted
   pub runs_on : fork_of m ≡ None
   -- what it holds and did not execute, whose inputs are there, and that it admitted if it has a shared input, is ready
   pub is_ready : (h : Held) (objects : List Object) → MayExecute m h objects → is_executed m.executed h.digest ≡ false → ready (books m) m.executed h ≡ Some (executes_as h (execution h.cert.tx objects))
-  -- a run executes all that is ready before it or behind some of its rounds
+  -- a run executes all that is ready before it or after some of its rounds
   pub takes : (ran : Ran) → run_answer s.rules m ≡ Ok ran → (n : ℕ) (h : Held) (x : Execution) → Has m.held h → ready_behind n m h ≡ Some x → is_executed (with_rounds m).executed h.digest ≡ true
   -- and all that was admitted
   pub executes : (ran : Ran) → run_answer s.rules m ≡ Ok ran → (a : Admitted) → Has m.sequence.admission.admitted a → is_executed (with_rounds m).executed a.digest ≡ true
   -- it leaves nothing that waits for nothing
   pub leaves : (ran : Ran) → run_answer s.rules m ≡ Ok ran → ran.left ≡ []
-  -- and behind it no turn waits for a transaction
+  -- and after it no turn waits for a transaction
   pub moves_on : (ran : Ran) → run_answer s.rules m ≡ Ok ran → (tx : Digest) → turn_answer s.rules (with_rounds m) ≡ Err (no_turn.Waits tx) → ⊥
   -- of the currency of gas, all that went in an epoch that it left is the gas of the checkpointed transactions
   pub gas : (epoch : ℕ) → epoch < m.epoch
@@ -87,10 +87,10 @@ pub record Agree (a b : Member) : Type 0 where
   pub openings : a.epoch ≡ b.epoch → a.opening ≡ b.opening
   -- the versions of each object that they hold then are one chain, in which each was taken by one transaction at most
   pub versions : a.epoch ≡ b.epoch → AreOneChain a b
-  -- of what they have built, in whatever epochs, the one is a front of the other
+  -- of what they have built, in whatever epochs, the one is a prefix of the other
   pub checkpoints : IsFront (built a) (built b) ⊎ IsFront (built b) (built a)
 
--- the moment behind these events
+-- the moment after these events
 pub record Holds (s : Setting) (events : List Event) : Type 0 where
   pub certified : AreSafe s events
   pub member : (m : ℕ) (seat : Seat) → slice_get (world_after s events).seats m ≡ Some seat → Stands s (world_after s events) (member_in s seat)
@@ -112,7 +112,7 @@ VotesOnce s events = (m : ℕ) (seat : Seat) → slice_get (world_after s events
     → t.epoch ≡ u.epoch → (transaction_digest t ≡ transaction_digest u → ⊥)
     → (key : ObjectKey) → Has (consumed_keys t) key → Has (consumed_keys u) key → ⊥
 
--- the moment behind these events: the first two with no premise, the third under the run assumptions
+-- the moment after these events: the first two with no premise, the third under the run assumptions
 pub record IsPromised (s : Setting) (events : List Event) : Type 0 where
   pub votes : VotesOnce s events
   -- a `run` line that could come now executes what is ready, at each member that can run

@@ -16,7 +16,7 @@ use Rattle.sequence_law.specs.Orderly.{AreApart}
 use Rattle.agreement_law.specs.Sums.{GasHeldBefore}
 use Rattle.headline_law.specs.Amounts.{HoldsAmount}
 
--- one thread that executes any transactions in order leaves amounts, where it started from amounts
+-- one thread that executes any transactions in order leaves amounts, if it started from amounts
 abbrev pub ThreadsKeepAmounts : Type 0
 ThreadsKeepAmounts = (opening : List Object) (txs : List Transaction) → Each HoldsAmount opening → Each HoldsAmount (values (fold_all (map_of opening) txs).map)
 

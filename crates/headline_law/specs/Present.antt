@@ -48,7 +48,7 @@ OwnedInputsFit = (s : Setting) (events : List Event) → IsHonestRun s events �
     → (h : Held) → Has (member_in s seat).held h → (i : Input) (origin : Option Digest) → Has (joined_inputs h.cert) (i, origin)
     → FitsAsNamed (member_in s seat) h.cert.tx i origin
 
--- so where all that a certificate without shared inputs wants is there, it fits the transaction
+-- so if all that a certificate without shared inputs wants is there, it fits the transaction
 abbrev pub CertificatesFit : Type 0
 CertificatesFit = (s : Setting) (events : List Event) → IsHonestRun s events → AreApart s.opening
     → (m : ℕ) (seat : Seat) → slice_get (world_after s events).seats m ≡ Some seat

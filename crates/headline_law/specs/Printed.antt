@@ -31,12 +31,12 @@ pub record IsFinalHere (s : Setting) (w : World) (name : Name) (members : List �
   pub effects : Digest
   pub final : IsFinal s w made.signed.tx.epoch made.digest effects members
 
--- so it is in whatever world a `final` line of a schedule says it, where its members ascend and are known
+-- so it is in whatever world a `final` line of a schedule says it, if its members ascend and are known
 abbrev pub PrintedIsFinal : Type 0
 PrintedIsFinal = (s : Setting) (w : World) (name : Name) (asked members : List ℕ) → is_roll s.rules.stakes members ≡ true
     → Has (lines_of s w (event.Final name asked)) (final_by name members) → IsFinalHere s w name members
 
--- behind a front of the run the transaction of this name was final by these members, and it stands for good
+-- after a prefix of the run the transaction of this name was final by these members, and it stands for good
 pub record WasFinal (s : Setting) (events : List Event) (name : Name) (members : List ℕ) : Type 0 where
   pub front : List Event
   pub back : List Event

@@ -1,4 +1,4 @@
--- Sums in the run of every schedule that a text says, under the run assumptions alone. Source: this profile.
+-- Sums in the run of every schedule that a text says, under only the run assumptions. Source: this profile.
 use Rattle.std.specs.Prelude.{◌≡◌, ◌≢◌, ◌<◌, ◌+◌, ℕ, suc, List, slice_get, Some, Ok}
 use Rattle.schedule_text.specs.declared.words.Schedule.{Schedule}
 use Rattle.schedule_text.specs.Schedule.{schedule_of}

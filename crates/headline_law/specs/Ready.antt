@@ -1,4 +1,4 @@
--- What held certificates want is there, where its makers were executed, and it fits them.
+-- What held certificates want is there, if its makers were executed, and it fits them.
 use Rattle.std.specs.Prelude.{◌≡◌, ℕ, true, List, slice_get, Option, Some, is_some}
 use Rattle.digest_core.specs.declared.Digest.{Digest}
 use Rattle.chain_types.specs.declared.objects.Object.{Object}
@@ -39,7 +39,7 @@ SharedInputsFit = (s : Setting) (events : List Event) → IsHonestRun s events �
     → (h : Held) → Has (member_in s seat).held h → (i : Input) (origin : Option Digest) → Has (joined_inputs h.cert) (i, origin) → is_shared_input i ≡ true
     → (o : Object) → found (versions (member_in s seat).opening (member_in s seat).executed) (wanted_of (member_in s seat) h i origin) ≡ Some o → fits_input h.cert.tx i o ≡ true
 
--- No held certificate is unfit: where all that it wants is there, and it is admitted if it has a shared input, the
+-- No held certificate is unfit: if all that it wants is there, and it is admitted if it has a shared input, the
 -- objects fit its transaction.
 abbrev pub NoneIsUnfit : Type 0
 NoneIsUnfit = (s : Setting) (events : List Event) → IsHonestRun s events → AreApart s.opening

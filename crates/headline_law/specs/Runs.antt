@@ -1,4 +1,4 @@
--- What runs do: what is ready is executed, behind a run nothing is ready, and nothing is left. Source: this profile (rounds); Sui Lutris (what was
+-- What runs do: what is ready is executed, after a run nothing is ready, and nothing is left. Source: this profile (rounds); Sui Lutris (what was
 -- certified can be executed wherever what it needs was).
 use Rattle.std.specs.Prelude.{◌≡◌, ◌⊎◌, ℕ, true, false, nat_le, List, [], ◌∷◌, ◌++◌, slice_get, Option, Some, None, Ok, Err}
 use Rattle.std.specs.List.{list_all}
@@ -21,22 +21,22 @@ use Rattle.world_spec.specs.Assumptions.{IsHonestRun}
 use Rattle.sequence_law.specs.Orderly.{AreApart}
 use Rattle.agreement_law.specs.Checkpointed.{IsBuilt}
 
--- no held certificate is ready behind these executions
+-- no held certificate is ready after these executions
 abbrev pub IsRunOut : Books → List Execution → Type 0
 IsRunOut b executed = (h : Held) → Has b.held h → ready b executed h ≡ None
 
--- so it is behind the rounds of a run, whatever is held and was executed
+-- so it is after the rounds of a run, whatever is held and was executed
 abbrev pub NothingIsReadyBehindARun : Type 0
 NothingIsReadyBehindARun = (b : Books) (executed : List Execution) → IsRunOut b (executed ++ rounds b executed)
 
--- of those held before this certificate the round behind these executions takes one that writes a key that it writes
+-- of those held before this certificate the round after these executions takes one that writes a key that it writes
 pub record IsKeptOut (b : Books) (executed : List Execution) (h : Held) (x : Execution) : Type 0 where
   pub front : List Held
   pub back : List Held
   pub split : b.held ≡ front ++ h ∷ back
   pub clash : clashes (round_among b executed [] front) x ≡ true
 
--- what is ready at first, or behind some of the rounds, is executed, where nothing keeps it out of its round
+-- what is ready at first, or after some of the rounds, is executed, if nothing keeps it out of its round
 abbrev pub RoundsTakeReady : Books → List Execution → Type 0
 RoundsTakeReady b executed = (n : ℕ) (h : Held) (x : Execution) → Has b.held h → ready b (executed ++ rounds_within n b executed) h ≡ Some x
     → Has (rounds b executed) x ⊎ IsKeptOut b (executed ++ rounds_within n b executed) h x
@@ -52,7 +52,7 @@ pub record RunsAs (r : Rules) (m : Member) (x : Execution) : Type 0 where
   pub told : Has ran.executed x.gave.effects
   pub stands : Has (with_rounds m).executed x
 
--- what a certificate's execution gives, where it is ready behind so many rounds of the member's next run
+-- what a certificate's execution gives, if it is ready after so many rounds of the member's next run
 abbrev pub ready_behind : ℕ → Member → Held → Option Execution
 ready_behind n m h = ready (books m) (m.executed ++ rounds_within n (books m) m.executed) h
 
@@ -60,7 +60,7 @@ ready_behind n m h = ready (books m) (m.executed ++ rounds_within n (books m) m.
 abbrev pub IsKeptOutBehind : ℕ → Member → Held → Execution → Type 0
 IsKeptOutBehind n m h x = IsKeptOut (books m) (m.executed ++ rounds_within n (books m) m.executed) h x
 
--- the next run of a member that is not halted and has room for a record executes what is ready then or behind some of its
+-- the next run of a member that is not halted and has room for a record executes what is ready then or after some of its
 -- rounds, if nothing keeps it out
 abbrev pub CompletesRuns : Rules → Member → Type 0
 CompletesRuns r m = fork_of m ≡ None → nat_le record_limit m.records ≡ false
@@ -78,7 +78,7 @@ RunsExecuteReady = (s : Setting) (events : List Event) → IsHonestRun s events 
     → (n : ℕ) (h : Held) (x : Execution) → Has (member_in s seat).held h → ready_behind n (member_in s seat) h ≡ Some x
     → is_executed (with_rounds (member_in s seat)).executed h.digest ≡ true
 
--- a member has nothing left where nothing is ready
+-- a member has nothing left if nothing is ready
 abbrev pub NothingIsLeft : Type 0
 NothingIsLeft = (s : Setting) (events : List Event) → IsHonestRun s events → AreApart s.opening
     → (m : ℕ) (seat : Seat) → slice_get (world_after s events).seats m ≡ Some seat
@@ -96,7 +96,7 @@ pub record HasNothingToWaitFor (m : Member) (h : Held) : Type 0 where
   pub origins : list_all (is_origin_done m.executed) h.cert.origins ≡ true
   pub writers : list_all (λ (w : Wanted). is_maker_done m.executed w.producer) (wants_of m.sequence.admission h) ≡ true
 
--- and a run executes each held certificate that waits for nothing behind it
+-- and a run executes each held certificate that waits for nothing after it
 abbrev pub RunsExecuteAll : Type 0
 RunsExecuteAll = (s : Setting) (events : List Event) → IsHonestRun s events → AreApart s.opening
     → (m : ℕ) (seat : Seat) → slice_get (world_after s events).seats m ≡ Some seat
@@ -117,7 +117,7 @@ RunsBuildAll = (s : Setting) (events : List Event) → IsHonestRun s events → 
     → (ran : Ran) → run_answer s.rules (member_in s seat) ≡ Ok ran
     → Each (IsBuilt (with_rounds (member_in s seat))) (member_in s seat).sequence.cuts
 
--- and no turn is refused behind it for a certificate that waits
+-- and no turn is refused after it for a certificate that waits
 abbrev pub NoTurnWaitsBehindARun : Type 0
 NoTurnWaitsBehindARun = (s : Setting) (events : List Event) → IsHonestRun s events → AreApart s.opening
     → (m : ℕ) (seat : Seat) → slice_get (world_after s events).seats m ≡ Some seat

@@ -18,7 +18,7 @@ use Rattle.world_spec.specs.World.{Seat, stated, said_by, member_in}
 use Rattle.world_spec.specs.Run.{world_after}
 use Rattle.world_spec.specs.Assumptions.{IsHonestRun}
 
--- behind a front of these records P held of the member
+-- after a prefix of these records P held of the member
 pub record WasOnce (s : Setting) (records : List Record) (P : Member → Type 0) : Type 0 where
   pub front : List Record
   pub back : List Record

@@ -12,7 +12,7 @@ pub fn ends_are_whole()
     ensures { EndsAreWhole }
 {}
 
-/// Where no statement is forged, each honest member whose End was counted stated it.
+/// If no statement is forged, each honest member whose End was counted stated it.
 pub fn counted_is_stated()
     ensures { CountedIsStated }
 {}

@@ -3,7 +3,7 @@ ghost use Rattle.headline_law.specs.Final.{FinalIsAgreed, FinalOnce, FinalStands
 
 /// A transaction whose effects a quorum acknowledged, faulty members among it, stands with these effects in a checkpoint of
 /// its epoch at every member that left the epoch, and no checkpoint of the epoch there has it with others; whether they
-/// acknowledged it before the member left the epoch or behind it.
+/// acknowledged it before the member left the epoch or after it.
 pub fn final_stands()
     ensures { FinalStands }
 {}

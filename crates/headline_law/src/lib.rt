@@ -1,6 +1,6 @@
 //! The headline: what holds of every moment of every honest run of a schedule that a text says; and final transactions:
 //! what a quorum acknowledged stands in a checkpoint of its epoch, with these effects, at every member that leaves it. What
-//! objects hold is an amount, a number below 2^64, from the set-up on; an input is present where its maker was executed,
+//! objects hold is an amount, a number below 2^64, from the set-up on; an input is present if its maker was executed,
 //! versions form one chain, and what is held with its inputs present, and admitted if shared, is ready.
 #![tactic(auto)]
 
@@ -41,8 +41,8 @@ pub use statements::{
 };
 pub use versions::{assigned_versions_rise, versions_are_one_chain};
 
-/// Behind each front of the lines of a schedule no member cast votes of one epoch on one version for transactions of
-/// different digests. Up to where under a third of the stake is faulty, no statement is forged and no digests collide: no two
+/// After each prefix of the lines of a schedule no member cast votes of one epoch on one version for transactions of
+/// different digests. As long as under a third of the stake is faulty, no statement is forged and no digests collide: no two
 /// certified transactions of an epoch consume one version, every member opened its epoch with what one thread leaves and
 /// built that thread's checkpoints, a run leaves nothing, the sums are kept, and what a quorum acknowledged, and each
 /// `final by` line of the report, stands in a checkpoint of its epoch at each member that has left it.

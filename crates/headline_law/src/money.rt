@@ -1,21 +1,21 @@
 //! What objects hold is an amount, a number below 2^64, from the set-up through every block and every epoch. So the sums
-//! of each currency over the epochs hold in the run of every schedule that a text says, under the run assumptions alone.
+//! of each currency over the epochs hold in the run of every schedule that a text says, under only the run assumptions.
 
 ghost use Rattle.headline_law.specs.Amounts.{AmountsStayAmounts, MoneyStaysAmounts};
 ghost use Rattle.headline_law.specs.Openings.{GasWasHeld, OpeningsHoldAmounts, ThreadsKeepAmounts};
 ghost use Rattle.headline_law.specs.ReadAmounts.{ReadCurrenciesAreBacked, ReadGasAloneLeaves, ReadSetUpsAreAmounts, ReadSetUpsHaveNoGasCap};
 
-/// Where the balances and supplies that a transaction reads are amounts, so are those that it writes, whatever its inputs.
+/// If the balances and supplies that a transaction reads are amounts, so are those that it writes, whatever its inputs.
 pub fn money_stays_amounts()
     ensures { MoneyStaysAmounts }
 {}
 
-/// Where the values of counters and limits are amounts too, and its pure inputs are bytes, so are those that it writes.
+/// If the values of counters and limits are amounts too, and its pure inputs are bytes, so are those that it writes.
 pub fn amounts_stay_amounts()
     ensures { AmountsStayAmounts }
 {}
 
-/// One thread that executes transactions in order leaves balances and supplies that are amounts, where it found such.
+/// One thread that executes transactions in order leaves balances and supplies that are amounts, if it found such.
 pub fn threads_keep_amounts()
     ensures { ThreadsKeepAmounts }
 {}

@@ -3,7 +3,7 @@
 ghost use Rattle.headline_law.specs.Cast.{EveryVoteWasCast};
 ghost use Rattle.headline_law.specs.Present.{CertificatesFit, OwnedInputsArePresent, OwnedInputsFit};
 
-/// Each vote that stands in a journal was cast behind some front of the run, in a state in which no case refused it, and
+/// Each vote that stands in a journal was cast after some prefix of the run, in a state in which no case refused it, and
 /// names the origins that the rule gives there.
 pub fn every_vote_was_cast()
     ensures { EveryVoteWasCast }

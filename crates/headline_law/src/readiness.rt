@@ -22,7 +22,7 @@ pub fn shared_inputs_fit()
     ensures { SharedInputsFit }
 {}
 
-/// No held certificate is unfit: where all that it wants is there, and it is admitted if it has a shared input, the
+/// No held certificate is unfit: if all that it wants is there, and it is admitted if it has a shared input, the
 /// objects fit its transaction.
 pub fn none_is_unfit()
     ensures { NoneIsUnfit }
@@ -56,29 +56,29 @@ pub fn next_round_takes_all()
     ensures { NextRoundTakesAll }
 {}
 
-/// So is what is due: a transaction is executed one round behind the last of those that it comes from.
+/// So is what is due: a transaction is executed one round after the last of those that it comes from.
 pub fn next_round_takes_due()
     ensures { NextRoundTakesDue }
 {}
 
-/// Behind the rounds of a run nothing is ready, whatever is held and was executed.
+/// After the rounds of a run nothing is ready, whatever is held and was executed.
 pub fn nothing_is_ready_behind_a_run()
     ensures { NothingIsReadyBehindARun }
 {}
 
-/// What is ready before a run, or behind some of its rounds, is executed by it, whatever is held and was executed: but for
+/// What is ready before a run, or after some of its rounds, is executed by it, whatever is held and was executed: but for
 /// what writes a key that a certificate held before it writes in the same round.
 pub fn what_is_ready_is_executed()
     ensures { WhatIsReadyIsExecuted }
 {}
 
-/// So a member that is not halted, and has room for a record, answers a run with all that is ready then or behind some of
+/// So a member that is not halted, and has room for a record, answers a run with all that is ready then or after some of
 /// its rounds, and has executed it: with no assumption on the run of the world.
 pub fn runs_are_complete()
     ensures { RunsAreComplete }
 {}
 
-/// Under the run assumptions nothing is kept out of its round: a run executes all that is ready before it, or behind some
+/// Under the run assumptions nothing is kept out of its round: a run executes all that is ready before it, or after some
 /// of its rounds.
 pub fn runs_execute_ready()
     ensures { RunsExecuteReady }
@@ -101,7 +101,7 @@ pub fn runs_execute_all()
     ensures { RunsExecuteAll }
 {}
 
-/// So a run executes all that the member admitted: whoever sees his transaction admitted has its effects behind the next
+/// So a run executes all that the member admitted: whoever sees his transaction admitted has its effects after the next
 /// run of any honest member that has seen as much of the sequence.
 pub fn runs_execute_admitted()
     ensures { RunsExecuteAdmitted }
@@ -112,7 +112,7 @@ pub fn runs_build_all()
     ensures { RunsBuildAll }
 {}
 
-/// So no turn is refused behind a run for a certificate that waits: of what a member admitted nothing keeps it in its epoch.
+/// So no turn is refused after a run for a certificate that waits: of what a member admitted nothing keeps it in its epoch.
 pub fn no_turn_waits_behind_a_run()
     ensures { NoTurnWaitsBehindARun }
 {}

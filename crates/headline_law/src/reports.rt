@@ -3,7 +3,7 @@ ghost use Rattle.headline_law.specs.Alarms.{ReportsAreCalm};
 ghost use Rattle.headline_law.specs.Executing.{ReadyIsAlwaysExecuted};
 ghost use Rattle.headline_law.specs.Printed.{PrintedIsFinal, ReadReportsHold, ReportedStands};
 
-/// Where a `final` line of a schedule says that a transaction is final by some members, these acknowledged one effects
+/// If a `final` line of a schedule says that a transaction is final by some members, these acknowledged one effects
 /// digest of it, in its epoch, and are a quorum.
 pub fn printed_is_final()
     ensures { PrintedIsFinal }
@@ -26,7 +26,7 @@ pub fn reports_are_calm()
 {}
 
 /// In every run, whoever is faulty: a `run` line executes all that its member holds and that is ready before the line or
-/// behind some of its rounds, and the report has the effects; but for what writes a key that a certificate held before it
+/// after some of its rounds, and the report has the effects; but for what writes a key that a certificate held before it
 /// writes in the same round.
 pub fn ready_is_always_executed()
     ensures { ReadyIsAlwaysExecuted }

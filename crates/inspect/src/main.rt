@@ -17,7 +17,7 @@ use std::io::{self, BufWriter};
 use std::process::ExitCode;
 use std::thread::Threads;
 
-/// The words behind the program's name.
+/// The words after the program's name.
 fn words_of(rt: &HostRuntime) -> io::Result<Vec<String>> {
     let mut words = Vec::new(rt.alloc());
     for word in env::args(rt)?.skip(1) {
@@ -26,7 +26,7 @@ fn words_of(rt: &HostRuntime) -> io::Result<Vec<String>> {
     Ok(words)
 }
 
-/// The status where the words cannot be had: words that are not UTF-8 are wrong words.
+/// The status if the words cannot be had: words that are not UTF-8 are wrong words.
 fn status_of_words(error: &io::Error) -> u8 {
     match error.kind() {
         io::ErrorKind::InvalidData => 2,

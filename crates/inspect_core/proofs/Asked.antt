@@ -138,7 +138,7 @@ refused_kept : (r : Result Schedule Refused) (f : Refused) (kept kept' : Option 
 refused_kept (Ok s) f kept kept' is cut = absurd (cc)
 refused_kept (Err g) f kept kept' is cut = cut.1
 
--- a text that is no schedule
+-- a text that is not a schedule
 pub refused_whole : (text : List ℕ) (f : Refused) (held held' : Option (List ℕ)) (kept kept' : Option Journals) → schedule_of text ≡ Err f → TextCut program_trust (schedule_of text) None None kept kept'
     → Appends held held' (refusal_text f) → (r : Refused) × (schedule_of text ≡ Err r) × Appends held held' (refusal_text r) × KeepsJournals kept kept'
 refused_whole text f held held' kept kept' is cut written = (f, is, written, refused_kept (schedule_of text) f kept kept' is cut)

@@ -16,7 +16,7 @@ something_there [] n low e = omega (arith, low)
 something_there (x ∷ xs) zero low e = clash e
 something_there (x ∷ xs) (suc n) low e = something_there xs n (omega (arith, low)) e
 
--- the first n, and the one behind them
+-- the first n, and the one after them
 one_more : {A : Type 0} (xs : List A) (n : ℕ) (x : A) → slice_get xs n ≡ Some x → take n xs ++ x ∷ [] ≡ take (suc n) xs
 one_more [] n x e = absurd (clash e)
 one_more (y ∷ xs) zero x e = let same : y ≡ x = cc in ap (λ z. z ∷ []) (sym same)
@@ -28,7 +28,7 @@ front_more {A} xs front n x is e = ap (λ (zs : List A). zs ++ x ∷ []) is ∙ 
 pub front_whole : {A : Type 0} (xs front : List A) (n : ℕ) → front ≡ take n xs → length xs ≤ n → front ≡ xs
 front_whole xs front n is most = is ∙ take_all n xs most
 
--- ---- what can be spelled
+-- ---- what can be encoded
 
 pub short_more : (cs : List Checkpoint) (c : Checkpoint) → Each checkpoint.short cs → checkpoint.short c → Each checkpoint.short (cs ++ c ∷ [])
 short_more [] c all one = (one, tt)

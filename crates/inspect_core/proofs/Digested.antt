@@ -1,4 +1,4 @@
--- The lines of digests, one behind the other, and whose they are.
+-- The lines of digests, one after the other, and whose they are.
 use Rattle.std.proofs.Common.{◌≡◌, inl, inr, ◌∙◌, ◌+◌, ◌<◌, ◌≤◌, ℕ, zero, suc, List, [], ◌∷◌, ◌++◌, length, take, Option, Some, None, refl, sym, ap, arith, append_assoc, append-nil}
 use Rattle.std.specs.Prelude.{codes, option_map, slice_get}
 use Rattle.std.specs.List.{flat_map}
@@ -14,7 +14,7 @@ use Rattle.committee_core.proofs.Agreeing.{clash}
 
 -- ---- a line
 
--- words behind a text and then the digest, or the text and then the line
+-- words after a text and then the digest, or the text and then the line
 pub line_behind : (text words : List ℕ) (d : Digest) → with_digest (text ++ words) d ≡ text ++ with_digest words d
 line_behind text words d = simp (append_assoc) refl
 
@@ -34,7 +34,7 @@ checkpoint_words old now text name d is put = put ∙ (ap (λ t. with_digest t d
 pub object_words : (old now text name version : List ℕ) (d : Digest) → text ≡ old ++ codes "object " ++ name ++ codes " " ++ version → now ≡ with_digest text d → now ≡ old ++ with_digest (codes "object " ++ name ++ codes " " ++ version) d
 object_words old now text name version d is put = put ∙ (ap (λ t. with_digest t d) (is ∙ simp (append_assoc) refl) ∙ line_behind old (codes "object " ++ name ++ codes " " ++ version) d)
 
--- one more line behind those so far
+-- one more line after those so far
 pub one_more : {A : Type 0} (f : A → List ℕ) (xs : List A) (n : ℕ) (x : A) (old text now : List ℕ) → slice_get xs n ≡ Some x → text ≡ old ++ flat_map f (take n xs) → now ≡ text ++ f x
     → now ≡ old ++ flat_map f (take (n + 1) xs)
 one_more f xs n x old text now at so_far is =

@@ -64,7 +64,7 @@ found_more stakes certs spelled c found sound apart =
           ∙ sym (any_last (λ x. bytes_eq (messages.certificate.spell d) (messages.certificate.spell x)) certs c);
     })
 
--- the same of lists that are equal to these
+-- likewise for lists that are equal to these
 pub found_pushed : (stakes : List ℕ) (certs certs' : List Certificate) (spelled spelled' : Named (Unit {0})) (c copy : Certificate) (bytes again : List ℕ) → AreFound stakes certs spelled → IsSound stakes c
     → copy ≡ c → bytes ≡ messages.certificate.spell c → again ≡ messages.certificate.spell c → false ≡ is_some (named spelled bytes) → spelled' ≡ with_name spelled again tt
     → certs' ≡ certs ++ copy ∷ [] → AreFound stakes certs' spelled'
@@ -93,7 +93,7 @@ pub handed_on : (r : Rules) (certs : List Certificate) (e : Event) (events : Lis
     → fold (with_valid r) (fold (with_valid r) certs (handed_over e)) (flat_map handed_over events) ≡ fold (with_valid r) certs (flat_map handed_over (e ∷ events))
 handed_on r certs e events = sym (fold_more (with_valid r) (handed_over e) (flat_map handed_over events) certs)
 
--- the certificate that was formed at a place, and those behind it
+-- the certificate that was formed at a place, and those after it
 formed_at : (formed : List Formed) (n : ℕ) (c : Certificate) → option_map cert_in (slice_get formed n) ≡ Some c → map cert_in (drop n formed) ≡ c ∷ map cert_in (drop (suc n) formed)
 formed_at [] n c at = absurd (cc)
 formed_at (f ∷ formed) zero c at = let same : f.cert ≡ c = cc (at) in ap (λ (x : Certificate). x ∷ map cert_in formed) same

@@ -121,7 +121,7 @@ all_shared (c ∷ cs) uses q h = all_shared cs (with_cert uses c) q (still_share
 abbrev Meet : Uses → Certificate → Certificate → Type 0
 Meet all c d = (q : ObjectKey) → has_key (consumed_keys c.tx) q ≡ true → has_key (consumed_keys d.tx) q ≡ true → IsShared all q
 
--- one certificate and each behind it
+-- one certificate and each after it
 meet_each : (c : Certificate) (cs : List Certificate) (uses all : Uses) → ((q : ObjectKey) → has_key (consumed_keys c.tx) q ≡ true → IsUsed uses q) → fold with_cert uses cs ≡ all → Each (Meet all c) cs
 meet_each c [] uses all used is = tt
 meet_each c (d ∷ cs) uses all used is = (

@@ -1,4 +1,4 @@
--- What is known of a valid certificate, by the stakes and the seals alone.
+-- What is known of a valid certificate, only by the stakes and the seals.
 use Rattle.std.proofs.Common.{◌≡◌, ℕ, Bool, true, false, List, [], ◌∷◌, Option, Some, None, is_some, refl, sym, ap}
 use Rattle.std.specs.Prelude.{not}
 use Rattle.digest_core.specs.declared.Digest.{Digest}

@@ -32,7 +32,7 @@ held_bytes (event.RawHold m bytes) = Some bytes
 held_bytes (event.Ack m tx spoiled) = None
 held_bytes (event.Final tx members) = None
 
--- the certificate that they spell, if they spell one
+-- the certificate that they encode, if they encode one
 abbrev pub spelled_by : Option (List ℕ) → List Certificate
 spelled_by None = []
 spelled_by (Some bytes) = read_list (read_certificate bytes)
@@ -43,7 +43,7 @@ handed_over e = spelled_by (held_bytes e)
 abbrev pub is_valid : Rules → Certificate → Bool
 is_valid r c = not (is_some (cert_refusal r c))
 
--- certificates are equal where they are spelled alike
+-- certificates are equal if they are encoded alike
 abbrev pub is_there : List Certificate → Certificate → Bool
 is_there found c = list_any (λ d. bytes_eq (messages.certificate.spell c) (messages.certificate.spell d)) found
 
@@ -59,7 +59,7 @@ with_valid r found c = if is_valid r c then with_new found c else found
 abbrev pub certified : Rules → List Certificate → List Event → List Certificate
 certified r formed events = fold (with_valid r) [] (formed ++ flat_map handed_over events)
 
--- what is said of each of these with each behind it
+-- what is said of each of these with each after it
 abbrev pub of_pairs : (Certificate → Certificate → List ℕ) → List Certificate → List ℕ
 of_pairs says [] = []
 of_pairs says (c ∷ cs) = flat_map (says c) cs ++ of_pairs says cs

@@ -60,13 +60,13 @@ nobody_text m = codes "inspect chain " ++ decimal m ++ codes ": no honest member
 abbrev pub unsealed_text : ℕ → ℕ → ℕ → List ℕ
 unsealed_text m k n = codes "inspect chain " ++ decimal m ++ codes ": no seal of member " ++ decimal k ++ codes " on checkpoint " ++ decimal n ++ 10 ∷ []
 
--- the bytes spell the chain of these checkpoints, each under an accepted seal of each of these members
+-- the bytes encode the chain of these checkpoints, each under an accepted seal of each of these members
 pub record SpellsSealed (accepts : Accepting) (members : List ℕ) (checkpoints : List Checkpoint) (text : List ℕ) : Type 0 where
   pub links : List Link
   pub sealed : AreSealedBy accepts members checkpoints links
   pub is : text ≡ chain.spell (record { links = links })
 
--- the member stands, each of the others has built what it has built, and its chain under their seals is spelled
+-- the member stands, each of the others has built what it has built, and its chain under their seals is encoded
 pub record IsSealed (accepts : Accepting) (states : States) (m : ℕ) (members : List ℕ) (status : ℕ) (text : List ℕ) : Type 0 where
   pub done : status ≡ 0
   pub state : Member

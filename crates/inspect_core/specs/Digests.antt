@@ -60,14 +60,14 @@ pub record IsLowest (states : States) (m : Member) : Type 0 where
 abbrev pub NoneStands : States → Type 0
 NoneStands states = (i : ℕ) → states i ≡ None
 
--- behind the transactions stands what the lowest-numbered such member has
+-- after the transactions stands what the lowest-numbered such member has
 pub record IsStanding (k : Known) (states : States) (status : ℕ) (text : List ℕ) : Type 0 where
   pub done : status ≡ 0
   pub member : Member
   pub lowest : IsLowest states member
   pub is : text ≡ txs_text k ++ member_text k member
 
--- there is no such member, and the transactions stand alone
+-- there is no such member, and only the transactions stand
 pub record IsAlone (k : Known) (states : States) (status : ℕ) (text : List ℕ) : Type 0 where
   pub done : status ≡ 0
   pub none : NoneStands states

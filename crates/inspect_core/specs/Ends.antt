@@ -1,4 +1,4 @@
--- What the program promises of each question: a relation between what source, sink and keeper tell and count before and behind it,
+-- What the program promises of each question: a relation between what source, sink and keeper show and count before and after it,
 -- and the status.
 use Rattle.std.specs.Prelude.{◌≡◌, ◌⊎◌, ℕ, List, Option, Some, None, Result, Ok, Err}
 use Rattle.std.specs.Io.KnownBytes.{Appends, Keeps}
@@ -34,7 +34,7 @@ Writing = List ℕ → Type 0
 abbrev pub SaysOf : Question → Sight → ℕ → Writing → Type 0
 SaysOf q x status Written = (text : List ℕ) × Says q x status text × Written text
 
--- The same of the world behind the whole run of a schedule under the seals of the program, where what its lines read back is
+-- Likewise for the world after the whole run of a schedule under the seals of the program, if what its lines read back is
 -- what was appended.
 abbrev pub SaysBehind : Question → Schedule → Option Journals → ℕ → Writing → Type 0
 SaysBehind q s kept status Written = ReadsBack kept s.events → SaysOf q (sight_of (setting_in program_trust s) (world_after (setting_in program_trust s) s.events) s.events) status Written
@@ -46,12 +46,12 @@ pub record RunsAndSays (q : Question) (text : List ℕ) (status : ℕ) (Written 
   pub journals : KeepsRun program_trust schedule kept kept'
   pub says : SaysBehind q schedule kept status Written
 
--- fronts of the records of a schedule were kept
+-- prefixes of the records of a schedule were kept
 abbrev pub KeepsSome : Result Schedule Refused → Option Journals → Option Journals → Type 0
 KeepsSome (Ok s) kept kept' = KeepsFronts program_trust s kept kept'
 KeepsSome (Err r) kept kept' = KeepsJournals kept kept'
 
--- a front of what is to be said was written
+-- a prefix of what is to be said was written
 abbrev pub SaysSome : Question → Result Schedule Refused → Option Journals → Writing → Type 0
 SaysSome q (Ok s) kept Written = (status : ℕ) × SaysBehind q s kept status Written
 SaysSome q (Err r) kept Written = Written (refusal_text r)

@@ -24,7 +24,7 @@ pub record Sight : Type 0 where
   pub formed : List Certificate
   pub events : List Event
 
--- of a world behind these lines
+-- of a world after these lines
 abbrev pub sight_of : Setting → World → List Event → Sight
 sight_of s w events = record { states = states_of s w; rules = s.rules; known = names_of s w; names = tx_name w; formed = map cert_in w.certs; events = events }
 
@@ -32,7 +32,7 @@ sight_of s w events = record { states = states_of s w; rules = s.rules; known = 
 abbrev pub sight_in : Scene → List Event → Sight
 sight_in sc events = record { states = states_in sc.posts; rules = rules_in program_trust.accepts sc; known = sc.known; names = tx_name (world_with sc.known); formed = map cert_in sc.certs; events = events }
 
--- the lines of a text, none where it is no schedule
+-- the lines of a text, none if it is not a schedule
 abbrev pub events_in : Result Schedule Refused → List Event
 events_in (Ok s) = s.events
 events_in (Err r) = []

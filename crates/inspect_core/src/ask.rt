@@ -1,4 +1,4 @@
-//! A question to the world behind the schedule that the source holds.
+//! A question to the world after the schedule that the source holds.
 
 ghost use Rattle.std.specs.Prelude.{◌≡◌, ◌⊎◌, ◌≤◌, ℕ, Err, IfOk};
 ghost use Rattle.std.specs.Io.KnownBytes.{Appends, Keeps};
@@ -78,7 +78,7 @@ fn say_of<K: Sink>(
     }
 }
 
-/// Writes why a text is no schedule. Answers the status.
+/// Writes why a text is not a schedule. Answers the status.
 fn say_refused<K: Sink>(alloc: Global, line: u64, cause: u8, sink: &mut K) -> u8
     ensures known { (result ≡ 3) ⊎ (result ≡ 5) ⊎ (result ≡ 7) }
     ensures written { result ≡ 3 → Appends (K.held sink.old) (K.held sink.new) (text_of (report_line.Refused line cause)) }
@@ -92,7 +92,7 @@ fn say_refused<K: Sink>(alloc: Global, line: u64, cause: u8, sink: &mut K) -> u8
     }
 }
 
-/// Runs a text with no report, and writes what is to be said of the world behind it. Answers the status.
+/// Runs a text with no report, and writes what is to be said of the world after it. Answers the status.
 fn ask_text<R: Threads + Sync, K: Sink, D: Keeper>(
     rt: &R,
     alloc: Global,
@@ -124,7 +124,7 @@ fn ask_text<R: Threads + Sync, K: Sink, D: Keeper>(
     }
 }
 
-/// Reads the source, and asks of the world behind the schedule that it is. Answers the status.
+/// Reads the source, and asks of the world after the schedule that it is. Answers the status.
 pub(crate) fn ask<R: Threads + Sync, S: Source, K: Sink, D: Keeper>(
     rt: &R,
     alloc: Global,

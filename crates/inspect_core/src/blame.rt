@@ -89,7 +89,7 @@ fn blame_among(alloc: Global, world: &World, events: &[Event]) -> Result<Answer,
     Ok(Answer { status: 0, text })
 }
 
-/// What is answered of the world behind a text: who sealed two votes of which an honest member casts at most one. The text is
+/// What is answered of the world after a text: who sealed two votes of which an honest member casts at most one. The text is
 /// read once more, for the certificates that its lines hand over as bytes.
 pub(crate) fn blame_answer(alloc: Global, world: &World, text: &[u8]) -> Result<Answer, OutOfMemory>
     ensures { IfOk result (λ a. SaysBlame (rules_in program_trust.accepts world.now) (tx_name (world_with world.now.known)) (map cert_in world.now.certs) (events_in (schedule_of text.now)) a.status a.text) }

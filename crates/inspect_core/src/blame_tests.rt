@@ -83,7 +83,7 @@ cert t1 0 1 2\n\
 cert t3 0 2 3\n\
 cert t4 1 2 3\n";
 
-/// The certificate of the first transaction, by members 0, 1 and 2, comes as bytes; a line makes it behind that.
+/// The certificate of the first transaction, by members 0, 1 and 2, comes as bytes; a line makes it after that.
 const RAW: &str = "member 1 honest\n\
 member 1 faulty\n\
 member 1 faulty\n\

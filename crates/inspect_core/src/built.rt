@@ -10,10 +10,10 @@ use std::alloc::Global;
 use validator_core::Validator;
 use wire_bcs::{Duplicate, OutOfMemory, Seq};
 
-/// Lists of so many items have no spelling.
+/// Lists of so many items have no encoding.
 const TOO_LONG: u64 = 2_147_483_648;
 
-/// A copy of a checkpoint that can be spelled. One of more than 2147483647 items is said to want memory.
+/// A copy of a checkpoint that can be encoded. One of more than 2147483647 items is said to be out of memory.
 fn copy_short(checkpoint: &Checkpoint) -> Result<Checkpoint, OutOfMemory>
     ensures value { IfOk result (λ c. c ≡ checkpoint.now) }
     ensures short { IfOk result codec.short }

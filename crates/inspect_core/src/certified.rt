@@ -17,7 +17,7 @@ use std::alloc::Global;
 use tables::NameMap;
 use wire_bcs::{Duplicate, OutOfMemory, Seq, Unread};
 
-/// Certificates, and what each of them is spelled as.
+/// Certificates, and what each of them is encoded as.
 #[derive(Drop)]
 pub(crate) struct Found {
     pub(crate) certs: Seq<Certificate>,
@@ -69,7 +69,7 @@ impl Found {
         }
     }
 
-    /// Adds a certificate, where it is valid and none is there that is spelled alike.
+    /// Adds a certificate, if it is valid and none is there that is encoded alike.
     pub(crate) fn add<S: Sealer>(
         &mut self,
         alloc: Global,
@@ -94,7 +94,7 @@ impl Found {
         self.certs.push(copy)
     }
 
-    /// Adds the one that these bytes spell, if they spell one.
+    /// Adds the one that these bytes encode, if they encode one.
     #[tactic(auto, unfolding(protocol_spec::specs::Chain::Certificates::read_certificate))]
     fn add_spelled<S: Sealer>(
         &mut self,

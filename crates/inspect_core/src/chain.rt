@@ -34,7 +34,7 @@ fn sealed_chain(
     make_chain(alloc, checkpoints, members, &sealer)
 }
 
-/// The spelled chain, with status 0.
+/// The encoded chain, with status 0.
 fn sealed_answer(
     alloc: Global,
     checkpoints: &Seq<Checkpoint>,

@@ -13,7 +13,7 @@ use std::alloc::Global;
 use wire_bcs::{OutOfMemory, Seq};
 use world_names::{Directory, MadeTx};
 
-/// Adds a digest in hexadecimal digits behind the words of its line, and ends the line.
+/// Adds a digest in hexadecimal digits after the words of its line, and ends the line.
 fn add_digest(text: &mut Seq<u8>, digest: &Digest) -> Result<(), OutOfMemory>
     ensures { OnOk result (text.new ≡ with_digest text.old digest.now) }
 {

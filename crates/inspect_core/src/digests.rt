@@ -79,7 +79,7 @@ fn add_shown(
     add_objects(text, names, order.as_slice())
 }
 
-/// The lines of the transactions alone, with status 0.
+/// The lines of the transactions only, with status 0.
 fn alone_answer(alloc: Global, names: &Directory) -> Result<Answer, OutOfMemory>
     ensures status { IfOk result (λ a. a.status ≡ 0) }
     ensures text { IfOk result (λ a. a.text ≡ txs_text names.now) }
@@ -105,7 +105,7 @@ fn told_answer(
     Ok(Answer { status: 0, text })
 }
 
-/// A member, where it is honest and up. Takes no memory.
+/// A member, if it is honest and up. Takes no memory.
 fn standing(world: &World, member: u32) -> Option<&Validator>
     ensures none { result ≡ None → states_in world.now.posts member ≡ None }
     ensures some { IfSome result (λ v. states_in world.now.posts member ≡ Some v.now.state) }

@@ -1,4 +1,4 @@
-//! The program `inspect` over any source, sink and keeper: what stands behind a schedule that runs without a report.
+//! The program `inspect` over any source, sink and keeper: the world after a schedule that runs without a report.
 //!
 //! The clauses of [`inspect`] are what is promised. [`question_of`] says what the words ask.
 //! [`fresh_keeper`] is a keeper in memory for its members.

@@ -1,4 +1,4 @@
-//! The numbers of members that a word spells.
+//! The numbers of members that a word denotes.
 
 ghost use Rattle.std.specs.Prelude.{◌≡◌, ◌≤◌, length};
 ghost use Rattle.inspect_core.specs.Words.{members_in};
@@ -28,7 +28,7 @@ impl Model for MemberList {
 }
 
 impl MemberList {
-    /// The members that the word spells: numbers from 0 to 63, joined by commas, each above the one before it. Takes no
+    /// The members that the word denotes: numbers from 0 to 63, joined by commas, each above the one before it. Takes no
     /// memory.
     #[tactic(auto, unfolding(crate::specs::Words::members_in))]
     pub(crate) fn read(word: &[u8]) -> Option<MemberList>

@@ -93,7 +93,7 @@ fn add_rivals(
     Ok(())
 }
 
-/// Adds the lines of each of the certificates and each behind it.
+/// Adds the lines of each of the certificates and each after it.
 fn add_pairs(
     alloc: Global,
     names: &Directory,
@@ -112,7 +112,7 @@ fn add_pairs(
     Ok(())
 }
 
-/// The lines of each of the certificates and each behind it. Only those that share a version are held against each other.
+/// The lines of each of the certificates and each after it. Only those that share a version are held against each other.
 pub(crate) fn pairs_text(
     alloc: Global,
     names: &Directory,

@@ -8,7 +8,7 @@ ghost use Rattle.schedule_text.specs.Bytes.{number_in};
 use crate::members::{MOST_MEMBER, MemberList};
 use schedule_text::number_in;
 
-/// What is asked of the world behind a schedule.
+/// What is asked of the world after a schedule.
 #[derive(Drop)]
 pub enum Question {
     /// `chain M MEMBERS`: the chain of what member M built, under seals of these members; the numbers are from 0 to 63.
@@ -26,7 +26,7 @@ fn is_word(word: &str, name: &str) -> bool
     word == name
 }
 
-/// What stands behind `chain`.
+/// What follows `chain`.
 fn chain_words(member: &[u8], members: &[u8]) -> Option<Question>
     ensures { result ≡ chain_with (number_in 0 63 member.now) (members_in members.now) }
 {

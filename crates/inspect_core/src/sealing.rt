@@ -36,7 +36,7 @@ fn has_built_at(world: &World, checkpoints: &[Checkpoint], member: u32, place: u
     }
 }
 
-/// The place of the first checkpoint that the member has not built; none exactly where it has built all.
+/// The place of the first checkpoint that the member has not built; none exactly if it has built all.
 fn first_unbuilt(world: &World, checkpoints: &[Checkpoint], member: u32) -> Option<u64>
     ensures none { result ≡ None → HasBuiltAll (states_in world.now.posts) checkpoints.now member }
     ensures some { IfSome result (IsFirstUnbuilt (states_in world.now.posts) checkpoints.now member) }

@@ -1,5 +1,5 @@
-//! The program over memory, from bytes to bytes. The chains were spelled by `conformance/chains.py`; the digests are those of
-//! docs/FORMATS.md, and of values that hashlib was handed as it spells them.
+//! The program over memory, from bytes to bytes. The chains were encoded by `conformance/chains.py`; the digests are those of
+//! docs/FORMATS.md, and of values that hashlib was handed as it encodes them.
 
 use crate::inspect;
 use committee_core::fresh_keeper;
@@ -14,7 +14,7 @@ use std::thread::Threads;
 const ENDED: &str = "member 1 honest\nmember 1 honest\nmember 1 faulty\nmember 1 honest\n\
 close 0\nend 0\norder end 0\nclose 1\nend 1\norder end 1\nclose 3\nend 3\norder end 3\nsee 0 9\nsee 1 9\n";
 
-/// The same, and member 1 is down behind it.
+/// The same, and member 1 is down after it.
 const DOWN: &str = "member 1 honest\nmember 1 honest\nmember 1 faulty\nmember 1 honest\n\
 close 0\nend 0\norder end 0\nclose 1\nend 1\norder end 1\nclose 3\nend 3\norder end 3\nsee 0 9\nsee 1 9\n\
 stop 1 lost\nturn 1\n";
@@ -30,7 +30,7 @@ vote 0 t1\nvote 1 t1\nvote 2 t1\ncert t1 0 1 2\nsend 0 t1\nrun 0 1\norder t1\nor
 tx t2 bob 0 t1.0@2 100 a:alice transfer(gas,i0)\nclose 0\nend 0\norder end 0\n\
 close 1\nend 1\norder end 1\nclose 2\nend 2\norder end 2\nsee 0 9\n";
 
-/// alice pays bob, and member 0 executes that. Behind it member 0 is down.
+/// alice pays bob, and member 0 executes that. After it member 0 is down.
 const LEFT: &str = "member 1 honest\nmember 1 honest\nmember 1 honest\nmember 1 honest\n\
 coin g0 alice 10000\ntx t1 alice 0 g0@1 2000 n:500 a:bob split(gas,i0) transfer(r0,i1)\n\
 vote 0 t1\nvote 1 t1\nvote 2 t1\ncert t1 0 1 2\nsend 0 t1\nrun 0 1\nstop 0 lost\nclose 0\n";

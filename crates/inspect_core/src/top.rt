@@ -14,8 +14,8 @@ use std::alloc::Global;
 use std::thread::Threads;
 
 /// Runs the program: reads a schedule from the source, runs it under the seals of `committee` with no report, over a keeper
-/// with a list for each of 64 members that has no record where it tells its lists, and writes what the words ask of the
-/// world behind it. Answers the status.
+/// with a list for each of 64 members that has no record when it shows its lists, and writes what the words ask of the
+/// world after it. Answers the status.
 ///
 /// `chain M MEMBERS`, for M from 0 to 63 and members from 0 to 63, joined by commas, each above the one before it: the
 /// chain of the checkpoints that member M built, over all epochs, each under a seal of each of the members, as
@@ -27,22 +27,22 @@ use std::thread::Threads;
 ///
 /// `blame`: who sealed two votes of which an honest member casts at most one. A line `blame T1 T2: members M .. stake S of T`
 /// for each two valid certificates of one epoch whose transactions differ and consume one version: those that `cert` lines
-/// formed, and behind them those that `raw M hold` lines hand over as bytes.
+/// formed, and after them those that `raw M hold` lines hand over as bytes.
 ///
 /// | Status | Comes | Written, kept |
 /// |---|---|---|
-/// | 0 | where all events ran, and, for `chain`, member M is honest and up, and the members have built all that it has | the bytes of the chain, or the lines; each told list is its member's journal |
-/// | 3 | only if the bytes are no schedule, and the line was written | `refused line L cause C`; told lists stay |
-/// | 4 | only where the source's count of faults rose | nothing; told lists stay |
-/// | 5 | only where the sink's count of faults rose | a front of what was to be written; each told list is a front of its journal |
-/// | 6 | only where the keeper's count of faults rose, or a record read back is bad | nothing; each told list is a front of its journal |
-/// | 7 | for want of memory | as at 5 |
-/// | 8 | for `chain`, where all events ran, and there is no such member M, or else one of the members has not built a checkpoint that M has | `inspect chain M: no honest member that is up`, or `inspect chain M: no seal of member K on checkpoint N` for the first such member and its first such checkpoint; each told list is its member's journal |
+/// | 0 | if all events ran, and, for `chain`, member M is honest and up, and the members have built all that it has | the bytes of the chain, or the lines; each observable list is its member's journal |
+/// | 3 | only if the bytes are not a schedule, and the line was written | `refused line L cause C`; observable lists stay |
+/// | 4 | only if the source's count of faults rose | nothing; observable lists stay |
+/// | 5 | only if the sink's count of faults rose | a prefix of what was to be written; each observable list is a prefix of its journal |
+/// | 6 | only if the keeper's count of faults rose, or a record read back is bad | nothing; each observable list is a prefix of its journal |
+/// | 7 | if out of memory | as at 5 |
+/// | 8 | for `chain`, if all events ran, and there is no such member M, or else one of the members has not built a checkpoint that M has | `inspect chain M: no honest member that is up`, or `inspect chain M: no seal of member K on checkpoint N` for the first such member and its first such checkpoint; each observable list is its member's journal |
 ///
-/// A keeper that tells its lists never gives a bad record. Of a run over one that does not, and that restarts a member, it
+/// A keeper that shows its lists never gives a bad record. Of a run over one that does not, and that restarts a member, it
 /// is not said what is written.
 ///
-/// Status 2 comes exactly where the words ask nothing: nothing is read, written and kept then.
+/// Status 2 comes exactly if the words ask nothing: nothing is read, written and kept then.
 pub fn inspect<R: Threads + Sync, S: Source, K: Sink, D: Keeper>(
     rt: &R,
     alloc: Global,

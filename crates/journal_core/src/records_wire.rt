@@ -118,7 +118,7 @@ impl Duplicate for Record {
     }
 }
 
-/// The one spelling of a record. Its lists are at most 2147483647 long.
+/// The one encoding of a record. Its lists are at most 2147483647 long.
 pub fn encode_record(alloc: Global, value: &Record) -> Result<Seq<u8>, OutOfMemory>
     requires { codecs.journal_record.short value.now }
     ensures { IfOk result (λ bytes. bytes ≡ codecs.journal_record.spell value.now) }
@@ -126,13 +126,13 @@ pub fn encode_record(alloc: Global, value: &Record) -> Result<Seq<u8>, OutOfMemo
     encode(alloc, value)
 }
 
-/// The record that all the bytes spell. A fault comes exactly where there is none, and is the first.
+/// The record that all the bytes encode. A fault comes exactly if there is none, and is the first.
 pub fn decode_record(alloc: Global, bytes: &[u8]) -> Result<Record, Unread>
-    // What is read is spelled so, and is a value of its type.
+    // What is read is encoded so, and is a value of its type.
     ensures found { IfOk result (λ x. (bytes.now ≡ codecs.journal_record.spell x) × codecs.journal_record.fits x) }
     // So it may be written again.
     ensures short { IfOk result codecs.journal_record.short }
-    // What is spelled so is read, unless memory runs out.
+    // What is encoded so is read, unless memory runs out.
     ensures only { (x : _) → codecs.journal_record.fits x → bytes.now ≡ codecs.journal_record.spell x → Decodes bytes.now result (Ok x) }
     // Which fault it is.
     ensures exact { Decodes bytes.now result (whole codecs.journal_record bytes.now) }

@@ -56,7 +56,7 @@ abbrev pub told : {A : Type 0} → (A → Answer) → Result A Answer → Answer
 told says (Ok x) = says x
 told says (Err why) = why
 
--- code 1, or what is told
+-- code 1, or what is said
 abbrev pub Tells : {A : Type 0} → (A → Answer) → Answer → Result A Answer → Type 0
 Tells says answer result = (answer.code == 1) ≡ false → answer ≡ told says result
 

@@ -53,7 +53,7 @@ fn put_blame(both: &DoubleVote, members: &mut [u32], version: &mut Version) -> A
     said(0, 0, count, 0)
 }
 
-/// Who is to blame for the two certificates that the bytes spell, which are of two transactions of one epoch that
+/// Who is to blame for the two certificates that the bytes encode, which are of two transactions of one epoch that
 /// consume one version. Code 0: `members` begins with the members whose seals stand under both, `first` is their number, and
 /// `version` is filled. Code 14: `members` has too little room, `first` says what is wanted, and nothing is written.
 #[unsafe(no_mangle)]

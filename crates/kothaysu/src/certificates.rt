@@ -39,7 +39,7 @@ fn certified_keyed(
     certified(alloc, stakes, certificate, &checker)
 }
 
-/// Whether the bytes spell a certificate that is valid for the committee of these stakes, under seals that are among the
+/// Whether the bytes encode a certificate that is valid for the committee of these stakes, under seals that are among the
 /// accepted ones. Code 0: `first` is the epoch, and `tx` is filled with the digest of the transaction.
 #[unsafe(no_mangle)]
 pub extern "C" fn kothaysu_check_certificate(

@@ -58,7 +58,7 @@ fn tell_links(links: Result<u64, Answer>) -> Answer
     }
 }
 
-/// Whether the bytes spell a chain that the committee of these stakes has certified, under seals that are among the
+/// Whether the bytes encode a chain that the committee of these stakes has certified, under seals that are among the
 /// accepted ones. Code 0: `first` is the number of links.
 #[unsafe(no_mangle)]
 pub extern "C" fn kothaysu_check_chain(
@@ -100,7 +100,7 @@ fn found(alloc: Global, chain: &[u8], tx: &Bytes32) -> Result<(u64, Digest), Ans
     Ok(find_transaction(alloc, chain, &Digest(tx.bytes))?)
 }
 
-/// In which checkpoint of the chain that the bytes spell a transaction stands first. Code 0: `first` is the
+/// In which checkpoint of the chain that the bytes encode a transaction stands first. Code 0: `first` is the
 /// checkpoint's number, and `effects` is filled with the digest of the transaction's effects there.
 #[unsafe(no_mangle)]
 pub extern "C" fn kothaysu_find_transaction(

@@ -20,7 +20,7 @@ fn of_transaction(alloc: Global, bytes: &[u8]) -> Result<Digest, Answer>
     Ok(digest_of_transaction(alloc, bytes)?)
 }
 
-/// The digest of a transaction that the bytes spell. Code 0: `digest` is filled.
+/// The digest of a transaction that the bytes encode. Code 0: `digest` is filled.
 #[unsafe(no_mangle)]
 pub extern "C" fn kothaysu_transaction_digest(
     alloc: Global,
@@ -49,7 +49,7 @@ fn of_object(alloc: Global, bytes: &[u8]) -> Result<Digest, Answer>
     Ok(digest_of_object(alloc, bytes)?)
 }
 
-/// The digest of an object that the bytes spell. Code 0: `digest` is filled.
+/// The digest of an object that the bytes encode. Code 0: `digest` is filled.
 #[unsafe(no_mangle)]
 pub extern "C" fn kothaysu_object_digest(
     alloc: Global,
@@ -78,7 +78,7 @@ fn of_effects(alloc: Global, bytes: &[u8]) -> Result<Digest, Answer>
     Ok(digest_of_effects(alloc, bytes)?)
 }
 
-/// The digest of the effects of a transaction that the bytes spell. Code 0: `digest` is filled.
+/// The digest of the effects of a transaction that the bytes encode. Code 0: `digest` is filled.
 #[unsafe(no_mangle)]
 pub extern "C" fn kothaysu_effects_digest(
     alloc: Global,

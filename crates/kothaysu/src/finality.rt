@@ -59,7 +59,7 @@ fn acknowledged_keyed(
     acknowledged(alloc, stakes, acknowledgements, &checker)
 }
 
-/// Whether the list of sealed statements that the bytes spell shows what a quorum of the committee of these stakes
+/// Whether the list of sealed statements that the bytes encode shows what a quorum of the committee of these stakes
 /// acknowledged, under seals that are among the accepted ones. Code 0: `found` is filled.
 #[unsafe(no_mangle)]
 pub extern "C" fn kothaysu_check_final(

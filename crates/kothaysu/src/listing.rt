@@ -17,7 +17,7 @@ fn of_chain(alloc: Global, bytes: &[u8]) -> Result<Listing, Answer>
     Ok(list_chain(alloc, bytes)?)
 }
 
-/// The seals of the chain that the bytes spell, each on what its member states of the checkpoint. Code 0: `rows` and `statements` begin
+/// The seals of the chain that the bytes encode, each on what its member states of the checkpoint. Code 0: `rows` and `statements` begin
 /// with the listing; `first` is the number of its rows, `second` that of the bytes of its statements. Code 14: one of them has too
 /// little room, `first` and `second` say what is wanted, and nothing is written.
 #[unsafe(no_mangle)]
@@ -52,7 +52,7 @@ fn of_certificate(alloc: Global, bytes: &[u8]) -> Result<Listing, Answer>
     Ok(list_certificate(alloc, bytes)?)
 }
 
-/// The seals of the certificate that the bytes spell, each on the vote of its member. Code 0: `rows` and `statements` begin
+/// The seals of the certificate that the bytes encode, each on the vote of its member. Code 0: `rows` and `statements` begin
 /// with the listing; `first` is the number of its rows, `second` that of the bytes of its statements. Code 14: one of them has too
 /// little room, `first` and `second` say what is wanted, and nothing is written.
 #[unsafe(no_mangle)]
@@ -87,7 +87,7 @@ fn of_acknowledgements(alloc: Global, bytes: &[u8]) -> Result<Listing, Answer>
     Ok(list_acknowledgements(alloc, bytes)?)
 }
 
-/// The seals of the list of sealed statements that the bytes spell, each on its statement. Code 0: `rows` and `statements` begin
+/// The seals of the list of sealed statements that the bytes encode, each on its statement. Code 0: `rows` and `statements` begin
 /// with the listing; `first` is the number of its rows, `second` that of the bytes of its statements. Code 14: one of them has too
 /// little room, `first` and `second` say what is wanted, and nothing is written.
 #[unsafe(no_mangle)]

@@ -1,4 +1,4 @@
--- What is said of bytes, and what they spell.
+-- What is said of bytes, and what they encode.
 use Rattle.std.proofs.Common.{◌≡◌, ◌∙◌, ℕ, List, length, Option, Some, None, Result, Ok, Err, IfOk, refl, sym, ap, subst}
 use Rattle.digest_core.specs.declared.Digest.{Digest}
 use Rattle.wire_bcs.specs.Whole.{whole, whole-only}
@@ -40,7 +40,7 @@ unfolding verdict_on
 is_called stakes accepts tx bytes c fits spelled certified =
     rw (whole-only codecs.chain bytes c fits spelled, certified_is_good stakes accepts 0 None c.links certified) refl
 
--- so the answer says it, where there is one
+-- so the answer says it, if there is one
 pub answers_certified : {E : Type 0} (stakes : List ℕ) (accepts : Accepting) (tx : Digest) (bytes : List ℕ) (read : Chain) (result : Result Verdict E) → whole codecs.chain bytes ≡ Ok read
     → IfOk result (λ v. v ≡ verdict_on_chain tx read.links (first_bad stakes accepts read.links))
     → (c : Chain) → codecs.chain.fits c → bytes ≡ codecs.chain.spell c → IsCertified stakes accepts c.links → IfOk result (λ v. v ≡ verdict.Certified (length c.links) (number_with tx c.links))

@@ -55,7 +55,7 @@ pub all_links : (accepts : Accepting) (members : List ℕ) (checkpoints rest : L
 all_links accepts members checkpoints [] links none far = subst (AreSealedBy accepts members checkpoints) (append_nil links) (far [] tt)
 all_links accepts members checkpoints (c ∷ rest) links none far = absurd (omega (arith, none))
 
--- ---- what can be spelled
+-- ---- what can be encoded
 
 pub all_of_each : {A : Type 0} (P : A → Type 0) (xs : List A) → Each P xs → All P xs
 all_of_each P [] each = All-nil P

@@ -30,7 +30,7 @@ wants_place place (Some tip) is = is
 behind_link : (stakes : List ℕ) (accepts : Accepting) (place : ℕ) (before : Option Tip) (l : Link) → cause_of stakes accepts before l ≡ None → IsBehind place before → IsBehind (place + 1) (Some (tip_of l.checkpoint))
 behind_link stakes accepts place before l none is = ap (λ (n : ℕ). n + 1) (number_goes_on stakes accepts before l none ∙ wants_place place before is)
 
--- the walk goes on behind a link without a cause
+-- the walk goes on after a link without a cause
 walks_on : (stakes : List ℕ) (accepts : Accepting) (place : ℕ) (before : Option Tip) (l : Link) (ls : List Link) → cause_of stakes accepts before l ≡ None
     → first_bad_from stakes accepts place before (l ∷ ls) ≡ first_bad_from stakes accepts (place + 1) (Some (tip_of l.checkpoint)) ls
 walks_on stakes accepts place before l ls none = rw none (only (first_bad_from stakes accepts (place + 1) (Some (tip_of l.checkpoint)) ls))
@@ -39,7 +39,7 @@ walks_on stakes accepts place before l ls none = rw none (only (first_bad_from s
     only None = refl
     only (Some x) = refl
 
--- the links that are left, of which the first stands at this place behind this tip, come to what all come to
+-- the links that are left, of which the first stands at this place after this tip, come to what all come to
 pub record Walks (stakes : List ℕ) (accepts : Accepting) (links : List Link) (place : ℕ) (before : Option Tip) (rest : List Link) : Type 0 where
   pub same : first_bad_from stakes accepts place before rest ≡ first_bad_from stakes accepts 0 None links
   pub count : place + length rest ≡ length links
@@ -71,7 +71,7 @@ pub next_has_number : (stakes : List ℕ) (accepts : Accepting) (links rest : Li
     → Walks stakes accepts links place before rest → HasNext (option_map place_of_tip before)
 next_has_number stakes accepts links rest place before few walks = has_next place before walks.behind (let count = walks.count in omega (arith, count, few))
 
--- and what is said where it is bad
+-- and what is said if it is bad
 pub stops_at : (stakes : List ℕ) (accepts : Accepting) (links rest : List Link) (place : ℕ) (before : Option Tip) (l : Link) (cause : ℕ) → l ≡ get_or rest 0 l → 1 ≤ length rest
     → Walks stakes accepts links place before rest → cause_of stakes accepts before l ≡ Some cause → first_bad stakes accepts links ≡ Some (place, cause)
 stops_at stakes accepts links [] place before l cause first some walks is = absurd (omega (arith, some))

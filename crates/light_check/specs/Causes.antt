@@ -49,7 +49,7 @@ cause_of stakes accepts before l = first_some (
 abbrev pub at_place : ℕ → Option ℕ → Option (ℕ × ℕ)
 at_place place cause = option_map (λ c. (place, c)) cause
 
--- the place and the cause of the first bad link, where the first of these stands at this place behind this tip
+-- the place and the cause of the first bad link, if the first of these stands at this place after this tip
 abbrev pub first_bad_from : List ℕ → Accepting → ℕ → Option Tip → List Link → Option (ℕ × ℕ)
 first_bad_from stakes accepts place before [] = None
 first_bad_from stakes accepts place before (l ∷ ls) =

@@ -1,4 +1,4 @@
--- Certified chains: what a client knows who trusts the stakes of a committee alone. Source: Sui Lutris; where the
+-- Certified chains: what a client knows that trusts only the stakes of a committee. Source: Sui Lutris; where the
 -- chain begins is this profile's own.
 use Rattle.std.specs.Prelude.{◌≡◌, ℕ, ◌+◌, Bool, true, List, [], ◌∷◌, map, Option, Some, None, option_map, if◌then◌else◌}
 use Rattle.digest_core.specs.declared.Digest.{Digest}
@@ -22,7 +22,7 @@ Accepting = Signer → List ℕ → Digest → Bool
 abbrev pub tip_of : Checkpoint → ℕ × Digest
 tip_of c = (c.number, digest_of_checkpoint c)
 
--- the epoch of the checkpoint that comes behind this one, and of the first
+-- the epoch of the checkpoint that comes after this one, and of the first
 abbrev pub wanted_epoch : Option Checkpoint → ℕ
 wanted_epoch None = 0
 wanted_epoch (Some c) = if c.last then c.epoch + 1 else c.epoch

@@ -21,6 +21,6 @@ chain = by (λ c. c.links) (λ links. record { links = links }) (λ _. refl) (λ
 unfoldable pub checkpoints : Codec (List Checkpoint)
 checkpoints = seq checkpoint
 
--- each link can be spelled
+-- each link can be encoded
 abbrev pub AllShort : List Link → Type 0
 AllShort links = Each link.short links

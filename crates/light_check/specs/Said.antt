@@ -19,7 +19,7 @@ use Rattle.outside.specs.Streams.{AppendsFront, ReadsText}
 abbrev pub longest_chain : ℕ
 longest_chain = 16777216
 
--- too many bytes, or what a client says of them who trusts the stakes
+-- too many bytes, or what a client that trusts the stakes says of them
 unfoldable pub finding_on : List ℕ → Accepting → Digest → List ℕ → Finding
 finding_on stakes accepts tx bytes =
     if nat_lt longest_chain (length bytes) then finding.TooLarge
@@ -50,7 +50,7 @@ finding_text f = finding_body f ++ 10 ∷ []
 
 -- ---- the status
 
--- 0 where the chain is certified, and else 8
+-- 0 if the chain is certified, and else 8
 abbrev pub verdict_status : Verdict → ℕ
 verdict_status (verdict.Certified links included) = 0
 verdict_status (verdict.Malformed at why) = 8
@@ -67,7 +67,7 @@ pub record Says (stakes : List ℕ) (accepts : Accepting) (tx : Digest) (left le
   pub is : status ≡ finding_status (finding_on stakes accepts tx text)
   pub written : Appends held held' (finding_text (finding_on stakes accepts tx text))
 
--- the bytes spell a certified chain, and the line that says so was written
+-- the bytes encode a certified chain, and the line that says so was written
 pub record WritesCertified (stakes : List ℕ) (accepts : Accepting) (tx : Digest) (text : List ℕ) (held held' : Option (List ℕ)) : Type 0 where
   pub links : ℕ
   pub included : Option ℕ
@@ -81,7 +81,7 @@ pub record SaysCertified (stakes : List ℕ) (accepts : Accepting) (tx : Digest)
   pub ended : IsAtEnd left'
   pub says : WritesCertified stakes accepts tx text held held'
 
--- what was read, to the end or past the limit, is longer than a chain may be or spells no certified one, and the line
+-- what was read, to the end or past the limit, is longer than a chain may be or encodes no certified one, and the line
 -- that says why was written
 pub record SaysRefused (stakes : List ℕ) (accepts : Accepting) (tx : Digest) (left left' held held' : Option (List ℕ)) : Type 0 where
   pub text : List ℕ
@@ -89,12 +89,12 @@ pub record SaysRefused (stakes : List ℕ) (accepts : Accepting) (tx : Digest) (
   pub none : (c : Chain) → codecs.chain.fits c → text ≡ codecs.chain.spell c → IsCertified stakes accepts c.links → longest_chain < length text
   pub written : Appends held held' (finding_text (finding_on stakes accepts tx text))
 
--- the text was read, and a front of what is to be said of it was written
+-- the text was read, and a prefix of what is to be said of it was written
 pub record SaysFront (stakes : List ℕ) (accepts : Accepting) (tx : Digest) (left left' held held' : Option (List ℕ)) : Type 0 where
   pub text : List ℕ
   pub read : ReadsText longest_chain left left' text
   pub cut : AppendsFront held held' (finding_text (finding_on stakes accepts tx text))
 
--- it was cut: nothing was written, or a front
+-- it was cut: nothing was written, or a prefix
 abbrev pub IsCheckCut : List ℕ → Accepting → Digest → Option (List ℕ) → Option (List ℕ) → Option (List ℕ) → Option (List ℕ) → Type 0
 IsCheckCut stakes accepts tx left left' held held' = Keeps held held' ⊎ SaysFront stakes accepts tx left left' held held'

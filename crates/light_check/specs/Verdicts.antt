@@ -16,7 +16,7 @@ use Rattle.light_check.specs.Found.{found}
 abbrev pub number_with : Digest → List Link → Option ℕ
 number_with tx links = option_map (λ at. at.0) (found tx links)
 
--- where no link is bad: how many links there are, and which checkpoint lists the transaction
+-- if no link is bad: how many links there are, and which checkpoint lists the transaction
 abbrev pub verdict_on_chain : Digest → List Link → Option (ℕ × ℕ) → Verdict
 verdict_on_chain tx links None = verdict.Certified (length links) (number_with tx links)
 verdict_on_chain tx links (Some bad) = verdict.Bad bad.0 bad.1
@@ -25,11 +25,11 @@ abbrev pub verdict_on_read : List ℕ → Accepting → Digest → Result Chain 
 verdict_on_read stakes accepts tx (Ok c) = verdict_on_chain tx c.links (first_bad stakes accepts c.links)
 verdict_on_read stakes accepts tx (Err stop) = verdict.Malformed stop.place.at stop.why
 
--- the bytes are no spelling of a chain, or the chain that they spell is certified or not
+-- the bytes are not an encoding of a chain, or the chain that they encode is certified or not
 unfoldable pub verdict_on : List ℕ → Accepting → Digest → List ℕ → Verdict
 verdict_on stakes accepts tx bytes = verdict_on_read stakes accepts tx (whole codecs.chain bytes)
 
--- the bytes spell a certified chain of so many links, and the transaction stands in this checkpoint of it, or in none
+-- the bytes encode a certified chain of so many links, and the transaction stands in this checkpoint of it, or in none
 pub record SpellsCertified (stakes : List ℕ) (accepts : Accepting) (tx : Digest) (bytes : List ℕ) (links : ℕ) (included : Option ℕ) : Type 0 where
   pub chain : Chain
   pub spelled : bytes ≡ codecs.chain.spell chain

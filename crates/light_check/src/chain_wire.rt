@@ -42,7 +42,7 @@ impl Wire for Chain {
     }
 }
 
-/// The one spelling of a chain. Its lists are at most 2147483647 long.
+/// The one encoding of a chain. Its lists are at most 2147483647 long.
 pub fn encode_chain(alloc: Global, chain: &Chain) -> Result<Seq<u8>, OutOfMemory>
     requires { codecs.chain.short chain.now }
     ensures { IfOk result (λ bytes. bytes ≡ codecs.chain.spell chain.now) }
@@ -50,13 +50,13 @@ pub fn encode_chain(alloc: Global, chain: &Chain) -> Result<Seq<u8>, OutOfMemory
     encode(alloc, chain)
 }
 
-/// The chain that all the bytes spell. A fault comes exactly where there is none, and is the first.
+/// The chain that all the bytes encode. A fault comes exactly if there is none, and is the first.
 pub fn decode_chain(alloc: Global, bytes: &[u8]) -> Result<Chain, Unread>
-    // What is read is spelled so, and is a value of its type.
+    // What is read is encoded so, and is a value of its type.
     ensures found { IfOk result (λ x. (bytes.now ≡ codecs.chain.spell x) × codecs.chain.fits x) }
     // So it may be written again.
     ensures short { IfOk result codecs.chain.short }
-    // What is spelled so is read, unless memory runs out.
+    // What is encoded so is read, unless memory runs out.
     ensures only { (x : _) → codecs.chain.fits x → bytes.now ≡ codecs.chain.spell x → Decodes bytes.now result (Ok x) }
     // Which fault it is.
     ensures exact { Decodes bytes.now result (whole codecs.chain bytes.now) }

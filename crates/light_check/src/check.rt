@@ -8,19 +8,19 @@ ghost use Rattle.light_check.specs.declared.chain.ChainRefusal.TheVariants as re
 
 use crate::chain::{Chain, ChainRefusal, Link};
 use crate::link::{Tip, cause_of, tip_of};
-use quorum_core::{Committee, Sealer};
+use quorum_core::{Checker, Committee};
 use std::alloc::Global;
 
 /// Whether the links are certified, or the first that is bad, with its first cause.
-fn check_links<S: Sealer>(
+fn check_links<C: Checker>(
     alloc: Global,
     links: &[Link],
     committee: &Committee,
-    sealer: &S,
+    checker: &C,
 ) -> Result<(), ChainRefusal>
     requires short { codecs.AllShort links.now }
     requires few { length links.now ≤ 2147483647 }
-    ensures { Checks result (first_bad committee.now (S.accepts sealer.now) links.now) }
+    ensures { Checks result (first_bad committee.now (C.accepts checker.now) links.now) }
 {
     let mut rest = links;
     let mut place = 0;
@@ -29,7 +29,7 @@ fn check_links<S: Sealer>(
         let Ok(tip) = tip_of(alloc, &link.checkpoint) else {
             return Err(ChainRefusal::OutOfMemory);
         };
-        match cause_of(alloc, committee, sealer, before, link, tip.digest) {
+        match cause_of(alloc, committee, checker, before, link, tip.digest) {
             Ok(None) => {}
             Ok(Some(cause)) => return Err(ChainRefusal::Bad { place, cause }),
             Err(_) => return Err(ChainRefusal::OutOfMemory),
@@ -42,18 +42,18 @@ fn check_links<S: Sealer>(
 }
 
 /// Whether a chain is certified by the committee: numbers run from 0, each parent is the digest of the checkpoint
-/// before, epochs go on behind a last checkpoint, and a quorum has sealed each (Sui Lutris). Else the first link that
+/// before, epochs go on after a last checkpoint, and a quorum has sealed each (Sui Lutris). Else the first link that
 /// is bad, with its first cause.
-pub fn check_chain<S: Sealer>(
+pub fn check_chain<C: Checker>(
     alloc: Global,
     chain: &Chain,
     committee: &Committee,
-    sealer: &S,
+    checker: &C,
 ) -> Result<(), ChainRefusal>
     requires short { codecs.chain.short chain.now }
-    ensures first { Checks result (first_bad committee.now (S.accepts sealer.now) chain.now.links) }
-    ensures certified { IfOk result (λ _. IsCertified committee.now (S.accepts sealer.now) chain.now.links) }
-    ensures bad { (place cause : ℕ) → IsErrOf result (refused.Bad place cause) → IsCertified committee.now (S.accepts sealer.now) chain.now.links → ⊥ }
+    ensures first { Checks result (first_bad committee.now (C.accepts checker.now) chain.now.links) }
+    ensures certified { IfOk result (λ _. IsCertified committee.now (C.accepts checker.now) chain.now.links) }
+    ensures bad { (place cause : ℕ) → IsErrOf result (refused.Bad place cause) → IsCertified committee.now (C.accepts checker.now) chain.now.links → ⊥ }
 {
-    check_links(alloc, chain.links.as_slice(), committee, sealer)
+    check_links(alloc, chain.links.as_slice(), committee, checker)
 }

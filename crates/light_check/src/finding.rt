@@ -21,7 +21,7 @@ fn item_with(items: &[Item], tx: &Digest) -> Option<Item>
     None
 }
 
-/// The number of the checkpoint and the digest of the effects, where the link lists the transaction.
+/// The number of the checkpoint and the digest of the effects, if the link lists the transaction.
 fn found_in(link: &Link, tx: &Digest) -> Option<(u64, Digest)>
     ensures { result ≡ found_in tx.now link.now }
 {
@@ -32,7 +32,7 @@ fn found_in(link: &Link, tx: &Digest) -> Option<(u64, Digest)>
 }
 
 /// The number of the first checkpoint that lists the transaction, and the digest of its effects there; none exactly
-/// where none does. Takes no memory.
+/// if none does. Takes no memory.
 #[tactic(auto, unfolding(crate::specs::Found::found))]
 pub fn find(chain: &Chain, tx: &Digest) -> Option<(u64, Digest)>
     ensures { result ≡ found tx.now chain.now.links }

@@ -1,6 +1,6 @@
-//! The light client: who trusts the stakes of a committee alone checks a chain of its checkpoints (Sui Lutris).
+//! The light client: a client that trusts only the stakes of a committee checks a chain of its checkpoints (Sui Lutris).
 //!
-//! A [`Chain`] is a list of checkpoints, each with the seals of members on it. [`check_chain`] tells whether it is
+//! A [`Chain`] is a list of checkpoints, each with the seals of members on it. [`check_chain`] says whether it is
 //! certified, or the first link that is not, with the first cause; [`find`] looks for a transaction in it, and
 //! [`make_chain`] seals checkpoints as members do. [`judge`] does it all with bytes, and [`check_source`] with a source of
 //! bytes, of which it writes one line.

@@ -11,7 +11,7 @@ use crate::chain::Link;
 use chain_messages::{MemberSeal, Statement, encode_statement, members_of};
 use checkpoint_core::{Checkpoint, LinkRefusal, check_link, checkpoint_digest};
 use digest_core::Digest;
-use quorum_core::{Committee, Sealer, Signer};
+use quorum_core::{Checker, Committee, Signer};
 use std::alloc::Global;
 use wire_bcs::{OutOfMemory, Seq};
 
@@ -59,7 +59,7 @@ fn cause_of_link(before: Option<(u64, Digest)>, checkpoint: &Checkpoint) -> Opti
     }
 }
 
-/// Whether an epoch is the one that comes behind the tip.
+/// Whether an epoch is the one that comes after the tip.
 fn is_next_epoch(before: Option<Tip>, epoch: u64) -> bool
     ensures { result ≡ (epoch == epoch_behind before) }
 {
@@ -94,12 +94,12 @@ pub(crate) fn stated(
 }
 
 /// Whether each seal is accepted over the bytes.
-fn all_accepted<S: Sealer>(sealer: &S, bytes: &[u8], seals: &[MemberSeal]) -> bool
-    ensures { result ≡ all_accepted (S.accepts sealer.now) bytes.now seals.now }
+fn all_accepted<C: Checker>(checker: &C, bytes: &[u8], seals: &[MemberSeal]) -> bool
+    ensures { result ≡ all_accepted (C.accepts checker.now) bytes.now seals.now }
 {
     let mut rest = seals;
     while let [seal, after @ ..] = rest {
-        if !sealer.check(&Signer::Member(seal.member), bytes, &seal.seal) {
+        if !checker.check(&Signer::Member(seal.member), bytes, &seal.seal) {
             return false;
         }
         rest = after;
@@ -107,19 +107,19 @@ fn all_accepted<S: Sealer>(sealer: &S, bytes: &[u8], seals: &[MemberSeal]) -> bo
     true
 }
 
-/// The first cause why a link does not go on from the tip under the seals of a quorum, where there is one.
+/// The first cause why a link does not go on from the tip under the seals of a quorum, if there is one.
 #[tactic(auto, unfolding(crate::specs::Causes::cause_of))]
-pub(crate) fn cause_of<S: Sealer>(
+pub(crate) fn cause_of<C: Checker>(
     alloc: Global,
     committee: &Committee,
-    sealer: &S,
+    checker: &C,
     before: Option<Tip>,
     link: &Link,
     digest: Digest,
 ) -> Result<Option<u8>, OutOfMemory>
     requires digest { digest ≡ digest_of_checkpoint link.now.checkpoint }
     requires next { HasNext (option_map place_of_tip before) }
-    ensures { IfOk result (λ cause. cause ≡ cause_of committee.now (S.accepts sealer.now) before link.now) }
+    ensures { IfOk result (λ cause. cause ≡ cause_of committee.now (C.accepts checker.now) before link.now) }
 {
     if let Some(cause) = cause_of_link(place_of_tip(before), &link.checkpoint) {
         return Ok(Some(cause));
@@ -135,7 +135,7 @@ pub(crate) fn cause_of<S: Sealer>(
         return Ok(Some(5));
     }
     let bytes = stated(alloc, &link.checkpoint, digest)?;
-    if !all_accepted(sealer, bytes.as_slice(), link.seals.as_slice()) {
+    if !all_accepted(checker, bytes.as_slice(), link.seals.as_slice()) {
         return Ok(Some(6));
     }
     Ok(None)

@@ -78,7 +78,7 @@ fn links_of<S: Sealer>(
 }
 
 /// The chain of these checkpoints, each under a seal of each member on its statement of it, in this order (Sui
-/// Lutris). It can be spelled. Its lists are at most 2147483647 long.
+/// Lutris). It can be encoded. Its lists are at most 2147483647 long.
 pub fn make_chain<S: Sealer>(
     alloc: Global,
     checkpoints: &Seq<Checkpoint>,

@@ -101,10 +101,10 @@ fn sealed_both(
     among_both(alloc, &members, &others)
 }
 
-/// Who is to blame for two certificates: where they are of two transactions of one epoch that consume one version, the
-/// first such version and the members whose seals stand under both; none otherwise. Where the certificates are valid,
+/// Who is to blame for two certificates: if they are of two transactions of one epoch that consume one version, the
+/// first such version and the members whose seals stand under both; none otherwise. If the certificates are valid,
 /// and no honest member's seal stands under a statement that it did not make, none of these is honest, and they have
-/// more than a third of the stake (`blame_law`). A transaction can be spelled: each that was read can.
+/// more than a third of the stake (`blame_law`). A transaction can be encoded: each that was read can.
 pub fn blame(
     alloc: Global,
     one: &Certificate,

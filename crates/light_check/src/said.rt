@@ -12,11 +12,11 @@ use crate::verdict::{Verdict, judge};
 use digest_core::Digest;
 use itoa::Buffer;
 use outside::{OutFault, Sink, write_all};
-use quorum_core::{Committee, Sealer};
+use quorum_core::{Checker, Committee};
 use std::alloc::Global;
 use wire_bcs::{OutOfMemory, Seq};
 
-/// The bytes of a spelled chain, at most.
+/// The bytes of an encoded chain, at most.
 pub(crate) const LONGEST_CHAIN: u32 = 16_777_216;
 
 /// What is said of the bytes that a source holds.
@@ -35,21 +35,21 @@ pub(crate) enum Piece<'a> {
     Number(u64),
 }
 
-/// What is said of bytes: that they are too many, or what a client says who trusts the committee.
+/// What is said of bytes: that they are too many, or what a client that trusts the committee says.
 #[tactic(auto, unfolding(crate::specs::Said::finding_on))]
-pub(crate) fn find_in<T: Sealer>(
+pub(crate) fn find_in<C: Checker>(
     alloc: Global,
     bytes: &[u8],
     committee: &Committee,
-    sealer: &T,
+    checker: &C,
     tx: &Digest,
 ) -> Result<Finding, OutOfMemory>
-    ensures { IfOk result (λ f. f ≡ finding_on committee.now (T.accepts sealer.now) tx.now bytes.now) }
+    ensures { IfOk result (λ f. f ≡ finding_on committee.now (C.accepts checker.now) tx.now bytes.now) }
 {
     if bytes.len() > LONGEST_CHAIN as usize {
         return Ok(Finding::TooLarge);
     }
-    match judge(alloc, bytes, committee, sealer, tx) {
+    match judge(alloc, bytes, committee, checker, tx) {
         Ok(verdict) => Ok(Finding::Judged(verdict)),
         Err(OutOfMemory) => Err(OutOfMemory),
     }
@@ -96,7 +96,7 @@ fn print(text: &mut Seq<u8>, pieces: &[Piece<'_>]) -> Result<(), OutOfMemory>
     Ok(())
 }
 
-/// Prints two numbers, each behind its text.
+/// Prints two numbers, each after its text.
 fn print_two<'a>(
     text: &mut Seq<u8>,
     head: &'a [u8],

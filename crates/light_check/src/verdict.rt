@@ -13,19 +13,19 @@ use crate::chain_wire::decode_chain;
 use crate::check::check_chain;
 use crate::finding::find;
 use digest_core::Digest;
-use quorum_core::{Committee, Sealer};
+use quorum_core::{Checker, Committee};
 use std::alloc::Global;
 use wire_bcs::{OutOfMemory, Unread};
 
-/// What a client says of bytes, who trusts the stakes alone.
+/// What a client that trusts only the stakes says of bytes.
 #[derive(Clone, Copy, Debug, PartialEq, Eq)]
 pub enum Verdict {
-    /// They spell a certified chain of so many links, and the first checkpoint that lists the transaction has this
-    /// number; none where none lists it.
+    /// They encode a certified chain of so many links, and the first checkpoint that lists the transaction has this
+    /// number; none if none lists it.
     Certified { links: u64, included: Option<u64> },
-    /// They are no spelling of a chain: the offset of the first fault, and what is wrong there.
+    /// They are not an encoding of a chain: the offset of the first fault, and what is wrong there.
     Malformed { at: u64, why: u8 },
-    /// They spell a chain that is not certified: the first bad link, counted from 0, and its first cause.
+    /// They encode a chain that is not certified: the first bad link, counted from 0, and its first cause.
     Bad { place: u64, cause: u8 },
 }
 
@@ -50,41 +50,41 @@ fn certified(chain: &Chain, tx: &Digest) -> Verdict
 }
 
 /// What is said of a chain.
-fn judge_chain<S: Sealer>(
+fn judge_chain<C: Checker>(
     alloc: Global,
     chain: &Chain,
     committee: &Committee,
-    sealer: &S,
+    checker: &C,
     tx: &Digest,
 ) -> Result<Verdict, OutOfMemory>
     requires { codecs.chain.short chain.now }
-    ensures { IfOk result (λ v. v ≡ verdict_on_chain tx.now chain.now.links (first_bad committee.now (S.accepts sealer.now) chain.now.links)) }
+    ensures { IfOk result (λ v. v ≡ verdict_on_chain tx.now chain.now.links (first_bad committee.now (C.accepts checker.now) chain.now.links)) }
 {
-    match check_chain(alloc, chain, committee, sealer) {
+    match check_chain(alloc, chain, committee, checker) {
         Ok(()) => Ok(certified(chain, tx)),
         Err(ChainRefusal::Bad { place, cause }) => Ok(Verdict::Bad { place, cause }),
         Err(ChainRefusal::OutOfMemory) => Err(OutOfMemory),
     }
 }
 
-/// What is said of bytes: that they are no spelling of a chain, or that the chain that they spell is not certified by
+/// What is said of bytes: that they are not an encoding of a chain, or that the chain that they encode is not certified by
 /// the committee, or how many links it has and in which of its checkpoints the transaction stands (this profile).
 #[tactic(auto, unfolding(crate::specs::Verdicts::verdict_on))]
-pub fn judge<S: Sealer>(
+pub fn judge<C: Checker>(
     alloc: Global,
     bytes: &[u8],
     committee: &Committee,
-    sealer: &S,
+    checker: &C,
     tx: &Digest,
 ) -> Result<Verdict, OutOfMemory>
-    ensures said { IfOk result (λ v. v ≡ verdict_on committee.now (S.accepts sealer.now) tx.now bytes.now) }
+    ensures said { IfOk result (λ v. v ≡ verdict_on committee.now (C.accepts checker.now) tx.now bytes.now) }
     // What is called certified is spelled by these bytes, and is certified.
-    ensures certified { (links : ℕ) (included : Option ℕ) → result ≡ Ok (verdict.Certified links included) → SpellsCertified committee.now (S.accepts sealer.now) tx.now bytes.now links included }
+    ensures certified { (links : ℕ) (included : Option ℕ) → result ≡ Ok (verdict.Certified links included) → SpellsCertified committee.now (C.accepts checker.now) tx.now bytes.now links included }
     // What is certified and spelled by these bytes is called so, unless memory runs out.
-    ensures only { (c : ChainOf) → codecs.chain.fits c → bytes.now ≡ codecs.chain.spell c → IsCertified committee.now (S.accepts sealer.now) c.links → IfOk result (λ v. v ≡ verdict.Certified (length c.links) (number_with tx.now c.links)) }
+    ensures only { (c : ChainOf) → codecs.chain.fits c → bytes.now ≡ codecs.chain.spell c → IsCertified committee.now (C.accepts checker.now) c.links → IfOk result (λ v. v ≡ verdict.Certified (length c.links) (number_with tx.now c.links)) }
 {
     match decode_chain(alloc, bytes) {
-        Ok(chain) => judge_chain(alloc, &chain, committee, sealer, tx),
+        Ok(chain) => judge_chain(alloc, &chain, committee, checker, tx),
         Err(Unread::Wire(fault)) => Ok(Verdict::Malformed {
             at: fault.at,
             why: fault.why,

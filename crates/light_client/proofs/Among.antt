@@ -15,7 +15,7 @@ pub in_parts : {A : Type 0} (test : A → Bool) (n : ℕ) (xs : List A) → list
 in_parts test n xs =
     ap (list_any test) (sym (take-append-drop n xs)) ∙ (list_any-append test (take n xs) (drop n xs) ∙ or_swap (list_any test (take n xs)) (list_any test (drop n xs)))
 
--- it is found behind the place
+-- it is found after the place
 pub found_behind : {A : Type 0} (test : A → Bool) (n : ℕ) (xs behind : List A) → behind ≡ drop n xs → true ≡ list_any test behind → true ≡ list_any test xs
 found_behind test n xs behind e found =
     sym (in_parts test n xs ∙ ap (λ b. b || list_any test (take n xs)) (sym (found ∙ ap (list_any test) e)))

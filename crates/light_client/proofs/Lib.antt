@@ -1,5 +1,4 @@
 pub mod Among
-pub mod Sealed
 pub mod Passing
 pub mod Certified
 pub mod Votes

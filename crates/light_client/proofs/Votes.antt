@@ -1,9 +1,8 @@
--- A certificate is judged but for its seals, and then by its seals.
-use Rattle.std.proofs.Common.{◌≡◌, ◌∙◌, ℕ, false, List, [], ◌∷◌, length, Option, Some, None, Result, Ok, Err, refl, sym, ap, subst}
-use Rattle.std.specs.Prelude.{◌==◌, not, option_map}
+-- What a certificate is answered.
+use Rattle.std.proofs.Common.{◌≡◌, ℕ, false, List, Option, Some, None, Result, Ok, Err, refl, sym, ap, subst}
+use Rattle.std.specs.Prelude.{option_map}
 use Rattle.digest_core.specs.declared.Digest.{Digest}
 use Rattle.wire_bcs.specs.Digests.{digest}
-use Rattle.quorum_core.specs.Committee.{is_quorum, is_roll, total_of, weight}
 use Rattle.chain_types.specs.Digests.{transaction_digest}
 use Rattle.chain_types.specs.Transactions.{transaction}
 use Rattle.chain_types.specs.declared.refusals.CertRefusal.{CertRefusal}
@@ -11,20 +10,14 @@ use Rattle.chain_types.specs.declared.refusals.CertRefusal.TheVariants as refuse
 use Rattle.chain_messages.specs.Messages as messages
 use Rattle.chain_messages.specs.declared.messages.Statement.TheVariants as statement
 use Rattle.chain_messages.specs.declared.messages.Certificate.{Certificate}
-use Rattle.chain_messages.specs.declared.messages.MemberSeal.{MemberSeal}
-use Rattle.protocol_spec.specs.Chain.Keys.{objects_of}
-use Rattle.protocol_spec.specs.Chain.Shape.{shape_fault}
-use Rattle.protocol_spec.specs.Chain.Words.{first_of, first_some, unless_refused, where_true}
-use Rattle.protocol_spec.specs.Chain.Certificates.{bad_seal, cert_refusal, members_of, rules_of, vote_of}
+use Rattle.protocol_spec.specs.Chain.Words.{unless_refused}
 use Rattle.light_check.specs.Certified.{Accepting}
 use Rattle.cert_rules.specs.Answers.{Checks}
-use Rattle.cert_rules.specs.Parts.{refused_seal}
 use Rattle.light_client.specs.declared.refusal.Refusal.{Refusal}
 use Rattle.light_client.specs.Certificates.{SpellsCertificate, certified_answer, of_certificate, why_invalid}
-use Rattle.light_client.specs.Chains.{any_seal}
 use Rattle.light_client.specs.Input.{Answers, is_memory}
 
--- a certificate that can be spelled has a transaction and a vote that can
+-- a certificate that can be encoded has a transaction and a vote that can
 pub vote_short : (c : Certificate) (epoch : ℕ) (tx : Digest) → messages.certificate.short c → messages.statement.short (statement.Vote epoch tx c.origins)
 unfolding messages.certificate messages.statement digest
 vote_short c epoch tx short = (tt, (tt, short.1.0))
@@ -33,61 +26,21 @@ pub tx_short : (c : Certificate) → messages.certificate.short c → transactio
 unfolding messages.certificate
 tx_short c short = short.0
 
--- ---- the causes, and the seals last
-
-none_refused : (stakes : List ℕ) (c : Certificate) (seals : List MemberSeal) → first_of (bad_seal (rules_of stakes None any_seal) c) seals ≡ None
-none_refused stakes c [] = refl
-none_refused stakes c (s ∷ seals) = ap (λ (o : Option CertRefusal). first_some (o ∷ [])) (none_refused stakes c seals)
-
-in_order : (a b c d e : Option CertRefusal) → first_some (a ∷ b ∷ c ∷ d ∷ e ∷ []) ≡ first_some (first_some (a ∷ b ∷ c ∷ d ∷ None ∷ []) ∷ e ∷ [])
-in_order (Some x) b c d e = refl
-in_order None (Some x) c d e = refl
-in_order None None (Some x) d e = refl
-in_order None None None (Some x) e = refl
-in_order None None None None e = refl
-
--- the seals that are refused
-abbrev pub unsealed : Accepting → Certificate → Option CertRefusal
-unsealed accepts c = first_of (refused_seal accepts (messages.statement.spell (vote_of c))) c.seals
-
-why_is : (stakes : List ℕ) (accepts : Accepting) (c : Certificate) → why_invalid stakes accepts c ≡ first_some (why_invalid stakes any_seal c ∷ unsealed accepts c ∷ [])
-unfolding cert_refusal
-why_is stakes accepts c =
-    let shape = option_map refused.Shape (shape_fault c.tx) in
-    let origins = where_true (not (length c.origins == length (objects_of c.tx))) (refused.Shape 13) in
-    let order = where_true (not (is_roll stakes (members_of c))) refused.Order in
-    let stake = where_true (not (is_quorum stakes (weight stakes (members_of c)))) (refused.ShortStake (weight stakes (members_of c)) (total_of stakes)) in
-    in_order shape origins order stake (unsealed accepts c)
-    ∙ ap (λ (o : Option CertRefusal). first_some (first_some (shape ∷ origins ∷ order ∷ stake ∷ o ∷ []) ∷ unsealed accepts c ∷ [])) (sym (none_refused stakes c c.seals))
-
 -- ---- what is answered
 
-refused_as : (stakes : List ℕ) (accepts : Accepting) (c : Certificate) (r : CertRefusal) → why_invalid stakes any_seal c ≡ Some r → certified_answer stakes accepts c ≡ Err (of_certificate r)
-refused_as stakes accepts c r is =
-    ap (λ (o : Option CertRefusal). unless_refused (option_map of_certificate o) (transaction_digest c.tx, c.tx.epoch)) (why_is stakes accepts c ∙ ap (λ (o : Option CertRefusal). first_some (o ∷ unsealed accepts c ∷ [])) is)
+refused_as : (stakes : List ℕ) (accepts : Accepting) (c : Certificate) (r : CertRefusal) → why_invalid stakes accepts c ≡ Some r → certified_answer stakes accepts c ≡ Err (of_certificate r)
+refused_as stakes accepts c r is = ap (λ (o : Option CertRefusal). unless_refused (option_map of_certificate o) (transaction_digest c.tx, c.tx.epoch)) is
 
--- what is bad but for its seals is bad so
-pub bad_before_seals : (stakes : List ℕ) (accepts : Accepting) (c : Certificate) (r : CertRefusal) → Checks {X = Unit {0}} (Err r) (why_invalid stakes any_seal c) → is_memory (of_certificate r) ≡ false
+pub is_refused : (stakes : List ℕ) (accepts : Accepting) (c : Certificate) (r : CertRefusal) → Checks {X = Unit {0}} (Err r) (why_invalid stakes accepts c) → is_memory (of_certificate r) ≡ false
     → certified_answer stakes accepts c ≡ Err (of_certificate r)
-bad_before_seals stakes accepts c (refused.Shape n) is other = refused_as stakes accepts c (refused.Shape n) is
-bad_before_seals stakes accepts c refused.Order is other = refused_as stakes accepts c refused.Order is
-bad_before_seals stakes accepts c (refused.ShortStake w t) is other = refused_as stakes accepts c (refused.ShortStake w t) is
-bad_before_seals stakes accepts c (refused.BadSeal m) is other = refused_as stakes accepts c (refused.BadSeal m) is
-bad_before_seals stakes accepts c refused.OutOfMemory is other = absurd (cc)
+is_refused stakes accepts c (refused.Shape n) is other = refused_as stakes accepts c (refused.Shape n) is
+is_refused stakes accepts c refused.Order is other = refused_as stakes accepts c refused.Order is
+is_refused stakes accepts c (refused.ShortStake w t) is other = refused_as stakes accepts c (refused.ShortStake w t) is
+is_refused stakes accepts c (refused.BadSeal m) is other = refused_as stakes accepts c (refused.BadSeal m) is
+is_refused stakes accepts c refused.OutOfMemory is other = absurd (cc)
 
--- and what is good but for its seals is judged by them
-pub by_seals : (stakes : List ℕ) (accepts : Accepting) (c : Certificate) (bytes : List ℕ) (seals : List MemberSeal) (o : Option CertRefusal) → why_invalid stakes any_seal c ≡ None
-    → bytes ≡ messages.statement.spell (vote_of c) → seals ≡ c.seals → o ≡ first_of (refused_seal accepts bytes) seals
-    → certified_answer stakes accepts c ≡ unless_refused (option_map of_certificate o) (transaction_digest c.tx, c.tx.epoch)
-by_seals stakes accepts c bytes seals o good spelled same is =
-    let sealed : unsealed accepts c ≡ o =
-    sym (is ∙ (ap (λ (ss : List MemberSeal). first_of (refused_seal accepts bytes) ss) same ∙ ap (λ (bs : List ℕ). first_of (refused_seal accepts bs) c.seals) spelled)) in
-    ap (λ (x : Option CertRefusal). unless_refused (option_map of_certificate x) (transaction_digest c.tx, c.tx.epoch))
-    (why_is stakes accepts c ∙ (ap (λ (x : Option CertRefusal). first_some (x ∷ unsealed accepts c ∷ [])) good ∙ (ap (λ (x : Option CertRefusal). first_some (None ∷ x ∷ [])) sealed ∙ only o)))
-  where
-    only : (x : Option CertRefusal) → first_some (None ∷ x ∷ []) ≡ x
-    only None = refl
-    only (Some x) = refl
+pub is_valid : (stakes : List ℕ) (accepts : Accepting) (c : Certificate) → why_invalid stakes accepts c ≡ None → certified_answer stakes accepts c ≡ Ok (transaction_digest c.tx, c.tx.epoch)
+is_valid stakes accepts c is = ap (λ (o : Option CertRefusal). unless_refused (option_map of_certificate o) (transaction_digest c.tx, c.tx.epoch)) is
 
 -- ---- what is passed is valid
 

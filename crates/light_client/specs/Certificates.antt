@@ -28,11 +28,11 @@ why_invalid stakes accepts c = cert_refusal (rules_of stakes None accepts) c
 abbrev pub certified_answer : List ℕ → Accepting → Certificate → Result (Digest × ℕ) Refusal
 certified_answer stakes accepts c = unless_refused (option_map of_certificate (why_invalid stakes accepts c)) (transaction_digest c.tx, c.tx.epoch)
 
--- the same of bytes
+-- likewise for bytes
 unfoldable pub certificate_answer : List ℕ → Accepting → List ℕ → Result (Digest × ℕ) Refusal
 certificate_answer stakes accepts bytes = and_then (input certificate bytes) (λ c. certified_answer stakes accepts c)
 
--- the bytes spell a valid certificate of the transaction with this digest, in this epoch
+-- the bytes encode a valid certificate of the transaction with this digest, in this epoch
 pub record SpellsCertificate (stakes : List ℕ) (accepts : Accepting) (bytes : List ℕ) (tx : Digest) (epoch : ℕ) : Type 0 where
   pub cert : Certificate
   pub spelled : bytes ≡ certificate.spell cert

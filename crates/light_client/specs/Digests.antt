@@ -1,4 +1,4 @@
--- The digest of what bytes spell. Source: this profile.
+-- The digest of what bytes encode. Source: this profile.
 use Rattle.std.specs.Prelude.{ℕ, List, Result, Ok}
 use Rattle.digest_core.specs.declared.Digest.{Digest}
 use Rattle.wire_bcs.specs.Codec.{Codec}

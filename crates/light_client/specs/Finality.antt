@@ -25,7 +25,7 @@ acknowledged_in (statements.Checkpoint epoch number digest) = None
 abbrev pub same_acknowledged : Acknowledged → Acknowledged → Bool
 same_acknowledged a b = (a.epoch == b.epoch) && (bytes_eq a.tx.0 b.tx.0 && bytes_eq a.effects.0 b.effects.0)
 
--- the members who sealed, in the order of the statements
+-- the members that sealed, in the order of the statements
 abbrev pub sealers : List Sealed → List ℕ
 sealers said = map (λ (s : Sealed). s.member) said
 
@@ -84,11 +84,11 @@ acknowledged_or None None = Err (refusal.ShortStake 0 0)
 abbrev pub final_of : List ℕ → Accepting → List Sealed → Result Acknowledged Refusal
 final_of stakes accepts said = acknowledged_or (why_not_final stakes accepts said) (first_acknowledged said)
 
--- the same of bytes
+-- likewise for bytes
 unfoldable pub final_answer : List ℕ → Accepting → List ℕ → Result Acknowledged Refusal
 final_answer stakes accepts bytes = and_then (input (seq sealed) bytes) (λ said. final_of stakes accepts said)
 
--- each can be spelled
+-- each can be encoded
 abbrev pub AllShort : List Sealed → Type 0
 AllShort said = Each sealed.short said
 
@@ -97,7 +97,7 @@ pub record Acknowledges (accepts : Accepting) (a : Acknowledged) (s : Sealed) : 
   pub is : s.statement ≡ statements.Ack a.epoch a.tx a.effects
   pub accepted : accepts (signers.Member s.member) (statement.spell s.statement) s.seal ≡ true
 
--- the bytes spell acknowledgements of this by a quorum
+-- the bytes encode acknowledgements of this by a quorum
 pub record SpellsFinal (stakes : List ℕ) (accepts : Accepting) (bytes : List ℕ) (a : Acknowledged) : Type 0 where
   pub said : List Sealed
   pub spelled : bytes ≡ (seq sealed).spell said

@@ -1,4 +1,4 @@
--- Bytes that are handed in: the value that they spell, or why they are refused. Source: this profile.
+-- Bytes that are handed in: the value that they encode, or why they are refused. Source: this profile.
 use Rattle.std.specs.Prelude.{◌≡◌, ℕ, Bool, true, false, nat_lt, List, length, Result, Ok, Err, if◌then◌else◌}
 use Rattle.wire_bcs.specs.Codec.{Codec}
 use Rattle.wire_bcs.specs.Place.{Stop}
@@ -14,7 +14,7 @@ abbrev pub read_of : {A : Type 0} → Result A Stop → Result A Refusal
 read_of (Ok x) = Ok x
 read_of (Err s) = Err (refusal.Malformed s.place.at s.why)
 
--- the value that all the bytes spell
+-- the value that all the bytes encode
 unfoldable pub input : {A : Type 0} → Codec A → List ℕ → Result A Refusal
 input codec bytes = if nat_lt most_bytes (length bytes) then Err refusal.TooLarge else read_of (whole codec bytes)
 

@@ -27,7 +27,7 @@ pub record Under : Type 0 where
 abbrev pub row_at : ℕ → List ℕ → MemberSeal → SealRow
 row_at at statement s = record { at = at; length = length statement; member = s.member; seal = s.seal.0 }
 
--- the statements, one behind the other
+-- the statements, one after the other
 abbrev pub statements_in : List Under → List ℕ
 statements_in [] = []
 statements_in (u ∷ us) = u.statement ++ statements_in us
@@ -74,7 +74,7 @@ acknowledgements_listing bytes = and_then (input (seq messages.sealed) bytes) (�
 abbrev pub AllAccepted : List SealRow → List ℕ → List Under → Type 0
 AllAccepted rows statements us = Each (λ (u : Under). Each (IsAccepted (accepted_in rows statements) u.statement) u.seals) us
 
--- the bytes spell a value, all of whose seals are accepted with the listing
+-- the bytes encode a value, all of whose seals are accepted with the listing
 pub record Lists {A : Type 0} (codec : Codec A) (of : A → List Under) (bytes : List ℕ) (l : Listing) : Type 0 where
   pub value : A
   pub spelled : bytes ≡ codec.spell value

@@ -4,9 +4,8 @@ ghost use Rattle.std.specs.Prelude.{◌≡◌, bytes_eq, drop, is_some, take};
 ghost use Rattle.std.specs.List.{list_any};
 ghost use Rattle.light_client.specs.Accepted.{accepted_in, names_member, statement_of, names_seal};
 
-use crate::checker::Checker;
 use digest_core::Digest;
-use quorum_core::Signer;
+use quorum_core::{Checker, Signer};
 use std::cell::Cell;
 
 /// A seal of a member on a statement, which stands at an offset in the bytes beside the rows.

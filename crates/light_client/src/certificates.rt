@@ -1,29 +1,24 @@
 //! Certificates, from bytes.
 
-ghost use Rattle.std.specs.Prelude.{◌≡◌, ℕ, IfOk, Ok, option_map};
+ghost use Rattle.std.specs.Prelude.{◌≡◌, ℕ, IfOk, Ok};
 ghost use Rattle.chain_types.specs.Digests.{transaction_digest};
 ghost use Rattle.chain_messages.specs.Messages as codecs;
 ghost use Rattle.digest_core.specs.declared.Digest.{Digest as DigestOf};
-ghost use Rattle.protocol_spec.specs.Chain.Words.{first_of};
 ghost use Rattle.protocol_spec.specs.Chain.Certificates.{vote_of};
-ghost use Rattle.cert_rules.specs.Answers.{Checks};
-ghost use Rattle.cert_rules.specs.Parts.{refused_seal};
-ghost use Rattle.light_client.specs.Certificates.{SpellsCertificate, certificate_answer, certified_answer, of_certificate, why_invalid};
-ghost use Rattle.light_client.specs.Chains.{any_seal};
+ghost use Rattle.light_client.specs.Certificates.{SpellsCertificate, certificate_answer, certified_answer, of_certificate};
 ghost use Rattle.light_client.specs.Input.{Answers};
 
-use crate::checker::{AnySeal, Checker};
 use crate::input::read_input;
 use crate::refusal::Refusal;
 use cert_rules::{CertRefusal, check_cert};
-use chain_messages::{Certificate, MemberSeal, Statement, encode_statement};
+use chain_messages::{Certificate, Statement, encode_statement};
 use chain_types::tx_digest;
 use digest_core::Digest;
-use quorum_core::{Committee, Signer};
+use quorum_core::{Checker, Committee};
 use std::alloc::Global;
 use wire_bcs::{Duplicate, OutOfMemory, Seq};
 
-/// The spelling of the vote that the seals of a certificate are over.
+/// The encoding of the vote that the seals of a certificate are over.
 #[tactic(auto, using(crate::proofs::Votes::vote_short))]
 pub(crate) fn vote_bytes(
     alloc: Global,
@@ -42,25 +37,6 @@ pub(crate) fn vote_bytes(
     encode_statement(alloc, &vote)
 }
 
-/// The first seal over the bytes that is not accepted.
-fn first_bad_seal<C: Checker>(
-    checker: &C,
-    bytes: &[u8],
-    seals: &[MemberSeal],
-) -> Option<CertRefusal>
-    ensures { result ≡ first_of (refused_seal (C.accepts checker.now) bytes.now) seals.now }
-{
-    let mut rest = seals;
-    while let [seal, after @ ..] = rest {
-        let member = seal.member;
-        if !checker.check(&Signer::Member(member), bytes, &seal.seal) {
-            return Some(CertRefusal::BadSeal { member });
-        }
-        rest = after;
-    }
-    None
-}
-
 /// Why a certificate is not valid, as a call says it.
 fn of_certificate(refusal: CertRefusal) -> Refusal
     ensures { result ≡ of_certificate refusal }
@@ -72,19 +48,6 @@ fn of_certificate(refusal: CertRefusal) -> Refusal
         CertRefusal::BadSeal { member } => Refusal::BadSeal { member },
         CertRefusal::OutOfMemory => Refusal::OutOfMemory,
     }
-}
-
-/// Whether the certificate is valid but for its seals.
-fn check_but_for_seals(
-    alloc: Global,
-    cert: &Certificate,
-    digest: &Digest,
-    committee: &Committee,
-) -> Result<(), CertRefusal>
-    requires { digest.now ≡ transaction_digest cert.now.tx }
-    ensures { Checks result (why_invalid committee.now any_seal cert.now) }
-{
-    check_cert(alloc, cert, digest, committee, &AnySeal)
 }
 
 /// The digest and the epoch of the transaction of a valid certificate, or why it is not valid.
@@ -99,17 +62,13 @@ fn certified<C: Checker>(
     ensures { Answers result (certified_answer committee.now (C.accepts checker.now) cert.now) }
 {
     let digest = tx_digest(alloc, &cert.tx)?;
-    if let Err(refusal) = check_but_for_seals(alloc, cert, &digest, committee) {
-        return Err(of_certificate(refusal));
-    }
-    let bytes = vote_bytes(alloc, cert, digest)?;
-    match first_bad_seal(checker, bytes.as_slice(), cert.seals.as_slice()) {
-        Some(refusal) => Err(of_certificate(refusal)),
-        None => Ok((digest, cert.tx.epoch)),
+    match check_cert(alloc, cert, &digest, committee, checker) {
+        Ok(()) => Ok((digest, cert.tx.epoch)),
+        Err(refusal) => Err(of_certificate(refusal)),
     }
 }
 
-/// The digest and the epoch of the transaction of the certificate that the bytes spell, if it is valid for the committee
+/// The digest and the epoch of the transaction of the certificate that the bytes encode, if it is valid for the committee
 /// under seals that the checker accepts (Sui Lutris); else why not: `TooLarge`, `Malformed`, `Shape`, `Order`,
 /// `ShortStake` or `BadSeal`, the first of them.
 #[tactic(auto, unfolding(crate::specs::Certificates::certificate_answer))]
@@ -120,7 +79,7 @@ pub fn check_certificate<C: Checker>(
     checker: &C,
 ) -> Result<(Digest, u64), Refusal>
     ensures exact { Answers result (certificate_answer committee.now (C.accepts checker.now) bytes.now) }
-    // What is passed is spelled by these bytes, and is valid.
+    // What is passed is encoded by these bytes, and is valid.
     ensures valid { (tx : DigestOf) (epoch : ℕ) → result ≡ Ok (tx, epoch) → SpellsCertificate committee.now (C.accepts checker.now) bytes.now tx epoch }
 {
     let cert: Certificate = read_input(alloc, bytes)?;

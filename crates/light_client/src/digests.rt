@@ -14,7 +14,7 @@ use digest_core::Digest;
 use effects_core::{Effects, effects_digest};
 use std::alloc::Global;
 
-/// The digest of the transaction that the bytes spell; else why there is none: `TooLarge` or `Malformed`.
+/// The digest of the transaction that the bytes encode; else why there is none: `TooLarge` or `Malformed`.
 #[tactic(auto, unfolding(crate::specs::Digests::digest_answer))]
 pub fn digest_of_transaction(alloc: Global, bytes: &[u8]) -> Result<Digest, Refusal>
     ensures { Answers result (digest_answer transaction transaction_digest bytes.now) }
@@ -25,7 +25,7 @@ pub fn digest_of_transaction(alloc: Global, bytes: &[u8]) -> Result<Digest, Refu
     Ok(digest?)
 }
 
-/// The digest of the object that the bytes spell; else why there is none: `TooLarge` or `Malformed`.
+/// The digest of the object that the bytes encode; else why there is none: `TooLarge` or `Malformed`.
 #[tactic(auto, unfolding(crate::specs::Digests::digest_answer))]
 pub fn digest_of_object(alloc: Global, bytes: &[u8]) -> Result<Digest, Refusal>
     ensures { Answers result (digest_answer object digest_of_object bytes.now) }
@@ -34,7 +34,7 @@ pub fn digest_of_object(alloc: Global, bytes: &[u8]) -> Result<Digest, Refusal>
     Ok(object_digest(&object))
 }
 
-/// The digest of the effects that the bytes spell; else why there is none: `TooLarge` or `Malformed`.
+/// The digest of the effects that the bytes encode; else why there is none: `TooLarge` or `Malformed`.
 #[tactic(auto, unfolding(crate::specs::Digests::digest_answer))]
 pub fn digest_of_effects(alloc: Global, bytes: &[u8]) -> Result<Digest, Refusal>
     ensures { Answers result (digest_answer effects digest_of_effects bytes.now) }

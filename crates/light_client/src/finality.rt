@@ -8,12 +8,11 @@ ghost use Rattle.light_client.specs.declared.finality.Acknowledged.{Acknowledged
 ghost use Rattle.light_client.specs.Finality.{AllShort, SpellsFinal, acknowledged_in, acknowledged_or, bad_seal, differing, differs_from, final_answer, final_of, first_acknowledged, is_other, no_acknowledgement, sealers, why_not_final, why_unsealed};
 ghost use Rattle.light_client.specs.Input.{Answers};
 
-use crate::checker::Checker;
 use crate::input::read_input;
 use crate::refusal::Refusal;
 use chain_messages::{Sealed, Statement, encode_statement};
 use digest_core::Digest;
-use quorum_core::{Committee, Signer};
+use quorum_core::{Checker, Committee, Signer};
 use std::alloc::Global;
 use wire_bcs::{OutOfMemory, Seq};
 
@@ -55,7 +54,7 @@ fn no_acknowledgement(said: &[Sealed]) -> Option<Refusal>
     None
 }
 
-/// The members who sealed, in the order of the statements.
+/// The members that sealed, in the order of the statements.
 fn sealers(alloc: Global, said: &[Sealed]) -> Result<Vec<u32>, OutOfMemory>
     ensures { IfOk result (λ members. members.items ≡ sealers said.now) }
 {
@@ -222,7 +221,7 @@ fn final_of<C: Checker>(
     acknowledged_or(why, first_acknowledged(said.as_slice()))
 }
 
-/// The effects that a quorum of the committee acknowledges in the list of sealed statements that the bytes spell, under
+/// The effects that a quorum of the committee acknowledges in the list of sealed statements that the bytes encode, under
 /// seals that the checker accepts (Sui Lutris); else why they show none: `TooLarge`, `Malformed`,
 /// `NoAcknowledgement`, `Order`, `ShortStake`, `Differ` or `BadSeal`, the first of them.
 #[tactic(auto, unfolding(crate::specs::Finality::final_answer))]
@@ -233,7 +232,7 @@ pub fn check_final<C: Checker>(
     checker: &C,
 ) -> Result<Acknowledged, Refusal>
     ensures exact { Answers result (final_answer committee.now (C.accepts checker.now) bytes.now) }
-    // What is passed is spelled by these bytes, and a quorum acknowledges it.
+    // What is passed is encoded by these bytes, and a quorum acknowledges it.
     ensures acknowledged { (a : AcknowledgedOf) → result ≡ Ok a → SpellsFinal committee.now (C.accepts checker.now) bytes.now a }
 {
     let said: Seq<Sealed> = read_input(alloc, bytes)?;

@@ -10,11 +10,11 @@ use wire_bcs::{Unread, Wire, decode};
 /// The bytes of one input, at most.
 const MOST_BYTES: usize = 16_777_216;
 
-/// The value that the bytes spell, or why they spell none.
+/// The value that the bytes encode, or why they encode none.
 #[tactic(auto, unfolding(crate::specs::Input::input))]
 pub(crate) fn read_input<T: Wire>(alloc: Global, bytes: &[u8]) -> Result<T, Refusal>
     ensures exact { Answers result (input T.codec bytes.now) }
-    // What is read is spelled so, and is a value of its type.
+    // What is read is encoded so, and is a value of its type.
     ensures found { IfOk result (λ x. (bytes.now ≡ T.codec.spell x) × T.codec.fits x) }
     ensures short { IfOk result T.codec.short }
 {

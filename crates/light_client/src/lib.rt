@@ -1,4 +1,4 @@
-//! What one who trusts the stakes of a committee alone finds out from bytes: whether a chain of checkpoints or a
+//! What a client that trusts only the stakes of a committee finds out from bytes: whether a chain of checkpoints or a
 //! certificate is certified, what a quorum acknowledged, and who is to blame for two certificates (Sui Lutris).
 //!
 //! Each input has at most 16,777,216 bytes. A seal is judged by a [`Checker`]: [`AcceptedSeals`] is a set of seals that
@@ -22,8 +22,9 @@ pub use accepted::{AcceptedSeals, SealRow};
 pub use blaming::blame_members;
 pub use certificates::check_certificate;
 pub use chains::{check_chain, check_chain_by, find_transaction};
-pub use checker::{BySealer, Checker};
+pub use checker::BySealer;
 pub use digests::{digest_of_effects, digest_of_object, digest_of_transaction};
 pub use finality::{Acknowledged, check_final};
 pub use listing::{Listing, list_acknowledgements, list_certificate, list_chain};
+pub use quorum_core::Checker;
 pub use refusal::Refusal;

@@ -122,7 +122,7 @@ fn add_certificate(
     listing.add(statement.as_slice(), cert.seals.as_slice())
 }
 
-/// The seals of the chain that the bytes spell, each on what its member states of the checkpoint; else why there are
+/// The seals of the chain that the bytes encode, each on what its member states of the checkpoint; else why there are
 /// none: `TooLarge` or `Malformed`.
 #[tactic(auto, unfolding(crate::specs::Listing::chain_listing))]
 pub fn list_chain(alloc: Global, bytes: &[u8]) -> Result<Listing, Refusal>
@@ -138,7 +138,7 @@ pub fn list_chain(alloc: Global, bytes: &[u8]) -> Result<Listing, Refusal>
     Ok(listing)
 }
 
-/// The seals of the certificate that the bytes spell, each on the vote of its member; else why there are none:
+/// The seals of the certificate that the bytes encode, each on the vote of its member; else why there are none:
 /// `TooLarge` or `Malformed`.
 #[tactic(auto, unfolding(crate::specs::Listing::certificate_listing))]
 pub fn list_certificate(alloc: Global, bytes: &[u8]) -> Result<Listing, Refusal>
@@ -154,7 +154,7 @@ pub fn list_certificate(alloc: Global, bytes: &[u8]) -> Result<Listing, Refusal>
     Ok(listing)
 }
 
-/// The seals of the list of sealed statements that the bytes spell; else why there are none: `TooLarge` or `Malformed`.
+/// The seals of the list of sealed statements that the bytes encode; else why there are none: `TooLarge` or `Malformed`.
 #[tactic(auto, unfolding(crate::specs::Listing::acknowledgements_listing), using(crate::proofs::Final::all_short))]
 pub fn list_acknowledgements(alloc: Global, bytes: &[u8]) -> Result<Listing, Refusal>
     ensures exact { Answers result (acknowledgements_listing bytes.now) }

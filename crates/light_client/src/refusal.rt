@@ -3,6 +3,7 @@
 ghost use Rattle.std.specs.Prelude.{◌≡◌};
 ghost use Rattle.light_client.specs.declared.refusal.Refusal.TheVariants as refusal;
 
+use std::{error, fmt};
 use wire_bcs::OutOfMemory;
 
 /// Why a call has no other answer.
@@ -11,7 +12,7 @@ pub enum Refusal {
     OutOfMemory,
     /// There are more than 16,777,216 bytes.
     TooLarge,
-    /// The bytes spell no such value: the offset of the first fault, and what is wrong there.
+    /// The bytes encode no such value: the offset of the first fault, and what is wrong there.
     Malformed { at: u64, why: u8 },
     /// The first bad link of a chain, counted from 0, and its first cause, 1 to 6.
     BadLink { place: u64, cause: u8 },
@@ -40,3 +41,39 @@ impl From<OutOfMemory> for Refusal {
         Refusal::OutOfMemory
     }
 }
+
+impl fmt::Display for Refusal {
+    fn fmt<W: fmt::Write>(&self, f: &mut fmt::Formatter<W>) -> fmt::Result {
+        match *self {
+            Refusal::OutOfMemory => f.write_str("out of memory"),
+            Refusal::TooLarge => f.write_str("there are more than 16777216 bytes"),
+            Refusal::Malformed { at, why } => {
+                write!(f, "the bytes are wrong at offset {at} (kind {why})")
+            }
+            Refusal::BadLink { place, cause } => {
+                write!(f, "link {place} of the chain is bad (cause {cause})")
+            }
+            Refusal::NotIncluded => f.write_str("no checkpoint of the chain lists the transaction"),
+            Refusal::Shape { fault } => {
+                write!(f, "the transaction has fault {fault} of its shape")
+            }
+            Refusal::Order => f.write_str("the members do not ascend, repeat, or are not known"),
+            Refusal::ShortStake { weight, total } => write!(
+                f,
+                "the members have {weight} of {total} of the stake, which is not more than two thirds"
+            ),
+            Refusal::BadSeal { member } => write!(f, "the seal of member {member} is not accepted"),
+            Refusal::NoAcknowledgement { place } => {
+                write!(f, "statement {place} is not an acknowledgement")
+            }
+            Refusal::Differ { a, b } => {
+                write!(f, "the statements of members {a} and {b} differ")
+            }
+            Refusal::NoRivals => f.write_str(
+                "the certificates are not of two transactions of one epoch that consume one version",
+            ),
+        }
+    }
+}
+
+impl error::Error for Refusal {}

@@ -49,7 +49,7 @@ put_free locks key keys tx free q among by h = go (key_eq q key) refl
         let e : Some by ≡ Some tx = sym h ∙ ap (λ k. locked_by (insert_entry key_eq locks key tx) k) (key_same q key is) ∙ put_same locks key tx in cc
     go false is = free q among by (sym (put_other locks key tx q is) ∙ h)
 
--- a lock stays where the keys are free for the transaction
+-- a lock stays if the keys are free for the transaction
 pub stays : (keys : List ObjectKey) (locks : Locks) (tx : Digest) (q : ObjectKey) (by : Digest) → IsFree locks keys tx → locked_by locks q ≡ Some by → locked_by (with_locks locks keys tx) q ≡ Some by
 stays [] locks tx q by free h = h
 stays (key ∷ keys) locks tx q by free h =
@@ -78,7 +78,7 @@ own_from key tx by h = go (digest_eq by tx) refl h
     go true is h = digest_same by tx is
     go false is h = absurd (cc)
 
--- where no key is another transaction's, the keys are free
+-- if no key is another transaction's, the keys are free
 pub free_from : (keys : List ObjectKey) (locks : Locks) (tx : Digest) → other_lock locks tx keys ≡ None → IsFree locks keys tx
 free_from [] locks tx h key among by held = absurd among
 free_from (k ∷ keys) locks tx h key among by held = go (unless_own k tx (locked_by locks k)) refl h among (free_from keys locks tx)

@@ -18,7 +18,7 @@ locked_by locks key = lookup (key_eq key) locks
 abbrev pub with_locks : Locks → List ObjectKey → Digest → Locks
 with_locks locks keys tx = fold (λ done key. insert_entry key_eq done key tx) locks keys
 
--- a lock, where it is another transaction's
+-- a lock, if it is another transaction's
 abbrev pub unless_own : ObjectKey → Digest → Option Digest → Option (ObjectKey × Digest)
 unless_own key tx None = None
 unless_own key tx (Some by) = if digest_eq by tx then None else Some (key, by)

@@ -91,7 +91,7 @@ impl LockTable {
         None
     }
 
-    /// Locks all the keys for the transaction, or none. `Locked` comes exactly where another
+    /// Locks all the keys for the transaction, or none. `Locked` comes exactly if another
     /// transaction holds one of them, with the first such key. A refusal changes nothing.
     pub fn lock_all(&mut self, keys: &Seq<ObjectKey>, tx: &Digest) -> Result<(), LockRefusal>
         ensures { Refuses self.old self.new keys.now tx.now result }

@@ -13,7 +13,7 @@ use chain_types::Content;
 use std::alloc::Global;
 use wire_bcs::OutOfMemory;
 
-/// Makes a coin of the cap's currency. Aborts with 1 where the supply would be no amount.
+/// Makes a coin of the cap's currency. Aborts with 1 if the supply would not be an amount.
 pub(crate) fn coin_mint(
     alloc: Global,
     place: &Place,
@@ -32,7 +32,7 @@ pub(crate) fn coin_mint(
     gives_new(alloc, place, coin, Some(holding(supply, cap)))
 }
 
-/// Deletes a coin of the cap's currency. Aborts with 1 where the currencies differ, with 2 where the
+/// Deletes a coin of the cap's currency. Aborts with 1 if the currencies differ, with 2 if the
 /// supply is below the balance.
 pub(crate) fn coin_burn(alloc: Global, place: &Place, cap: &Item, coin: &Item) -> Gave
     ensures { result ≡ coin_burn (site_of place.now) cap.now coin.now }
@@ -59,7 +59,7 @@ fn any_other_currency(first: &Item, coins: &[Item]) -> bool
     false
 }
 
-/// The sum of the balances, where it is an amount.
+/// The sum of the balances, if it is an amount.
 fn sum_from(start: u64, coins: &[Item]) -> Option<u64>
     ensures { let total = start + sum_by (λ i. amount_of i.content) coins.now in SomeIff result (total < 2 ^ 64) total }
 {
@@ -72,8 +72,8 @@ fn sum_from(start: u64, coins: &[Item]) -> Option<u64>
     Some(sum)
 }
 
-/// Joins coins to the first of them. Aborts with 1 where there is none, with 2 where the currencies
-/// differ, with 3 where the sum is no amount.
+/// Joins coins to the first of them. Aborts with 1 if there is none, with 2 if the currencies
+/// differ, with 3 if the sum is not an amount.
 pub(crate) fn coin_join_all(
     alloc: Global,
     place: &Place,

@@ -10,7 +10,7 @@ use crate::place::Place;
 use answer_types::{Gave, Item};
 use std::alloc::Global;
 
-/// Raises a counter. Aborts with 1 where the sum is no amount.
+/// Raises a counter. Aborts with 1 if the sum is not an amount.
 pub(crate) fn counter_add(alloc: Global, place: &Place, counter: &Item, amount: u64) -> Gave
     ensures { result ≡ counter_add (site_of place.now) counter.now amount }
 {
@@ -20,7 +20,7 @@ pub(crate) fn counter_add(alloc: Global, place: &Place, counter: &Item, amount: 
     gives_nothing(alloc, place, Some(holding(sum, counter)))
 }
 
-/// Aborts with 1 where the counter is below a number.
+/// Aborts with 1 if the counter is below a number.
 pub(crate) fn counter_require(alloc: Global, place: &Place, counter: &Item, least: u64) -> Gave
     ensures { result ≡ counter_require (site_of place.now) counter.now least }
 {
@@ -30,7 +30,7 @@ pub(crate) fn counter_require(alloc: Global, place: &Place, counter: &Item, leas
     gives_nothing(alloc, place, None)
 }
 
-/// Raises a counter up to a limit. Aborts with 1 where the sum is no amount, with 2 where it is above the limit.
+/// Raises a counter up to a limit. Aborts with 1 if the sum is not an amount, with 2 if it is above the limit.
 pub(crate) fn counter_add_limited(
     alloc: Global,
     place: &Place,

@@ -11,7 +11,7 @@ use digest_core::created_id;
 use std::alloc::Global;
 use wire_bcs::{OutOfMemory, Seq};
 
-/// A new object under the next number, or under the one so many behind it.
+/// A new object under the next number, or under the one so many after it.
 pub(crate) fn new_item(place: &Place, ahead: u32, content: Content) -> Item
     requires { ahead < 2 }
     ensures { result ≡ new_item (site_of place.now) ahead content }
@@ -32,7 +32,7 @@ pub(crate) fn one(alloc: Global, item: Item) -> Result<Seq<Item>, OutOfMemory>
     Ok(items)
 }
 
-/// No result, and the object that was changed, where one was.
+/// No result, and the object that was changed, if one was.
 pub(crate) fn gives_nothing(alloc: Global, place: &Place, changed: Option<Item>) -> Gave
     ensures { result ≡ gives (site_of place.now) [] changed }
 {
@@ -44,7 +44,7 @@ pub(crate) fn gives_nothing(alloc: Global, place: &Place, changed: Option<Item>)
     }
 }
 
-/// One new object, and the object that was changed, where one was.
+/// One new object, and the object that was changed, if one was.
 pub(crate) fn gives_new(
     alloc: Global,
     place: &Place,

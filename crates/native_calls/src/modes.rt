@@ -14,7 +14,7 @@ fn at(modes: &[Mode], place: u16) -> Option<Mode>
     modes.get(place as usize).copied()
 }
 
-/// How the native, of number 13 at most, takes the parameter at this place, counted from 0; none where it has no such parameter.
+/// How the native, of number 13 at most, takes the parameter at this place, counted from 0; none if it has no such parameter.
 #[tactic(auto, unfolding(protocol_spec::specs::Block::Natives::mode_of))]
 pub fn mode(native: u8, place: u16) -> Option<Mode>
     requires { native ≤ 13 }

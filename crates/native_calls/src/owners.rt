@@ -12,8 +12,8 @@ use answer_types::{Gave, Item};
 use chain_types::Owner;
 use std::alloc::Global;
 
-/// Shares an object from the version of the transaction on. Aborts with 1 where this block did not
-/// create it, with 2 where it is neither a counter nor a vault.
+/// Shares an object from the version of the transaction on. Aborts with 1 if this block did not
+/// create it, with 2 if it is neither a counter nor a vault.
 pub(crate) fn share(alloc: Global, place: &Place, item: &Item) -> Gave
     ensures { result ≡ share (site_of place.now) item.now }
 {

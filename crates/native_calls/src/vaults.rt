@@ -12,7 +12,7 @@ use chain_types::Content;
 use std::alloc::Global;
 use wire_bcs::OutOfMemory;
 
-/// A new vault of no balance, and behind it the key that names it.
+/// A new vault of no balance, and after it the key that names it.
 pub(crate) fn vault_new(alloc: Global, place: &Place, currency: u64) -> Result<Gave, OutOfMemory>
     ensures { IfOk result (λ gave. gave ≡ vault_new (site_of place.now) currency) }
 {
@@ -34,7 +34,7 @@ pub(crate) fn vault_new(alloc: Global, place: &Place, currency: u64) -> Result<G
     })
 }
 
-/// Puts a coin into a vault. Aborts with 1 where the currencies differ, with 2 where the sum is no amount.
+/// Puts a coin into a vault. Aborts with 1 if the currencies differ, with 2 if the sum is not an amount.
 pub(crate) fn vault_deposit(alloc: Global, place: &Place, vault: &Item, coin: &Item) -> Gave
     ensures { result ≡ vault_deposit (site_of place.now) vault.now coin.now }
 {
@@ -47,7 +47,7 @@ pub(crate) fn vault_deposit(alloc: Global, place: &Place, vault: &Item, coin: &I
     gives_nothing(alloc, place, Some(holding(sum, vault)))
 }
 
-/// Takes a coin out of a vault. Aborts with 1 where the key names another vault, with 2 where the
+/// Takes a coin out of a vault. Aborts with 1 if the key names another vault, with 2 if the
 /// vault has less.
 pub(crate) fn vault_withdraw(
     alloc: Global,

@@ -13,7 +13,7 @@ pub owes_less : (a b c : Option (List ℕ)) (part rest whole : List ℕ) → Owe
 owes_less a b c part rest whole (front, cut, done) more =
     (front ++ part, cut ∙ sym (append_assoc front part rest), Appends-trans a b c front part done more)
 
--- a front of the first part was written, and no more will be
+-- a prefix of the first part was written, and no more will be
 pub owes_cut : (a b c : Option (List ℕ)) (part rest whole : List ℕ) → Owes a b (part ++ rest) whole → AppendsFront b c part → AppendsFront a c whole
 owes_cut a b c part rest whole (front, cut, done) (more, left, split, extra) = (
   front ++ more,
@@ -22,7 +22,7 @@ owes_cut a b c part rest whole (front, cut, done) (more, left, split, extra) = (
   Appends-trans a b c front more done extra,
 )
 
--- what is written is a front
+-- what is written is a prefix
 pub owes_some : (a b : Option (List ℕ)) (rest whole : List ℕ) → Owes a b rest whole → AppendsFront a b whole
 owes_some a b rest whole (front, cut, done) = (front, rest, cut, done)
 

@@ -7,7 +7,7 @@ use Rattle.outside.specs.declared.faults.OutFault.TheVariants as fault
 abbrev pub Rose : ℕ → ℕ → Type 0
 Rose before now = min (before + 1) (2 ^ 64 - 1) ≤ now
 
--- what a write's answer says of the sink's count of faults: it never falls, and it rose where the
+-- what a write's answer says of the sink's count of faults: it never falls, and it rose if the
 -- write failed or took nothing
 pub record WriteCause (before now : ℕ) (result : Result ℕ OutFault) : Type 0 where
   pub later : before ≤ now

@@ -30,7 +30,7 @@ pub record KeeperState : Type 0 where
   pub turns : Turns
   pub faults : ℕ
 
--- a keeper that gives other bytes where this place of this member is read
+-- a keeper that gives other bytes if this place of this member is read
 pub record AlteredState : Type 0 where
   pub inner : KeeperState
   pub member : ℕ

@@ -2,11 +2,11 @@
 use Rattle.std.specs.Prelude.{◌≡◌, ℕ, ◌+◌, ◌≤◌, List, ◌++◌, length, Option}
 use Rattle.std.specs.Io.KnownBytes.{Appends, Consumes, IsAtEnd}
 
--- told bytes grew by what stands in front of the rest of the whole
+-- observable bytes grew by what stands before the rest of the whole
 abbrev pub Owes : Option (List ℕ) → Option (List ℕ) → List ℕ → List ℕ → Type 0
 Owes old new rest whole = (front : List ℕ) × (whole ≡ front ++ rest) × Appends old new front
 
--- told bytes grew by a front of the whole
+-- observable bytes grew by a prefix of the whole
 abbrev pub AppendsFront : Option (List ℕ) → Option (List ℕ) → List ℕ → Type 0
 AppendsFront old new whole = (front : List ℕ) × (rest : List ℕ) × (whole ≡ front ++ rest) × Appends old new front
 

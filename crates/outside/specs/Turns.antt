@@ -15,10 +15,10 @@ fails_next turns = list_any (λ n. n == next_number turns) turns.failing
 abbrev pub after_call : Turns → Turns
 after_call turns = record turns { calls = next_number turns }
 
--- the count of faults behind a call: one more where it was to fail, as far as a u64 counts
+-- the count of faults after a call: one more if it was to fail, as far as a u64 counts
 abbrev pub faults_after : Turns → ℕ → ℕ
 faults_after turns faults = if fails_next turns then min (faults + 1) (2 ^ 64 - 1) else faults
 
--- the same of a sink that takes only so many bytes of a piece: one that takes none counts each write
+-- likewise for a sink that takes only so many bytes of a piece: one that takes none counts each write
 abbrev pub narrow_faults_after : ℕ → Turns → ℕ → ℕ
 narrow_faults_after most turns faults = if most == 0 then min (faults + 1) (2 ^ 64 - 1) else faults_after turns faults

@@ -12,7 +12,7 @@ use crate::keeper::{Keeper, MemKeeper};
 use std::marker::Model;
 use wire_bcs::{OutOfMemory, Seq};
 
-/// A keeper in memory that gives other bytes where one place of one member is read. It tells no
+/// A keeper in memory that gives other bytes if one place of one member is read. It shows no
 /// lists; its numbers of members, records and faults are those of the keeper inside.
 #[derive(Drop)]
 pub struct AlteredKeeper {
@@ -31,8 +31,8 @@ impl Model for AlteredKeeper {
 }
 
 impl AlteredKeeper {
-    /// A keeper over `inner` that gives `bytes` where the record at `place`, from 0, of `member` is
-    /// read. Where memory is refused the keeper inside is dropped.
+    /// A keeper over `inner` that gives `bytes` if the record at `place`, from 0, of `member` is
+    /// read. If memory is refused the keeper inside is dropped.
     pub fn new(
         inner: MemKeeper,
         member: u32,

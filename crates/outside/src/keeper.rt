@@ -14,7 +14,7 @@ use wire_bcs::{OutOfMemory, Seq};
 
 /// A keeper of records: a list for each member, numbered from 0.
 pub trait Keeper {
-    /// The lists, where they are told.
+    /// The lists, if they are observable.
     ghost lists: { Self → Option Journals };
 
     /// How many lists there are, which never changes.
@@ -27,7 +27,7 @@ pub trait Keeper {
     ghost failed: { Self → ℕ };
 
     /// Adds a record at the end of the member's list. After `Failed` the record stands or does
-    /// not; where memory was refused no list changed. The other members' lists stay.
+    /// not; if memory was refused no list changed. The other members' lists stay.
     fn append(&mut self, member: u32, bytes: &[u8]) -> Result<(), OutFault>
         requires known { member < width self.old }
         requires short { length bytes.now < 2 ^ 31 }

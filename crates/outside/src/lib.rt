@@ -1,10 +1,10 @@
 //! The outside of the program: where bytes come from, where they go, and where records are kept.
 //!
-//! Three traits, each with a count of faults that never falls: a call answers `Failed` only where
-//! that count rose in the call. What a value has left, holds or keeps is told by the
+//! Three traits, each with a count of faults that never falls: a call answers `Failed` only if
+//! that count rose in the call. What a value has left, holds or keeps is shown by the
 //! implementations in memory ([`MemSource`], [`FreeSource`], [`MemSink`], [`NarrowSink`],
-//! [`MemKeeper`]) and may stay untold by others ([`AlteredKeeper`]); a clause claims nothing of what
-//! is untold. [`read_text`] reads a source to its end or past a limit, and [`write_all`] writes bytes whole.
+//! [`MemKeeper`]) and may stay unobservable in others ([`AlteredKeeper`]); a clause claims nothing of what
+//! is unobservable. [`read_text`] reads a source to its end or past a limit, and [`write_all`] writes bytes whole.
 #![tactic(auto)]
 
 mod altered;

@@ -33,7 +33,7 @@ impl Model for NarrowSink {
 
 impl NarrowSink {
     /// An empty sink, which takes at most `most` bytes of a piece. It fails at exactly the writes
-    /// with the numbers in `failing`, counted from 1. Where `most` is 0 every other write takes
+    /// with the numbers in `failing`, counted from 1. If `most` is 0 every other write takes
     /// nothing and answers zero; each write counts one fault then.
     pub fn new(alloc: Global, most: u32, failing: &[u64]) -> Result<NarrowSink, OutOfMemory>
         ensures { IfOk result (λ s. s ≡ record { held = []; most = most; turns = record { calls = 0; failing = failing.now }; faults = 0 }) }

@@ -14,14 +14,14 @@ use wire_bcs::{OutOfMemory, Seq};
 
 /// A sink of bytes.
 pub trait Sink {
-    /// The bytes that it took, where they are told.
+    /// The bytes that it took, if they are observable.
     ghost held: { Self → Option (List ℕ) };
 
     /// The count of faults.
     ghost faults: { Self → ℕ };
 
     /// Takes a prefix of the bytes, of which there is one at least, and answers how many it took;
-    /// zero only where the count of faults rose. A refused write takes nothing.
+    /// zero only if the count of faults rose. A refused write takes nothing.
     fn write(&mut self, bytes: &[u8]) -> Result<usize, OutFault>
         requires { 0 < length bytes.now }
         ensures count { IfOk result (λ n. n ≤ length bytes.now) }
@@ -47,7 +47,7 @@ impl Model for MemSink {
 
 impl MemSink {
     /// An empty sink, which fails at exactly the writes with the numbers in `failing`, counted
-    /// from 1. Where memory is refused it takes nothing and counts no fault.
+    /// from 1. If memory is refused it takes nothing and counts no fault.
     pub fn new(alloc: Global, failing: &[u64]) -> Result<MemSink, OutOfMemory>
         ensures { IfOk result (λ s. s ≡ record { held = []; turns = record { calls = 0; failing = failing.now }; faults = 0 }) }
     {

@@ -13,13 +13,13 @@ use wire_bcs::{OutOfMemory, Seq};
 
 /// A source of bytes.
 pub trait Source {
-    /// The bytes that are left, where they are told.
+    /// The bytes that are left, if they are observable.
     ghost left: { Self → Option (List ℕ) };
 
     /// The count of faults.
     ghost faults: { Self → ℕ };
 
-    /// Fills a front of the buffer, which has room, and takes as many bytes from what is left.
+    /// Fills the start of the buffer, which has room, and takes as many bytes from what is left.
     /// Answers how many; zero is the end of input. Takes no memory.
     fn read(&mut self, buffer: &mut [u8]) -> Result<usize, Failed>
         requires { 0 < length buffer.old }
@@ -29,7 +29,7 @@ pub trait Source {
         ensures failed { IsErr result → Rose (faults self.old) (faults self.new) };
 }
 
-/// Copies a front of what is left behind `at` into the front of the buffer, at most `most` bytes,
+/// Copies a prefix of what is left after `at` to the start of the buffer, at most `most` bytes,
 /// and answers how many.
 fn copy_front(bytes: &[u8], at: usize, most: usize, buffer: &mut [u8]) -> usize
     requires at { at ≤ length bytes.now }

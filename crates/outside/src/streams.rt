@@ -15,7 +15,7 @@ use wire_bcs::Seq;
 /// The bytes that are asked for at once.
 const PIECE: usize = 65_536;
 
-/// Reads one piece, of at most `room` bytes, behind the text. Answers how many; zero is the end.
+/// Reads one piece, of at most `room` bytes, after the text. Answers how many; zero is the end.
 fn read_piece<S: Source>(
     source: &mut S,
     buffer: &mut [u8],

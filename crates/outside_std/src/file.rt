@@ -1,11 +1,12 @@
 //! A disk over a file.
 
 ghost use Rattle.std.specs.Prelude.{◌≡◌, ◌<◌, ◌^◌, None, IfOk};
+ghost use Rattle.std.specs.Fs.{IsFile, file_type, metadata_len};
 
 use crate::OpenFault;
 use disk_log::Disk;
 use outside::{Failed, OutFault};
-use std::fs::{self, File, OpenOptions, TryLockError};
+use std::fs::{self, File, Metadata, OpenOptions, TryLockError};
 use std::io;
 use std::marker::Model;
 use std::os::fd::AsRawFd;
@@ -15,11 +16,12 @@ use std::path::Path;
 /// The size that no file has.
 const LIMIT: u64 = 1 << 63;
 
-/// A file of the operating system as a disk. It tells no bytes. Contracts see its size, and its
-/// count of faults.
+/// A file of the operating system as a disk. It tells no bytes. Contracts see what the system said of it when it was
+/// opened, its size, and its count of faults.
 #[derive(Drop)]
 pub struct FileDisk {
     file: File,
+    opened: Metadata,
     extent: u64,
     faults: u64,
 }
@@ -30,7 +32,7 @@ impl Model for FileDisk {
 
     ghost Value = { FileState };
 
-    ghost view = { λ s. record { extent = s.extent; faults = s.faults } };
+    ghost view = { λ s. record { opened = s.opened; extent = s.extent; faults = s.faults } };
 
     ghost invariant = { λ s. s.extent < 2 ^ 63 };
 }
@@ -72,15 +74,25 @@ fn is_named(rt: &HostRuntime, file: &File, path: &str) -> io::Result<bool> {
     Ok(opened.dev() == named.dev() && opened.ino() == named.ino())
 }
 
+/// What the system says of an open file, which is a plain one.
+fn plain(file: &File) -> Result<Metadata, OpenFault>
+    ensures { IfOk result (λ said. IsFile (file_type said)) }
+{
+    let said = file.metadata()?;
+    if said.is_file() {
+        Ok(said)
+    } else {
+        Err(OpenFault::NotPlain)
+    }
+}
+
 /// Opens a plain file for reads and writes, and holds it alone.
 fn open_alone(rt: &HostRuntime, path: &str, missing: Missing) -> Result<File, OpenFault> {
     if is_link(rt, path)? {
         return Err(OpenFault::Link);
     }
     let file = open_file(rt, path, missing)?;
-    if !file.metadata()?.is_file() {
-        return Err(OpenFault::NotPlain);
-    }
+    let _said = plain(&file)?;
     match file.try_lock() {
         Ok(()) => {}
         Err(TryLockError::WouldBlock) => return Err(OpenFault::Held),
@@ -108,20 +120,24 @@ fn settle(rt: &HostRuntime, file: &File, path: &str) -> io::Result<()> {
 
 impl FileDisk {
     /// Opens the file of a path, which is no symbolic link. No other `FileDisk` has it open then, and the path names it. It
-    /// has met no fault yet. What the file holds, and that it is the one at the path, is in no clause: no contract speaks
-    /// of the system's files.
+    /// has met no fault yet. By what the system says it is a plain file of its size. What it holds, and that it is the one at
+    /// the path, is in no clause: no contract speaks of the system's files.
     pub fn open(rt: &HostRuntime, path: &str, missing: Missing) -> Result<FileDisk, OpenFault>
         ensures faults { IfOk result (λ disk. disk.faults ≡ 0) }
+        ensures plain { IfOk result (λ disk. IsFile (file_type disk.opened)) }
+        ensures extent { IfOk result (λ disk. disk.extent ≡ metadata_len disk.opened) }
         ensures size { IfOk result (λ disk. disk.extent < 2 ^ 63) }
     {
         let file = open_alone(rt, path, missing)?;
         settle(rt, &file, path)?;
-        let extent = file.metadata()?.len();
+        let opened = plain(&file)?;
+        let extent = opened.len();
         if extent >= LIMIT {
             return Err(OpenFault::TooLarge);
         }
         Ok(FileDisk {
             file,
+            opened,
             extent,
             faults: 0,
         })

@@ -1,10 +1,12 @@
 //! A sink over a writer.
 
-ghost use Rattle.std.specs.Prelude.{◌≡◌, ℕ};
+ghost use Rattle.std.specs.Prelude.{◌≡◌, ℕ, [], true, false};
+ghost use Rattle.std.specs.Io.Buffered.{writer_buffer, writer_contents, writer_inner};
 ghost use Rattle.std.specs.Io.KnownBytes.{Keeps};
+ghost use Rattle.outside.specs.Causes.{Rose};
 
 use outside::{OutFault, Sink};
-use std::io::Write;
+use std::io::{BufWriter, Write};
 
 /// A sink over a writer, as standard output. A writer that takes nothing counts as a fault.
 #[derive(Drop)]
@@ -21,13 +23,27 @@ impl<W: Write + Drop> OutSink<W> {
     {
         OutSink { writer, faults: 0 }
     }
+}
 
-    /// Hands on what the writer holds back, and answers whether that went well.
+impl<W: Write + Drop> OutSink<BufWriter<W>> {
+    /// Hands on what the writer holds back. True only if nothing is held back any more, and no error came on the way; else
+    /// the count of faults has risen.
+    #[tactic(auto, using(crate::proofs::Handing::handed_on))]
     pub fn finish(&mut self) -> bool
-        ensures held { Keeps (W.contents self.old.writer) (W.contents self.new.writer) }
-        ensures faults { self.new.faults ≡ self.old.faults }
+        ensures held { Keeps (writer_contents W.contents self.old.writer) (writer_contents W.contents self.new.writer) }
+        ensures none { result ≡ true → writer_buffer self.new.writer ≡ [] }
+        // So the writer below has all the bytes that were written.
+        ensures handed { result ≡ true → Keeps (writer_contents W.contents self.old.writer) (W.contents (writer_inner self.new.writer)) }
+        ensures well { result ≡ true → self.new.faults ≡ self.old.faults }
+        ensures fault { result ≡ false → Rose self.old.faults self.new.faults }
     {
-        self.writer.flush().is_ok()
+        match self.writer.flush() {
+            Ok(()) => true,
+            Err(_) => {
+                self.faults = self.faults.saturating_add(1);
+                false
+            }
+        }
     }
 }
 

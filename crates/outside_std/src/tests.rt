@@ -16,7 +16,7 @@ const LOGS: &str = "file_disk_test_logs";
 
 const JOURNAL: &str = "file_disk_test_logs/journal";
 
-/// Writes three bytes, and reads the last two: what was read, or none where a call failed.
+/// Writes three bytes, and reads the last two: what was read, or none if a call failed.
 fn two_of_three(disk: &mut FileDisk) -> Option<[u8; 2]> {
     let mut back = [0; 2];
     if disk.size() != 0 || disk.write_at(0, [7, 8, 9].as_slice()).is_err() {
@@ -31,7 +31,7 @@ fn two_of_three(disk: &mut FileDisk) -> Option<[u8; 2]> {
     }
 }
 
-/// Appends a record of two bytes to the log of a file: the answer, or none where there is no log.
+/// Appends a record of two bytes to the log of a file: the answer, or none if there is no log.
 fn appended(rt: &HostRuntime, member: u32) -> Option<Result<(), LogRefusal>> {
     let Ok(disk) = FileDisk::open(rt, JOURNAL, Missing::IsMade) else {
         return None;
@@ -42,7 +42,7 @@ fn appended(rt: &HostRuntime, member: u32) -> Option<Result<(), LogRefusal>> {
     }
 }
 
-/// Appends the record where there is such a member.
+/// Appends the record if there is such a member.
 fn appended_to(log: DiskLog<FileDisk>, member: u32) -> Option<Result<(), LogRefusal>> {
     let mut log = log;
     let answer = if member < log.members() {
@@ -70,7 +70,7 @@ fn opening(rt: &HostRuntime, path: &str, missing: Missing) -> &'static str {
     }
 }
 
-/// Stops the test where two words differ.
+/// Stops the test if two words differ.
 fn same(rt: &impl Abort, got: &str, want: &str) {
     assert_eq!(rt; got, want);
 }

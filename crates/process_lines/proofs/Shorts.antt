@@ -1,4 +1,4 @@
--- An object can be spelled.
+-- An object can be encoded.
 use Rattle.wire_bcs.specs.Digests.{digest}
 use Rattle.chain_types.specs.Objects as codecs
 use Rattle.chain_types.specs.declared.objects.Content.{Content}

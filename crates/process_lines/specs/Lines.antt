@@ -14,7 +14,7 @@ longest_line = 4194304
 abbrev pub HasNoEnd : List ℕ → Type 0
 HasNoEnd bytes = list_any (λ b. b == 10) bytes ≡ false
 
--- a line, with its end, was pending, or was read behind what was
+-- a line, with its end, was pending, or was read after what was
 pub record ReadsLine (pending pending' : List ℕ) (left left' : Option (List ℕ)) (line : List ℕ) : Type 0 where
   pub bytes : List ℕ
   pub read : Consumes left left' bytes
@@ -54,7 +54,7 @@ added p bytes =
 abbrev pub got_in : Part → Got
 got_in p = if p.too_long then got.TooLong else got.Line p.text
 
--- so much of the line was pending, or was read behind what was
+-- so much of the line was pending, or was read after what was
 pub record IsAlong (pending pending' : List ℕ) (left left' : Option (List ℕ)) (p : Part) : Type 0 where
   pub line : List ℕ
   pub bytes : List ℕ

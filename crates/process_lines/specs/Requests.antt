@@ -21,7 +21,7 @@ digest_of_bytes (Some bytes) = if length bytes == 32 then Some (record { 0 = byt
 unfoldable pub digest_in : List ℕ → Option Digest
 digest_in word = if length word == 64 then digest_of_bytes (bytes_in word) else None
 
--- a number of 64 bits: decimal digits with no zero in front
+-- a number of 64 bits: decimal digits with no leading zero
 abbrev pub number_of_word : List ℕ → Option ℕ
 number_of_word word = number_in 0 (2 ^ 64 - 1) word
 

@@ -72,7 +72,7 @@ digest_word d = concat (codes " " ∷ digest_text d ∷ [])
 unfoldable pub digests_text : List Digest → List ℕ
 digests_text digests = flat_map digest_word digests
 
--- a word and digests, where there are any
+-- a word and digests, if there are any
 abbrev pub part_text : List ℕ → List Digest → List ℕ
 part_text word [] = []
 part_text word (d ∷ ds) = word ++ digests_text (d ∷ ds)
@@ -278,7 +278,7 @@ start_text start.OtherGenesis = codes "journal: of another genesis"
 start_text start.NotEmpty = codes "journal: not empty"
 start_text (start.BadRecord place) = concat (codes "journal: bad record " ∷ decimal place ∷ [])
 
--- ---- what is no request
+-- ---- what is not a request
 
 abbrev pub bad_request_text : List ℕ
 bad_request_text = codes "bad request"

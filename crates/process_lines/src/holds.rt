@@ -10,7 +10,7 @@ use chain_types::CertRefusal;
 use digest_core::Digest;
 use wire_bcs::{OutOfMemory, Seq};
 
-/// `held ID`, or `again ID` where a certificate of the transaction was held before.
+/// `held ID`, or `again ID` if a certificate of the transaction was held before.
 #[tactic(auto, unfolding(crate::specs::Texts::held_text))]
 pub fn print_held(out: &mut Seq<u8>, new: bool, tx: Option<Digest>) -> Result<(), OutOfMemory>
     ensures { OnOk result (out.new ≡ out.old ++ held_text new tx) }

@@ -24,7 +24,7 @@ pub enum Got {
     Line(Seq<u8>),
     /// A line that is too long, which was read to its end.
     TooLong,
-    /// The end of input. What stood behind the last line and has no end of its own is no line.
+    /// The end of input. What stood after the last line and has no end of its own is not a line.
     End,
 }
 
@@ -91,7 +91,7 @@ fn line_end(bytes: &[u8]) -> Option<usize>
     bytes.iter().position(|byte| *byte == b'\n')
 }
 
-/// The bytes of the first line without its end, and how many bytes it has with it; none where no line ends there.
+/// The bytes of the first line without its end, and how many bytes it has with it; none if no line ends there.
 #[tactic(auto, using(crate::proofs::Cuts::ends_at, crate::proofs::Cuts::ends_nowhere))]
 fn first_line(bytes: &[u8]) -> Option<(&[u8], usize)>
     ensures some { IfSome result (λ r. IsCutAt bytes.now r.0.now r.1) }

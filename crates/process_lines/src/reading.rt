@@ -45,7 +45,7 @@ fn decoded(alloc: Global, word: &[u8]) -> Result<Option<Seq<u8>>, OutOfMemory>
     }
 }
 
-/// The bytes that the word spells.
+/// The bytes that the word denotes.
 #[tactic(auto, unfolding(crate::specs::Requests::bytes_in))]
 fn bytes_in(alloc: Global, word: &[u8]) -> Result<Option<Seq<u8>>, OutOfMemory>
     ensures { IfOk result (λ r. r ≡ bytes_in word.now) }
@@ -72,7 +72,7 @@ fn digest_of_bytes(bytes: Option<Seq<u8>>) -> Option<Digest>
     Some(Digest(cells))
 }
 
-/// The digest that the word spells.
+/// The digest that the word denotes.
 #[tactic(auto, unfolding(crate::specs::Requests::digest_in))]
 fn digest_in(alloc: Global, word: &[u8]) -> Result<Option<Digest>, OutOfMemory>
     ensures { IfOk result (λ r. r ≡ digest_in word.now) }
@@ -84,14 +84,14 @@ fn digest_in(alloc: Global, word: &[u8]) -> Result<Option<Digest>, OutOfMemory>
     Ok(digest_of_bytes(bytes))
 }
 
-/// The number of 64 bits that the word spells. Takes no memory.
+/// The number of 64 bits that the word denotes. Takes no memory.
 fn number_of(word: &[u8]) -> Option<u64>
     ensures { result ≡ number_of_word word.now }
 {
     number_in(0, u64::MAX, word)
 }
 
-/// The number of workers that the word spells. Takes no memory.
+/// The number of workers that the word denotes. Takes no memory.
 fn workers_of(word: &[u8]) -> Option<u32>
     ensures number { result ≡ number_in 1 16 word.now }
     ensures range { IfSome result (λ workers. (0 < workers) × (workers ≤ 16)) }
@@ -160,7 +160,7 @@ fn request_of_two(alloc: Global, word: &[u8], text: &[u8]) -> Result<Option<Requ
     Ok(None)
 }
 
-/// `see N ENTRY`, behind its word.
+/// `see N ENTRY`, after its word.
 fn see_of(alloc: Global, number: &[u8], entry: &[u8]) -> Result<Option<Request>, OutOfMemory>
     ensures request { IfOk result (λ r. r ≡ see_with (number_of_word number.now) (bytes_in entry.now)) }
     ensures workers { IfOk result (λ r. IfSome r HasWorkers) }
@@ -174,7 +174,7 @@ fn see_of(alloc: Global, number: &[u8], entry: &[u8]) -> Result<Option<Request>,
     }
 }
 
-/// `version ID V`, behind its word.
+/// `version ID V`, after its word.
 fn version_of(alloc: Global, id: &[u8], version: &[u8]) -> Result<Option<Request>, OutOfMemory>
     ensures request { IfOk result (λ r. r ≡ version_with (digest_in id.now) (number_of_word version.now)) }
     ensures workers { IfOk result (λ r. IfSome r HasWorkers) }

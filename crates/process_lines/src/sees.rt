@@ -28,7 +28,7 @@ pub(crate) fn print_digests(out: &mut Seq<u8>, digests: &[Digest]) -> Result<(),
     Ok(())
 }
 
-/// A word and digests, where there are any.
+/// A word and digests, if there are any.
 fn print_part(out: &mut Seq<u8>, word: &[u8], digests: &[Digest]) -> Result<(), OutOfMemory>
     ensures { OnOk result (out.new ≡ out.old ++ part_text word.now digests.now) }
 {
@@ -39,7 +39,7 @@ fn print_part(out: &mut Seq<u8>, word: &[u8], digests: &[Digest]) -> Result<(), 
     print_digests(out, digests)
 }
 
-/// What was admitted, and what was dropped, behind a word.
+/// What was admitted, and what was dropped, after a word.
 fn print_taken(
     out: &mut Seq<u8>,
     word: &[u8],

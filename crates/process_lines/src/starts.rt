@@ -24,7 +24,7 @@ pub enum StartLine {
         member: u32,
         genesis: Digest,
     },
-    /// The set-up is no schedule.
+    /// The set-up is not a schedule.
     NoSchedule {
         line: u64,
         cause: u8,
@@ -94,7 +94,7 @@ fn print_ready(
     print_amounts(out, checkpoints, records)
 }
 
-/// Why the set-up is no schedule.
+/// Why the set-up is not a schedule.
 fn print_no_schedule(out: &mut Seq<u8>, line: u64, cause: u8) -> Result<(), OutOfMemory>
     ensures { OnOk result (out.new ≡ out.old ++ concat (codes "refused line " ∷ decimal line ∷ codes " cause " ∷ decimal cause ∷ [])) }
 {

@@ -10,7 +10,7 @@ use answer_types::{CloseRefusal, TurnRefusal};
 use digest_core::Digest;
 use wire_bcs::{OutOfMemory, Seq};
 
-/// `closed`, or `again` where the member was closed before.
+/// `closed`, or `again` if the member was closed before.
 #[tactic(auto, unfolding(crate::specs::Texts::closed_text))]
 pub fn print_closed(out: &mut Seq<u8>, new: bool) -> Result<(), OutOfMemory>
     ensures { OnOk result (out.new ≡ out.old ++ closed_text new) }

@@ -14,7 +14,7 @@ use chain_types::ObjectKey;
 use digest_core::Digest;
 use wire_bcs::{OutOfMemory, Seq};
 
-/// `voted SEALED`, or `again SEALED` where the vote was given before.
+/// `voted SEALED`, or `again SEALED` if the vote was given before.
 #[tactic(auto, unfolding(crate::specs::Texts::voted_text))]
 pub fn print_voted(out: &mut Seq<u8>, voted: &Voted) -> Result<(), OutOfMemory>
     requires short { messages.sealed.short voted.now.sealed }

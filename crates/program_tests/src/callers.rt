@@ -1,4 +1,4 @@
-//! One and two callers at a desk whose member has no objects and is handed bytes that are no transactions.
+//! One and two callers at a desk whose member has no objects and is handed bytes that are not transactions.
 
 use crate::members::{member_from, sealer};
 use crate::same::{holds, same};
@@ -56,7 +56,7 @@ fn places(history: &Seq<DeskEntry>) -> Places {
     )
 }
 
-/// Whether the reply to each call is that the bytes spell nothing.
+/// Whether the reply to each call is that the bytes encode nothing.
 fn all_malformed(history: &Seq<DeskEntry>) -> bool {
     for entry in history.as_slice() {
         if !matches!(entry.reply, Err(VoteRefusal::Malformed(_))) {

@@ -36,7 +36,7 @@ fn collected(
     }
 }
 
-/// The weight of three that these members have, where it is too little.
+/// The weight of three that these members have, if it is too little.
 fn weight(alloc: Global, members: &[u32]) -> Option<u64> {
     let mut book = SaidBook::new(alloc);
     let collected = collected(alloc, &mut book, members);
@@ -49,7 +49,7 @@ fn weight(alloc: Global, members: &[u32]) -> Option<u64> {
 
 #[test]
 fn a_member_named_twice_weighs_once(rt: HostRuntime) -> Result<(), Fail> {
-    // Exactly two thirds are no quorum.
+    // Exactly two thirds are not a quorum.
     same(&rt, weight(rt.alloc(), [0, 1, 0].as_slice()), Some(2));
     same(&rt, weight(rt.alloc(), [].as_slice()), Some(0));
     Ok(())

@@ -94,7 +94,7 @@ fn said(reply: &Result<Voted, VoteRefusal>) -> Said {
     }
 }
 
-/// Asks by a pass: whether the vote is fresh, where there is one.
+/// Asks by a pass: whether the vote is fresh, if there is one.
 fn ask_by<W: Wait>(
     rt: &W,
     desk: &Desk<MemKeeper, KeyedSeal>,
@@ -205,7 +205,7 @@ fn is_replayed(alloc: Global, coins: u64, failing: &[u64], history: &[DeskEntry]
     Some(same)
 }
 
-/// The history that is left where callers ask a member over so many coins, whose keeper fails at these calls.
+/// The history that is left if callers ask a member over so many coins, whose keeper fails at these calls.
 fn left_by_callers<R: Threads + Wait + Sync>(
     rt: &R,
     alloc: Global,
@@ -240,7 +240,7 @@ fn history_of(
 /// member is down.
 type Counts = [u64; 5];
 
-/// The place of a reply in the counts, where it has one.
+/// The place of a reply in the counts, if it has one.
 fn kind_of(reply: &Result<Voted, VoteRefusal>) -> Option<usize>
     ensures { IfSome result (λ kind. kind < 5) }
 {
@@ -264,7 +264,7 @@ fn counts(history: &[DeskEntry]) -> Counts {
     counts
 }
 
-/// Whether the keeper has no fault up to the reply that says so, and one from there on, where the member is down.
+/// Whether the keeper has no fault up to the reply that says so, and one from there on, if the member is down.
 fn falls_once(history: &[DeskEntry]) -> bool {
     let mut fallen = false;
     for entry in history {
@@ -306,10 +306,10 @@ fn few_requests(alloc: Global) -> Result<Vec<Seq<u8>>, OutOfMemory> {
 }
 
 /// What callers leave: how many replies are of each kind, whether the keeper fails once at most and the member is down from
-/// there on, and whether one thread is told the same.
+/// there on, and whether one thread is answered the same.
 type Left = (Counts, bool, bool);
 
-/// What two callers leave where the keeper fails at this call.
+/// What two callers leave if the keeper fails at this call.
 fn left_by_two<R: Threads + Wait + Sync>(rt: &R, alloc: Global, call: u64) -> Option<Left> {
     let requests = few_requests(alloc).ok()?;
     let failing = [call];
@@ -335,7 +335,7 @@ fn has_one_fault(counts: Counts) -> bool {
     counts[0] == 1 && counts[1] <= 1 && counts[2] <= 2 && counts[3] == 1 && 3 <= counts[4]
 }
 
-/// Whether one vote stands, and the append of the other fails, where two callers ask. How many calls are made before that
+/// Whether one vote stands, and the append of the other fails, if two callers ask. How many calls are made before that
 /// depends on the callers.
 fn second_fails<R: Threads + Wait + Sync>(rt: &R, alloc: Global) -> Option<bool> {
     let requests = few_requests(alloc).ok()?;

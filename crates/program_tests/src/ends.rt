@@ -28,7 +28,7 @@ fn end(alloc: Global, member: u32, signer: u32, epoch: u64) -> Result<Entry, Out
     }))
 }
 
-/// Orders an End, and tells whether the open epoch has ended then.
+/// Orders an End, and says whether the open epoch has ended then.
 fn order(
     alloc: Global,
     book: &mut OrderBook,
@@ -42,7 +42,7 @@ fn order(
     book.has_ended(committee, &sealer())
 }
 
-/// What is told behind each of these Ends: a member, the signer of its seal, and an epoch.
+/// What is said after each of these Ends: a member, the signer of its seal, and an epoch.
 fn told(
     alloc: Global,
     book: &mut OrderBook,
@@ -70,10 +70,10 @@ const ENDS: [(u32, u32, u64); 8] = [
 
 const TOLD: [bool; 8] = [false, false, false, false, false, false, true, true];
 
-/// Ends of the next epoch, behind one of the last.
+/// Ends of the next epoch, after one of the last.
 const NEXT: [(u32, u32, u64); 3] = [(3, 3, 0), (3, 3, 1), (0, 0, 1)];
 
-/// Tests what is told as the epoch ends, and as the next one opens.
+/// Tests what is said as the epoch ends, and as the next one opens.
 fn expect_ends(
     rt: &impl Abort,
     alloc: Global,

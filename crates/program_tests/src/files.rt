@@ -1,4 +1,4 @@
-//! The program over a journal file, on a disk in memory of which each call fails in turn. What is found behind that was
+//! The program over a journal file, on a disk in memory of which each call fails in turn. What is found after that was
 //! worked out from the file's format: the opening of an empty file makes three calls, and each record four.
 
 use crate::same::same;
@@ -49,7 +49,7 @@ fn path(alloc: Global) -> Result<MemSource, Fail> {
     Ok(MemSource::new(alloc, PATH.as_bytes(), 64, &[])?)
 }
 
-/// What comes of the run and of the replay where the call of this number fails, and whether the replay says that there
+/// What comes of the run and of the replay if the call of this number fails, and whether the replay says that there
 /// are so many records.
 fn behind_fault<R: Threads + Wait + Sync>(
     rt: &R,
@@ -87,7 +87,7 @@ fn said_of(records: u64) -> &'static [u8] {
 #[test]
 fn each_call_of_the_disk_fails(rt: HostRuntime) -> Result<(), Fail> {
     for call in 1..=CALLS {
-        // The record of the fourth call behind the opening stands in the file, though its sync failed.
+        // The record of the fourth call after the opening stands in the file, though its sync failed.
         let records = if call < 3 { 0 } else { (call - 3) / 4 };
         let come = behind_fault(&rt, rt.alloc(), call, said_of(records))?;
         same(&rt, (call, come), (call, (6, 0, true)));

@@ -49,7 +49,7 @@ fn started_over(
     started_from(alloc, &opening, kept)
 }
 
-/// The same of the set-up that a text is. What is no set-up starts no member, as if memory were refused.
+/// Likewise for the set-up that a text is. A text that is not a set-up starts no member, as if memory were refused.
 pub(crate) fn started(
     alloc: Global,
     text: &str,
@@ -65,7 +65,7 @@ pub(crate) fn started(
     started
 }
 
-/// The member, where it starts.
+/// The member, if it starts.
 pub(crate) fn member_from(alloc: Global, text: &str, kept: &Seq<Seq<u8>>) -> Option<Validator>
     ensures { IfSome result (λ member. member.member ≡ 0) }
 {
@@ -75,7 +75,7 @@ pub(crate) fn member_from(alloc: Global, text: &str, kept: &Seq<Seq<u8>>) -> Opt
     }
 }
 
-/// The pieces, one behind the other.
+/// The pieces, one after the other.
 pub(crate) fn joined(alloc: Global, pieces: &[&[u8]]) -> Result<Seq<u8>, OutOfMemory> {
     let mut bytes = Vec::new(alloc);
     for piece in pieces {

@@ -77,10 +77,10 @@ const ADD_ONE_DIGEST: [u8; 32] = [
     31, 142, 104, 33, 161, 10, 168, 12, 206, 74, 80, 222,
 ];
 
-/// What stands in a record in front of a certificate that is held.
+/// What stands in a record before a certificate that is held.
 const HELD: &[u8] = &[1];
 
-/// And in front of one that came as an entry of 224 bytes.
+/// And before one that came as an entry of 224 bytes.
 const SEEN: &[u8] = &[2, 224, 1, 0];
 
 /// What a transaction came to: its digest, the status of its effects, their version and the gas.
@@ -117,7 +117,7 @@ fn runs<R: Threads + Sync, G: Gate + Sync>(
     }
 }
 
-/// The same by a member that has these records: what stands in front, and a certificate.
+/// The same by a member that has these records: what stands before it, and a certificate.
 fn runs_from<R: Threads + Sync, G: Gate + Sync>(
     rt: &R,
     alloc: Global,

@@ -32,7 +32,7 @@ const FOUR_RESTART: &str =
     "member 1 honest\nmember 1 honest\nmember 1 honest\nmember 1 honest\ncoin g0 alice 10000\n\
 tx t1 alice 0 g0@1 2000 n:500 a:bob split(gas,i0) transfer(r0,i1)\nvote 0 t1\nrestart 0\n";
 
-/// What is reported where the first record is bad.
+/// What is reported if the first record is bad.
 const BAD: &str = "tx t1: made\nvote 0 t1: voted -\nrestart 0: bad record 0\n";
 
 /// Runs the words `run` over a text, which is read in such pieces, and gives the status.

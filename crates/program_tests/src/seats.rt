@@ -39,7 +39,7 @@ fn keeper(alloc: Global) -> Result<MemKeeper, Fail>
     Ok(MemKeeper::new(alloc, 2, [].as_slice())?)
 }
 
-/// The epoch that a member shows, where it shows one.
+/// The epoch that a member shows, if it shows one.
 fn shown(seats: &Seats, member: u32) -> Result<Option<u64>, OutOfMemory> {
     match seats.show(member)? {
         Some((epoch, objects)) => {
@@ -78,7 +78,7 @@ fn knows_its_members(rt: HostRuntime) -> Result<(), Fail> {
     Ok(())
 }
 
-/// Whether nothing is no transaction that member 0 votes for.
+/// Whether empty bytes are not a transaction that member 0 votes for.
 fn votes_not<R: Threads + Sync>(
     rt: &R,
     alloc: Global,
@@ -96,7 +96,7 @@ fn votes_not<R: Threads + Sync>(
     malformed
 }
 
-/// Whether nothing is no certificate that it holds.
+/// Whether empty bytes are not a certificate that it holds.
 fn holds_not<R: Threads + Sync>(
     rt: &R,
     alloc: Global,
@@ -145,7 +145,7 @@ fn restarts(alloc: Global, seats: &mut Seats, keeper: &mut MemKeeper) -> Result<
     restarted
 }
 
-/// Tests calls that need no record, behind an armed stop, and starts from no record and from a bad one.
+/// Tests calls that need no record, after an armed stop, and starts from no record and from a bad one.
 fn expect_calls<R: Abort + Threads + Sync>(
     rt: &R,
     alloc: Global,

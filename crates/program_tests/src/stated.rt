@@ -44,7 +44,7 @@ const SEAL: [u8; 32] = [
 /// The record of its run.
 const RAN: [&[u8]; 3] = [&[6, 1], &TX, &EFFECTS];
 
-/// The same in the older form, which names the transaction alone.
+/// The same in the older form, which names only the transaction.
 const OLDER: [&[u8]; 3] = [&[4, 1], &TX, &[]];
 
 /// The records of the certificate, and of its run.
@@ -63,7 +63,7 @@ fn acknowledges(member: &Validator, tx: [u8; 32]) -> Result<Digest, AckRefusal> 
     }
 }
 
-/// What a member says of t1, and of a transaction that it has not executed, behind the records of the run.
+/// What a member says of t1, and of a transaction that it has not executed, after the records of the run.
 type Said = (Result<Digest, AckRefusal>, Result<Digest, AckRefusal>);
 
 fn said(alloc: Global, run: &[&[u8]]) -> Option<Said> {

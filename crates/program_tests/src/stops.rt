@@ -60,7 +60,7 @@ tx t1 alice 0 g0@1 2000 n:500 a:bob split(gas,i0) transfer(r0,i1)\n\
 tx t2 alice 0 g0@1 2000 a:bob transfer(gas,i0)\n\
 stop 0 lost\nvote 0 t1\nvote 0 t2\nrestart 0\nvote 0 t2\n";
 
-/// What each event writes where the record was lost: the restarted member has no vote.
+/// What each event writes if the record was lost: the restarted member has no vote.
 const LOST_LINES: [&str; 7] = [
     "tx t1: made\n",
     "tx t2: made\n",
@@ -99,7 +99,7 @@ tx t1 alice 0 g0@1 2000 n:500 a:bob split(gas,i0) transfer(r0,i1)\n\
 tx t2 alice 0 g0@1 2000 a:bob transfer(gas,i0)\n\
 stop 0 kept\nvote 0 t1\nvote 0 t2\nrestart 0\nvote 0 t2\n";
 
-/// What each event writes where the record was kept: the restarted member has voted for t1.
+/// What each event writes if the record was kept: the restarted member has voted for t1.
 const KEPT_LINES: [&str; 7] = [
     "tx t1: made\n",
     "tx t2: made\n",

@@ -1,4 +1,4 @@
-//! What a world tells behind the lines of a schedule: the sums of its members, worked by hand from the rules, and the seal of a
+//! What a world says after the lines of a schedule: the sums of its members, worked by hand from the rules, and the seal of a
 //! transaction, of an independent SHA-256.
 
 use crate::members::sealer;
@@ -44,7 +44,7 @@ fn spoiled() -> Option<Digest> {
     Some(Digest(bytes))
 }
 
-/// Runs a line, where the keeper has a list for each member.
+/// Runs a line, if the keeper has a list for each member.
 fn step<R: Threads + Sync>(
     rt: &R,
     world: &mut World,
@@ -71,7 +71,7 @@ fn told_in(world: &World, member: u32) -> Result<Told, OutOfMemory> {
     Ok((world.sums(member)?, seal))
 }
 
-/// Those behind these lines.
+/// Those after these lines.
 fn told_after<R: Threads + Sync>(
     rt: &R,
     world: &mut World,
@@ -104,7 +104,7 @@ fn told_by<R: Threads + Sync>(
     told.ok()
 }
 
-/// The same of the schedule that a text is.
+/// Likewise for the schedule that a text is.
 fn told<R: Threads + Sync>(rt: &R, alloc: Global, text: &str, member: u32) -> Option<Told> {
     let schedule = read_schedule(alloc, text.as_bytes()).ok()?;
     let told = told_by(rt, alloc, &schedule, member);
@@ -122,7 +122,7 @@ fn holding(objects: u64, sum: u128) -> Option<Sums> {
     })
 }
 
-/// Those of a faulty member and of one that is not there are not told, nor those of a member that is down.
+/// Those of a faulty member and of one that is not there are not said, nor those of a member that is down.
 #[test]
 fn sums_are_those_of_honest_members_that_are_up(rt: HostRuntime) {
     let seal = Some(Digest(SEAL));

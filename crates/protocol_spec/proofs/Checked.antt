@@ -1,4 +1,4 @@
--- What a checked transaction or certificate has, and what can be spelled.
+-- What a checked transaction or certificate has, and what can be encoded.
 use Rattle.std.proofs.Common.{Option, Some, None, refl}
 use Rattle.std.proofs.lemmas.Bool.{ltb-false, eqb-true}
 use Rattle.std.specs.Prelude.{IfSome, ◌≡◌, ℕ, ◌≤◌, Bool, true, false, nat_lt, length, ◌==◌}

@@ -4,7 +4,7 @@ use Rattle.std.proofs.lemmas.Bool.{and_from, eqb-true}
 use Rattle.std.specs.Prelude.{Result, Ok, Err, OnOk, ◌==◌}
 use Rattle.protocol_spec.specs.Chain.Words.{where_true}
 
--- the first of two, where it is there
+-- the first of two, if it is there
 abbrev pub or_else : {A : Type 0} → Option A → Option A → Option A
 or_else None o = o
 or_else (Some x) o = Some x

@@ -18,3 +18,5 @@ pub mod WrittenPlaces
 pub mod FirstLeft
 pub mod Remaining
 pub mod Executing
+pub mod Listed
+pub mod Seen

@@ -50,7 +50,7 @@ in_rows c k d zero e (row ∷ rows) =
 in_rows c k d (suc i) e (row ∷ rows) =
     other_row c d k (other_number d c (omega arith)) 0 row (result_rows (d + 1) rows) ∙ in_rows c k (d + 1) i (omega arith) rows
 
--- inputs are no results
+-- inputs are not results
 past_inputs : (c k n : ℕ) (vs : List (Option Value)) (rest : List block.Slot) → block.value_in (block.result c k) (input_row n vs ++ rest) ≡ block.value_in (block.result c k) rest
 past_inputs c k n [] rest = refl
 past_inputs c k n (v ∷ vs) rest = past_inputs c k (n + 1) vs rest

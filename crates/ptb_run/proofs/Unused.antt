@@ -1,4 +1,4 @@
--- A place of the list is unused where one of the rows still holds a value.
+-- A place of the list is unused if one of the rows still holds a value.
 use Rattle.std.proofs.Common.{◌≡◌, ℕ, ◌+◌, Bool, ◌||◌, List, [], ◌∷◌, ◌++◌, Option, Some, None, refl, ap, sym, ◌∙◌}
 use Rattle.std.specs.List.{list_any}
 use Rattle.protocol_spec.specs.Block.Block as block

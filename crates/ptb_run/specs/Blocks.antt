@@ -8,7 +8,7 @@ use Rattle.ptb_run.specs.Slots.{result_row, slots_of}
 unfoldable pub block_of : Block → block.Block
 block_of b = record { slots = slots_of b.slots; placed = b.placed; made = b.made }
 
--- how many commands have results, none of them where it has none
+-- how many commands have results, none of them if it has none
 unfoldable pub rows_of : Block → ℕ
 rows_of b = length b.slots.results.items
 

@@ -1,4 +1,4 @@
--- The causes of the arguments of a command, where it is known which places earlier ones name.
+-- The causes of the arguments of a command, if it is known which places earlier ones name.
 use Rattle.std.specs.Prelude.{ℕ, Bool, not, ◌&&◌, List, [], ◌∷◌, ◌++◌, Option, Some, None, if◌then◌else◌}
 use Rattle.std.specs.List.{list_any}
 use Rattle.chain_types.specs.declared.transactions.Command.{Command}
@@ -11,7 +11,7 @@ use Rattle.ptb_run.specs.declared.needs.Wanted.{Wanted}
 use Rattle.ptb_run.specs.Values.{spot_at, spot_eq}
 use Rattle.ptb_run.specs.Needs.{need_meant}
 
--- the causes that speak of the value, where it is known whether an earlier argument names its place
+-- the causes that speak of the value, if it is known whether an earlier argument names its place
 abbrev pub named_cases : Transaction → Command → Bool → Place → Need → Value → List (Option ℕ)
 named_cases t c named p need value =
     where_true (is_bad_pure need value) 3 ∷
@@ -37,7 +37,7 @@ is_seen seen spot = list_any (λ other. spot_eq spot other) seen
 abbrev pub noted : List Spot → Spot → List Spot
 noted seen spot = if is_seen seen spot then seen else seen ++ spot ∷ []
 
--- the first cause of these arguments, behind those whose places were seen
+-- the first cause of these arguments, after those whose places were seen
 abbrev pub causes_after : Transaction → Block → Command → List Spot → List Wanted → Option ℕ
 causes_after t b c seen [] = None
 causes_after t b c seen (w ∷ rest) =

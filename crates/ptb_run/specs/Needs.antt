@@ -40,12 +40,12 @@ need_now (modes.ByMut k) = needs.ByMut k
 need_now (modes.ByRef k) = needs.ByRef k
 need_now modes.Coins = needs.Coins
 
--- the arguments that were collected, and behind them these, all taken in one way
+-- the arguments that were collected, and after them these, all taken in one way
 abbrev pub all_after : List Wanted → Need → List Argument → List Wanted
 all_after wanted need [] = wanted
 all_after wanted need (a ∷ rest) = all_after (wanted ++ record { argument = a; need = need } ∷ []) need rest
 
--- the arguments that were collected, and behind them these with the modes from this place on
+-- the arguments that were collected, and after them these with the modes from this place on
 abbrev pub pair_then : List Wanted → Argument → (List Wanted → List Wanted) → Option Mode → List Wanted
 pair_then wanted a next None = wanted
 pair_then wanted a next (Some m) = next (wanted ++ record { argument = a; need = need_now m } ∷ [])

@@ -22,13 +22,13 @@ Steps (Ok x) says b = says ≡ Ok b
 Steps (Err (halt.Fault fault)) says b = says ≡ Err (fault_of fault)
 Steps (Err halt.OutOfMemory) says b = Unit {0}
 
--- the same of one command, by its number
+-- likewise for one command, by its number
 abbrev pub StepsAt : {X : Type 0} → Result X Failed → ℕ → Result Block commands.Fault → Block → Type 0
 StepsAt (Ok x) number says b = says ≡ Ok b
 StepsAt (Err (failed.At command fault)) number says b = (command ≡ number) × (says ≡ Err (fault_of fault))
 StepsAt (Err failed.OutOfMemory) number says b = Unit {0}
 
--- the same of all commands
+-- likewise for all commands
 abbrev pub Runs : {X : Type 0} → Result X Failed → Result Block Failure → Block → Type 0
 Runs (Ok x) says b = says ≡ Ok b
 Runs (Err (failed.At command fault)) says b = says ≡ Err (command, fault_of fault)

@@ -25,7 +25,7 @@ all_slots gas inputs results = record { place = block.gas; value = held gas } �
 unfoldable pub slots_of : Slots → List block.Slot
 slots_of s = all_slots s.gas s.inputs s.results.items
 
--- what a place of a row holds, none where it is spent or there is no such place
+-- what a place of a row holds, none if it is spent or there is no such place
 abbrev pub joined : Option (Option Value) → Option block.Value
 joined None = None
 joined (Some v) = held v

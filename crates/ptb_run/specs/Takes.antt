@@ -1,4 +1,4 @@
--- When an argument may be taken, as far as its value alone says.
+-- When an argument may be taken, as far as its value says.
 use Rattle.std.specs.Prelude.{Bool, false, not, ◌&&◌, List, [], ◌∷◌, ◌++◌, Option, Some, None}
 use Rattle.chain_types.specs.declared.transactions.Argument.{Argument}
 use Rattle.answer_types.specs.declared.pieces.Given.{Given}
@@ -22,7 +22,7 @@ value_given (Some (pure bytes)) = given.Number 0
 value_given (Some (object item)) = given.Item item
 value_given (Some (vector k items)) = given.Items items
 
--- what is given for arguments, behind what was given already
+-- what is given for arguments, after what was given already
 abbrev pub givens_after : Block → List Given → List Wanted → List Given
 givens_after b givens [] = givens
 givens_after b givens (w ∷ rest) = givens_after b (givens ++ given_as (need_meant w.need) (value_in (place_of w.argument) b.slots) ∷ []) rest

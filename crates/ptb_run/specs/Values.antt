@@ -19,7 +19,7 @@ value_of (values.Pure bytes) = block.pure bytes
 value_of (values.Object item) = block.object item
 value_of (values.Vector kind items) = block.vector kind items
 
--- what a place holds, none where it is spent
+-- what a place holds, none if it is spent
 abbrev pub held : Option Value → Option block.Value
 held v = option_map value_of v
 

@@ -64,7 +64,7 @@ impl Block {
         }
     }
 
-    /// The number that the 8 bytes in the place of an argument spell.
+    /// The number that the 8 bytes in the place of an argument encode.
     #[tactic(auto, using(crate::proofs::Taken::eight_bytes))]
     pub(crate) fn number_in(&self, argument: &Argument) -> u64
         requires { is_taken (block_of self.now) (argument.now, commands.number) ≡ true }
@@ -115,7 +115,7 @@ impl Block {
         self.gather(alloc, args)
     }
 
-    /// The numbers that the bytes in the places of arguments spell, gathered one after the other.
+    /// The numbers that the bytes in the places of arguments encode, gathered one after the other.
     fn gather_numbers(&self, alloc: Global, args: &[Argument]) -> Result<Seq<u64>, OutOfMemory>
         requires { list_all (is_taken (block_of self.now)) (all_by commands.number args.now) ≡ true }
         ensures { IfOk result (λ numbers. numbers ≡ numbers_after (block_of self.now) [] args.now) }
@@ -129,7 +129,7 @@ impl Block {
         Ok(numbers)
     }
 
-    /// The numbers that the bytes in the places of arguments spell.
+    /// The numbers that the bytes in the places of arguments encode.
     #[tactic(auto, using(crate::proofs::Gathered::numbers_are))]
     pub(crate) fn numbers_in(
         &self,
@@ -190,7 +190,7 @@ impl Block {
         }
     }
 
-    /// An object leaves the block to an owner, where there is one that does.
+    /// An object leaves the block to an owner, if there is one that does.
     #[tactic(auto, unfolding(crate::specs::Blocks::block_of, crate::specs::Blocks::rows_of), using(crate::proofs::Leaving::none_leaves))]
     pub(crate) fn leave(&mut self, placed: Option<Placed>) -> Result<(), OutOfMemory>
         ensures after { OnOk result (block_of self.new ≡ record (block_of self.old) { placed = (block_of self.old).placed ++ placed_list placed }) }

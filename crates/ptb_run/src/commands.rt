@@ -1,4 +1,4 @@
-//! What each command does, where its arguments may be taken.
+//! What each command does, if its arguments may be taken.
 
 ghost use Rattle.std.specs.Prelude.{◌≡◌, ◌+◌, ◌-◌, ◌<◌, ◌≤◌, ◌^◌, ◌∷◌, [], not, ◌==◌, nat_le, nat_lt, if◌then◌else◌, length, map, sum, IfOk, OnOk, SomeIff, true};
 ghost use Rattle.std.specs.List.{list_all, list_any};
@@ -20,7 +20,7 @@ use native_calls::contents::{amount_of, currency_of, holding};
 use std::alloc::Global;
 use wire_bcs::{OutOfMemory, Seq};
 
-/// The sum of amounts, where it is an amount.
+/// The sum of amounts, if it is an amount.
 fn sum_of_numbers(numbers: &[u64]) -> Option<u64>
     ensures { SomeIff result (sum numbers.now < 2 ^ 64) (sum numbers.now) }
 {
@@ -33,7 +33,7 @@ fn sum_of_numbers(numbers: &[u64]) -> Option<u64>
     Some(total)
 }
 
-/// The sum of this amount and of what the items hold, where it is an amount.
+/// The sum of this amount and of what the items hold, if it is an amount.
 fn sum_from(start: u64, items: &[Item]) -> Option<u64>
     ensures { let total = start + sum_of items.now in SomeIff result (total < 2 ^ 64) total }
 {
@@ -95,7 +95,7 @@ pub(crate) struct Site {
     pub(crate) version: u64,
 }
 
-/// What a coin shows less the amounts, where it has them.
+/// What a coin shows less the amounts, if it has them.
 fn left_of(coin: &Item, amounts: &[u64]) -> Option<u64>
     ensures { result ≡ (if nat_lt (amount_of coin.now.content) (sum amounts.now) then None else Some (amount_of coin.now.content - sum amounts.now)) }
 {
@@ -132,7 +132,7 @@ fn split_coin(
     Ok(())
 }
 
-/// Gives one new coin for each amount, out of a coin: 8 where it shows less than their sum.
+/// Gives one new coin for each amount, out of a coin: 8 if it shows less than their sum.
 pub(crate) fn split(
     alloc: Global,
     block: &mut Block,
@@ -167,7 +167,7 @@ fn withheld(tx: &Transaction, argument: &Argument) -> u64
     }
 }
 
-/// What a coin shows with what the sources hold, where this and the withheld budget are an amount.
+/// What a coin shows with what the sources hold, if this and the withheld budget are an amount.
 fn merged(tx: &Transaction, target: &Argument, item: &Item, sources: &[Item]) -> Option<u64>
     ensures { let total = amount_of item.now.content + sum_of sources.now in result ≡ (if nat_le amount_limit (amount_of item.now.content + withheld tx.now target.now + sum_of sources.now) then None else Some total) }
 {
@@ -197,7 +197,7 @@ fn merge_coins(
     Ok(())
 }
 
-/// Adds coins to a coin and deletes them: 10 where one has another currency, 9 where the sum is no
+/// Adds coins to a coin and deletes them: 10 if one has another currency, 9 if the sum is no
 /// amount.
 pub(crate) fn merge(
     alloc: Global,

@@ -62,7 +62,7 @@ fn executed_as(
     })
 }
 
-/// What is executed where the block succeeds.
+/// What is executed if the block succeeds.
 fn executed_done(
     alloc: Global,
     tx: &Transaction,
@@ -91,7 +91,7 @@ fn executed_done(
     )
 }
 
-/// What is executed where the block fails.
+/// What is executed if the block fails.
 fn executed_failed(
     alloc: Global,
     tx: &Transaction,
@@ -189,7 +189,7 @@ fn execute_fitting(
 
 /// The effects of a transaction of valid shape on the objects that fit it, and the objects that it
 /// writes; `digest` is the transaction's (Sui documentation, programmable transaction blocks). What
-/// fails in the block is told by the status, and the only error is that memory is refused.
+/// fails in the block is said by the status, and the only error is that memory is refused.
 pub fn execute(
     alloc: Global,
     tx: &Transaction,

@@ -1,12 +1,13 @@
 //! When objects fit a transaction.
 
-ghost use Rattle.std.specs.Prelude.{◌≡◌, ◌&&◌, ◌==◌, nat_le, nat_lt, fold, filter};
+ghost use Rattle.std.specs.Prelude.{◌≡◌, ◌&&◌, ◌==◌, nat_le, nat_lt, fold, filter, map};
 ghost use Rattle.chain_types.specs.Digests.{digest_of_object, is_object};
 ghost use Rattle.chain_types.specs.Equal.{digest_eq, id_eq};
 ghost use Rattle.protocol_spec.specs.Chain.Keys.{balance_of, fit_inputs, fits, fits_input, is_gas_coin, is_immutable, is_owned_by, is_shared_since, objects_of, pays_gas, version_limit, version_of};
 ghost use Rattle.ptb_run.specs.Versions.{greatest_version};
 
-use chain_types::{Address, Content, Input, Object, ObjectRef, Owner, Transaction, object_digest};
+use crate::digested::Digested;
+use chain_types::{Address, Content, HashedObject, Input, Object, ObjectRef, Owner, Transaction};
 use wire_bcs::Seq;
 
 /// Whether the address owns the object.
@@ -40,28 +41,30 @@ fn is_shared_since(initial: u64, owner: &Owner) -> bool
 }
 
 /// Whether the object has the id, the version and the digest of the reference.
-fn is_referred(reference: &ObjectRef, object: &Object) -> bool
-    ensures { result ≡ (id_eq object.now.id reference.now.id && (object.now.version == reference.now.version) && digest_eq (digest_of_object object.now) reference.now.digest) }
+fn is_referred<T: Digested>(reference: &ObjectRef, object: &T) -> bool
+    ensures { result ≡ (id_eq (T.seen object.now).id reference.now.id && ((T.seen object.now).version == reference.now.version) && digest_eq (digest_of_object (T.seen object.now)) reference.now.digest) }
 {
-    object.id == reference.id
-        && object.version == reference.version
-        && object_digest(object) == reference.digest
+    let own = object.as_object();
+    own.id == reference.id
+        && own.version == reference.version
+        && object.to_digest() == reference.digest
 }
 
 /// Whether the object is what the input names.
-fn fits_input(tx: &Transaction, input: &Input, object: &Object) -> bool
-    ensures { result ≡ fits_input tx.now input.now object.now }
+fn fits_input<T: Digested>(tx: &Transaction, input: &Input, object: &T) -> bool
+    ensures { result ≡ fits_input tx.now input.now (T.seen object.now) }
 {
+    let own = object.as_object();
     match input {
         Input::Pure(_) => false,
         Input::Owned(reference) => {
-            is_referred(reference, object) && is_owned_by(&tx.sender, &object.owner)
+            is_referred(reference, object) && is_owned_by(&tx.sender, &own.owner)
         }
         Input::Immutable(reference) => {
-            is_referred(reference, object) && is_immutable(&object.owner)
+            is_referred(reference, object) && is_immutable(&own.owner)
         }
         Input::Shared { id, initial, .. } => {
-            object.id == *id && is_shared_since(*initial, &object.owner)
+            own.id == *id && is_shared_since(*initial, &own.owner)
         }
     }
 }
@@ -77,8 +80,8 @@ fn is_object(input: &Input) -> bool
 }
 
 /// Whether there is one object for each input that names one, in order, and it is what is named.
-fn fit_inputs(tx: &Transaction, inputs: &[Input], objects: &[Object]) -> bool
-    ensures { result ≡ fit_inputs tx.now (filter is_object inputs.now) objects.now }
+fn fit_inputs<T: Digested>(tx: &Transaction, inputs: &[Input], objects: &[T]) -> bool
+    ensures { result ≡ fit_inputs tx.now (filter is_object inputs.now) (map T.seen objects.now) }
 {
     let mut left = inputs;
     let mut rest = objects;
@@ -99,14 +102,14 @@ fn fit_inputs(tx: &Transaction, inputs: &[Input], objects: &[Object]) -> bool
 
 /// Whether the objects are those that the transaction names: its gas coin, which is the sender's,
 /// and those of its inputs.
-fn fit_objects(tx: &Transaction, objects: &[Object]) -> bool
-    ensures { result ≡ fit_inputs tx.now (objects_of tx.now) objects.now }
+fn fit_objects<T: Digested>(tx: &Transaction, objects: &[T]) -> bool
+    ensures { result ≡ fit_inputs tx.now (objects_of tx.now) (map T.seen objects.now) }
 {
     let [gas, others @ ..] = objects else {
         return false;
     };
     is_referred(&tx.gas, gas)
-        && is_owned_by(&tx.sender, &gas.owner)
+        && is_owned_by(&tx.sender, &gas.as_object().owner)
         && fit_inputs(tx, tx.inputs.as_slice(), others)
 }
 
@@ -134,7 +137,7 @@ fn pays_gas(tx: &Transaction, objects: &[Object]) -> bool
     }
 }
 
-/// The greatest version among the objects, 0 where there is none.
+/// The greatest version among the objects, 0 if there is none.
 pub(crate) fn greatest_version(objects: &[Object]) -> u64
     ensures { result ≡ greatest_version objects.now }
 {
@@ -155,14 +158,23 @@ fn is_low(objects: &[Object]) -> bool
 }
 
 /// Whether the objects are those that the transaction names, in order: each has the id that is named
-/// and, where it is not shared, the version and the digest too; the gas coin and the Owned inputs are the
+/// and, if it is not shared, the version and the digest too; the gas coin and the Owned inputs are the
 /// sender's, the Immutable ones immutable, the Shared ones shared from the version that is named; the
 /// gas coin is of currency 0 and holds the budget; and the version at which the transaction writes is
 /// below 2^62. Takes no memory.
-#[tactic(auto, unfolding(protocol_spec::specs::Chain::Keys::fits))]
+#[tactic(auto, unfolding(protocol_spec::specs::Chain::Keys::fits), using(crate::proofs::Seen::seen_all))]
 pub fn fits(tx: &Transaction, inputs: &Seq<Object>) -> bool
     ensures { result ≡ fits tx.now inputs.now }
 {
     let objects = inputs.as_slice();
     fit_objects(tx, objects) && pays_gas(tx, objects) && is_low(objects)
+}
+
+/// The same, where the digests of the objects are known.
+#[tactic(auto, unfolding(protocol_spec::specs::Chain::Keys::fits), using(crate::proofs::Seen::seen_all))]
+pub fn fits_hashed(tx: &Transaction, hashed: &[HashedObject], inputs: &[Object]) -> bool
+    requires { hashed.now ≡ inputs.now }
+    ensures { result ≡ fits tx.now inputs.now }
+{
+    fit_objects(tx, hashed) && pays_gas(tx, inputs) && is_low(inputs)
 }

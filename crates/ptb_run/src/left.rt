@@ -15,7 +15,7 @@ use std::alloc::Global;
 use tables::insert_new;
 use wire_bcs::OutOfMemory;
 
-/// Notes an object that left the block, where none of its id did before.
+/// Notes an object that left the block, if none of its id did before.
 fn note_first(left: &mut IndexMap<ObjectId, Placed>, placed: &Placed) -> Result<(), OutOfMemory>
     ensures { OnOk result (left.new.entries ≡ with_first left.old.entries placed.now) }
 {
@@ -67,7 +67,7 @@ pub(crate) fn object_left(
     }
 }
 
-/// What an object is at the end of the block: in its place, or where it went; none where it is deleted.
+/// What an object is at the end of the block: in its place, or where it went; none if it is deleted.
 #[tactic(auto, unfolding(crate::specs::Blocks::block_of))]
 pub(crate) fn moved_now(
     version: u64,

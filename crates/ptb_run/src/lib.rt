@@ -2,7 +2,7 @@
 //!
 //! [`fits`] says whether objects are those that a transaction names, and takes no memory. [`execute`]
 //! gives the effects of a transaction of valid shape on objects that fit it, and the objects that it
-//! writes. What fails in the block is told by the status of the effects; the only error of a call is that
+//! writes. What fails in the block is said by the status of the effects; the only error of a call is that
 //! memory is refused. Both cost time in proportion to the commands, their arguments and the objects, and
 //! each argument and each object is found without a scan.
 #![tactic(auto)]
@@ -11,9 +11,11 @@ mod block;
 mod calls;
 mod causes;
 mod commands;
+mod digested;
 mod execution;
 mod fitting;
 mod halt;
+mod hashed;
 mod left;
 mod needs;
 mod opening;
@@ -25,4 +27,5 @@ mod value;
 mod written;
 
 pub use execution::execute;
-pub use fitting::fits;
+pub use fitting::{fits, fits_hashed};
+pub use hashed::{HashedExecuted, execute_hashed};

@@ -11,7 +11,7 @@ use crate::value::{Spot, Value};
 use std::alloc::Global;
 use wire_bcs::{OutOfMemory, Seq};
 
-/// What the places of a block hold; none where the value is spent.
+/// What the places of a block hold; none if the value is spent.
 #[derive(Debug, Drop)]
 pub(crate) struct Slots {
     pub(crate) gas: Option<Value>,
@@ -29,7 +29,7 @@ fn cell(row: &[Option<Value>], number: u16) -> Option<&Value>
     }
 }
 
-/// Puts a value into the place of this number in a row, where there is one.
+/// Puts a value into the place of this number in a row, if there is one.
 fn put_cell(row: &mut Seq<Option<Value>>, number: u16, value: Option<Value>)
     ensures { row.new ≡ slice_set row.old number value }
 {
@@ -39,7 +39,7 @@ fn put_cell(row: &mut Seq<Option<Value>>, number: u16, value: Option<Value>)
 }
 
 impl Slots {
-    /// The value in a place, none where it is spent or there is no such place.
+    /// The value in a place, none if it is spent or there is no such place.
     #[tactic(auto, using(crate::proofs::Reading::gas_in, crate::proofs::Reading::input_in))]
     pub(crate) fn at(&self, spot: Spot) -> Option<&Value>
         ensures { seen result ≡ value_in (spot_of spot) (slots_of self.now) }
@@ -54,7 +54,7 @@ impl Slots {
         }
     }
 
-    /// Puts a value into a place, or spends the place; nothing happens where there is no such place.
+    /// Puts a value into a place, or spends the place; nothing happens if there is no such place.
     #[tactic(auto, using(crate::proofs::Writing::gas_put, crate::proofs::Writing::input_put, crate::proofs::Writing::no_result_put))]
     pub(crate) fn put(&mut self, spot: Spot, value: Option<Value>)
         ensures after { slots_of self.new ≡ put_in (spot_of spot) (held value) (slots_of self.old) }

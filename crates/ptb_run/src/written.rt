@@ -27,7 +27,7 @@ fn is_written(input: &Input) -> bool
     }
 }
 
-/// Adds the object of an input, where it is written.
+/// Adds the object of an input, if it is written.
 fn add(
     moved: &mut Seq<Moved>,
     input: &Input,

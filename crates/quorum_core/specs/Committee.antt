@@ -40,7 +40,7 @@ is_roll stakes members = ascends members && all_known stakes members
 
 -- ---- which lists are committees: 1 to 64 stakes, none of them zero
 
--- the place of the first zero, where the list begins with the stake of this member
+-- the place of the first zero, if the list begins with the stake of this member
 abbrev pub zero_from : ℕ → List ℕ → Option ℕ
 zero_from member [] = None
 zero_from member (stake ∷ stakes) = if stake == 0 then Some member else zero_from (suc member) stakes

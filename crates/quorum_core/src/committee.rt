@@ -5,7 +5,7 @@ ghost use Rattle.quorum_core.specs.Committee.{committee_of, is_quorum, is_roll, 
 
 use std::marker::Model;
 
-/// Why a list of stakes is no committee, in the order in which the cases are tried.
+/// Why a list of stakes is not a committee, in the order in which the cases are tried.
 #[derive(Clone, Copy, Debug, PartialEq, Eq)]
 pub enum CommitteeRefusal {
     NoMembers,
@@ -122,7 +122,7 @@ impl Committee {
         self.stakes().len() as u32
     }
 
-    /// The stake of a member; none exactly where the member is not known. Takes no memory.
+    /// The stake of a member; none exactly if the member is not known. Takes no memory.
     pub fn stake(&self, member: u32) -> Option<u32>
         ensures { result ≡ slice_get self.now member }
     {

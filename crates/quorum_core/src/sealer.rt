@@ -11,21 +11,24 @@ ghost use Rattle.quorum_core.specs.Seals.{keyed_seal};
 use crate::signer::Signer;
 use digest_core::{Digest, Hasher, TAG_SEAL};
 
-/// Makes seals of signers over bytes, and checks them. No call takes memory.
-pub trait Sealer {
+/// Checks seals of signers over bytes, and makes none: what a client has. No call takes memory.
+pub trait Checker {
     /// Whether the seal is accepted as the signer's over the bytes.
     ghost accepts: { Self → Who → List ℕ → Seal → Bool };
-
-    /// A seal of the signer over the bytes, which is accepted.
-    fn seal(&self, signer: &Signer, bytes: &[u8]) -> Digest
-        ensures { accepts self.now signer.now bytes.now result ≡ true };
 
     /// Whether the seal is accepted as the signer's over the bytes.
     fn check(&self, signer: &Signer, bytes: &[u8], seal: &Digest) -> bool
         ensures { result ≡ accepts self.now signer.now bytes.now seal.now };
 }
 
-/// Seals under one secret: the tagged digest of the secret, the spelling of the signer and the
+/// Makes seals of signers over bytes too. No call takes memory.
+pub trait Sealer: Checker {
+    /// A seal of the signer over the bytes, which is accepted.
+    fn seal(&self, signer: &Signer, bytes: &[u8]) -> Digest
+        ensures { Self.accepts self.now signer.now bytes.now result ≡ true };
+}
+
+/// Seals under one secret: the tagged digest of the secret, the encoding of the signer and the
 /// bytes. Exactly that seal is accepted.
 #[derive(Clone, Copy)]
 pub struct KeyedSeal {
@@ -41,7 +44,7 @@ impl KeyedSeal {
     }
 }
 
-/// Feeds the spelling of a member.
+/// Feeds the encoding of a member.
 #[tactic(auto, unfolding(crate::specs::Signers::signer))]
 fn add_member(hasher: &mut Hasher, member: u32)
     ensures { (fed : List ℕ) → Hashes hasher.old fed → Hashes hasher.new (fed ++ codecs.signer.spell (signers.Member member)) }
@@ -50,7 +53,7 @@ fn add_member(hasher: &mut Hasher, member: u32)
     hasher.add(member.to_le_bytes().as_slice());
 }
 
-/// Feeds the spelling of a user.
+/// Feeds the encoding of a user.
 #[tactic(auto, unfolding(crate::specs::Signers::signer))]
 fn add_user(hasher: &mut Hasher, address: &Digest)
     ensures { (fed : List ℕ) → Hashes hasher.old fed → Hashes hasher.new (fed ++ codecs.signer.spell (signers.User address.now)) }
@@ -59,7 +62,7 @@ fn add_user(hasher: &mut Hasher, address: &Digest)
     hasher.add(&address.0);
 }
 
-/// Feeds the spelling of a signer.
+/// Feeds the encoding of a signer.
 fn add_signer(hasher: &mut Hasher, signer: &Signer)
     ensures { (fed : List ℕ) → Hashes hasher.old fed → Hashes hasher.new (fed ++ codecs.signer.spell signer.now) }
 {
@@ -81,17 +84,19 @@ fn seal_under(secret: &[u8; 32], signer: &Signer, bytes: &[u8]) -> Digest
     hasher.end()
 }
 
-impl Sealer for KeyedSeal {
+impl Checker for KeyedSeal {
     ghost accepts = { λ sealer signer bytes seal. bytes_eq seal.0 (keyed_seal sealer.secret signer bytes).0 };
 
+    fn check(&self, signer: &Signer, bytes: &[u8], seal: &Digest) -> bool {
+        *seal == seal_under(&self.secret, signer, bytes)
+    }
+}
+
+impl Sealer for KeyedSeal {
     fn seal(&self, signer: &Signer, bytes: &[u8]) -> Digest
         ensures made { result ≡ keyed_seal self.now.secret signer.now bytes.now }
         ensures accepted { bytes_eq result.0 (keyed_seal self.now.secret signer.now bytes.now).0 ≡ true }
     {
         seal_under(&self.secret, signer, bytes)
-    }
-
-    fn check(&self, signer: &Signer, bytes: &[u8], seal: &Digest) -> bool {
-        *seal == seal_under(&self.secret, signer, bytes)
     }
 }

@@ -29,7 +29,7 @@ is_sequence_line (line.See member text) = true
 is_sequence_line (line.SeeEntry member entry text) = true
 is_sequence_line other = false
 
--- what a member runs, where no transaction was executed
+-- what a member runs, if no transaction was executed
 abbrev pub is_run_line : Line → Bool
 is_run_line (line.Run member text) = true
 is_run_line (line.Absent tx key) = true

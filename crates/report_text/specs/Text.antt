@@ -38,7 +38,7 @@ use Rattle.report_text.specs.declared.lines.ContentText.TheVariants as content
 use Rattle.report_text.specs.declared.lines.Line.{Line}
 use Rattle.report_text.specs.declared.lines.Line.TheVariants as line
 
--- an origin, or `-` where there is none
+-- an origin, or `-` if there is none
 abbrev pub origin_word : Option (List ℕ) → List ℕ
 origin_word None = codes "-"
 origin_word (Some tx) = tx
@@ -53,7 +53,7 @@ names_text names = flat_map (λ name. 32 ∷ name) names
 unfoldable pub numbers_text : List ℕ → List ℕ
 numbers_text numbers = flat_map (λ n. 32 ∷ decimal n) numbers
 
--- a word and names, where there are any
+-- a word and names, if there are any
 abbrev pub part_text : List ℕ → List (List ℕ) → List ℕ
 part_text word [] = []
 part_text word (name ∷ names) = word ++ names_text (name ∷ names)

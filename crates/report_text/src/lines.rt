@@ -15,7 +15,7 @@ pub enum Line {
         tx: Seq<u8>,
         text: VoteText,
     },
-    /// `fvote M T: voted` and the origins, `-` where there is none
+    /// `fvote M T: voted` and the origins, `-` if there is none
     Fvote {
         member: u64,
         tx: Seq<u8>,
@@ -93,7 +93,7 @@ pub enum Line {
     Unfit {
         tx: Seq<u8>,
     },
-    /// `  checkpoint N:` and the transactions, then ` last` where it is the last
+    /// `  checkpoint N:` and the transactions, then ` last` if it is the last
     Checkpoint {
         number: u64,
         txs: Seq<Seq<u8>>,
@@ -179,7 +179,7 @@ pub enum Line {
 /// What a member answers to a signed transaction.
 #[derive(Drop)]
 pub enum VoteText {
-    /// `voted` and the origins, `-` where there is none
+    /// `voted` and the origins, `-` if there is none
     Voted { origins: Seq<Option<Seq<u8>>> },
     /// `again` and the origins
     Again { origins: Seq<Option<Seq<u8>>> },
@@ -307,7 +307,7 @@ pub enum OrderEndText {
     NotTaken,
 }
 
-/// What a `see` event prints where it takes no entry.
+/// What a `see` event prints if it takes no entry.
 #[derive(Drop)]
 pub enum SeeText {
     /// `nothing`
@@ -323,8 +323,8 @@ pub enum SeeText {
 /// What a member makes of an entry.
 #[derive(Drop)]
 pub enum EntryText {
-    /// `admitted` with the transactions, where there are any; `dropped` with the dropped ones,
-    /// where there are any
+    /// `admitted` with the transactions, if there are any; `dropped` with the dropped ones,
+    /// if there are any
     Taken {
         admitted: Seq<Seq<u8>>,
         dropped: Seq<Seq<u8>>,
@@ -344,7 +344,7 @@ pub enum EntryText {
         admitted: Seq<Seq<u8>>,
         dropped: Seq<Seq<u8>>,
     },
-    /// `end of M2 weight W of TOTAL`, then `, epoch ended` where it has
+    /// `end of M2 weight W of TOTAL`, then `, epoch ended` if it has
     EndOf {
         member: u64,
         weight: u64,

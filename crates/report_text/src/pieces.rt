@@ -73,7 +73,7 @@ pub(crate) fn print_with_number(
     print(out, &[Piece::Text(text), Piece::Number(number)])
 }
 
-/// Two names, each behind its text.
+/// Two names, each after its text.
 pub(crate) fn print_two_names<'a>(
     out: &mut Seq<u8>,
     text: &'a [u8],
@@ -94,7 +94,7 @@ pub(crate) fn print_two_names<'a>(
     )
 }
 
-/// Two numbers, each behind its text.
+/// Two numbers, each after its text.
 pub(crate) fn print_two_numbers<'a>(
     out: &mut Seq<u8>,
     text: &'a [u8],
@@ -148,7 +148,7 @@ pub(crate) fn print_fork<'a>(
     )
 }
 
-/// The head of a line on a member: the word, the member, and the text behind it.
+/// The head of a line on a member: the word, the member, and the text after it.
 pub(crate) fn print_member_head<'a>(
     out: &mut Seq<u8>,
     word: &'a [u8],
@@ -163,7 +163,7 @@ pub(crate) fn print_member_head<'a>(
     )
 }
 
-/// The head of a line on a transaction: the word, the transaction, and the text behind it.
+/// The head of a line on a transaction: the word, the transaction, and the text after it.
 pub(crate) fn print_tx_head<'a>(
     out: &mut Seq<u8>,
     word: &'a [u8],
@@ -175,7 +175,7 @@ pub(crate) fn print_tx_head<'a>(
     print(out, &[Piece::Text(word), Piece::Name(tx), Piece::Text(end)])
 }
 
-/// The head of a line on a member and a transaction: the word, both, and the text behind them.
+/// The head of a line on a member and a transaction: the word, both, and the text after them.
 pub(crate) fn print_pair_head<'a>(
     out: &mut Seq<u8>,
     word: &'a [u8],
@@ -256,7 +256,7 @@ pub(crate) fn print_numbers(out: &mut Seq<u8>, numbers: &Seq<u64>) -> Result<(),
     Ok(())
 }
 
-/// A word and names, where there are any.
+/// A word and names, if there are any.
 #[tactic(auto, using(crate::proofs::Appends::fronts))]
 pub(crate) fn print_part(
     out: &mut Seq<u8>,

@@ -128,7 +128,7 @@ fn print_sequence_line(out: &mut Seq<u8>, line: &Line) -> Result<(), OutOfMemory
     }
 }
 
-/// Prints a line on what a member runs, where no transaction was executed.
+/// Prints a line on what a member runs, if no transaction was executed.
 #[tactic(auto, unfolding(crate::specs::Text::body_of))]
 fn print_run_line(out: &mut Seq<u8>, line: &Line) -> Result<(), OutOfMemory>
     requires { IsTrue (is_run_line line.now) }
@@ -382,7 +382,7 @@ fn print_body(out: &mut Seq<u8>, line: &Line) -> Result<(), OutOfMemory>
     }
 }
 
-/// Appends the bytes of the line. After a refusal `out` holds what stood in it and a front of the line.
+/// Appends the bytes of the line. After a refusal `out` holds what stood in it and a prefix of the line.
 #[tactic(auto, using(crate::proofs::Appends::fronts), unfolding(crate::specs::Text::text_of))]
 pub fn print_line(line: &Line, out: &mut Seq<u8>) -> Result<(), OutOfMemory>
     ensures { Writes out.old out.new (text_of line.now) result }

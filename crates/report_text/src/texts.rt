@@ -1,4 +1,4 @@
-//! The texts that end a line, behind its head.
+//! The texts that end a line, after its head.
 
 ghost use Rattle.std.specs.Prelude.{◌∷◌, [], ◌++◌, decimal, codes};
 ghost use Rattle.std.specs.List.{concat};

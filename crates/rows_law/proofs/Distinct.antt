@@ -1,4 +1,4 @@
--- A run without raw certificates meets the run assumptions where its transactions are among a few, whose digests differ,
+-- A run without raw certificates meets the run assumptions if its transactions are among a few, whose digests differ,
 -- and so do the ids that these can draw and those of the set-up: what a computed run can show.
 use Rattle.std.proofs.Common.{inl, inr, refl, sym, subst, ap, ◌∙◌}
 use Rattle.std.specs.Prelude.{◌≡◌, ◌⊎◌, ◌<◌, ℕ, Bool, true, false, List, [], ◌∷◌, ◌++◌, map, flat_map, slice_get, Option, Some, Ok}
@@ -43,7 +43,7 @@ module _ {A B : Type 0} (f : A → B) (same : B → B → Bool) (self : (x : B) 
   one-of (z ∷ zs) e x y (inr h) (inl q) r = absurd (no-other (f z) (map f zs) (f x) (or_false_left (list_any (same (f z)) (map f zs)) (repeats same (map f zs)) e) (has_map f zs x h) (ap f q ∙ sym r))
   one-of (z ∷ zs) e x y (inr h) (inr k) r = one-of zs (or_false_right (list_any (same (f z)) (map f zs)) (repeats same (map f zs)) e) x y h k r
 
-  -- and of what stands behind it
+  -- and of what stands after it
   any-front : (x : B) (xs ys : List B) → list_any (same x) (xs ++ ys) ≡ false → list_any (same x) xs ≡ false
   any-front x [] ys e = refl
   any-front x (z ∷ xs) ys e = rw (or_false_left (same x z) (list_any (same x) (xs ++ ys)) e) (any-front x xs ys (or_false_right (same x z) (list_any (same x) (xs ++ ys)) e))

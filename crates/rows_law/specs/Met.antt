@@ -8,7 +8,7 @@ use Rattle.world_spec.specs.Keyed.{keyed, program_secret}
 use Rattle.world_spec.specs.Run.{report_of}
 use Rattle.world_spec.specs.Assumptions.{IsHonestRun}
 
--- a line feed behind each line
+-- a line feed after each line
 abbrev pub text_of : List (List ℕ) → List ℕ
 text_of lines = flat_map (λ line. line ++ 10 ∷ []) lines
 

@@ -1,4 +1,4 @@
--- With one writer for each object and commit, the second is admitted behind the mark, or never.
+-- With one writer for each object and commit, the second is admitted after the mark, or never.
 use Rattle.std.specs.Prelude.{List, [], ◌∷◌, true, false, None, codes}
 use Rattle.schedule_text.specs.declared.words.Setup.{Setup}
 use Rattle.schedule_text.specs.declared.words.Setup.TheVariants as setup

@@ -1,4 +1,4 @@
--- A certificate that is ordered before its origin is admitted right behind it.
+-- A certificate that is ordered before its origin is admitted right after it.
 use Rattle.std.specs.Prelude.{List, [], ◌∷◌, true, false, Some, None, codes}
 use Rattle.schedule_text.specs.declared.words.Setup.{Setup}
 use Rattle.schedule_text.specs.declared.words.Setup.TheVariants as setup

@@ -1,4 +1,4 @@
--- A certificate is executed behind the transaction that made its input, in whatever order they come.
+-- A certificate is executed after the transaction that made its input, in whatever order they come.
 use Rattle.std.specs.Prelude.{List, [], ◌∷◌, true, false, Some, None, codes}
 use Rattle.schedule_text.specs.declared.words.Setup.{Setup}
 use Rattle.schedule_text.specs.declared.words.Setup.TheVariants as setup

@@ -1,4 +1,4 @@
--- Certificates of faulty members alone: an input that nobody made is absent, a shared one is dropped, a wrong digest does not fit.
+-- Only certificates of faulty members: an input that nobody made is absent, a shared one is dropped, a wrong digest does not fit.
 use Rattle.std.specs.Prelude.{List, [], ◌∷◌, true, false, Some, None, codes}
 use Rattle.schedule_text.specs.declared.words.Setup.{Setup}
 use Rattle.schedule_text.specs.declared.words.Setup.TheVariants as setup

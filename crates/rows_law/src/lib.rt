@@ -57,12 +57,12 @@ pub fn shared_objects_keep_their_order()
     ensures { SharedObjectsKeepTheirOrder }
 {}
 
-/// A certificate is executed behind the transaction that made its input, in whatever order they come.
+/// A certificate is executed after the transaction that made its input, in whatever order they come.
 pub fn execution_waits_for_origins()
     ensures { ExecutionWaitsForOrigins }
 {}
 
-/// A certificate that is ordered before its origin is admitted right behind it.
+/// A certificate that is ordered before its origin is admitted right after it.
 pub fn admission_waits_for_origins()
     ensures { AdmissionWaitsForOrigins }
 {}
@@ -72,7 +72,7 @@ pub fn kept_votes_are_remembered()
     ensures { KeptVotesAreRemembered }
 {}
 
-/// With half of the stake faulty two certificates consume one coin; who meets both halts, also after a restart.
+/// With half of the stake faulty two certificates consume one coin; a member that meets both halts, also after a restart.
 pub fn a_fork_halts()
     ensures { AForkHalts }
 {}
@@ -107,7 +107,7 @@ pub fn a_vault_is_filled_and_shared()
     ensures { AVaultIsFilledAndShared }
 {}
 
-/// Certificates of faulty members alone: an input that nobody made is absent, a shared one is dropped, a wrong digest does not fit.
+/// Only certificates of faulty members: an input that nobody made is absent, a shared one is dropped, a wrong digest does not fit.
 pub fn what_faulty_votes_leave()
     ensures { WhatFaultyVotesLeave }
 {}
@@ -117,7 +117,7 @@ pub fn an_empty_mark_makes_no_checkpoint()
     ensures { AnEmptyMarkMakesNoCheckpoint }
 {}
 
-/// With one writer for each object and commit, the second is admitted behind the mark, or never.
+/// With one writer for each object and commit, the second is admitted after the mark, or never.
 pub fn a_second_writer_is_deferred()
     ensures { ASecondWriterIsDeferred }
 {}

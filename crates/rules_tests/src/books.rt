@@ -125,7 +125,7 @@ fn a_vote_locks_for_its_own_transaction(rt: HostRuntime) {
     same(&rt, said, Ok(()));
 }
 
-/// Holds a certificate of a transaction that consumes version 1 of these two, where none of this digest is held.
+/// Holds a certificate of a transaction that consumes version 1 of these two, if none of this digest is held.
 fn takes(
     alloc: Global,
     book: &mut HeldBook,

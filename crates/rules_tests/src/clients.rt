@@ -31,7 +31,7 @@ fn seals(alloc: Global, members: &[u32]) -> Result<Seq<MemberSeal>, OutOfMemory>
     Ok(seals)
 }
 
-/// A certificate, with seals of these members, of a transaction that consumes version 1 of the coin of this number alone.
+/// A certificate, with seals of these members, of a transaction that consumes only version 1 of the coin of this number.
 #[tactic(auto, unfolding(chain_types::specs::Transactions::transaction))]
 fn certified(
     alloc: Global,
@@ -160,7 +160,7 @@ fn other_votes_give_none(rt: HostRuntime) {
 }
 
 /// Whether these members, and no others, are to blame for a certificate of epoch 0 that consumes the coin 7, sealed by 0, 1
-/// and 2, and this one, sealed by 2, 1 and 3; nobody where there are none.
+/// and 2, and this one, sealed by 2, 1 and 3; nobody if there are none.
 fn blames(
     alloc: Global,
     epoch: u64,

@@ -1,5 +1,5 @@
 //! A chain of three checkpoints over two epochs, applied and refused, and an archive of it. The bytes and the digests are
-//! those of an independent script over spellings that were made by hand.
+//! those of an independent script over encodings that were made by hand.
 
 ghost use Rattle.std.specs.Prelude.{◌≡◌, All, IfSome, []};
 ghost use Rattle.checkpoint_core.specs.Checkpoints.{checkpoint as codec};
@@ -37,11 +37,11 @@ const THREE: &str =
 const ONE_ITEM: &str =
     "1426d8ed2fd646d24b82c3ae079936d3e2216a833a5ac705cf7e0eb6ce2cce8795c9c55bf1d4656631a7fcd96ddf9aed1014d3a4a92ce254f0747ad1e41a88a2";
 
-/// The same of the second.
+/// Likewise for the second.
 const TWO_ITEM: &str =
     "5b89049cb4bf5f9120b0eacfd8aff6c57fab284ae7d38b5e0ee95cd5d90fc36c5dd2d96abbeb4ab5c7bac838db3ba5f133055b7072d3c659d76ebfcf8ab7ec9c";
 
-/// The same of the third.
+/// Likewise for the third.
 const THREE_ITEM: &str =
     "54df7ac6aad976f2f1d2a0d0e547a7fa3ebb9bb771716b8f2f6b0a19e4352440016427d9c808750efc53b625c247f489dfd81c1c9b2bb8afc7d8e0e23af1f1f2";
 
@@ -262,7 +262,7 @@ fn has(alloc: Global, follower: &Follower, objects: &str) -> Option<bool> {
     Some(live.as_slice() == want.as_slice())
 }
 
-/// How a follower of the two coins comes through the lines: the first that is answered otherwise, the epoch behind them,
+/// How a follower of the two coins comes through the lines: the first that is answered otherwise, the epoch after them,
 /// and whether its objects are these.
 fn come_through<'a>(
     alloc: Global,
@@ -293,7 +293,7 @@ struct Known {
     tx: Transaction,
 }
 
-/// Transactions in memory, each of which can be spelled. Contracts see them under their digests.
+/// Transactions in memory, each of which can be encoded. Contracts see them under their digests.
 #[derive(Drop)]
 struct Shelf {
     known: Seq<Known>,
@@ -380,7 +380,7 @@ impl Archive for Store {
 /// transaction stands there twice), the transactions that are known, the follower's epoch, and the answer: how many
 /// checkpoints were applied, or the number and the place at which it is `stuck` or `differs`.
 ///
-/// Those of the epochs before are taken, and no other is looked at. A transaction that is not known is told before anything
+/// Those of the epochs before are taken, and no other is looked at. A transaction that is not known is reported before anything
 /// of its checkpoint is executed. The last one's third checkpoint does not go on from the first.
 const ARCHIVES: &str = "\
 flt 123 0 applied 0 0

@@ -70,7 +70,7 @@ fn writer(alloc: Global) -> Result<Held, OutOfMemory> {
     held(alloc, 1, inputs, 2)
 }
 
-/// What is left where this one is held alone: the version that it lacks, or none where it does not fit; nothing where it is
+/// What is left if only this one is held: the version that it lacks, or none if it does not fit; nothing if it is
 /// not left.
 fn left_of(
     alloc: Global,

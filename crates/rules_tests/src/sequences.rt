@@ -13,7 +13,7 @@ use tx_check::check_shape;
 use version_assign::Admission;
 use wire_bcs::{OutOfMemory, Seq};
 
-/// A certificate with the gas coin alone, which no transaction of the epoch made.
+/// A certificate with only the gas coin, which no transaction of the epoch made.
 fn certificate(alloc: Global) -> Result<Certificate, OutOfMemory>
     ensures { IfOk result (λ cert. length cert.origins ≡ length (objects_of cert.tx)) }
 {

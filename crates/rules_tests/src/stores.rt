@@ -5,7 +5,7 @@ ghost use Rattle.version_store.specs.Stores.{are_new};
 
 use crate::objects::{coin, digest, id, key};
 use crate::same::{holds, same};
-use chain_types::{Object, ObjectId, ObjectKey, Producer};
+use chain_types::{HashedObject, Object, ObjectId, ObjectKey, Producer};
 use digest_core::Digest;
 use effects_core::{Effects, HashedEffects, Status};
 use std::alloc::Global;
@@ -18,13 +18,14 @@ use wire_bcs::{OutOfMemory, Seq};
 fn are_apart(alloc: Global, objects: &Seq<Object>) -> Result<bool, OutOfMemory>
     ensures { IfOk result (λ apart. apart ≡ are_new [] objects.now) }
 {
+    let hashed = HashedObject::all(alloc, objects.as_slice())?;
     let empty = Store::opening(alloc, &Seq::new(alloc))?;
-    let apart = empty.are_new(objects);
+    let apart = empty.are_new(&hashed);
     drop(empty);
     apart
 }
 
-/// A store that opens with these objects, where none stands there twice.
+/// A store that opens with these objects, if none stands there twice.
 pub(crate) fn opened(alloc: Global, objects: &[Object]) -> Result<Option<Store>, OutOfMemory> {
     let objects = Seq::from_slice(alloc, objects)?;
     if !are_apart(alloc, &objects)? {
@@ -52,7 +53,7 @@ pub(crate) fn takes(
         deleted: Seq::from_slice(alloc, deleted)?,
     };
     let effects = HashedEffects::new(alloc, effects)?;
-    let objects = Seq::from_slice(alloc, objects)?;
+    let objects = HashedObject::all(alloc, objects)?;
     if store.is_executed(&effects.effects().tx) || !store.are_new(&objects)? {
         return Ok(false);
     }
@@ -106,7 +107,7 @@ fn expect_kept(rt: &impl Abort, alloc: Global, store: &mut Store) -> Result<(), 
     Ok(())
 }
 
-/// The version of a live object, 0 where it does not live.
+/// The version of a live object, 0 if it does not live.
 fn live_version(store: &Store, byte: u8) -> u64 {
     match store.live(&id(byte)) {
         Some(object) => object.version,
@@ -201,7 +202,7 @@ fn a_store_goes_through_two_epochs(rt: HostRuntime) {
     same(&rt, said, Ok(()));
 }
 
-/// Tests that all is undone where nothing is kept, the oldest told first.
+/// Tests that all is undone if nothing is kept, the oldest reported first.
 fn expect_undone(rt: &impl Abort, alloc: Global, store: &mut Store) -> Result<(), OutOfMemory> {
     holds(rt, takes_join(alloc, store)?);
     holds(rt, takes_spent(alloc, store)?);

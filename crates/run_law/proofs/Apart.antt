@@ -1,4 +1,4 @@
--- One spelling, one value.
+-- One encoding, one value.
 use Rattle.std.proofs.Common.{ap}
 use Rattle.std.specs.Prelude.{◌≡◌, ℕ, List, [], ◌++◌}
 use Rattle.wire_bcs.specs.Codec.{Codec}

@@ -3,6 +3,8 @@ mod Seats
 mod Workers
 mod Older
 mod Apart
+mod Carried
+mod CarriedPosts
 pub mod ScenePosts
 pub mod SceneSees
 pub mod SceneSteps

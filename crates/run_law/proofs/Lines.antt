@@ -14,16 +14,16 @@ use Rattle.report_text.specs.declared.lines.Line.{Line}
 use Rattle.protocol_spec.specs.Member.Member.{Member, Fork, fork_of}
 use Rattle.protocol_spec.specs.Member.Calls.{runs, turns, run_answer, turn_answer}
 use Rattle.world_spec.specs.Setting.{Name, Setting}
-use Rattle.world_spec.specs.World.{Made, World, Reached, finds_down, stops, answers, new_world, reached, member_at}
+use Rattle.world_spec.specs.World.{Made, World, Reached, finds_down, stops, answers, new_world, reached, member_at, is_seat_up, by_records}
 use Rattle.world_spec.specs.Names.{made_named}
 use Rattle.world_spec.specs.Step.{happens, entries_left}
-use Rattle.world_spec.specs.Report.{lines_of, vote_lines, fvote_lines, cert_lines, final_lines, ack_lines, none_taken, see_halted, see_up, entries_lines, run_reached, run_answered, turn_reached, turn_answered, show_up, is_seat_up}
+use Rattle.world_spec.specs.Report.{lines_of, vote_lines, fvote_lines, cert_lines, final_lines, ack_lines, none_taken, see_halted, see_up, entries_lines, run_reached, run_answered, turn_reached, turn_answered, show_up, lines_over}
 use Rattle.world_spec.specs.Run.{report_from, report}
 
 abbrev IsLine : List Line → Type 0
 IsLine lines = 1 ≤ length lines
 
-of-vote : (s : Setting) (w : World) (m : ℕ) (tx : Name) (t : Option Made) → IsLine (vote_lines s w m tx t)
+of-vote : (s : Setting) (w : World) (m : ℕ) (tx : Name) (t : Option Made) → IsLine (vote_lines (by_records s) s w m tx t)
 of-vote s w m tx None = omega arith
 of-vote s w m tx (Some t) = omega arith
 
@@ -39,7 +39,7 @@ of-final : (s : Setting) (w : World) (tx : Name) (ms : List ℕ) (t : Option Mad
 of-final s w tx ms None = omega arith
 of-final s w tx ms (Some t) = omega arith
 
-of-ack : (s : Setting) (w : World) (m : ℕ) (tx : Name) (t : Option Made) → IsLine (ack_lines s w m tx t)
+of-ack : (s : Setting) (w : World) (m : ℕ) (tx : Name) (t : Option Made) → IsLine (ack_lines (by_records s) s w m tx t)
 of-ack s w m tx None = omega arith
 of-ack s w m tx (Some t) = omega arith
 
@@ -47,11 +47,11 @@ of-none : (m : ℕ) (lines : List Line) → IsLine (none_taken m lines)
 of-none m [] = omega arith
 of-none m (l ∷ lines) = omega arith
 
-of-halted : (s : Setting) (w : World) (m n : ℕ) (fork : Option Fork) → IsLine (see_halted s w m n fork)
+of-halted : (s : Setting) (w : World) (m n : ℕ) (fork : Option Fork) → IsLine (see_halted (by_records s) s w m n fork)
 of-halted s w m n (Some fork) = omega arith
-of-halted s w m n None = of-none m (entries_lines s n w m)
+of-halted s w m n None = of-none m (entries_lines (by_records s) s n w m)
 
-of-see : (s : Setting) (w : World) (m n : ℕ) (up : Bool) (member : Option Member) → IsLine (see_up s w m n up member)
+of-see : (s : Setting) (w : World) (m n : ℕ) (up : Bool) (member : Option Member) → IsLine (see_up (by_records s) s w m n up member)
 of-see s w m n true (Some member) = of-halted s w m (min n (entries_left w (Some member))) (fork_of member)
 of-see s w m n true None = omega arith
 of-see s w m n false member = omega arith
@@ -90,7 +90,7 @@ of-show s w m true None = omega arith
 of-show s w m false member = omega arith
 
 line-of : (s : Setting) (w : World) (e : Event) → IsLine (lines_of s w e)
-unfolding lines_of
+unfolding lines_over
 line-of s w (event.Tx name sender spoiled epoch gas budget inputs commands) = omega arith
 line-of s w (event.Vote m tx) = of-vote s w m tx (made_named w tx)
 line-of s w (event.Fvote m tx origins) = of-fvote w m tx origins (made_named w tx)

@@ -1,4 +1,4 @@
--- A run executes no more than is held, and no more is held than there are records: so what it keeps can be spelled.
+-- A run executes no more than is held, and no more is held than there are records: so what it keeps can be encoded.
 use Rattle.std.proofs.Common.{refl, sym, subst, ◌∙◌, append-nil, append_assoc, arith}
 use Rattle.std.proofs.lemmas.List.{length-append}
 use Rattle.std.specs.Prelude.{◌≡◌, ℕ, ◌+◌, ◌≤◌, zero, suc, Bool, true, false, cond, not, ◌&&◌, List, [], ◌∷◌, ◌++◌, fold, length, Option, Some, None, is_some}
@@ -82,7 +82,7 @@ ready-of b executed h = where-on (not (is_executed executed h.digest) && may_run
     where-on true there = where-there there
     where-on false there = tt
 
--- the round is a front of what becomes of it
+-- the round is a prefix of what becomes of it
 round-front : (b : Books) (executed round : List Execution) (hs : List Held) → (rest : List Execution) × (round_among b executed round hs ≡ round ++ rest)
 round-front b executed round [] = ([], sym (append-nil round))
 round-front b executed round (h ∷ hs) = go (ready b executed h) (round-front b executed (round_add round (ready b executed h)) hs)

@@ -11,10 +11,10 @@ use Rattle.protocol_spec.proofs.ListLemmas.{each_front}
 use Rattle.protocol_spec.specs.Chain.Words.{Each}
 use Rattle.protocol_spec.specs.Member.Calls.{runs, votes, holds, closes, ends, turns, acks}
 use Rattle.world_spec.specs.Setting.{Setting}
-use Rattle.world_spec.specs.World.{Made, World, called_in, entries_at, is_honest, member_at, sees_on}
+use Rattle.world_spec.specs.World.{Made, World, called_in, entries_at, is_honest, member_at, sees_on, armed_seat, started_seat}
 use Rattle.world_spec.specs.Names.{cert_named, made_named}
-use Rattle.world_spec.specs.Making.{made_by_line}
-use Rattle.world_spec.specs.Step.{acked, appended_entry, armed_seat, end_in, end_ordered, entries_left, false_ack, formed, fvoted, happens, has_ended, honest_end, last_said, on_seat, ordered, ordered_end, risen_if, says, sealed_end, sent, started_seat, voted_on}
+use Rattle.world_spec.specs.Making.{made_over}
+use Rattle.world_spec.specs.Step.{acked, appended_entry, end_in, end_ordered, entries_left, false_ack, formed, fvoted, happens, has_ended, honest_end, last_said, on_seat, ordered, ordered_end, risen_if, says, sealed_end, sent, voted_on, happens_over}
 use Rattle.world_spec.specs.Run.{run}
 use Rattle.scene_spec.specs.Posts.{Post, arming}
 use Rattle.scene_spec.specs.Worlds.{AreKeepable, IsKeepable}
@@ -71,7 +71,7 @@ module _ (s : Setting) where
       if-keeps w called (says w m (false_ack s w t spoiled)) (is_honest w m) (same-keeps w called (called-open s w m (acks t.digest))) (λ same. same) keepable
 
   line-keeps : (w : World) (e : Event) → Keeps w (happens s w e)
-  unfolding happens made_by_line
+  unfolding happens_over made_over
   line-keeps w (event.Tx name sender spoiled epoch gas budget inputs commands) = λ same. same
   line-keeps w (event.Vote m tx) = same-keeps w (voted_on s w m (made_named w tx)) (voted-open s w m (made_named w tx))
   line-keeps w (event.Fvote m tx origins) = same-keeps w (fvoted w m origins (made_named w tx)) (fvote-open s w m origins (made_named w tx))

@@ -29,11 +29,11 @@ use Rattle.protocol_spec.specs.Member.Member.{Fork, Member, fork_of, live_object
 use Rattle.protocol_spec.specs.Member.Calls.{Call, votes, holds, sees, runs, closes, ends, turns, acks, ack_answer, close_answer, end_answer, hold_answer, run_answer, see_answer, turn_answer, vote_answer}
 use Rattle.world_spec.specs.Setting.{Name, Trust, Setting}
 use Rattle.world_spec.specs.World as worlds
-use Rattle.world_spec.specs.World.{Made, World, Reached, finds_down, stops, answers, called_if, called_in, is_honest, member_at, member_in, next_call, reached, state_of}
+use Rattle.world_spec.specs.World.{Made, World, Reached, finds_down, stops, answers, called_if, called_in, is_honest, member_at, member_in, next_call, reached, state_of, is_seat_up, by_records}
 use Rattle.world_spec.specs.Run.{records_of}
 use Rattle.world_spec.specs.Names.{cert_named, made_named}
 use Rattle.world_spec.specs.Step.{end_in, entries_left, fvote_origins, last_said, open_entries}
-use Rattle.world_spec.specs.Report.{Lines, ack_answered, ack_lines, ack_reached, ack_said, acks_collected, and_lines, call_lines, close_answered, close_reached, end_answered, end_reached, entries_lines, entry_reached, final_lines, honest_end_said, none_taken, order_end_said, order_said, see_halted, see_up, turn_answered, turn_reached, cert_collected, cert_lines, fvote_lines, hold_reached, hold_said, is_seat_up, lines_of, origin_name, origin_names, record_count, run_reached, send_said, show_up, vote_lines, vote_reached, vote_said}
+use Rattle.world_spec.specs.Report.{Lines, ack_answered, ack_lines, ack_reached, ack_said, acks_collected, and_lines, call_lines, close_answered, close_reached, end_answered, end_reached, entries_lines, entry_reached, final_lines, honest_end_said, none_taken, order_end_said, order_said, see_halted, see_up, turn_answered, turn_reached, cert_collected, cert_lines, fvote_lines, hold_reached, hold_said, lines_of, origin_name, origin_names, record_count, run_reached, send_said, show_up, vote_lines, vote_reached, vote_said, lines_over}
 use Rattle.scene_spec.proofs.LineWorlds.{ack_same, close_same, end_same, hold_same, run_same, see_same, shown_same, turn_same, vote_same}
 use Rattle.scene_spec.specs.Terms.{rules_for, terms_of}
 use Rattle.scene_spec.specs.Posts.{Post, reached_in, seat_at}
@@ -68,10 +68,10 @@ module _ (trust : Trust) (s : Setting) (rules : s.rules ≡ rules_for (terms_of 
       ∙ sym (vote_same bare_s bare_w (vote_answer s.rules m bytes))
       ∙ ap (λ (r : Rules). vote_reached (record bare_s { rules = r }) bare_w bytes (answers m x)) rules
 
-  vote-said : (m : ℕ) (bytes : List ℕ) → vote_said s w m bytes ≡ vote_text_in trust (scene_of s w) m bytes
+  vote-said : (m : ℕ) (bytes : List ℕ) → vote_said (by_records s) s w m bytes ≡ vote_text_in trust (scene_of s w) m bytes
   vote-said m bytes = vote-text bytes (reached s w m (votes bytes)) ∙ ap (λ (r : Reached). vote_reached bare_s bare_w bytes r) (reached-here m (votes bytes))
 
-  vote-lines : (m : ℕ) (tx : Name) (t : Option Made) → vote_lines s w m tx t ≡ vote_lines_in trust (scene_of s w) m tx t
+  vote-lines : (m : ℕ) (tx : Name) (t : Option Made) → vote_lines (by_records s) s w m tx t ≡ vote_lines_in trust (scene_of s w) m tx t
   vote-lines m tx None = refl
   vote-lines m tx (Some t) = ap (λ (text : VoteText). line.Vote m tx text ∷ []) (vote-said m (transactions.signed.spell t.signed))
 
@@ -99,10 +99,10 @@ module _ (trust : Trust) (s : Setting) (rules : s.rules ≡ rules_for (terms_of 
       ∙ sym (hold_same bare_s bare_w (hold_answer s.rules m bytes))
       ∙ ap (λ (r : Rules). hold_reached (record bare_s { rules = r }) bare_w bytes (answers m x)) rules
 
-  hold-said : (m : ℕ) (bytes : List ℕ) → hold_said s w m bytes ≡ hold_text_in trust (scene_of s w) m bytes
+  hold-said : (m : ℕ) (bytes : List ℕ) → hold_said (by_records s) s w m bytes ≡ hold_text_in trust (scene_of s w) m bytes
   hold-said m bytes = hold-text bytes (reached s w m (holds bytes)) ∙ ap (λ (r : Reached). hold_reached bare_s bare_w bytes r) (reached-here m (holds bytes))
 
-  send-said : (m : ℕ) (c : Option Certificate) → send_said s w m c ≡ send_text_in trust (scene_of s w) m c
+  send-said : (m : ℕ) (c : Option Certificate) → send_said (by_records s) s w m c ≡ send_text_in trust (scene_of s w) m c
   send-said m None = refl
   send-said m (Some c) = hold-said m (messages.certificate.spell c)
 
@@ -194,13 +194,13 @@ module _ (trust : Trust) (s : Setting) (rules : s.rules ≡ rules_for (terms_of 
       ∙ sym (ack_same bare_s bare_w (ack_answer s.rules m tx))
       ∙ ap (λ (r : Rules). ack_answered bare_w (ack_answer r m tx)) rules
 
-  ack-said : (m : ℕ) (tx : Digest) → ack_said s w m tx ≡ ack_text_in trust (scene_of s w) m tx
+  ack-said : (m : ℕ) (tx : Digest) → ack_said (by_records s) s w m tx ≡ ack_text_in trust (scene_of s w) m tx
   ack-said m tx =
       ap (λ (text : AckText). cond (is_honest w m) text ack_text.Said) (ack-text tx (reached s w m (acks tx)))
       ∙ ap (λ (r : Reached). cond (is_honest w m) (ack_reached bare_s bare_w tx r) ack_text.Said) (reached-here m (acks tx))
       ∙ ap (λ (b : Bool). cond b (ack_reached bare_s bare_w tx (reached_in scene_rules (posts_from s 0 w.seats) m (acks tx))) ack_text.Said) (bare-honest s 0 w.seats m)
 
-  ack-lines : (m : ℕ) (tx : Name) (t : Option Made) → ack_lines s w m tx t ≡ ack_lines_in trust (scene_of s w) m tx t
+  ack-lines : (m : ℕ) (tx : Name) (t : Option Made) → ack_lines (by_records s) s w m tx t ≡ ack_lines_in trust (scene_of s w) m tx t
   ack-lines m tx None = refl
   ack-lines m tx (Some t) = ap (λ (text : AckText). line.Ack m tx text ∷ []) (ack-said m t.digest)
 
@@ -219,7 +219,7 @@ module _ (trust : Trust) (s : Setting) (rules : s.rules ≡ rules_for (terms_of 
       ∙ sym (see_same bare_s bare_w m number (see_answer s.rules before number bytes))
       ∙ ap (λ (r : Rules). entry_reached (record bare_s { rules = r }) bare_w m number bytes (answers before x)) rules
 
-  -- behind a call, where the line goes on only if the member has answered
+  -- after a call, whose line goes on only if the member has answered
   module _ (m number : ℕ) (bytes : List ℕ) (rest in_rest : List Line) where
     entry-then : (r : Reached) → ((before : Member) (x : Option Record) → r ≡ answers before x → rest ≡ in_rest)
         → and_lines (entry_reached s w m number bytes r) rest ≡ and_lines (entry_reached bare_s bare_w m number bytes r) in_rest
@@ -236,10 +236,10 @@ module _ (trust : Trust) (s : Setting) (rules : s.rules ≡ rules_for (terms_of 
         entry-then (reached s w m (sees number bytes)) same
         ∙ ap (λ (r : Reached). and_lines (entry_reached bare_s bare_w m number bytes r) in_rest) (reached-here m (sees number bytes))
 
-  -- one entry more, where those behind it are the same
-  module _ (n m : ℕ) (more : (v : World) → IsUp v m → entries_lines s n v m ≡ entries_lines_in trust n (scene_of s v) m) where
+  -- one entry more, if those after it are the same
+  module _ (n m : ℕ) (more : (v : World) → IsUp v m → entries_lines (by_records s) s n v m ≡ entries_lines_in trust n (scene_of s v) m) where
     one-more : (call : Option Call) → IsUp w m
-        → and_lines (call_lines s w m call) (entries_lines s n (called_if s w m call) m)
+        → and_lines (call_lines (by_records s) s w m call) (entries_lines (by_records s) s n (called_if s w m call) m)
         ≡ and_lines (call_lines_in trust (scene_of s w) m call) (entries_lines_in trust n (scenes.called_if scene_rules (scene_of s w) m call) m)
     one-more None up = refl
     one-more (Some (votes bytes)) up = refl
@@ -251,54 +251,54 @@ module _ (trust : Trust) (s : Setting) (rules : s.rules ≡ rules_for (terms_of 
     one-more (Some (acks tx)) up = refl
     one-more (Some (sees number bytes)) up =
         let call = sees number bytes in
-        entry-said m number bytes (entries_lines s n (called_in s w m call) m) (entries_lines_in trust n (called_scene scene_rules (scene_of s w) m call) m)
+        entry-said m number bytes (entries_lines (by_records s) s n (called_in s w m call) m) (entries_lines_in trust n (called_scene scene_rules (scene_of s w) m call) m)
         (λ before x e.
         more (called_in s w m call) (up-behind s w m call before x up e)
         ∙ ap (λ (sc : Scene). entries_lines_in trust n sc m) (called-same s w m call)
         ∙ ap (λ (r : Rules). entries_lines_in trust n (called_scene r (scene_of s w) m call) m) rules)
 
     next-more : IsUp w m
-        → and_lines (call_lines s w m (next_call s w m)) (entries_lines s n (called_if s w m (next_call s w m)) m)
+        → and_lines (call_lines (by_records s) s w m (next_call s w m)) (entries_lines (by_records s) s n (called_if s w m (next_call s w m)) m)
         ≡ and_lines (call_lines_in trust (scene_of s w) m (next_on (scene_of s w) m)) (entries_lines_in trust n (scenes.called_if scene_rules (scene_of s w) m (next_on (scene_of s w) m)) m)
     next-more up =
         one-more (next_call s w m) up
         ∙ ap (λ (call : Option Call). and_lines (call_lines_in trust (scene_of s w) m call) (entries_lines_in trust n (scenes.called_if scene_rules (scene_of s w) m call) m)) (up-next s w m up ∙ sym (up-next-on s w m up))
 
 entries-same : (trust : Trust) (s : Setting) (rules : s.rules ≡ rules_for (terms_of s.rules) trust.accepts) (seal : s.seal ≡ trust.seal) (n : ℕ) (w : World) (m : ℕ)
-    → IsUp w m → entries_lines s n w m ≡ entries_lines_in trust n (scene_of s w) m
+    → IsUp w m → entries_lines (by_records s) s n w m ≡ entries_lines_in trust n (scene_of s w) m
 entries-same trust s rules seal zero w m up = refl
 entries-same trust s rules seal (suc n) w m up = next-more trust s rules seal w n m (λ v is. entries-same trust s rules seal n v m is) up
 
 module _ (trust : Trust) (s : Setting) (rules : s.rules ≡ rules_for (terms_of s.rules) trust.accepts) (seal : s.seal ≡ trust.seal) (w : World) where
   -- ---- a see line
 
-  halted-lines : (m n : ℕ) (fork : Option Fork) → IsUp w m → see_halted s w m n fork ≡ see_halted_in trust (scene_of s w) m n fork
+  halted-lines : (m n : ℕ) (fork : Option Fork) → IsUp w m → see_halted (by_records s) s w m n fork ≡ see_halted_in trust (scene_of s w) m n fork
   halted-lines m n (Some fork) up = refl
   halted-lines m n None up = ap (λ (ls : List Line). none_taken m ls) (entries-same trust s rules seal n w m up)
 
-  up-lines : (m n : ℕ) (up : IsUp w m) → see_up s w m n (is_seat_up (slice_get w.seats m)) (member_at s w m) ≡ see_lines_in trust (scene_of s w) m n (state_at (scene_of s w) m)
+  up-lines : (m n : ℕ) (up : IsUp w m) → see_up (by_records s) s w m n (is_seat_up (slice_get w.seats m)) (member_at s w m) ≡ see_lines_in trust (scene_of s w) m n (state_at (scene_of s w) m)
   up-lines m n up =
       let member = member_in s up.seat in
-      ap (λ (b : Bool). see_up s w m n b (member_at s w m)) (ap (λ (o : Option worlds.Seat). is_seat_up o) up.at ∙ up.up)
-      ∙ ap (λ (o : Option Member). see_up s w m n true o) (up-member s w m up)
+      ap (λ (b : Bool). see_up (by_records s) s w m n b (member_at s w m)) (ap (λ (o : Option worlds.Seat). is_seat_up o) up.at ∙ up.up)
+      ∙ ap (λ (o : Option Member). see_up (by_records s) s w m n true o) (up-member s w m up)
       ∙ halted-lines m (min n (entries_left w (Some member))) (fork_of member) up
       ∙ ap (λ (o : Option Member). see_lines_in trust (scene_of s w) m n o) (sym (up-state s w m up))
 
-  down-line : (m n : ℕ) (member : Option Member) → see_up s w m n false member ≡ line.See m see_text.Down ∷ []
+  down-line : (m n : ℕ) (member : Option Member) → see_up (by_records s) s w m n false member ≡ line.See m see_text.Down ∷ []
   down-line m n None = refl
   down-line m n (Some member) = refl
 
-  see-lines : (m n : ℕ) → IsUp w m ⊎ IsDown s w m → see_up s w m n (is_seat_up (slice_get w.seats m)) (member_at s w m) ≡ see_lines_in trust (scene_of s w) m n (state_at (scene_of s w) m)
+  see-lines : (m n : ℕ) → IsUp w m ⊎ IsDown s w m → see_up (by_records s) s w m n (is_seat_up (slice_get w.seats m)) (member_at s w m) ≡ see_lines_in trust (scene_of s w) m n (state_at (scene_of s w) m)
   see-lines m n (inl up) = up-lines m n up
   see-lines m n (inr down) =
-      ap (λ (b : Bool). see_up s w m n b (member_at s w m)) down.down
+      ap (λ (b : Bool). see_up (by_records s) s w m n b (member_at s w m)) down.down
       ∙ down-line m n (member_at s w m)
       ∙ ap (λ (o : Option Member). see_lines_in trust (scene_of s w) m n o) (sym down.state)
 
   -- ---- each line
 
   pub lines-same : (e : Event) → is_restart e ≡ false → lines_of s w e ≡ lines_in trust (scene_of s w) e
-  unfolding lines_of lines_in
+  unfolding lines_over lines_in
   lines-same (event.Tx name sender spoiled epoch gas budget inputs commands) other = refl
   lines-same (event.Vote m tx) other = vote-lines trust s rules seal w m tx (made_named w tx)
   lines-same (event.Fvote m tx origins) other = fvote-same trust s rules seal w m tx origins (made_named w tx)
@@ -324,10 +324,10 @@ pub lines-shown : (trust : Trust) (s : Setting) (w : World) (sc : Scene) (e : Ev
 lines-shown trust s w sc e shows other =
     lines-same trust s shows.rules shows.seal w e other ∙ ap (λ (x : Scene). lines_in trust x e) (sym shows.scene)
 
-counted : (seat : Option worlds.Seat) → record_count seat ≡ length (spelled (records_of seat))
-counted None = refl
-counted (Some seat) = sym (length-map seat.records journals.journal_record.spell)
+counted : (s : Setting) (seat : Option worlds.Seat) → record_count (by_records s) seat ≡ length (spelled (records_of seat))
+counted s None = refl
+counted s (Some seat) = sym (length-map seat.records journals.journal_record.spell)
 
 pub restart-lines : (s : Setting) (w : World) (m : ℕ) → lines_of s w (event.Restart m) ≡ line.Restart m (restart_text.Records (length (journal_in w m))) ∷ []
-unfolding lines_of
-restart-lines s w m = ap (λ (n : ℕ). line.Restart m (restart_text.Records n) ∷ []) (counted (slice_get w.seats m))
+unfolding lines_over
+restart-lines s w m = ap (λ (n : ℕ). line.Restart m (restart_text.Records n) ∷ []) (counted s (slice_get w.seats m))

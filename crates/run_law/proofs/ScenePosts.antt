@@ -7,7 +7,7 @@ use Rattle.protocol_spec.specs.Member.Member.{Member, state}
 use Rattle.protocol_spec.specs.Member.Calls.{Call, after_due, due}
 use Rattle.world_spec.specs.Setting.{Setting}
 use Rattle.world_spec.specs.World as worlds
-use Rattle.world_spec.specs.World.{Said, World, Reached, finds_down, stops, answers, appended, behind, called_in, called_seat, member_in, reached, reached_at, reached_seat, reached_up, said_by, stopped_seat}
+use Rattle.world_spec.specs.World.{Said, World, Reached, finds_down, stops, answers, appended, behind, called_in, called_seat, member_in, reached, reached_at, reached_seat, reached_up, said_by, stopped_seat, called_over, reached_over}
 use Rattle.world_spec.specs.Step.{on_seat}
 use Rattle.safety_law.proofs.Apart.{state-push}
 use Rattle.safety_law.proofs.InWorld.{answered-due}
@@ -20,7 +20,7 @@ use Rattle.scene_spec.specs.Worlds.{post_of, posts_from, scene_of}
 
 -- ---- the member at a number
 
--- the number of the member at this place, where the first has number k
+-- the number of the member at this place, if the first has number k
 abbrev pub place : ℕ → ℕ → ℕ
 place k zero = k
 place k (suc m) = place (suc k) m
@@ -59,10 +59,10 @@ module _ (s : Setting) where
   reached-where call k (Some seat) = reached-seat call k seat
 
   pub reached-same : (w : World) (m : ℕ) (call : Call) → reached_in s.rules (posts_from s 0 w.seats) m call ≡ reached s w m call
-  unfolding reached
+  unfolding reached_over
   reached-same w m call = ap (reached_post s.rules call) (posts-get s 0 w.seats m) ∙ reached-where call (place 0 m) (slice_get w.seats m)
 
-  -- ---- the members behind a call
+  -- ---- the members after a call
 
   -- what the outcome makes of a seat
   abbrev left_by : worlds.Seat → Reached → worlds.Seat
@@ -104,7 +104,7 @@ module _ (s : Setting) where
       ∙ ap (λ (seats : List worlds.Seat). posts_from s 0 seats) (seats-left w m call seat (reached_seat s call seat) e)
 
   posts-same : (w : World) (m : ℕ) (call : Call) → posts_behind s.rules (posts_from s 0 w.seats) m call ≡ posts_from s 0 (called_in s w m call).seats
-  unfolding called_in
+  unfolding called_over
   posts-same w m call =
       ap (λ (p : Option Post). posts_with s.rules call (posts_from s 0 w.seats) m p) (posts-get s 0 w.seats m)
       ∙ posts-left w m call (slice_get w.seats m) refl
@@ -121,7 +121,7 @@ module _ (s : Setting) where
   said-where w m call (Some seat) = said-left w m call seat (reached_seat s call seat)
 
   said-same : (w : World) (m : ℕ) (call : Call) → w.said ++ map (said_by m) (stated_in s.rules call (reached_in s.rules (posts_from s 0 w.seats) m call)) ≡ (called_in s w m call).said
-  unfolding called_in reached
+  unfolding called_over reached_over
   said-same w m call =
       ap (λ (r : Reached). w.said ++ map (said_by m) (stated_in s.rules call r)) (reached-same w m call)
       ∙ said-where w m call (slice_get w.seats m)
@@ -141,7 +141,7 @@ module _ (s : Setting) where
   scene-where w m call (Some seat) = scene-left w m call seat (reached_seat s call seat)
 
   scene-both : (w : World) (m : ℕ) (call : Call) → scene_of s (called_in s w m call) ≡ with_both w (posts_from s 0 (called_in s w m call).seats) (called_in s w m call).said
-  unfolding called_in
+  unfolding called_over
   scene-both w m call = scene-where w m call (slice_get w.seats m)
 
   pub called-same : (w : World) (m : ℕ) (call : Call) → scene_of s (called_in s w m call) ≡ called_scene s.rules (scene_of s w) m call
@@ -162,7 +162,7 @@ module _ (s : Setting) where
   open-where w m call (Some seat) = open-left w m call seat (reached_seat s call seat)
 
   pub called-open : (w : World) (m : ℕ) (call : Call) → (called_in s w m call).sequences ≡ w.sequences
-  unfolding called_in
+  unfolding called_over
   called-open w m call = open-where w m call (slice_get w.seats m)
 
   -- ---- one seat changes

@@ -1,4 +1,4 @@
--- Told records follow the world.
+-- Observable records follow the world.
 use Rattle.std.proofs.Common.{refl, sym, subst, ap, ◌∙◌, arith, inl, inr}
 use Rattle.std.specs.Prelude.{◌≡◌, ◌⊎◌, ◌≤◌, ◌==◌, ℕ, zero, suc, Bool, true, false, cond, length, List, [], ◌∷◌, ◌++◌, map, slice_get, slice_set, Option, Some, None, option_map}
 use Rattle.chain_messages.specs.declared.messages.Certificate.{Certificate}
@@ -15,10 +15,10 @@ use Rattle.protocol_spec.specs.Chain.Collecting.{Collected, lacks, short, differ
 use Rattle.protocol_spec.specs.Member.Calls.{Call, acks}
 use Rattle.world_spec.specs.Setting.{Name, Trust, Setting}
 use Rattle.world_spec.specs.World as worlds
-use Rattle.world_spec.specs.World.{Made, World, Reached, finds_down, stops, answers, appended, behind, called_if, called_in, called_seat, is_honest, new_seat, new_world, next_call, reached, reached_at, reached_seat, sees_on, stopped_seat}
+use Rattle.world_spec.specs.World.{Made, World, Reached, finds_down, stops, answers, appended, behind, called_if, called_in, called_seat, is_honest, new_seat, new_world, next_call, reached, reached_at, reached_seat, sees_on, stopped_seat, called_over, reached_over, armed_seat, started_seat}
 use Rattle.world_spec.specs.Names.{cert_named, made_named}
-use Rattle.world_spec.specs.Making.{made_by_line}
-use Rattle.world_spec.specs.Step.{acked, appended_entry, armed_seat, end_in, false_ack, formed, formed_as, fvoted, happens, has_ended, honest_end, last_said, on_seat, ordered, ordered_end, risen_if, says, sealed_end, sent, started_seat, voted_on, votes_collected}
+use Rattle.world_spec.specs.Making.{made_over}
+use Rattle.world_spec.specs.Step.{acked, appended_entry, end_in, false_ack, formed, formed_as, fvoted, happens, has_ended, honest_end, last_said, on_seat, ordered, ordered_end, risen_if, says, sealed_end, sent, voted_on, votes_collected, happens_over}
 use Rattle.world_spec.specs.Run.{records_of}
 use Rattle.scene_spec.specs.Posts.{list_of, reached_in, record_left, with_all}
 use Rattle.scene_spec.specs.Scene.{Scene, rules_in}
@@ -59,7 +59,7 @@ tells-set (x ∷ xs) (l ∷ ls) zero seat other kept room at tells is (suc k) = 
 tells-set (x ∷ xs) (l ∷ ls) (suc m) seat other kept room at tells is zero = tells zero
 tells-set (x ∷ xs) (l ∷ ls) (suc m) seat other kept room at tells is (suc k) = tells-set xs ls m seat other kept (omega (arith, room)) at (λ j. tells (suc j)) is k
 
--- told lists with more records stay as many
+-- observable lists with more records stay as many
 all-many : (lists : Journals) (m : ℕ) (records : List Record) → length (with_all lists m records) ≡ length lists
 all-many lists m [] = refl
 all-many lists m (x ∷ records) = all-many (with_record lists m (journals.journal_record.spell x)) m records ∙ set_length lists m (journal_of lists m ++ journals.journal_record.spell x ∷ [])
@@ -100,7 +100,7 @@ module _ (s : Setting) (w : World) (m : ℕ) (call : Call) (lists : Journals) (r
   tells-seat (Some seat) at = tells-behind seat (reached_seat s call seat) at
 
   tells-reached : LeftBy (reached s w m call) (called_in s w m call)
-  unfolding called_in reached
+  unfolding called_over reached_over
   tells-reached = tells-seat (slice_get w.seats m) refl
 
   -- what a call leaves in the scene is what it leaves in the world
@@ -120,7 +120,7 @@ module _ (s : Setting) where
   seat-many w m call (Some seat) = left-many w m call seat (reached_seat s call seat)
 
   if-many : (w : World) (m : ℕ) (call : Option Call) → length (called_if s w m call).seats ≡ length w.seats
-  unfolding called_in
+  unfolding called_over
   if-many w m None = refl
   if-many w m (Some call) = seat-many w m call (slice_get w.seats m)
 
@@ -216,7 +216,7 @@ module _ (s : Setting) where
       (ack-if w m (acks t.digest) (false_ack s w t spoiled) (is_honest w m))
 
   line-does : (w : World) (e : Event) → Does w (work_of (scene_of s w) e) (happens s w e)
-  unfolding work_of happens made_by_line
+  unfolding work_of happens_over made_over
   line-does w (event.Tx name sender spoiled epoch gas budget inputs commands) = λ k. refl
   line-does w (event.Vote m tx) = vote-does w m (made_named w tx)
   line-does w (event.Fvote m tx origins) = fvote-keeps w m origins (made_named w tx)
@@ -238,7 +238,7 @@ module _ (s : Setting) where
   line-does w (event.Ack m tx spoiled) = ack-does w m spoiled (made_named w tx)
   line-does w (event.Final tx members) = λ k. refl
 
--- ---- told lists behind a line
+-- ---- observable lists after a line
 
 -- the lists with what a line leaves
 abbrev with_left : Journals → Option (ℕ × List Record) → Journals
@@ -262,7 +262,7 @@ module _ (trust : Trust) (s : Setting) (w : World) (sc : Scene) (e : Event) (sho
       ap (λ (r : Rules). records_left r (scene_of s w) (work_of (scene_of s w) e)) shows.rules
       ∙ ap (λ (x : Scene). records_left (rules_in trust.accepts x) x (work_of x e)) (sym shows.scene)
 
-  -- the lists with what the line leaves in the scene are the journals behind it
+  -- the lists with what the line leaves in the scene are the journals after it
   line-tells : (lists : Journals) → length w.seats ≤ length lists → Tells (Some lists) w → Tells (Some (with_left lists left)) (happens s w e)
   line-tells lists room tells =
       subst (λ (x : Option (ℕ × List Record)). Tells (Some (with_left lists x)) (happens s w e)) left-same
@@ -280,7 +280,7 @@ pub line-told : (trust : Trust) (s : Setting) (w : World) (sc : Scene) (e : Even
     → AddsLine (records_left (rules_in trust.accepts sc) sc (work_of sc e)) before now → Tells now (happens s w e)
 line-told trust s w sc e before now shows room tells adds = told-behind trust s w sc e shows before now room tells adds
 
--- ---- fronts
+-- ---- prefixes
 
 front-is : {A : Type 0} (xs ys : List A) → xs ≡ ys → IsFront xs ys
 front-is {A} xs ys e = subst (λ (l : List A). IsFront xs l) e (front_whole xs)
@@ -292,7 +292,7 @@ pub told-front : (told : Option Journals) (w : World) → Tells told w → Tells
 told-front None w tells = tells
 told-front (Some lists) w tells = λ m. front-is (journal_of lists m) (journal_in w m) (tells m)
 
--- each journal of a world is a front of that in another
+-- each journal of a world is a prefix of that in another
 abbrev Grows : World → World → Type 0
 Grows w next = (k : ℕ) → IsFront (journal_in w k) (journal_in next k)
 
@@ -326,7 +326,7 @@ module _ (s : Setting) where
   seat-grows w m call (Some seat) at = behind-grows w m call seat (reached_seat s call seat) at
 
   call-grows : (w : World) (m : ℕ) (call : Call) → Grows w (called_in s w m call)
-  unfolding called_in
+  unfolding called_over
   call-grows w m call = seat-grows w m call (slice_get w.seats m) refl
 
   call-if-grows : (w : World) (m : ℕ) (call : Option Call) → Grows w (called_if s w m call)
@@ -368,7 +368,7 @@ front-all lists m (x ∷ records) k =
     (front-all more m records k)
 
 module _ (lists : Journals) (now : Option Journals) (w : World) where
-  -- told lists with a front of the records
+  -- observable lists with a prefix of the records
   front-told : (m : ℕ) (front rest : List Record) → now ≡ Some (with_all lists m front) → Tells (Some (with_all lists m (front ++ rest))) w → TellsFront now w
   front-told m front rest is tells =
       subst (λ (told : Option Journals). TellsFront told w) (sym is) (λ k.

@@ -10,9 +10,8 @@ use Rattle.protocol_spec.specs.Member.Member.{Member}
 use Rattle.protocol_spec.specs.Member.Calls.{Call, sees, due}
 use Rattle.world_spec.specs.Setting.{Setting}
 use Rattle.world_spec.specs.World as worlds
-use Rattle.world_spec.specs.World.{World, Reached, finds_down, answers, appended, behind, called_if, called_in, called_seat, entries_at, member_at, member_in, next_call, next_call_of, numbered_call, reached, reached_at, reached_seat, reached_up, sees_on, state_of}
+use Rattle.world_spec.specs.World.{World, Reached, finds_down, answers, appended, behind, called_if, called_in, called_seat, entries_at, member_at, member_in, next_call, next_call_of, numbered_call, reached, reached_at, reached_seat, reached_up, sees_on, state_of, called_over, reached_over, is_seat_up}
 use Rattle.world_spec.specs.Step.{entries_left}
-use Rattle.world_spec.specs.Report.{is_seat_up}
 use Rattle.world_spec.specs.Assumptions.{call_list, see_calls}
 use Rattle.scene_spec.specs.Terms.{terms_of}
 use Rattle.scene_spec.specs.Posts.{Post, seat_at}
@@ -58,11 +57,11 @@ module _ (s : Setting) where
   down-left w m call seat down = ap (λ (up : Bool). behind s w m call seat (cond up (reached_up (member_in s seat) seat.armed (due s.rules (member_in s seat) call)) finds_down)) down
 
   down-called : (w : World) (m : ℕ) (call : Call) (seat : worlds.Seat) → slice_get w.seats m ≡ Some seat → seat.up ≡ false → called_in s w m call ≡ w
-  unfolding called_in
+  unfolding called_over
   down-called w m call seat at down = ap (λ (o : Option worlds.Seat). called_seat s w m call o) at ∙ down-left w m call seat down
 
   none-called : (w : World) (m : ℕ) (call : Call) → slice_get w.seats m ≡ None → called_in s w m call ≡ w
-  unfolding called_in
+  unfolding called_over
   none-called w m call at = ap (λ (o : Option worlds.Seat). called_seat s w m call o) at
 
   stands-if : (w : World) (m : ℕ) (seat : worlds.Seat) (up : Bool) → slice_get w.seats m ≡ Some seat → seat.up ≡ up → IsUp w m ⊎ IsDown s w m
@@ -145,11 +144,11 @@ module _ (s : Setting) where
   -- ---- a member that answers stays up
 
   up-called : (w : World) (m : ℕ) (call : Call) (is : IsUp w m) → called_in s w m call ≡ behind s w m call is.seat (reached_seat s call is.seat)
-  unfolding called_in
+  unfolding called_over
   up-called w m call is = ap (λ (o : Option worlds.Seat). called_seat s w m call o) is.at
 
   up-reached : (w : World) (m : ℕ) (call : Call) (is : IsUp w m) → reached s w m call ≡ reached_seat s call is.seat
-  unfolding reached
+  unfolding reached_over
   up-reached w m call is = ap (λ (o : Option worlds.Seat). reached_at s call o) is.at
 
   pub up-behind : (w : World) (m : ℕ) (call : Call) (before : Member) (x : Option Record) → IsUp w m → reached s w m call ≡ answers before x → IsUp (called_in s w m call) m

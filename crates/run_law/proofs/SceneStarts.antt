@@ -1,4 +1,4 @@
--- A record that is due is read back from its spelling and taken, so each member starts from its journal.
+-- A record that is due is read back from its encoding and taken, so each member starts from its journal.
 use Rattle.std.proofs.Common.{refl, sym, subst, ap, ◌∙◌, append-nil, append_assoc, arith}
 use Rattle.std.proofs.lemmas.Bool.{leb-false}
 use Rattle.std.proofs.lemmas.List.{length-map}
@@ -134,7 +134,7 @@ start-push r (b ∷ kept) m place bytes n x e read taken = go (taken_at r m plac
     go (Ok next) e more = more next e read taken
     go (Err refusal) e more = absurd (cc)
 
--- ---- what is due can be spelled
+-- ---- what is due can be encoded
 
 fit-along : (r : Rules) (opening : List Object) (before xs : List Record) → Along (IsDueBehind r opening) before xs → IsFitMember (state r opening before) → IsFitMember (state r opening (before ++ xs))
 fit-along r opening before [] along fit = subst (λ (rs : List Record). IsFitMember (state r opening rs)) (sym (append-nil before)) fit

@@ -23,10 +23,10 @@ use Rattle.protocol_spec.specs.Member.Member.{Member, state}
 use Rattle.protocol_spec.specs.Member.Calls.{Call, runs, votes, holds, closes, ends, turns, acks}
 use Rattle.world_spec.specs.Setting.{Name, Trust, Setting, setting_of}
 use Rattle.world_spec.specs.World as worlds
-use Rattle.world_spec.specs.World.{Made, Said, World, called_in, honest_seat, is_honest, member_at, member_in, new_seat, new_world, said_by, says_first, sees_on}
+use Rattle.world_spec.specs.World.{Made, Said, World, called_in, honest_seat, is_honest, member_at, member_in, new_seat, new_world, said_by, says_first, sees_on, armed_seat, started_seat}
 use Rattle.world_spec.specs.Names.{made_named, cert_named}
-use Rattle.world_spec.specs.Making.{TxLine, digest_or_zero, held_digest, made_by_line, spoiled_if}
-use Rattle.world_spec.specs.Step.{acked, appended_entry, armed_seat, end_in, end_ordered, entries_left, executed_digest, false_ack, has_ended, honest_end, last_said, ordered, ordered_end, risen_if, sealed_end, first_origins, formed, formed_as, fvote_origins, fvoted, happens, honest_vote, no_origins, origin_word, origins_or, says, sent, started_seat, vote_statement, voted_on, votes_collected}
+use Rattle.world_spec.specs.Making.{TxLine, digest_or_zero, held_digest, made_by_line, spoiled_if, made_over}
+use Rattle.world_spec.specs.Step.{acked, appended_entry, end_in, end_ordered, entries_left, executed_digest, false_ack, has_ended, honest_end, last_said, ordered, ordered_end, risen_if, sealed_end, first_origins, formed, formed_as, fvote_origins, fvoted, happens, honest_vote, no_origins, origin_word, origins_or, says, sent, vote_statement, voted_on, votes_collected, happens_over}
 use Rattle.world_spec.specs.Run.{records_of}
 use Rattle.scene_spec.specs.Known.{names_of, with_line}
 use Rattle.scene_spec.specs.MadeLines.{line_made}
@@ -85,7 +85,7 @@ module _ (s : Setting) where
       ∙ ap (λ (d : Option Digest). first_some (cond seat.honest (held_by key (post_of s k seat).standing) None ∷ d ∷ [])) (held-same key (suc k) seats)
 
   tx-same : (trust : Trust) (w : World) (l : TxLine) → s.seal ≡ trust.seal → scene_of s (made_by_line s w l) ≡ with_tx trust (scene_of s w) l
-  unfolding made_by_line
+  unfolding made_over
   tx-same trust w l seal =
       ap (λ (t : Made). record (scene_of s w) { known = with_line (names_of s w) l t })
       (line_same s w l
@@ -295,7 +295,7 @@ module _ (s : Setting) where
     by-call m call = by-rules (asks m call) (called_in s w m call) (called-same s w m call)
 
     scene-step : (e : Event) → is_restart e ≡ false → scene_of s (happens s w e) ≡ steps_to trust (scene_of s w) e
-    unfolding happens steps_to work_of
+    unfolding happens_over steps_to work_of
     scene-step (event.Tx name sender spoiled epoch gas budget inputs commands) other =
         tx-same trust w (record { name = name; sender = sender; spoiled = spoiled; epoch = epoch; gas = gas; budget = budget; inputs = inputs; commands = commands }) seal
     scene-step (event.Vote m tx) other = by-rules (asked m (option_map signed_call (made_named w tx))) (voted_on s w m (made_named w tx)) (voted-same w m (made_named w tx))
@@ -338,7 +338,7 @@ said-state m n e = cc
 
 restart-same : (s : Setting) (w : World) (m : ℕ) (state : Member) → Restarts s w → started s.rules s.opening (journal_in w m) ≡ Ok state
     → scene_of s (happens s w (event.Restart m)) ≡ record (scene_of s w) { posts = started_at (terms_of s.rules) (posts_from s 0 w.seats) m state }
-unfolding happens
+unfolding happens_over
 restart-same s w m state restarts starts =
     changed-same s w m started_seat (starting (terms_of s.rules) m state) (λ seat at.
     let from : started s.rules s.opening (spelled seat.records) ≡ Ok state = subst (λ (x : Option worlds.Seat). started s.rules s.opening (spelled (records_of x)) ≡ Ok state) at starts in

@@ -6,13 +6,13 @@ use Rattle.schedule_text.specs.declared.words.Event.TheVariants as event
 use Rattle.journal_core.specs.Records as journals
 use Rattle.world_spec.specs.Setting.{Setting}
 use Rattle.world_spec.specs.World.{World, new_world}
-use Rattle.world_spec.specs.Step.{happens}
-use Rattle.world_spec.specs.Report.{lines_of}
+use Rattle.world_spec.specs.Step.{happens, happens_over}
+use Rattle.world_spec.specs.Report.{lines_of, lines_over}
 use Rattle.world_spec.specs.Run.{run, report_from, report, world_after, journal, records_of}
 use Rattle.run_law.specs.Laws.{with_workers}
 
 same-happens : (s : Setting) (w : World) (n : ℕ) (e : Event) → happens s w (with_workers n e) ≡ happens s w e
-unfolding happens
+unfolding happens_over
 same-happens s w count (event.Tx name sender spoiled epoch gas budget inputs commands) = refl
 same-happens s w count (event.Vote m tx) = refl
 same-happens s w count (event.Fvote m tx origins) = refl
@@ -35,7 +35,7 @@ same-happens s w count (event.Ack m tx spoiled) = refl
 same-happens s w count (event.Final tx members) = refl
 
 same-lines : (s : Setting) (w : World) (n : ℕ) (e : Event) → lines_of s w (with_workers n e) ≡ lines_of s w e
-unfolding lines_of
+unfolding lines_over
 same-lines s w count (event.Tx name sender spoiled epoch gas budget inputs commands) = refl
 same-lines s w count (event.Vote m tx) = refl
 same-lines s w count (event.Fvote m tx origins) = refl

@@ -24,7 +24,7 @@ RestartKeepsStates = (s : Setting) (w : World) (m n : ℕ) → member_at s (happ
 abbrev pub NoRecordNoChange : Type 0
 NoRecordNoChange = (r : Rules) (m : Member) (call : Call) → due r m call ≡ None → called r m call ≡ m
 
--- the same event with another number of workers, where it is a run
+-- the same event with another number of workers, if it is a run
 abbrev pub with_workers : ℕ → Event → Event
 with_workers n (event.Run m workers) = event.Run m n
 with_workers n e = e

@@ -1,11 +1,11 @@
--- What has one spelling is one value. Source: BCS.
+-- What has one encoding is one value. Source: BCS.
 use Rattle.std.specs.Prelude.{◌≡◌}
 use Rattle.wire_bcs.specs.Codec.{Codec}
 use Rattle.chain_types.specs.Transactions as transactions
 use Rattle.chain_messages.specs.Messages as messages
 use Rattle.journal_core.specs.Records as journals
 
--- values whose numbers and lengths are in their ranges are equal where their spellings are
+-- values whose numbers and lengths are in their ranges are equal if their encodings are
 abbrev pub AreSpelledApart : {A : Type 0} → Codec A → Type 0
 AreSpelledApart {A} c = (x y : A) → c.fits x → c.fits y → c.spell x ≡ c.spell y → x ≡ y
 

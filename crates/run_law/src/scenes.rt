@@ -19,19 +19,19 @@ ghost use Rattle.report_text.specs.declared.lines.Line.TheVariants as line;
 ghost use Rattle.report_text.specs.declared.lines.RestartText.TheVariants as restart_text;
 ghost use Rattle.protocol_spec.specs.Chain.Words.{Each};
 ghost use Rattle.world_spec.specs.Setting.{Setting, Trust, setting_of};
-ghost use Rattle.world_spec.specs.World.{World, new_world};
-ghost use Rattle.world_spec.specs.Step.{happens};
-ghost use Rattle.world_spec.specs.Report.{lines_of};
+ghost use Rattle.world_spec.specs.World.{World, new_world, reseated};
+ghost use Rattle.world_spec.specs.Step.{happens, happens_over};
+ghost use Rattle.world_spec.specs.Report.{lines_of, lines_over};
 ghost use Rattle.world_spec.specs.Run.{world_after};
 ghost use Rattle.world_spec.specs.Assumptions.{all_of, calls_of};
 ghost use Rattle.text_law.specs.HonestTexts.{keyed_setting};
 ghost use Rattle.scene_spec.specs.Starts.{started};
-ghost use Rattle.scene_spec.specs.Posts.{started_at};
+ghost use Rattle.scene_spec.specs.Posts.{by_posts, started_at};
 ghost use Rattle.scene_spec.specs.Scene.{Scene, new_scene, rules_in};
 ghost use Rattle.scene_spec.specs.Steps.{AddsLine, MayAddLine, lines_in, records_left, steps_to, work_of};
-ghost use Rattle.scene_spec.specs.Worlds.{AreKeepable, HasRoom, ReadsFit, Restarts, Shows, Tells, TellsFront, WorkReadsFit, is_restart, journal_in};
+ghost use Rattle.scene_spec.specs.Worlds.{AreKeepable, HasRoom, ReadsFit, Restarts, Shows, Tells, TellsFront, WorkReadsFit, is_restart, journal_in, post_of};
 
-/// The scene of the set-up shows the definition's first world, and each step of a scene shows the world behind
+/// The scene of the set-up shows the definition's first world, and each step of a scene shows the world after
 /// the line, with the definition's lines.
 pub fn steps_of_a_world()
     ensures first { (trust : Trust) (lines : List Setup) → Shows trust (setting_of trust lines) (new_world (setting_of trust lines)) (new_scene (setting_of trust lines) lines) }
@@ -42,9 +42,15 @@ pub fn steps_of_a_world()
     ensures posts { (trust : Trust) (s : Setting) (w : World) (sc : Scene) → Shows trust s w sc → length sc.posts ≡ length w.seats }
 {}
 
-/// Told records follow the world: what a line leaves in the scene is what the definition appends, and where the line
-/// was cut, a front of that. Each member starts from its records, where what is read from the bytes of calls fits its
-/// type and the entries before it have spellings that can be kept.
+/// Each line but a restart does to what code keeps of a member what it does to its records, and says the same lines.
+pub fn steps_of_posts()
+    ensures steps { (s : Setting) (w : World) (e : Event) → is_restart e ≡ false → reseated (post_of s) (happens s w e) ≡ happens_over (by_posts s.rules) s (reseated (post_of s) w) e }
+    ensures lines { (s : Setting) (w : World) (e : Event) → is_restart e ≡ false → lines_of s w e ≡ lines_over (by_posts s.rules) s (reseated (post_of s) w) e }
+{}
+
+/// Observable records follow the world: what a line leaves in the scene is what the definition appends, and if the line
+/// was cut, a prefix of that. Each member starts from its records, if what is read from the bytes of calls fits its
+/// type and the entries before it have encodings that can be kept.
 pub fn records_of_a_world()
     ensures first { (s : Setting) → Restarts s (new_world s) }
     ensures starts { (trust : Trust) (s : Setting) (w : World) (sc : Scene) (e : Event) → Shows trust s w sc → WorkReadsFit (work_of sc e) → AreKeepable w.sequences → Restarts s w → Restarts s (happens s w e) }
@@ -55,7 +61,7 @@ pub fn records_of_a_world()
     ensures ahead { (s : Setting) (w : World) (e : Event) (told : Option Journals) → TellsFront told w → TellsFront told (happens s w e) }
 {}
 
-/// What is read from bytes, or from the spelling of a value that fits, fits its type.
+/// What is read from bytes, or from the encoding of a value that fits, fits its type.
 pub fn bytes_of_calls()
     ensures votes { (bytes : List ℕ) → IsBytes bytes → ReadsFit (votes bytes) }
     ensures holds { (bytes : List ℕ) → IsBytes bytes → ReadsFit (holds bytes) }
@@ -64,8 +70,8 @@ pub fn bytes_of_calls()
     ensures entries { (number : ℕ) (e : Entry) → messages.entry.fits e → ReadsFit (sees number (messages.entry.spell e)) }
 {}
 
-/// In every run whose entries can be kept each member starts from its records: where what is read from
-/// the bytes of its calls fits, and so in each run that a text says, behind each front of its lines.
+/// In every run whose entries can be kept each member starts from its records: if what is read from
+/// the bytes of its calls fits, and so in each run that a text says, after each prefix of its lines.
 pub fn restarts_of_a_run()
     ensures run { (s : Setting) (events : List Event) → Each ReadsFit (all_of calls_of s events (new_world s)) → AreKeepable (world_after s events).sequences → Restarts s (world_after s events) }
     ensures read { (text : List ℕ) (t : Schedule) → schedule_of text ≡ Ok t → (secret : List ℕ) → (front rest : List Event) → t.events ≡ front ++ rest → AreKeepable (world_after (keyed_setting secret t) front).sequences → Restarts (keyed_setting secret t) (world_after (keyed_setting secret t) front) }

@@ -16,15 +16,15 @@ use Rattle.protocol_spec.specs.Chain.Words.{Has, Each}
 use Rattle.protocol_spec.specs.Member.Member.{Member, state}
 use Rattle.protocol_spec.specs.Member.Calls.{Call, votes, holds, runs, closes, ends, turns, acks, due}
 use Rattle.world_spec.specs.Setting.{Name, Setting}
-use Rattle.world_spec.specs.World.{Seat, Said, Made, World, Reached, finds_down, stops, answers, new_world, member_in, reached_up, reached_seat, appended, stopped_seat, behind, called_seat, called_in, called_if, sees_on, stated, said_by, honest_seat, is_honest, member_at, next_call}
+use Rattle.world_spec.specs.World.{Seat, Said, Made, World, Reached, finds_down, stops, answers, new_world, member_in, reached_up, reached_seat, appended, stopped_seat, behind, called_seat, called_in, called_if, sees_on, stated, said_by, honest_seat, is_honest, member_at, next_call, called_over, armed_seat, started_seat}
 use Rattle.world_spec.specs.Names.{made_named, cert_named}
-use Rattle.world_spec.specs.Making.{made_by_line}
-use Rattle.world_spec.specs.Step.{happens, says, voted_on, fvoted, fvote_origins, formed, formed_as, votes_collected, sent, ordered, honest_end, ordered_end, risen_if, has_ended, appended_entry, sealed_end, acked, false_ack, on_seat, armed_seat, started_seat, entries_left, end_in, last_said}
+use Rattle.world_spec.specs.Making.{made_over}
+use Rattle.world_spec.specs.Step.{happens, says, voted_on, fvoted, fvote_origins, formed, formed_as, votes_collected, sent, ordered, honest_end, ordered_end, risen_if, has_ended, appended_entry, sealed_end, acked, false_ack, on_seat, entries_left, end_in, last_said, happens_over}
 use Rattle.world_spec.specs.Run.{run, world_after}
 use Rattle.world_spec.specs.Assumptions.{calls_of}
 use Rattle.safety_law.proofs.InWorld.{each-any, kept-called, kept-line, new-seats}
 
--- the seat at a place, behind a change of one
+-- the seat at a place, after a change of one
 pub get-set : {A : Type 0} (xs : List A) (m n : ℕ) (y q : A) → slice_get (slice_set xs m y) n ≡ Some q → ((n ≡ m) × (y ≡ q)) ⊎ (slice_get xs n ≡ Some q)
 get-set [] m n y q e = inr e
 get-set (x ∷ xs) zero zero y q e = inl (refl, same y q e)
@@ -136,7 +136,7 @@ module _ (s : Setting) (P : List Record → Type 0) (B : List Record → Stateme
   back-called_seat w m call (Some seat) at all back = back-behind w m call seat (reached_seat s call seat) at refl (each_at (λ (y : Seat). P y.records) w.seats m seat all at) back
 
   back-called : (w : World) (m : ℕ) (call : Call) → All w → Backs w → Backs (called_in s w m call)
-  unfolding called_in
+  unfolding called_over
   back-called w m call all back = back-called_seat w m call (slice_get w.seats m) refl all back
 
   kept-all : (w : World) (m : ℕ) (call : Call) → All w → All (called_in s w m call)
@@ -201,7 +201,7 @@ module _ (s : Setting) (P : List Record → Type 0) (B : List Record → Stateme
   back-acked w m spoiled (Some t) all back = back-if (is_honest w m) (called_in s w m (acks t.digest)) (says w m (false_ack s w t spoiled)) (λ _. back-called w m (acks t.digest) all back) (λ faulty. back-faulty w m _ faulty back)
 
   back-line : (w : World) (e : Event) → All w → Backs w → Backs (happens s w e)
-  unfolding happens made_by_line
+  unfolding happens_over made_over
   back-line w (event.Tx name sender spoiled epoch gas budget inputs commands) all back = back
   back-line w (event.Vote m tx) all back = back-voted w m (made_named w tx) all back
   back-line w (event.Fvote m tx origins) all back = back-fvoted w m origins (made_named w tx) back

@@ -1,4 +1,4 @@
--- What is assumed of a run holds of each front of it: the front delivers, hands over and makes no more.
+-- What is assumed of a run holds of each prefix of it: the prefix delivers, hands over and makes no more.
 use Rattle.std.proofs.Common.{inl, inr, sym, subst}
 use Rattle.std.specs.Prelude.{◌≡◌, ◌⊎◌, List, [], ◌∷◌, ◌++◌, map}
 use Rattle.chain_types.specs.declared.transactions.Transaction.{Transaction}

@@ -1,4 +1,4 @@
--- A world only grows along a run: its statements, its transactions and its certificates; and who is honest stays.
+-- A world only grows along a run: its statements, its transactions and its certificates; and honest members stay honest.
 use Rattle.std.proofs.Common.{refl, sym, subst, ap, ◌∙◌}
 use Rattle.std.specs.Prelude.{◌≡◌, ℕ, zero, suc, List, [], ◌∷◌, ◌++◌, map, slice_get, slice_set, Option, Some, None}
 use Rattle.schedule_text.specs.declared.words.Event.{Event}
@@ -6,7 +6,7 @@ use Rattle.protocol_spec.proofs.ListLemmas.{has_left}
 use Rattle.protocol_spec.specs.Chain.Words.{Has}
 use Rattle.protocol_spec.specs.Member.Calls.{Call}
 use Rattle.world_spec.specs.Setting.{Setting}
-use Rattle.world_spec.specs.World.{Seat, Said, Made, Formed, World, Reached, finds_down, stops, answers, new_world, said_by, with_seat, stopped_seat, appended, stated, reached_seat, behind, called_seat, called_in, honest_seat, is_honest}
+use Rattle.world_spec.specs.World.{Seat, Said, Made, Formed, World, Reached, finds_down, stops, answers, new_world, said_by, with_seat, stopped_seat, appended, stated, reached_seat, behind, called_seat, called_in, honest_seat, is_honest, called_over}
 use Rattle.world_spec.specs.Step.{happens}
 use Rattle.world_spec.specs.Run.{run, world_after}
 use Rattle.world_spec.specs.Assumptions.{calls_of}
@@ -56,7 +56,7 @@ module _ (s : Setting) where
   grown-called_seat w m call (Some seat) at = grown-behind w m call seat (reached_seat s call seat) at
 
   pub grown-called : (w : World) (m : ℕ) (call : Call) → IsGrown w (called_in s w m call)
-  unfolding called_in
+  unfolding called_over
   grown-called w m call = grown-called_seat w m call (slice_get w.seats m) refl
 
   -- the steps that set no seat

@@ -12,7 +12,7 @@ use Rattle.protocol_spec.specs.Chain.Words.{Has, Each}
 use Rattle.protocol_spec.specs.Chain.Certificates.{accepts_sender}
 use Rattle.protocol_spec.specs.Member.Calls.{Call, due}
 use Rattle.world_spec.specs.Setting.{Setting}
-use Rattle.world_spec.specs.World.{Seat, World, Reached, finds_down, stops, answers, new_seat, new_world, member_in, stopped_seat, appended, reached_seat, behind, called_seat, called_in, with_seat}
+use Rattle.world_spec.specs.World.{Seat, World, Reached, finds_down, stops, answers, new_seat, new_world, member_in, stopped_seat, appended, reached_seat, behind, called_seat, called_in, with_seat, called_over}
 use Rattle.world_spec.specs.Run.{world_after}
 use Rattle.world_spec.specs.Assumptions.{signed_read}
 use Rattle.safety_law.proofs.Apart.{due-free}
@@ -71,7 +71,7 @@ module _ (s : Setting) (total : ℕ → List SignedTx) where
   handed-called_seat w m call (Some seat) at g all = handed-behind w m call seat (reached_seat s call seat) at refl g all
 
   handed-called : (w : World) (m : ℕ) (call : Call) → Each (Has (total m)) (signed_read s.rules call) → AllHanded w → AllHanded (called_in s w m call)
-  unfolding called_in
+  unfolding called_over
   handed-called w m call g all = handed-called_seat w m call (slice_get w.seats m) refl g all
 
   handed-keeps : Keeps s (IsHandedCall s total) AllHanded

@@ -13,10 +13,10 @@ use Rattle.protocol_spec.specs.Chain.Words.{Each}
 use Rattle.protocol_spec.specs.Member.Member.{Member, state}
 use Rattle.protocol_spec.specs.Member.Calls.{Call, votes, holds, runs, closes, ends, turns, acks, due}
 use Rattle.world_spec.specs.Setting.{Name, Setting}
-use Rattle.world_spec.specs.World.{Seat, Made, World, Reached, finds_down, stops, answers, new_seat, new_world, member_in, reached_up, reached_seat, appended, stopped_seat, behind, called_seat, called_in, called_if, sees_on, is_honest, member_at, next_call}
+use Rattle.world_spec.specs.World.{Seat, Made, World, Reached, finds_down, stops, answers, new_seat, new_world, member_in, reached_up, reached_seat, appended, stopped_seat, behind, called_seat, called_in, called_if, sees_on, is_honest, member_at, next_call, called_over, armed_seat, started_seat}
 use Rattle.world_spec.specs.Names.{made_named, cert_named}
-use Rattle.world_spec.specs.Making.{made_by_line}
-use Rattle.world_spec.specs.Step.{happens, voted_on, fvoted, formed, formed_as, votes_collected, sent, ordered, honest_end, ordered_end, risen_if, has_ended, appended_entry, sealed_end, acked, on_seat, armed_seat, started_seat, entries_left, end_in, last_said}
+use Rattle.world_spec.specs.Making.{made_over}
+use Rattle.world_spec.specs.Step.{happens, voted_on, fvoted, formed, formed_as, votes_collected, sent, ordered, honest_end, ordered_end, risen_if, has_ended, appended_entry, sealed_end, acked, on_seat, entries_left, end_in, last_said, happens_over}
 use Rattle.world_spec.specs.Run.{run, world_after}
 use Rattle.world_spec.specs.Assumptions.{vote_call, send_call, call_list, see_calls, ack_call, calls_of, all_of}
 
@@ -76,7 +76,7 @@ module _ (s : Setting) (Given : Call → Type 0) (P : List Record → Type 0) (s
   kept-called_seat w m call (Some seat) g e all = kept-behind w m call seat (reached_seat s call seat) g refl (each_at (λ (y : Seat). P y.records) w.seats m seat all e) all
 
   pub kept-called : (w : World) (m : ℕ) (call : Call) → Given call → AllSeats w → AllSeats (called_in s w m call)
-  unfolding called_in
+  unfolding called_over
   kept-called w m call g all = kept-called_seat w m call (slice_get w.seats m) g refl all
 
   kept-called_if : (w : World) (m : ℕ) (call : Option Call) → Each Given (call_list call) → AllSeats w → AllSeats (called_if s w m call)
@@ -138,7 +138,7 @@ module _ (s : Setting) (Given : Call → Type 0) (P : List Record → Type 0) (s
   kept-acked w m spoiled (Some t) g all = kept-if _ _ _ (kept-called w m (acks t.digest) g.0 all) all
 
   pub kept-line : (w : World) (e : Event) → Each Given (calls_of s w e) → AllSeats w → AllSeats (happens s w e)
-  unfolding happens made_by_line
+  unfolding happens_over made_over
   kept-line w (event.Tx name sender spoiled epoch gas budget inputs commands) g all = all
   kept-line w (event.Vote m tx) g all = kept-voted w m (made_named w tx) g all
   kept-line w (event.Fvote m tx origins) g all = kept-fvoted w m origins (made_named w tx) all
@@ -168,7 +168,7 @@ module _ (s : Setting) (Given : Call → Type 0) (P : List Record → Type 0) (s
   new-seats [] none = tt
   new-seats (h ∷ honest) none = (none, new-seats honest none)
 
-  -- where every call of the run is as given
+  -- if every call of the run is as given
   pub in_world_given : P [] → (events : List Event) → Each Given (all_of calls_of s events (new_world s)) → (m : ℕ) (seat : Seat) → slice_get (world_after s events).seats m ≡ Some seat → P seat.records
   unfolding world_after new_world
   in_world_given none events g m seat e = each_at (λ (y : Seat). P y.records) (run s events (new_world s)).seats m seat (kept-run events (new_world s) g (new-seats s.honest none)) e

@@ -40,7 +40,7 @@ among-seal (x ∷ xs) m e = go (x.member == m) refl e (among-seal xs m)
     go true q e rest = (x, inl refl, eqb-true x.member m q)
     go false q e rest = longer (rest e)
 
--- who is not faulty is honest
+-- a member that is not faulty is honest
 pub honest-in : (honest : List Bool) (m : ℕ) → is_faulty_in honest m ≡ false → honest_seat (slice_get (map new_seat honest) m) ≡ true
 honest-in [] m e = absurd (cc)
 honest-in (true ∷ honest) zero e = refl

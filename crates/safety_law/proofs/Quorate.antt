@@ -10,7 +10,7 @@ use Rattle.protocol_spec.specs.Chain.Committee.{weight, is_quorum}
 use Rattle.protocol_spec.specs.Chain.Certificates.{members_of}
 use Rattle.protocol_spec.specs.Member.Calls.{Call}
 use Rattle.world_spec.specs.Setting.{Setting}
-use Rattle.world_spec.specs.World.{Seat, Made, Formed, World, Reached, finds_down, stops, answers, new_world, reached_seat, behind, called_seat, called_in}
+use Rattle.world_spec.specs.World.{Seat, Made, Formed, World, Reached, finds_down, stops, answers, new_world, reached_seat, behind, called_seat, called_in, called_over}
 use Rattle.world_spec.specs.Step.{first_origins, happens, certificate_of, vote_statement, sealed_by, votes_collected}
 use Rattle.world_spec.specs.Run.{world_after}
 use Rattle.world_spec.specs.Assumptions.{calls_of}
@@ -30,7 +30,7 @@ module _ (s : Setting) where
   same-seat w m call (Some seat) = same-behind w m call seat (reached_seat s call seat)
 
   same-called : (w : World) (m : ℕ) (call : Call) → (called_in s w m call).certs ≡ w.certs
-  unfolding called_in
+  unfolding called_over
   same-called w m call = same-seat w m call (slice_get w.seats m)
 
   -- the members of a formed certificate are those of the line

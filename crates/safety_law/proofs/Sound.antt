@@ -30,7 +30,7 @@ use Rattle.protocol_spec.specs.Member.Votes.{Cast, vote_origins}
 use Rattle.protocol_spec.specs.Member.Member.{Member, ballot, vote_for}
 use Rattle.protocol_spec.specs.Member.Calls.{Call, votes, holds, sees, runs, closes, ends, turns, acks, new_vote_cases, voted_as, vote_again, unsealed_of, vote_read, vote_stopped, vote_answer, see_answer, run_answer, end_answer, ack_answer, end_cases, halted}
 use Rattle.world_spec.specs.Setting.{Setting}
-use Rattle.world_spec.specs.World.{Seat, Said, Made, Formed, World, Reached, finds_down, stops, answers, said_by, with_seat, stopped_seat, stated, voted_statement, reached_seat, behind, called_seat, called_in, is_honest, entries_at, list_or_none}
+use Rattle.world_spec.specs.World.{Seat, Said, Made, Formed, World, Reached, finds_down, stops, answers, said_by, with_seat, stopped_seat, stated, voted_statement, reached_seat, behind, called_seat, called_in, is_honest, entries_at, list_or_none, called_over}
 use Rattle.world_spec.specs.Step.{says, vote_in, last_said, first_origins, vote_statement, sealed_by, votes_collected, appended_entry, open_entries, risen_if}
 use Rattle.world_spec.specs.Making.{TxLine, with_made}
 use Rattle.world_spec.specs.Assumptions.{read_list, signed_read}
@@ -275,7 +275,7 @@ entry-in qs n e h = go (slice_get qs n) refl h
     go None q h = absurd h
     go (Some es) q h = (es, get-has qs n es q, h)
 
--- where transactions, certificates and sequences stay
+-- if transactions, certificates and sequences stay
 sound-as : (total : List SignedTx) (w v : World) → IsGrown w v → v.txs ≡ w.txs → v.certs ≡ w.certs → v.sequences ≡ w.sequences → ((x : Said) → Has v.said x → IsSpoken total w.txs x.statement) → IsSound total w → IsSound total v
 sound-as total w v g txs certs sequences spoken sound = record {
   made = λ t h. sound.made t (subst (λ (ts : List Made). Has ts t) txs h);
@@ -307,7 +307,7 @@ module _ (s : Setting) (total : List SignedTx) where
   sound-called_seat w m call (Some seat) at g sound = sound-behind w m call seat (reached_seat s call seat) at g sound
 
   sound-called : (w : World) (m : ℕ) (call : Call) → Each (Has total) (signed_read s.rules call) → IsSound total w → IsSound total (called_in s w m call)
-  unfolding called_in
+  unfolding called_over
   sound-called w m call g sound = sound-called_seat w m call (slice_get w.seats m) refl g sound
 
   sound-says : (w : World) (m : ℕ) (st : Statement) → is_honest w m ≡ false → IsOfMade w st → IsSound total w → IsSound total (says w m st)

@@ -18,10 +18,10 @@ use Rattle.protocol_spec.specs.Chain.Collecting.{Collected, lacks, short, differ
 use Rattle.protocol_spec.specs.Chain.Words.{Has, Each, first_some, where_true, last_where}
 use Rattle.protocol_spec.specs.Member.Calls.{Call, votes, holds, runs, closes, ends, turns, acks}
 use Rattle.world_spec.specs.Setting.{Name, Setting}
-use Rattle.world_spec.specs.World.{Seat, Said, Made, Formed, World, said_by, with_seat, called_in, called_if, sees_on, is_honest, member_at, next_call}
+use Rattle.world_spec.specs.World.{Seat, Said, Made, Formed, World, said_by, with_seat, called_in, called_if, sees_on, is_honest, member_at, next_call, armed_seat, started_seat}
 use Rattle.world_spec.specs.Names.{made_named, cert_named, cert_in}
-use Rattle.world_spec.specs.Making.{TxLine, made_by_line, made_as, transaction_of, with_made}
-use Rattle.world_spec.specs.Step.{happens, says, voted_on, fvoted, fvote_origins, formed, formed_as, first_origins, certificate_of, votes_collected, sent, ordered, honest_end, ordered_end, risen_if, has_ended, appended_entry, sealed_end, acked, false_ack, on_seat, armed_seat, started_seat, entries_left, end_in, says_of, last_said}
+use Rattle.world_spec.specs.Making.{TxLine, made_over, made_as, transaction_of, with_made}
+use Rattle.world_spec.specs.Step.{happens, says, voted_on, fvoted, fvote_origins, formed, formed_as, first_origins, certificate_of, votes_collected, sent, ordered, honest_end, ordered_end, risen_if, has_ended, appended_entry, sealed_end, acked, false_ack, on_seat, entries_left, end_in, says_of, last_said, happens_over}
 use Rattle.world_spec.specs.Run.{run}
 use Rattle.world_spec.specs.Assumptions.{vote_call, send_call, call_list, see_calls, ack_call, calls_of}
 use Rattle.safety_law.specs.Owners.{callee}
@@ -59,7 +59,7 @@ last-said {A} reads m (x ∷ xs) a e = go (last_said reads m xs) refl e (last-sa
     go (Some b) q e rest = longer (rest (q ∙ e))
     go None q e rest = one (x.member == m) refl e
 
--- what stands behind an entry: a certificate was formed, an End of an honest member was stated
+-- what stands after an entry: a certificate was formed, an End of an honest member was stated
 abbrev pub IsBacked : World → Entry → Type 0
 IsBacked w (entry.Cert c) = (f : Formed) × Has w.certs f × (f.cert ≡ c)
 IsBacked w (entry.End x) = is_honest w x.member ≡ true → Has w.said (said_by x.member x.statement)
@@ -182,7 +182,7 @@ module _ (s : Setting) (Given : Option ℕ → Call → Type 0) (Q : World → T
   lied-end w m faulty honest = absurd (cc)
 
   pub step-line : (w : World) (e : Event) → Each (Given (callee e)) (calls_of s w e) → Q w → Q (happens s w e)
-  unfolding happens made_by_line
+  unfolding happens_over made_over
   step-line w (event.Tx name sender spoiled epoch gas budget inputs commands) g q =
       let l : TxLine = record { name = name; sender = sender; spoiled = spoiled; epoch = epoch; gas = gas; budget = budget; inputs = inputs; commands = commands } in
       k.makes w l (made_as s l.name l.spoiled (transaction_of s w l)) refl q

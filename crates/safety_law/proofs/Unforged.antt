@@ -19,7 +19,7 @@ use Rattle.protocol_spec.specs.Chain.Certificates.{read_as, read_certificate, re
 use Rattle.protocol_spec.specs.Member.Member.{Member}
 use Rattle.protocol_spec.specs.Member.Calls.{Call, holds, sees}
 use Rattle.world_spec.specs.Setting.{Setting}
-use Rattle.world_spec.specs.World.{Seat, Made, Formed, World, Reached, finds_down, stops, answers, new_world, said_by, reached_seat, behind, called_seat, called_in, called_if, entries_at, member_at, next_entry, next_call_of, next_call, numbered_call}
+use Rattle.world_spec.specs.World.{Seat, Made, Formed, World, Reached, finds_down, stops, answers, new_world, said_by, reached_seat, behind, called_seat, called_in, called_if, entries_at, member_at, next_entry, next_call_of, next_call, numbered_call, called_over}
 use Rattle.world_spec.specs.Names.{made_named, cert_named}
 use Rattle.world_spec.specs.Step.{happens, open_entries, entries_left}
 use Rattle.world_spec.specs.Run.{run, world_after}
@@ -35,7 +35,7 @@ each-flat : {A B : Type 0} (f : A → List B) (P : B → Type 0) (xs : List A) �
 each-flat f P [] each = tt
 each-flat f P (x ∷ xs) each = each_join P (f x) (flat_map f xs) each.0 (each-flat f P xs each.1)
 
--- ---- what is spelled is read back
+-- ---- what is encoded is read back
 
 back-certificate : (c : Certificate) → messages.certificate.fits c → read_certificate (messages.certificate.spell c) ≡ Ok c
 unfolding read_certificate
@@ -73,7 +73,7 @@ module _ (s : Setting) where
   same-seat w m call (Some seat) = same-behind w m call seat (reached_seat s call seat)
 
   same-called : (w : World) (m : ℕ) (call : Call) → (called_in s w m call).sequences ≡ w.sequences
-  unfolding called_in
+  unfolding called_over
   same-called w m call = same-seat w m call (slice_get w.seats m)
 
   same-called_if : (w : World) (m : ℕ) (call : Option Call) → (called_if s w m call).sequences ≡ w.sequences

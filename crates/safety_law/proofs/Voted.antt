@@ -69,7 +69,7 @@ each-formed s events apart c h = each-all (λ (x : MemberSeal). HasStated (world
 
 -- ---- delivered certificates
 
--- where it was delivered it was unforged, and the world grew on
+-- if it was delivered it was unforged, and the world grew on
 unforged-at : (s : Setting) (c : Certificate) (events : List Event) (w : World) → NoForgery s events w → Has (all_of delivered s events w) c → (v : World) × IsUnforged s v c × IsGrown v (run s events w)
 unforged-at s c [] w none h = absurd h
 unforged-at s c (e ∷ events) w none h = go (has_parts (delivered s w e) (all_of delivered s events (happens s w e)) c h) (unforged-at s c events (happens s w e) none.2)

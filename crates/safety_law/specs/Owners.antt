@@ -21,7 +21,7 @@ use Rattle.world_spec.specs.Assumptions.{calls_of, asked, all_of, all_formed, al
 
 -- ---- statements
 
--- what was stated behind some events is stated behind more
+-- what was stated after some events is stated after more
 abbrev pub StatementsOnlyGrow : Type 0
 StatementsOnlyGrow = (s : Setting) (front back : List Event) (x : Said) → Has (world_after s front).said x → Has (world_after s (front ++ back)).said x
 
@@ -110,12 +110,12 @@ SenderHasSigned = (s : Setting) (events : List Event) → IsHonestRun s events �
 
 -- ---- forks
 
--- behind each front of the events no member holds two certificates that consume one version; so none is halted
+-- after each prefix of the events no member holds two certificates that consume one version; so none is halted
 abbrev pub NoForkIsMet : Type 0
 NoForkIsMet = (s : Setting) (front back : List Event) → IsHonestRun s (front ++ back) → (m : ℕ) (seat : Seat) → slice_get (world_after s front).seats m ≡ Some seat
     → fork_of (member_in s seat) ≡ None
 
--- nor does a call of the next line lead a member to one, also where it stops at the append
+-- nor does a call of the next line lead a member to one, also if it stops at the append
 abbrev pub NoCallMeetsAFork : Type 0
 NoCallMeetsAFork = (s : Setting) (front back : List Event) (e : Event) → IsHonestRun s (front ++ e ∷ back) → (m : ℕ) (seat : Seat) → slice_get (world_after s front).seats m ≡ Some seat
     → (call : Call) → Has (calls_of s (world_after s front) e) call → fork_of (called s.rules (member_in s seat) call) ≡ None
@@ -146,7 +146,7 @@ is_raw_hold (event.Ack m tx spoiled) = false
 is_raw_hold (event.Final tx members) = false
 
 -- the certificates that the lines formed and the entries that they ordered are values of their Rust types, with no
--- list too long to be spelled
+-- list too long to be encoded
 pub record AreSpellable (s : Setting) (events : List Event) : Type 0 where
   pub certificates : Each messages.certificate.fits (all_formed s events)
   pub entries : (epoch : ℕ) → Each messages.entry.fits (entries_at (world_after s events).sequences epoch)
@@ -157,8 +157,8 @@ abbrev pub NothingIsForged : Type 0
 NothingIsForged = (s : Setting) (events : List Event) → Each (λ (e : Event). is_raw_hold e ≡ false) events
     → TransactionsApart (all_transactions s events) → AreSpellable s events → NoForgery s events (new_world s)
 
--- ---- fronts
+-- ---- prefixes
 
--- the assumptions on a run hold of each front of its events
+-- the assumptions on a run hold of each prefix of its events
 abbrev pub FrontsAreHonest : Type 0
 FrontsAreHonest = (s : Setting) (front back : List Event) → IsHonestRun s (front ++ back) → IsHonestRun s front

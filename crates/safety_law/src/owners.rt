@@ -2,7 +2,7 @@
 //! and no digest collision: no two of them consume one object version.
 ghost use Rattle.safety_law.specs.Owners.{CertifiedIsFormedOrValid, CertifiedIsVotedFor, FormedIsVotedFor, FrontsAreHonest, NoCallMeetsAFork, NoForkIsMet, NothingIsForged, OneListOfOrigins, OneOwner, SenderHasSigned, StatementsOnlyGrow};
 
-/// What was stated behind some events is stated behind more.
+/// What was stated after some events is stated after more.
 pub fn statements_only_grow()
     ensures { StatementsOnlyGrow }
 {}
@@ -40,12 +40,12 @@ pub fn sender_has_signed()
     ensures { SenderHasSigned }
 {}
 
-/// Behind each front of the events no member holds two certificates that consume one version, so none is halted.
+/// After each prefix of the events no member holds two certificates that consume one version, so none is halted.
 pub fn no_fork_is_met()
     ensures { NoForkIsMet }
 {}
 
-/// Nor does a call of the next line lead a member to two such certificates, also where it stops at the append.
+/// Nor does a call of the next line lead a member to two such certificates, also if it stops at the append.
 pub fn no_call_meets_a_fork()
     ensures { NoCallMeetsAFork }
 {}
@@ -55,7 +55,7 @@ pub fn nothing_is_forged()
     ensures { NothingIsForged }
 {}
 
-/// The assumptions on a run hold of each front of its events.
+/// The assumptions on a run hold of each prefix of its events.
 pub fn fronts_are_honest()
     ensures { FrontsAreHonest }
 {}

@@ -33,6 +33,6 @@ module _ (s : Setting) (w : World) where
   pub order_as_known : (objects : List Object) → shown_order s w objects ≡ shown_order (setting_with (names_of s w)) (world_with (names_of s w)) objects
   order_as_known objects = refl
 
-  -- what is known behind a line
+  -- what is known after a line
   pub line_as_known : (l : TxLine) (t : Made) → names_of s (with_made w l t) ≡ with_line (names_of s w) l t
   line_as_known l t = refl

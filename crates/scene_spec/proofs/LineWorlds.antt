@@ -40,12 +40,12 @@ use Rattle.report_text.specs.declared.lines.ContentText.{ContentText}
 use Rattle.report_text.specs.declared.lines.RunText.TheVariants as run_text
 use Rattle.report_text.specs.declared.lines.ShowText.TheVariants as show_text
 use Rattle.world_spec.specs.Setting.{Setting}
-use Rattle.world_spec.specs.World.{World}
+use Rattle.world_spec.specs.World.{World, WorldOf}
 use Rattle.world_spec.specs.Names.{object_name, shown_order}
 use Rattle.world_spec.specs.Report.{Lines, ack_answered, checkpoint_lines, close_answered, effects_line, end_answered, entry_lines, hold_answered, left_line_of, object_line, run_answered, shown, shown_content, shown_owner, turn_answered, vote_answered, voted_text, what_text}
 use Rattle.scene_spec.specs.Known.{names_of, setting_staked, setting_with, world_with}
 
-module _ (s : Setting) (w : World) where
+module _ {S : Type 0} (s : Setting) (w : WorldOf S) where
   abbrev t : Setting
   t = setting_with (names_of s w)
 

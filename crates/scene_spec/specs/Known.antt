@@ -6,7 +6,7 @@ use Rattle.schedule_text.specs.declared.words.RefWord.{RefWord}
 use Rattle.schedule_text.specs.declared.words.InputWord.{InputWord}
 use Rattle.schedule_text.specs.declared.words.Setup.{Setup}
 use Rattle.world_spec.specs.Setting.{Name, Thing, User, Setting, user_of, thing_id, things_from, owners_of}
-use Rattle.world_spec.specs.World.{Made, Drawn, World}
+use Rattle.world_spec.specs.World.{Made, Drawn, World, WorldOf}
 use Rattle.world_spec.specs.Names.{drawn_by}
 use Rattle.world_spec.specs.Making.{TxLine, user_word, drawn_word, drawn_input, drawn_list}
 
@@ -17,7 +17,7 @@ pub record Known : Type 0 where
   pub drawn : List Drawn
 
 -- what is known in a world
-abbrev pub names_of : Setting → World → Known
+abbrev pub names_of : {S : Type 0} → Setting → WorldOf S → Known
 names_of s w = record { things = s.things; users = w.users; txs = w.txs; drawn = w.drawn }
 
 -- a setting and a world in which this is known, and that have nothing else
@@ -31,7 +31,7 @@ setting_with k = record {
   seal = λ _ _. zero_digest;
 }
 
--- the same with these stakes, against which the weight of Ends is told
+-- the same with these stakes, against which the weight of Ends is measured
 abbrev pub setting_staked : List ℕ → Known → Setting
 setting_staked stakes k = record (setting_with k) { rules = record { stakes = stakes; writers = None; accepts = λ _ _ _. false } }
 

@@ -1,4 +1,4 @@
--- The transaction of a line, where the digests of versions and the seals are given as functions.
+-- The transaction of a line, with the digests of versions and the seals given as functions.
 use Rattle.std.specs.Prelude.{ℕ, ◌+◌, ◌-◌, ◌%◌, ◌==◌, List, Bool, map, fold, Option, if◌then◌else◌}
 use Rattle.std.specs.Int.{w64, to_le_bytes}
 use Rattle.digest_core.specs.declared.Digest.{Digest}

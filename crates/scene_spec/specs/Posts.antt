@@ -1,6 +1,6 @@
 -- The members of a committee as they stand: a member that is up stands with its state. What a call does to one.
 -- Source: this profile.
-use Rattle.std.specs.Prelude.{◌≡◌, ◌⊎◌, ⊤, ℕ, suc, Bool, true, false, List, [], ◌∷◌, ◌++◌, fold, Option, Some, None, option_map, slice_get, slice_set}
+use Rattle.std.specs.Prelude.{◌≡◌, ◌⊎◌, ⊤, ℕ, suc, Bool, true, false, List, [], ◌∷◌, ◌++◌, fold, Option, Some, None, option_map, is_some, slice_get, slice_set}
 use Rattle.chain_types.specs.declared.objects.Object.{Object}
 use Rattle.chain_messages.specs.declared.messages.Statement.{Statement}
 use Rattle.journal_core.specs.declared.records.Record.{Record}
@@ -8,12 +8,12 @@ use Rattle.journal_core.specs.Records as journals
 use Rattle.outside.specs.Lists.{Journals, AddsRecord, KeepsJournals, with_record}
 use Rattle.protocol_spec.specs.Chain.Certificates.{Rules}
 use Rattle.protocol_spec.specs.Member.Member.{Member, fresh}
-use Rattle.protocol_spec.specs.Member.Calls.{Call, called, due}
-use Rattle.world_spec.specs.World.{Reached, finds_down, stops, answers, reached_up, stated}
+use Rattle.protocol_spec.specs.Member.Calls.{Call, called, after_due, due}
+use Rattle.world_spec.specs.World.{Seating, Deed, keeps, halts, arms, starts, Reached, finds_down, stops, answers, reached_up, stated}
 use Rattle.scene_spec.specs.Terms.{Terms}
 use Rattle.scene_spec.specs.Seats.{Seated}
 
--- whether the member is honest, the member where it is up, and an armed stop, which keeps the next record or loses it
+-- whether the member is honest, the member if it is up, and an armed stop, which keeps the next record or loses it
 pub record Post : Type 0 where
   pub honest : Bool
   pub standing : Option Seated
@@ -31,6 +31,33 @@ abbrev pub new_posts : Terms → List Object → ℕ → List Bool → List Post
 new_posts terms opening m [] = []
 new_posts terms opening m (honest ∷ flags) = standing_with terms m honest (fresh opening) ∷ new_posts terms opening (suc m) flags
 
+-- ---- what stands in a post
+
+-- nobody looks at the state of a member that is down
+abbrev pub state_or : Option Seated → Member
+state_or None = fresh []
+state_or (Some seat) = seat.state
+
+abbrev pub seat_with : Rules → Option Record → Seated → Seated
+seat_with r x seat = record seat { state = after_due r seat.state x }
+
+-- a start needs the member's records, which a post has not: see `started_at`
+abbrev pub post_acts : Rules → Post → Deed → Post
+post_acts r p (keeps x) = record p { standing = option_map (seat_with r x) p.standing }
+post_acts r p (halts kept x) = record p { standing = None; armed = None }
+post_acts r p (arms kept) = record p { armed = Some kept }
+post_acts r p starts = p
+
+abbrev pub by_posts : Rules → Seating Post
+by_posts r = record {
+  honest = λ p. p.honest;
+  up = λ p. is_some p.standing;
+  armed = λ p. p.armed;
+  state = λ p. state_or p.standing;
+  count = λ p. (state_or p.standing).records;
+  acts = post_acts r;
+}
+
 -- ---- what becomes of a call
 
 abbrev pub reached_standing : Rules → Call → Option Bool → Option Seated → Reached
@@ -44,7 +71,7 @@ reached_post r call (Some p) = reached_standing r call p.armed p.standing
 abbrev pub reached_in : Rules → List Post → ℕ → Call → Reached
 reached_in r posts m call = reached_post r call (slice_get posts m)
 
--- the member behind a call that it answered
+-- the member after a call that it answered
 abbrev pub seat_behind : Rules → Call → Seated → Seated
 seat_behind r call seat = record seat { state = called r seat.state call }
 
@@ -57,7 +84,7 @@ abbrev pub posts_with : Rules → Call → List Post → ℕ → Option Post →
 posts_with r call posts m None = posts
 posts_with r call posts m (Some p) = slice_set posts m (post_behind r call p (reached_post r call (Some p)))
 
--- the members behind a call on one of them
+-- the members after a call on one of them
 abbrev pub posts_behind : Rules → List Post → ℕ → Call → List Post
 posts_behind r posts m call = posts_with r call posts m (slice_get posts m)
 
@@ -79,28 +106,28 @@ abbrev pub list_of : {A : Type 0} → Option A → List A
 list_of None = []
 list_of (Some x) = x ∷ []
 
--- told lists with more records of a member at the end of its list
+-- observable lists with more records of a member at the end of its list
 abbrev pub with_all : Journals → ℕ → List Record → Journals
 with_all lists m records = fold (λ (told : Journals) (x : Record). with_record told m (journals.journal_record.spell x)) lists records
 
--- told lists grow by these records of this member
+-- observable lists grow by these records of this member
 abbrev pub AddsAll : Option Journals → Option Journals → ℕ → List Record → Type 0
 AddsAll None now m records = ⊤
 AddsAll (Some lists) now m records = now ≡ Some (with_all lists m records)
 
--- told lists grow by the first of these records
+-- observable lists grow by the first of these records
 pub record AddsFront (before now : Option Journals) (m : ℕ) (records : List Record) : Type 0 where
   pub front : List Record
   pub rest : List Record
   pub is : records ≡ front ++ rest
   pub adds : AddsAll before now m front
 
--- told lists behind a call: its record was added, or nothing
+-- observable lists after a call: its record was added, or nothing
 abbrev pub AddsLeft : Option Journals → Option Journals → ℕ → Option Record → Type 0
 AddsLeft before now m None = KeepsJournals before now
 AddsLeft before now m (Some x) = AddsRecord before now m (journals.journal_record.spell x)
 
--- the same where the call did not end: its record was added, or nothing
+-- the same if the call did not end: its record was added, or nothing
 abbrev pub MayAddLeft : Option Journals → Option Journals → ℕ → Option Record → Type 0
 MayAddLeft before now m x = AddsLeft before now m x ⊎ KeepsJournals before now
 

@@ -20,13 +20,13 @@ AreApart objects = repeats id_eq (map (λ (o : Object). o.id) objects) ≡ false
 abbrev pub read_record : List ℕ → Result Record WireFault
 read_record bytes = read_as (whole journals.journal_record bytes)
 
--- the state behind a record at this place: one that does not decode is refused (1), and so is one that no call
+-- the state after a record at this place: one that does not decode is refused (1), and so is one that no call
 -- would have appended (2)
 abbrev pub taken_at : Rules → Member → ℕ → Result Record WireFault → Result Member StartRefusal
 taken_at r m place (Err fault) = Err (no_start.BadRecord place 1)
 taken_at r m place (Ok x) = if is_allowed r m x then Ok (after r m x) else Err (no_start.BadRecord place 2)
 
--- the state behind these records, of which the first stands at this place
+-- the state after these records, of which the first stands at this place
 abbrev pub started_from : Rules → Member → ℕ → List (List ℕ) → Result Member StartRefusal
 started_from r m place [] = Ok m
 started_from r m place (bytes ∷ kept) = and_then (taken_at r m place (read_record bytes)) (λ next. started_from r next (place + 1) kept)

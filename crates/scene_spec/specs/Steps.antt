@@ -144,7 +144,7 @@ work_of sc (event.RawHold m bytes) = asks m (holds bytes)
 work_of sc (event.Ack m tx spoiled) = ack_work sc m (made_named (bare_world sc) tx)
 work_of sc (event.Final tx members) = idle
 
--- the scene behind it
+-- the scene after it
 abbrev pub worked : Rules → Scene → Work → Scene
 worked r sc idle = sc
 worked r sc (asks m call) = called_scene r sc m call
@@ -156,12 +156,12 @@ records_left r sc idle = None
 records_left r sc (asks m call) = Some (m, list_of (record_left (reached_in r sc.posts m call)))
 records_left r sc (hands m n) = Some (m, sees_left r n sc m)
 
--- told lists behind a line: the records that it leaves were added, or nothing
+-- observable lists after a line: the records that it leaves were added, or nothing
 abbrev pub AddsLine : Option (ℕ × List Record) → Option Journals → Option Journals → Type 0
 AddsLine None before now = KeepsJournals before now
 AddsLine (Some (m, records)) before now = AddsAll before now m records
 
--- the same where the line did not end: the first of them were added
+-- the same if the line did not end: the first of them were added
 abbrev pub MayAddLine : Option (ℕ × List Record) → Option Journals → Option Journals → Type 0
 MayAddLine None before now = KeepsJournals before now
 MayAddLine (Some (m, records)) before now = AddsFront before now m records
@@ -172,7 +172,7 @@ MayAddLine (Some (m, records)) before now = AddsFront before now m records
 abbrev pub with_order : Scene → World → Scene
 with_order sc w = record sc { sequences = w.sequences; epoch = w.epoch; said = w.said }
 
--- what the lowest-numbered honest member says that is up, where one says anything
+-- what the lowest-numbered honest member says that is up, if one says anything
 abbrev pub says_in : {A : Type 0} → (Member → Option A) → List Post → Option A
 says_in says [] = None
 says_in says (p ∷ posts) = first_some ((if p.honest then option_and_then (λ (seat : Seated). says seat.state) p.standing else None) ∷ says_in says posts ∷ [])
@@ -228,7 +228,7 @@ abbrev pub send_text_in : Trust → Scene → ℕ → Option Certificate → Sen
 send_text_in trust sc m None = send_text.NoCertificate
 send_text_in trust sc m (Some c) = hold_text_in trust sc m (messages.certificate.spell c)
 
--- the lines of one entry, and whether the line goes on behind it
+-- the lines of one entry, and whether the line goes on after it
 abbrev pub call_lines_in : Trust → Scene → ℕ → Option Call → Lines
 call_lines_in trust sc m None = ([], false)
 call_lines_in trust sc m (Some (votes bytes)) = ([], false)

@@ -1,5 +1,5 @@
--- The scene of a world, and told records. Source: this profile.
-use Rattle.std.specs.Prelude.{◌≡◌, ◌<◌, ◌≤◌, ℕ, suc, length, Bool, true, false, List, [], ◌∷◌, ◌++◌, map, slice_get, Option, Some, None, Ok, if◌then◌else◌}
+-- The scene of a world, and observable records. Source: this profile.
+use Rattle.std.specs.Prelude.{◌≡◌, ◌<◌, ◌≤◌, ℕ, length, Bool, true, false, List, [], ◌++◌, map, slice_get, Option, Some, None, Ok, if◌then◌else◌}
 use Rattle.journal_core.specs.declared.records.Record.{Record}
 use Rattle.journal_core.specs.Records as journals
 use Rattle.outside.specs.Lists.{Journals, journal_of}
@@ -17,7 +17,7 @@ use Rattle.protocol_spec.specs.Member.Calls.{Call, votes, holds, sees, runs, clo
 use Rattle.protocol_spec.specs.Member.Due.{IsDueBehind}
 use Rattle.world_spec.specs.Setting.{Trust, Setting}
 use Rattle.world_spec.specs.World as worlds
-use Rattle.world_spec.specs.World.{World, member_in}
+use Rattle.world_spec.specs.World.{World, member_in, placed}
 use Rattle.world_spec.specs.Run.{records_of}
 use Rattle.scene_spec.specs.Known.{names_of}
 use Rattle.scene_spec.specs.Terms.{rules_for, terms_of}
@@ -36,8 +36,7 @@ abbrev pub post_of : Setting → ℕ → worlds.Seat → Post
 post_of s m seat = record { honest = seat.honest; standing = standing_of s m seat; armed = seat.armed }
 
 abbrev pub posts_from : Setting → ℕ → List worlds.Seat → List Post
-posts_from s m [] = []
-posts_from s m (seat ∷ seats) = post_of s m seat ∷ posts_from s (suc m) seats
+posts_from s m seats = placed (post_of s) m seats
 
 abbrev pub scene_of : Setting → World → Scene
 scene_of s w = record {
@@ -88,7 +87,7 @@ spelled records = map journals.journal_record.spell records
 abbrev pub journal_in : World → ℕ → List (List ℕ)
 journal_in w m = spelled (records_of (slice_get w.seats m))
 
--- lists are told, and are the journals of the world
+-- lists are observable, and are the journals of the world
 abbrev pub Tells : Option Journals → World → Type 0
 Tells None w = ⊥
 Tells (Some lists) w = (m : ℕ) → journal_of lists m ≡ journal_in w m
@@ -96,12 +95,12 @@ Tells (Some lists) w = (m : ℕ) → journal_of lists m ≡ journal_in w m
 abbrev pub IsFront : {A : Type 0} → List A → List A → Type 0
 IsFront {A} front whole = (rest : List A) × (whole ≡ front ++ rest)
 
--- lists are told, and each is a front of the world's journal
+-- lists are observable, and each is a prefix of the world's journal
 abbrev pub TellsFront : Option Journals → World → Type 0
 TellsFront None w = ⊥
 TellsFront (Some lists) w = (m : ℕ) → IsFront (journal_of lists m) (journal_in w m)
 
--- every member starts from its journal in its state, and each of its records was due behind those before it
+-- every member starts from its journal in its state, and each of its records was due after those before it
 pub record Restarts (s : Setting) (w : World) : Type 0 where
   pub starts : (m : ℕ) (seat : worlds.Seat) → slice_get w.seats m ≡ Some seat → started s.rules s.opening (spelled seat.records) ≡ Ok (member_in s seat)
   pub due : (m : ℕ) (seat : worlds.Seat) → slice_get w.seats m ≡ Some seat → Along (IsDueBehind s.rules s.opening) [] seat.records
@@ -117,20 +116,20 @@ ReadsFit ends = Unit {0}
 ReadsFit turns = Unit {0}
 ReadsFit (acks tx) = Unit {0}
 
--- the same of what a line hands to a member
+-- likewise for what a line hands to a member
 abbrev pub WorkReadsFit : Work → Type 0
 WorkReadsFit idle = Unit {0}
 WorkReadsFit (asks m call) = ReadsFit call
 WorkReadsFit (hands m n) = Unit {0}
 
--- told lists have one for each member
+-- observable lists have one for each member
 abbrev pub HasRoom : Option Journals → World → Type 0
 HasRoom None w = Unit {0}
 HasRoom (Some lists) w = length w.seats ≤ length lists
 
 -- ---- entries that can be kept
 
--- each entry that was ordered has a spelling that fits into a record
+-- each entry that was ordered has an encoding that fits into a record
 abbrev pub IsKeepable : Entry → Type 0
 IsKeepable e = length (messages.entry.spell e) < length_limit
 

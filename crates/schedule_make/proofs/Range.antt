@@ -16,7 +16,7 @@ for_each-suc text n =
     ap (flat_map text) (range_with_len-suc 0 n) ∙ flat_map-append text (range_with_len 0 n) ((0 + n) ∷ [])
     ∙ ap (λ x. for_each text n ++ (text x ++ [])) e ∙ ap (λ t. for_each text n ++ t) (append-nil (text n))
 
--- the text of one number more, behind what stands
+-- the text of one number more, after what stands
 pub one_more : (text : ℕ → List ℕ) (old out new : List ℕ) (n : ℕ) → out ≡ old ++ for_each text n → new ≡ out ++ text n → new ≡ old ++ for_each text (n + 1)
 one_more text old out new n before more =
     let e : n + 1 ≡ suc n = omega arith in

@@ -46,7 +46,7 @@ sends_text k =
 unfoldable pub certified_text : ℕ → List ℕ
 certified_text k = if k % 4 == 0 then tx_text k ++ votes_text k ++ sends_text k else tx_text k ++ votes_text k
 
--- a mark behind each 64
+-- a mark after each 64
 unfoldable pub order_text : ℕ → List ℕ
 order_text k =
     if (k + 1) % 64 == 0

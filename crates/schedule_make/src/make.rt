@@ -173,7 +173,7 @@ fn print_certified(out: &mut Seq<u8>, k: u32) -> Result<(), OutOfMemory>
     }
 }
 
-/// The transaction's place in the sequence, and a mark behind each 64.
+/// The transaction's place in the sequence, and a mark after each 64.
 #[tactic(auto, unfolding(crate::specs::Make::order_text))]
 fn print_order(out: &mut Seq<u8>, k: u32) -> Result<(), OutOfMemory>
     requires { k < 4294967295 }

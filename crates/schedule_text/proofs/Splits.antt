@@ -10,7 +10,7 @@ abbrev pub parts_after : ℕ → List ℕ → Option (List ℕ × List ℕ) → 
 parts_after byte text None = text ∷ []
 parts_after byte text (Some p) = p.0 ∷ slice_split (λ b. b == byte) p.1
 
--- where no place passes, the text is the one part
+-- if no place passes, the text is the one part
 no_cut : (p : ℕ → Bool) (xs : List ℕ) → length xs ≤ position_or_len p xs → slice_split p xs ≡ xs ∷ []
 no_cut p [] h = refl
 no_cut p (x ∷ xs) h =

@@ -61,13 +61,13 @@ has_mark byte word = nat_lt 0 (length word) && slice_index word (length word - 1
 unfoldable pub without_mark : ℕ → List ℕ → List ℕ
 without_mark byte word = if has_mark byte word then take (length word - 1) word else word
 
--- one value of two, where both are there
+-- one value of two, if both are there
 abbrev pub with_both : {A B C : Type 0} → Option A → Option B → (A → B → C) → Option C
 with_both None b f = None
 with_both (Some x) None f = None
 with_both (Some x) (Some y) f = Some (f x y)
 
--- the value of each, where each has one
+-- the value of each, if each has one
 unfoldable pub each_of : {X A : Type 0} → (X → Option A) → List X → Option (List A)
 each_of f [] = Some []
 each_of f (x ∷ xs) = with_both (f x) (each_of f xs) (λ y ys. y ∷ ys)

@@ -14,7 +14,7 @@ use Rattle.schedule_text.specs.Bytes.{is_digits, number_in, cut_at, has_mark, wi
 abbrev pub place_of : List ℕ → Option ℕ
 place_of word = number_in 0 65535 word
 
--- `rN` behind the letter, or `rN.K`
+-- `rN` after the letter, or `rN.K`
 abbrev pub result_form : List ℕ → Option (List ℕ × List ℕ) → Bool
 result_form word None = is_digits word
 result_form word (Some p) = is_digits p.0 && is_digits p.1
@@ -44,7 +44,7 @@ arg_of word = if bytes_eq word (codes "gas") then Some arg.Gas else place_value 
 abbrev pub comma_parts : List ℕ → List (List ℕ)
 comma_parts inside = slice_split (λ b. b == 44) inside
 
--- the same, where there may be none
+-- the same, if there may be none
 abbrev pub call_words : List ℕ → List (List ℕ)
 call_words [] = []
 call_words (b ∷ bs) = comma_parts (b ∷ bs)
@@ -91,7 +91,7 @@ abbrev pub vector_value : List (List ℕ) → Option CommandWord
 vector_value [] = None
 vector_value (kind ∷ values) = with_both (kind_of kind) (each_of arg_of values) (λ k vs. command.MakeVec k vs)
 
--- where one word is needed at least, the empty word that stands between `(` and `)` is no argument
+-- if one word is needed at least, the empty word that stands between `(` and `)` is not an argument
 abbrev pub command_form : CommandKind → List ℕ → Bool
 command_form kind.Split inside = list_all is_arg (comma_parts inside)
 command_form kind.Merge inside = list_all is_arg (comma_parts inside)

@@ -41,7 +41,7 @@ abbrev pub of_kind : Option (List ℕ × List ℕ) → Option (InputKind × List
 of_kind None = None
 of_kind (Some p) = option_map (λ k. (k, p.1)) (input_kind p.0)
 
--- the kind of an input word, and what stands behind the `:`
+-- the kind of an input word, and what stands after the `:`
 unfoldable pub input_parts : List ℕ → Option (InputKind × List ℕ)
 input_parts word = of_kind (cut_at 58 word)
 

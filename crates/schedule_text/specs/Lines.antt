@@ -25,7 +25,7 @@ abbrev pub or_bad_number : {A : Type 0} → Option A → Result A Cause
 or_bad_number None = Err cause.BadNumber
 or_bad_number (Some a) = Ok a
 
--- where the form is there, its value
+-- if the form is there, its value
 abbrev pub if_form : {A : Type 0} → Bool → Option A → Result A Cause
 if_form true value = or_bad_number value
 if_form false value = Err cause.BadForm
@@ -77,12 +77,12 @@ writers_line (limit ∷ []) =
     if_form (is_digits limit) (option_map (λ n. statement.Setup (setup.Writers n)) (number_in 1 65535 limit))
 writers_line words = Err cause.BadForm
 
--- the words behind the inputs
+-- the words after the inputs
 unfoldable pub after_inputs : List (List ℕ) → List (List ℕ)
 after_inputs [] = []
 after_inputs (word ∷ words) = if is_input word then after_inputs words else word ∷ words
 
--- the inputs in front
+-- the inputs at the start
 unfoldable pub front_inputs : List (List ℕ) → Option (List InputWord)
 front_inputs [] = Some []
 front_inputs (word ∷ words) =

@@ -61,7 +61,7 @@ pub(crate) fn is_digits(word: &[u8]) -> bool
     }
 }
 
-/// The value of `value` with one more digit behind it.
+/// The value of `value` with one more digit after it.
 fn push_digit(value: u64, digit: u8) -> Option<u64>
     requires { 48 ≤ digit }
     ensures { SomeIff result (value * 10 + (digit - 48) < 2 ^ 64) (value * 10 + (digit - 48)) }
@@ -69,7 +69,7 @@ fn push_digit(value: u64, digit: u8) -> Option<u64>
     value.checked_mul(10)?.checked_add(u64::from(digit - b'0'))
 }
 
-/// The value of decimal digits, where it has at most 64 bits.
+/// The value of decimal digits, if it has at most 64 bits.
 #[tactic(auto, using(crate::proofs::Values::value_from_grows), unfolding(crate::specs::Bytes::value_from))]
 fn value_of(digits: &[u8]) -> Option<u64>
     requires { IsTrue (list_all is_digit digits.now) }
@@ -94,7 +94,7 @@ fn has_leading_zero(word: &[u8]) -> bool
     matches!(word, [b'0', _, ..])
 }
 
-/// The number that the word spells: digits without a leading zero, of at most 64 bits.
+/// The number that the word denotes: digits without a leading zero, of at most 64 bits.
 #[tactic(auto, unfolding(crate::specs::Bytes::number_of, crate::specs::Bytes::is_digits))]
 pub(crate) fn number_of(word: &[u8]) -> Option<u64>
     ensures { result ≡ number_of word.now }
@@ -105,7 +105,7 @@ pub(crate) fn number_of(word: &[u8]) -> Option<u64>
     value_of(word)
 }
 
-/// The number that the word spells in decimal digits with no zero in front, where it is in the range. Takes no memory.
+/// The number that the word denotes in decimal digits with no leading zero, if it is in the range. Takes no memory.
 #[tactic(auto, unfolding(crate::specs::Bytes::number_in))]
 pub fn number_in(low: u64, high: u64, word: &[u8]) -> Option<u64>
     ensures value { result ≡ number_in low high word.now }

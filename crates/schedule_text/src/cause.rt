@@ -1,4 +1,4 @@
-//! Why a line, or a whole text, is no part of a schedule.
+//! Why a line, or a whole text, is not a part of a schedule.
 
 use wire_bcs::OutOfMemory;
 
@@ -9,7 +9,7 @@ pub enum Cause {
     TooLarge,
     /// 2: no line begins with `member` and a space.
     NoMembers,
-    /// 3: a byte that is no space and not printable.
+    /// 3: a byte that is not a space and not printable.
     BadByte,
     /// 4: none of the forms, numbers taken as any digits.
     BadForm,

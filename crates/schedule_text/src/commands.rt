@@ -193,7 +193,7 @@ fn args_of(alloc: Global, mut left: Option<&[u8]>) -> Result<Option<Seq<ArgWord>
     Ok(Some(args))
 }
 
-/// What is to be cut at commas, where it may be nothing.
+/// What is to be cut at commas, if it may be nothing.
 fn call_words(inside: &[u8]) -> Option<&[u8]>
     ensures { parts_left 44 result ≡ call_words inside.now }
 {

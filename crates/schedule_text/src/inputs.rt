@@ -81,7 +81,7 @@ fn input_kind(letter: &[u8]) -> Option<InputKind>
     }
 }
 
-/// The kind of an input word, and what stands behind the `:`.
+/// The kind of an input word, and what stands after the `:`.
 #[tactic(auto, unfolding(crate::specs::Inputs::input_parts))]
 fn input_parts(word: &[u8]) -> Option<(InputKind, &[u8])>
     ensures { option_map (λ p. (p.0, p.1.now)) result ≡ input_parts word.now }

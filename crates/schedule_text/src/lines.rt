@@ -149,7 +149,7 @@ fn writers_line(words: &[&[u8]]) -> Result<Statement, LineFault>
     Ok(Statement::Setup(Setup::Writers(limit as u32)))
 }
 
-/// The words behind the inputs.
+/// The words after the inputs.
 #[tactic(auto, unfolding(crate::specs::Lines::after_inputs))]
 fn after_inputs<'a, 'b>(words: &'b [&'a [u8]]) -> &'b [&'a [u8]]
     ensures { map (λ w. w.now) result.now ≡ after_inputs (map (λ w. w.now) words.now) }
@@ -164,7 +164,7 @@ fn after_inputs<'a, 'b>(words: &'b [&'a [u8]]) -> &'b [&'a [u8]]
     rest
 }
 
-/// The inputs in front.
+/// The inputs at the start.
 #[tactic(auto, using(crate::proofs::Each::each_more, crate::proofs::Each::after_none), unfolding(crate::specs::Lines::front_inputs))]
 fn front_inputs(alloc: Global, words: &[&[u8]]) -> Result<Option<Seq<InputWord>>, OutOfMemory>
     ensures { IfOk result (λ r. r ≡ front_inputs (map (λ w. w.now) words.now)) }

@@ -129,7 +129,7 @@ fn read_lines(alloc: Global, text: &[u8]) -> Result<Schedule, ScheduleRefusal>
 }
 
 /// The schedule that the bytes are. `Refused` names the first bad line, counted from 1, and the
-/// least cause that applies to it, or line 0 where the text is too long (1) or has no member (2).
+/// least cause that applies to it, or line 0 if the text is too long (1) or has no member (2).
 #[tactic(auto, unfolding(crate::specs::Schedule::schedule_of))]
 pub fn read_schedule(alloc: Global, bytes: &[u8]) -> Result<Schedule, ScheduleRefusal>
     ensures ok { IfOk result (λ s. schedule_of bytes.now ≡ Ok s) }

@@ -20,7 +20,7 @@ const MOST_MEMBERS: u64 = 64;
 /// The transactions of a schedule, at most.
 const MOST_TRANSACTIONS: usize = 65_535;
 
-/// The schedule so far. The other fields say the same of it, each in a form that answers fast.
+/// The schedule so far. The other fields say the same about it, each in a form that answers fast.
 #[derive(Drop)]
 pub(crate) struct Reading {
     pub(crate) schedule: Schedule,
@@ -306,7 +306,7 @@ impl Reading {
         }
     }
 
-    /// Puts a set-up line at the end, where nothing is wrong with it.
+    /// Puts a set-up line at the end, if nothing is wrong with it.
     pub(crate) fn add_setup(&mut self, alloc: Global, setup: Setup) -> Result<(), LineFault>
         requires { Agrees self.old }
         ensures reads { ReadsInto result self.new.schedule (add_setup self.old.schedule setup) }
@@ -321,7 +321,7 @@ impl Reading {
         Ok(())
     }
 
-    /// Puts an event at the end, where nothing is wrong with it.
+    /// Puts an event at the end, if nothing is wrong with it.
     pub(crate) fn add_event(&mut self, alloc: Global, event: Event) -> Result<(), LineFault>
         requires { Agrees self.old }
         ensures reads { ReadsInto result self.new.schedule (add_event self.old.schedule event) }

@@ -1,7 +1,7 @@
 //! The words for objects and references: `NAME` or `T.N`, `OBJ@V` and `OBJ@V!`.
 //!
 //! In this module and the next ones `is_..` says whether a word has the form, numbers taken as
-//! any digits, and `.._of` gives its value, or `None` where a number is bad.
+//! any digits, and `.._of` gives its value, or `None` if a number is bad.
 
 ghost use Rattle.std.specs.Prelude.{◌≡◌, IfOk};
 ghost use Rattle.schedule_text.specs.Refs.{is_object, object_of, is_ref, ref_of, is_shared};

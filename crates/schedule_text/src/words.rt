@@ -47,7 +47,7 @@ pub enum Event {
     Tx {
         name: Seq<u8>,
         sender: Seq<u8>,
-        /// A `?` behind the sender: the sender's seal is spoiled.
+        /// A `?` after the sender: the sender's seal is spoiled.
         spoiled: bool,
         epoch: u64,
         gas: RefWord,
@@ -144,7 +144,7 @@ pub enum ObjWord {
 pub struct RefWord {
     pub object: ObjWord,
     pub version: u64,
-    /// A `!` behind the version: the digest is spoiled.
+    /// A `!` after the version: the digest is spoiled.
     pub spoiled: bool,
 }
 
@@ -197,7 +197,7 @@ pub enum ArgWord {
     Nested(u16, u16),
 }
 
-/// Why bytes are no schedule, or were not read.
+/// Why bytes are not a schedule, or were not read.
 #[derive(Clone, Copy, Debug, PartialEq, Eq)]
 pub enum ScheduleRefusal {
     /// The first bad line, counted from 1, or line 0 for the whole text; and the cause, 1 to 13.

@@ -103,7 +103,7 @@ module _ (opening : List Object) where
   abbrev IsWroteIn : List Step → Object → Type 0
   IsWroteIn before p = (y : Step) × Has before y × Has (gave y).objects p
 
-  -- a version of the id that is there behind these steps
+  -- a version of the id that is there after these steps
   abbrev IsThere : List Step → ObjectId → Object → Type 0
   IsThere before id p = (p.id ≡ id) × (Has opening p ⊎ IsWroteIn before p)
 
@@ -116,7 +116,7 @@ module _ (opening : List Object) where
     highest : (p : Object) → IsThere before id p → IsUpTo o p
     kept : IsDeletedIn before id → ⊥
 
-  -- what a map has under an id is the greatest version; where it has nothing, it was deleted or never there
+  -- what a map has under an id is the greatest version; if it has nothing, it was deleted or never there
   abbrev Fact : List Step → ObjectId → Option Object → Type 0
   Fact before id None = IsDeletedIn before id ⊎ ((p : Object) → IsThere before id p → ⊥)
   Fact before id (Some o) = IsTop before id o

@@ -1,4 +1,4 @@
--- What the objects of a map weigh together, behind a list of transactions.
+-- What the objects of a map weigh together, after a list of transactions.
 use Rattle.std.proofs.Common.{refl, ap, sym, subst, ◌∙◌}
 use Rattle.std.specs.Prelude.{◌≡◌, ◌+◌, ℕ, Bool, true, false, cond, ◌&&◌, T, List, [], ◌∷◌, ◌++◌, map, fold, Some, None, not}
 use Rattle.std.specs.List.{list_any}
@@ -123,7 +123,7 @@ module _ (f : Content → ℕ) where
       go Equal h rest = let none = ap (option_weight f) (none-below k e.0 es (below-tied k e.0 h) below) in omega (arith, rest, none)
       go Greater h rest = omega (arith, rest)
 
-  -- ---- the same of a map
+  -- ---- likewise for a map
 
   abbrev pub map_weight : Objects → ℕ
   map_weight m = objects_weight f (values m)

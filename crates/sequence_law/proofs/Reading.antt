@@ -57,7 +57,7 @@ has-id (i ∷ ids) id (inr h) = go (id_eq id i) (has-id ids id h)
     go true e = refl
     go false e = e
 
--- an id is not among these, where none of them is it
+-- an id is not among these, if none of them is it
 pub no-id : (ids : List ObjectId) (id : ObjectId) → ((i : ObjectId) → Has ids i → i ≡ id → ⊥) → has_id ids id ≡ false
 no-id [] id none = refl
 no-id (i ∷ ids) id none = go (id_eq id i) refl (no-id ids id (λ j h e. none j (inr h) e))
@@ -203,7 +203,7 @@ has-mapped-id (p ∷ os) o (inr h) = inr (has-mapped-id os o h)
 pub object-given : (y : Step) (o : Object) → Has (gave y).objects o → Has (given_ids y) o.id
 object-given y o h = has_left (map id_of (gave y).objects) (gave y).effects.deleted o.id (has-mapped-id (gave y).objects o h)
 
--- an object that stands, and that a later step reads, still stands behind this one
+-- an object that stands, and that a later step reads, still stands after this one
 still-stands : (m : Objects) (y x : Step) (i : Input) (o : Object) → Reads m y → fits y.tx y.inputs ≡ true → fits_input x.tx i o ≡ true → Has (objects_of x.tx) i → NoSharedKey y x → AloneOf i y → (Makes y o.id → ⊥) → get m o.id ≡ Some o → get (map_after m (gave y)) o.id ≡ Some o
 still-stands m y x i o reads fit fitting needs keys alone fresh stands = stays-after m (gave y) o.id (no-id (given_ids y) o.id (λ id h e. apart (subst (IsTouched y) e (given-touched y id h)))) ∙ stands
   where
@@ -220,7 +220,7 @@ still-stands m y x i o reads fit fitting needs keys alone fresh stands = stays-a
 -- ---- a list of steps
 
 module _ (opening : List Object) where
-  -- the map behind these steps
+  -- the map after these steps
   abbrev pub after_steps : List Step → Objects
   after_steps before = fold (λ (m : Objects) (y : Step). map_after m (gave y)) (map_of opening) before
 
@@ -251,7 +251,7 @@ module _ (opening : List Object) where
   alone-rest (inputs.Immutable r) y back alone = tt
   alone-rest (inputs.Shared id initial mutable) y back alone = alone.1
 
-  -- what stands in front of some steps stands behind them
+  -- what stands before some steps stands after them
   stays : (x : Step) (i : Input) (o : Object) → fits_input x.tx i o ≡ true → Has (objects_of x.tx) i → (front back : List Step) → Along (IsOrderly opening) front back → Along Finds front back → ((y : Step) → Has back y → NoSharedKey y x) → IsLeftAlone i back → IsKnown opening front o.id
       → get (after_steps front) o.id ≡ Some o → get (after_steps (front ++ back)) o.id ≡ Some o
   stays x i o fitting needs front [] orderly finds keys alone known stands = subst (λ (ys : List Step). get (after_steps ys) o.id ≡ Some o) (sym (append-nil front)) stands
@@ -261,7 +261,7 @@ module _ (opening : List Object) where
       (subst (λ (m : Objects). get m o.id ≡ Some o) (sym (after-push (map_of opening) front y))
       (still-stands (after_steps front) y x i o finds.0 orderly.0.fit fitting needs (keys y (inl refl)) (alone-first i y back alone) (λ makes. orderly.0.fresh o.id makes known) stands)))
 
-  -- the ids that a step wrote or deleted are known behind it
+  -- the ids that a step wrote or deleted are known after it
   abbrev pub WroteKnown : List Step → Step → Type 0
   WroteKnown before y = (id : ObjectId) → Has (given_ids y) id → IsKnown opening (before ++ y ∷ []) id
 

@@ -1,4 +1,4 @@
--- What an execution writes stands in the map behind it, and what it does not touch stays there.
+-- What an execution writes stands in the map after it, and what it does not touch stays there.
 use Rattle.std.proofs.Common.{inl, inr, refl, ap, subst, sym, ◌∙◌}
 use Rattle.std.specs.Prelude.{◌≡◌, Bool, true, false, cond, ◌||◌, List, [], ◌∷◌, ◌++◌, map, fold, Some, None}
 use Rattle.std.specs.FinMap.{get, empty, get-empty, get-insert, get-remove}

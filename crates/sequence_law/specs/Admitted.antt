@@ -16,8 +16,8 @@ is_origin_in before (Some tx) = is_admitted before tx
 abbrev pub held_again : Admitted → Held
 held_again a = record { digest = a.digest; cert = a.cert }
 
--- behind these, an admitted transaction is new, its origins are among them, and its versions are those that
--- admission assigns behind them
+-- after these, an admitted transaction is new, its origins are among them, and its versions are those that
+-- admission assigns after them
 pub record IsInOrder (opening : List Object) (before : List Admitted) (a : Admitted) : Type 0 where
   pub new : is_admitted before a.digest ≡ false
   pub origins : list_all (is_origin_in before) a.cert.origins ≡ true

@@ -46,14 +46,14 @@ MoneyMovesInSequence =
     held_in (fold_all m txs).map currency + gas_of currency (fold_all m txs).effects + supplied_in m currency
     ≡ held_in m currency + supplied_in (fold_all m txs).map currency
 
--- where a currency other than that of gas is as much as its caps say, it still is
+-- if a currency other than that of gas is as much as its caps say, it still is
 abbrev pub BackedCurrenciesStayBacked : Type 0
 BackedCurrenciesStayBacked =
     (m : Objects) (txs : List Transaction) → Follow (opened_with m) txs → (currency : ℕ) → currency ≢ 0 →
     held_in m currency ≡ supplied_in m currency →
     held_in (fold_all m txs).map currency ≡ supplied_in (fold_all m txs).map currency
 
--- where the currency of gas has no cap, all that goes of it is gas
+-- if the currency of gas has no cap, all that goes of it is gas
 abbrev pub OnlyGasGoes : Type 0
 OnlyGasGoes =
     (m : Objects) (txs : List Transaction) → Follow (opened_with m) txs →

@@ -75,7 +75,7 @@ pub record IsWritten (before : List Step) (i : Input) (o : Object) : Type 0 wher
 abbrev pub IsSource : List Object → List Step → Input → Object → Type 0
 IsSource opening before i o = IsOpened opening before i o ⊎ IsWritten before i o
 
--- A step behind these: its objects fit it and come from somewhere, no earlier step consumes a version that it
+-- A step after these: its objects fit it and come from somewhere, no earlier step consumes a version that it
 -- consumes, and the ids that it draws are new, and are apart from each other and from those that it names.
 pub record IsOrderly (opening : List Object) (before : List Step) (x : Step) : Type 0 where
   pub fit : fits x.tx x.inputs ≡ true
@@ -91,7 +91,7 @@ AreOrderly opening steps = Along (IsOrderly opening) [] steps
 abbrev pub AreApart : List Object → Type 0
 AreApart objects = repeats id_eq (map id_of objects) ≡ false
 
--- one thread behind these transactions reads this step's objects
+-- one thread after these transactions reads this step's objects
 abbrev pub ReadsSame : List Object → List Step → Step → Type 0
 ReadsSame opening before x = read_by (fold_all (map_of opening) (map tx_of before)).map x.tx ≡ Some x.inputs
 

@@ -1,8 +1,8 @@
-//! What a member admits, in every sequence: distinct transactions, each behind its origins; and that nothing is
-//! deferred where there is no limit of writers.
+//! What a member admits, in every sequence: distinct transactions, each after its origins; and that nothing is
+//! deferred if there is no limit of writers.
 ghost use Rattle.sequence_law.specs.Admitted.{AdmittedInOrder, NothingDeferred};
 
-/// The admitted transactions are distinct, and each stands behind its origins.
+/// The admitted transactions are distinct, and each stands after its origins.
 pub fn admitted_in_order()
     ensures { AdmittedInOrder }
 {}

@@ -14,7 +14,7 @@ use Rattle.steal_board.specs.Views.{mark}
 use Rattle.steal_board.specs.Rule.{owing, Stands, Agrees}
 use Rattle.steal_board.proofs.Counts.{owing_few, count_few, owing_edge, owing_paid, owing_other}
 
--- how often x stands in the list of y alone
+-- how often x stands in the list of y only
 abbrev one : ℕ → ℕ → ℕ
 one y x = times x (y ∷ [])
 
@@ -205,7 +205,7 @@ module _ {T : Type 0} (p : Paper T) (ws : List ℕ) (hs : List (Maybe.Option (Op
       same_owed : (t : ℕ) → target p.edges e ≢ t → owing P' p.edges t ≡ owing P p.edges t
       same_owed t ne = owing_other P P' p.edges e t (λ q. ne (sym q)) (λ x nx. let g = grown x in let o = one_else e x (λ q. nx (sym q)) in omega (arith, g, o))
 
-      -- the word was 1 exactly where nothing is owed any more
+      -- the word was 1 exactly if nothing is owed any more
       more_here : (b : Bool) → eqb (get_or ws (target p.edges e) 0) 1 ≡ b → R' (target p.edges e) ≡ R (target p.edges e) + cond b 1 0
       more_here b q = let m = told_more (target p.edges e) in let o = one_here (target p.edges e) (target p.edges e) refl in
           subst (λ c. R' (target p.edges e) ≡ R (target p.edges e) + cond c 1 0) q (subst (λ k. R' (target p.edges e) ≡ R (target p.edges e) + cond (eqb (get_or ws (target p.edges e) 0) 1) k 0) o m)

@@ -47,7 +47,7 @@ module _ {X : Type 0} where
       let r = total_le f g xs (λ i u at'. le (suc i) u at') in omega (arith, r)
   total_gap f g (x ∷ xs) (suc i) v at le = let h = le 0 x refl in let r = total_gap f g xs i v at (λ j u at'. le (suc j) u at') in omega (arith, h, r)
 
-  -- where f is no more than g, g is 1 in all, and one item has g and no f, then none has f
+  -- if f is no more than g, g is 1 in all, and one item has g and no f, then none has f
   pub total_below : (f g : X → ℕ) (l : List X) (i : ℕ) (v : X) → get_elem? l i ≡ some v → ((j : ℕ) (u : X) → get_elem? l j ≡ some u → f u ≤ g u) → total g l ≤ 1 → 0 < g v → f v ≡ 0 → total f l ≡ 0
   total_below f g l i v at le once has none = let h = total_gap f g l i v at le in omega (arith, h)
 
@@ -55,7 +55,7 @@ module _ {X : Type 0} where
   total_none s g [] z idle = refl
   total_none s g (x ∷ xs) z idle = let h = idle 0 x refl (omega arith) in let r = total_none s g xs (omega arith) (λ j u at. idle (suc j) u at) in omega (arith, h, r)
 
-  -- where one item has all of s, and without s there is no g, it has all of g
+  -- if one item has all of s, and without s there is no g, it has all of g
   pub total_alone : (s g : X → ℕ) (l : List X) (i : ℕ) (v : X) → get_elem? l i ≡ some v → total s l ≡ s v → ((j : ℕ) (u : X) → get_elem? l j ≡ some u → s u ≡ 0 → g u ≡ 0) → total g l ≡ g v
   total_alone s g [] i v at all idle = absurd (some-ne-none v (sym at))
   total_alone s g (x ∷ xs) zero v at all idle =

@@ -32,7 +32,7 @@ take_found l i x at = subst (λ n. take n l ≡ take i l ++ x ∷ []) (sym next)
     go (y ∷ ys) zero at = ap (λ z. z ∷ []) (some-injective y x at)
     go (y ∷ ys) (suc i) at = ap (λ m. y ∷ m) (go ys i at)
 
--- what is said of the last words, where the first of them are answered
+-- what is said of the last words, if the first of them are answered
 pub closing : {T E : Type 0} (p : Paper T) (r : Result (List ℕ) E) (ws : List ℕ) (xs : List (Option T)) (n i : ℕ) (v : View T) → IfOk r (λ words. words ≡ take n ws) → n ≡ p.tasks → v.share ≡ whole → Final (Seen (Held p) i v) ws xs
     → IfOk r (λ words. (t : ℕ) → t < p.tasks → (0 < times t v.mine → get_or words t 0 ≡ mark) × (get_or words t 0 ≡ mark → 0 < times t v.mine) × (times t v.mine ≡ 0 → get_or words t 0 ≡ owing (λ e. times e v.paid) p.edges t))
 closing p r ws xs n i v ok tasks all last = IfOk-weaker r (λ words. words ≡ take n ws) _ (λ words is t lt.

@@ -1,4 +1,4 @@
--- Each step keeps the board rule, and tells its caller what it is to tell.
+-- Each step keeps the board rule, and reports to its caller what it must.
 use Rattle.std.proofs.Common.{◌≡◌, ◌≢◌, ℕ, zero, suc, ◌+◌, ◌-◌, ◌%◌, ◌^◌, ◌<◌, ◌≤◌, Bool, true, false, cond, eqb, List, [], ◌∷◌, ◌++◌, map, drop, length, set, get_or, replicate, Option, Some, None, sym, refl, ap, ◌∙◌, subst, ⊎_elim, eq-eqb, ne_eqb, length-set, arith}
 use mathlib.Core.Logic.{dite}
 use mathlib.Core.Option.{some, none, some-injective, some-ne-none}
@@ -250,7 +250,7 @@ module _ {T : Type 0} where
   Paid s i v out slots e x k = (w : View T) × (a : Act (Option T)) × Valid s.homes ((e, x) ∷ out) a × Held v.paper (stepped s (target v.paper.edges e) k i ((e, x) ∷ out) w a)
       × Pays e (step slots (target v.paper.edges e) 1 0 none) (v, (e, x) ∷ out) (get_or s.words (target v.paper.edges e) 0) (w, carried_after ((e, x) ∷ out) a)
 
-  -- the view after a payment, where b says whether the target's word was 1
+  -- the view after a payment, if b says whether the target's word was 1
   abbrev pay_view : View T → ℕ → Bool → View T
   pay_view v e b = record v { turn = drop 1 v.turn; paid = v.paid ++ e ∷ []; ready = cond b (v.ready ++ target v.paper.edges e ∷ []) v.ready }
 
@@ -316,7 +316,7 @@ module _ {T : Type 0} where
             (fresh_sum (λ y. y.taken) s.views i v w u at refl refl) (fresh_sum (λ y. y.ready) s.views i v w u at refl refl) (fresh_sum (λ y. y.gone) s.views i v w u at refl refl) h.agrees;
       }
 
-  -- a sum over all views, where one takes in another
+  -- a sum over all views, if one takes in another
   joined_total : (f : View T → ℕ) (l : List (View T)) (i : ℕ) (v : View T) (j : ℕ) (w both gone_view : View T) → get_elem? l i ≡ some v → get_elem? (set l i both) j ≡ some w → f both ≡ f v + f w → f gone_view ≡ 0
       → total f (set (set l i both) j gone_view) ≡ total f l
   joined_total f l i v j w both gone_view at at' sum nought =

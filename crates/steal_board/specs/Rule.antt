@@ -20,7 +20,7 @@ total f (x ∷ xs) = f x + total f xs
 abbrev pub sums : {T : Type 0} → (View T → List ℕ) → List (View T) → ℕ → ℕ
 sums part views x = total (λ v. times x (part v)) views
 
--- how many of a task's incoming edges are not paid, where `paid` says how often an edge was paid
+-- how many of a task's incoming edges are not paid, if `paid` says how often an edge was paid
 abbrev pub owing : (ℕ → ℕ) → List Edge → ℕ → ℕ
 owing paid edges task = total (λ edge. 1 - paid edge) (places_to edges task)
 
@@ -32,7 +32,7 @@ pub record IsFit {T : Type 0} (paper : Paper T) (v : View T) : Type 0 where
   pub got : (edge : ℕ) → times edge v.taken ≤ times (target paper.edges edge) v.mine
   pub bound : (edge : ℕ) → length paper.edges ≤ edge → times edge v.turn + times edge v.paid + times edge v.taken ≡ 0
 
--- an edge and its slot, where all views together have it so often about to be paid, paid and taken: it is in at most one `turn` or `paid`, and is taken once, after it was paid.
+-- an edge and its slot, if all views together have it so often about to be paid, paid and taken: it is in at most one `turn` or `paid`, and is taken once, after it was paid.
 -- The slot is home and empty before, out with the seat that is about to pay, and then home with the plan's value until it is taken
 pub record Stands {T : Type 0} (paper : Paper T) (homes : List (Maybe.Option (Option T))) (edge turn paid taken : ℕ) : Type 0 where
   pub alone : turn + paid ≤ 1
@@ -41,7 +41,7 @@ pub record Stands {T : Type 0} (paper : Paper T) (homes : List (Maybe.Option (Op
   pub out : 0 < turn → get_elem? homes edge ≡ some none
   pub full : 0 < paid → taken ≡ 0 → (value : T) × (value_of paper.values edge ≡ Some value) × (get_elem? homes edge ≡ some (some (Some value)))
 
--- words and slots, where all views together have each task so often in `mine`, `ready` and `gone`, and each edge so often in `turn`, `paid` and `taken`
+-- words and slots, if all views together have each task so often in `mine`, `ready` and `gone`, and each edge so often in `turn`, `paid` and `taken`
 pub record Agrees {T : Type 0} (paper : Paper T) (words : List ℕ) (homes : List (Maybe.Option (Option T))) (mine turn paid taken ready gone : ℕ → ℕ) : Type 0 where
   -- the word of an unclaimed task is the number of its unpaid incoming edges
   pub free : (task : ℕ) → task < paper.tasks → mine task ≡ 0 → slice_index words task ≡ owing paid paper.edges task
@@ -54,7 +54,7 @@ pub record Agrees {T : Type 0} (paper : Paper T) (words : List ℕ) (homes : Lis
   pub spare : (task : ℕ) → paper.tasks ≤ task → task < length words → slice_index words task ≡ mark
   -- all incoming edges of a ready task are paid
   pub ready_paid : (task : ℕ) → 0 < ready task → owing paid paper.edges task ≡ 0
-  -- a task that has incoming edges, all of them paid, was told to be ready
+  -- a task that has incoming edges, all of them paid, was reported ready
   pub told : (task : ℕ) → 0 < count_in paper.edges task → owing paid paper.edges task ≡ 0 → 0 < ready task
   -- a task that was found claimed is claimed
   pub gone_claimed : (task : ℕ) → 0 < gone task → mine task ≡ 1

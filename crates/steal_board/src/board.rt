@@ -97,8 +97,8 @@ impl<J: Job> Board<J> {
         BoardSeat { seat }
     }
 
-    /// Claims a task, by one compare-exchange. `Mine` where its word was 0, which is then the mark; `Taken` exactly where
-    /// the word was the mark; `Waiting(left)` exactly where it was `left` above 0.
+    /// Claims a task, by one compare-exchange. `Mine` if its word was 0, which is then the mark; `Taken` exactly if
+    /// the word was the mark; `Waiting(left)` exactly if it was `left` above 0.
     pub fn claim(&self, seat: &mut BoardSeat<J>, task: u32) -> Claim
         requires of { IsOf self.now seat.old }
         requires task { task < length (over self.now).jobs }
@@ -162,7 +162,7 @@ impl<J: Job> Board<J> {
         }
     }
 
-    /// Pays the plan's value of an edge whose source this seat claimed. True exactly where the target's word came to 0.
+    /// Pays the plan's value of an edge whose source this seat claimed. True exactly if the target's word came to 0.
     pub fn pay(&self, seat: &mut BoardSeat<J>, edge: u32, value: J::Value) -> bool
         requires of { IsOf self.now seat.old }
         requires edge { edge < length (over self.now).edges }
@@ -193,7 +193,7 @@ impl<J: Job> Board<J> {
         shared.fetch_sub::<Paying<E>>(&mut seat.seat, to as usize, 1) == 1
     }
 
-    /// The last words, of the seat with the whole share: a task's word is the mark exactly where the task stands in the
+    /// The last words, of the seat with the whole share: a task's word is the mark exactly if the task stands in the
     /// seat's `mine`, and else the number of its incoming edges that do not stand in its `paid`. Each task stands there
     /// once at most, and so does each edge in `paid` and in `taken`. After a refusal the board and the seat are gone.
     pub fn close(self, alloc: Global, seat: BoardSeat<J>) -> Result<Seq<u64>, OutOfMemory>

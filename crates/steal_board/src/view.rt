@@ -1,4 +1,4 @@
-//! What a seat knows. It exists for contracts alone: no value of these types is made.
+//! What a seat knows. It exists only for contracts: no value of these types is made.
 
 use dag_core::Edge;
 use std::collections::LinkedList;
@@ -16,7 +16,7 @@ pub struct Paper<T> {
 pub struct View<T> {
     /// The plan, the same in all views.
     pub paper: Paper<T>,
-    /// The seat's share of the whole, and 0 where it was joined away.
+    /// The seat's share of the whole, and 0 if it was joined away.
     pub share: u64,
     /// The tasks that it claimed.
     pub mine: LinkedList<u32>,

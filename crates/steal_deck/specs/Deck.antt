@@ -48,7 +48,7 @@ pub record Takes (v : Track) (items : List ℕ) (w : Track) : Type 0 where
   pub pushed : v.owner ≡ true → StartsWith (before ++ items) v.pushed
   pub after : w ≡ record v { seen = before ++ items; taken = v.taken ++ place ∷ [] }
 
--- where the deck has no thief, its hand took each push once
+-- if the deck has no thief, its hand took each push once
 abbrev pub IsAllTaken : Track → Type 0
 IsAllTaken v = v.alone ≡ true → v.owner ≡ true → (p : ℕ) → p < length v.pushed → times p v.taken ≡ 1
 

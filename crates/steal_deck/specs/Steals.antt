@@ -1,4 +1,4 @@
--- What a steal tells its thief.
+-- What a steal reports to its thief.
 use Rattle.std.specs.Prelude.{◌≡◌, [], ◌∷◌}
 use Rattle.steal_deck.specs.Deck.{Takes}
 use Rattle.steal_deck.specs.declared.rule.Track.{Track}

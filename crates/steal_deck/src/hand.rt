@@ -51,7 +51,7 @@ impl Hand {
         Ok(Thief { stealer, pass })
     }
 
-    /// Puts an item at the back. The item comes back exactly where `capacity` pushes were made on this deck.
+    /// Puts an item at the back. The item comes back exactly if `capacity` pushes were made on this deck.
     pub fn push(&mut self, item: u64) -> Result<(), u64>
         ensures deck { SameDeck self.old self.new }
         ensures room { OnOk result (length (hand_track self.old).pushed < capacity_of self.old) }
@@ -70,8 +70,8 @@ impl Hand {
         }
     }
 
-    /// Takes the first item. `None` comes only where the deck was empty at a moment of this call: on a deck of which no
-    /// thief was made, exactly where every pushed item was popped.
+    /// Takes the first item. `None` comes only if the deck was empty at a moment of this call: on a deck of which no
+    /// thief was made, exactly if every pushed item was popped.
     pub fn pop(&mut self) -> Option<u64>
         ensures deck { SameDeck self.old self.new }
         ensures item { MatchOption result ((hand_track self.new ≡ hand_track self.old) × IsAllTaken (hand_track self.old)) (λ item. Takes (hand_track self.old) (item ∷ []) (hand_track self.new)) }

@@ -6,7 +6,7 @@ ghost use Rattle.steal_deck.specs.Deck.{InOrder, IsAllTaken, Takes, after_push, 
 use crossbeam_deque::protocol::{Join, Lesson, Outcome, Protocol, Split};
 use std::collections::LinkedList;
 
-/// What the hand of a deck, or a thief, knows of the deck. It exists in contracts alone: no value of it is made.
+/// What the hand of a deck, or a thief, knows of the deck. It exists only in contracts: no value of it is made.
 pub struct Track {
     /// Whether it is the hand.
     pub owner: bool,

@@ -24,7 +24,7 @@ first_adds lists new members bytes (Err fault.Failed) are some (inl adds) = inl 
 first_adds lists new members bytes (Err fault.Failed) are some (inr keeps) = inr (first_stays lists new keeps)
 first_adds lists new members bytes (Err fault.OutOfMemory) are some keeps = first_stays lists new keeps
 
--- ---- one member alone
+-- ---- one member only
 
 pub own_list : (member : ℕ) (records : Records) → journal_of (alone member records) member ≡ records
 own_list zero records = refl

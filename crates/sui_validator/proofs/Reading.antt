@@ -3,7 +3,7 @@ use Rattle.std.proofs.Common.{◌≡◌, ℕ, ◌+◌, ◌<◌, List, [], ◌∷
 use Rattle.std.proofs.lemmas.List.{take_more, take_all}
 use Rattle.sui_validator.specs.Journals.{AreAll, IsAt, IsCount, Records, Stays}
 
--- these are the first records, where they are told
+-- these are the first records, if they are observable
 abbrev pub AreFirst : Option Records → ℕ → List (List ℕ) → Type 0
 AreFirst None k kept = Unit {0}
 AreFirst (Some records) k kept = kept ≡ take k records

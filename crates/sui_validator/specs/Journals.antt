@@ -11,17 +11,17 @@ use Rattle.validator_core.specs.Seats.{Ended, answered, fell}
 abbrev pub Records : Type 0
 Records = List (List ℕ)
 
--- told records stay as they were
+-- observable records stay as they were
 abbrev pub Stays : Option Records → Option Records → Type 0
 Stays None new = ⊤
 Stays (Some records) new = new ≡ Some records
 
--- told records grow by this one
+-- observable records grow by this one
 abbrev pub Grows : Option Records → Option Records → List ℕ → Type 0
 Grows None new bytes = ⊤
 Grows (Some records) new bytes = new ≡ Some (records ++ bytes ∷ [])
 
--- what an append does: at Ok the record stands, after a fault it stands or does not, and where memory was refused
+-- what an append does: at Ok the record stands, after a fault it stands or does not, and if memory was refused
 -- the records are as they were
 abbrev pub Adds : Option Records → Option Records → List ℕ → Result (Unit {0}) OutFault → Type 0
 Adds old new bytes result = MatchResult result (λ _. Grows old new bytes) (after_fault old new bytes)
@@ -30,12 +30,12 @@ Adds old new bytes result = MatchResult result (λ _. Grows old new bytes) (afte
     after_fault old new bytes fault.Failed = Grows old new bytes ⊎ Stays old new
     after_fault old new bytes fault.OutOfMemory = Stays old new
 
--- what was read is the told record at this place
+-- what was read is the observable record at this place
 abbrev pub IsAt : Option Records → ℕ → List ℕ → Type 0
 IsAt None place bytes = ⊤
 IsAt (Some records) place bytes = bytes ≡ slice_index_or records place []
 
--- the count is the length of the told records
+-- the count is the length of the observable records
 abbrev pub IsCount : Option Records → ℕ → Type 0
 IsCount None count = ⊤
 IsCount (Some records) count = count ≡ length records
@@ -53,19 +53,19 @@ alone member records = replicate member [] ++ records ∷ []
 abbrev pub as_lists : ℕ → Option Records → Option Journals
 as_lists member records = option_map (alone member) records
 
--- these are the told records
+-- these are the observable records
 abbrev pub AreAll : Option Records → List (List ℕ) → Type 0
 AreAll None kept = ⊤
 AreAll (Some records) kept = kept ≡ records
 
 -- ---- what a call of a member keeps
 
--- the due record stands behind the others
+-- the due record stands after the others
 abbrev pub KeepsDue : Option Records → Option Records → Option Record → Type 0
 KeepsDue before now None = Stays before now
 KeepsDue before now (Some x) = Grows before now (journals.journal_record.spell x)
 
--- where a call answers, its due record stands; where the member fell, it stands or nothing does
+-- if a call answers, its due record stands; if the member fell, it stands or nothing does
 abbrev pub Kept : Option Records → Option Records → Option Record → Ended → Type 0
 Kept before now due answered = KeepsDue before now due
 Kept before now due fell = KeepsDue before now due ⊎ Stays before now

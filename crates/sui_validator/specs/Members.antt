@@ -31,12 +31,12 @@ ids_of objects = map (λ (o : Object). o.id) objects
 
 -- ---- how a member is opened
 
--- the state behind these records, where they are told
+-- the state after these records, if they are observable
 abbrev pub StartsFrom : Rules → List Object → Option Records → Result Member StartRefusal → Type 0
 StartsFrom rules opening None said = ⊤
 StartsFrom rules opening (Some records) said = started rules opening records ≡ said
 
--- the member of this number is up, in the state behind the records, which stay
+-- the member of this number is up, in the state after the records, which stay
 pub record IsOpened (terms : Terms) (accepts : Signer → List ℕ → Digest → Bool) (opening : List Object) (number : ℕ) (before now : Option Records) (seat : Seated) : Type 0 where
   pub state : StartsFrom (rules_for terms accepts) opening before (Ok seat.state)
   pub member : seat.member ≡ number

@@ -1,4 +1,4 @@
-//! A light client: what one who trusts the stakes of a committee alone finds out from bytes.
+//! A light client: what a client that trusts only the stakes of a committee finds out from bytes.
 //!
 //! Seals are judged by a [`Checker`]: [`AcceptedSeals`] is a set that the caller has verified, [`BySealer`] accepts what a
 //! sealer does.

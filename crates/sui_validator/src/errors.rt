@@ -1,19 +1,27 @@
-//! Why a call of a member did not do what was asked, in sentences.
+//! Why a call did not do what was asked, in sentences.
 
 ghost use Rattle.std.specs.Prelude.{◌≡◌};
 ghost use Rattle.sui_validator.specs.declared.errors.Error.TheVariants as errors;
 
 use crate::opening::OpenRefusal;
+use crate::sentences::{
+    say_ack, say_close, say_committee, say_disk, say_end, say_hold, say_memory, say_outside,
+    say_run, say_see, say_turn, say_unread, say_vote,
+};
 use answer_types::{
     AckRefusal, CloseRefusal, EndRefusal, HoldRefusal, RunRefusal, SeeRefusal, TurnRefusal,
     VoteRefusal,
 };
-use chain_types::{CertRefusal, ObjectKey};
-use digest_core::Digest;
+use disk_log::OpenRefusal as DiskRefusal;
+use light_client::Refusal;
+use outside::OutFault;
+use quorum_core::CommitteeRefusal;
 use std::{error, fmt};
-use wire_bcs::WireFault;
+use wallet_core::{EncodeRefusal, GatherRefusal};
+use wire_bcs::{OutOfMemory, Unread};
 
-/// Why a call did not do what was asked. Each of its causes has a sentence with the ids and numbers in it.
+/// Why a call did not do what was asked: the refusal of any call of this crate. Each of its causes has a sentence with the ids and
+/// numbers in it.
 #[derive(Clone, Copy, Debug, PartialEq, Eq)]
 pub enum Error {
     Open(OpenRefusal),
@@ -25,95 +33,21 @@ pub enum Error {
     End(EndRefusal),
     Turn(TurnRefusal),
     Ack(AckRefusal),
-}
-
-/// A digest in hexadecimal digits.
-#[derive(Clone, Copy)]
-struct Hex(Digest);
-
-impl fmt::Display for Hex {
-    fn fmt<W: fmt::Write>(&self, f: &mut fmt::Formatter<W>) -> fmt::Result {
-        for byte in self.0.0 {
-            write!(f, "{byte:02x}")?;
-        }
-        Ok(())
-    }
-}
-
-/// A version of an object.
-#[derive(Clone, Copy)]
-struct Version(ObjectKey);
-
-impl fmt::Display for Version {
-    fn fmt<W: fmt::Write>(&self, f: &mut fmt::Formatter<W>) -> fmt::Result {
-        write!(
-            f,
-            "version {} of object {}",
-            self.0.version,
-            Hex(self.0.id.0)
-        )
-    }
-}
-
-/// What the calls have in common.
-fn say_down<W: fmt::Write>(f: &mut fmt::Formatter<W>) -> fmt::Result {
-    f.write_str("the member is down, and has to be opened again from its journal")
-}
-
-fn say_halted<W: fmt::Write>(
-    f: &mut fmt::Formatter<W>,
-    first: Digest,
-    second: Digest,
-) -> fmt::Result {
-    write!(
-        f,
-        "the member is halted: the certificates of {} and {} consume one version",
-        Hex(first),
-        Hex(second)
-    )
-}
-
-fn say_full<W: fmt::Write>(f: &mut fmt::Formatter<W>) -> fmt::Result {
-    f.write_str("the member can keep no more records")
-}
-
-fn say_unkept<W: fmt::Write>(f: &mut fmt::Formatter<W>) -> fmt::Result {
-    f.write_str("the journal did not keep the record, and the member is down")
-}
-
-fn say_memory<W: fmt::Write>(f: &mut fmt::Formatter<W>) -> fmt::Result {
-    f.write_str("out of memory")
-}
-
-fn say_malformed<W: fmt::Write>(f: &mut fmt::Formatter<W>, fault: WireFault) -> fmt::Result {
-    write!(
-        f,
-        "the bytes are wrong at offset {} (kind {})",
-        fault.at, fault.why
-    )
-}
-
-fn say_epoch<W: fmt::Write>(f: &mut fmt::Formatter<W>, had: u64, want: u64) -> fmt::Result {
-    write!(f, "it is of epoch {had}, and the member is in epoch {want}")
-}
-
-fn say_closed<W: fmt::Write>(f: &mut fmt::Formatter<W>) -> fmt::Result {
-    f.write_str("the member has closed its epoch")
-}
-
-fn say_fork<W: fmt::Write>(
-    f: &mut fmt::Formatter<W>,
-    key: ObjectKey,
-    first: Digest,
-    second: Digest,
-) -> fmt::Result {
-    write!(
-        f,
-        "the certificates of {} and {} both consume {}",
-        Hex(first),
-        Hex(second),
-        Version(key)
-    )
+    /// Stakes are not a committee.
+    Committee(CommitteeRefusal),
+    /// A disk is not opened as a journal.
+    Disk(DiskRefusal),
+    /// Bytes are not a value.
+    Unread(Unread),
+    /// A value has no bytes.
+    Encode(EncodeRefusal),
+    /// Statements make no certificate, or nothing final.
+    Gather(GatherRefusal),
+    /// What a light client says.
+    Client(Refusal),
+    /// Bytes could not be read or written.
+    Outside(OutFault),
+    OutOfMemory,
 }
 
 impl fmt::Display for OpenRefusal {
@@ -138,166 +72,6 @@ impl fmt::Display for OpenRefusal {
     }
 }
 
-/// What the rule of votes says of a transaction's objects.
-fn say_object<W: fmt::Write>(f: &mut fmt::Formatter<W>, refusal: VoteRefusal) -> fmt::Result {
-    match refusal {
-        VoteRefusal::Absent(key) => write!(f, "the member does not hold {}", Version(key)),
-        VoteRefusal::Consumed { key, by } => {
-            write!(f, "transaction {} has consumed {}", Hex(by), Version(key))
-        }
-        VoteRefusal::WrongDigest(key) => write!(f, "{} has another digest", Version(key)),
-        VoteRefusal::WrongOwner(key) => write!(f, "{} is not the sender's", Version(key)),
-        VoteRefusal::WrongKind(key) => write!(f, "{} is of another kind", Version(key)),
-        VoteRefusal::PoorGas { had, want } => {
-            write!(f, "the gas coin holds {had}, and the budget is {want}")
-        }
-        VoteRefusal::Locked { key, by } => {
-            write!(
-                f,
-                "the member has voted for {}, which consumes {}",
-                Hex(by),
-                Version(key)
-            )
-        }
-        _ => Ok(()),
-    }
-}
-
-/// Why a member does not vote.
-fn say_vote<W: fmt::Write>(f: &mut fmt::Formatter<W>, refusal: VoteRefusal) -> fmt::Result {
-    match refusal {
-        VoteRefusal::Down => say_down(f),
-        VoteRefusal::Halted { first, second } => say_halted(f, first, second),
-        VoteRefusal::Full => say_full(f),
-        VoteRefusal::Malformed(fault) => say_malformed(f, fault),
-        VoteRefusal::WrongEpoch { had, want } => say_epoch(f, had, want),
-        VoteRefusal::Closed => say_closed(f),
-        VoteRefusal::Invalid(fault) => write!(f, "the transaction has fault {fault} of its shape"),
-        VoteRefusal::Unsealed => f.write_str(
-            "the seal of the transaction's sender is not accepted",
-        ),
-        VoteRefusal::KeepFault => say_unkept(f),
-        VoteRefusal::OutOfMemory => say_memory(f),
-        other => say_object(f, other),
-    }
-}
-
-/// Why a certificate is not valid.
-fn say_cert<W: fmt::Write>(f: &mut fmt::Formatter<W>, refusal: CertRefusal) -> fmt::Result {
-    match refusal {
-        CertRefusal::Shape(fault) => write!(f, "the transaction has fault {fault} of its shape"),
-        CertRefusal::Order => f.write_str("the members do not ascend, repeat, or are not known"),
-        CertRefusal::ShortStake { weight, total } => write!(
-            f,
-            "the members have {weight} of {total} of the stake, which is not more than two thirds"
-        ),
-        CertRefusal::BadSeal { member } => write!(f, "the seal of member {member} is not accepted"),
-        CertRefusal::OutOfMemory => say_memory(f),
-    }
-}
-
-/// Why a member does not hold a certificate.
-fn say_hold<W: fmt::Write>(f: &mut fmt::Formatter<W>, refusal: HoldRefusal) -> fmt::Result {
-    match refusal {
-        HoldRefusal::Down => say_down(f),
-        HoldRefusal::Halted { first, second } => say_halted(f, first, second),
-        HoldRefusal::Full => say_full(f),
-        HoldRefusal::Malformed(fault) => say_malformed(f, fault),
-        HoldRefusal::WrongEpoch { had, want } => say_epoch(f, had, want),
-        HoldRefusal::Closed => say_closed(f),
-        HoldRefusal::Cert(refusal) => say_cert(f, refusal),
-        HoldRefusal::KeepFault => say_unkept(f),
-        HoldRefusal::Fork { key, first, second } => say_fork(f, key, first, second),
-        HoldRefusal::OutOfMemory => say_memory(f),
-    }
-}
-
-/// Why a member does not take an entry of the sequence.
-fn say_see<W: fmt::Write>(f: &mut fmt::Formatter<W>, refusal: SeeRefusal) -> fmt::Result {
-    match refusal {
-        SeeRefusal::Down => say_down(f),
-        SeeRefusal::Halted { first, second } => say_halted(f, first, second),
-        SeeRefusal::Full => say_full(f),
-        SeeRefusal::Over => f.write_str("the member has seen the end of the epoch"),
-        SeeRefusal::Gap { had, want } => {
-            write!(f, "the entry has number {had}, and the next one is {want}")
-        }
-        SeeRefusal::KeepFault => say_unkept(f),
-        SeeRefusal::Fork { key, first, second } => say_fork(f, key, first, second),
-        SeeRefusal::OutOfMemory => say_memory(f),
-    }
-}
-
-/// Why a member does not run.
-fn say_run<W: fmt::Write>(f: &mut fmt::Formatter<W>, refusal: RunRefusal) -> fmt::Result {
-    match refusal {
-        RunRefusal::Down => say_down(f),
-        RunRefusal::Halted { first, second } => say_halted(f, first, second),
-        RunRefusal::Full => say_full(f),
-        RunRefusal::KeepFault => say_unkept(f),
-        RunRefusal::OutOfMemory => say_memory(f),
-    }
-}
-
-/// Why a member does not close.
-fn say_close<W: fmt::Write>(f: &mut fmt::Formatter<W>, refusal: CloseRefusal) -> fmt::Result {
-    match refusal {
-        CloseRefusal::Down => say_down(f),
-        CloseRefusal::Halted { first, second } => say_halted(f, first, second),
-        CloseRefusal::Full => say_full(f),
-        CloseRefusal::KeepFault => say_unkept(f),
-        CloseRefusal::OutOfMemory => say_memory(f),
-    }
-}
-
-/// Why a member does not say End.
-fn say_end<W: fmt::Write>(f: &mut fmt::Formatter<W>, refusal: EndRefusal) -> fmt::Result {
-    match refusal {
-        EndRefusal::Down => say_down(f),
-        EndRefusal::Halted { first, second } => say_halted(f, first, second),
-        EndRefusal::NotClosed => f.write_str("the member has not closed its epoch"),
-        EndRefusal::Waits { tx } => {
-            write!(
-                f,
-                "transaction {} is held, and not in the sequence seen",
-                Hex(tx)
-            )
-        }
-        EndRefusal::OutOfMemory => say_memory(f),
-    }
-}
-
-/// Why a member does not turn to the next epoch.
-fn say_turn<W: fmt::Write>(f: &mut fmt::Formatter<W>, refusal: TurnRefusal) -> fmt::Result {
-    match refusal {
-        TurnRefusal::Down => say_down(f),
-        TurnRefusal::Halted { first, second } => say_halted(f, first, second),
-        TurnRefusal::Full => say_full(f),
-        TurnRefusal::NotEnded => f.write_str("the member has not seen the end of the epoch"),
-        TurnRefusal::Waits { tx } => {
-            write!(
-                f,
-                "transaction {} is admitted, and not executed so",
-                Hex(tx)
-            )
-        }
-        TurnRefusal::KeepFault => say_unkept(f),
-        TurnRefusal::OutOfMemory => say_memory(f),
-    }
-}
-
-/// Why a member does not acknowledge.
-fn say_ack<W: fmt::Write>(f: &mut fmt::Formatter<W>, refusal: AckRefusal) -> fmt::Result {
-    match refusal {
-        AckRefusal::Down => say_down(f),
-        AckRefusal::Halted { first, second } => say_halted(f, first, second),
-        AckRefusal::NotExecuted => {
-            f.write_str("the member has not executed the transaction in its epoch")
-        }
-        AckRefusal::OutOfMemory => say_memory(f),
-    }
-}
-
 impl fmt::Display for Error {
     fn fmt<W: fmt::Write>(&self, f: &mut fmt::Formatter<W>) -> fmt::Result {
         match *self {
@@ -310,6 +84,14 @@ impl fmt::Display for Error {
             Error::End(refusal) => say_end(f, refusal),
             Error::Turn(refusal) => say_turn(f, refusal),
             Error::Ack(refusal) => say_ack(f, refusal),
+            Error::Committee(refusal) => say_committee(f, refusal),
+            Error::Disk(refusal) => say_disk(f, refusal),
+            Error::Unread(unread) => say_unread(f, unread),
+            Error::Encode(refusal) => write!(f, "{refusal}"),
+            Error::Gather(refusal) => write!(f, "{refusal}"),
+            Error::Client(refusal) => write!(f, "{refusal}"),
+            Error::Outside(fault) => say_outside(f, fault),
+            Error::OutOfMemory => say_memory(f),
         }
     }
 }
@@ -387,5 +169,69 @@ impl From<AckRefusal> for Error {
 
     fn from(refusal: AckRefusal) -> Self {
         Error::Ack(refusal)
+    }
+}
+
+impl From<CommitteeRefusal> for Error {
+    ghost from_gives = { λ refusal given. given ≡ errors.Committee refusal };
+
+    fn from(refusal: CommitteeRefusal) -> Self {
+        Error::Committee(refusal)
+    }
+}
+
+impl From<DiskRefusal> for Error {
+    ghost from_gives = { λ refusal given. given ≡ errors.Disk refusal };
+
+    fn from(refusal: DiskRefusal) -> Self {
+        Error::Disk(refusal)
+    }
+}
+
+impl From<Unread> for Error {
+    ghost from_gives = { λ unread given. given ≡ errors.Unread unread };
+
+    fn from(unread: Unread) -> Self {
+        Error::Unread(unread)
+    }
+}
+
+impl From<EncodeRefusal> for Error {
+    ghost from_gives = { λ refusal given. given ≡ errors.Encode refusal };
+
+    fn from(refusal: EncodeRefusal) -> Self {
+        Error::Encode(refusal)
+    }
+}
+
+impl From<GatherRefusal> for Error {
+    ghost from_gives = { λ refusal given. given ≡ errors.Gather refusal };
+
+    fn from(refusal: GatherRefusal) -> Self {
+        Error::Gather(refusal)
+    }
+}
+
+impl From<Refusal> for Error {
+    ghost from_gives = { λ refusal given. given ≡ errors.Client refusal };
+
+    fn from(refusal: Refusal) -> Self {
+        Error::Client(refusal)
+    }
+}
+
+impl From<OutFault> for Error {
+    ghost from_gives = { λ fault given. given ≡ errors.Outside fault };
+
+    fn from(fault: OutFault) -> Self {
+        Error::Outside(fault)
+    }
+}
+
+impl From<OutOfMemory> for Error {
+    ghost from_gives = { λ _ given. given ≡ errors.OutOfMemory };
+
+    fn from(_error: OutOfMemory) -> Self {
+        Error::OutOfMemory
     }
 }

@@ -11,7 +11,7 @@ use wire_bcs::Seq;
 
 /// A list of records, numbered from 0, to which records are added at the end.
 pub trait Journal {
-    /// The records, where they are told.
+    /// The records, if they are observable.
     ghost records: { Self → Option (List (List ℕ)) };
 
     /// How many records there are.
@@ -20,7 +20,7 @@ pub trait Journal {
     /// The count of faults.
     ghost failed: { Self → ℕ };
 
-    /// Adds a record at the end. After `Failed` it stands or does not; where memory was refused nothing changed.
+    /// Adds a record at the end. After `Failed` it stands or does not; if memory was refused nothing changed.
     fn append(&mut self, bytes: &[u8]) -> Result<(), OutFault>
         requires { length bytes.now < 2 ^ 31 }
         ensures records { Adds (records self.old) (records self.new) bytes.now result }

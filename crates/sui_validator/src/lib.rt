@@ -2,6 +2,7 @@
 //!
 //! - [`types`]: values and their bytes;
 //! - [`node`]: a validator, [`Member`], with its journal and its sealer;
+//! - [`wallet`]: certificates of votes, and what acknowledgements make final;
 //! - [`client`]: a light client.
 //!
 //! What a member answers, keeps and becomes is said by one equation a call, over the definitions of the Sui Lutris
@@ -17,8 +18,10 @@ mod member;
 pub mod node;
 mod opening;
 mod records;
+mod sentences;
 mod sole;
 pub mod types;
+pub mod wallet;
 mod workers;
 
 pub use node::{Error, Journal, Member, Workers};

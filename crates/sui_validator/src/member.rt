@@ -55,7 +55,7 @@ impl<J: Journal, S: Sealer> Model for Member<J, S> {
 }
 
 impl<J: Journal, S: Sealer> Member<J, S> {
-    /// Asks the member for its vote for the transaction that the bytes spell. A new vote's record stands in the journal before
+    /// Asks the member for its vote for the transaction that the bytes encode. A new vote's record stands in the journal before
     /// the vote is given.
     pub fn vote(&mut self, bytes: &[u8]) -> Result<Voted, VoteRefusal>
         ensures answer { Votes (S.accepts self.old.sealer) self.old.seat.member (vote_said (rules_of_seat self.old.seat (S.accepts self.old.sealer)) self.old.seat bytes.now) result }
@@ -67,7 +67,7 @@ impl<J: Journal, S: Sealer> Member<J, S> {
         self.validator.vote(&mut self.keeper, &self.sealer, bytes)
     }
 
-    /// Hands the certificate to the member that the bytes spell: true if it is newly held, false if a certificate of its
+    /// Hands the certificate to the member that the bytes encode: true if it is newly held, false if a certificate of its
     /// transaction is held already.
     pub fn hold(&mut self, bytes: &[u8]) -> Result<bool, HoldRefusal>
         ensures answer { Holds (hold_said (rules_of_seat self.old.seat (S.accepts self.old.sealer)) self.old.seat bytes.now) result }

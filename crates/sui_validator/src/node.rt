@@ -16,6 +16,7 @@ pub use answer_types::{
     AckRefusal, CloseRefusal, EndRefusal, HoldRefusal, Ran, RunRefusal, SeeRefusal, Seen, SeenWhat,
     TurnRefusal, VoteRefusal, Voted,
 };
-pub use cert_rules::{CertRefusal, CollectRefusal, collect};
-pub use disk_log::{Disk, MemDisk};
+pub use chain_types::CertRefusal;
+pub use disk_log::{Disk, MemDisk, OpenRefusal as DiskRefusal};
+pub use outside::{Keeper, OutFault};
 pub use quorum_core::{Committee, CommitteeRefusal, KeyedSeal, Sealer, Signer};

@@ -1,18 +1,19 @@
 //! Values and their bytes: objects, transactions, statements, certificates, entries, effects and checkpoints.
 //!
-//! Each has one spelling, which its `encode_` and `decode_` functions write and read; a fault is the first wrong byte.
+//! Each value has one encoding, which [`encode`] writes and its `decode_` function reads; a fault is the first wrong byte.
 
 pub use chain_messages::{
     Certificate, Entry, MemberSeal, Sealed, Statement, decode_certificate, decode_entry,
-    decode_sealed, decode_statement, encode_certificate, encode_entry, encode_sealed,
-    encode_statement,
+    decode_sealed, decode_statement,
 };
 pub use chain_types::{
     Address, Argument, Command, Content, Input, Kind, Object, ObjectId, ObjectKey, ObjectRef,
-    Owner, SignedTx, Transaction, decode_signed, encode_signed, encode_tx, object_digest,
-    tx_digest,
+    Owner, SignedTx, Transaction, decode_signed, object_digest,
 };
-pub use checkpoint_core::{Checkpoint, Item, checkpoint_digest};
+pub use checkpoint_core::{Checkpoint, Item};
 pub use digest_core::{Digest, address_of, genesis_id};
-pub use effects_core::{Effects, Status, Written, effects_digest};
-pub use wire_bcs::{OutOfMemory, Seq, Unread, WireFault};
+pub use effects_core::{Effects, Status, Written};
+pub use wallet_core::{
+    EncodeRefusal, Measured, checkpoint_digest, coin_of, effects_digest, encode, tx_digest,
+};
+pub use wire_bcs::{OutOfMemory, Seq, Unread, Wire, WireFault};

@@ -19,7 +19,7 @@ module _ {K V : Type 0} (same : K → K → Bool) where
 clash : true ≡ false → ⊥
 clash h = cc
 
--- a look-up behind an insertion
+-- a look-up after an insertion
 module _ {K V : Type 0} (same : K → K → Bool) (one : (a b : K) → same a b ≡ true → a ≡ b) (self : (a : K) → same a a ≡ true) where
   pub lookup_insert : (es : List (K × V)) (k : K) (v : V) (q : K) → lookup (same q) (insert_entry same es k v) ≡ cond (same q k) (Some v) (lookup (same q) es)
   lookup_insert [] k v q = refl

@@ -9,7 +9,7 @@ use Rattle.indexmap.specs.IndexMap.{insert_entry}
 use Rattle.tables.proofs.Lookups.{goes_last, lookup_push, or_else}
 use Rattle.tables.specs.Tables.{Placed, same_digest, with_place}
 
--- a place, counted from the front
+-- a place, counted from the start
 below_suc : (p n : ℕ) → nat_lt (1 + p) (suc n) ≡ nat_lt p n
 below_suc p n = grind arith
 
@@ -54,7 +54,7 @@ found test (y ∷ ys) =
     by false None = refl
     by false (Some i) = refl
 
--- a row at a place that was found, and none where no place was found
+-- a row at a place that was found, and none if no place was found
 pub got : {T : Type 0} → (test : T → Bool) (xs : List T) (i : ℕ) (r : Option T) → Some i ≡ position test xs → r ≡ slice_get xs i → r ≡ find test xs
 got test xs i r at is = is ∙ ap (option_and_then (slice_get xs)) at ∙ found test xs
 

@@ -48,7 +48,7 @@ impl<T: Named + Drop> NamedTable<T> {
         }
     }
 
-    /// The row at this place, counted from 0; none exactly where there are fewer. Takes no memory.
+    /// The row at this place, counted from 0; none exactly if there are fewer. Takes no memory.
     pub fn row(&self, place: usize) -> Option<&T>
         ensures { option_copied result ≡ slice_get self.now place }
     {
@@ -62,28 +62,28 @@ impl<T: Named + Drop> NamedTable<T> {
         self.table.rows().len()
     }
 
-    /// The place of the first row with this digest; none exactly where no row has it. Takes no memory.
+    /// The place of the first row with this digest; none exactly if no row has it. Takes no memory.
     pub fn place_of(&self, key: &Digest) -> Option<usize>
         ensures { result ≡ position (λ row. same_digest key.now (T.key_of row)) self.now }
     {
         self.table.place_of(key)
     }
 
-    /// The first row with this digest; none exactly where no row has it. Takes no memory.
+    /// The first row with this digest; none exactly if no row has it. Takes no memory.
     pub fn find(&self, key: &Digest) -> Option<&T>
         ensures { option_copied result ≡ find (λ row. same_digest key.now (T.key_of row)) self.now }
     {
         self.table.find(key)
     }
 
-    /// The place of the first row of this name; none exactly where no row has it. Takes no memory.
+    /// The place of the first row of this name; none exactly if no row has it. Takes no memory.
     fn place_named(&self, name: &[u8]) -> Option<usize>
         ensures { result ≡ position (λ row. bytes_eq name.now (T.name_of row)) self.now }
     {
         self.names.get(name).copied()
     }
 
-    /// The first row of this name; none exactly where no row has it. Takes no memory.
+    /// The first row of this name; none exactly if no row has it. Takes no memory.
     pub fn named(&self, name: &[u8]) -> Option<&T>
         ensures { option_copied result ≡ find (λ row. bytes_eq name.now (T.name_of row)) self.now }
     {

@@ -53,7 +53,7 @@ fn add_place(places: &mut IndexMap<Digest, usize>, key: Digest, place: usize)
     }
 }
 
-/// The row at a place; none exactly where the list is too short.
+/// The row at a place; none exactly if the list is too short.
 pub(crate) fn row_at<T>(rows: &[T], place: usize) -> Option<&T>
     ensures { option_copied result ≡ slice_get rows.now place }
 {
@@ -78,14 +78,14 @@ impl<T: Keyed + Drop> Table<T> {
         self.list.as_slice()
     }
 
-    /// The place of the first row with this digest; none exactly where no row has it. Takes no memory.
+    /// The place of the first row with this digest; none exactly if no row has it. Takes no memory.
     pub fn place_of(&self, key: &Digest) -> Option<usize>
         ensures { result ≡ position (λ row. same_digest key.now (T.key_of row)) self.now.rows }
     {
         self.places.get(key).copied()
     }
 
-    /// The first row with this digest; none exactly where no row has it. Takes no memory.
+    /// The first row with this digest; none exactly if no row has it. Takes no memory.
     pub fn find(&self, key: &Digest) -> Option<&T>
         ensures { option_copied result ≡ find (λ row. same_digest key.now (T.key_of row)) self.now.rows }
     {

@@ -1,4 +1,4 @@
--- The transaction that a line of a read schedule makes can be spelled.
+-- The transaction that a line of a read schedule makes can be encoded.
 use Rattle.std.proofs.Common.{refl, arith}
 use Rattle.std.proofs.lemmas.List.{length-map}
 use Rattle.std.proofs.lemmas.List.Elements.{All-from_recursion}
@@ -78,7 +78,7 @@ named-digest w name txs = go (made_named w name) refl
     go None e = refl
     go (Some t) e = (each_has IsFitMade w.txs t txs (find_has (λ (x : Made). bytes_eq x.name name) w.txs t e)).1
 
--- what the first member says, where each says digests
+-- what the first member says, if each says digests
 first-said : (s : Setting) (says : Member → Option Digest) (seats : List Seat) → ((m : Member) → IsOrigin (says m)) → IsOrigin (says_first s says seats)
 first-said s says [] each = tt
 first-said s says (seat ∷ seats) each = joined (cond (seat.honest && seat.up) (says (member_in s seat)) None) (says_first s says seats) (chosen (seat.honest && seat.up) (says (member_in s seat)) (each (member_in s seat))) (first-said s says seats each)

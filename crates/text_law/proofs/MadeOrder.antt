@@ -110,7 +110,7 @@ members_added : added no_lines (map (λ x. statement.Setup x) member_items) ≡ 
 unfolding add_line setup_check setup_kind_check roles stage
 members_added = refl
 
--- the whole set-up, and events behind it
+-- the whole set-up, and events after it
 module _ (number : ℕ) (few : number ≤ 10000) where
   whole : List Event → Schedule
   whole events = record { setup = items number; events = events }

@@ -1,4 +1,4 @@
--- What a member's state names are digests of 32 bytes, and the origins of its votes can be spelled; so can those of
+-- What a member's state names are digests of 32 bytes, and the origins of its votes can be encoded; so can those of
 -- each vote that it states.
 use Rattle.std.proofs.Common.{refl, sym, subst, arith}
 use Rattle.std.specs.Prelude.{◌≡◌, ℕ, ◌≤◌, ◌<◌, zero, suc, Bool, true, false, cond, not, ◌&&◌, ◌==◌, List, [], ◌∷◌, ◌++◌, map, flat_map, filter, length, Option, Some, None, is_some, Result, Ok, Err}
@@ -67,7 +67,7 @@ abbrev pub IsOrigin : Option Digest → Type 0
 IsOrigin None = Unit {0}
 IsOrigin (Some d) = IsDigest d
 
--- origins that a certificate can spell
+-- origins that a certificate can encode
 abbrev pub AreOrigins : List (Option Digest) → Type 0
 AreOrigins origins = (length origins < length_limit) × Each IsOrigin origins
 

@@ -129,7 +129,7 @@ mark_yes c xs =
     let at : length (xs ++ c ∷ []) - 1 ≡ length xs = omega (arith, long) in
     rw (low, at, last_is c xs) (eq-eqb c c refl)
 
--- the mark that stands behind a word only where it is said
+-- the mark that stands after a word only if it is said
 pub mark_read : (p : ℕ → Bool) (c : ℕ) → p c ≡ false → (xs : List ℕ) (b : Bool) → Passes p xs → has_mark c (xs ++ sign b (c ∷ [])) ≡ b
 mark_read p c fails xs true h = mark_yes c xs
 mark_read p c fails xs false h = ap (has_mark c) (append-nil xs) ∙ mark_no p c fails xs h

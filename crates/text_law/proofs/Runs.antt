@@ -1,4 +1,4 @@
--- All that a run of fitting lines makes, forms and orders can be spelled.
+-- All that a run of fitting lines makes, forms and orders can be encoded.
 use Rattle.std.proofs.Common.{refl, ap, sym, subst, arith, ◌∙◌}
 use Rattle.std.proofs.lemmas.Bool.{eqb-true}
 use Rattle.std.proofs.lemmas.List.{length-map}
@@ -31,10 +31,10 @@ use Rattle.protocol_spec.specs.Chain.Keys.{objects_of}
 use Rattle.protocol_spec.specs.Member.Member.{Member, state}
 use Rattle.protocol_spec.specs.Member.Calls.{Call, votes, holds, runs, closes, ends, turns, acks, due}
 use Rattle.world_spec.specs.Setting.{Name, Setting, sender_seal}
-use Rattle.world_spec.specs.World.{Seat, Said, Made, Formed, World, Reached, finds_down, stops, answers, new_world, said_by, member_in, reached_up, reached_seat, behind, called_seat, called_in, called_if, sees_on, stated, is_honest, member_at, next_call, entries_at, list_or_none}
+use Rattle.world_spec.specs.World.{Seat, Said, Made, Formed, World, Reached, finds_down, stops, answers, new_world, said_by, member_in, reached_up, reached_seat, behind, called_seat, called_in, called_if, sees_on, stated, is_honest, member_at, next_call, entries_at, list_or_none, called_over, armed_seat, started_seat}
 use Rattle.world_spec.specs.Names.{made_named, cert_named, cert_in}
-use Rattle.world_spec.specs.Making.{made_by_line, made_as, transaction_of, spoiled_if, TxLine}
-use Rattle.world_spec.specs.Step.{happens, says, vote_in, end_in, last_said, voted_on, origin_word, no_origins, origins_or, honest_vote, fvote_origins, fvoted, first_origins, vote_statement, sealed_by, certificate_of, votes_collected, formed_as, formed, sent, open_entries, ordered, sealed_end, appended_entry, has_ended, risen_if, ordered_end, honest_end, end_ordered, on_seat, armed_seat, started_seat, entries_left, false_ack, acked}
+use Rattle.world_spec.specs.Making.{made_by_line, made_as, transaction_of, spoiled_if, TxLine, made_over}
+use Rattle.world_spec.specs.Step.{happens, says, vote_in, end_in, last_said, voted_on, origin_word, no_origins, origins_or, honest_vote, fvote_origins, fvoted, first_origins, vote_statement, sealed_by, certificate_of, votes_collected, formed_as, formed, sent, open_entries, ordered, sealed_end, appended_entry, has_ended, risen_if, ordered_end, honest_end, end_ordered, on_seat, entries_left, false_ack, acked, happens_over}
 use Rattle.world_spec.specs.Run.{run, world_after}
 use Rattle.text_law.specs.Sayable.{IsMember, IsEvent}
 use Rattle.safety_law.proofs.InWorld.{each-set, kept-called, new-seats}
@@ -50,7 +50,7 @@ IsFitEvent e = IsEvent e × IsShortEvent most_words e
 abbrev pub AreSeals : (Signer → List ℕ → Digest) → Type 0
 AreSeals seal = (signer : Signer) (bytes : List ℕ) → IsDigest (seal signer bytes)
 
--- what a world has can be spelled, behind so many lines
+-- what a world has can be encoded, after so many lines
 pub record IsFit (s : Setting) (lines : ℕ) (w : World) : Type 0 where
   pub txs : Each IsFitMade w.txs
   pub said : Each (λ (x : Said). IsFitStatement x.statement) w.said
@@ -107,7 +107,7 @@ module _ (s : Setting) (seals : AreSeals s.seal) (things : AreThings s.things) w
       behind-fit n w m call seat (reached_seat s call seat) refl (each_at (λ (y : Seat). IsFitMember (state s.rules s.opening y.records)) w.seats m seat f.seats e) f seats
 
   call-fit : (n : ℕ) (w : World) (m : ℕ) (call : Call) → IsFit s n w → IsFit s n (called_in s w m call)
-  unfolding called_in
+  unfolding called_over
   call-fit n w m call f =
       seat-fit n w m call (slice_get w.seats m) refl f
       (kept-called s (λ _. Unit {0}) (λ records. IsFitMember (state s.rules s.opening records)) (fit-step s.rules s.opening) w m call tt f.seats)
@@ -319,7 +319,7 @@ module _ (s : Setting) (seals : AreSeals s.seal) (things : AreThings s.things) w
   -- ---- the other lines
 
   make-fit : (n : ℕ) (w : World) (l : TxLine) → IsFitLine l → IsFit s n w → IsFit s n (made_by_line s w l)
-  unfolding made_by_line
+  unfolding made_over
   make-fit n w l is f =
       let t = made_as s l.name l.spoiled (transaction_of s w l) in
       record {
@@ -378,7 +378,7 @@ module _ (s : Setting) (seals : AreSeals s.seal) (things : AreThings s.things) w
   -- ---- each line, and all
 
   line-fit : (n : ℕ) (w : World) (e : Event) → n ≤ most_words → IsFitEvent e → IsFit s n w → IsFit s (suc n) (happens s w e)
-  unfolding happens
+  unfolding happens_over
   line-fit n w (event.Tx name sender spoiled epoch gas budget inputs commands) few is f =
       let l : TxLine = record { name = name; sender = sender; spoiled = spoiled; epoch = epoch; gas = gas; budget = budget; inputs = inputs; commands = commands } in
       weaker n (made_by_line s w l) (make-fit n w l (record {

@@ -11,7 +11,7 @@ use Rattle.schedule_text.specs.Lines.{if_form, then_make, member_number}
 use Rattle.text_law.specs.Sayable.{IsNumber, IsMember, IsBetween, IsObject, IsRef}
 use Rattle.protocol_spec.proofs.Truth.{some_same}
 
--- ---- what stood behind an answer
+-- ---- what stood after an answer
 
 pub cond_said : {A : Type 0} → (b : Bool) (v n : A) → cond b (Some v) None ≡ Some n → (b ≡ true) × (v ≡ n)
 cond_said true v n h = (refl, some_same v n h)

@@ -21,7 +21,7 @@ use Rattle.text_law.proofs.Said.{map_said, then_said, both_said, form_said, make
 use Rattle.text_law.proofs.SaidWords.{choose, each_said, hex_said, input_said, command_said}
 use Rattle.protocol_spec.proofs.Truth.{some_same}
 
--- a refusal is no answer
+-- a refusal is not an answer
 none : {A : Type 0} → (P : Type 0) (c : Cause) (x : A) → Err c ≡ Ok x → P
 none P c x h = absurd (cc)
 

@@ -59,7 +59,7 @@ empty : (es : List Event) → (length es == 0) ≡ true → es ≡ []
 empty [] h = refl
 empty (e ∷ es) h = let none = eqb-true (length (e ∷ es)) 0 h in absurd (omega (arith, none))
 
--- what the schedule is behind a line, and that the line stands last
+-- what the schedule is after a line, and that the line stands last
 setup_push : (t u : Schedule) (x : Setup) → add_line t (statement.Setup x) ≡ Ok u → (t.setup ++ x ∷ [] ≡ u.setup) × (statements u ≡ statements t ++ statement.Setup x ∷ [])
 unfolding add_line setup_check
 setup_push t u x h =

@@ -186,7 +186,7 @@ ref_is r h = ref_has_form r.object r.version r.spoiled h.0 h.1
 pub ref_read : (r : RefWord) → IsRef r → ref_of (ref_word r) ≡ Some r
 ref_read r h = ref_has_value r.object r.version r.spoiled h.0 h.1
 
--- the same of a reference without a sign
+-- likewise for a reference without a sign
 unsigned : (o : ObjWord) (v : ℕ) → version_word o v ≡ object_word o ++ 64 ∷ (decimal v ++ [])
 unsigned o v = ap (λ (t : List ℕ). object_word o ++ 64 ∷ t) (sym (append-nil (decimal v)))
 
@@ -256,7 +256,7 @@ hex_read bytes h = ap result_ok (decode_of-encode_lower bytes (bytes_by_index by
 
 -- ---- inputs
 
--- behind a letter and `:`
+-- after a letter and `:`
 pub letter_passes : (letter : ℕ) (rest : List ℕ) → is_input_byte letter ≡ true → Passes is_ref_byte rest → Passes is_input_byte (letter ∷ 58 ∷ rest)
 letter_passes letter rest fine h = and_from (is_input_byte letter) (list_all is_input_byte (58 ∷ rest)) fine (wider is_ref_byte is_input_byte ref_in_input rest h)
 

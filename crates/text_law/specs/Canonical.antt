@@ -1,5 +1,5 @@
 -- The canonical text of a schedule: a line for each set-up item and then for each event, its words between single
--- spaces, and a line feed behind each line. Source: this profile.
+-- spaces, and a line feed after each line. Source: this profile.
 use Rattle.std.specs.Prelude.{ℕ, Bool, true, false, List, [], ◌∷◌, ◌++◌, map, Option, Some, None, codes, decimal, unwrap_or, slice_get}
 use Rattle.std.specs.List.{flat_map, join_with_byte}
 use Rattle.hex.specs.Hex.{encode_lower}
@@ -21,7 +21,7 @@ use Rattle.schedule_text.specs.declared.statement.Statement.{Statement}
 use Rattle.schedule_text.specs.declared.statement.Statement.TheVariants as statement
 use Rattle.schedule_text.specs.Commands.{native_names, kind_names}
 
--- a sign that stands only where it is said
+-- a sign that stands only if it is said
 abbrev pub sign : Bool → List ℕ → List ℕ
 sign true text = text
 sign false text = []

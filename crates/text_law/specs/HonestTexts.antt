@@ -16,7 +16,7 @@ use Rattle.safety_law.specs.Owners.{is_raw_hold, AreSpellable}
 abbrev pub keyed_setting : List ℕ → Schedule → Setting
 keyed_setting secret t = setting_of (keyed secret) t.setup
 
--- each signed transaction that its lines make is a value of its Rust type, with no list too long to be spelled
+-- each signed transaction that its lines make is a value of its Rust type, with no list too long to be encoded
 abbrev pub ReadTransactionsAreSpellable : Type 0
 ReadTransactionsAreSpellable = (text : List ℕ) (t : Schedule) → schedule_of text ≡ Ok t → (secret : List ℕ)
     → Each (λ (m : Made). transactions.signed.fits m.signed) (world_after (keyed_setting secret t) t.events).txs
@@ -26,7 +26,7 @@ abbrev pub ReadRunsAreSpellable : Type 0
 ReadRunsAreSpellable = (text : List ℕ) (t : Schedule) → schedule_of text ≡ Ok t → (secret : List ℕ)
     → AreSpellable (keyed_setting secret t) t.events
 
--- so without `raw .. hold` lines no statement is forged, where different transactions have different digests
+-- so without `raw .. hold` lines no statement is forged, if different transactions have different digests
 abbrev pub NothingReadIsForged : Type 0
 NothingReadIsForged = (text : List ℕ) (t : Schedule) → schedule_of text ≡ Ok t → (secret : List ℕ)
     → Each (λ (e : Event). is_raw_hold e ≡ false) t.events

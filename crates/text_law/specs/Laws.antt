@@ -7,7 +7,7 @@ use Rattle.text_law.specs.Canonical.{canonical}
 use Rattle.text_law.specs.Made.{made}
 use Rattle.text_law.specs.Sayable.{IsSayable}
 
--- what a text can say is read from its canonical text, where that is not too long
+-- what a text can say is read from its canonical text, if that is not too long
 abbrev pub CanonicalTextReadsBack : Type 0
 CanonicalTextReadsBack = (s : Schedule) → IsSayable s → length (canonical s) ≤ longest_text → schedule_of (canonical s) ≡ Ok s
 

@@ -85,14 +85,14 @@ send_events k =
     event.Send 0 (transaction k) ∷ event.Run 0 1 ∷ event.Send 1 (transaction k) ∷ event.Run 1 1
     ∷ event.Send 2 (transaction k) ∷ event.Run 2 1 ∷ []
 
--- behind the transaction; the first of four is executed at once
+-- after the transaction; the first of four is executed at once
 abbrev pub after_tx : ℕ → List Event
 after_tx k = if k % 4 == 0 then vote_events k ++ send_events k else vote_events k
 
 abbrev pub certified : ℕ → List Event
 certified k = tx_event k ∷ after_tx k
 
--- its place in the sequence, and a mark behind each 64
+-- its place in the sequence, and a mark after each 64
 abbrev pub ordered : ℕ → List Event
 ordered k =
     if (k + 1) % 64 == 0
@@ -112,7 +112,7 @@ ending =
     ∷ event.See 0 3 ∷ event.Turn 0 ∷ event.See 1 3 ∷ event.Turn 1 ∷ event.See 2 3 ∷ event.Turn 2 ∷ event.See 3 3 ∷ event.Turn 3
     ∷ event.Show 0 ∷ []
 
--- behind all transactions
+-- after all transactions
 abbrev pub rest : ℕ → ℕ → List Event
 rest number workers = flat_map ordered (range_with_len 0 number) ++ (late workers ++ ending)
 

@@ -1,8 +1,8 @@
-//! Schedules that a text says: all that a run of one makes can be spelled, so without lines that hand over bytes as a
+//! Schedules that a text says: all that a run of one makes can be encoded, so without lines that hand over bytes as a
 //! certificate no statement is forged, given only that different transactions have different digests.
 ghost use Rattle.text_law.specs.HonestTexts.{NothingReadIsForged, ReadRunsAreSpellable, ReadTransactionsAreSpellable};
 
-/// Each transaction that a read schedule makes is a value of its Rust type, and short enough to be spelled.
+/// Each transaction that a read schedule makes is a value of its Rust type, and short enough to be encoded.
 pub fn read_transactions_are_spellable()
     ensures { ReadTransactionsAreSpellable }
 {}

@@ -53,7 +53,7 @@ none_long t e = go (has_long_list 131072 t) refl
     go false is = is
     go true is = absurd (let clash = sym (long_lists t is) ∙ e in cc)
 
--- a transaction of valid shape can be spelled
+-- a transaction of valid shape can be encoded
 pub valid_short : (t : Transaction) → shape_fault t ≡ None → transaction.short t
 unfolding shape_fault
 valid_short t e = short_lists 131072 (omega arith) t (none_long t (where_false_number (nat_lt 131072 (length (transaction.spell t))) 1 (none_at (shape_cases t) zero e)))

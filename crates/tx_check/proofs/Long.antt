@@ -1,4 +1,4 @@
--- A list that alone is longer than a transaction may be spelled makes a long spelling.
+-- A list that by itself is longer than an encoded transaction may be makes a long encoding.
 use Rattle.std.proofs.Common.{◌≡◌, ℕ, ◌+◌, ◌<◌, ◌≤◌, Bool, true, false, ◌||◌, List, [], ◌∷◌, ◌++◌, length, refl, arith, length-append}
 use Rattle.std.specs.Prelude.{nat_lt, flat_map}
 use Rattle.std.specs.List.{list_any}
@@ -23,7 +23,7 @@ behind xs ys = let e = length-append xs ys in omega arith
 before : (xs ys : List ℕ) → length xs ≤ length (xs ++ ys)
 before xs ys = let e = length-append xs ys in omega arith
 
--- what is spelled of each element has a byte at least
+-- the encoding of each element has at least one byte
 many : {A : Type 0} (one : A → List ℕ) → ((x : A) → 1 ≤ length (one x)) → (xs : List A) → length xs ≤ length (flat_map one xs)
 many one some [] = omega arith
 many one some (x ∷ xs) = let e = length-append (one x) (flat_map one xs) in let a = some x in let b = many one some xs in omega arith
@@ -100,7 +100,7 @@ parts : (t : Transaction) → length (seq_spell codecs.input.spell t.inputs) + l
 unfolding codecs.transaction
 parts t = inside (number_spell 8 t.epoch) (address.spell t.sender) (object_ref.spell t.gas) (number_spell 8 t.budget) (seq_spell codecs.input.spell t.inputs) (seq_spell codecs.command.spell t.commands)
 
--- a transaction with a long list is spelled long
+-- a transaction with a long list has a long encoding
 pub long_lists : (t : Transaction) → has_long_list 131072 t ≡ true → nat_lt 131072 (length (codecs.transaction.spell t)) ≡ true
 long_lists t e =
     go (is_long_list 131072 t.inputs) refl (list_any (is_long_input 131072) t.inputs) refl (is_long_list 131072 t.commands) refl (list_any (is_long_command 131072) t.commands) refl e

@@ -30,6 +30,6 @@ ids_kept (input.Shared id initial mutable ∷ xs) = ap (λ ids. id ∷ ids) (ids
 ids_among_inputs : (t : Transaction) → named_ids t ≡ t.gas.id ∷ filter_map named_id t.inputs
 ids_among_inputs t = ap (λ ids. t.gas.id ∷ ids) (ids_kept t.inputs)
 
--- the ids, where all inputs were gone through
+-- the ids, if all inputs were gone through
 pub ids_all : (t : Transaction) (ids : List ObjectId) (place : ℕ) → length t.inputs ≤ place → ids ≡ t.gas.id ∷ filter_map named_id (take place t.inputs) → ids ≡ named_ids t
 ids_all t ids place end e = e ∙ ap (λ inputs. t.gas.id ∷ filter_map named_id inputs) (take_all place t.inputs end) ∙ sym (ids_among_inputs t)

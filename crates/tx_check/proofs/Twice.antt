@@ -27,14 +27,14 @@ module _ {A : Type 0} (same : A → A → Bool) (symmetric : (x y : A) → same 
   none_later x y [] none e = ap (λ b. b || false) e
   none_later x y (z ∷ zs) none e = ap (λ b. b || list_any (same x) (zs ++ y ∷ [])) (or_false_left (same x z) (list_any (same x) zs) none) ∙ none_later x y zs (or_false_right (same x z) (list_any (same x) zs) none) e
 
-  -- a new element behind a list without repeats makes none
+  -- a new element after a list without repeats makes none
   pub still_once : (y : A) (xs : List A) → list_any (same y) xs ≡ false → repeats same xs ≡ false → repeats same (xs ++ y ∷ []) ≡ false
   still_once y [] new once = refl
   still_once y (x ∷ xs) new once =
       ap (λ b. b || repeats same (xs ++ y ∷ [])) (none_later x y xs (or_false_left (list_any (same x) xs) (repeats same xs) once) (symmetric x y ∙ or_false_left (same y x) (list_any (same y) xs) new))
       ∙ still_once y xs (or_false_right (same y x) (list_any (same y) xs) new) (or_false_right (list_any (same x) xs) (repeats same xs) once)
 
--- the same of ids
+-- likewise for ids
 pub id_found : (id : ObjectId) (seen rest : List ObjectId) → list_any (id_eq id) seen ≡ true → repeats id_eq (seen ++ id ∷ rest) ≡ true
 id_found id seen rest e = found_twice id_eq id_turned id seen rest e
 
@@ -50,6 +50,6 @@ after_is seen (id ∷ rest) once = go (list_any (id_eq id) seen) refl (after_is 
     go true is more = ap (λ b. cond b true (repeats_after (seen ++ id ∷ []) rest)) is ∙ sym (id_found id seen rest is)
     go false is more = ap (λ b. cond b true (repeats_after (seen ++ id ∷ []) rest)) is ∙ more (id_once id seen is once) ∙ ap (repeats id_eq) (append_assoc seen (id ∷ []) rest)
 
--- seen from the front, an id comes twice where one does
+-- seen from the start, an id comes twice if one does
 pub repeats_whole : (ids : List ObjectId) → repeats_after [] ids ≡ repeats id_eq ids
 repeats_whole ids = after_is [] ids refl

@@ -20,7 +20,7 @@ use wire_bcs::OutOfMemory;
 pub enum ShapeRefusal {
     /// The least number that applies:
     ///
-    /// - 1: its spelling is longer than 131,072 bytes
+    /// - 1: its encoding is longer than 131,072 bytes
     /// - 2: it has no commands
     /// - 3: it has more than 1024 commands
     /// - 4: it has more than 256 inputs
@@ -99,7 +99,7 @@ fn command_fault(tx: &Transaction) -> Option<u8>
 /// Whether the transaction has a valid shape, or the least of its faults.
 pub fn check_shape(alloc: Global, tx: &Transaction) -> Result<(), ShapeRefusal>
     ensures fault { Checks result (shape_fault tx.now) }
-    // A transaction of valid shape may be spelled, and has few inputs.
+    // A transaction of valid shape may be encoded, and has few inputs.
     ensures short { IfOk result (λ _. transaction.short tx.now) }
     ensures few { IfOk result (λ _. length tx.now.inputs ≤ 256) }
 {

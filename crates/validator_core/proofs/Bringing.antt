@@ -1,4 +1,4 @@
--- How the course of an epoch stays sound where an entry of its sequence is taken.
+-- How the course of an epoch stays sound if an entry of its sequence is taken.
 use Rattle.std.proofs.Common.{◌≡◌, ◌∙◌, arith, ℕ, ◌+◌, ◌≤◌, Bool, true, false, cond, List, [], ◌∷◌, ◌++◌, map, length, take, drop, refl, sym, ap, subst}
 use Rattle.std.specs.Prelude.{Option, Some, None, is_some, ◌==◌}
 use Rattle.std.proofs.lemmas.List.{length-map}
@@ -38,7 +38,7 @@ use Rattle.validator_core.specs.Limits.{Accepting}
 use Rattle.validator_core.specs.Sound.{member_with}
 use Rattle.validator_core.proofs.Entering.{entered_front, entered_held, entered_marked, passed_front, passed_held, passed_marked}
 
--- ---- fronts
+-- ---- prefixes
 
 take_all : {A : Type 0} (xs ys : List A) → take (length xs) (xs ++ ys) ≡ xs
 take_all [] ys = refl
@@ -81,7 +81,7 @@ mark_past c = by (uncut c == 0)
     by true = refl
     by false = refl
 
--- the cuts stay where more is admitted
+-- the cuts stay if more is admitted
 same_cuts : (c : Chaining) → size_of c.marks ≤ length c.due → KeepsCuts c c
 same_cuts c few = keeps_cuts c (record { tx = zero_digest; same = false }) few
 
@@ -203,7 +203,7 @@ module _ (c : Course) (sound : IsSound c) where
     behind = stays c.epoch c.store.executed u.behind;
   }
 
--- ---- what is held behind an entry
+-- ---- what is held after an entry
 
 pub brings_with : (cs : Coursed) (h : Held) (b : Bool) → is_some (held_of cs.held h.digest) ≡ b
     → record cs { held = cond b cs.held (cs.held ++ h ∷ []); sequence = record cs.sequence { admission = entered cs.writers cs.opening cs.sequence.admission h } } ≡ brings cs h
@@ -278,7 +278,7 @@ numbered_what r old new commits = refl
 numbered_what r old new (counts member) = refl
 numbered_what r old new (ignores cause) = refl
 
--- the member behind an entry that was taken
+-- the member after an entry that was taken
 pub entry_is : (stakes : List ℕ) (cs new : Coursed) (arrival : Arrival) (records : ℕ) (closed : Bool) (votes : List Cast) (accepts : Accepting) → new ≡ numbered_in (arrives stakes cs arrival)
     → member_with (records + 1) closed votes new ≡ behind_entry (rules_for (record { stakes = stakes; writers = cs.writers }) accepts) (member_with records closed votes cs) (what_as arrival)
 unfolding with_entry

@@ -62,7 +62,7 @@ met_fork held h (k ∷ ks) =
 
 -- ---- a new certificate
 
--- what is answered where the member is open and the certificate is valid
+-- what is answered if the member is open and the certificate is valid
 valid_hold : (r : Rules) (m : Member) (c : Certificate) → m.closed ≡ false → cert_refusal r c ≡ None
     → new_hold r m c ≡ unless_refused (first_some (option_map (λ (f : Fork). no_hold.Fork f.key f.first f.second) (fork_with m.held (held_as c)) ∷ [])) true
 valid_hold r m c unclosed valid =

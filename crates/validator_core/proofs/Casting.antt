@@ -1,4 +1,4 @@
--- What may be kept, and the state behind it.
+-- What may be kept, and the state after it.
 use Rattle.std.proofs.Common.{◌≡◌, ◌≤◌, ℕ, true, cond, List, Option, Some, None, is_some, length, ap, sym, ◌∙◌, subst}
 use Rattle.std.specs.Prelude.{Bool, Ok}
 use Rattle.digest_core.specs.declared.Digest.{Digest}
@@ -59,7 +59,7 @@ new_owed d c h digest due_ is = ap (λ (o : Option Record). is_some o) (new_due 
 pub fork_owed : (d : Option Record) (c : Certificate) (h : Holding) (key : ObjectKey) (first digest : Digest) → HoldDue d (Ok (c, h)) → h ≡ holdings.Fork key first digest → is_some d ≡ true
 fork_owed d c h key first digest due_ is = ap (λ (o : Option Record). is_some o) (fork_due d c h key first digest due_ is)
 
--- ---- the state behind a call
+-- ---- the state after a call
 
 pub idle_called : (r : Rules) (m : Member) (call : Call) → due r m call ≡ None → m ≡ called r m call
 idle_called r m call none = ap (after_due r m) (sym none)

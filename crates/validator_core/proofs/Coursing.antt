@@ -28,7 +28,7 @@ use Rattle.validator_core.specs.Courses.{AreHeld, HasOpening, IsAdmitting, IsHel
 pub built_is : (c : Course) → IsSound c → c.chain.built ≡ built_in (coursed c)
 built_is c sound = (sound.all c.held c.admission.admission.admitted sound.unbuilt.told).built
 
--- ---- where nothing is held
+-- ---- if nothing is held
 
 pub fresh_sound : (c : Course) (before : Chaining) → HasOpening c → c.admission.admission ≡ nothing_admitted → c.held ≡ [] → ((s : Stored) (a : Admission) → IsWaiting s a [] c.waiting) → c.chain ≡ turned before → StartsBehind c.chain → IsSound c
 fresh_sound c before opening fresh none waits built starts = record {
@@ -106,7 +106,7 @@ hold_sound c h held waiting sound one is waits = subst (λ (hs : List Held). IsS
       all = sound.all;
     }
 
--- ---- what was admitted is told
+-- ---- what was admitted is reported
 
 abbrev pub told_now : Course → Waiting → Chaining → Course
 told_now c waiting chain = record c { waiting = waiting; chain = chain }

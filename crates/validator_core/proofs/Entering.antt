@@ -1,4 +1,4 @@
--- What an entry leaves of an admission: what was admitted stays in front, and whatever is admitted or waits is held.
+-- What an entry leaves of an admission: what was admitted stays a prefix, and whatever is admitted or waits is held.
 use Rattle.std.proofs.Common.{◌≡◌, ◌∙◌, ℕ, zero, suc, Bool, true, false, List, [], ◌∷◌, ◌++◌, length, refl, sym, append-nil}
 use Rattle.std.specs.Prelude.{Option, Some, None, find}
 use Rattle.chain_types.specs.declared.objects.Object.{Object}

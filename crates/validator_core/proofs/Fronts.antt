@@ -1,4 +1,4 @@
--- Held certificates whose transactions are in the sequence: how many at the front, behind each step.
+-- Held certificates whose transactions are in the sequence: how many at the start, after each step.
 use Rattle.std.proofs.Common.{◌≡◌, ◌∙◌, refl, arith, ap, sym, subst, ℕ, zero, suc, ◌≤◌, Bool, true, false, cond, not, ◌||◌, List, [], ◌∷◌, ◌++◌, filter, length, inl, inr}
 use Rattle.std.specs.Prelude.{◌⊎◌, Option, Some, None, find, is_some}
 use Rattle.std.specs.List.{list_any}
@@ -19,7 +19,7 @@ use Rattle.validator_core.specs.declared.entries.Arrival.TheVariants as arrivals
 use Rattle.validator_core.specs.Courses.{Coursed, arrives, numbered_in, ran, with_held}
 use Rattle.validator_core.specs.Sound.{ordered_front}
 
--- ---- fronts of lists
+-- ---- prefixes of lists
 
 pub front_grows : {A : Type 0} (test : A → Bool) (xs more : List A) → front_length test xs ≤ front_length test (xs ++ more)
 front_grows test [] more = omega arith
@@ -67,7 +67,7 @@ waits_or_is h tx (g ∷ gs) e = by (digest_eq h.digest g.digest) refl (or_true (
 abbrev pub StaysKnown : Digest → Admission → Admission → Type 0
 StaysKnown tx old new = is_known old tx ≡ true → is_known new tx ≡ true
 
--- where it was admitted or dropped, waits, or is the one that is taken
+-- it was admitted or dropped, waits, or is the one that is taken
 known_with : (tx : Digest) (h : Held) (old new : Admission) → (is_admitted old.admitted tx ≡ true → is_admitted new.admitted tx ≡ true)
     → (list_any (digest_eq tx) old.dropped ≡ true → list_any (digest_eq tx) new.dropped ≡ true) → new.pending ≡ filter (not_of h) old.pending
     → (digest_eq h.digest tx ≡ true → is_known new tx ≡ true) → StaysKnown tx old new
@@ -129,7 +129,7 @@ known_marked : (writers : Option ℕ) (opening : List Object) (a : Admission) (t
 unfolding passed_mark
 known_marked writers opening a tx known = known_taken writers opening (length a.pending) (record a { marked = length a.admitted }) tx known
 
--- ---- the front behind each step
+-- ---- the prefix after each step
 
 pub front_held : (cs : Coursed) (h : Held) → ordered_front cs ≤ ordered_front (with_held cs h)
 front_held cs h = front_grows (is_ordered cs.sequence.admission) cs.held (h ∷ [])

@@ -1,4 +1,4 @@
--- Runs and closes: what is answered and due, and the state behind it.
+-- Runs and closes: what is answered and due, and the state after it.
 use Rattle.std.proofs.Common.{◌≡◌, ℕ, Bool, true, false, cond, not, List, [], ◌∷◌, ◌++◌, map, Option, Some, None, inr, refl, ap, sym, subst, ◌∙◌, append-nil}
 use Rattle.std.specs.Prelude.{◌⊎◌, Result, Ok, Err, is_some}
 use Rattle.outside.specs.Lists.{Journals, KeepsJournals}

@@ -1,4 +1,4 @@
--- An entry that a member sees: what is answered and due, and the state behind it.
+-- An entry that a member sees: what is answered and due, and the state after it.
 use Rattle.std.proofs.Common.{◌≡◌, ◌+◌, ℕ, Bool, true, false, cond, List, Option, Some, None, inl, inr, refl, ap, sym, ◌∙◌, subst}
 use Rattle.std.specs.Prelude.{◌⊎◌, not, is_err, is_none, is_some, option_map, Result, Ok, Err}
 use Rattle.outside.specs.Lists.{Journals, KeepsJournals}
@@ -26,7 +26,7 @@ use Rattle.scene_spec.specs.Terms.{rules_for}
 use Rattle.validator_core.proofs.Refusing.{free, none_stops, stop, stopped_by}
 use Rattle.validator_core.proofs.Settling.{Signing, keeps_same, seat_with, settles}
 
--- the state behind the record of an entry
+-- the state after the record of an entry
 pub behind_seen : (r : Rules) (m : Member) (bytes : List ℕ) → m.sequence.ended ≡ false → (what : What) → what_of r m.epoch m.sequence bytes ≡ what → (new : Member) → new ≡ behind_entry r m what → new ≡ after r m (record_as.See bytes)
 unfolding after saw
 behind_seen r m bytes unended what is new step =

@@ -1,4 +1,4 @@
--- The member behind an answer.
+-- The member after an answer.
 use Rattle.std.proofs.Common.{◌≡◌, ℕ, true, false, cond, List, Option, Some, None, is_some, refl, ap, sym, ◌∙◌, subst}
 use Rattle.std.specs.Prelude.{Bool, not, Result, Ok, Err}
 use Rattle.wire_bcs.specs.declared.fault.WireFault.{WireFault}
@@ -26,7 +26,7 @@ use Rattle.scene_spec.specs.Seats.{Seated, due_at, rules_of_seat}
 abbrev pub Signing : Type 0
 Signing = Signer → List ℕ → Digest → Bool
 
--- up where it answered, else down
+-- up if it answered, else down
 abbrev pub seat_with : Seated → Member → Ended → Seated
 seat_with old state e = record old { state = state; up = not (has_fallen e) }
 

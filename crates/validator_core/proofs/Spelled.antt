@@ -1,4 +1,4 @@
--- The records of runs whose lists are short can be spelled.
+-- The records of runs whose lists are short can be encoded.
 use Rattle.std.proofs.Common.{◌≡◌, ◌<◌, List, [], ◌∷◌, ◌++◌, length, sym, ◌∙◌, append_assoc, append-nil}
 use Rattle.wire_bcs.specs.Digests.{digest}
 use Rattle.wire_bcs.specs.Items.{length_limit}

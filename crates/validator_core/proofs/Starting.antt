@@ -1,4 +1,4 @@
--- One record behind the other.
+-- One record after the other.
 use Rattle.std.proofs.Common.{◌≡◌, ◌+◌, ℕ, List, ◌∷◌, ap}
 use Rattle.std.specs.Prelude.{Ok, Err}
 use Rattle.protocol_spec.specs.Chain.Certificates.{Rules}

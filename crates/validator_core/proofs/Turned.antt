@@ -1,4 +1,4 @@
--- The turn to the next epoch: what is answered and due, and the state behind it.
+-- The turn to the next epoch: what is answered and due, and the state after it.
 use Rattle.std.proofs.Common.{◌≡◌, ◌+◌, ℕ, Bool, true, false, cond, not, List, [], ◌∷◌, Option, Some, None, refl, ap, sym, ◌∙◌, subst}
 use Rattle.std.specs.Prelude.{◌⊎◌, Result, Ok, Err, is_err, is_ok, is_some, option_map}
 use Rattle.digest_core.specs.declared.Digest.{Digest}
@@ -28,7 +28,7 @@ use Rattle.validator_core.proofs.Refusing.{free, none_stops, stop, stopped_by}
 use Rattle.validator_core.proofs.Running.{journals_same, maybe_kept}
 use Rattle.validator_core.proofs.Settling.{owed_at, seat_with, settles}
 
--- ---- the state behind it
+-- ---- the state after it
 
 pub turning_is : (records : ℕ) (closed : Bool) (votes : List Cast) (old new : Coursed) → new ≡ turned_in old → member_with (records + 1) false [] new ≡ turning (member_with records closed votes old)
 unfolding built

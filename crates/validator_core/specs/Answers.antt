@@ -1,4 +1,4 @@
--- What a member answers, against the definition; want of memory says nothing.
+-- What a member answers, against the definition; running out of memory says nothing.
 use Rattle.std.specs.Prelude.{◌≡◌, ℕ, Bool, true, false, not, List, [], ◌∷◌, Option, Some, None, Result, Ok, Err, is_some, length, ◌≤◌, if◌then◌else◌}
 use Rattle.digest_core.specs.declared.Digest.{Digest}
 use Rattle.quorum_core.specs.declared.signer.Signer.{Signer}
@@ -32,7 +32,7 @@ use Rattle.scene_spec.specs.Terms.{Terms, rules_for}
 abbrev pub no_terms : Terms
 no_terms = record { stakes = []; writers = None }
 
--- the rules, where the terms play no part
+-- the rules, if the terms play no part
 abbrev pub sealed_as : (Signer → List ℕ → Digest → Bool) → Rules
 sealed_as accepts = rules_for no_terms accepts
 
@@ -51,8 +51,8 @@ VotesAs epoch said (Ok d) = said ≡ Ok (vote_as epoch d)
 VotesAs epoch said (Err no_vote.OutOfMemory) = Unit {0}
 VotesAs epoch said (Err refusal) = said ≡ Err refusal
 
--- the decision of a vote for the transaction in front of it
-abbrev pub decision_in : Result (Transaction × Decision) VoteRefusal → Result Decision VoteRefusal
+-- the decision of a vote, between its transaction and the bytes of that
+abbrev pub decision_in : {B : Type 0} → Result (Transaction × Decision × B) VoteRefusal → Result Decision VoteRefusal
 decision_in (Ok v) = Ok v.1
 decision_in (Err refusal) = Err refusal
 
@@ -63,7 +63,7 @@ Repeats digest origins (Err no_vote.OutOfMemory) = Unit {0}
 Repeats digest origins (Err refusal) = ⊥
 
 -- the record that is due for a vote: that of a fresh one
-abbrev pub VoteDue : Option Record → Result (Transaction × Decision) VoteRefusal → Type 0
+abbrev pub VoteDue : {B : Type 0} → Option Record → Result (Transaction × Decision × B) VoteRefusal → Type 0
 VoteDue due (Ok v) = due ≡ (if v.1.fresh then Some (record_as.Vote v.0 v.1.origins) else None)
 VoteDue due (Err no_vote.OutOfMemory) = Unit {0}
 VoteDue due (Err refusal) = due ≡ None
@@ -85,12 +85,12 @@ HoldsAs said (Err no_hold.OutOfMemory) = Unit {0}
 HoldsAs said (Err (no_hold.Fork key first second)) = ⊥
 HoldsAs said (Err refusal) = said ≡ Err refusal
 
--- what becomes of the certificate in front of it
+-- what becomes of a certificate, without the certificate
 abbrev pub holding_in : Result (Certificate × Holding) HoldRefusal → Result Holding HoldRefusal
 holding_in (Ok h) = Ok h.1
 holding_in (Err refusal) = Err refusal
 
--- the record that is due for a certificate: it is kept where it is new, or the evidence of a fork
+-- the record that is due for a certificate: it is kept if it is new, or the evidence of a fork
 abbrev pub HoldDue : Option Record → Result (Certificate × Holding) HoldRefusal → Type 0
 HoldDue due (Ok (c, holding.Again)) = due ≡ None
 HoldDue due (Ok (c, holding.New digest)) = due ≡ Some (record_as.Hold c)
@@ -126,7 +126,7 @@ close_stopped m = first_some (halted no_close.Halted m ∷ full no_close.Full m 
 abbrev pub bare : Rules
 bare = rules_for no_terms (λ by bytes seal. false)
 
--- what holds where a record was taken
+-- what holds if a record was taken
 abbrev pub OnTaken : {E : Type 0} → Result Bool E → Type 0 → Type 0
 OnTaken (Ok true) holds = holds
 OnTaken (Ok false) holds = Unit {0}

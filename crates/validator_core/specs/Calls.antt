@@ -1,4 +1,4 @@
--- What each call of a member answers, against the definition; want of memory and a fault of the keeper say
+-- What each call of a member answers, against the definition; running out of memory and a fault of the keeper say
 -- nothing here.
 use Rattle.std.specs.Prelude.{◌≡◌, ℕ, Bool, true, List, [], Option, Result, Ok, Err, is_ok, if◌then◌else◌}
 use Rattle.digest_core.specs.declared.Digest.{Digest}
@@ -167,7 +167,7 @@ Acks accepts member said (Err refusal) = said ≡ Err refusal
 abbrev pub end_said : Rules → Seated → Result Statement EndRefusal
 end_said r seat = if seat.up then end_answer r seat.state else Err no_end.Down
 
--- the statement under the member's seal; memory may be wanted where there is one, and else not
+-- the statement under the member's seal; memory may be wanted if there is one, and else not
 abbrev pub Ends : (Signer → List ℕ → Digest → Bool) → ℕ → Result Statement EndRefusal → Result Sealed EndRefusal → Type 0
 Ends accepts member said (Ok s) = (said ≡ Ok s.statement) × IsSealedBy accepts member s
 Ends accepts member said (Err no_end.OutOfMemory) = is_ok said ≡ true

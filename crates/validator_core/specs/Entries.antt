@@ -48,6 +48,6 @@ waiting_answer (Some origin) deferred tx t = seen_as.Pending tx origin
 waiting_answer None (Some id) tx t = seen_as.Deferred tx id
 waiting_answer None None tx t = seen_as.Taken t.admitted t.dropped
 
--- the member behind such an entry
+-- the member after such an entry
 abbrev pub behind_entry : Rules → Member → What → Member
 behind_entry r m what = record m { sequence = with_entry r m.opening m.sequence what; held = held_with m.held what; records = m.records + 1 }

@@ -26,7 +26,7 @@ pub record Fell (old new : Seated) : Type 0 where
   pub terms : new.terms ≡ old.terms
   pub up : new.up ≡ false
 
--- the state behind a call that answered
+-- the state after a call that answered
 abbrev pub Becomes : Member → Member → Ended → Type 0
 Becomes next new answered = new ≡ next
 Becomes next new fell = Unit {0}
@@ -47,12 +47,12 @@ abbrev pub Appended : Option Journals → Option Journals → ℕ → Record →
 Appended before now member x (Ok done) = AddsRecord before now member (journals.journal_record.spell x)
 Appended before now member x (Err why) = AddsRecord before now member (journals.journal_record.spell x) ⊎ KeepsJournals before now
 
--- the same of a record that may be due
+-- likewise for a record that may be due
 abbrev pub AppendedWhere : Option Journals → Option Journals → ℕ → Option Record → Result (Unit {0}) Unkept → Type 0
 AppendedWhere before now member due (Ok done) = Keeps before now member due
 AppendedWhere before now member due (Err why) = Keeps before now member due ⊎ KeepsJournals before now
 
--- where a call answers, its due record stands; where the member fell, it stands or nothing does
+-- if a call answers, its due record stands; if the member fell, it stands or nothing does
 abbrev pub Journaled : Option Journals → Option Journals → ℕ → Option Record → Ended → Type 0
 Journaled before now member due answered = Keeps before now member due
 Journaled before now member due fell = Keeps before now member due ⊎ KeepsJournals before now

@@ -32,7 +32,7 @@ AllFew votes = Each HasFew votes
 abbrev pub ordered_front : Coursed → ℕ
 ordered_front c = front_length (is_ordered c.sequence.admission) c.held
 
--- votes can be spelled, what the epoch has is sound, each entry that was seen has its record, and so many of the first
+-- votes can be encoded, what the epoch has is sound, each entry that was seen has its record, and so many of the first
 -- held certificates are in the sequence
 pub record Stands (records : ℕ) (votes : List Cast) (ordered : ℕ) (c : Course) : Type 0 where
   pub few : AllFew votes

@@ -1,4 +1,4 @@
--- The state behind one more record of each kind. Source: this profile.
+-- The state after one more record of each kind. Source: this profile.
 use Rattle.std.specs.Prelude.{◌+◌, true, List, [], ◌∷◌, ◌++◌, map, Option, Some, None}
 use Rattle.digest_core.specs.declared.Digest.{Digest}
 use Rattle.chain_types.specs.declared.transactions.Transaction.{Transaction}
@@ -32,7 +32,7 @@ turning m = record (turned m) { records = m.records + 1 }
 abbrev pub counted : Member → Member
 counted m = record m { records = m.records + 1 }
 
--- the same, where the run has one
+-- the same, if the run has one
 abbrev pub counted_where : Option Record → Member → Member
 counted_where None m = m
 counted_where (Some x) m = counted m
@@ -44,7 +44,7 @@ item_of e = record { tx = e.tx; effects = digest_of_effects e }
 abbrev pub items_of : List Effects → List RanItem
 items_of effects = map item_of effects
 
--- the items so far, and behind them those of these effects
+-- the items so far, and after them those of these effects
 abbrev pub items_after : List RanItem → List Effects → List RanItem
 items_after items [] = items
 items_after items (e ∷ es) = items_after (items ++ item_of e ∷ []) es

@@ -31,7 +31,7 @@ MayTake m digest (record_as.Ran txs) = ⊥
 MayTake m digest record_as.Turn = ⊥
 MayTake m digest (record_as.Ran2 items) = ⊥
 
--- the state behind it
+-- the state after it
 abbrev pub taken : Member → Record → Member
 taken m (record_as.Vote t origins) = voted m t origins
 taken m (record_as.Hold c) = holding m c

@@ -15,12 +15,13 @@ ghost use Rattle.scene_spec.specs.Terms.{rules_for};
 ghost use Rattle.validator_core.specs.Limits.{terms_at};
 ghost use Rattle.validator_core.specs.Steps.{voted};
 ghost use Rattle.journal_core.specs.Records as journals;
+ghost use Rattle.journal_core.specs.Encoded.{IsEncodedIn};
 ghost use Rattle.validator_core.specs.Taking.{MayTake, taken};
 ghost use Rattle.validator_core.specs.declared.keeping.Unkept.TheVariants as unkept;
 ghost use Rattle.validator_core.specs.Calls.{Holds, IsSealedBy, Votes, hold_ended, origins_in, vote_ended};
 ghost use Rattle.validator_core.specs.Seats.{Appended, Becomes, Journaled, has_fallen};
 
-use crate::keeping::{Unkept, append};
+use crate::keeping::{Unkept, append_encoded};
 use crate::{Decision, Holding, State};
 use answer_types::{Held, HoldRefusal, VoteRefusal, Voted};
 use chain_messages::{Certificate, Sealed, Statement, encode_statement};
@@ -76,15 +77,17 @@ fn take(state: &mut State, kept: Record, digest: Digest) -> Result<(), OutOfMemo
     }
 }
 
-/// Appends a record of the transaction of this digest, and takes it.
+/// Appends a record of the transaction of this digest, and takes it. The bytes encode its transaction or certificate.
 fn keep<D: Keeper>(
     state: &mut State,
     keeper: &mut D,
     member: u32,
     kept: Record,
     digest: Digest,
+    encoded: &[u8],
 ) -> Result<(), Unkept>
     requires known { member < D.width keeper.old }
+    requires encoded { IsEncodedIn kept encoded.now }
     requires may { MayTake state.old.member digest kept }
     requires short { journals.journal_record.short kept }
     requires room { nat_le record_limit state.old.member.records ≡ false }
@@ -95,7 +98,7 @@ fn keep<D: Keeper>(
     ensures fault { IsErrOf result unkept.KeepFault → Rose (D.failed keeper.old) (D.failed keeper.new) }
     ensures limit { state.new.writers ≡ state.old.writers }
 {
-    match append(state.allocator(), keeper, member, &kept) {
+    match append_encoded(state.allocator(), keeper, member, &kept, encoded) {
         Ok(()) => {}
         Err(why) => return Err(why),
     }
@@ -112,10 +115,12 @@ fn keep_vote<D: Keeper>(
     keeper: &mut D,
     member: u32,
     tx: Transaction,
+    tx_bytes: &[u8],
     decision: Decision,
 ) -> Result<(), Unkept>
     requires known { member < D.width keeper.old }
     requires short { transaction.short tx }
+    requires encoded { tx_bytes.now ≡ transaction.spell tx }
     requires free { IsFree state.old.member tx decision }
     requires fresh { decision.fresh ≡ true }
     requires room { nat_le record_limit state.old.member.records ≡ false }
@@ -131,7 +136,7 @@ fn keep_vote<D: Keeper>(
         tx,
         origins: decision.origins,
     };
-    keep(state, keeper, member, kept, digest)
+    keep(state, keeper, member, kept, digest, tx_bytes)
 }
 
 /// Asks a member that is up for its vote: the record of a fresh one is appended before the vote is given.
@@ -155,7 +160,7 @@ pub(crate) fn vote<D: Keeper, S: Sealer>(
     ensures few { IfOk result (λ v. length (origins_in v.sealed.statement) ≤ 257) }
     ensures limit { state.new.writers ≡ state.old.writers }
 {
-    let (tx, decision) = state.vote(sealer, bytes)?;
+    let (tx, decision, tx_bytes) = state.vote(sealer, bytes)?;
     let epoch = state.epoch();
     let Ok(sealed) = seal_vote(state.allocator(), sealer, member, epoch, &decision) else {
         return Err(VoteRefusal::OutOfMemory);
@@ -166,14 +171,14 @@ pub(crate) fn vote<D: Keeper, S: Sealer>(
             fresh: false,
         });
     }
-    keep_vote(state, keeper, member, tx, decision)?;
+    keep_vote(state, keeper, member, tx, tx_bytes, decision)?;
     Ok(Voted {
         sealed,
         fresh: true,
     })
 }
 
-/// Whether the member is down behind this answer.
+/// Whether the member is down after this answer.
 pub(crate) fn vote_fell(answer: &Result<Voted, VoteRefusal>) -> bool
     ensures { result ≡ has_fallen (vote_ended answer.now) }
 {
@@ -225,11 +230,11 @@ pub(crate) fn hold<D: Keeper, S: Sealer>(
     match holding {
         Holding::Again => Ok(false),
         Holding::New(digest) => {
-            keep(state, keeper, member, Record::Hold(cert), digest)?;
+            keep(state, keeper, member, Record::Hold(cert), digest, bytes)?;
             Ok(true)
         }
         Holding::Fork { key, first, digest } => {
-            keep(state, keeper, member, Record::Hold(cert), digest)?;
+            keep(state, keeper, member, Record::Hold(cert), digest, bytes)?;
             Err(HoldRefusal::Fork {
                 key,
                 first,
@@ -239,7 +244,7 @@ pub(crate) fn hold<D: Keeper, S: Sealer>(
     }
 }
 
-/// Whether the member is down behind this answer.
+/// Whether the member is down after this answer.
 pub(crate) fn hold_fell(answer: &Result<bool, HoldRefusal>) -> bool
     ensures { result ≡ has_fallen (hold_ended answer.now) }
 {

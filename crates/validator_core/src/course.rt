@@ -75,7 +75,7 @@ impl Course {
         })
     }
 
-    /// Holds nothing and has seen nothing, where memory was refused half way. Takes no memory.
+    /// Holds nothing and has seen nothing, if memory was refused half way. Takes no memory.
     pub(crate) fn forget(&mut self)
         requires { HasOpening self.old }
         ensures sound { IsSound self.new }
@@ -153,7 +153,7 @@ impl Course {
         )
     }
 
-    /// The same by 1 to 16 workers in threads. The gate is told of each execution.
+    /// The same by 1 to 16 workers in threads. The gate is notified of each execution.
     fn execute_pooled<R: Threads + Sync, G: Gate + Sync>(
         &mut self,
         rt: &R,
@@ -197,7 +197,7 @@ impl Course {
         Ok((effects, built))
     }
 
-    /// The same by 1 to 16 workers in threads. The gate is told of each execution.
+    /// The same by 1 to 16 workers in threads. The gate is notified of each execution.
     pub(crate) fn run_pooled<R: Threads + Sync, G: Gate + Sync>(
         &mut self,
         rt: &R,

@@ -1,7 +1,8 @@
 //! What an entry of the consensus sequence is to a member.
 
 ghost use Rattle.std.specs.Prelude.{◌≡◌, ◌&&◌, IfOk, Ok, length, nat_lt};
-ghost use Rattle.chain_messages.specs.Messages.{certificate, sealed, statement};
+ghost use Rattle.chain_messages.specs.Messages.{sealed, statement};
+ghost use Rattle.chain_types.specs.Transactions.{transaction};
 ghost use Rattle.chain_messages.specs.declared.messages.Entry.TheVariants as read;
 ghost use Rattle.chain_messages.specs.declared.messages.Statement.TheVariants as statements;
 ghost use Rattle.protocol_spec.specs.Chain.Certificates.{accepts_statement};
@@ -13,8 +14,8 @@ ghost use Rattle.validator_core.specs.Limits.{terms_at};
 use crate::state::State;
 use answer_types::{Held, Ignore};
 use cert_rules::check_cert;
-use chain_messages::{Certificate, Entry, Sealed, Statement, decode_entry, encode_statement};
-use chain_types::{CertRefusal, tx_digest};
+use chain_messages::{Certificate, Entry, Sealed, Statement, decode_entry_with, encode_statement};
+use chain_types::{CertRefusal, encoded_digest};
 use quorum_core::{Committee, Sealer, Signer};
 use wire_bcs::{OutOfMemory, Unread};
 
@@ -93,22 +94,22 @@ impl State {
         }
     }
 
-    /// A certificate. Order of the causes: `Epoch`, `Cert`, `Repeat`.
-    #[tactic(auto, unfolding(chain_messages::specs::Messages::certificate))]
+    /// A certificate, whose transaction these bytes encode. Order of the causes: `Epoch`, `Cert`, `Repeat`.
     fn read_cert<S: Sealer>(
         &self,
         committee: &Committee,
         sealer: &S,
         cert: Certificate,
+        tx_bytes: &[u8],
     ) -> Result<Arrival, OutOfMemory>
-        requires { certificate.short cert }
+        requires { tx_bytes.now ≡ transaction.spell cert.tx }
         ensures what { IfOk result (λ a. what_read (rules_for (terms_at self.now committee.now) (S.accepts sealer.now)) self.now.member.epoch self.now.member.sequence (Ok (read.Cert cert)) ≡ what_as a) }
         ensures may { IfOk result (MayArrive committee.now self.now.member.sequence) }
     {
         if cert.tx.epoch != self.epoch() {
             return Ok(Arrival::Ignores(Ignore::Epoch));
         }
-        let digest = tx_digest(self.alloc, &cert.tx)?;
+        let digest = encoded_digest(&cert.tx, tx_bytes);
         match check_cert(self.alloc, &cert, &digest, committee, sealer) {
             Ok(()) => {}
             Err(CertRefusal::OutOfMemory) => return Err(OutOfMemory),
@@ -121,7 +122,7 @@ impl State {
     }
 
     /// What the bytes of the next entry are to the member (Sui Lutris; the causes and their order are this profile's):
-    /// bytes that spell no entry are ignored as `Malformed`.
+    /// bytes that encode no entry are ignored as `Malformed`.
     #[tactic(auto, unfolding(protocol_spec::specs::Member::Sequence::what_of, protocol_spec::specs::Chain::Certificates::read_entry, chain_messages::specs::Messages::entry))]
     pub(crate) fn read_entry<S: Sealer>(
         &self,
@@ -132,12 +133,15 @@ impl State {
         ensures what { IfOk result (λ a. what_of (rules_for (terms_at self.now committee.now) (S.accepts sealer.now)) self.now.member.epoch self.now.member.sequence bytes.now ≡ what_as a) }
         ensures may { IfOk result (MayArrive committee.now self.now.member.sequence) }
     {
-        match decode_entry(self.alloc, bytes) {
-            Ok(Entry::Cert(cert)) => self.read_cert(committee, sealer, cert),
-            Ok(Entry::End(said)) => self.read_stated(committee, sealer, &said),
-            Ok(Entry::Commit) => Ok(Arrival::Commits),
-            Err(Unread::Wire(_)) => Ok(Arrival::Ignores(Ignore::Malformed)),
-            Err(Unread::OutOfMemory) => Err(OutOfMemory),
+        let (entry, tx_bytes) = match decode_entry_with(self.alloc, bytes) {
+            Ok(read) => read,
+            Err(Unread::Wire(_)) => return Ok(Arrival::Ignores(Ignore::Malformed)),
+            Err(Unread::OutOfMemory) => return Err(OutOfMemory),
+        };
+        match entry {
+            Entry::Cert(cert) => self.read_cert(committee, sealer, cert, tx_bytes),
+            Entry::End(said) => self.read_stated(committee, sealer, &said),
+            Entry::Commit => Ok(Arrival::Commits),
         }
     }
 }

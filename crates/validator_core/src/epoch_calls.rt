@@ -87,7 +87,7 @@ pub(crate) fn run<R: Threads + Sync, D: Keeper, G: Gate + Sync>(
     Ok(ran)
 }
 
-/// Whether the member is down behind this answer.
+/// Whether the member is down after this answer.
 pub(crate) fn run_fell(answer: &Result<Ran, RunRefusal>) -> bool
     ensures { result ≡ has_fallen (run_ended answer.now) }
 {
@@ -147,7 +147,7 @@ pub(crate) fn close<D: Keeper>(
     Ok(true)
 }
 
-/// Whether the member is down behind this answer.
+/// Whether the member is down after this answer.
 pub(crate) fn close_fell(answer: &Result<bool, CloseRefusal>) -> bool
     ensures { result ≡ has_fallen (close_ended answer.now) }
 {

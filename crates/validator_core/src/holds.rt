@@ -16,8 +16,8 @@ ghost use Rattle.validator_core.specs.Limits.{terms_at};
 use crate::state::State;
 use answer_types::HoldRefusal;
 use cert_rules::check_cert;
-use chain_messages::{Certificate, decode_certificate};
-use chain_types::{CertRefusal, ObjectKey, owned_keys, tx_digest};
+use chain_messages::{Certificate, decode_certificate_with};
+use chain_types::{CertRefusal, ObjectKey, encoded_digest, owned_keys};
 use digest_core::Digest;
 use quorum_core::{Committee, Sealer};
 use wire_bcs::Unread;
@@ -85,14 +85,15 @@ impl State {
         }
     }
 
-    /// What becomes of a certificate. Order of the refusals: `WrongEpoch`, `Closed`, `Cert`.
+    /// What becomes of a certificate of the transaction of this digest. Order of the refusals: `WrongEpoch`, `Closed`, `Cert`.
     pub fn hold_on<S: Sealer>(
         &self,
         committee: &Committee,
         sealer: &S,
         cert: &Certificate,
+        digest: Digest,
     ) -> Result<Holding, HoldRefusal>
-        requires { transaction.short cert.now.tx }
+        requires { digest ≡ transaction_digest cert.now.tx }
         ensures answer { HoldsAs (hold_certificate (rules_for (terms_at self.now committee.now) (S.accepts sealer.now)) self.now.member cert.now) result }
         ensures held { IfOk result (λ h. IsHeldAs self.now.member cert.now h) }
         ensures never { IsErrOf result no_hold.KeepFault → ⊥ }
@@ -104,16 +105,13 @@ impl State {
                 want,
             });
         }
-        let Ok(digest) = tx_digest(self.alloc, &cert.tx) else {
-            return Err(HoldRefusal::OutOfMemory);
-        };
         if self.holds(&digest) {
             return Ok(Holding::Again);
         }
         self.new_hold(committee, sealer, cert, digest)
     }
 
-    /// The certificate that the bytes spell, and what becomes of it. Order of the refusals: `Halted`, `Full`,
+    /// The certificate that the bytes encode, and what becomes of it. Order of the refusals: `Halted`, `Full`,
     /// `Malformed`, then those of [`State::hold_on`].
     #[tactic(auto, unfolding(protocol_spec::specs::Member::Calls::hold_answer, protocol_spec::specs::Member::Calls::due, protocol_spec::specs::Chain::Certificates::read_certificate, chain_messages::specs::Messages::certificate))]
     pub fn hold<S: Sealer>(
@@ -126,18 +124,20 @@ impl State {
         ensures due { HoldDue (due (rules_for (terms_at self.now committee.now) (S.accepts sealer.now)) self.now.member (holds bytes.now)) result }
         ensures held { IfOk result (λ h. IsHeldAs self.now.member h.0 h.1) }
         ensures short { IfOk result (λ h. certificate.short h.0) }
+        ensures encoded { IfOk result (λ h. bytes.now ≡ certificate.spell h.0) }
         ensures room { IfOk result (λ _. nat_le record_limit self.now.member.records ≡ false) }
         ensures calm { IfOk result (λ _. fork_of self.now.member ≡ None) }
         ensures never { IsErrOf result no_hold.KeepFault → ⊥ }
         ensures able { IsErrOf result no_hold.OutOfMemory → fork_of self.now.member ≡ None }
     {
         self.check_hold()?;
-        let cert = match decode_certificate(self.alloc, bytes) {
+        let (cert, tx_bytes) = match decode_certificate_with(self.alloc, bytes) {
             Ok(cert) => cert,
             Err(Unread::Wire(fault)) => return Err(HoldRefusal::Malformed(fault)),
             Err(Unread::OutOfMemory) => return Err(HoldRefusal::OutOfMemory),
         };
-        let holding = self.hold_on(committee, sealer, &cert)?;
+        let digest = encoded_digest(&cert.tx, tx_bytes);
+        let holding = self.hold_on(committee, sealer, &cert, digest)?;
         Ok((cert, holding))
     }
 }

@@ -5,19 +5,26 @@ ghost use Rattle.protocol_spec.specs.Member.Versions.{Execution, execution_of, l
 
 use crate::{State, Validator};
 use answer_types::Held;
-use chain_types::{Object, ObjectId, ObjectKey};
+use chain_types::{HashedObject, Object, ObjectId, ObjectKey};
 use digest_core::Digest;
 use effects_core::Effects;
 
 impl State {
-    /// The newest version of an object; none exactly where none is held, or it was deleted. Takes no memory.
+    /// The object of a held version, with its digest. Takes no memory.
+    pub(crate) fn hashed(&self, key: &ObjectKey) -> Option<&HashedObject>
+        ensures { option_copied result ≡ option_map object_in (version_at (versions_of self.now.member.opening self.now.member.executed) key.now) }
+    {
+        self.course.store.hashed(key)
+    }
+
+    /// The newest version of an object; none exactly if none is held, or it was deleted. Takes no memory.
     pub(crate) fn live(&self, id: &ObjectId) -> Option<&Object>
         ensures { option_copied result ≡ live self.now.member.opening self.now.member.executed id.now }
     {
         self.course.store.live(id)
     }
 
-    /// The effects of a transaction that the member executed in the epoch; none exactly where it executed none. Takes no
+    /// The effects of a transaction that the member executed in the epoch; none exactly if it executed none. Takes no
     /// memory.
     pub(crate) fn effects(&self, tx: &Digest) -> Option<&Effects>
         ensures { option_map (λ (e : _). e.now) result ≡ option_map (λ (x : Execution). x.gave.effects) (execution_of self.now.member.executed tx.now) }
@@ -41,21 +48,21 @@ impl Validator {
         self.state.records()
     }
 
-    /// The object of a held version; none exactly where the version is not held. Takes no memory.
+    /// The object of a held version; none exactly if the version is not held. Takes no memory.
     pub fn object(&self, key: &ObjectKey) -> Option<&Object>
         ensures { option_copied result ≡ option_map object_in (version_at (versions_of self.now.state.opening self.now.state.executed) key.now) }
     {
         self.state.object(key)
     }
 
-    /// The live version of an object; none exactly where there is none. Takes no memory.
+    /// The live version of an object; none exactly if there is none. Takes no memory.
     pub fn live(&self, id: &ObjectId) -> Option<&Object>
         ensures { option_copied result ≡ live self.now.state.opening self.now.state.executed id.now }
     {
         self.state.live(id)
     }
 
-    /// The effects of a transaction that the member executed in its present epoch; none exactly where it executed none.
+    /// The effects of a transaction that the member executed in its present epoch; none exactly if it executed none.
     /// Takes no memory.
     pub fn effects(&self, tx: &Digest) -> Option<&Effects>
         ensures { option_map (λ (e : _). e.now) result ≡ option_map (λ (x : Execution). x.gave.effects) (execution_of self.now.state.executed tx.now) }

@@ -14,7 +14,7 @@ use version_store::Store;
 use vote_rules::HeldBook;
 use wire_bcs::{OutOfMemory, Seq};
 
-/// The next epoch; none exactly behind the last of its type.
+/// The next epoch; none exactly after the last of its type.
 fn next_of(epoch: u64) -> Option<u64>
     ensures { IfSome result (λ next. next ≡ epoch + 1) }
 {
@@ -45,7 +45,7 @@ impl Course {
         }
     }
 
-    /// Has nothing, where memory was refused as the epoch turned. Takes no memory.
+    /// Has nothing, if memory was refused as the epoch turned. Takes no memory.
     pub(crate) fn abandon(&mut self)
         ensures sound { IsSound self.new }
         ensures limit { self.new.admission.writers ≡ self.old.admission.writers }
@@ -57,7 +57,7 @@ impl Course {
 
     /// Goes to the next epoch (epoch change of Sui Lutris): undoes what was executed and stands in no cut, opens with the
     /// live objects, and forgets all else but the checkpoints. Answers the undone transactions, oldest first. An epoch
-    /// past its type counts as want of memory; then the course is not to be used. Time grows with what the epoch executed,
+    /// past its type counts as running out of memory; then the course is not to be used. Time grows with what the epoch executed,
     /// wrote and deleted, and not with what is held.
     pub(crate) fn turn(&mut self) -> Result<Seq<Digest>, OutOfMemory>
         requires { IsSound self.old }

@@ -23,7 +23,7 @@ use crate::state::State;
 use answer_types::{Held, HoldRefusal, VoteRefusal};
 use cert_rules::same_origins;
 use chain_messages::Certificate;
-use chain_types::Transaction;
+use chain_types::{Transaction, tx_digest};
 use digest_core::Digest;
 use journal_core::{RanItem, Record};
 use quorum_core::{Committee, Sealer};
@@ -56,7 +56,7 @@ fn same_txs(txs: &[Digest], items: &[RanItem]) -> bool
 }
 
 impl State {
-    /// Takes the record of a vote, where a request could bring it about in this state.
+    /// Takes the record of a vote, if a request could bring it about in this state.
     #[tactic(auto, unfolding(protocol_spec::specs::Member::Replay::is_allowed))]
     pub(crate) fn take_vote_back<S: Sealer>(
         &mut self,
@@ -72,7 +72,8 @@ impl State {
         if self.check_vote().is_err() {
             return Ok(false);
         }
-        match self.vote_on(tx, true) {
+        let digest = tx_digest(self.allocator(), tx)?;
+        match self.vote_on(tx, digest, true) {
             Ok(decision) => {
                 if !decision.fresh
                     || !same_origins(decision.origins.as_slice(), origins.as_slice())
@@ -87,7 +88,7 @@ impl State {
         }
     }
 
-    /// Takes the record of a certificate, where handing it in could bring it about in this state.
+    /// Takes the record of a certificate, if handing it in could bring it about in this state.
     #[tactic(auto, unfolding(protocol_spec::specs::Member::Replay::is_allowed, chain_messages::specs::Messages::certificate))]
     pub(crate) fn take_hold_back<S: Sealer>(
         &mut self,
@@ -103,7 +104,8 @@ impl State {
         if self.check_hold().is_err() {
             return Ok(false);
         }
-        match self.hold_on(committee, sealer, &cert) {
+        let digest = tx_digest(self.allocator(), &cert.tx)?;
+        match self.hold_on(committee, sealer, &cert, digest) {
             Ok(Holding::Again) => Ok(false),
             Ok(Holding::New(digest) | Holding::Fork { digest, .. }) => {
                 self.take_hold(Held { digest, cert })?;
@@ -124,7 +126,7 @@ impl State {
         }
     }
 
-    /// Takes the record of a close, where the member may close in this state.
+    /// Takes the record of a close, if the member may close in this state.
     #[tactic(auto, unfolding(protocol_spec::specs::Member::Replay::is_allowed, protocol_spec::specs::Member::Calls::close_answer))]
     pub(crate) fn take_close_back(&mut self) -> bool
         ensures taken { result ≡ is_allowed bare self.old.member record_as.Close }
@@ -141,7 +143,7 @@ impl State {
         true
     }
 
-    /// Takes the record of an entry, where the member may see one in this state.
+    /// Takes the record of an entry, if the member may see one in this state.
     #[tactic(auto, unfolding(protocol_spec::specs::Member::Replay::is_allowed), using(crate::proofs::Seeing::see_taken_back, crate::proofs::Seeing::see_not_taken, crate::proofs::Seeing::behind_seen))]
     pub(crate) fn take_see_back<S: Sealer>(
         &mut self,
@@ -180,7 +182,7 @@ impl State {
         ran_items(self.alloc, effects.as_slice())
     }
 
-    /// Takes the record of a run of these transactions, where a run executes them in this state.
+    /// Takes the record of a run of these transactions, if a run executes them in this state.
     #[tactic(auto, unfolding(protocol_spec::specs::Member::Replay::is_allowed))]
     pub(crate) fn take_txs_back(&mut self, txs: &[Digest]) -> Result<bool, OutOfMemory>
         ensures taken { IfOk result (λ taken. taken ≡ is_allowed bare self.old.member (record_as.Ran txs.now)) }
@@ -198,7 +200,7 @@ impl State {
         Ok(true)
     }
 
-    /// Takes the record of a run of these items, where a run has them in this state.
+    /// Takes the record of a run of these items, if a run has them in this state.
     #[tactic(auto, unfolding(protocol_spec::specs::Member::Replay::is_allowed))]
     pub(crate) fn take_items_back(&mut self, items: &[RanItem]) -> Result<bool, OutOfMemory>
         ensures taken { IfOk result (λ taken. taken ≡ is_allowed bare self.old.member (record_as.Ran2 items.now)) }
@@ -216,7 +218,7 @@ impl State {
         Ok(true)
     }
 
-    /// Takes a record that was read back, where a call would append it in this state; else false. Where false is answered or memory is refused the
+    /// Takes a record that was read back, if a call would append it in this state; else false. If false is answered or memory is refused the
     /// state is not to be used.
     #[tactic(auto, unfolding(protocol_spec::specs::Member::Replay::is_allowed, protocol_spec::specs::Member::Calls::run_answer, protocol_spec::specs::Member::Calls::close_answer, protocol_spec::specs::Member::Calls::turn_answer, protocol_spec::specs::Member::Member::after, journal_core::specs::Records::journal_record))]
     pub fn take<S: Sealer>(

@@ -20,7 +20,7 @@ use std::alloc::Global;
 use std::thread::Threads;
 use wire_bcs::{OutOfMemory, Seq};
 
-/// How long a list is at least that cannot be spelled.
+/// How long a list is at least that cannot be encoded.
 const TOO_LONG: u64 = 2_147_483_648;
 
 /// The item of an executed transaction. Takes no memory.
@@ -33,7 +33,7 @@ fn item_of(effects: &HashedEffects) -> RanItem
     }
 }
 
-/// The items, one behind the other.
+/// The items, one after the other.
 fn collect_items(alloc: Global, effects: &[HashedEffects]) -> Result<Seq<RanItem>, OutOfMemory>
     ensures { IfOk result (λ items. items ≡ items_after [] effects.now) }
 {
@@ -57,8 +57,8 @@ pub(crate) fn ran_items(
     collect_items(alloc, effects)
 }
 
-/// The record of a run that executed transactions with these effects, in order: none where it executed none. A list
-/// of 2^31 items counts as want of memory.
+/// The record of a run that executed transactions with these effects, in order: none if it executed none. A list
+/// of 2^31 items counts as running out of memory.
 #[tactic(auto, using(crate::proofs::Spelled::ran_short))]
 pub fn ran_record(alloc: Global, effects: &[HashedEffects]) -> Result<Option<Record>, OutOfMemory>
     ensures value { IfOk result (λ r. r ≡ ran_record (items_of effects.now)) }
@@ -75,9 +75,9 @@ pub fn ran_record(alloc: Global, effects: &[HashedEffects]) -> Result<Option<Rec
 }
 
 impl State {
-    /// Runs, by 1 to 16 workers in threads: executes all held certificates that are ready, round after round, and tells
-    /// what is left (Sui Lutris). The gate is told of each execution. The items of the record that is due are those of the
-    /// effects. Where memory is refused the state is not to be used.
+    /// Runs, by 1 to 16 workers in threads: executes all held certificates that are ready, round after round, and says
+    /// what is left (Sui Lutris). The gate is notified of each execution. The items of the record that is due are those of the
+    /// effects. If memory is refused the state is not to be used.
     pub fn run<R: Threads + Sync, G: Gate + Sync>(
         &mut self,
         rt: &R,

@@ -2,7 +2,6 @@
 
 ghost use Rattle.std.specs.Prelude.{◌≡◌, ◌<◌, ◌≤◌, IfOk, IsErrOf, None, false, is_some, nat_le, true};
 ghost use Rattle.outside.specs.Causes.{Rose};
-ghost use Rattle.journal_core.specs.declared.records.Record.TheVariants as record_as;
 ghost use Rattle.protocol_spec.specs.Chain.Words.{first_some, unless_refused};
 ghost use Rattle.protocol_spec.specs.Member.Member.{fork_of};
 ghost use Rattle.protocol_spec.specs.Member.Calls.{called, due, record_limit, see_answer, see_cases, sees};
@@ -10,18 +9,14 @@ ghost use Rattle.answer_types.specs.declared.refusals.SeeRefusal.TheVariants as 
 ghost use Rattle.scene_spec.specs.Terms.{rules_for};
 ghost use Rattle.validator_core.specs.Calls.{Sees, see_ended};
 ghost use Rattle.validator_core.specs.Limits.{terms_at};
-ghost use Rattle.validator_core.specs.Seats.{Appended, Becomes, Journaled, has_fallen};
-ghost use Rattle.validator_core.specs.declared.keeping.Unkept.TheVariants as unkept;
+ghost use Rattle.validator_core.specs.Seats.{Becomes, Journaled, has_fallen};
 
 use crate::State;
-use crate::keeping::{Unkept, append};
+use crate::keeping::append_see;
 use answer_types::{SeeRefusal, Seen};
-use journal_core::Record;
 use outside::Keeper;
 use quorum_core::{Committee, Sealer};
-use std::alloc::Global;
 use vote_rules::Fork;
-use wire_bcs::{OutOfMemory, Seq};
 
 impl State {
     /// Whether an entry of this number may be handed in. Order of the refusals: `Halted`, `Full`, `Over`, `Gap`.
@@ -49,29 +44,6 @@ impl State {
         }
         Ok(())
     }
-}
-
-/// Appends the record of an entry. One of 2^31 bytes, more than any list of records can keep, counts as want of memory.
-#[tactic(auto, unfolding(journal_core::specs::Records::journal_record))]
-fn keep_entry<D: Keeper>(
-    alloc: Global,
-    keeper: &mut D,
-    member: u32,
-    bytes: &[u8],
-) -> Result<(), Unkept>
-    requires known { member < D.width keeper.old }
-    ensures kept { Appended (D.lists keeper.old) (D.lists keeper.new) member (record_as.See bytes.now) result }
-    ensures width { D.width keeper.new ≡ D.width keeper.old }
-    ensures later { D.failed keeper.old ≤ D.failed keeper.new }
-    ensures fault { IsErrOf result unkept.KeepFault → Rose (D.failed keeper.old) (D.failed keeper.new) }
-{
-    if bytes.len() >= 1 << 31 {
-        return Err(Unkept::OutOfMemory);
-    }
-    let Ok(bytes) = Seq::from_slice(alloc, bytes) else {
-        return Err(Unkept::OutOfMemory);
-    };
-    append(alloc, keeper, member, &Record::See(bytes))
 }
 
 /// Hands the next entry of its sequence to a member that is up: the record is appended before the call answers.
@@ -103,7 +75,7 @@ pub(crate) fn see<D: Keeper, S: Sealer>(
     let Ok(arrival) = state.read_entry(committee, sealer, bytes) else {
         return Err(SeeRefusal::OutOfMemory);
     };
-    keep_entry(state.allocator(), keeper, member, bytes)?;
+    append_see(state.allocator(), keeper, member, bytes)?;
     let Ok(seen) = state.take_entry(committee, arrival) else {
         return Err(SeeRefusal::OutOfMemory);
     };
@@ -113,7 +85,7 @@ pub(crate) fn see<D: Keeper, S: Sealer>(
     }
 }
 
-/// Whether the member is down behind this answer.
+/// Whether the member is down after this answer.
 pub(crate) fn see_fell(answer: &Result<Seen, SeeRefusal>) -> bool
     ensures { result ≡ has_fallen (see_ended answer.now) }
 {

@@ -35,7 +35,7 @@ fn take_one<S: Sealer>(
     }
 }
 
-/// Takes records, one behind the other.
+/// Takes records, one after the other.
 #[tactic(auto, using(crate::proofs::Starting::taken_on, crate::proofs::Starting::stopped_on))]
 pub(crate) fn take_all<S: Sealer>(
     state: &mut State,

@@ -53,7 +53,7 @@ pub struct State {
     records: u64,
     closed: bool,
     votes: VoteBook,
-    /// How many of the first held certificates are in the sequence; one step further behind each entry.
+    /// How many of the first held certificates are in the sequence; one step further after each entry.
     ordered: usize,
     pub(crate) course: Course,
     pub(crate) alloc: Global,
@@ -94,7 +94,7 @@ impl State {
     }
 
     /// The allocator that the state takes its memory from.
-    pub fn allocator(&self) -> Global {
+    pub(crate) fn allocator(&self) -> Global {
         self.alloc
     }
 
@@ -140,8 +140,8 @@ impl State {
         self.course.admission.is_known(tx)
     }
 
-    /// The first held transaction that is not in the sequence as the member has seen it; none exactly where all are. Looks
-    /// at none that was found there behind an entry, so the certificates of an epoch are walked once. Takes no memory.
+    /// The first held transaction that is not in the sequence as the member has seen it; none exactly if all are. Looks
+    /// at none that was found there after an entry, so the certificates of an epoch are walked once. Takes no memory.
     pub(crate) fn first_unordered(&self) -> Option<Digest>
         ensures { result ≡ first_of (unordered self.now.member.sequence.admission) self.now.member.held }
     {
@@ -168,7 +168,7 @@ impl State {
         self.course.chain.transactions()
     }
 
-    /// The checkpoint of this number; none exactly where it was not built. Takes no memory.
+    /// The checkpoint of this number; none exactly if it was not built. Takes no memory.
     #[tactic(auto, unfolding(protocol_spec::specs::Member::Member::built), using(crate::proofs::Coursing::built_is))]
     pub fn checkpoint(&self, number: u64) -> Option<&Checkpoint>
         ensures { option_map (λ (c : _). c.now) result ≡ slice_get (built_by self.now.member) number }
@@ -229,7 +229,7 @@ impl State {
         self.course.store.opening_list()
     }
 
-    /// The origins that the vote for this transaction named, where one was given. Takes no memory.
+    /// The origins that the vote for this transaction named, if one was given. Takes no memory.
     pub(crate) fn given(&self, tx: &Digest) -> Option<&Seq<Option<Digest>>>
         ensures few { IfSome result (λ o. length o.now ≤ 257) }
         ensures value { option_map (λ (o : _). o.now) result ≡ option_map (λ (v : Cast). v.origins) (vote_for self.now.member tx.now) }
@@ -263,7 +263,7 @@ impl State {
         self.course.held.fork_with(keys)
     }
 
-    /// Takes the record of a vote for the transaction of this digest and these consumed keys. Where memory is
+    /// Takes the record of a vote for the transaction of this digest and these consumed keys. If memory is
     /// refused the state is not to be used.
     pub fn take_vote(
         &mut self,
@@ -285,7 +285,7 @@ impl State {
         Ok(())
     }
 
-    /// Takes the record of a certificate that is newly held, or is the evidence of a fork. Where memory is
+    /// Takes the record of a certificate that is newly held, or is the evidence of a fork. If memory is
     /// refused the state is not to be used.
     pub fn take_hold(&mut self, held: Held) -> Result<(), OutOfMemory>
         requires digest { held.digest ≡ transaction_digest held.cert.tx }
@@ -309,7 +309,7 @@ impl State {
     }
 
     /// Takes an entry of the sequence, of which the record stands, and answers what it did and which checkpoints it
-    /// completed. Where memory is refused the state is not to be used.
+    /// completed. If memory is refused the state is not to be used.
     pub(crate) fn take_entry(
         &mut self,
         committee: &Committee,
@@ -343,7 +343,7 @@ impl State {
 
     /// Executes on the caller's thread all held certificates that are ready, round after round (Sui Lutris), and answers
     /// their effects in order, and the checkpoints that are complete by it; the record of it is to be counted. The items of
-    /// that record are those of the effects. Where memory is refused the state is not to be used.
+    /// that record are those of the effects. If memory is refused the state is not to be used.
     #[tactic(auto, unfolding(protocol_spec::specs::Member::Member::built), using(crate::proofs::Named::ran_named))]
     pub fn execute(&mut self) -> Result<(Seq<HashedEffects>, Seq<HashedCheckpoint>), OutOfMemory>
         ensures state { OnOk result (self.new.member ≡ with_rounds self.old.member) }
@@ -362,7 +362,7 @@ impl State {
         }
     }
 
-    /// The same by 1 to 16 workers in threads. The gate is told of each execution.
+    /// The same by 1 to 16 workers in threads. The gate is notified of each execution.
     #[tactic(auto, unfolding(protocol_spec::specs::Member::Member::built), using(crate::proofs::Named::ran_named))]
     pub fn execute_pooled<R: Threads + Sync, G: Gate + Sync>(
         &mut self,
@@ -414,7 +414,7 @@ impl State {
         self.records += 1;
     }
 
-    /// The first admitted transaction that is not executed as it was admitted; none exactly where all are. One look. Takes
+    /// The first admitted transaction that is not executed as it was admitted; none exactly if all are. One look. Takes
     /// no memory.
     pub(crate) fn first_undone(&self) -> Option<Digest>
         ensures { result ≡ first_of (waiting_one self.now.member.held self.now.member.executed) self.now.member.sequence.admission.admitted }
@@ -424,7 +424,7 @@ impl State {
 
     /// Takes the record of a turn: goes to the next epoch (epoch change of Sui Lutris), and answers the transactions that
     /// are undone, since they stand in no cut of this one, oldest first. Time grows with what the epoch executed, wrote
-    /// and deleted. Where memory is refused the state is not to be used.
+    /// and deleted. If memory is refused the state is not to be used.
     #[tactic(auto, unfolding(protocol_spec::specs::Member::Member::built))]
     pub(crate) fn take_turn(&mut self) -> Result<Seq<Digest>, OutOfMemory>
         requires room { nat_le record_limit self.old.member.records ≡ false }

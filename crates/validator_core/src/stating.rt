@@ -39,7 +39,7 @@ pub(crate) fn seal_statement<S: Sealer>(
 }
 
 impl State {
-    /// The digest of the effects of a transaction that the member executed in the epoch; none exactly where it executed
+    /// The digest of the effects of a transaction that the member executed in the epoch; none exactly if it executed
     /// none. One look-up by the transaction. Takes no memory.
     pub(crate) fn executed_digest(&self, tx: &Digest) -> Option<Digest>
         ensures { result ≡ executed_digest tx.now self.now.member }

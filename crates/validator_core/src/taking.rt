@@ -76,7 +76,7 @@ impl Course {
         Ok(self.what_taken(&tx, taken))
     }
 
-    /// A mark: what was admitted since the last one is cut, and what waited for the mark is taken behind it.
+    /// A mark: what was admitted since the last one is cut, and what waited for the mark is taken after it.
     fn pass_mark(&mut self) -> Result<SeenWhat, OutOfMemory>
         requires sound { IsSound self.old }
         requires unended { self.old.ended ≡ false }

@@ -48,7 +48,7 @@ impl State {
         }
     }
 
-    /// Takes the record of a turn, where the member may turn in this state; else false. Where false is answered or memory
+    /// Takes the record of a turn, if the member may turn in this state; else false. If false is answered or memory
     /// is refused the state is not to be used.
     #[tactic(auto, unfolding(protocol_spec::specs::Member::Replay::is_allowed), using(crate::proofs::Turned::turn_allowed, crate::proofs::Turned::turn_not_allowed))]
     pub fn take_turn_back(&mut self) -> Result<bool, OutOfMemory>
@@ -105,7 +105,7 @@ pub(crate) fn turn<D: Keeper>(
     Ok(reverted)
 }
 
-/// Whether the member is down behind this answer.
+/// Whether the member is down after this answer.
 pub(crate) fn turn_fell(answer: &Result<Seq<Digest>, TurnRefusal>) -> bool
     ensures { result ≡ has_fallen (turn_ended answer.now) }
 {

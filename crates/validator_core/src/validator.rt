@@ -29,7 +29,7 @@ use answer_types::{
     StartRefusal, TurnRefusal, VoteRefusal, Voted,
 };
 use chain_messages::Sealed;
-use chain_types::{Object, ObjectKey, object_digest};
+use chain_types::{Object, ObjectKey};
 use checkpoint_core::Checkpoint;
 use dag_pool::Gate;
 use digest_core::Digest;
@@ -125,7 +125,7 @@ impl Validator {
         self.state.has_ended()
     }
 
-    /// The transactions of the first fork that the member met, two certificates of one version; none exactly where it
+    /// The transactions of the first fork that the member met, two certificates of one version; none exactly if it
     /// met none. Takes no memory.
     pub fn fork(&self) -> Option<(Digest, Digest)>
         ensures { result ≡ option_map (λ (f : Fork). (f.first, f.second)) (fork_of self.now.state) }
@@ -147,19 +147,19 @@ impl Validator {
         self.state.checkpointed()
     }
 
-    /// The checkpoint of this number; none exactly where it was not built. Takes no memory.
+    /// The checkpoint of this number; none exactly if it was not built. Takes no memory.
     pub fn checkpoint(&self, number: u64) -> Option<&Checkpoint>
         ensures { option_map (λ (c : _). c.now) result ≡ slice_get (built_by self.now.state) number }
     {
         self.state.checkpoint(number)
     }
 
-    /// The digest of a held version; none exactly where the version is not held. Takes no memory.
+    /// The digest of a held version; none exactly if the version is not held. Takes no memory.
     pub fn held_digest(&self, key: &ObjectKey) -> Option<Digest>
         ensures { result ≡ option_map (λ (v : Version). digest_of_object v.object) (version_at (versions_of self.now.state.opening self.now.state.executed) key.now) }
     {
-        match self.state.object(key) {
-            Some(object) => Some(object_digest(object)),
+        match self.state.hashed(key) {
+            Some(object) => Some(object.digest()),
             None => None,
         }
     }
@@ -178,11 +178,11 @@ impl Validator {
         self.state.opening_list()
     }
 
-    /// Asks the member for its vote for the transaction that the bytes spell (Sui Lutris). Order of the
+    /// Asks the member for its vote for the transaction that the bytes encode (Sui Lutris). Order of the
     /// refusals: `Down`, `Halted`, `Full`, `Malformed`, `WrongEpoch`; then the vote that was given before comes
     /// again; `Closed`, `Invalid`, `Unsealed`, the cases of the vote rule, `KeepFault`. A fresh vote's record is
-    /// appended before the vote is given; `KeepFault` comes only where one is due, want of memory only where the member
-    /// is up and met no fork. Behind both the member is down.
+    /// appended before the vote is given; `KeepFault` comes only if one is due, running out of memory only if the member
+    /// is up and met no fork. After both the member is down.
     #[tactic(auto, using(crate::proofs::Settling::vote_settles, crate::proofs::Settling::vote_at, crate::proofs::Settling::vote_due_at, crate::proofs::Settling::vote_owed_at, crate::proofs::Settling::down_keeps))]
     pub fn vote<D: Keeper, S: Sealer>(
         &mut self,
@@ -209,10 +209,10 @@ impl Validator {
         answer
     }
 
-    /// Hands a certificate to the member (Sui Lutris): true where it is newly held, false where a certificate of
+    /// Hands a certificate to the member (Sui Lutris): true if it is newly held, false if a certificate of
     /// its transaction is held already. Order of the refusals: `Down`, `Halted`, `Full`, `Malformed`,
     /// `WrongEpoch`; then a certificate that is held comes again; `Closed`, `Cert`, `KeepFault`, `Fork`. The record
-    /// is appended before the call answers. Behind `KeepFault` and want of memory the member is down; behind
+    /// is appended before the call answers. After `KeepFault` and running out of memory the member is down; after
     /// `Fork` it is halted.
     #[tactic(auto, using(crate::proofs::Settling::hold_settles, crate::proofs::Settling::hold_at, crate::proofs::Settling::hold_due_at, crate::proofs::Settling::owed_at, crate::proofs::Settling::down_keeps))]
     pub fn hold<D: Keeper, S: Sealer>(
@@ -248,9 +248,9 @@ impl Validator {
 
     /// Hands the next entry of the epoch's consensus sequence to the member, which has this number from 0 (Sui Lutris):
     /// answers what it did, and the checkpoints that it completes. Order of the refusals: `Down`, `Halted`, `Full`,
-    /// `Over` where the end of the epoch was seen, `Gap` where `number` is not that of the entries seen, `KeepFault`,
-    /// `Fork`. The record is appended before the call answers, whatever the entry is. Behind `KeepFault` and want of
-    /// memory the member is down; behind `Fork` it is halted.
+    /// `Over` if the end of the epoch was seen, `Gap` if `number` is not that of the entries seen, `KeepFault`,
+    /// `Fork`. The record is appended before the call answers, whatever the entry is. After `KeepFault` and running out of
+    /// memory the member is down; after `Fork` it is halted.
     #[tactic(auto, using(crate::proofs::Seeing::see_settles, crate::proofs::Seeing::see_at, crate::proofs::Seeing::see_due_at, crate::proofs::Settling::owed_at, crate::proofs::Settling::down_keeps))]
     pub fn see<D: Keeper, S: Sealer>(
         &mut self,
@@ -287,9 +287,9 @@ impl Validator {
 
     /// Lets the member execute what it holds, round after round (Sui Lutris): answers the effects in order, and the
     /// certificates that it left although all that they waited for is executed, and the checkpoints that the run
-    /// completes. The certificates are executed by 1 to 16 workers in threads, and the gate is told of each execution;
+    /// completes. The certificates are executed by 1 to 16 workers in threads, and the gate is notified of each execution;
     /// what they come to is the same for any number of workers, whatever the order of their steps. Order of the refusals: `Down`, `Halted`, `Full`, `KeepFault`. The record of a run that executed
-    /// something is appended before the call answers. Behind `KeepFault` and want of memory the member is down.
+    /// something is appended before the call answers. After `KeepFault` and running out of memory the member is down.
     #[tactic(auto, using(crate::proofs::Running::run_settles, crate::proofs::Running::run_at, crate::proofs::Running::run_due_at, crate::proofs::Running::run_owed_at, crate::proofs::Settling::down_keeps))]
     pub fn run<R: Threads + Sync, D: Keeper, G: Gate + Sync>(
         &mut self,
@@ -317,9 +317,9 @@ impl Validator {
         answer
     }
 
-    /// Closes the member's epoch: true where it closes, false where it was closed; it votes for no new transaction
+    /// Closes the member's epoch: true if it closes, false if it was closed; it votes for no new transaction
     /// and holds no new certificate then (epoch change of Sui Lutris). Order of the refusals: `Down`, `Halted`,
-    /// `Full`, `KeepFault`. The record of a close is appended before the call answers. Behind `KeepFault` and want of
+    /// `Full`, `KeepFault`. The record of a close is appended before the call answers. After `KeepFault` and running out of
     /// memory the member is down.
     #[tactic(auto, using(crate::proofs::Running::close_settles, crate::proofs::Running::close_at, crate::proofs::Running::close_due_at, crate::proofs::Running::close_owed_at, crate::proofs::Settling::down_keeps))]
     pub fn close<D: Keeper>(&mut self, keeper: &mut D) -> Result<bool, CloseRefusal>
@@ -343,8 +343,8 @@ impl Validator {
 
     /// Asks the member to say End: it is closed, and every transaction of which it holds a certificate is in the part of
     /// the sequence that it has seen (epoch change of Sui Lutris). Order of the refusals: `Down`, `Halted`, `NotClosed`,
-    /// `Waits` with the first held transaction that is not there; memory is wanted for an End alone. Nothing is kept and
-    /// nothing changes, so it can be said again. The held certificates are walked once an epoch, behind the entries that
+    /// `Waits` with the first held transaction that is not there; memory is needed only for an End. Nothing is kept and
+    /// nothing changes, so it can be said again. The held certificates are walked once an epoch, after the entries that
     /// let them in, and not here.
     #[tactic(auto, using(crate::proofs::Said::end_at))]
     pub fn end<S: Sealer>(&self, sealer: &S) -> Result<Sealed, EndRefusal>
@@ -356,7 +356,7 @@ impl Validator {
         stating::end(&self.state, sealer, self.member)
     }
 
-    /// The digest of the effects of a transaction that the member executed in its present epoch; none exactly where it
+    /// The digest of the effects of a transaction that the member executed in its present epoch; none exactly if it
     /// executed none. One look-up by the transaction. Takes no memory.
     pub fn executed_digest(&self, tx: &Digest) -> Option<Digest>
         ensures { result ≡ executed_digest tx.now self.now.state }
@@ -365,8 +365,8 @@ impl Validator {
     }
 
     /// Asks the member to acknowledge a transaction that it executed in its epoch, with the digest of its effects
-    /// (finality of Sui Lutris). Order of the refusals: `Down`, `Halted`, `NotExecuted`; memory is wanted for an
-    /// acknowledgement alone. Nothing is kept and nothing changes. One look-up by the transaction.
+    /// (finality of Sui Lutris). Order of the refusals: `Down`, `Halted`, `NotExecuted`; memory is needed only for an
+    /// acknowledgement. Nothing is kept and nothing changes. One look-up by the transaction.
     #[tactic(auto, using(crate::proofs::Said::ack_at))]
     pub fn ack<S: Sealer>(&self, sealer: &S, tx: &Digest) -> Result<Sealed, AckRefusal>
         ensures answer { Acks (S.accepts sealer.now) self.now.member (ack_said (rules_of_seat self.now (S.accepts sealer.now)) self.now tx.now) result }
@@ -379,9 +379,9 @@ impl Validator {
 
     /// Turns the member to the next epoch (epoch change of Sui Lutris): what it executed and no cut has is undone, it opens
     /// with what is live then, and it has no vote, lock, certificate or entry; checkpoints go on. Answers the undone
-    /// transactions, oldest first. Order of the refusals: `Down`, `Halted`, `Full`, `NotEnded` where the end of the epoch
+    /// transactions, oldest first. Order of the refusals: `Down`, `Halted`, `Full`, `NotEnded` if the end of the epoch
     /// was not seen, `Waits` with the first admitted transaction that was not executed as it was admitted, `KeepFault`.
-    /// The record is appended before the call answers. Behind `KeepFault` and want of memory the member is down. Time
+    /// The record is appended before the call answers. After `KeepFault` and running out of memory the member is down. Time
     /// grows with what the epoch executed, wrote and deleted, and not with what is held.
     #[tactic(auto, using(crate::proofs::Turned::turn_settles, crate::proofs::Turned::turn_at, crate::proofs::Turned::turn_due_at, crate::proofs::Turned::turn_owed_at, crate::proofs::Settling::down_keeps))]
     pub fn turn<D: Keeper>(&mut self, keeper: &mut D) -> Result<Seq<Digest>, TurnRefusal>

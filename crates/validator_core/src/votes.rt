@@ -12,13 +12,13 @@ ghost use Rattle.validator_core.specs.Answers.{IsFree, Repeats, VoteDue, VotesAs
 
 use crate::state::State;
 use answer_types::VoteRefusal;
-use chain_types::{DecideRefusal, SignedTx, Transaction, decode_signed, encode_tx, tx_digest};
+use chain_types::{DecideRefusal, SignedTx, Transaction, decode_signed_with, encoded_digest};
 use digest_core::Digest;
 use quorum_core::{Sealer, Signer};
 use tx_check::{ShapeRefusal, check_shape};
-use wire_bcs::{Duplicate, OutOfMemory, Seq, Unread};
+use wire_bcs::{Duplicate, Seq, Unread};
 
-/// A vote that a member gives: for the transaction of this digest, naming these origins. It is not fresh where
+/// A vote that a member gives: for the transaction of this digest, naming these origins. It is not fresh if
 /// the member had given it before.
 #[derive(Debug, Drop)]
 pub struct Decision {
@@ -59,6 +59,14 @@ fn again(digest: Digest, origins: &Seq<Option<Digest>>) -> Result<Decision, Vote
     })
 }
 
+/// Whether the sender's seal over the bytes of its transaction is accepted. Takes no memory.
+fn is_sealed<S: Sealer>(sealer: &S, signed: &SignedTx, tx_bytes: &[u8]) -> bool
+    requires { tx_bytes.now ≡ transaction.spell signed.now.tx }
+    ensures { result ≡ accepts_sender (sealed_as (S.accepts sealer.now)) signed.now.tx signed.now.seal }
+{
+    sealer.check(&Signer::User(signed.tx.sender.0), tx_bytes, &signed.seal)
+}
+
 impl State {
     /// Whether a vote may be asked for.
     pub(crate) fn check_vote(&self) -> Result<(), VoteRefusal>
@@ -74,19 +82,6 @@ impl State {
             return Err(VoteRefusal::Full);
         }
         Ok(())
-    }
-
-    /// Whether the sender's seal is accepted.
-    fn is_sealed<S: Sealer>(&self, sealer: &S, signed: &SignedTx) -> Result<bool, OutOfMemory>
-        requires { transaction.short signed.now.tx }
-        ensures { IfOk result (λ sealed. sealed ≡ accepts_sender (sealed_as (S.accepts sealer.now)) signed.now.tx signed.now.seal) }
-    {
-        let bytes = encode_tx(self.alloc, &signed.tx)?;
-        Ok(sealer.check(
-            &Signer::User(signed.tx.sender.0),
-            bytes.as_slice(),
-            &signed.seal,
-        ))
     }
 
     /// A vote that was not given before.
@@ -124,10 +119,15 @@ impl State {
         }
     }
 
-    /// The vote for a transaction whose seal is accepted or not, as said: the one that was given before, or a
-    /// new one. Order of the refusals: `WrongEpoch`, `Closed`, `Invalid`, `Unsealed`, the vote rule's.
-    pub fn vote_on(&self, tx: &Transaction, sealed: bool) -> Result<Decision, VoteRefusal>
-        requires { transaction.short tx.now }
+    /// The vote for the transaction of this digest, whose seal is accepted or not, as said: the one that was given before, or
+    /// a new one. Order of the refusals: `WrongEpoch`, `Closed`, `Invalid`, `Unsealed`, the vote rule's.
+    pub fn vote_on(
+        &self,
+        tx: &Transaction,
+        digest: Digest,
+        sealed: bool,
+    ) -> Result<Decision, VoteRefusal>
+        requires { digest ≡ transaction_digest tx.now }
         ensures answer { VotesAs self.now.member.epoch (vote_on self.now.member tx.now (unsealed_where sealed)) result }
         ensures free { IfOk result (λ d. IsFree self.now.member tx.now d) }
         ensures never { IsErrOf result no_vote.KeepFault → ⊥ }
@@ -139,42 +139,39 @@ impl State {
                 want,
             });
         }
-        let Ok(digest) = tx_digest(self.alloc, tx) else {
-            return Err(VoteRefusal::OutOfMemory);
-        };
         match self.given(&digest) {
             Some(origins) => again(digest, origins),
             None => self.new_vote(tx, digest, sealed),
         }
     }
 
-    /// The vote for what the bytes spell, with that transaction. Order of the refusals: `Halted`, `Full`,
-    /// `Malformed`, then those of [`State::vote_on`].
+    /// The vote for what the bytes encode, with that transaction and its bytes among them. Order of the refusals: `Halted`,
+    /// `Full`, `Malformed`, then those of [`State::vote_on`].
     #[tactic(auto, unfolding(protocol_spec::specs::Member::Calls::vote_answer, protocol_spec::specs::Member::Calls::due, protocol_spec::specs::Chain::Certificates::read_signed, chain_types::specs::Transactions::signed))]
-    pub fn vote<S: Sealer>(
+    pub fn vote<'a, S: Sealer>(
         &self,
         sealer: &S,
-        bytes: &[u8],
-    ) -> Result<(Transaction, Decision), VoteRefusal>
+        bytes: &'a [u8],
+    ) -> Result<(Transaction, Decision, &'a [u8]), VoteRefusal>
         ensures answer { VotesAs self.now.member.epoch (vote_answer (sealed_as (S.accepts sealer.now)) self.now.member bytes.now) (decision_in result) }
         ensures due { VoteDue (due (sealed_as (S.accepts sealer.now)) self.now.member (votes bytes.now)) result }
         ensures free { IfOk result (λ v. IsFree self.now.member v.0 v.1) }
         ensures short { IfOk result (λ v. transaction.short v.0) }
+        ensures encoded { IfOk result (λ v. v.2.now ≡ transaction.spell v.0) }
         ensures room { IfOk result (λ _. nat_le record_limit self.now.member.records ≡ false) }
         ensures calm { IfOk result (λ _. fork_of self.now.member ≡ None) }
         ensures never { IsErrOf result no_vote.KeepFault → ⊥ }
         ensures able { IsErrOf result no_vote.OutOfMemory → fork_of self.now.member ≡ None }
     {
         self.check_vote()?;
-        let signed = match decode_signed(self.alloc, bytes) {
+        let (signed, tx_bytes) = match decode_signed_with(self.alloc, bytes) {
             Ok(signed) => signed,
             Err(Unread::Wire(fault)) => return Err(VoteRefusal::Malformed(fault)),
             Err(Unread::OutOfMemory) => return Err(VoteRefusal::OutOfMemory),
         };
-        let Ok(sealed) = self.is_sealed(sealer, &signed) else {
-            return Err(VoteRefusal::OutOfMemory);
-        };
-        let decision = self.vote_on(&signed.tx, sealed)?;
-        Ok((signed.tx, decision))
+        let sealed = is_sealed(sealer, &signed, tx_bytes);
+        let digest = encoded_digest(&signed.tx, tx_bytes);
+        let decision = self.vote_on(&signed.tx, digest, sealed)?;
+        Ok((signed.tx, decision, tx_bytes))
     }
 }

@@ -1,4 +1,4 @@
--- What a member seals can be spelled.
+-- What a member seals can be encoded.
 use Rattle.std.proofs.Common.{◌≡◌, ℕ, ◌≤◌, length, Option, subst, arith}
 use Rattle.std.specs.Prelude.{Result, Ok, Err, IfOk, Some, None}
 use Rattle.wire_bcs.specs.Digests.{digest}

@@ -76,7 +76,7 @@ abbrev pub SaysUnopened : Unopened → Option (List ℕ) → Option (List ℕ) �
 SaysUnopened unopened.BadList held held' w w' status = IsSaid start.NotMade held held' w w' status
 SaysUnopened (unopened.Stopped why) held held' w w' status = (status ≡ status_of why) × (held' ≡ held)
 
--- ---- a life over a keeper, from the told lists at its start
+-- ---- a life over a keeper, from the observable lists at its start
 
 -- the member started, said so, and served to the end of the source
 pub record LivedWhole (accepts : Accepting) (scene : Scene) (m : ℕ) (left left' held held' : Option (List ℕ)) (kept kept' : Option Journals) (status : ℕ) : Type 0 where
@@ -125,7 +125,7 @@ EndsLife accepts scene m left left' held held' kept kept' r r' w w' k k' status 
 
 -- ---- a life over a disk
 
--- what a disk tells as a keeper of the lists of a journal
+-- what a disk shows as a keeper of the lists of a journal
 abbrev pub kept_in : Option History → Option Journals
 kept_in told = lists_in 65 told
 
@@ -158,7 +158,7 @@ EndsJournal accepts scene m told told' left left' held held' r r' w w' k k' stat
 
 -- ---- the whole of a process that serves, from the text of its set-up
 
--- the first bytes of the disk are this head, where the disk tells its bytes
+-- the first bytes of the disk are this head, if the disk shows its bytes
 abbrev pub HasHead : Option History → ℕ → List ℕ → Head → Type 0
 HasHead told m text it = IfTold told (λ h. it ≡ head_of_file m (genesis_digest text) h.now.reads)
 

@@ -9,7 +9,7 @@ use Rattle.world_core.specs.Replies.{Accepting}
 use Rattle.process_lines.specs.declared.request.Request.{Request}
 use Rattle.process_lines.specs.declared.request.Request.TheVariants as request
 
--- the call that a request makes; none where it changes nothing
+-- the call that a request makes; none if it changes nothing
 abbrev pub call_of : Request → Option Call
 call_of (request.Vote bytes) = Some (votes bytes)
 call_of (request.Hold bytes) = Some (holds bytes)
@@ -33,7 +33,7 @@ abbrev pub due_by : Rules → Seated → Option Call → Option Record
 due_by r seat None = None
 due_by r seat (Some call) = due r seat.state call
 
--- the member behind a request that was answered, and the record that stands then
+-- the member after a request that was answered, and the record that stands then
 abbrev pub moved : Accepting → Seated → Request → Seated
 moved accepts seat q = moved_by (rules_of_seat seat accepts) seat (call_of q)
 

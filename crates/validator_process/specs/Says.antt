@@ -63,7 +63,7 @@ abbrev pub end_line : Result Sealed EndRefusal → List ℕ
 end_line (Ok s) = end_text s
 end_line (Err refusal) = end_refusal_text refusal
 
--- what a member that is up was heard to answer; no want of memory
+-- what a member that is up was heard to answer; not that it ran out of memory
 pub record HearsEnd (accepts : Accepting) (m : ℕ) (said : Result Statement EndRefusal) (given : Result Sealed EndRefusal) : Type 0 where
   pub answer : Ends accepts m said given
   pub able : given ≡ Err no_end.OutOfMemory → ⊥
@@ -98,7 +98,7 @@ abbrev pub certified_in : Result Certificate WireFault → Option Digest
 certified_in (Ok c) = Some (transaction_digest c.tx)
 certified_in (Err fault) = None
 
--- the transaction of the certificate that the bytes spell
+-- the transaction of the certificate that the bytes encode
 abbrev pub certified : List ℕ → Option Digest
 certified bytes = certified_in (read_certificate bytes)
 

@@ -1,4 +1,4 @@
--- Lines that are answered one after the other, and what is left where a fault cuts them. Source: this profile.
+-- Lines that are answered one after the other, and what is left if a fault cuts them. Source: this profile.
 use Rattle.std.specs.Prelude.{◌≡◌, ◌⊎◌, ℕ, nat_le, Bool, true, false, List, [], ◌∷◌, ◌++◌, fold, length, Option, Some, None, if◌then◌else◌}
 use Rattle.std.specs.List.{flat_map}
 use Rattle.std.specs.Io.KnownBytes.{Appends, Consumes, Keeps}
@@ -43,7 +43,7 @@ abbrev pub IsAnswer : Accepting → Seated → Option Request → List ℕ → T
 IsAnswer accepts seat None text = text ≡ ended bad_request_text
 IsAnswer accepts seat (Some q) text = (body : List ℕ) × (text ≡ ended body) × Says accepts seat q body
 
--- the member behind a line, and the record that it leaves
+-- the member after a line, and the record that it leaves
 abbrev pub seat_behind_line : Accepting → Seated → List ℕ → Seated
 seat_behind_line accepts seat line = seat_behind_request accepts seat (request_in line)
 
@@ -55,7 +55,7 @@ Answers accepts seat x = IsAnswer accepts seat (request_in x.line) x.text
 
 -- ---- lines in order
 
--- each is answered by the member behind those before it
+-- each is answered by the member after those before it
 abbrev pub AreAnswered : Accepting → Seated → List Exchange → Type 0
 AreAnswered accepts seat [] = Unit {0}
 AreAnswered accepts seat (x ∷ xs) = Answers accepts seat x × AreAnswered accepts (seat_behind_line accepts seat x.line) xs
@@ -73,7 +73,7 @@ abbrev pub records_left : Accepting → Seated → List Exchange → List (List 
 records_left accepts seat [] = []
 records_left accepts seat (x ∷ xs) = spelled (due_for_line accepts seat x.line) ++ records_left accepts (seat_behind_line accepts seat x.line) xs
 
--- told lists grew by these records of a member
+-- observable lists grew by these records of a member
 abbrev pub with_records : Journals → ℕ → List (List ℕ) → Journals
 with_records lists m records = fold (λ (l : Journals) bytes. with_record l m bytes) lists records
 
@@ -81,14 +81,14 @@ abbrev pub AddsRecords : Option Journals → Option Journals → ℕ → List (L
 AddsRecords None now m records = Unit {0}
 AddsRecords (Some lists) now m records = now ≡ Some (with_records lists m records)
 
--- the lines, each with its end, were pending, or were read behind what was
+-- the lines, each with its end, were pending, or were read after what was
 pub record ReadsLines (pending pending' : List ℕ) (left left' : Option (List ℕ)) (xs : List Exchange) : Type 0 where
   pub bytes : List ℕ
   pub read : Consumes left left' bytes
   pub parts : pending ++ bytes ≡ flat_map (λ (x : Exchange). ended x.line) xs ++ pending'
   pub whole : Each (λ (x : Exchange). HasNoEnd x.line) xs
 
--- what a process reads, writes and keeps: what is pending, what the source has left, what the sink holds, the told lists,
+-- what a process reads, writes and keeps: what is pending, what the source has left, what the sink holds, the observable lists,
 -- and the member
 pub record Around : Type 0 where
   pub pending : List ℕ
@@ -123,7 +123,7 @@ pub record IsRefused (accepts : Accepting) (q : Option Request) (held held' : Op
   pub writes : Keeps held held'
   pub keeps : MayAddLeft kept kept' seat.member (due_for_request accepts seat q)
 
--- a front of the answer is written, and the record is kept
+-- a prefix of the answer is written, and the record is kept
 pub record IsHalfSaid (accepts : Accepting) (q : Option Request) (held held' : Option (List ℕ)) (kept kept' : Option Journals) (seat : Seated) : Type 0 where
   pub text : List ℕ
   pub answers : IsAnswer accepts seat q text
@@ -162,7 +162,7 @@ pub record IsUnanswered (accepts : Accepting) (old new : Around) : Type 0 where
   pub writes : Keeps old.held new.held
   pub keeps : MayAddLeft old.kept new.kept old.seat.member (due_for_line accepts old.seat line)
 
--- it was answered, and a front of the answer was written: its record is kept
+-- it was answered, and a prefix of the answer was written: its record is kept
 pub record IsUnwritten (accepts : Accepting) (old new : Around) : Type 0 where
   pub exchange : Exchange
   pub reads : ReadsLine old.pending new.pending old.left new.left exchange.line

@@ -1,4 +1,4 @@
--- What the steps of a start answer, against the definition; want of memory and a fault of the journal say nothing here.
+-- What the steps of a start answer, against the definition; running out of memory and a fault of the journal say nothing here.
 use Rattle.std.specs.Prelude.{◌≡◌, ◌⊎◌, ◌==◌, ℕ, true, List, [], length, Option, Result, Ok, Err}
 use Rattle.std.specs.Io.KnownBytes.{Appends}
 use Rattle.outside.specs.Lists.{Journals, KeepsJournals}
@@ -71,7 +71,7 @@ pub record LivesSome (accepts : Accepting) (seat : Seated) (left left' held held
   pub ready : Appends held said (start_bytes (ready_line seat))
   pub serves : ServesSome accepts (around [] left said kept seat) (around pending left' held' kept' last)
 
--- a front of a first line is written, and nothing is read and kept
+-- a prefix of a first line is written, and nothing is read and kept
 pub record SaysFront (line : StartLine) (left left' held held' : Option (List ℕ)) (kept kept' : Option Journals) : Type 0 where
   pub unread : left' ≡ left
   pub writes : AppendsFront held held' (start_bytes line)

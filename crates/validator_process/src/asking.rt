@@ -1,4 +1,4 @@
-//! The calls of a member that keep a record, with what is no answer taken apart.
+//! The calls of a member that keep a record, with what is not an answer taken apart.
 
 ghost use Rattle.std.specs.Prelude.{◌≡◌, ◌<◌, ◌≤◌, IfOk, IsErrOf, OnOk, length, true};
 ghost use Rattle.outside.specs.Causes.{Rose};
@@ -21,7 +21,7 @@ use validator_core::Validator;
 use wire_bcs::Seq;
 use world_core::SeatFault;
 
-/// The fault behind an answer; none where it is one.
+/// The fault that kept a call from its answer; none if it was answered.
 fn vote_fault(answer: &Result<Voted, VoteRefusal>) -> Option<SeatFault>
     ensures { result ≡ vote_fault answer.now }
 {
@@ -73,7 +73,7 @@ pub(crate) fn ask_vote<D: Keeper, S: Sealer>(
     }
 }
 
-/// The fault behind an answer; none where it is one.
+/// The fault that kept a call from its answer; none if it was answered.
 fn hold_fault(answer: &Result<bool, HoldRefusal>) -> Option<SeatFault>
     ensures { result ≡ hold_fault answer.now }
 {
@@ -117,7 +117,7 @@ pub(crate) fn ask_hold<D: Keeper, S: Sealer>(
     }
 }
 
-/// The fault behind an answer; none where it is one.
+/// The fault that kept a call from its answer; none if it was answered.
 fn see_fault(answer: &Result<Seen, SeeRefusal>) -> Option<SeatFault>
     ensures { result ≡ see_fault answer.now }
 {
@@ -160,7 +160,7 @@ pub(crate) fn ask_see<D: Keeper, S: Sealer>(
     }
 }
 
-/// The fault behind an answer; none where it is one.
+/// The fault that kept a call from its answer; none if it was answered.
 fn run_fault(answer: &Result<Ran, RunRefusal>) -> Option<SeatFault>
     ensures { result ≡ run_fault answer.now }
 {
@@ -197,7 +197,7 @@ pub(crate) fn ask_run<R: Threads + Sync, D: Keeper>(
     }
 }
 
-/// The fault behind an answer; none where it is one.
+/// The fault that kept a call from its answer; none if it was answered.
 fn close_fault(answer: &Result<bool, CloseRefusal>) -> Option<SeatFault>
     ensures { result ≡ close_fault answer.now }
 {
@@ -230,7 +230,7 @@ pub(crate) fn ask_close<D: Keeper>(
     }
 }
 
-/// The fault behind an answer; none where it is one.
+/// The fault that kept a call from its answer; none if it was answered.
 fn turn_fault(answer: &Result<Seq<Digest>, TurnRefusal>) -> Option<SeatFault>
     ensures { result ≡ turn_fault answer.now }
 {

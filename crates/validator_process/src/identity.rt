@@ -11,7 +11,7 @@ use outside::Failed;
 use std::alloc::Global;
 use wire_bcs::{OutOfMemory, Seq};
 
-/// The list that has the first record: one behind those of the members.
+/// The list that has the first record: one after those of the members.
 pub(crate) const IDENTITY_LIST: u32 = 64;
 
 /// How many lists a journal has.

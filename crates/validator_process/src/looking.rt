@@ -54,7 +54,7 @@ pub(crate) fn version(
     object_text(alloc, validator.object(&key))
 }
 
-/// The text of effects. A list of more than 2147483647 objects counts as want of memory.
+/// The text of effects. A list of more than 2147483647 objects counts as running out of memory.
 fn effects_text(alloc: Global, effects: &Effects) -> Result<Seq<u8>, OutOfMemory>
     ensures { IfOk result (λ text. text ≡ effects_text effects.now) }
 {

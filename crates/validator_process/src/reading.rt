@@ -63,7 +63,7 @@ fn setup_of(alloc: Global, text: &[u8]) -> Result<Schedule, Unstarted>
     }
 }
 
-/// The world of a set-up. One that has no committee, as no schedule's has, counts as want of memory.
+/// The world of a set-up. One that has no committee, as no schedule's has, counts as running out of memory.
 fn world_of<S: MakesSeals>(
     alloc: Global,
     schedule: &Schedule,

@@ -152,7 +152,7 @@ fn say_bad<K: Sink>(sink: &mut K) -> Result<(), Stop>
     say(sink, b"bad request\n".as_slice())
 }
 
-/// Says that a line is no request.
+/// Says that a line is not a request.
 #[tactic(auto, using(crate::proofs::Served::bad_served, crate::proofs::Served::bad_half_said, validator_core::proofs::Settling::keeps_same))]
 fn serve_bad<S: Sealer, D: Keeper, K: Sink>(
     validator: &Validator,
@@ -223,7 +223,7 @@ fn serve_next<R: Threads + Sync, D: Keeper, S: Sealer, I: Source, K: Sink>(
     }
 }
 
-/// Answers the requests of a source to its end. Behind 2^64 - 1 of them the process ends as for want of memory.
+/// Answers the requests of a source to its end. After 2^64 - 1 of them the process ends as if out of memory.
 pub(crate) fn serve<R: Threads + Sync, D: Keeper, S: Sealer, I: Source, K: Sink>(
     rt: &R,
     alloc: Global,

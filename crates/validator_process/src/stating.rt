@@ -145,7 +145,7 @@ fn stated<S: Sealer>(
     })
 }
 
-/// The text of a checkpoint, and of the member's statement of it. One of more than 2147483647 items counts as want of memory.
+/// The text of a checkpoint, and of the member's statement of it. One of more than 2147483647 items counts as running out of memory.
 fn stated_text<S: Sealer>(
     alloc: Global,
     checkpoint: &Checkpoint,

@@ -54,7 +54,7 @@ pub(crate) fn close<D: Keeper>(
     }
 }
 
-/// The text of an answer to `turn`, behind which this epoch is the member's.
+/// The text of an answer to `turn`, after which this epoch is the member's.
 fn turn_text(
     alloc: Global,
     epoch: u64,

@@ -61,7 +61,7 @@ pub(crate) fn vote<D: Keeper, S: Sealer>(
     }
 }
 
-/// The transaction of the certificate that the bytes spell; none where they spell none.
+/// The transaction of the certificate that the bytes encode; none if they encode none.
 #[tactic(auto, unfolding(protocol_spec::specs::Chain::Certificates::read_certificate, chain_messages::specs::Messages::certificate))]
 fn certified(alloc: Global, bytes: &[u8]) -> Result<Option<Digest>, OutOfMemory>
     ensures { IfOk result (λ tx. tx ≡ certified bytes.now) }

@@ -37,7 +37,7 @@ begun_is opening c = go c.origins
     go [] = refl
     go (o ∷ os) = behind opening c.tx.inputs [] os
 
--- behind the origin of the gas coin
+-- after the origin of the gas coin
 pub behind_gas : {V E : Type 0} (items : V → List Assigned) (opening : List Object) (is : List Input) (os : List (Option Digest)) (none : List Assigned) (r : Result V E)
     → none ≡ [] → 1 ≤ length os → IfOk r (λ v. items v ≡ begun_after opening none is (take (length os - 1) (drop 1 os))) → IfOk r (λ v. items v ≡ begun_behind opening is os)
 behind_gas items opening is [] none r nothing some ok = absurd (omega (arith, some))

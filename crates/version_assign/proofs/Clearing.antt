@@ -1,4 +1,4 @@
--- What is known of the objects behind a mark: all stand where they stood, and nobody wrote them.
+-- What is known of the objects after a mark: all stand where they stood, and nobody wrote them.
 use Rattle.std.proofs.Common.{◌≡◌, ℕ, zero, suc, Bool, true, false, cond, ◌||◌, List, [], ◌∷◌, Option, Some, None, length, map, refl, ap, sym, subst, ◌∙◌, inl, inr, ◌+◌, ◌≤◌, ◌<◌, arith, add-one, slice_get}
 use Rattle.std.proofs.Math.Seq.{drop-length}
 use Rattle.std.proofs.lemmas.List.{drop-map, length-map}

@@ -302,7 +302,7 @@ opens_first rows room a b c all (y ∷ ys) x is some done one =
 abbrev not_some : {B : Type 0} → Option B → Bool
 not_some o = not (is_some o)
 
--- where nothing is missing and no object is full, it is free
+-- if nothing is missing and no object is full, it is free
 pub must_wait : {A : Type 0} → (writers : Option ℕ) (a : Admission) (h : Held) → first_of (missing_origin a) h.cert.origins ≡ None → first_of (full_one writers a) h.cert.tx.inputs ≡ None → is_free writers a h ≡ false → A
 must_wait writers a h missing full off =
     absurd (clash (sym (ap not_some full) ∙ ap (λ (b : Bool). b && not_some (first_of (full_one writers a) h.cert.tx.inputs)) (sym (ap not_some missing)) ∙ free_is writers a h ∙ off))

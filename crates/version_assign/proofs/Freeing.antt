@@ -93,7 +93,7 @@ let_on writers a h m f is missing found =
 
 -- ---- places
 
--- a free certificate at a place is the first behind the places before it
+-- a free certificate at a place is the first after the places before it
 pub place_found : (s : Admitting) (rows : List (Option Row)) (i : ℕ) → is_free_one s (held_in (row_at rows i)) ≡ true → held_in (row_at rows i) ≡ find (is_free s.writers s.admission) (pending_in (drop i rows))
 place_found s [] zero free = absurd (cc)
 place_found s [] (suc i) free = absurd (cc)

@@ -14,7 +14,7 @@ use Rattle.tables.proofs.Lookups.{lookup_insert}
 use Rattle.protocol_spec.proofs.Equality.{id_same, id_self}
 use Rattle.protocol_spec.proofs.ListLemmas.{tail_is}
 
--- ---- reads behind a write
+-- ---- reads after a write
 
 pub read : (es : LineMap) (k : ObjectId) (v : Line) (q : ObjectId) → lookup (id_eq q) (insert_entry id_eq es k v) ≡ cond (id_eq q k) (Some v) (lookup (id_eq q) es)
 read es k v q = lookup_insert id_eq id_same id_self es k v q

@@ -2,7 +2,7 @@
 use Rattle.std.proofs.Common.{◌≡◌, ℕ, zero, suc, List, [], ◌∷◌, ◌++◌, Option, Some, None, length, map, refl, ap, sym, ◌∙◌, ◌+◌, ◌≤◌, ◌<◌, arith, add-one, append_assoc, append-nil, drop, slice_get, option_map}
 use Rattle.std.proofs.Math.ListN.{drop_of_length-le, get_or}
 
--- the next one, and those behind it
+-- the next one, and those after it
 pub next_at : {A : Type 0} → (xs : List A) (i : ℕ) (x : A) → slice_get xs i ≡ Some x → drop i xs ≡ x ∷ drop (suc i) xs
 next_at [] zero x at = absurd (cc)
 next_at [] (suc i) x at = absurd (cc)

@@ -136,7 +136,7 @@ module _ (before mid : Book) (place : ℕ) (r : Row) (t : TakesOut before mid pl
   abbrev due : ObjectId → Bool
   due = or_one_of r.held.cert.tx.inputs none_open
 
-  -- its place rests, and whoever stood behind it may be free
+  -- its place rests, and whatever stood after it may be free
   pub taken_out : (old mid_w new : Waits) → Rests old mid_w place → Frees mid_w new r.held.digest → IsFiledIn before old → IsFiled mid.rows.items new (admits_also (admits_in mid) r.held.digest) (room_in mid) due
   taken_out old mid_w new rests frees filed = record { at = λ whole q x here. at whole q x here (others q) }
     where

@@ -1,4 +1,4 @@
--- What is known of each object behind one more that is admitted, and behind a mark.
+-- What is known of each object after one more that is admitted, and after a mark.
 use Rattle.std.proofs.Common.{◌≡◌, ℕ, Bool, true, false, cond, ◌&&◌, ◌||◌, List, [], ◌∷◌, ◌++◌, Option, Some, None, map, refl, ap, sym, ◌∙◌, inl, inr, arith, ◌+◌, ◌<◌, ◌^◌, add-zero, zero-add}
 use Rattle.std.proofs.lemmas.Bool.Decides.{nat_tests}
 use Rattle.std.proofs.lemmas.List.Sums.{sum_by-append}
@@ -58,7 +58,7 @@ lined_filled lines es (x ∷ xs) all = go (lined_filled lines es xs) (has_line e
     go more true here rest = ap (λ b. b && are_lined es (map (filled lines) xs)) (ap (has_line es) (filled_id lines x) ∙ here) ∙ more rest
     go more false here rest = absurd (cc)
 
--- ---- lines behind one that is admitted
+-- ---- lines after one that is admitted
 
 module _ (version : ℕ) (tx : Digest) where
   pub move_keeps : (xs : List Assigned) (es : LineMap) → KeepsLines es (move_all version tx es xs)
@@ -90,7 +90,7 @@ module _ (version : ℕ) (tx : Digest) where
       (line_put es y.id (moved y.mutable version tx y (line_at es y.id)) id
       ∙ ap (λ b. cond b (moved y.mutable version tx y (line_at es y.id)) (line_at es id)) later.0)
 
--- ---- what stands behind it
+-- ---- what stands after it
 
 -- one more, below the limit
 bumped : (n limit : ℕ) → nat_lt n limit ≡ true → limit < 2 ^ 32 → one_more n ≡ n + 1

@@ -1,4 +1,4 @@
--- The tables, and where those that wait are filed, behind each call.
+-- The tables, and where those that wait are filed, after each call.
 use Rattle.std.proofs.Common.{◌≡◌, ℕ, zero, suc, Bool, true, false, cond, ◌||◌, List, [], ◌∷◌, ◌++◌, Option, Some, None, length, map, refl, ap, sym, subst, ◌∙◌, inl, inr, ◌+◌, ◌≤◌, arith, drop, zero-add}
 use Rattle.std.proofs.lemmas.Bool.Decides.{nat_tests}
 use Rattle.std.proofs.lemmas.List.{drop-append-le, length-map}
@@ -104,7 +104,7 @@ given_filed before mid new place r w kept t gives seen filed =
     within : before.marked ≤ length (map admitted_as before.admitted.entries)
     within = subst (λ n. before.marked ≤ n) (sym (length-map before.admitted.entries admitted_as)) kept.within
 
--- what is known of objects, where a certificate is taken out
+-- what is known of objects, if a certificate is taken out
 pub lines_out : (before mid : Book) (place : ℕ) (r : Row) → IsKept before → TakesOut before mid place r → AreLines mid.writers (opening_of mid) (admission_of mid) mid.lines.entries
 lines_out before mid place r kept t =
     subst (λ (es : LineMap). AreLines mid.writers (opening_of mid) (admission_of mid) es) (sym t.lines)

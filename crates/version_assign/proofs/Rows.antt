@@ -192,7 +192,7 @@ skipped_push low rows r skipped = record {
   within = let w : low ≤ length rows = skipped.within in simp length-append (omega arith);
 }
 
--- what waits, waits behind them
+-- what waits, waits after them
 pub pending_behind : (low : ℕ) (rows : List (Option Row)) → IsSkipped low rows → pending_in (drop low rows) ≡ pending_in rows
 pending_behind low rows skipped = go low rows skipped.none
   where

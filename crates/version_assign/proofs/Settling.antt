@@ -1,4 +1,4 @@
--- Taking what is free, one after the other: how often does not matter, and where nothing is free all is taken.
+-- Taking what is free, one after the other: how often does not matter, and if nothing is free all is taken.
 use Rattle.std.proofs.Common.{◌≡◌, ℕ, zero, suc, Bool, true, false, cond, not, List, [], ◌∷◌, Option, Some, None, length, refl, ap, sym, subst, ◌∙◌, ◌≤◌, ◌<◌, ◌+◌, arith, length-append}
 use Rattle.std.specs.Prelude.{find, filter}
 use Rattle.chain_types.specs.declared.objects.Object.{Object}
@@ -117,7 +117,7 @@ module _ (writers : Option ℕ) (opening : List Object) where
           let i : length (take_free writers opening n (taken opening a h)).dropped ≤ length (taken opening a h).dropped + length (taken opening a h).pending = more (taken opening a h) in
           subst (λ (b : Admission). length b.dropped ≤ length a.dropped + length a.pending) (sym (next_some n a h e)) (omega arith)
 
--- ---- the same of what an admission is seen as
+-- ---- likewise for what an admission is seen as
 
 pub one_smaller : (s : Admitting) (o : Option Held) → o ≡ find (is_free s.writers s.admission) s.admission.pending → is_free_one s o ≡ true → length (with_taken s o).admission.pending < length s.admission.pending
 one_smaller s None e free = absurd (cc)

@@ -1,4 +1,4 @@
--- The current versions of shared objects, from what is known of each object; and behind one more that is admitted.
+-- The current versions of shared objects, from what is known of each object; and after one more that is admitted.
 use Rattle.std.proofs.Common.{◌≡◌, ℕ, suc, Bool, true, false, cond, List, [], ◌∷◌, ◌++◌, Option, Some, None, length, map, refl, ap, sym, ◌∙◌, arith, max}
 use Rattle.std.specs.Prelude.{filter, filter_map, fold, option_map}
 use Rattle.chain_types.specs.declared.objects.Object.{Object}
@@ -134,7 +134,7 @@ version_is opening earlier c assigned origins are =
     zero_max : (g : ℕ) → max 0 g ≡ g
     zero_max g = omega arith
 
--- ---- what stands behind one more
+-- ---- what stands after one more
 
 last_push : {A : Type 0} → (test : A → Bool) (xs : List A) (x : A) → last_where test (xs ++ x ∷ []) ≡ cond (test x) (Some x) (last_where test xs)
 last_push test [] x = by (test x)

@@ -118,7 +118,7 @@ module _ (old : Book) (kept : IsKept old) (p : ℕ) (r : Row) (at : row_at old.r
   is_new : IsNew a.admitted r.held
   is_new = each_row (IsNew a.admitted) old.rows.items p r kept.new at
 
-  -- it is known as before, where it went to one of the lists
+  -- it is known as before, if it went to one of the lists
   known_again : (tx : Digest) (x y z e : Bool) → (e ≡ true → z ≡ true) → (e ≡ false → list_any (of_tx tx) (pending_in left) ≡ z)
       → ((x || e || y || list_any (of_tx tx) (pending_in left)) ≡ (x || y || z)) × ((x || (y || e) || list_any (of_tx tx) (pending_in left)) ≡ (x || y || z))
   known_again tx true y z e one other = (absorbs e y (list_any (of_tx tx) (pending_in left)), absorbs2 (y || e) (list_any (of_tx tx) (pending_in left)) ∙ sym (absorbs2 y z))

@@ -74,7 +74,7 @@ stands opening admitted id =
     (option_map standing_after (last_where (writes id) admitted) ∷
     first_of (beginning_by opening id) (map cert_of admitted) ∷ [])
 
--- of each object its current version and, where there is a limit, the number of its writers since the mark
+-- of each object its current version and, if there is a limit, the number of its writers since the mark
 pub record AreLines (limit : Option ℕ) (opening : List Object) (a : Admission) (lines : LineMap) : Type 0 where
   pub standing : (id : ObjectId) → (line_at lines id).standing ≡ stands opening a.admitted id
   pub writers : (n : ℕ) → limit ≡ Some n → (id : ObjectId) → (line_at lines id).writers ≡ count_by (writes id) (since_mark a)

@@ -32,7 +32,7 @@ opened objects writers = record { opening = filter is_shared_one objects; writer
 abbrev pub with_entry : Admitting → Held → Admitting
 with_entry a h = record a { admission = entered a.writers a.opening a.admission h }
 
--- a Commit mark, behind its cut
+-- a Commit mark, after its cut
 abbrev pub with_mark : Admitting → Admitting
 with_mark a = record a { admission = passed_mark a.writers a.opening a.admission }
 

@@ -19,7 +19,7 @@ HasId id (Some o) = o.id ≡ id
 abbrev pub IsOwn : Change → Type 0
 IsOwn c = HasId c.id c.lives
 
--- what stands under an id behind a change, and behind all of them
+-- what stands under an id after a change, and after all of them
 abbrev pub changed_at : Change → ObjectId → Option Object → Option Object
 changed_at c id o = if id_eq id c.id then if_shared c.lives else o
 
@@ -52,7 +52,7 @@ pub record ChangesOn (old now : Shelved) (all rest : List Change) : Type 0 where
   pub shared : AreShared now
   pub changes : (q : ObjectId) → changed_by rest q (lookup (id_eq q) now) ≡ changed_by all q (lookup (id_eq q) old)
 
--- ---- the next epoch's admission: nothing has come yet, and the opening objects are those behind the changes
+-- ---- the next epoch's admission: nothing has come yet, and the opening objects are those after the changes
 pub record Renews (old new : Admitting) (changes : List Change) : Type 0 where
   pub nothing : new.admission ≡ nothing_admitted
   pub opening : (id : ObjectId) → opening_object new.opening id ≡ changed_by changes id (opening_object old.opening id)

@@ -82,7 +82,7 @@ move_one version tx lines x = insert_entry id_eq lines x.id (moved x.mutable ver
 abbrev pub move_all : ℕ → Digest → LineMap → List Assigned → LineMap
 move_all version tx lines assigned = fold (move_one version tx) lines assigned
 
--- ---- behind a mark
+-- ---- after a mark
 
 abbrev pub cleared : Line → Line
 cleared line = record { standing = line.standing; writers = 0 }
@@ -103,7 +103,7 @@ abbrev pub with_origin : List Assigned → List (Option Digest) → (Option Dige
 with_origin all [] next = all
 with_origin all (o ∷ os) next = next o os
 
--- behind these, what the inputs would be assigned
+-- after these, what the inputs would be assigned
 abbrev pub begun_after : List Object → List Assigned → List Input → List (Option Digest) → List Assigned
 begun_after opening all [] os = all
 begun_after opening all (i ∷ is) os =

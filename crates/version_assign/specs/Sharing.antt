@@ -27,23 +27,23 @@ IsServed opening x = lacks_any_shared opening x.cert ≡ false
 abbrev pub HasShared : List Object → Admission → Type 0
 HasShared opening a = Each (IsServed opening) a.admitted
 
--- an object, where it is shared
+-- an object, if it is shared
 abbrev pub if_shared : Option Object → Option Object
 if_shared None = None
 if_shared (Some o) = if is_shared o.owner then Some o else None
 
--- these are the objects that are shared in the opening, as far as a look-up tells
+-- these are the objects that are shared in the opening, as far as a look-up says
 abbrev pub KeepsShared : List Object → List Object → Type 0
 KeepsShared kept opening = (id : ObjectId) → opening_object kept id ≡ if_shared (opening_object opening id)
 
--- entries and marks make the same of both
+-- entries and marks change both alike
 pub record ServesAs (kept opening : List Object) : Type 0 where
   pub entered : (writers : Option ℕ) (a : Admission) (h : Held) → HasShared opening a
       → (entered writers kept a h ≡ entered writers opening a h) × HasShared opening (entered writers opening a h)
   pub passed : (writers : Option ℕ) (a : Admission) → HasShared opening a
       → (passed_mark writers kept a ≡ passed_mark writers opening a) × HasShared opening (passed_mark writers opening a)
 
--- each step makes the same of both openings
+-- each step changes both openings alike
 pub record Serve (opening : List Object) : Type 0 where
   pub entered : (writers : Option ℕ) (a : Admission) (h : Held) → HasShared opening a
       → (entered writers (shared_of opening) a h ≡ entered writers opening a h) × HasShared opening (entered writers opening a h)

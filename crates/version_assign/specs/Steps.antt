@@ -22,7 +22,7 @@ use Rattle.version_assign.specs.Books.{HasRoom, IsSkipped, lacks_one, row_at, ve
 use Rattle.version_assign.specs.Calls.{Admitting, is_shared_one}
 use Rattle.version_assign.specs.Lines.{LineMap, are_lined, begun_behind, clear_all, filled, greatest_of, has_line, line_at, move_all}
 
--- the object that the input writes, where it has its writers
+-- the object that the input writes, if it has its writers
 abbrev pub full_one : Option ℕ → Admission → Input → Option ObjectId
 full_one writers a (inputs.Pure bytes) = None
 full_one writers a (inputs.Owned r) = None
@@ -34,7 +34,7 @@ abbrev pub is_free_one : Admitting → Option Held → Bool
 is_free_one a None = false
 is_free_one a (Some h) = is_free a.writers a.admission h
 
--- the version at which it would write, none where it is dropped
+-- the version at which it would write, none if it is dropped
 abbrev pub judged : List (ObjectId × Object) → LineMap → Certificate → List Assigned → Option ℕ
 judged opening lines c begun =
     version_within (list_any (lacks_one opening) begun)

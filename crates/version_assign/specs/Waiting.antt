@@ -92,7 +92,7 @@ pub data Turn (rows : List (Option Row)) (w : Waits) (room due : ObjectId → Bo
   is_open : due id ≡ true → Turn rows w room due id place
   has_turn : (p : ℕ) → is_awake w p ≡ true → p ≤ place → writes_at rows p id ≡ true → Turn rows w room due id place
 
--- A certificate that waits may be free; or it stands behind an origin that is not admitted; or in the queue of an
+-- A certificate that waits may be free; or it stands under an origin that is not admitted; or in the queue of an
 -- object that it writes.
 pub data Reason (rows : List (Option Row)) (w : Waits) (admits : Digest → Bool) (room due : ObjectId → Bool) (place : ℕ) (c : Certificate) : Type 0 where
   may_be_free : is_awake w place ≡ true → Reason rows w admits room due place c
@@ -122,7 +122,7 @@ pub record Grows (old new : Waits) : Type 0 where
   pub behind : KeepsShelf old.behind.entries new.behind.entries
   pub queues : KeepsShelf old.queues.entries new.queues.entries
 
--- all that stand behind a transaction may be free
+-- all that stand under a transaction may be free
 pub record Frees (old new : Waits) (tx : Digest) : Type 0 where
   pub whole : new.whole ≡ true → old.whole ≡ true
   pub awake : (p : ℕ) → is_awake old p ≡ true → is_awake new p ≡ true
@@ -156,7 +156,7 @@ pub record Passes (rows : List (Option Row)) (old new : Waits) (id : ObjectId) :
 pub record Opens (rows : List (Option Row)) (room : ObjectId → Bool) (old new : Waits) (all rest : List Input) : Type 0 where
   pub at : (admits : Digest → Bool) (due : ObjectId → Bool) → IsFiled rows old admits room (or_one_of all due) → IsFiled rows new admits room (or_one_of rest due)
 
--- the same of those that these admitted transactions write
+-- likewise for those that these admitted transactions write
 abbrev pub wrote_one : List (Digest × Admit) → ObjectId → Bool
 wrote_one entries id = list_any (writes id) (map admitted_as entries)
 
@@ -172,7 +172,7 @@ abbrev pub OpensFound : List (Option Row) → (ObjectId → Bool) → Waits → 
 OpensFound rows room old new None = new ≡ old
 OpensFound rows room old new (Some e) = Opens rows room old new e.1.cert.tx.inputs []
 
--- it stands behind an origin, or in the queue of an object that has its writers
+-- it stands under an origin, or in the queue of an object that has its writers
 pub data Aside (w : Waits) (admits : Digest → Bool) (room : ObjectId → Bool) (place : ℕ) (c : Certificate) : Type 0 where
   aside_behind : (tx : Digest) → Has c.origins (Some tx) → admits tx ≡ false → is_under w.behind.entries tx place ≡ true → Aside w admits room place c
   aside_queued : (id : ObjectId) → has_id (mutable_ids c) id ≡ true → is_under w.queues.entries id.0 place ≡ true → room id ≡ false → Aside w admits room place c

@@ -52,7 +52,7 @@ fn bound(limit: u32)
     let _limit = limit;
 }
 
-/// A limit, where there is one, is below 2^32.
+/// A limit, if there is one, is below 2^32.
 fn bound_of(writers: Option<u32>)
     ensures { (n : ℕ) → writers ≡ Some n → n < 2 ^ 32 }
 {
@@ -103,7 +103,7 @@ impl Admission {
     /// A certificate's entry, of valid shape and with one origin for each object; its transaction, of this digest, is
     /// not in the sequence. It waits until its origins are admitted and each object that it writes has fewer writers
     /// since the last mark than the limit; then it is admitted (and its shared inputs are assigned their current
-    /// versions, Sui Lutris), or dropped where its version would be 2^62 or more, or where a shared input of no origin
+    /// versions, Sui Lutris), or dropped if its version would be 2^62 or more, or if a shared input of no origin
     /// was not shared as the epoch opened. So are, in order of arrival, those that waited for it. A refusal changes
     /// nothing.
     pub fn push(&mut self, tx: &Digest, cert: &Certificate) -> Result<Taken, OutOfMemory>
@@ -118,7 +118,7 @@ impl Admission {
         self.register.push(self.alloc, tx, cert)
     }
 
-    /// A Commit mark, behind its cut: the writers are counted anew, and what waited for that is admitted or dropped,
+    /// A Commit mark, after its cut: the writers are counted anew, and what waited for that is admitted or dropped,
     /// in order of arrival. A refusal changes nothing.
     pub fn mark(&mut self) -> Result<Taken, OutOfMemory>
         ensures passed { OnOk result (self.new ≡ with_mark self.old) }
@@ -147,7 +147,7 @@ impl Admission {
         self.register.book.uncut(self.alloc)
     }
 
-    /// The first origin that is not admitted, of a transaction that waits; none exactly where it does not wait, or all
+    /// The first origin that is not admitted, of a transaction that waits; none exactly if it does not wait, or all
     /// its origins are admitted. Takes no memory.
     pub fn pending_on(&self, tx: &Digest) -> Option<Digest>
         ensures { result ≡ pending_on self.now.admission tx.now }
@@ -156,21 +156,21 @@ impl Admission {
     }
 
     /// The first object in input order that has as many writers as the limit, of a transaction that waits and writes
-    /// it; none exactly where it does not wait, or an origin is not admitted. Takes no memory.
+    /// it; none exactly if it does not wait, or an origin is not admitted. Takes no memory.
     pub fn deferred_on(&self, tx: &Digest) -> Option<ObjectId>
         ensures { result ≡ deferred_on self.now.writers self.now.admission tx.now }
     {
         self.register.book.deferred_on(tx)
     }
 
-    /// The versions assigned to a transaction's shared inputs; none exactly where it is not admitted. Takes no memory.
+    /// The versions assigned to a transaction's shared inputs; none exactly if it is not admitted. Takes no memory.
     pub fn assigned(&self, tx: &Digest) -> Option<&Seq<Assigned>>
         ensures { option_map (λ (a : _). a.now) result ≡ assigned_of self.now.admission tx.now }
     {
         self.register.book.assigned(tx)
     }
 
-    /// The version at which a transaction writes; none exactly where it is not admitted. Takes no memory.
+    /// The version at which a transaction writes; none exactly if it is not admitted. Takes no memory.
     pub fn version(&self, tx: &Digest) -> Option<u64>
         ensures { result ≡ version_of self.now.admission tx.now }
     {
@@ -230,7 +230,7 @@ impl Admission {
     }
 
     /// Goes to the next epoch, which opens with what this one did, but for these changes: no entry of it was seen. Each
-    /// object has the id under which it changed. Time grows with the changes, and not with what is shared. Where memory
+    /// object has the id under which it changed. Time grows with the changes, and not with what is shared. If memory
     /// is refused, the opening is not to be used.
     pub fn renew(&mut self, changes: &[Change]) -> Result<(), OutOfMemory>
         requires own { Each IsOwn changes.now }

@@ -28,7 +28,7 @@ fn held_at(rows: &[Option<Row>], place: Option<usize>) -> Option<&Held>
 }
 
 impl Book {
-    /// The place of a transaction's certificate, from 0; none exactly where it is not in the sequence.
+    /// The place of a transaction's certificate, from 0; none exactly if it is not in the sequence.
     fn place_of(&self, tx: &Digest) -> Option<usize>
         ensures { result ≡ position (digest_eq tx.now) self.now.known.keys }
     {
@@ -68,7 +68,7 @@ impl Book {
         }
     }
 
-    /// The first object that is full, where all origins are admitted.
+    /// The first object that is full, if all origins are admitted.
     fn full_behind(&self, held: &Held) -> Option<ObjectId>
         requires { IsKept self.now }
         ensures { result ≡ deferred_by self.now.writers (admission_of self.now) (Some held.now) }

@@ -67,7 +67,7 @@ fn begun(
     }
 }
 
-/// The same of these inputs, behind those that are collected.
+/// Likewise for these inputs, after those that are collected.
 fn begun_after(
     opening: &IndexMap<ObjectId, Object>,
     all: Vec<Assigned>,

@@ -40,7 +40,7 @@ pub(crate) struct Admit {
 /// The tables.
 #[derive(Drop)]
 pub(crate) struct Book {
-    /// In order of arrival; none where the certificate was admitted or dropped.
+    /// In order of arrival; none if the certificate was admitted or dropped.
     pub(crate) rows: Vec<Option<Row>>,
     /// The digests of all of them, in the same order.
     pub(crate) known: IndexSet<Digest>,
@@ -58,7 +58,7 @@ pub(crate) struct Book {
     pub(crate) writers: Option<u32>,
 }
 
-/// Takes the row at a place, where there is one.
+/// Takes the row at a place, if there is one.
 fn take_row(rows: &mut Vec<Option<Row>>, place: usize) -> Option<Row>
     ensures taken { result ≡ row_at rows.old.items place }
     ensures left { rows.new.items ≡ slice_set rows.old.items place None }
@@ -91,7 +91,7 @@ pub(crate) fn row_at(rows: &[Option<Row>], place: usize) -> Option<&Row>
     }
 }
 
-/// Puts a digest behind the others; there is room.
+/// Puts a digest after the others; there is room.
 pub(crate) fn push_in_room(all: &mut Vec<Digest>, tx: Digest)
     requires { vec_len all.old < vec_capacity all.old }
     ensures items { all.new.items ≡ all.old.items ++ tx ∷ [] }
@@ -104,14 +104,14 @@ pub(crate) fn push_in_room(all: &mut Vec<Digest>, tx: Digest)
     }
 }
 
-/// Whether this would begin in the opening, and is no shared object of it.
+/// Whether this would begin in the opening, and is not a shared object of it.
 fn lacks_one(opening: &IndexMap<ObjectId, Object>, one: &Assigned) -> bool
     ensures { result ≡ lacks_one opening.now.entries one.now }
 {
     matches!(one.writer, Producer::Opening) && !opening.contains_key(&one.id)
 }
 
-/// Whether one of these is.
+/// Whether one of the assigned objects is lacking.
 fn lacks_any(opening: &IndexMap<ObjectId, Object>, assigned: &[Assigned]) -> bool
     ensures { result ≡ list_any (lacks_one opening.now.entries) assigned.now }
 {
@@ -161,7 +161,7 @@ fn greatest_assigned(greatest: u64, assigned: &[Assigned]) -> u64
     greatest
 }
 
-/// The version behind this one, if it stays below the limit and nothing is lacking.
+/// The version after this one, if it stays below the limit and nothing is lacking.
 fn version_within(lacks: bool, greatest: u64) -> Option<u64>
     ensures { result ≡ version_within lacks greatest }
 {
@@ -208,7 +208,7 @@ impl Book {
         }
     }
 
-    /// The object that the input writes, where it has its writers.
+    /// The object that the input writes, if it has its writers.
     fn full_one(&self, input: &Input) -> Option<ObjectId>
         requires { AreLines self.now.writers (opening_of self.now) (admission_of self.now) self.now.lines.entries }
         ensures { result ≡ full_one self.now.writers (admission_of self.now) input.now }
@@ -292,7 +292,7 @@ impl Book {
         self.low = self.skipped();
     }
 
-    /// Puts the current versions into a row; the version at which it would write, none where it is dropped.
+    /// Puts the current versions into a row; the version at which it would write, none if it is dropped.
     fn judge(&self, row: &mut Row) -> Option<u64>
         ensures held { row.new.held ≡ row.old.held }
         ensures filled { row.new.assigned.items ≡ map (filled self.now.lines.entries) row.old.assigned.items }

@@ -10,14 +10,14 @@ use chain_types::{Object, ObjectId};
 use indexmap::IndexMap;
 use wire_bcs::OutOfMemory;
 
-/// An object that an epoch changed, as it lives at its end; none where it lives no more.
+/// An object that an epoch changed, as it lives at its end; none if it lives no more.
 #[derive(Clone, Copy, Debug, PartialEq, Eq)]
 pub struct Change {
     pub id: ObjectId,
     pub lives: Option<Object>,
 }
 
-/// The object, where it is shared.
+/// The object, if it is shared.
 fn shared_now(now: Option<Object>) -> Option<Object>
     ensures { result ≡ if_shared now }
 {

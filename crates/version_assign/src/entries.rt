@@ -38,7 +38,7 @@ fn note_digest(known: &mut IndexSet<Digest>, tx: Digest)
     }
 }
 
-/// Puts a row behind the others; there is room.
+/// Puts a row after the others; there is room.
 fn push_row(rows: &mut Vec<Option<Row>>, row: Row)
     requires { vec_len rows.old < vec_capacity rows.old }
     ensures { rows.new.items ≡ rows.old.items ++ Some row ∷ [] }
@@ -129,7 +129,7 @@ impl Book {
         })
     }
 
-    /// Makes room for one more row: behind it nothing that waits can be refused memory.
+    /// Makes room for one more row: after it nothing that waits can be refused memory.
     pub(crate) fn make_room(&mut self, assigned: &[Assigned]) -> Result<(), OutOfMemory>
         ensures kept { MakesRoom self.old self.new }
         ensures room { OnOk result (HasRowRoom self.new assigned.now) }

@@ -93,7 +93,7 @@ fn one_more(writers: u32) -> u32
     }
 }
 
-/// What is known of an object behind a transaction that was assigned this version of it.
+/// What is known of an object after a transaction that was assigned this version of it.
 fn moved(version: u64, tx: Digest, one: &Assigned, line: Line) -> Line
     ensures { result ≡ moved one.now.mutable version tx one.now line }
 {
@@ -160,7 +160,7 @@ pub(crate) fn clear_lines(lines: &mut IndexMap<ObjectId, Line>, assigned: &[Assi
     }
 }
 
-/// The current version of an object and its writer, where there is one, in place of this one.
+/// The current version of an object and its writer, if there is one, in place of this one.
 fn filled(lines: &IndexMap<ObjectId, Line>, one: Assigned) -> Assigned
     ensures { result ≡ filled lines.now.entries one }
 {

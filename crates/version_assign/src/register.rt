@@ -28,7 +28,7 @@ pub(crate) struct Register {
 }
 
 impl Register {
-    /// Admits or drops the certificate at a place, where one waits, which is free.
+    /// Admits or drops the certificate at a place, if one waits, which is free.
     fn take(&mut self, place: usize)
         requires kept { IsWhole self.old }
         requires free { is_free_one (shown self.old.book) (placed self.old.book.rows.items (Some place)) ≡ true }
@@ -51,7 +51,7 @@ impl Register {
         }
     }
 
-    /// The same; behind it the places are skipped at which nothing waits.
+    /// The same; after it the places are skipped at which nothing waits.
     fn settle_all(&mut self)
         requires { IsWhole self.old }
         ensures kept { IsWhole self.new }
@@ -140,7 +140,7 @@ impl Register {
         Ok(self.enter(row, admitted, dropped))
     }
 
-    /// What was admitted is in a checkpoint, and counts no more for the limit of writers: who waited for that may be
+    /// What was admitted is in a checkpoint, and counts no more for the limit of writers: whatever waited for that may be
     /// free.
     pub(crate) fn cut(&mut self)
         requires { IsWhole self.old }
@@ -153,7 +153,7 @@ impl Register {
         self.waits.open_since(&self.book, from);
     }
 
-    /// A mark, behind its cut. A refusal changes nothing.
+    /// A mark, after its cut. A refusal changes nothing.
     pub(crate) fn mark(&mut self, alloc: Global) -> Result<Taken, OutOfMemory>
         requires { IsWhole self.old }
         ensures kept { IsWhole self.new }

@@ -35,7 +35,7 @@ impl Book {
 }
 
 impl Book {
-    /// The opening of the next epoch, and nothing else. Where memory is refused, some of what changed is as it was.
+    /// The opening of the next epoch, and nothing else. If memory is refused, some of what changed is as it was.
     fn renew(&mut self, alloc: Global, changes: &[Change]) -> Result<(), OutOfMemory>
         requires kept { IsKept self.old }
         requires own { Each IsOwn changes.now }
@@ -53,7 +53,7 @@ impl Book {
 }
 
 impl Register {
-    /// The opening of the next epoch, and nothing else. Where memory is refused, some of what changed is as it was.
+    /// The opening of the next epoch, and nothing else. If memory is refused, some of what changed is as it was.
     #[tactic(auto, using(crate::proofs::Registering::nothing_filed))]
     pub(crate) fn renew(&mut self, alloc: Global, changes: &[Change]) -> Result<(), OutOfMemory>
         requires kept { IsWhole self.old }

@@ -23,8 +23,8 @@ use indexmap::IndexMap;
 use std::alloc::Global;
 use std::collections::BTreeSet;
 
-/// Each certificate that waits may be free, or stands behind an origin that is not admitted, or in the queue of an
-/// object that it writes and that has its writers. Where an object has room for one more writer, the first of its
+/// Each certificate that waits may be free, or stands under an origin that is not admitted, or in the queue of an
+/// object that it writes and that has its writers. If an object has room for one more writer, the first of its
 /// queue goes to those that may be free, and takes the next with it. A place may stand somewhere longer than its
 /// certificate waits.
 #[derive(Drop)]
@@ -33,7 +33,7 @@ pub(crate) struct Waits {
     pub(crate) whole: bool,
     /// The places of those that may be free.
     pub(crate) awake: BTreeSet<usize>,
-    /// The places of those that stand behind a transaction.
+    /// The places of those that stand under a transaction.
     pub(crate) behind: IndexMap<Digest, BTreeSet<usize>>,
     /// The places of those in the queue of an object.
     pub(crate) queues: IndexMap<Digest, BTreeSet<usize>>,
@@ -117,7 +117,7 @@ impl Waits {
         }
     }
 
-    /// Where memory was refused, each certificate that waits may be free, and the tables are whole again.
+    /// If memory was refused, each certificate that waits may be free, and the tables are whole again.
     pub(crate) fn mend(&mut self, book: &Book)
         requires { IsSkipped book.now.low book.now.rows.items }
         ensures { IsFiledIn book.now self.old → IsFiledIn book.now self.new }
@@ -131,7 +131,7 @@ impl Waits {
         }
     }
 
-    /// The certificate at a place stands behind a transaction.
+    /// The certificate at a place stands under a transaction.
     fn put_behind(&mut self, tx: Digest, place: usize)
         ensures kept { Grows self.old self.new }
         ensures behind { self.new.whole ≡ true → is_under self.new.behind.entries tx place ≡ true }
@@ -164,7 +164,7 @@ impl Waits {
         }
     }
 
-    /// Those that stand behind a transaction may be free.
+    /// Those that stand under a transaction may be free.
     fn wake_behind(&mut self, tx: &Digest)
         ensures { Frees self.old self.new tx.now }
     {
@@ -185,7 +185,7 @@ impl Waits {
         }
     }
 
-    /// The first in the queue of the object that the input writes may be free, where the object has room.
+    /// The first in the queue of the object that the input writes may be free, if the object has room.
     fn open_one(&mut self, book: &Book, input: &Input)
         requires { AreLines book.now.writers (opening_of book.now) (admission_of book.now) book.now.lines.entries }
         ensures { (rest : _) → Opens book.now.rows.items (room_in book.now) self.old self.new (input.now ∷ rest) rest }
@@ -198,7 +198,7 @@ impl Waits {
         }
     }
 
-    /// The same of each of these inputs.
+    /// Likewise for each of these inputs.
     pub(crate) fn open_all(&mut self, book: &Book, inputs: &[Input])
         requires { AreLines book.now.writers (opening_of book.now) (admission_of book.now) book.now.lines.entries }
         ensures { Opens book.now.rows.items (room_in book.now) self.old self.new inputs.now [] }
@@ -217,7 +217,7 @@ impl Waits {
         self.awake.remove(&place);
     }
 
-    /// Files a certificate that is not free behind its first missing origin, or in the queue of the first object that
+    /// Files a certificate that is not free under its first missing origin, or in the queue of the first object that
     /// has its writers.
     fn file(&mut self, book: &Book, place: usize, held: &Held)
         requires { IsKept book.now }
@@ -275,7 +275,7 @@ impl Waits {
         book.first_free()
     }
 
-    /// The certificate at a place was taken out: whoever stands behind its transaction may be free, and the next in the
+    /// The certificate at a place was taken out: whatever waits for its transaction may be free, and the next in the
     /// queues of what it writes.
     pub(crate) fn release(&mut self, book: &Book, place: usize, held: &Held)
         requires { AreLines book.now.writers (opening_of book.now) (admission_of book.now) book.now.lines.entries }
@@ -286,7 +286,7 @@ impl Waits {
         self.open_all(book, held.cert.tx.inputs.as_slice());
     }
 
-    /// The first in the queue of each object that the admitted transaction at a place wrote may be free, where the
+    /// The first in the queue of each object that the admitted transaction at a place wrote may be free, if the
     /// object has room.
     fn open_at(&mut self, book: &Book, place: usize)
         requires { AreLines book.now.writers (opening_of book.now) (admission_of book.now) book.now.lines.entries }
@@ -297,7 +297,7 @@ impl Waits {
         }
     }
 
-    /// The same of each that was admitted from this place on.
+    /// Likewise for each that was admitted from this place on.
     pub(crate) fn open_since(&mut self, book: &Book, from: usize)
         requires { AreLines book.now.writers (opening_of book.now) (admission_of book.now) book.now.lines.entries }
         ensures { OpensSince book.now.rows.items (room_in book.now) self.old self.new (drop from book.now.admitted.entries) [] }

@@ -92,7 +92,7 @@ apart objects = sorted_apart (fold with_live [] objects) (in_order objects).sort
 
 -- ---- what is found
 
--- an object, where it has the id
+-- an object, if it has the id
 abbrev with_id : ObjectId → Option Object → Option Object
 with_id id None = None
 with_id id (Some o) = cond (id_eq id o.id) (Some o) None
@@ -120,11 +120,11 @@ twice : (o rest : Option Object) → or_else o (or_else o rest) ≡ or_else o re
 twice None rest = refl
 twice (Some o) rest = refl
 
--- two lists in order are one where the same is found
+-- two lists in order are one if the same is found
 pub same_found : (xs ys : List (Option Object)) → ((id : ObjectId) → find id_cmp id (fold with_live [] xs) ≡ find id_cmp id (fold with_live [] ys)) → fold with_live [] xs ≡ fold with_live [] ys
 same_found xs ys same = same_entries id_cmp ids_total ids_unique (fold with_live [] xs) (fold with_live [] ys) (in_order xs).sorted (in_order ys).sorted same
 
--- behind the objects of these ids
+-- after the objects of these ids
 module _ (object_of : ObjectId → Option Object) (has : (id : ObjectId) → HasId id (object_of id)) where
   all_found : (ids : List ObjectId) (entries : Entries) (id : ObjectId)
       → find id_cmp id (fold with_live entries (map object_of ids)) ≡ cond (list_any (id_eq id) ids) (or_else (object_of id) (find id_cmp id entries)) (find id_cmp id entries)
@@ -148,7 +148,7 @@ module _ (object_of : ObjectId → Option Object) (has : (id : ObjectId) → Has
       by false is_id =
           ap (λ o. cond (list_any (id_eq id) is) (or_else (object_of id) (or_else o (find id_cmp id entries))) (or_else o (find id_cmp id entries))) (other_id id i (object_of i) (has i) is_id)
 
-  -- where there is none of the other ids, each is found
+  -- if there is none of the other ids, each is found
   pub found_as : (ids : List ObjectId) → ((id : ObjectId) → list_any (id_eq id) ids ≡ false → object_of id ≡ None) → (id : ObjectId) → find id_cmp id (fold with_live [] (map object_of ids)) ≡ object_of id
   found_as ids none id = all_found ids [] id ∙ by (list_any (id_eq id) ids) refl (object_of id) refl
     where
@@ -157,12 +157,12 @@ module _ (object_of : ObjectId → Option Object) (has : (id : ObjectId) → Has
       by true is (Some o) same = refl
       by false is o same = sym (none id is) ∙ same
 
-  -- so the list is that of other ids, where there is none beside those too
+  -- so the list is that of other ids, if there is none beside those too
   pub same_live : (ids others : List ObjectId) → ((id : ObjectId) → list_any (id_eq id) ids ≡ false → object_of id ≡ None) → ((id : ObjectId) → list_any (id_eq id) others ≡ false → object_of id ≡ None)
       → fold with_live [] (map object_of ids) ≡ fold with_live [] (map object_of others)
   same_live ids others none neither = same_found (map object_of ids) (map object_of others) (λ id. found_as ids none id ∙ sym (found_as others neither id))
 
--- behind rows
+-- after rows
 rows_found : (rows entries : Entries) → Each IsOwn rows → AreApart rows → (id : ObjectId)
     → find id_cmp id (fold with_live entries (map (λ e. Some (object_under e)) rows)) ≡ or_else (lookup (id_eq id) rows) (find id_cmp id entries)
 rows_found [] entries own apart id = refl

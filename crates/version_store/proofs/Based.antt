@@ -131,7 +131,7 @@ module _ {turned : Bool} {entries : List (ObjectId × Object)} {opened_in : ℕ}
   pub deleted_is : (id : ObjectId) → list_any (id_eq id) maps.deleted.keys ≡ is_deleted s.executed id
   deleted_is id = held.kept.deleted id ∙ ap (λ (t : Stored). is_deleted t.executed id) view
 
-  -- what is live, where it is known whether the id was deleted
+  -- what is live, if it is known whether the id was deleted
   pub live_is : (id : ObjectId) (a b : Option Object) → list_any (id_eq id) maps.deleted.keys ≡ false → a ≡ lookup (id_eq id) entries → b ≡ lookup (id_eq id) maps.newest.entries
       → merge a b ≡ live s.opening s.executed id
   unfolding live
@@ -139,7 +139,7 @@ module _ {turned : Bool} {entries : List (ObjectId × Object)} {opened_in : ℕ}
       ap (λ x. merge x b) is ∙ ap (merge (lookup (id_eq id) entries)) more ∙ sym (newest_is id)
       ∙ sym (ap (λ d. cond d None (newest id (held_in s))) (sym (deleted_is id) ∙ not_deleted))
 
--- a version is held where its object is
+-- a version is held if its object is
 pub held_where : (held : List Version) (key : ObjectKey) (o : Option Object) → o ≡ option_map object_in (version_at held key) → is_some o ≡ holds_key held key
 held_where held key o is = ap is_some is ∙ some_mapped object_in (version_at held key) ∙ sym (any_found (is_key key) held)
 

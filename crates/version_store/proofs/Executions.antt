@@ -34,7 +34,7 @@ executions_more (e ∷ es) objects new tx r h i =
     ∙ ap (λ xs. ran_as e.0 e.1 (take e.1.written objects) ∷ executions (es ++ (tx, r) ∷ []) xs) (drop-append-le e.1.written objects new within)
     ∙ ap (λ xs. ran_as e.0 e.1 (take e.1.written objects) ∷ xs) (executions_more es (drop e.1.written objects) new tx r rest i)
 
--- what the maps stand for behind one more execution
+-- what the maps stand for after one more execution
 pub stored_more : (opened : ℕ) (objects new : List Object) (ran : List (Digest × Ran)) (tx : Digest) (r : Ran) → opened + written_in ran ≡ length objects → r.written ≡ length new
     → stored_as opened (objects ++ new) (ran ++ (tx, r) ∷ []) ≡ with_execution (stored_as opened objects ran) (ran_as tx r new)
 stored_more opened objects new ran tx r h i =
@@ -69,14 +69,14 @@ digest_found (Some r) (Some x) h = cc
 digest_found None (Some x) h = absurd (cc)
 digest_found (Some r) None h = absurd (cc)
 
--- a transaction is kept where it was executed
+-- a transaction is kept if it was executed
 pub has_ran : (ran : List (Digest × Ran)) (objects : List Object) (tx : Digest) → is_some (lookup (digest_eq tx) ran) ≡ is_some (execution_of (executions ran objects) tx)
 has_ran ran objects tx =
     sym (some_mapped (λ (r : Ran). r.effects) (lookup (digest_eq tx) ran))
     ∙ ap is_some (lookup_ran ran objects tx)
     ∙ some_mapped (λ (x : Execution). x.gave.effects) (execution_of (executions ran objects) tx)
 
--- the count behind one more execution
+-- the count after one more execution
 pub written_more : (ran : List (Digest × Ran)) (tx : Digest) (r : Ran) → written_in (ran ++ (tx, r) ∷ []) ≡ written_in ran + r.written
 written_more [] tx r = grind arith
 written_more (e ∷ es) tx r =

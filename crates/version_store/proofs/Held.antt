@@ -44,7 +44,7 @@ pub objects_kept : (held : List Version) → map kept_object (map kept_as held) 
 objects_kept [] = refl
 objects_kept (v ∷ vs) = ap (λ os. v.object ∷ os) (objects_kept vs)
 
--- a key that no version has is no key of the map
+-- a key that no version has is not a key of the map
 absent : (held : List Version) (key : ObjectKey) → holds_key held key ≡ false → is_some (lookup (key_eq key) (map kept_as held)) ≡ false
 absent [] key h = refl
 absent (v ∷ vs) key h =
@@ -52,7 +52,7 @@ absent (v ∷ vs) key h =
     ap (λ b. is_some (cond b (Some (kept_of v)) (lookup (key_eq key) (map kept_as vs)))) (test_turned key_eq key_same key_self key (object_key v.object) ∙ p.0)
     ∙ absent vs key p.1
 
--- keys that no version has, and that differ from the key of one more, are still new behind it
+-- keys that no version has, and that differ from the key of one more, are still new after it
 still_new : (held : List Version) (v : Version) (keys : List ObjectKey) → list_any (holds_key held) keys ≡ false → list_any (key_eq (object_key v.object)) keys ≡ false
     → list_any (holds_key (held ++ v ∷ [])) keys ≡ false
 still_new held v [] h i = refl
@@ -65,7 +65,7 @@ still_new held v (k ∷ ks) h i =
 abbrev pub made : Producer → Object → Version
 made producer o = record { object = o; producer = producer }
 
--- what of new objects is new behind the first of them
+-- what of new objects is new after the first of them
 record First (held : List Version) (o : Object) (os : List Object) : Type 0 where
   free : holds_key held (object_key o) ≡ false
   rest : (producer : Producer) → are_new (held ++ made producer o ∷ []) os ≡ true
@@ -95,7 +95,7 @@ new_go_last producer held (o ∷ os) h =
     ∙ new_go_last producer (held ++ made producer o ∷ []) os (f.rest producer)
     ∙ ap (map kept_as) (append_assoc held (made producer o ∷ []) (map (made producer) os))
 
--- the versions behind one more execution
+-- the versions after one more execution
 pub versions_more : (opening : List Object) (executed : List Execution) (x : Execution) → versions opening (executed ++ x ∷ []) ≡ versions opening executed ++ map (made (producers.Tx x.digest)) x.gave.objects
 unfolding versions
 versions_more opening executed x =

@@ -1,4 +1,4 @@
--- The maps are kept when a store opens, and behind one more execution.
+-- The maps are kept when a store opens, and after one more execution.
 use Rattle.std.proofs.Common.{◌≡◌, ℕ, ◌+◌, true, false, List, [], ◌∷◌, ◌++◌, length, map, drop, refl, ap, sym, ◌∙◌, option_map, arith, subst}
 use Rattle.std.specs.List.{list_any}
 use Rattle.std.specs.Map.{lookup}
@@ -120,7 +120,7 @@ same_kept opened old new same kept = record {
 
 -- ---- what the calls of a store rest on
 
--- behind an execution that was made room for
+-- after an execution that was made room for
 pub written : {opened : ℕ} {old mid new : Maps} {s : Stored} {effects : Effects} {objects slice : List Object} {consumed copy : List ObjectKey}
     → IsKept opened old → stored opened old ≡ s → SameEntries old mid → Adds mid new effects slice copy → slice ≡ objects → copy ≡ consumed
     → is_executed s.executed effects.tx ≡ false → are_new (held_in s) objects ≡ true

@@ -1,4 +1,4 @@
--- The version of a key that a certain producer made, where each key is held once.
+-- The version of a key that a certain producer made, if each key is held once.
 use Rattle.std.proofs.Common.{◌≡◌, Bool, true, false, cond, ◌&&◌, List, [], ◌∷◌, Option, Some, None, map, refl, ap, sym, subst, ◌∙◌, option_map}
 use Rattle.std.specs.Prelude.{find}
 use Rattle.std.specs.List.{AllByRecursion, IsDistinct}
@@ -19,7 +19,7 @@ use Rattle.version_store.specs.Kept.{kept_as}
 use Rattle.version_store.specs.Makers.{made_by}
 use Rattle.version_store.proofs.Held.{kept_of, lookup_kept}
 
--- no version of the key is behind one of this key
+-- no version of the key is after one of this key
 none_behind : (key : ObjectKey) (p : Producer) (v : Version) (vs : List Version) → object_key v.object ≡ key
     → AllByRecursion (λ y. key_eq (object_key v.object) y ≡ false) (keys_of (map kept_as vs)) → find (is_wanted key (Some p)) vs ≡ None
 none_behind key p v [] is apart = refl
@@ -46,7 +46,7 @@ found_among key p (v ∷ vs) apart =
     go true is more = here (producer_eq v.producer p) (key_same (object_key v.object) key is)
     go false is more = more
 
--- a look-up in the map, where this producer made it
+-- a look-up in the map, if this producer made it
 pub found_in : (held : List Version) (entries : List (ObjectKey × Kept)) (key : ObjectKey) (p : Producer) → entries ≡ map kept_as held → IsDistinct key_eq (keys_of entries)
     → made_by p (lookup (key_eq key) entries) ≡ option_map object_in (find (is_wanted key (Some p)) held)
 found_in held entries key p is apart =

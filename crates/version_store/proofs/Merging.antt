@@ -1,4 +1,4 @@
--- The newest version of an id: of two lists together, whose id it has, and where there is none.
+-- The newest version of an id: of two lists together, whose id it has, and when there is none.
 use Rattle.std.proofs.Common.{◌≡◌, ℕ, Bool, true, false, cond, ◌||◌, List, [], ◌∷◌, ◌++◌, Option, Some, None, is_some, map, refl, ap, sym, ◌∙◌, nat_lt, arith}
 use Rattle.std.specs.Prelude.{filter, fold}
 use Rattle.std.specs.List.{list_any}
@@ -88,7 +88,7 @@ all_have id (v ∷ vs) a h = by (is_id id v) refl (λ b i. all_have id vs b i)
 pub newest_has : (id : ObjectId) (held : List Version) → HasId id (newest id held)
 newest_has id held = all_have id held None tt
 
--- ---- where there is none
+-- ---- if there is none
 
 abbrev pub version_id : Version → ObjectId
 version_id v = v.object.id

@@ -76,7 +76,7 @@ newest_more (o ∷ os) live held producer is id =
 
 -- ---- deleted ids
 
--- behind one more execution
+-- after one more execution
 pub deleted_more : (ids : List ObjectId) (executed : List Execution) (x : Execution) → ((id : ObjectId) → list_any (id_eq id) ids ≡ is_deleted executed id)
     → (id : ObjectId) → list_any (id_eq id) (insert_all id_eq ids x.gave.effects.deleted) ≡ is_deleted (executed ++ x ∷ []) id
 deleted_more ids executed x is id =
@@ -133,7 +133,7 @@ consumed_all tx (k ∷ ks) consumers key =
     joined None true b = refl
     joined None false b = refl
 
--- behind one more execution
+-- after one more execution
 pub consumed_more : (consumers : List (ObjectKey × Digest)) (executed : List Execution) (x : Execution)
     → ((key : ObjectKey) → lookup (key_eq key) consumers ≡ option_map (λ (y : Execution). y.digest) (consumer_of executed key))
     → (key : ObjectKey) → lookup (key_eq key) (with_consumers x.digest consumers x.consumed) ≡ option_map (λ (y : Execution). y.digest) (consumer_of (executed ++ x ∷ []) key)

@@ -66,7 +66,7 @@ fresh_is_new held objects = fresh_as held [] objects ∙ ap (λ b. are_new held 
     with_true true = refl
     with_true false = refl
 
--- where nothing is left to look at, all are new
+-- if nothing is left to look at, all are new
 pub all_seen : (held : List Version) (seen : List ObjectKey) (rest objects : List Object) → length rest < 1 → all_fresh held seen rest ≡ all_fresh held [] objects → true ≡ are_new held objects
 all_seen held seen [] objects none same = same ∙ fresh_is_new held objects
 all_seen held seen (o ∷ os) objects none same = absurd (grind arith)

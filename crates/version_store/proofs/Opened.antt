@@ -30,7 +30,7 @@ use Rattle.version_store.proofs.Lists.{not_true}
 use Rattle.version_store.proofs.Reverted.{reverted}
 use Rattle.version_store.proofs.Rows.{AreApart, IsOwn, newest_under, version_under}
 
--- ---- the front of the opening objects
+-- ---- the prefix of the opening objects
 
 record Front (done : List (ObjectId × Object)) (os : List Object) : Type 0 where
   own : Each IsOwn (front_entries done os)
@@ -75,7 +75,7 @@ module _ (objects : List Object) where
       let same : length (map object_under rows) ≡ length rows = length-map rows object_under in
       omega arith
 
-  -- what stands behind it
+  -- what stands after it
   pub front_rest : map object_under rows ++ drop (length rows) objects ≡ objects
   front_rest =
       ap (λ n. map object_under rows ++ drop n objects) (sym (length-map rows object_under))
@@ -90,7 +90,7 @@ fits objects {first} {slice} {entries} {n} is same count rest =
     let all : length slice ≡ length objects = ap length rest in
     omega arith
 
--- a slice from a place on is what stands behind it
+-- a slice from a place on is what stands after it
 pub slice_rest : {A : Type 0} → (n : ℕ) (xs : List A) → take (length xs - n) (drop n xs) ≡ drop n xs
 slice_rest n xs = ap (λ k. take k (drop n xs)) (sym (length-drop n xs)) ∙ take-length (drop n xs)
 
@@ -125,7 +125,7 @@ module _ {turned : Bool} {entries : List (ObjectId × Object)} {opened_in : ℕ}
   stays : (new : Maps) → IsKept opened_in new → IsHeld turned entries opened_in new
   stays new kept = record { kept = kept; newest = held.newest; at = held.at }
 
-  -- behind one more execution
+  -- after one more execution
   pub written_over : {mid new : Maps} {effects : Effects} {objects slice : List Object} {consumed copy : List ObjectKey} → SameEntries old mid → Adds mid new effects slice copy → slice ≡ objects → copy ≡ consumed
       → is_executed s.executed effects.tx ≡ false → are_new (held_in s) objects ≡ true
       → IsHeld turned entries opened_in new × (stored_over turned entries opened_in new ≡ with_execution s (executed_as effects objects consumed))
@@ -138,7 +138,7 @@ module _ {turned : Bool} {entries : List (ObjectId × Object)} {opened_in : ℕ}
         ap (over (based turned entries)) p.1 ∙ ap (λ t. with_execution t (executed_as effects objects consumed)) view,
       )
 
-  -- where transactions are undone
+  -- if transactions are undone
   pub reverted_over : (kept : List Digest) {new : Maps} {set : List Digest} → Keeps old new set → set ≡ insert_all digest_eq [] kept
       → IsHeld turned entries opened_in new × (stored_over turned entries opened_in new ≡ reverted_to kept s)
   reverted_over kept {new} {set} does is =

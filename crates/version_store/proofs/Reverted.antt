@@ -1,4 +1,4 @@
--- The maps are kept where executed transactions are undone.
+-- The maps are kept if executed transactions are undone.
 use Rattle.std.proofs.Common.{◌≡◌, ℕ, ◌+◌, ◌-◌, ◌≤◌, Bool, true, false, cond, not, List, [], ◌∷◌, ◌++◌, Option, length, map, take, drop, refl, ap, sym, ◌∙◌, option_map, append_assoc, append-nil, arith}
 use Rattle.std.specs.Prelude.{filter, flat_map, ◌==◌}
 use Rattle.std.proofs.lemmas.Bool.Decides.{Decides-eqb}
@@ -71,7 +71,7 @@ executed_stay kept (x ∷ xs) =
     by true more = ap (λ vs. written_by x ++ vs) more
     by false more = more
 
--- of all versions those stay that the store holds behind it
+-- of all versions those stay that the store holds after it
 versions_stay : (kept : List Digest) (opening : List Object) (executed : List Execution) → filter (stays_of kept) (versions opening executed) ≡ versions opening (filter (is_kept kept) executed)
 unfolding versions
 versions_stay kept opening executed =
@@ -195,7 +195,7 @@ deleted_behind kept (e ∷ es) objects before ids is id =
         ∙ ap (λ ys. is_deleted ys id) (append_assoc before (x ∷ []) xs)
     by false x xs d rest = rest before ids is
 
--- ---- the maps behind it
+-- ---- the maps after it
 
 kept_values : (held : List Version) → map (λ (e : ObjectKey × Kept). e.1) (map kept_as held) ≡ map kept_of held
 kept_values [] = refl
@@ -307,7 +307,7 @@ undone_are kept opened maps {s} {set} view is =
     ∙ undone_among (is_among kept) maps.executed.entries (drop opened (map kept_object maps.versions.entries))
     ∙ ap (undone kept) view
 
--- where none is undone, the store stays
+-- if none is undone, the store stays
 all_kept : (test : Digest → Bool) (executed : List Execution) → map (λ (x : Execution). x.digest) (filter (λ (x : Execution). not (test x.digest)) executed) ≡ []
     → filter (λ (x : Execution). test x.digest) executed ≡ executed
 all_kept test [] none = refl

@@ -29,7 +29,7 @@ none_under : (id : ObjectId) (entries : List (ObjectId × Object)) → AllByRecu
 none_under id [] h = refl
 none_under id (e ∷ es) h = ap (λ b. cond b (Some e.1) (lookup (id_eq id) es)) h.0 ∙ none_under id es h.1
 
--- the id of the first row is behind it no more
+-- the id of the first row does not come again after it
 pub none_behind : (e : ObjectId × Object) (es : List (ObjectId × Object)) (id : ObjectId) → AreApart (e ∷ es) → id_eq id e.0 ≡ true → lookup (id_eq id) es ≡ None
 none_behind e es id apart is = ap (λ i. lookup (id_eq i) es) (id_same id e.0 is) ∙ none_under e.0 es (IsDistinct-head id_eq e.0 (keys_of es) apart)
 
@@ -62,7 +62,7 @@ newest_under id (e ∷ es) own apart = by (id_eq id e.0) refl (newest_under id e
         ∙ ap (λ vs. fold newer (Some e.1) (map object_in vs)) (newest_behind id es own.1 (none_behind e es id apart is))
     by false is more = ap (λ b. fold newer None (map object_in (cond b (opened e.1 ∷ filter (is_id id) (versions_of es)) (filter (is_id id) (versions_of es))))) (test false is) ∙ more
 
--- ---- a version is what stands under its id, where that has this version
+-- ---- a version is what stands under its id, if that has this version
 
 pub version_under : (key : ObjectKey) (entries : List (ObjectId × Object)) → Each IsOwn entries → AreApart entries
     → version_at (versions_of entries) key ≡ option_map opened (at_version key.version (lookup (id_eq key.id) entries))
@@ -83,7 +83,7 @@ version_under key (e ∷ es) own apart = by (id_eq key.id e.0) refl (version_und
         ∙ here (e.1.version == key.version) (more ∙ ap (λ o. option_map opened (at_version key.version o)) (none_behind e es key.id apart is))
     by false is more = ap (λ b. cond b (Some (opened e.1)) (version_at (versions_of es) key)) (test false is) ∙ more
 
--- ---- rows stand under their ids where what a look-up finds has the id
+-- ---- rows stand under their ids if what a look-up finds has the id
 
 pub own_from_lookups : (entries : List (ObjectId × Object)) → AreApart entries → ((id : ObjectId) → HasId id (lookup (id_eq id) entries)) → Each IsOwn entries
 own_from_lookups [] apart has = tt

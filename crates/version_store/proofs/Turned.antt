@@ -1,4 +1,4 @@
--- The store behind the turn of an epoch: it opens with the live objects.
+-- The store after the turn of an epoch: it opens with the live objects.
 use Rattle.std.proofs.Common.{◌≡◌, ℕ, Bool, true, false, cond, ◌||◌, List, [], ◌∷◌, ◌++◌, Option, Some, None, map, refl, ap, sym, subst, ◌∙◌, option_map, append-nil}
 use Rattle.std.specs.Prelude.{fold}
 use Rattle.std.specs.List.{list_any}

@@ -18,7 +18,7 @@ object_under e = e.1
 unfoldable pub by_id : List (ObjectId × Object) → List Object
 by_id entries = map object_under (fold with_live [] (map (λ e. Some (object_under e)) entries))
 
--- in the first epoch they stand in the order of the set-up, and behind a turn by ascending id
+-- in the first epoch they stand in the order of the set-up, and after a turn by ascending id
 abbrev pub based : Bool → List (ObjectId × Object) → List Object
 based turned entries = if turned then by_id entries else map object_under entries
 
@@ -29,12 +29,12 @@ over objects s = record { opening = objects ++ s.opening; executed = s.executed 
 abbrev pub stored_over : Bool → List (ObjectId × Object) → ℕ → Maps → Stored
 stored_over turned entries opened maps = over (based turned entries) (stored opened maps)
 
--- an object, where it has this version
+-- an object, if it has this version
 abbrev pub at_version : ℕ → Option Object → Option Object
 at_version version None = None
 at_version version (Some o) = if o.version == version then Some o else None
 
--- the front of a list of objects, each under its id, up to the first whose id is there
+-- the prefix of a list of objects, each under its id, up to the first whose id is there
 abbrev pub front_entries : List (ObjectId × Object) → List Object → List (ObjectId × Object)
 front_entries done [] = done
 front_entries done (o ∷ os) = if is_some (lookup (id_eq o.id) done) then done else front_entries (done ++ (o.id, o) ∷ []) os

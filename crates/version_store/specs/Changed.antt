@@ -12,6 +12,6 @@ use Rattle.version_store.specs.Stores.{Stored}
 abbrev pub AreChanged : Stored → List ObjectId → Type 0
 AreChanged s ids = (id : ObjectId) → list_any (id_eq id) ids ≡ false → live s.opening s.executed id ≡ newest id (map opened s.opening)
 
--- an opening has one object of each id at most, as far as a look-up tells
+-- an opening has one object of each id at most, as far as a look-up says
 abbrev pub IsSingle : List Object → Type 0
 IsSingle opening = (id : ObjectId) → newest id (map opened opening) ≡ opening_object opening id

@@ -10,7 +10,7 @@ use Rattle.version_store.specs.Stores.{Stored}
 abbrev pub add_live : Stored → List (ObjectId × Object) → ObjectId → List (ObjectId × Object)
 add_live s entries id = with_live entries (live s.opening s.executed id)
 
--- the entries behind those of these ids
+-- the entries after those of these ids
 abbrev pub all_live : Stored → List (ObjectId × Object) → List ObjectId → List (ObjectId × Object)
 all_live s entries ids = fold (add_live s) entries ids
 

@@ -1,4 +1,4 @@
--- What the map has under a key, where a certain producer made it.
+-- What the map has under a key, if a certain producer made it.
 use Rattle.std.specs.Prelude.{Option, Some, None, if◌then◌else◌}
 use Rattle.chain_types.specs.declared.objects.Object.{Object}
 use Rattle.chain_types.specs.declared.objects.Producer.{Producer}

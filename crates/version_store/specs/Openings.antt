@@ -16,7 +16,7 @@ all_placed entries objects = fold with_live entries (map (λ (o : Object). Some 
 abbrev pub ascending : List Object → List Object
 ascending objects = map object_under (all_placed [] objects)
 
--- one more version, where the epoch opened with it
+-- one more version, if the epoch opened with it
 abbrev pub with_opened : List (ObjectId × Object) → Producer → Object → List (ObjectId × Object)
 with_opened entries producers.Opening o = with_live entries (Some o)
 with_opened entries (producers.Tx by) o = entries

@@ -9,7 +9,7 @@ ghost use Rattle.version_store.specs.Bases.{at_version, front_entries};
 ghost use Rattle.version_store.specs.Steps.{with_all_newer};
 
 use crate::maps::add_newer;
-use chain_types::{Object, ObjectId, ObjectKey};
+use chain_types::{HashedObject, Object, ObjectId, ObjectKey};
 use indexmap::{IndexMap, IndexSet};
 use std::alloc::Global;
 use tables::insert_new;
@@ -19,7 +19,7 @@ use wire_bcs::OutOfMemory;
 pub(crate) fn front_of(
     alloc: Global,
     objects: &[Object],
-) -> Result<IndexMap<ObjectId, Object>, OutOfMemory>
+) -> Result<IndexMap<ObjectId, HashedObject>, OutOfMemory>
     ensures { IfOk result (λ m. m.entries ≡ front_entries [] objects.now) }
 {
     let mut front = IndexMap::new(alloc);
@@ -27,12 +27,12 @@ pub(crate) fn front_of(
         if front.contains_key(&object.id) {
             return Ok(front);
         }
-        insert_new(&mut front, object.id, *object)?;
+        insert_new(&mut front, object.id, HashedObject::new(*object))?;
     }
     Ok(front)
 }
 
-/// What stands behind the first objects.
+/// What stands after the first objects.
 #[tactic(auto, using(crate::proofs::Opened::slice_rest))]
 pub(crate) fn behind(objects: &[Object], count: usize) -> &[Object]
     requires { count ≤ length objects.now }
@@ -41,16 +41,16 @@ pub(crate) fn behind(objects: &[Object], count: usize) -> &[Object]
     &objects[count..]
 }
 
-/// The object of this version; none exactly where there is none of the id, or one of another version.
+/// The object of this version; none exactly if there is none of the id, or one of another version.
 pub(crate) fn at_version<'a>(
-    base: &'a IndexMap<ObjectId, Object>,
+    base: &'a IndexMap<ObjectId, HashedObject>,
     key: &ObjectKey,
-) -> Option<&'a Object>
+) -> Option<&'a HashedObject>
     ensures { option_copied result ≡ at_version key.now.version (lookup (id_eq key.now.id) base.now.entries) }
 {
     match base.get(&key.id) {
         Some(object) => {
-            if object.version == key.version {
+            if object.object().version == key.version {
                 Some(object)
             } else {
                 None
@@ -61,7 +61,10 @@ pub(crate) fn at_version<'a>(
 }
 
 /// Puts each of these objects under its id, unless a newer one is there; there is room.
-pub(crate) fn add_newest(base: &mut IndexMap<ObjectId, Object>, newest: &IndexMap<ObjectId, Object>)
+pub(crate) fn add_newest(
+    base: &mut IndexMap<ObjectId, HashedObject>,
+    newest: &IndexMap<ObjectId, HashedObject>,
+)
     requires { index_map_len newest.now ≤ spare base.old }
     ensures { base.new.entries ≡ with_all_newer base.old.entries (values newest.now) }
 {
@@ -71,7 +74,7 @@ pub(crate) fn add_newest(base: &mut IndexMap<ObjectId, Object>, newest: &IndexMa
 }
 
 /// Takes out the objects with these ids.
-pub(crate) fn take_out(base: &mut IndexMap<ObjectId, Object>, ids: &IndexSet<ObjectId>)
+pub(crate) fn take_out(base: &mut IndexMap<ObjectId, HashedObject>, ids: &IndexSet<ObjectId>)
     ensures { (id : ObjectId) → lookup (id_eq id) base.new.entries ≡ (if list_any (id_eq id) ids.now.keys then None else lookup (id_eq id) base.old.entries) }
 {
     for id in ids.iter() {

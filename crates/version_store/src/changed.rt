@@ -6,19 +6,22 @@ ghost use Rattle.version_store.specs.Changed.{AreChanged};
 
 use crate::maps::Maps;
 use crate::store::Store;
-use chain_types::{Object, ObjectId};
+use chain_types::{HashedObject, ObjectId};
 use indexmap::{IndexMap, IndexSet};
 use std::alloc::Global;
 use wire_bcs::{OutOfMemory, Seq};
 
 /// The ids under which something stands.
-fn ids_of(alloc: Global, newest: &IndexMap<ObjectId, Object>) -> Result<Vec<ObjectId>, OutOfMemory>
+fn ids_of(
+    alloc: Global,
+    newest: &IndexMap<ObjectId, HashedObject>,
+) -> Result<Vec<ObjectId>, OutOfMemory>
     ensures { IfOk result (λ ids. ids.items ≡ keys newest.now) }
 {
     Ok(newest.keys().copied().collect(alloc)?)
 }
 
-/// Puts these ids behind the others.
+/// Puts these ids after the others.
 fn add_each(ids: &mut Vec<ObjectId>, more: &IndexSet<ObjectId>) -> Result<(), OutOfMemory>
     ensures { OnOk result (ids.new.items ≡ ids.old.items ++ more.now.keys) }
 {

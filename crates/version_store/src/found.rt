@@ -14,22 +14,22 @@ ghost use Rattle.version_store.specs.Stores.{held_in, wanted_of};
 use crate::base::at_version;
 use crate::maps::Kept;
 use crate::store::Store;
-use chain_types::{Object, ObjectId, ObjectKey, Producer};
+use chain_types::{HashedObject, ObjectId, ObjectKey, Producer};
 use indexmap::IndexMap;
 
-/// Whether one made both.
+/// Whether both producers are the same: the opening, or one transaction.
 fn is_producer(made: &Producer, wanted: &Producer) -> bool
     ensures { result ≡ producer_eq made.now wanted.now }
 {
     *made == *wanted
 }
 
-/// The object of this version, where it is an opening object and is to be one.
+/// The object of this version, if it is an opening object and is to be one.
 fn found_opening<'a>(
-    base: &'a IndexMap<ObjectId, Object>,
+    base: &'a IndexMap<ObjectId, HashedObject>,
     key: &ObjectKey,
     producer: &Producer,
-) -> Option<&'a Object>
+) -> Option<&'a HashedObject>
     ensures { option_copied result ≡ (if producer_eq producers.Opening producer.now then at_version key.now.version (lookup (id_eq key.now.id) base.now.entries) else None) }
 {
     if is_producer(&Producer::Opening, producer) {
@@ -39,12 +39,12 @@ fn found_opening<'a>(
     }
 }
 
-/// The object of this version, where the map has it of this producer.
+/// The object of this version, if the map has it of this producer.
 fn found_among<'a>(
     versions: &'a IndexMap<ObjectKey, Kept>,
     key: &ObjectKey,
     producer: &Producer,
-) -> Option<&'a Object>
+) -> Option<&'a HashedObject>
     ensures made { option_copied result ≡ made_by producer.now (lookup (key_eq key.now) versions.now.entries) }
     ensures unique { IsUnique key_eq versions.now }
 {
@@ -63,9 +63,9 @@ fn found_among<'a>(
 }
 
 impl Store {
-    /// The object of this version, where it is held and this is who made it; none exactly where it is not
+    /// The object of this version, if it is held and this is who made it; none exactly if it is not
     /// held, or another made it. Takes no memory.
-    pub fn found(&self, key: &ObjectKey, producer: &Producer) -> Option<&Object>
+    pub fn found(&self, key: &ObjectKey, producer: &Producer) -> Option<&HashedObject>
         ensures { option_copied result ≡ found (held_in self.now) (wanted_of key.now producer.now) }
     {
         match found_opening(&self.base, key, producer) {

@@ -10,12 +10,12 @@ ghost use Rattle.version_store.specs.Stores.{are_new, held_in};
 ghost use Rattle.version_store.specs.Fresh.{all_fresh};
 
 use crate::store::Store;
-use chain_types::{Object, ObjectKey};
+use chain_types::{HashedObject, Object, ObjectKey};
 use indexmap::IndexSet;
 use wire_bcs::{OutOfMemory, Seq};
 
 /// The version that an object is.
-fn key_of(object: &Object) -> ObjectKey
+pub(crate) fn key_of(object: &Object) -> ObjectKey
     ensures { result ≡ object_key object.now }
 {
     ObjectKey {
@@ -44,13 +44,13 @@ impl Store {
     /// Whether each of these objects is a version that is not held, and none stands there twice: what
     /// [`Store::write`] asks of them.
     #[tactic(auto, using(crate::proofs::News::fresh_is_new))]
-    pub fn are_new(&self, objects: &Seq<Object>) -> Result<bool, OutOfMemory>
+    pub fn are_new(&self, objects: &Seq<HashedObject>) -> Result<bool, OutOfMemory>
         ensures { IfOk result (λ new. new ≡ are_new (held_in self.now) objects.now) }
     {
         let mut seen = IndexSet::new(self.alloc);
         let mut rest = objects.as_slice();
         while let [object, after @ ..] = rest {
-            let key = key_of(object);
+            let key = key_of(object.object());
             if self.holds(&key) || seen.contains(&key) {
                 return Ok(false);
             }

@@ -9,7 +9,7 @@ ghost use Rattle.version_store.specs.Openings.{all_opened, all_placed, ascending
 
 use crate::maps::Kept;
 use crate::store::Store;
-use chain_types::{Object, ObjectId, ObjectKey, Producer};
+use chain_types::{HashedObject, Object, ObjectId, ObjectKey, Producer};
 use indexmap::IndexMap;
 use std::alloc::Global;
 use std::collections::BTreeMap;
@@ -32,7 +32,7 @@ fn add_live(
 fn add_live_under(
     live: &mut BTreeMap<ObjectId, Object>,
     store: &Store,
-    base: &IndexMap<ObjectId, Object>,
+    base: &IndexMap<ObjectId, HashedObject>,
 ) -> Result<(), OutOfMemory>
     ensures { OnOk result (live.new.entries ≡ all_live store.now live.old.entries (keys base.now)) }
 {
@@ -51,7 +51,7 @@ fn add_live_among(
     ensures { OnOk result (live.new.entries ≡ all_live store.now live.old.entries (map kept_id (values versions.now))) }
 {
     for kept in versions.values() {
-        add_live(live, store.live(&kept.object.id).copied())?;
+        add_live(live, store.live(&kept.object.object().id).copied())?;
     }
     Ok(())
 }
@@ -59,22 +59,22 @@ fn add_live_among(
 /// Puts the objects of the base into their places.
 fn add_base(
     opened: &mut BTreeMap<ObjectId, Object>,
-    base: &IndexMap<ObjectId, Object>,
+    base: &IndexMap<ObjectId, HashedObject>,
 ) -> Result<(), OutOfMemory>
     ensures { OnOk result (opened.new.entries ≡ all_placed opened.old.entries (values base.now)) }
 {
     for object in base.values() {
-        add_live(opened, Some(*object))?;
+        add_live(opened, Some(*object.object()))?;
     }
     Ok(())
 }
 
-/// Puts a version into its place, where the epoch opened with it.
+/// Puts a version into its place, if the epoch opened with it.
 fn add_opened(opened: &mut BTreeMap<ObjectId, Object>, kept: &Kept) -> Result<(), OutOfMemory>
     ensures { OnOk result (opened.new.entries ≡ with_opened opened.old.entries kept.now.producer kept.now.object) }
 {
     match kept.producer {
-        Producer::Opening => add_live(opened, Some(kept.object)),
+        Producer::Opening => add_live(opened, Some(*kept.object.object())),
         Producer::Tx(_) => Ok(()),
     }
 }

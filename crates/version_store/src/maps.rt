@@ -7,7 +7,8 @@ ghost use Rattle.chain_types.specs.Equal.{id_eq};
 ghost use Rattle.version_store.specs.Steps.{newer_of, with_all_newer, with_consumer, with_consumers, with_newer, with_versions};
 ghost use Rattle.version_store.specs.Changes.{Adds, HasRoom, Holds, IsEmpty, SameEntries};
 
-use chain_types::{Object, ObjectId, ObjectKey, Producer};
+use crate::fresh::key_of;
+use chain_types::{HashedObject, ObjectId, ObjectKey, Producer};
 use digest_core::Digest;
 use effects_core::HashedEffects;
 use indexmap::{IndexMap, IndexSet};
@@ -16,9 +17,9 @@ use tables::insert_in_room;
 use wire_bcs::{OutOfMemory, Seq};
 
 /// A held version, and who made it.
-#[derive(Clone, Copy, Debug, PartialEq, Eq)]
+#[derive(Clone, Copy, Debug)]
 pub(crate) struct Kept {
-    pub(crate) object: Object,
+    pub(crate) object: HashedObject,
     pub(crate) producer: Producer,
 }
 
@@ -38,20 +39,21 @@ pub(crate) struct Maps {
     pub(crate) executed: IndexMap<Digest, Ran>,
     pub(crate) consumers: IndexMap<ObjectKey, Digest>,
     /// The newest of these versions of each id.
-    pub(crate) newest: IndexMap<ObjectId, Object>,
+    pub(crate) newest: IndexMap<ObjectId, HashedObject>,
     pub(crate) deleted: IndexSet<ObjectId>,
 }
 
 /// Puts each of the objects under its key; there is room.
-fn add_versions(versions: &mut IndexMap<ObjectKey, Kept>, objects: &[Object], producer: Producer)
+fn add_versions(
+    versions: &mut IndexMap<ObjectKey, Kept>,
+    objects: &[HashedObject],
+    producer: Producer,
+)
     requires { length objects.now ≤ spare versions.old }
     ensures { versions.new.entries ≡ with_versions producer versions.old.entries objects.now }
 {
     for object in objects {
-        let key = ObjectKey {
-            id: object.id,
-            version: object.version,
-        };
+        let key = key_of(object.object());
         let kept = Kept {
             object: *object,
             producer,
@@ -61,23 +63,24 @@ fn add_versions(versions: &mut IndexMap<ObjectKey, Kept>, objects: &[Object], pr
 }
 
 /// Puts an object under its id, unless a newer one is there; there is room.
-pub(crate) fn add_newer(newest: &mut IndexMap<ObjectId, Object>, object: &Object)
+pub(crate) fn add_newer(newest: &mut IndexMap<ObjectId, HashedObject>, object: &HashedObject)
     requires { 0 < spare newest.old }
     ensures entries { newest.new.entries ≡ with_newer newest.old.entries object.now }
     ensures room { spare newest.old ≤ spare newest.new + 1 }
 {
-    let newer = match newest.get(&object.id) {
+    let id = object.object().id;
+    let newer = match newest.get(&id) {
         Some(held) => *newer(held, object),
         None => *object,
     };
-    insert_in_room(newest, object.id, newer);
+    insert_in_room(newest, id, newer);
 }
 
 /// The newer of two versions of one object.
-pub(crate) fn newer<'a>(held: &'a Object, object: &'a Object) -> &'a Object
+pub(crate) fn newer<'a>(held: &'a HashedObject, object: &'a HashedObject) -> &'a HashedObject
     ensures { result.now ≡ newer_of (Some held.now) object.now }
 {
-    if held.version < object.version {
+    if held.object().version < object.object().version {
         object
     } else {
         held
@@ -85,7 +88,7 @@ pub(crate) fn newer<'a>(held: &'a Object, object: &'a Object) -> &'a Object
 }
 
 /// Puts each of the objects under its id, unless a newer one is there; there is room.
-fn add_all_newer(newest: &mut IndexMap<ObjectId, Object>, objects: &[Object])
+fn add_all_newer(newest: &mut IndexMap<ObjectId, HashedObject>, objects: &[HashedObject])
     requires { length objects.now ≤ spare newest.old }
     ensures { newest.new.entries ≡ with_all_newer newest.old.entries objects.now }
 {
@@ -174,7 +177,7 @@ impl Maps {
     }
 
     /// Holds the objects of a producer; there is room.
-    pub(crate) fn hold(&mut self, objects: &[Object], producer: Producer)
+    pub(crate) fn hold(&mut self, objects: &[HashedObject], producer: Producer)
         requires { (length objects.now ≤ spare self.old.versions) × (length objects.now ≤ spare self.old.newest) }
         ensures { Holds self.old self.new producer objects.now }
     {
@@ -186,7 +189,7 @@ impl Maps {
     pub(crate) fn add(
         &mut self,
         effects: HashedEffects,
-        objects: &[Object],
+        objects: &[HashedObject],
         consumed: Seq<ObjectKey>,
     )
         requires { HasRoom self.old (length objects.now) (length consumed) (length effects.deleted) }

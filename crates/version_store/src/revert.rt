@@ -9,7 +9,7 @@ ghost use Rattle.version_store.specs.Reverts.{consumers_staying, deleted_staying
 
 use crate::maps::{Kept, Maps, Ran, add_consumers, add_ids, add_newer};
 use crate::store::Store;
-use chain_types::{Object, ObjectId, ObjectKey, Producer};
+use chain_types::{HashedObject, ObjectId, ObjectKey, Producer};
 use digest_core::Digest;
 use indexmap::{IndexMap, IndexSet};
 use std::alloc::Global;
@@ -58,7 +58,7 @@ fn newest_staying(
     alloc: Global,
     versions: &IndexMap<ObjectKey, Kept>,
     kept: &IndexSet<Digest>,
-) -> Result<IndexMap<ObjectId, Object>, OutOfMemory>
+) -> Result<IndexMap<ObjectId, HashedObject>, OutOfMemory>
     ensures { IfOk result (λ m. m.entries ≡ newest_staying kept.now.keys [] (values versions.now)) }
 {
     let mut newest = IndexMap::new(alloc);

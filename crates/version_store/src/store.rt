@@ -7,7 +7,7 @@ ghost use Rattle.version_store.specs.Stores.{are_new, executed_as, held_in, with
 
 use crate::base::{at_version, behind, front_of};
 use crate::maps::{Maps, newer};
-use chain_types::{Object, ObjectId, ObjectKey, Producer};
+use chain_types::{HashedObject, Object, ObjectId, ObjectKey, Producer};
 use digest_core::Digest;
 use effects_core::{Effects, HashedEffects};
 use indexmap::IndexMap;
@@ -21,8 +21,8 @@ use wire_bcs::{OutOfMemory, Seq};
 pub struct Store {
     /// The objects with which the epoch opened, under their ids; after a turn all of them. Of a set-up that
     /// has an id twice, those from the second one on are among the versions.
-    pub(crate) base: IndexMap<ObjectId, Object>,
-    /// Whether contracts see the base by ascending id, as behind a turn, or in its own order.
+    pub(crate) base: IndexMap<ObjectId, HashedObject>,
+    /// Whether contracts see the base by ascending id, as after a turn, or in its own order.
     pub(crate) turned: bool,
     /// What this epoch wrote, executed, consumed and deleted.
     pub(crate) maps: Maps,
@@ -50,14 +50,16 @@ impl Store {
     {
         let base = front_of(alloc, objects.as_slice())?;
         let rest = behind(objects.as_slice(), base.len());
+        let hashed = HashedObject::all(alloc, rest)?;
+        let held = hashed.as_slice();
         let mut maps = Maps::new(alloc);
-        maps.make_room(rest.len(), 0, 0)?;
-        maps.hold(rest, Producer::Opening);
+        maps.make_room(held.len(), 0, 0)?;
+        maps.hold(held, Producer::Opening);
         Ok(Store {
             base,
             turned: false,
             maps,
-            opened: rest.len(),
+            opened: held.len(),
             alloc,
         })
     }
@@ -67,7 +69,7 @@ impl Store {
     pub fn write(
         &mut self,
         effects: HashedEffects,
-        objects: Seq<Object>,
+        objects: Seq<HashedObject>,
         consumed: &Seq<ObjectKey>,
     ) -> Result<(), OutOfMemory>
         requires first { is_executed self.old.executed effects.tx ≡ false }
@@ -85,8 +87,18 @@ impl Store {
         Ok(())
     }
 
-    /// The object of this version; none exactly where the version is not held. Takes no memory.
+    /// The object of this version; none exactly if the version is not held. Takes no memory.
     pub fn get(&self, key: &ObjectKey) -> Option<&Object>
+        ensures { option_copied result ≡ option_map object_in (version_at (held_in self.now) key.now) }
+    {
+        match self.hashed(key) {
+            Some(held) => Some(held.object()),
+            None => None,
+        }
+    }
+
+    /// The same, with the object's digest.
+    pub fn hashed(&self, key: &ObjectKey) -> Option<&HashedObject>
         ensures { option_copied result ≡ option_map object_in (version_at (held_in self.now) key.now) }
     {
         match at_version(&self.base, key) {
@@ -98,7 +110,7 @@ impl Store {
         }
     }
 
-    /// Who made this version; none exactly where it is not held. Takes no memory.
+    /// Who made this version; none exactly if it is not held. Takes no memory.
     pub fn producer(&self, key: &ObjectKey) -> Option<Producer>
         ensures { result ≡ option_map (λ (v : Version). v.producer) (version_at (held_in self.now) key.now) }
     {
@@ -111,16 +123,26 @@ impl Store {
         }
     }
 
-    /// The transaction that consumed this version; none exactly where no executed one did. Takes no memory.
+    /// The transaction that consumed this version; none exactly if no executed one did. Takes no memory.
     pub fn consumer(&self, key: &ObjectKey) -> Option<Digest>
         ensures { result ≡ option_map (λ (x : Execution). x.digest) (consumer_of self.now.executed key.now) }
     {
         self.maps.consumers.get(key).copied()
     }
 
-    /// The newest held version of an id; none exactly where none is held, or the object was deleted. Takes no memory.
-    #[tactic(auto, unfolding(protocol_spec::specs::Member::Versions::live))]
+    /// The newest held version of an id; none exactly if none is held, or the object was deleted. Takes no memory.
     pub fn live(&self, id: &ObjectId) -> Option<&Object>
+        ensures { option_copied result ≡ live self.now.opening self.now.executed id.now }
+    {
+        match self.live_hashed(id) {
+            Some(held) => Some(held.object()),
+            None => None,
+        }
+    }
+
+    /// The same, with the object's digest.
+    #[tactic(auto, unfolding(protocol_spec::specs::Member::Versions::live))]
+    fn live_hashed(&self, id: &ObjectId) -> Option<&HashedObject>
         ensures { option_copied result ≡ live self.now.opening self.now.executed id.now }
     {
         if self.maps.deleted.contains(id) {
@@ -147,7 +169,7 @@ impl Store {
         self.maps.executed.contains_key(tx)
     }
 
-    /// The effects of an executed transaction; none exactly where it was not executed. Takes no memory.
+    /// The effects of an executed transaction; none exactly if it was not executed. Takes no memory.
     pub fn executed(&self, tx: &Digest) -> Option<&Effects>
         ensures { option_map (λ (e : _). e.now) result ≡ option_map (λ (x : Execution). x.gave.effects) (execution_of self.now.executed tx.now) }
     {
@@ -157,7 +179,7 @@ impl Store {
         }
     }
 
-    /// The digest of what an executed transaction did; none exactly where it was not executed. Takes no memory.
+    /// The digest of what an executed transaction did; none exactly if it was not executed. Takes no memory.
     pub fn executed_digest(&self, tx: &Digest) -> Option<Digest>
         ensures { result ≡ option_map (λ (x : Execution). digest_of_effects x.gave.effects) (execution_of self.now.executed tx.now) }
     {

@@ -58,7 +58,7 @@ module _ {C Q A E S : Type 0} (goes : S → E → S → Type 0) (state : C → S
       (returns_slot (Stands goes state) (opening state desk) slots i (holding (view old) holds.log) out new of.part (omega arith)
       record { entries = entries ∙ stands.entries; history = subst (λ (c : C). IsHistory goes (opening state desk) holds.log (state c)) (sym clerk) stands.history })
 
-  -- the entry that the swap tells of is that of the call
+  -- the entry that the swap names is that of the call
   entry_is : (s : Step (Kept C Q A E S)) (found : ℕ) (me' : Me (Kept C Q A E S) (View S E)) (out : List (ℕ × Kept C Q A E S)) (q : Q) (a : A) (m : MakesCall goes state tells kept new q a)
       → (t : Adds (Stands goes state) s (mid.seat.me.0, (0, new) ∷ out) found me') → t.entry ≡ m.entry
   entry_is s found me' out q a m t =

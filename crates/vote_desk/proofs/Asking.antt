@@ -6,7 +6,7 @@ use Rattle.std.proofs.lemmas.Bool.{OnTrue_from}
 use mathlib.Core.Logic.{dite, inl, inr}
 use native.Mathlib.Decide.{ℕ_discrete}
 use Rattle.outside.specs.declared.keeper.Keeper.{Ghosts as Keeping}
-use Rattle.quorum_core.specs.declared.sealer.Sealer.{Ghosts as Sealing}
+use Rattle.quorum_core.specs.declared.sealer.Checker.{Ghosts as Sealing}
 use Rattle.answer_types.specs.declared.answers.Voted.{Voted}
 use Rattle.answer_types.specs.declared.refusals.VoteRefusal.{VoteRefusal}
 use Rattle.vote_desk.specs.declared.desk.Desk.{Desk}
@@ -43,7 +43,7 @@ both_made callers number n requests one other new own also below under front beh
     (made_further callers requests (IsDue callers 0 number n) (asked_in one) (asked_in new) own (asked_below one own below) (asked_front one new front) made)
     (made_further callers requests (IsDue callers number (number + 1) n) (asked_in other) (asked_in new) also (asked_below other also under) (asked_front other new behind) too)
 
--- all callers, where all calls are theirs
+-- all callers, if all calls are theirs
 pub all_made : (callers : ℕ) (requests : List (List ℕ)) (seen history : List DeskEntry) (own : List ℕ) → 0 < callers → ((p : ℕ) → 0 < times p own → p < length seen) → IsFront seen history → ((p : ℕ) → p < length history → times p own ≡ 1)
     → HaveMade (IsDue callers 0 callers (length requests)) callers requests (asked_in seen) own → AreMadeBy callers requests (asked_in history)
 all_made callers requests seen history own some below front all made =

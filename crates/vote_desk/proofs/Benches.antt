@@ -1,7 +1,7 @@
 -- One call of the member behind a vote desk, and the desk's clauses from those of the general one.
 use Rattle.std.proofs.Common.{◌≡◌, ℕ, true, false, Bool, cond, List, [], ◌∷◌, ◌++◌, None, is_some, Result, Ok, Err, IsErrOf, refl, sym, ap, ◌∙◌, subst}
 use Rattle.outside.specs.declared.keeper.Keeper.{Ghosts as Keeping}
-use Rattle.quorum_core.specs.declared.sealer.Sealer.{Ghosts as Sealing}
+use Rattle.quorum_core.specs.declared.sealer.Checker.{Ghosts as Sealing}
 use Rattle.quorum_core.specs.declared.signer.Signer.{Signer}
 use Rattle.digest_core.specs.declared.Digest.{Digest}
 use Rattle.answer_types.specs.declared.answers.Voted.{Voted as Sent}

@@ -27,7 +27,7 @@ pub one_item : {X : Type 0} (before xs : List X) (x : X) → before ≡ [] → x
 one_item before xs x none_before is = is ∙ ap (λ l. l ++ x ∷ []) none_before
 
 module _ {C Q A E S : Type 0} where
-  -- what both had seen are fronts of what the one has seen
+  -- what both had seen are prefixes of what the one has seen
   pub joins_fronts : (one other new : Pass C Q A E S) (mid : Me (Kept C Q A E S) (View S E)) (s : Tables.Step (Kept C Q A E S)) (found : ℕ)
       → mid ≡ (joined (view one) (view other), one.seat.me.1) → Looks s mid found new.seat.me → IsFront (view one).seen (view new).seen × IsFront (view other).seen (view new).seen
   joins_fronts one other new mid s found is look =
@@ -68,7 +68,7 @@ module _ {C Q A E S : Type 0} (goes : S → E → S → Type 0) (state : C → S
         below = subst (λ (m : M). (place : ℕ) → 0 < times place m.0.mine → place < length m.0.seen) (sym me) (λ place h. absurd (omega (arith, h)));
       }
 
-  -- the pass has the slot, where the step took it
+  -- the pass has the slot, if the step took it
   pub holds_taken : (desk : SerialDesk C Q A E S) (old new : Pass C Q A E S) (found : ℕ) (s : Tables.Step (Kept C Q A E S)) → IsOf goes state desk old → new.seat.table_id ≡ old.seat.table_id → Takes (Stands goes state) s old.seat.me found new.seat.me
       → OnTrue (eqb found 0) (Holds goes state desk old new)
   holds_taken desk old new found s of same_table takes = OnTrue_from (eqb found 0) (Holds goes state desk old new)

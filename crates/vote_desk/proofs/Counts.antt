@@ -15,7 +15,7 @@ module _ {X : Type 0} where
   total_set f (x ∷ xs) zero v w at = let e : f x ≡ f v = ap f (some-injective x v at) in omega arith
   total_set f (x ∷ xs) (suc i) v w at = let h = total_set f xs i v w at in omega (arith, h)
 
-  -- and where f of it stays
+  -- and if f of it stays
   pub total_same : (f : X → ℕ) (l : List X) (i : ℕ) (v w : X) → get_elem? l i ≡ some v → f w ≡ f v → total f (set l i w) ≡ total f l
   total_same f l i v w at e = let h = total_set f l i v w at in omega (arith, h, e)
 
@@ -29,7 +29,7 @@ module _ {X : Type 0} where
   total_one f (x ∷ xs) zero v at = let e : f x ≡ f v = ap f (some-injective x v at) in omega arith
   total_one f (x ∷ xs) (suc i) v at = let h = total_one f xs i v at in omega (arith, h)
 
-  -- where no item counts, the sum is 0
+  -- if no item counts, the sum is 0
   pub total_none : (f : X → ℕ) (l : List X) → ((i : ℕ) (v : X) → get_elem? l i ≡ some v → f v ≡ 0) → total f l ≡ 0
   total_none f [] none_of = refl
   total_none f (x ∷ xs) none_of = let h = none_of 0 x refl in let r = total_none f xs (λ i v at. none_of (suc i) v at) in omega (arith, h, r)
@@ -38,7 +38,7 @@ module _ {X : Type 0} where
   without s g [] z idle = refl
   without s g (x ∷ xs) z idle = let h = idle 0 x refl (omega arith) in let r = without s g xs (omega arith) (λ i v at. idle (suc i) v at) in omega (arith, h, r)
 
-  -- where one item has all of s, and without s there is no g, it has all of g
+  -- if one item has all of s, and without s there is no g, it has all of g
   pub total_alone : (s g : X → ℕ) (l : List X) (i : ℕ) (v : X) → get_elem? l i ≡ some v → total s l ≡ s v → ((j : ℕ) (u : X) → get_elem? l j ≡ some u → s u ≡ 0 → g u ≡ 0) → total g l ≡ g v
   total_alone s g [] i v at all idle = absurd (some-ne-none v (sym at))
   total_alone s g (x ∷ xs) zero v at all idle =
@@ -50,7 +50,7 @@ module _ {X : Type 0} where
       let h = idle 0 x refl (omega (arith, all)) in
       let r = total_alone s g xs i v at (omega (arith, all, o)) (λ j u at'. idle (suc j) u at') in omega (arith, h, r)
 
-  -- a sum over all items, where one takes in another, of which nothing is left
+  -- a sum over all items, if one takes in another, of which nothing is left
   pub total_joined : (f : X → ℕ) (l : List X) (i : ℕ) (v : X) (j : ℕ) (w both rest : X) → get_elem? l i ≡ some v → get_elem? (set l i both) j ≡ some w → f both ≡ f v + f w → f rest ≡ 0 → total f (set (set l i both) j rest) ≡ total f l
   total_joined f l i v j w both rest at at' sum nought = let a = total_set f l i v both at in let b = total_set f (set l i both) j w rest at' in omega (arith, a, b, sum, nought)
 
@@ -84,7 +84,7 @@ ascending_once x (y ∷ ys) up = dite (ℕ_discrete y x)
     (λ e. let t = times_here x y ys e in dite (ℕ_discrete (times x ys) 0) (λ z. omega (arith, t, z)) (λ nz. absurd (let lt = up.0 x (omega arith) in omega (arith, lt, e))))
     (λ ne. let t = times_else x y ys ne in let r = ascending_once x ys up.1 in omega (arith, t, r))
 
--- a number above all may stand behind an ascending list
+-- a number above all may stand after an ascending list
 pub ascending_push : (xs : List ℕ) (n : ℕ) → IsAscending xs → ((y : ℕ) → 0 < times y xs → y < n) → IsAscending (xs ++ n ∷ [])
 ascending_push [] n up above = ((λ y h. absurd (omega (arith, h))), tt)
 ascending_push (x ∷ xs) n up above = (

@@ -139,7 +139,7 @@ module _ {A : Type 0} where
       from_high : (i : ℕ) → IsDue callers k (k + 1) n i → IsDue callers 0 (k + 1) n i × (is_low i ≡ false)
       from_high i d = (record { before = d.before; from = omega arith; to = d.to }, is_above (i % callers) k d.from)
 
-      -- what holds of each that is due, where it holds of both sides
+      -- what holds of each that is due, if it holds of both sides
       by_side : (P : ℕ → ℕ → Type 0) → ((i : ℕ) → IsDue callers 0 k n i → P i (a.at i)) → ((i : ℕ) → IsDue callers k (k + 1) n i → P i (b.at i)) → (i : ℕ) → IsDue callers 0 (k + 1) n i → P i (side_of i)
       by_side P f g i d = go (is_low i) refl
         where

@@ -19,7 +19,7 @@ module _ {A : Type 0} where
   pub front_length : (xs ys : List A) → IsFront xs ys → length xs ≤ length ys
   front_length xs ys p = omega (arith, ap length p.1, length-append xs p.0)
 
-  -- of two fronts of one list the shorter is a front of the longer
+  -- of two prefixes of one list the shorter is a prefix of the longer
   pub front_shorter : (xs ys zs : List A) → IsFront xs zs → IsFront ys zs → length xs ≤ length ys → IsFront xs ys
   front_shorter [] ys zs p q le = (ys, refl)
   front_shorter (x ∷ xs) [] zs p q le = absurd (omega arith)
@@ -29,7 +29,7 @@ module _ {A : Type 0} where
       let rest = front_shorter xs ys zs (p.0, cc (p.1)) (q.0, cc (q.1)) (omega arith) in
       (rest.0, cc (heads, rest.1))
 
-  -- the shorter of two fronts is a front of the longer, which is a front too
+  -- the shorter of two prefixes is a prefix of the longer, which is a prefix too
   pub shorter_longer : (xs ys zs : List A) → IsFront xs zs → IsFront ys zs → IsFront (shorter xs ys) (longer xs ys) × IsFront (longer xs ys) zs
   shorter_longer xs ys zs p q = go (nat_lt (length xs) (length ys)) refl
     where
@@ -37,7 +37,7 @@ module _ {A : Type 0} where
       go true is = (front_shorter xs ys zs p q (grind (arith, nat_tests)), q)
       go false is = (front_shorter ys xs zs q p (grind (arith, nat_tests)), p)
 
-  -- what is a front of the other, or is the longer one, is a front of the longer
+  -- what is a prefix of the other, or is the longer one, is a prefix of the longer
   pub both_fronts : (xs ys : List A) → IsFront (shorter xs ys) (longer xs ys) → IsFront xs (longer xs ys) × IsFront ys (longer xs ys)
   both_fronts xs ys p = go (nat_lt (length xs) (length ys)) p
     where

@@ -1,4 +1,4 @@
--- Each step keeps the desk rule, and tells its caller what it is to tell.
+-- Each step keeps the desk rule, and reports to its caller what it must.
 use Rattle.std.proofs.Common.{◌≡◌, ℕ, zero, suc, ◌+◌, ◌-◌, ◌<◌, ◌≤◌, eqb, List, [], ◌∷◌, ◌++◌, length, set, get_or, Some, sym, refl, ap, ◌∙◌, subst, ⊎_elim, get_or-set_same, length-set, length-append, arith}
 use mathlib.Core.Logic.{dite}
 use mathlib.Core.Option.{some, none, some-injective, some-ne-none}
@@ -45,7 +45,7 @@ module _ {O E X : Type 0} (R : O → List E → X → Type 0) (o : O) where
       subst (λ (ws : List ℕ). Held R o record { words = ws; homes = s.homes; views = set s.views i v }) (sym (set-get_or s.words 0 0))
       (subst (λ (vs : List (View O E)). Held R o record { words = s.words; homes = s.homes; views = vs }) (sym (set_again s.views i v at)) h)
 
-  -- where a pass has the slot, the word is 1, and no other pass has it
+  -- if a pass has the slot, the word is 1, and no other pass has it
   held_out : (s : State X (View O E)) (i : ℕ) (v : View O E) → Held R o s → get_elem? s.views i ≡ some v → 0 < v.out → (get_or s.words 0 0 ≡ 1) × (total (λ (u : View O E). u.out) s.views ≡ 1) × (get_elem? s.homes 0 ≡ some none)
   held_out s i v h at has =
       let one = total_one (λ (u : View O E). u.out) s.views i v at in

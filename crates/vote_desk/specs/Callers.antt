@@ -1,7 +1,7 @@
 -- Callers that ask at a vote desk, each for its requests in order: what one brings, and what it takes back.
 use Rattle.std.specs.Prelude.{◌≡◌, ℕ, ◌≤◌, Bool, true, false, List, [], Result, Ok, Err, length, map}
 use Rattle.outside.specs.declared.keeper.Keeper.{Ghosts as Keeping}
-use Rattle.quorum_core.specs.declared.sealer.Sealer.{Ghosts as Sealing}
+use Rattle.quorum_core.specs.declared.sealer.Checker.{Ghosts as Sealing}
 use Rattle.answer_types.specs.declared.answers.Voted.{Voted}
 use Rattle.answer_types.specs.declared.refusals.VoteRefusal.{VoteRefusal}
 use Rattle.answer_types.specs.declared.refusals.VoteRefusal.TheVariants as no_vote
@@ -20,13 +20,13 @@ use Rattle.vote_desk.specs.Desks.{IsOf, mine, seen, share}
 abbrev pub asked_in : List DeskEntry → List (List ℕ)
 asked_in entries = map (λ (e : DeskEntry). e.bytes) entries
 
--- whether the member was asked, where a call of the desk answers so
+-- whether the member was asked, if a call of the desk answers so
 abbrev pub was_asked : Result Voted DeskRefusal → Bool
 was_asked (Ok v) = true
 was_asked (Err (no_answer.Vote refusal)) = true
 was_asked (Err no_answer.OutOfMemory) = false
 
--- want of memory as a reply
+-- running out of memory as a reply
 abbrev pub is_starved : Result Voted VoteRefusal → Bool
 is_starved (Ok v) = false
 is_starved (Err no_vote.OutOfMemory) = true
@@ -35,7 +35,7 @@ is_starved (Err refusal) = false
 abbrev pub is_starved_call : DeskEntry → Bool
 is_starved_call e = is_starved e.reply
 
--- each call was answered by the member: its reply is no fault of the keeper and no want of memory
+-- each call was answered by the member: its reply is neither a fault of the keeper nor out of memory
 abbrev pub AreAnswered : List DeskEntry → Type 0
 AreAnswered entries = Each (λ (e : DeskEntry). vote_ended e.reply ≡ answered) entries
 
@@ -50,7 +50,7 @@ module _ {R D S : Type 0} {k : Keeping D} {z : Sealing S} where
   abbrev pub Asked : Crew R D S k z → (ℕ → Type 0) → Turn D S k z → Type 0
   Asked crew Due turn = HaveMade Due crew.callers crew.requests.now (asked_in (seen turn.pass)) (mine turn.pass)
 
-  -- what the callers of these numbers, the second excluded, bring back: where none lacked memory, each asked for its requests
+  -- what the callers of these numbers, the second excluded, bring back: if none lacked memory, each asked for its requests
   pub record HaveAsked (crew : Crew R D S k z) (low high : ℕ) (turn : Turn D S k z) : Type 0 where
     pub of : IsOf crew.desk.now turn.pass
     pub asked : turn.whole ≡ true → Asked crew (IsDue crew.callers low high (length crew.requests.now)) turn

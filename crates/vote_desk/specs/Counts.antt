@@ -11,7 +11,7 @@ abbrev pub total : {X : Type 0} → (X → ℕ) → List X → ℕ
 total f [] = 0
 total f (x ∷ xs) = f x + total f xs
 
--- each number is below those behind it
+-- each number is below those after it
 abbrev pub IsAscending : List ℕ → Type 0
 IsAscending [] = Unit {0}
 IsAscending (x ∷ xs) = ((y : ℕ) → 0 < times y xs → x < y) × IsAscending xs

@@ -1,7 +1,7 @@
 -- A vote desk and a pass of it, as contracts see them.
 use Rattle.std.specs.Prelude.{◌≡◌, ℕ, List, [], ◌∷◌, ◌++◌, length, Result, Ok, Err}
 use Rattle.outside.specs.declared.keeper.Keeper.{Ghosts as Keeping}
-use Rattle.quorum_core.specs.declared.sealer.Sealer.{Ghosts as Sealing}
+use Rattle.quorum_core.specs.declared.sealer.Checker.{Ghosts as Sealing}
 use Rattle.answer_types.specs.declared.answers.Voted.{Voted}
 use Rattle.answer_types.specs.declared.refusals.VoteRefusal.{VoteRefusal}
 use Rattle.vote_desk.specs.declared.bench.Bench.{Bench}
@@ -38,7 +38,7 @@ module _ {D S : Type 0} {k : Keeping D} {z : Sealing S} where
   abbrev pub IsOf : Desk D S k z → DeskPass D S k z → Type 0
   IsOf desk pass = passes.IsOf (Follows z.accepts) state_of desk.serial pass.pass
 
-  -- one call was made: its entry stands behind all that the pass had seen, at a place that is now the pass's own. It has these bytes and this reply, and is one that may be made in the state that the calls before it left
+  -- one call was made: its entry stands after all that the pass had seen, at a place that is now the pass's own. It has these bytes and this reply, and is one that may be made in the state that the calls before it left
   pub record Asks (desk : Desk D S k z) (old new : DeskPass D S k z) (bytes : List ℕ) (reply : Result Voted VoteRefusal) : Type 0 where
     pub before : List DeskEntry
     pub front : IsFront (seen old) before
@@ -50,7 +50,7 @@ module _ {D S : Type 0} {k : Keeping D} {z : Sealing S} where
     pub saw : seen new ≡ before ++ record { bytes = bytes; reply = reply; faults = faults } ∷ []
     pub places : mine new ≡ mine old ++ length before ∷ []
 
-  -- what a call answers: the reply of its entry, or want of room for an entry, and then none was added for it
+  -- what a call answers: the reply of its entry, or lack of room for an entry, and then none was added for it
   abbrev pub Answers : Desk D S k z → DeskPass D S k z → DeskPass D S k z → List ℕ → Result Voted DeskRefusal → Type 0
   Answers desk old new bytes (Ok voted) = Asks desk old new bytes (Ok voted)
   Answers desk old new bytes (Err (no_answer.Vote refusal)) = Asks desk old new bytes (Err refusal)

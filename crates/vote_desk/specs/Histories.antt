@@ -1,7 +1,7 @@
 -- Legal histories: what calls of one object, made one after the other, may leave and answer (the definition of linearizable objects, Herlihy and Wing 1990, in its sequential part).
 use Rattle.std.specs.Prelude.{◌≡◌, List, [], ◌∷◌, ◌++◌}
 
--- the first list is a front of the second
+-- the first list is a prefix of the second
 abbrev pub IsFront : {A : Type 0} → List A → List A → Type 0
 IsFront {A} xs ys = (rest : List A) × (ys ≡ xs ++ rest)
 

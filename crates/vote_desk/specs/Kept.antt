@@ -8,7 +8,7 @@ pub record Stands {C Q A E S : Type 0} (step : S → E → S → Type 0) (state 
   pub entries : held.entries.items ≡ log
   pub history : IsHistory step opening log (state held.clerk)
 
--- one call was made: there is one entry more, which tells of the request and the reply
+-- one call was made: there is one entry more, which names the request and the reply
 pub record MakesCall {C Q A E S : Type 0} (step : S → E → S → Type 0) (state : C → S) (tells : E → Q → A → Type 0) (old new : Kept C Q A E S) (request : Q) (reply : A) : Type 0 where
   pub entry : E
   pub entries : new.entries.items ≡ old.entries.items ++ entry ∷ []

@@ -43,7 +43,7 @@ pub record Holds {C Q A E S : Type 0} (goes : S → E → S → Type 0) (state :
   pub view : view new ≡ holding (view old) log
   pub slot : new.seat.me.1 ≡ (0, held) ∷ []
 
--- one call was made, and its entry stands behind all that the pass had seen, at a place that is now the pass's own. It tells of the request and the reply, and is one that may be made in the state that the calls before it left
+-- one call was made, and its entry stands after all that the pass had seen, at a place that is now the pass's own. It names the request and the reply, and is one that may be made in the state that the calls before it left
 pub record Calls {C Q A E S : Type 0} (goes : S → E → S → Type 0) (state : C → S) (tells : E → Q → A → Type 0) (desk : SerialDesk C Q A E S) (old new : View S E) (request : Q) (reply : A) : Type 0 where
   pub before : List E
   pub front : IsFront old.seen before

@@ -12,11 +12,11 @@ use Rattle.vote_desk.specs.Views.{whole}
 abbrev pub made : {O E : Type 0} → List (View O E) → ℕ → ℕ
 made views place = total (λ v. times place v.mine) views
 
--- what each view keeps, where `log` is the history. It is of this opening, or was joined away and is empty
+-- what each view keeps, if `log` is the history. It is of this opening, or was joined away and is empty
 pub record IsFit {O E : Type 0} (opening : O) (log : List E) (v : View O E) : Type 0 where
   pub same : 0 < v.share → v.opening ≡ Some opening
   pub idle : v.share ≡ 0 → (v.mine ≡ []) × (v.out ≡ 0)
-  -- it has seen a front of the history, and what it heard is a front of that
+  -- it has seen a prefix of the history, and what it heard is a prefix of that
   pub seen : IsFront v.seen log
   pub heard : IsFront v.heard v.seen
   -- its own places ascend, and are places of what it has seen

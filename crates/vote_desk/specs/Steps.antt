@@ -1,4 +1,4 @@
--- The five kinds of step, and what each tells its caller: of the step, the pass before, the number found and the pass after.
+-- The five kinds of step, and what each reports to its caller: of the step, the pass before, the number found and the pass after.
 --
 -- | Step       | The word                                            | The view that changes                                              | The slot                                |
 -- | taken      | a compare-exchange of 0 to 1 that finds 0           | the caller's: it has seen the whole history, and has the slot      | leaves home                             |

@@ -1,4 +1,4 @@
--- The history of a vote desk: what one member that is asked for votes, one after the other, replies, and what each call leaves (Sui Lutris; the faults of the keeper, want of memory and the order of calls are this profile's). It is meant over one sealer.
+-- The history of a vote desk: what one member that is asked for votes, one after the other, replies, and what each call leaves (Sui Lutris; the faults of the keeper, running out of memory and the order of calls are this profile's). It is meant over one sealer.
 use Rattle.std.specs.Prelude.{◌≡◌, ◌≤◌, ℕ, Bool, true, List, Option, None, Result, Ok, Err, is_some}
 use Rattle.digest_core.specs.declared.Digest.{Digest}
 use Rattle.quorum_core.specs.declared.signer.Signer.{Signer}
@@ -18,11 +18,11 @@ use Rattle.vote_desk.specs.declared.entry.DeskEntry.{DeskEntry}
 use Rattle.vote_desk.specs.declared.standing.Standing.{Standing}
 
 module _ {S : Type 0} where
-  -- a member, its sealer, the keeper's count of faults, and the keeper's lists where they are told
+  -- a member, its sealer, the keeper's count of faults, and the keeper's lists if they are observable
   abbrev pub standing : Seated → S → ℕ → Option Journals → Standing S
   standing validator sealer faults lists = record { validator = validator; sealer = sealer; faults = faults; lists = lists }
 
--- `accepts` tells of a sealer which seals it accepts
+-- `accepts` says of a sealer which seals it accepts
 module _ {S : Type 0} (accepts : S → Signer → List ℕ → Digest → Bool) where
   -- the rules of the member, over the sealer
   abbrev pub rules : Standing S → Rules
@@ -35,30 +35,30 @@ module _ {S : Type 0} (accepts : S → Signer → List ℕ → Digest → Bool) 
   abbrev pub due : Standing S → List ℕ → Option Record
   due s bytes = due_at (rules s) s.validator (votes bytes)
 
-  -- a reply is the member's answer, under its seal. A fault of the keeper may stand instead where a record is due, and want of memory where the member is up and met no fork
+  -- a reply is the member's answer, under its seal. A fault of the keeper may stand instead if a record is due, and running out of memory if the member is up and met no fork
   abbrev pub Replies : Standing S → List ℕ → Result Sent VoteRefusal → Type 0
   Replies s bytes (Ok v) = (said s bytes ≡ Ok (record { statement = v.sealed.statement; fresh = v.fresh })) × IsSealedBy (accepts s.sealer) s.validator.member v.sealed
   Replies s bytes (Err no_vote.KeepFault) = is_some (due s bytes) ≡ true
   Replies s bytes (Err no_vote.OutOfMemory) = (s.validator.up ≡ true) × (fork_of s.validator.state ≡ None)
   Replies s bytes (Err refusal) = said s bytes ≡ Err refusal
 
-  -- one call, from what stood before it to what stands behind it
+  -- one call, from what stood before it to what stands after it
   pub record Follows (before : Standing S) (entry : DeskEntry) (after : Standing S) : Type 0 where
     pub reply : Replies before entry.bytes entry.reply
-    -- the member is as the definition leaves it; behind a fault of the keeper and want of memory it is down
+    -- the member is as the definition leaves it; after a fault of the keeper and running out of memory it is down
     pub state : Behaves (rules before) (votes entry.bytes) before.validator after.validator (vote_ended entry.reply)
     pub sealer : after.sealer ≡ before.sealer
-    -- the entry has the keeper's count behind the call, which never falls, and rose where the reply is a fault of the keeper
+    -- the entry has the keeper's count after the call, which never falls, and rose if the reply is a fault of the keeper
     pub count : after.faults ≡ entry.faults
     pub later : before.faults ≤ entry.faults
     pub rose : entry.reply ≡ Err no_vote.KeepFault → Rose before.faults entry.faults
-    -- told lists: the due record stands behind an answer; behind a fault and want of memory it stands or nothing does
+    -- observable lists: the due record stands after an answer; after a fault and running out of memory it stands or nothing does
     pub kept : Journaled before.lists after.lists before.validator.member (due before entry.bytes) (vote_ended entry.reply)
 
 -- which seals are accepted
 abbrev pub Accepts : Type 0
 Accepts = Signer → List ℕ → Digest → Bool
 
--- one call, where of the sealer is known which seals it accepts
+-- one call, if it is known which seals the sealer accepts
 abbrev pub FollowsUnder : Standing Accepts → DeskEntry → Standing Accepts → Type 0
 FollowsUnder = Follows (λ accepts. accepts)

@@ -84,7 +84,7 @@ fn ask_own<R: Wait, D: Keeper + Drop, S: Sealer + Drop>(
     true
 }
 
-// Asks for the request at this place, where it is this caller's.
+// Asks for the request at this place, if it is this caller's.
 fn ask_in_turn<R: Wait, D: Keeper + Drop, S: Sealer + Drop>(
     crew: &Crew<'_, R, D, S>,
     pass: &mut DeskPass<D, S>,
@@ -175,7 +175,7 @@ fn ask_and_close<
 
 /// Puts a member behind a desk and lets 1 to 16 callers ask it for votes, each in a thread of its own. A caller asks for
 /// the requests whose places have its number as the remainder by the number of callers, in order. Answers the member, its
-/// keeper and the history: the calls in the order in which they were made. Where room for an entry is refused there is no
+/// keeper and the history: the calls in the order in which they were made. If room for an entry is refused there is no
 /// history.
 pub fn ask_by_callers<
     R: Threads + Wait + Sync,
@@ -206,7 +206,7 @@ pub fn ask_by_callers<
     }
 }
 
-// Whether the reply of a call is want of memory.
+// Whether the reply of a call is out of memory.
 fn lacks_memory(reply: &Result<Voted, VoteRefusal>) -> bool
     ensures { result ≡ is_starved reply.now }
 {
@@ -229,7 +229,7 @@ fn any_lacks_memory(history: &Seq<DeskEntry>) -> bool
 }
 
 /// The history of 1 to 16 callers that ask a member over a keeper that never fails, as [`ask_by_callers`] has it, by the
-/// seals that the sealer accepts. Each reply is an answer of the member: none is a fault of the keeper, and want of memory in any call is want of memory here.
+/// seals that the sealer accepts. Each reply is an answer of the member: none is a fault of the keeper, and if any call runs out of memory, so does this one.
 pub fn answers_to_callers<R: Threads + Wait + Sync, S: Sealer + Drop + Send + Sync>(
     rt: &R,
     alloc: Global,

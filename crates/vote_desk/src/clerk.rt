@@ -4,7 +4,7 @@ ghost use Rattle.std.specs.Prelude.{ℕ};
 
 /// An object that answers one request at a time, and says what the history keeps of it.
 ///
-/// Whatever can go wrong in a call, as want of memory or a fault of a device, is an answer like any other: it has an entry,
+/// Whatever can go wrong in a call, as running out of memory or a fault of a device, is an answer like any other: it has an entry,
 /// and the state that it leaves is what later answers are given in.
 pub trait Clerk: Drop {
     /// What a caller asks. It brings along the memory that its entry takes, so that an entry is never lost.
@@ -19,11 +19,11 @@ pub trait Clerk: Drop {
     // The state that the object is in.
     ghost state: { Self → Self.State };
 
-    // Whether the call that an entry tells of may be made in the first state, and leave the second. It is a relation, since
+    // Whether the call that an entry is of may be made in the first state, and leave the second. It is a relation, since
     // no contract says when memory is refused or a device fails.
     ghost step: { Self.State → Self.Entry → Self.State → Type 0 };
 
-    // Whether an entry tells of this request and this reply.
+    // Whether an entry is of this request and this reply.
     ghost tells: { Self.Entry → Self.Request → Self.Reply → Type 0 };
 
     /// Answers a request, with the entry of the call. The entry takes no memory but what the request brought.

@@ -43,7 +43,7 @@ impl<D: Keeper + Drop, S: Sealer + Drop> Desk<D, S> {
     ghost use Rattle.vote_desk.specs.Votes.{Follows, standing};
     ghost use Rattle.vote_desk.specs.Desks.{IsOf, Answers, mine, opening, seen, share};
 
-    /// The desk of this member, over its keeper and its sealer, and the pass with the whole share. Where memory is refused
+    /// The desk of this member, over its keeper and its sealer, and the pass with the whole share. If memory is refused
     /// member and keeper come back.
     #[tactic(auto, using(crate::proofs::Benches::opening_is, crate::proofs::Benches::same_share, crate::proofs::Benches::same_seen, crate::proofs::Benches::same_mine))]
     pub fn open(
@@ -94,7 +94,7 @@ impl<D: Keeper + Drop, S: Sealer + Drop> Desk<D, S> {
         }
     }
 
-    /// Joins two passes: the longer of what they have seen, of which the shorter is a front, both places, of which none
+    /// Joins two passes: the longer of what they have seen, of which the shorter is a prefix, both places, of which none
     /// stands in both, and both shares. Takes no memory.
     #[tactic(auto, using(crate::proofs::Benches::same_share, crate::proofs::Benches::same_seen, crate::proofs::Benches::same_mine))]
     pub fn join(&self, one: DeskPass<D, S>, other: DeskPass<D, S>) -> DeskPass<D, S>
@@ -112,9 +112,9 @@ impl<D: Keeper + Drop, S: Sealer + Drop> Desk<D, S> {
         }
     }
 
-    /// Asks the member for its vote for the transaction that the bytes spell, behind all calls that stand in the history.
-    /// The entry of the call stands behind all that the pass had seen and at a place that is the pass's own; it has these
-    /// bytes and this answer, which is one that the member may give there. Where room for the entry, which is the bytes
+    /// Asks the member for its vote for the transaction that the bytes encode, after all calls that stand in the history.
+    /// The entry of the call stands after all that the pass had seen and at a place that is the pass's own; it has these
+    /// bytes and this answer, which is one that the member may give there. If room for the entry, which is the bytes
     /// and 257 origins, is refused, the member was not asked, and no entry is added. Waits for other callers.
     #[tactic(auto, using(crate::proofs::Benches::waited_of, protocol_spec::proofs::ListLemmas::front_whole))]
     pub fn vote<W: Wait>(

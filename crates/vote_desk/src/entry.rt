@@ -13,7 +13,7 @@ use wire_bcs::{OutOfMemory, Seq};
 const MOST_ORIGINS: usize = 257;
 
 /// A call of a vote desk: the bytes that were handed to the member, what it replied, and the keeper's count of faults
-/// behind the call.
+/// after the call.
 #[derive(Debug, Drop)]
 pub struct DeskEntry {
     pub bytes: Seq<u8>,

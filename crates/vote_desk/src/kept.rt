@@ -6,7 +6,7 @@ use crate::clerk::Clerk;
 use std::snapshot::Snapshot;
 use wire_bcs::OutOfMemory;
 
-/// The clerk as a desk was opened with it. It has no bytes, and is for contracts alone.
+/// The clerk as a desk was opened with it. It has no bytes, and is only for contracts.
 #[derive(Drop)]
 pub struct Opened<C: Clerk> {
     clerk: Snapshot<C>,
@@ -32,7 +32,7 @@ pub struct Kept<C: Clerk> {
 impl<C: Clerk> Kept<C> {
     ghost use Rattle.vote_desk.specs.Kept.{MakesCall};
 
-    // One call. Room for the entry is made before it, and where that is refused, nothing is asked and nothing changes.
+    // One call. Room for the entry is made before it, and if that is refused, nothing is asked and nothing changes.
     pub(crate) fn call(&mut self, request: C::Request) -> Result<C::Reply, OutOfMemory>
         ensures made { IfOk result (λ reply. MakesCall C.step C.state C.tells self.old self.new request reply) }
         ensures clerk { OnErr result (self.new.clerk ≡ self.old.clerk) }

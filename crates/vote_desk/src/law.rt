@@ -1,4 +1,4 @@
-//! The desk rule, and what each step tells its caller, as the table reads them.
+//! The desk rule, and what each step reports to its caller, as the table reads them.
 
 ghost use Rattle.std.specs.Prelude.{◌-◌};
 ghost use Rattle.vote_desk.specs.Views.{first_view, with_share, parted, joined, spent};

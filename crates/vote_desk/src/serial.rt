@@ -32,7 +32,7 @@ impl<C: Clerk> SerialDesk<C> {
     ghost use Rattle.vote_desk.specs.Views.{whole, first_view, with_share, parted, joined};
     ghost use Rattle.vote_desk.specs.Passes.{opened, opening, view, IsOf, Holds, Calls, Waits};
 
-    /// The desk of this clerk, and the pass with the whole share. Where memory is refused the clerk comes back.
+    /// The desk of this clerk, and the pass with the whole share. If memory is refused the clerk comes back.
     pub fn open(alloc: Global, clerk: C) -> Result<(SerialDesk<C>, Pass<C>), C>
         ensures opened { IfOk result (λ made. opened made.0 ≡ clerk) }
         ensures of { IfOk result (λ made. IsOf C.step C.state made.0 made.1) }
@@ -67,7 +67,7 @@ impl<C: Clerk> SerialDesk<C> {
         }
     }
 
-    /// Joins two passes: the longer of what they have seen, of which the shorter is a front, both places, of which none
+    /// Joins two passes: the longer of what they have seen, of which the shorter is a prefix, both places, of which none
     /// stands in both, and both shares.
     pub fn join(&self, one: Pass<C>, other: Pass<C>) -> Pass<C>
         requires one { IsOf C.step C.state self.now one }
@@ -85,8 +85,8 @@ impl<C: Clerk> SerialDesk<C> {
         Pass { seat }
     }
 
-    /// Waits for the slot and makes one call. Where it answers, its entry stands in the history, behind all that the pass
-    /// had seen and at a place that is the pass's own; the reply is one that the clerk may give there. Where room for the
+    /// Waits for the slot and makes one call. If it answers, its entry stands in the history, after all that the pass
+    /// had seen and at a place that is the pass's own; the reply is one that the clerk may give there. If room for the
     /// entry is refused, nothing was asked, and no entry is added.
     pub fn call<W: Wait>(
         &self,
@@ -128,7 +128,7 @@ impl<C: Clerk> SerialDesk<C> {
         unreachable!()
     }
 
-    // Takes the slot where it is home.
+    // Takes the slot if it is home.
     fn take(&self, pass: &mut Pass<C>) -> bool
         requires of { IsOf C.step C.state self.now pass.old }
         ensures taken { OnTrue result (Holds C.step C.state self.now pass.old pass.new) }

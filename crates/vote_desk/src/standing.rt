@@ -1,9 +1,9 @@
-//! What contracts see behind a vote desk. It exists for contracts alone: no value of it is made.
+//! What contracts see behind a vote desk. It exists only for contracts: no value of it is made.
 
 use validator_core::Validator;
 use wire_bcs::Seq;
 
-/// The member, the sealer over which its answers are meant, the keeper's count of faults and, where they are told, the
+/// The member, the sealer over which its answers are meant, the keeper's count of faults and, if they are observable, the
 /// keeper's lists.
 #[derive(Drop)]
 pub struct Standing<S> {

@@ -1,4 +1,4 @@
--- The first fork, and the first holder of each version, behind one more certificate.
+-- The first fork, and the first holder of each version, after one more certificate.
 use Rattle.std.proofs.Common.{◌≡◌, Bool, true, false, cond, ◌||◌, List, [], ◌∷◌, ◌++◌, Option, Some, None, is_some, refl, ap, sym, ◌∙◌, option_map, append_assoc, append-nil}
 use Rattle.std.specs.Prelude.{find}
 use Rattle.std.specs.Option.{option_or}
@@ -19,7 +19,7 @@ use Rattle.vote_rules.specs.Holders.{digest_of, fork_by, meets, sides, with_hold
 
 -- ---- the first fork
 
--- behind one more certificate it is the one before, or the fork of this certificate with those before
+-- after one more certificate it is the one before, or the fork of this certificate with those before
 forks_behind : (earlier hs : List Held) (h : Held) → fork_in earlier (hs ++ h ∷ []) ≡ first_some (fork_in earlier hs ∷ fork_with (earlier ++ hs) h ∷ [])
 forks_behind earlier [] h = alone (fork_with earlier h) ∙ sym (ap (λ hs. first_some (None ∷ fork_with hs h ∷ [])) (append-nil earlier))
   where

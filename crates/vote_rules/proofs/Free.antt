@@ -1,4 +1,4 @@
--- Where a decision found no case against a vote, the versions that it consumes are free: what taking the vote asks.
+-- If a decision found no case against a vote, the versions that it consumes are free: what taking the vote asks.
 use Rattle.std.proofs.Common.{◌≡◌, List, [], ◌∷◌, ◌++◌, Option, Some, None, refl}
 use Rattle.std.specs.Prelude.{nat_lt}
 use Rattle.digest_core.specs.declared.Digest.{Digest}
@@ -9,7 +9,7 @@ use Rattle.protocol_spec.specs.Chain.Words.{first_of, first_some, where_true}
 use Rattle.protocol_spec.specs.Chain.Keys.{objects_of}
 use Rattle.protocol_spec.specs.Member.Votes.{Ballot, absent, consumed, gas_balance, locked, no_gas, vote_refusal, wrong_digest, wrong_kind, wrong_owner}
 
--- where no case applies, the last does not
+-- if no case applies, the last does not
 last_case : {A : Type 0} → (cases : List (Option A)) (last : Option A) → first_some (cases ++ last ∷ []) ≡ None → last ≡ None
 last_case [] None h = refl
 last_case [] (Some x) h = absurd (cc)

@@ -1,4 +1,4 @@
--- What a book finds, and what it is behind one more certificate.
+-- What a book finds, and what it is after one more certificate.
 use Rattle.std.proofs.Common.{◌≡◌, ◌+◌, ℕ, Bool, true, false, cond, not, ◌||◌, List, [], ◌∷◌, ◌++◌, Option, Some, None, is_some, length, map, slice_get, refl, ap, sym, ◌∙◌, option_map, ltb, ◌≤◌, subst}
 use Rattle.std.specs.Prelude.{find, position}
 use Rattle.std.specs.List.{list_any, position_or_len}
@@ -22,7 +22,7 @@ use Rattle.vote_rules.proofs.Forks.{fork_more, holder_more}
 
 -- ---- look-ups
 
--- a digest is among those of what is held where a search finds it
+-- a digest is among those of what is held if a search finds it
 listed : (hs : List Held) (tx : Digest) → list_any (digest_eq tx) (map digest_of hs) ≡ is_some (held_of hs tx)
 listed [] tx = refl
 listed (h ∷ hs) tx = ap (λ b. b || list_any (digest_eq tx) (map digest_of hs)) (digest_turned tx h.digest) ∙ by (digest_eq h.digest tx) (listed hs tx)
@@ -71,7 +71,7 @@ found_cert hs tx = ap (option_map cert_of) (found hs tx)
 
 -- ---- one more certificate
 
--- of a transaction of which none is held: what is held behind it, and that all is kept
+-- of a transaction of which none is held: what is held after it, and that all is kept
 module _ (items : List Held) (digests : List Digest) (holders : List (ObjectKey × Digest)) (held : List Held) (h : Held) {after : List Held} {noted : List Digest} {holding : List (ObjectKey × Digest)} {fork now : Option Sides}
     (kept : IsKept items digests holders fork) (view : items ≡ held) (new : is_some (held_of held h.digest) ≡ false)
     (after_is : after ≡ items ++ h ∷ []) (noted_is : noted ≡ digests ++ h.digest ∷ []) (holding_is : holding ≡ with_holders h.digest holders (consumed_keys h.cert.tx))
@@ -98,7 +98,7 @@ module _ (items : List Held) (digests : List Digest) (holders : List (ObjectKey 
     one_more,
   )
 
--- the book behind one more certificate, for which room was made everywhere
+-- the book after one more certificate, for which room was made everywhere
 pub held_more : (items : List Held) (digests : List Digest) (holders : List (ObjectKey × Digest)) (held : List Held) (h : Held)
     {mid after : List Held} {ds noted : List Digest} {between holding : List (ObjectKey × Digest)} {looked entered : List ObjectKey} {fork now : Option Sides}
     → IsKept items digests holders fork → items ≡ held → is_some (held_of held h.digest) ≡ false

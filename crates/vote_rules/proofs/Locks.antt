@@ -1,4 +1,4 @@
--- Where the locks stand for the votes of an epoch, the rule over them is the vote rule.
+-- If the locks stand for the votes of an epoch, the rule over them is the vote rule.
 use Rattle.std.proofs.Common.{◌≡◌, List, [], ◌∷◌, ◌++◌, Option, Some, None, refl, ap, ◌∙◌, option_map}
 use Rattle.std.specs.Prelude.{find, nat_lt}
 use Rattle.digest_core.specs.declared.Digest.{Digest}

@@ -1,4 +1,4 @@
--- The locks stand for the votes, also behind one more vote.
+-- The locks stand for the votes, also after one more vote.
 use Rattle.std.proofs.Common.{◌≡◌, Bool, true, false, cond, ◌&&◌, ◌||◌, not, List, [], ◌∷◌, ◌++◌, Option, Some, None, refl, ap, sym, ◌∙◌, option_map, inl, inr}
 use Rattle.std.specs.Prelude.{find}
 use Rattle.std.specs.Option.{option_or}
@@ -40,7 +40,7 @@ last_none : {A : Type 0} → (o : Option A) → first_some (o ∷ []) ≡ None �
 last_none None h = refl
 last_none (Some x) h = absurd (cc)
 
--- where no vote for another transaction consumes one of the keys, no other transaction holds one
+-- if no vote for another transaction consumes one of the keys, no other transaction holds one
 pub no_other : (locks : Locks) (votes : List Cast) (tx : Digest) (keys : List ObjectKey) → StandFor locks votes → first_of (locked votes tx) keys ≡ None → other_lock locks tx keys ≡ None
 no_other locks votes tx [] stand free = refl
 no_other locks votes tx (k ∷ ks) stand free = by (find (is_lock tx k) votes) (stand tx k) free (no_other locks votes tx ks stand)
@@ -61,7 +61,7 @@ module _ (locks : Locks) (votes : List Cast) (v : Cast) (stand : StandFor locks 
   abbrev before : Option (ObjectKey × Digest)
   before = unless_own key tx (locked_by locks key)
 
-  -- what the new vote adds, where it consumes the key or not
+  -- what the new vote adds, if it consumes the key or not
   abbrev added : Bool → Option (ObjectKey × Digest)
   added b = cond (not (digest_eq v.digest tx) && b) (Some (told v)) None
 
@@ -104,6 +104,6 @@ module _ (locks : Locks) (votes : List Cast) (v : Cast) (stand : StandFor locks 
   one_more : unless_own key tx (locked_by (with_locks locks v.consumed v.digest) key) ≡ option_map told (find (is_lock tx key) (votes ++ v ∷ []))
   one_more = by_locks (has_key v.consumed key) refl ∙ sym by_votes
 
--- the locks stand for the votes behind one more, whose keys no vote for another transaction consumes
+-- the locks stand for the votes after one more, whose keys no vote for another transaction consumes
 pub stands : (locks : Locks) (votes : List Cast) (v : Cast) → StandFor locks votes → first_of (locked votes v.digest) v.consumed ≡ None → StandFor (with_locks locks v.consumed v.digest) (votes ++ v ∷ [])
 stands locks votes v stand free tx key = one_more locks votes v stand free tx key

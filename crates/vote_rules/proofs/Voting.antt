@@ -79,7 +79,7 @@ decided s locks held votes t tx r stand view said =
 
 -- ---- one more vote
 
--- the entries behind one more vote, for a transaction that was not voted for
+-- the entries after one more vote, for a transaction that was not voted for
 pub taken : (given : List (Digest × Given)) (votes : List Cast) (tx : Digest) (g : Given) → casts given ≡ votes → is_some (find (λ (v : Cast). digest_eq v.digest tx) votes) ≡ false
     → casts (insert_entry digest_eq given tx g) ≡ votes ++ voted_as tx g.consumed g.origins ∷ []
 taken given votes tx g view new =
@@ -98,7 +98,7 @@ stand_at same view stand tx key =
 pub unlocked : (locks : Locks) (held votes : List Cast) (tx : Digest) (keys : List ObjectKey) → StandFor locks held → held ≡ votes → first_of (locked votes tx) keys ≡ None → other_lock locks tx keys ≡ None
 unlocked locks held votes tx keys stand view free = no_other locks votes tx keys (stand_at refl (sym view) stand) free
 
--- the book behind one more vote
+-- the book after one more vote
 pub voted : (locks : Locks) (given : List (Digest × Given)) (votes : List Cast) (tx : Digest) (g : Given) {l : Locks} {mid after : List (Digest × Given)} → StandFor locks (casts given) → casts given ≡ votes → mid ≡ given
     → l ≡ with_locks locks g.consumed tx → after ≡ insert_entry digest_eq mid tx g
     → is_some (find (λ (v : Cast). digest_eq v.digest tx) votes) ≡ false → first_of (locked votes tx) g.consumed ≡ None

@@ -25,6 +25,6 @@ Decides refusal origins (Ok answer) = (refusal ≡ None) × (answer ≡ origins)
 Decides refusal origins (Err refused.OutOfMemory) = Unit {0}
 Decides refusal origins (Err said) = refusal ≡ Some said
 
--- the locks stand for these votes: of each key they tell the first vote for another transaction
+-- the locks stand for these votes: of each key they say the first vote for another transaction
 abbrev pub StandFor : Locks → List Cast → Type 0
 StandFor locks votes = (tx : Digest) (key : ObjectKey) → unless_own key tx (locked_by locks key) ≡ option_map (λ (v : Cast). (key, v.digest)) (find (is_lock tx key) votes)

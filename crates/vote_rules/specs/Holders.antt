@@ -30,7 +30,7 @@ at_place held (Some place) = slice_get held place
 
 -- ---- who consumes a version
 
--- the first who does stays
+-- the first that does stays
 abbrev pub with_holder : Digest → List (ObjectKey × Digest) → ObjectKey → List (ObjectKey × Digest)
 with_holder tx holders key = if is_some (lookup (key_eq key) holders) then holders else insert_entry key_eq holders key tx
 

@@ -13,7 +13,7 @@ ghost use Rattle.vote_rules.specs.Cases.{ballot_of, says};
 
 use chain_types::{
     Address, Content, DecideRefusal, Input, Object, ObjectId, ObjectKey, ObjectRef, Owner,
-    Transaction, object_digest,
+    Transaction,
 };
 use version_store::Store;
 
@@ -70,8 +70,8 @@ fn wrong_digest_at(store: &Store, reference: &ObjectRef) -> Option<DecideRefusal
     ensures { result ≡ where_true (of_held (object_held (ballot_of store.now) (key_of reference.now)) (λ o. not (digest_eq (digest_of_object o) reference.now.digest))) (refused.WrongDigest (key_of reference.now)) }
 {
     let key = reference.key();
-    match store.get(&key) {
-        Some(object) if object_digest(object) != reference.digest => {
+    match store.hashed(&key) {
+        Some(object) if object.digest() != reference.digest => {
             Some(DecideRefusal::WrongDigest(key))
         }
         _ => None,
@@ -135,7 +135,7 @@ fn is_shared_since(owner: &Owner, initial: u64) -> bool
     }
 }
 
-/// An Owned input that is no user's.
+/// An Owned input that is not a user's.
 fn not_owned(store: &Store, reference: &ObjectRef) -> Option<DecideRefusal>
     ensures { result ≡ where_true (of_held (object_held (ballot_of store.now) (key_of reference.now)) (λ o. not (is_address o.owner))) (refused.WrongKind (key_of reference.now)) }
 {
@@ -254,7 +254,7 @@ fn balance_of(content: &Content) -> u64
     }
 }
 
-/// Gas that is no user's coin of the currency that pays gas.
+/// Gas that is not a user's coin of the currency that pays gas.
 pub(crate) fn no_gas(store: &Store, tx: &Transaction) -> Option<DecideRefusal>
     ensures { result ≡ no_gas (ballot_of store.now) tx.now }
 {

@@ -54,7 +54,7 @@ fn note_digest(digests: &mut IndexSet<Digest>, tx: Digest)
     }
 }
 
-/// Puts a certificate behind the others; there is room.
+/// Puts a certificate after the others; there is room.
 fn push_in_room(all: &mut Vec<Held>, held: Held)
     requires { vec_len all.old < vec_capacity all.old }
     ensures { all.new.items ≡ all.old.items ++ held ∷ [] }
@@ -137,14 +137,14 @@ impl HeldBook {
         self.digests.contains(tx)
     }
 
-    /// The place of this transaction's certificate, from 0; none exactly where none is held. Takes no memory.
+    /// The place of this transaction's certificate, from 0; none exactly if none is held. Takes no memory.
     fn place(&self, tx: &Digest) -> Option<usize>
         ensures { result ≡ position (digest_eq tx.now) (map digest_of self.now) }
     {
         self.digests.get_index_of(tx)
     }
 
-    /// The held certificate of this transaction; none exactly where none is held. Takes no memory.
+    /// The held certificate of this transaction; none exactly if none is held. Takes no memory.
     #[tactic(auto, using(crate::proofs::Holding::found_cert))]
     pub fn get(&self, tx: &Digest) -> Option<&Certificate>
         ensures { option_map (λ (c : _). c.now) result ≡ option_map cert_of (held_of self.now tx.now) }
@@ -181,7 +181,7 @@ impl HeldBook {
         self.fork
     }
 
-    /// The first fork, where a transaction that consumes these versions is held too. Takes no memory.
+    /// The first fork, if a transaction that consumes these versions is held too. Takes no memory.
     fn fork_behind(&self, keys: &[ObjectKey], tx: &Digest) -> Option<Fork>
         ensures { result ≡ first_some (option_map sides (fork_in [] self.now) ∷ fork_by tx.now (first_of (meets self.now) keys.now) ∷ []) }
     {

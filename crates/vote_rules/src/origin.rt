@@ -11,7 +11,7 @@ use std::alloc::Global;
 use version_store::Store;
 use wire_bcs::{OutOfMemory, Seq};
 
-/// The transaction that made a version; none where the epoch opened with it.
+/// The transaction that made a version; none if the epoch opened with it.
 fn made_in(producer: Option<Producer>) -> Option<Digest>
     ensures { result ≡ made_in producer }
 {

@@ -69,7 +69,7 @@ impl VoteBook {
         }
     }
 
-    /// The origins that the vote for this transaction names; none exactly where there was no vote for it. Takes no
+    /// The origins that the vote for this transaction names; none exactly if there was no vote for it. Takes no
     /// memory.
     pub fn origins(&self, tx: &Digest) -> Option<&Seq<Option<Digest>>>
         ensures { option_map (λ (o : _). o.now) result ≡ option_map (λ (v : Cast). v.origins) (find (λ (v : Cast). digest_eq v.digest tx.now) self.now) }
@@ -81,7 +81,7 @@ impl VoteBook {
     }
 
     /// The origins that a vote for the transaction of this digest names, or the first case in which there is no vote,
-    /// `Locked` where an earlier vote for another transaction consumes one of its versions (Sui Lutris).
+    /// `Locked` if an earlier vote for another transaction consumes one of its versions (Sui Lutris).
     pub fn decide(
         &self,
         alloc: Global,

@@ -20,7 +20,7 @@ apart_over a b less = go (b == a) refl
     go false e = e
     go true e = let same = eqb-true b a e in absurd (omega arith)
 
--- what stands behind the first ascends too
+-- what stands after the first ascends too
 pub ascends_after : (m : ℕ) (ms : List ℕ) → ascends (m ∷ ms) ≡ true → ascends ms ≡ true
 ascends_after m [] up = refl
 ascends_after m (n ∷ ms) up = (and_parts (nat_lt m n) (ascends (n ∷ ms)) up).1

@@ -4,3 +4,4 @@ pub mod Texts
 pub mod Loops
 pub mod Decoding
 pub mod InOrder
+pub mod Between

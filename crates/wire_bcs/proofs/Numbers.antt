@@ -1,4 +1,4 @@
--- std's bytes of a number are its spelling.
+-- std's bytes of a number are its encoding.
 use Rattle.std.proofs.Common.{◌≡◌, ℕ, List, length, sym, arith}
 use Rattle.std.specs.Int.{w8, w16, w32, w64, w128, to_le_bytes, from_le_bytes}
 use Rattle.wire_bcs.specs.Little.{value_of, to_le_bytes-is, from_le_bytes-is}

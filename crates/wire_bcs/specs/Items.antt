@@ -1,4 +1,4 @@
--- The items of BCS that are no lists and no choices. A fault is at the first byte of its item, and its number is that of
+-- The items of BCS that are neither lists nor choices. A fault is at the first byte of its item, and its number is that of
 -- its row in the table at `WireFault` (src/fault.rt): 1, 2, 5 and 8 come here, 3 and 4 in Uleb, 6 in Tags, 7 in Whole.
 use Rattle.std.specs.Prelude.{◌≡◌, ℕ, ◌^◌, ◌<◌, ◌≤◌, Bool, true, false, cond, nat_lt, ◌==◌, if◌then◌else◌, List, [], ◌∷◌, ◌++◌, length, take, drop, Ok, Err, refl}
 use Rattle.std.specs.Str.{is_utf8}

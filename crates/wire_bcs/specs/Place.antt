@@ -25,7 +25,7 @@ pub record Stop : Type 0 where
   pub place : Place
   pub why : ℕ
 
--- a value and the place behind it, or the first fault
+-- a value and the place after it, or the first fault
 abbrev pub Read : Type 0 → Type 0
 Read A = Result (A × Place) Stop
 

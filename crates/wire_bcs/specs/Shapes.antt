@@ -145,7 +145,7 @@ seq c = record {
   again = seq-again c;
 }
 
--- ---- options: a bool, and the value behind true
+-- ---- options: a bool, and the value after true
 
 abbrev pub option_of : {A : Type 0} → (Place → Read A) → Bool → Place → Read (Option A)
 option_of one false p = Ok (None, p)

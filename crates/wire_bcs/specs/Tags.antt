@@ -8,7 +8,7 @@ use Rattle.wire_bcs.specs.Codec.{Codec}
 use Rattle.wire_bcs.specs.Uleb.{uleb, uleb_below}
 use Rattle.wire_bcs.specs.UlebLaws.{chosen, uleb-takes, uleb-again}
 
--- what stands behind each variant number; the numbers ascend, and some between may be no case's
+-- what stands after each variant number; the numbers ascend, and some between may be of no case
 pub record Cases (A : Type 0) : Type 1 where
   pub least : ℕ
   pub greatest : ℕ
@@ -16,7 +16,7 @@ pub record Cases (A : Type 0) : Type 1 where
   pub short : A → Type 0
   pub fits : A → Type 0
   pub body : A → List ℕ
-  -- the number, its place, and the place behind it
+  -- the number, its place, and the place after it
   pub read : ℕ → Place → Place → Read A
   pub ordered : least ≤ greatest
   pub from_least : (x : A) → least ≤ tag x

@@ -1,29 +1,29 @@
--- ULEB128 (BCS: lengths and variant numbers, in the shortest spelling, within 32 bits).
+-- ULEB128 (BCS: lengths and variant numbers, in the shortest encoding, within 32 bits).
 use Rattle.std.specs.Prelude.{ℕ, zero, suc, ◌+◌, ◌-◌, ◌*◌, ◌/◌, ◌%◌, nat_lt, ◌==◌, if◌then◌else◌, List, [], ◌∷◌, Result, Ok, Err}
 use Rattle.wire_bcs.specs.Place.{Place, Read, left, forward, stop, ◌>>=◌}
 
--- at most so many bytes and one: seven bits a byte, the lowest first, the top bit set where more follow
+-- at most so many bytes and one: seven bits a byte, the lowest first, the top bit set if more follow
 abbrev pub uleb_in : ℕ → ℕ → List ℕ
 uleb_in zero n = n ∷ []
 uleb_in (suc more) n = if nat_lt n 128 then n ∷ [] else ((128 + n % 128) ∷ uleb_in more (n / 128))
 
--- the spelling of a number below 2 ^ 32
+-- the encoding of a number below 2 ^ 32
 unfoldable pub uleb : ℕ → List ℕ
 uleb n = uleb_in 4 n
 
--- a byte with its top bit set, before the value and the count of the bytes behind it
+-- a byte with its top bit set, before the value and the count of the bytes after it
 abbrev pub behind : ℕ → Result (ℕ × ℕ) ℕ → Result (ℕ × ℕ) ℕ
 behind b (Ok rest) = Ok (b - 128 + 128 * rest.0, suc rest.1)
 behind b (Err why) = Err why
 
--- The value and the count of the bytes behind a first one, at most so many and one, or the row of the fault in the table
+-- The value and the count of the bytes after a first one, at most so many and one, or the row of the fault in the table
 -- at `WireFault`.
 abbrev pub uleb_rest : ℕ → List ℕ → Result (ℕ × ℕ) ℕ
 uleb_rest more [] = Err 1
 uleb_rest zero (b ∷ bytes) = if b == 0 then Err 3 else (if nat_lt 15 b then Err 4 else Ok (b, 1))
 uleb_rest (suc more) (b ∷ bytes) = if b == 0 then Err 3 else (if nat_lt b 128 then Ok (b, 1) else behind b (uleb_rest more bytes))
 
--- the value and the count of bytes at the front, or the row of the fault
+-- the value and the count of bytes at the start, or the row of the fault
 abbrev pub uleb_at : List ℕ → Result (ℕ × ℕ) ℕ
 uleb_at [] = Err 1
 uleb_at (b ∷ bytes) = if nat_lt b 128 then Ok (b, 1) else behind b (uleb_rest 3 bytes)
@@ -33,6 +33,6 @@ abbrev pub counted : Place → Result (ℕ × ℕ) ℕ → Read ℕ
 counted p (Ok x) = Ok (x.0, forward x.1 p)
 counted p (Err why) = stop p why
 
--- a number below a limit, the row told where it is the limit or more
+-- a number below a limit, with the row of the fault if it is the limit or more
 unfoldable pub uleb_below : ℕ → ℕ → Place → Read ℕ
 uleb_below limit why p = counted p (uleb_at (left p)) >>= λ n. if nat_lt n.0 limit then Ok n else stop p why

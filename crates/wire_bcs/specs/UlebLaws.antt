@@ -1,4 +1,4 @@
--- ULEB128 is read as it is spelled.
+-- ULEB128 is read as it is encoded.
 use Rattle.std.specs.Prelude.{◌≡◌, ℕ, zero, suc, ◌+◌, ◌-◌, ◌*◌, ◌/◌, ◌%◌, ◌^◌, ◌<◌, ◌≤◌, Bool, true, false, cond, nat_lt, ◌==◌, ◌⊎◌, List, [], ◌∷◌, ◌++◌, length, drop, Result, Ok, Err, refl}
 use Rattle.std.proofs.Common.{sym, ◌∙◌, ap, subst, inl, inr, arith}
 use Rattle.std.proofs.lemmas.List.{get_or-drop, drop-drop}
@@ -106,7 +106,7 @@ uleb_rest-again (suc more) n rest some below =
           rw one (rw not_zero (rw high (rw again (ap found value))))
     ]
 
--- ---- at the front
+-- ---- at the start
 
 abbrev ReadsWhole : List ℕ → ℕ × ℕ → Type 0
 ReadsWhole bytes x = (bytes ≡ uleb_in 4 x.0 ++ drop x.1 bytes) × (x.1 ≡ length (uleb_in 4 x.0))

@@ -1,4 +1,4 @@
--- A whole value: its spelling and nothing behind it. Row 7 of the table of faults: bytes are left.
+-- A whole value: its encoding and nothing after it. Row 7 of the table of faults: bytes are left.
 use Rattle.std.specs.Prelude.{◌≡◌, ℕ, ◌==◌, if◌then◌else◌, List, [], ◌++◌, length, Result, Ok, refl}
 use Rattle.std.proofs.Common.{sym, ◌∙◌, ap, subst, inl, inr}
 use Rattle.std.proofs.lemmas.Bool.{eqb-true}
@@ -11,11 +11,11 @@ use Rattle.wire_bcs.specs.UlebLaws.{chosen}
 abbrev pub end_at : {A : Type 0} → A × Place → Result A Stop
 end_at x = if length (left x.1) == 0 then Ok x.0 else stop x.1 7
 
--- the value that all the bytes spell, or their first fault
+-- the value that all the bytes encode, or their first fault
 unfoldable pub whole : {A : Type 0} → Codec A → List ℕ → Result A Stop
 whole c bytes = c.read (start bytes) >>= λ x. end_at x
 
--- what is read is spelled so
+-- what is read is encoded so
 pub whole-found : {A : Type 0} (c : Codec A) (bytes : List ℕ) (x : A) → IsBytes bytes → whole c bytes ≡ Ok x → (bytes ≡ c.spell x) × c.fits x
 unfolding whole
 whole-found {A} c bytes x fits e =
@@ -29,7 +29,7 @@ whole-found {A} c bytes x fits e =
       | inr g ↦ absurd (let r = g.1 in cc)
     ]
 
--- what is spelled so is read
+-- what is encoded so is read
 pub whole-only : {A : Type 0} (c : Codec A) (bytes : List ℕ) (x : A) → c.fits x → bytes ≡ c.spell x → whole c bytes ≡ Ok x
 unfolding whole
 whole-only c bytes x fits e =
@@ -39,7 +39,7 @@ whole-only c bytes x fits e =
     let ended : end_at (x, forward (length (c.spell x)) (start bytes)) ≡ Ok x = rw none refl in
     rw one ended
 
--- each value has one spelling, none is a front of another's, and equal spellings are of equal values
+-- each value has one encoding, none is a prefix of another's, and equal encodings are of equal values
 pub one-spelling : {A : Type 0} (c : Codec A) (x y : A) (r s : List ℕ) → c.fits x → c.fits y → c.spell x ++ r ≡ c.spell y ++ s → (x ≡ y) × (r ≡ s)
 one-spelling {A} c x y r s fits_x fits_y e =
     let p = start (c.spell x ++ r) in

@@ -5,22 +5,22 @@ use Rattle.std.proofs.lemmas.List.{append_cancel_left}
 use Rattle.std.proofs.lemmas.Bool.{and_parts, and_from, eqb-true, eq-eqb}
 use Rattle.wire_bcs.specs.declared.seq.OutOfMemory.{OutOfMemory}
 
--- the first list is a front of the second
+-- the first list is a prefix of the second
 abbrev pub is_front : List ℕ → List ℕ → Bool
 is_front [] ys = true
 is_front (x ∷ xs) [] = false
 is_front (x ∷ xs) (y ∷ ys) = (x == y) && is_front xs ys
 
--- new is old with a front of the text behind it
+-- new is old with a prefix of the text after it
 unfoldable pub is_part : List ℕ → List ℕ → List ℕ → Bool
 is_part old new text = is_front old new && is_front new (old ++ text)
 
--- the text was written behind what stood there; a refused call has written a front of it
+-- the text was written after what stood there; a refused call has written a prefix of it
 abbrev pub Writes : {X : Type 0} → List ℕ → List ℕ → List ℕ → Result X OutOfMemory → Type 0
 Writes old new text (Ok x) = new ≡ old ++ text
 Writes old new text (Err e) = is_part old new text ≡ true
 
--- the text was written behind what stood there; a refused call has written nothing
+-- the text was written after what stood there; a refused call has written nothing
 abbrev pub Appends : {X : Type 0} → List ℕ → List ℕ → List ℕ → Result X OutOfMemory → Type 0
 Appends old new text (Ok x) = new ≡ old ++ text
 Appends old new text (Err e) = new ≡ old
@@ -75,7 +75,7 @@ front_rest (x ∷ xs) (y ∷ ys) h =
     let r = front_rest xs ys p.1 in
     (r.0, let same = eqb-true x y p.0 in cc (r.1))
 
--- what the test means: some front of the text stands there
+-- what the test means: some prefix of the text stands there
 pub part_means : (old new text : List ℕ) → is_part old new text ≡ true → (front rest : List ℕ) × (new ≡ old ++ front) × (text ≡ front ++ rest)
 unfolding is_part
 part_means old new text h =

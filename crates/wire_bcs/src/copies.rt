@@ -4,7 +4,7 @@ ghost use Rattle.std.specs.Prelude.{◌≡◌, IfOk};
 
 use crate::seq::{OutOfMemory, Seq};
 
-/// A type whose values are copied where memory allows: a list takes it from its own allocator.
+/// A type whose values are copied if memory allows: a list takes it from its own allocator.
 pub trait Duplicate: Drop {
     /// An equal value.
     fn copy(&self) -> Result<Self, OutOfMemory>

@@ -5,7 +5,7 @@ ghost use Rattle.wire_bcs.specs.declared.fault.Unread.TheVariants as unread;
 
 use crate::seq::OutOfMemory;
 
-/// The first fault of bytes that are no spelling: `at` is the offset of its item's first byte, `why`
+/// The first fault of bytes that are not an encoding: `at` is the offset of its item's first byte, `why`
 /// says what is wrong there. This is the table of the faults; the definitions name its rows by their numbers.
 ///
 /// - 1: the input ends inside the item

@@ -5,13 +5,14 @@
 //! A call says whether it takes memory: those that answer `OutOfMemory` do, the others do not.
 //!
 //! [`Writer`] and [`Reader`] write and read the items. A type is [`Wire`] by a codec of `specs/`: its one
-//! spelling and how it is read back, with the proofs that the two agree. What is written is the spelling
-//! of the value; a value is read exactly where the input is its spelling; a fault is the first from the
-//! left, and comes exactly where there is no value. A type's codec is made of those of its parts.
+//! encoding and how it is read back, with the proofs that the two agree. What is written is the encoding
+//! of the value; a value is read exactly if the input is its encoding; a fault is the first from the
+//! left, and comes exactly if there is no value. A type's codec is made of those of its parts.
 #![tactic(auto)]
 
 mod ascending;
 mod copies;
+mod encoded;
 mod fault;
 mod reader;
 mod seq;
@@ -20,6 +21,7 @@ mod writer;
 
 pub use ascending::ascends;
 pub use copies::Duplicate;
+pub use encoded::{Encoded, read_encoded};
 pub use fault::{Unread, WireFault};
 pub use reader::Reader;
 pub use seq::{OutOfMemory, Seq};

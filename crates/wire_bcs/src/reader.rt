@@ -1,7 +1,7 @@
 //! Reading BCS items.
 
-ghost use Rattle.std.specs.Prelude.{◌≡◌, ◌<◌, ◌≤◌, ◌+◌, ◌++◌, length, IfOk};
-ghost use Rattle.wire_bcs.specs.Place.{start, left};
+ghost use Rattle.std.specs.Prelude.{◌≡◌, ◌<◌, ◌≤◌, ◌+◌, ◌++◌, List, ℕ, length, IfOk};
+ghost use Rattle.wire_bcs.specs.Place.{IsBytes, Takes, start, left};
 ghost use Rattle.wire_bcs.specs.Items.{number_read, front_read, bool_read, bytes_read, text_read, counted_read, length_limit};
 ghost use Rattle.wire_bcs.specs.Uleb.{uleb_below, uleb_rest, uleb_at};
 ghost use Rattle.wire_bcs.specs.UlebLaws.{room};
@@ -11,7 +11,7 @@ use crate::fault::WireFault;
 use std::marker::Model;
 
 /// A place in an input, from which items are read. A refused call leaves the reader where it was, and
-/// tells the offset of its item's first byte. No call takes memory.
+/// gives the offset of its item's first byte. No call takes memory.
 #[derive(Drop)]
 pub struct Reader<'a> {
     bytes: &'a [u8],
@@ -52,6 +52,19 @@ impl<'a> Reader<'a> {
         ensures { result ≡ self.now.at }
     {
         self.at as u64
+    }
+
+    /// The bytes from a mark up to here, lent: a mark that was made on the way here.
+    #[tactic(auto, using(crate::proofs::Between::marked))]
+    pub fn since(&self, mark: &Reader<'a>) -> &'a [u8]
+        requires { Ahead mark.now self.now }
+        ensures text { (text : List ℕ) → Takes mark.now text self.now → result.now ≡ text }
+        ensures input { IsBytes mark.now.input }
+    {
+        are_bytes(mark.bytes);
+        let (_, rest) = self.bytes.split_at(mark.at);
+        let (found, _) = rest.split_at(self.at - mark.at);
+        found
     }
 
     fn fault(&self, why: u8) -> WireFault
@@ -266,7 +279,12 @@ impl<'a> Reader<'a> {
     }
 }
 
-/// The value of the ULEB128 at the front, and how many bytes it has; or the row of its fault.
+/// What a slice of bytes holds are bytes, said for proofs.
+fn are_bytes(bytes: &[u8])
+    ensures { IsBytes bytes.now }
+{}
+
+/// The value of the ULEB128 at the start, and how many bytes it has; or the row of its fault.
 fn uleb_of(bytes: &[u8]) -> Result<(u32, usize), u8>
     ensures value { result ≡ uleb_at bytes.now }
     ensures count { IfOk result (λ x. x.1 ≤ length bytes.now) }
@@ -284,7 +302,7 @@ fn uleb_of(bytes: &[u8]) -> Result<(u32, usize), u8>
     }
 }
 
-/// The same of the bytes behind a first one, where at most so many and one may come.
+/// Likewise for the bytes after a first one, if at most so many and one may come.
 #[tactic(auto, using(crate::proofs::Ulebs::room_small, crate::proofs::Ulebs::room_large))]
 fn uleb_rest_of(bytes: &[u8], more: u32) -> Result<(u32, usize), u8>
     requires { more ≤ 3 }

@@ -81,8 +81,10 @@ impl<T> Seq<T> {
         self.items.as_slice()
     }
 
-    /// The allocator that the list takes its memory from.
-    pub fn allocator(&self) -> Global {
+    /// The allocator that the list takes its memory from. There is only one.
+    pub fn allocator(&self) -> Global
+        ensures { (other : _) → result ≡ other }
+    {
         *self.items.allocator()
     }
 

@@ -17,17 +17,17 @@ use crate::writer::Writer;
 use digest_core::Digest;
 use std::alloc::Global;
 
-/// A type with one spelling for each value (BCS).
+/// A type with one encoding for each value (BCS).
 pub trait Wire: Drop {
     ghost codec: { Codec Self };
 
-    /// Appends the spelling. A refused call has appended a front of it.
+    /// Appends the encoding. A refused call has appended a prefix of it.
     fn write_into(&self, writer: &mut Writer) -> Result<(), OutOfMemory>
         requires { codec.short self.now }
         ensures { Writes writer.old writer.new (codec.spell self.now) result };
 
-    /// Reads one value from the front of what is left, or tells the first fault and stands there. Where
-    /// memory is refused the reader stands in the same input, and not before. Who reads several values
+    /// Reads one value from the start of what is left, or reports the first fault and stands there. If
+    /// memory is refused the reader stands in the same input, and not before. A caller that reads several values
     /// from one reader calls [`read`].
     fn read_from(alloc: Global, reader: &mut Reader) -> Result<Self, Unread>
         ensures exact { Gives reader.new result (codec.read reader.old) }
@@ -97,10 +97,10 @@ impl<T: Wire> Wire for Option<T> {
     }
 }
 
-/// The room with which a spelling begins: most statements, transactions and effects fit, so they never move.
+/// The room with which an encoding begins: most statements, transactions and effects fit, so they never move.
 const FIRST_ROOM: usize = 256;
 
-/// The one spelling of a value.
+/// The one encoding of a value.
 #[tactic(auto)]
 pub fn encode<T: Wire>(alloc: Global, value: &T) -> Result<Seq<u8>, OutOfMemory>
     requires { T.codec.short value.now }
@@ -111,7 +111,7 @@ pub fn encode<T: Wire>(alloc: Global, value: &T) -> Result<Seq<u8>, OutOfMemory>
     Ok(writer.finish())
 }
 
-/// Reads one value from the front of what is left, or tells the first fault and stands there. Where memory
+/// Reads one value from the start of what is left, or reports the first fault and stands there. If memory
 /// is refused the reader stands where it stood, so the call may be made again.
 pub fn read<T: Wire>(alloc: Global, reader: &mut Reader) -> Result<T, Unread>
     ensures exact { Gives reader.new result (T.codec.read reader.old) }
@@ -129,13 +129,13 @@ pub fn read<T: Wire>(alloc: Global, reader: &mut Reader) -> Result<T, Unread>
     }
 }
 
-/// The value that all the bytes spell. A fault comes exactly where there is none, and is the first.
+/// The value that all the bytes encode. A fault comes exactly if there is none, and is the first.
 pub fn decode<T: Wire>(alloc: Global, bytes: &[u8]) -> Result<T, Unread>
-    // What is read is spelled so, and is a value of its type.
+    // What is read is encoded so, and is a value of its type.
     ensures found { IfOk result (λ x. (bytes.now ≡ T.codec.spell x) × T.codec.fits x) }
     // So it may be written again.
     ensures short { IfOk result T.codec.short }
-    // What is spelled so is read, unless memory runs out.
+    // What is encoded so is read, unless memory runs out.
     ensures only { (x : _) → T.codec.fits x → bytes.now ≡ T.codec.spell x → Decodes bytes.now result (Ok x) }
     // Which fault it is.
     ensures exact { Decodes bytes.now result (whole T.codec bytes.now) }
@@ -153,17 +153,17 @@ fn all_of<T: Wire>(alloc: Global, bytes: &[u8]) -> Result<T, Unread>
     Ok(value)
 }
 
-/// What is spelled at a place is read there, whatever follows.
+/// What is encoded at a place is read there, whatever follows.
 pub fn spelled_is_read<T: Wire>()
     ensures { (p : Place) (x : _) (rest : List ℕ) → T.codec.fits x → left p ≡ T.codec.spell x ++ rest → T.codec.read p ≡ Ok (x, forward (length (T.codec.spell x)) p) }
 {}
 
-/// What is read at a place is spelled there, up to the place behind it.
+/// What is read at a place is encoded there, up to the place after it.
 pub fn read_is_spelled<T: Wire>()
     ensures { (p : Place) (x : _) (q : Place) → IsBytes p.input → T.codec.read p ≡ Ok (x, q) → Takes p (T.codec.spell x) q × T.codec.fits x }
 {}
 
-/// Each value has one spelling, no spelling is a front of another value's, and equal spellings are of
+/// Each value has one encoding, no encoding is a prefix of another value's, and equal encodings are of
 /// equal values.
 pub fn one_spelling<T: Wire>()
     ensures { (x y : _) (r s : List ℕ) → T.codec.fits x → T.codec.fits y → T.codec.spell x ++ r ≡ T.codec.spell y ++ s → (x ≡ y) × (r ≡ s) }

@@ -9,7 +9,7 @@ use crate::seq::{OutOfMemory, Seq};
 use std::alloc::Global;
 use std::marker::Model;
 
-/// The bytes that were written. Each call appends one item, or nothing where memory is refused.
+/// The bytes that were written. Each call appends one item, or nothing if memory is refused.
 #[derive(Drop)]
 pub struct Writer {
     bytes: Vec<u8>,

@@ -21,7 +21,7 @@ fn piece_of(alloc: Global, word: &str, kept: &[u8]) -> Option<Vec<u8>> {
     }
 }
 
-/// The bytes of the words, one after the other; none where a word says none.
+/// The bytes of the words, one after the other; none if a word says none.
 pub(crate) fn bytes_of(alloc: Global, words: &str, kept: &[u8]) -> Option<Vec<u8>> {
     let mut bytes = Vec::new(alloc);
     for word in words.split_whitespace() {

@@ -83,7 +83,7 @@ fn put_number(writer: &mut Writer, kind: &str, number: u128) -> Result<(), OutOf
     }
 }
 
-/// Writes bytes, after their length where the kind is `bytes`.
+/// Writes bytes, after their length if the kind is `bytes`.
 fn put_bytes(writer: &mut Writer, kind: &str, bytes: &[u8]) -> Result<(), OutOfMemory> {
     match kind {
         "bytes" if bytes.len() < 1 << 31 => writer.put_bytes(bytes),

@@ -8,12 +8,14 @@ mod bytes;
 mod calls;
 mod encoders;
 mod items;
+mod links;
 mod names;
 mod quorums;
 mod values;
 
 use bytes::bytes_of;
 use items::{read_items, write_items};
+use links::link_of;
 use names::{address, created, digest, genesis, hash, made};
 use quorums::{check, lamport_of, seal_of, stakes, weigh};
 use std::io;
@@ -56,6 +58,7 @@ fn answer(rt: &HostRuntime, line: &str, kept: &mut Vec<u8>) -> io::Result<()> {
         "make_text" => made(rt, words),
         "seal" => seal_of(rt, words),
         "check" => check(rt, words),
+        "check_link" => link_of(rt, words),
         "committee" => stakes(rt, words),
         "weigh" => weigh(rt, words),
         "lamport" => lamport_of(rt, words),

@@ -7,7 +7,7 @@ use crate::bytes::bytes_of;
 use crate::names::tell_digest;
 use chain_types::lamport;
 use digest_core::Digest;
-use quorum_core::{Committee, KeyedSeal, Sealer, Signer};
+use quorum_core::{Checker, Committee, KeyedSeal, Sealer, Signer};
 use std::alloc::Global;
 use std::io;
 use wire_bcs::{Unread, decode};
@@ -25,7 +25,7 @@ fn numbers_of(alloc: Global, words: &str) -> Option<Vec<u32>> {
     Some(numbers)
 }
 
-/// Says why the stakes are no committee, or how many members a copy of it has, their stakes and the sum of these.
+/// Says why the stakes are not a committee, or how many members a copy of it has, their stakes and the sum of these.
 pub(crate) fn stakes(rt: &HostRuntime, words: &str) -> io::Result<()> {
     let Some(stakes) = numbers_of(rt.alloc(), words) else {
         return println!(rt; "no stakes");
@@ -129,7 +129,7 @@ fn are_low(versions: &[u64]) -> bool
     versions.iter().all(|version| *version < u64::MAX)
 }
 
-/// Says the version that is written where these are read.
+/// Says the version that is written when these are read.
 pub(crate) fn lamport_of(rt: &HostRuntime, words: &str) -> io::Result<()> {
     let Some(versions) = versions_of(rt.alloc(), words) else {
         return println!(rt; "no versions");

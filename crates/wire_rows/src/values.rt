@@ -21,7 +21,7 @@ use std::fmt::Debug;
 use std::io;
 use wire_bcs::{Duplicate, OutOfMemory, Seq, Unread, Wire, decode, encode};
 
-/// Whether it was encoded, and so.
+/// Whether encoding succeeded and gave these bytes.
 pub(crate) fn is_so(encoded: Result<Seq<u8>, OutOfMemory>, bytes: &[u8]) -> bool {
     match encoded {
         Ok(again) => again.as_slice() == bytes,

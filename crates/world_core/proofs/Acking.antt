@@ -65,10 +65,10 @@ module _ (trust : Trust) (sc : Scene) (m : ℕ) (tx : Name) (spoiled : Bool) (t 
     pub faulty_lines : (lines : List Line) → flag_at (slice_get (honest_flags sc.posts) m) ≡ false → lines ≡ line.Ack m tx ack_text.Said ∷ [] → lines ≡ ack_lines_in trust sc m tx t
     faulty_lines lines flag now = now ∙ lines_as made is false flag
 
--- ---- an acknowledgement of a transaction that is known, told of the world as it was
+-- ---- an acknowledgement of a transaction that is known, said of the world as it was
 
 module _ {E : Type 0} (trust : Trust) (v sc : Scene) (m : ℕ) (tx : Name) (spoiled : Bool) (made : Made) (result : Result (List Line) E) (view : v ≡ sc) (is : Some made ≡ made_named (bare_world v) tx) where
-  -- the world behind the line
+  -- the world after the line
   abbrev IsAcked : List Said → Scene → Type 0
   IsAcked said x = saying v said ≡ acked_in (rules_in trust.accepts x) x m spoiled (made_named (bare_world x) tx)
 

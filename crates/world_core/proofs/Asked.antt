@@ -1,4 +1,4 @@
--- What is found of the transactions that lines made can be spelled.
+-- What is found of the transactions that lines made can be encoded.
 use Rattle.std.proofs.Common.{◌≡◌, ℕ, List, Option, Some, None, option_map, subst, sym, refl}
 use Rattle.std.specs.Prelude.{slice_get}
 use Rattle.chain_messages.specs.declared.messages.Certificate.{Certificate}

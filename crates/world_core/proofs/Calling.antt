@@ -13,7 +13,7 @@ use Rattle.world_core.specs.Crews.{IsPlaced, PostAfter, PostsAfter, fallen, fall
 use Rattle.world_core.specs.Replies.{Leaves, Replies}
 use Rattle.world_core.proofs.Placing.{AreWhole, changed_is, post_honest, post_placed, whole_with}
 
--- ---- behind the call
+-- ---- after the call
 
 after_placed : {A E : Type 0} (terms : Terms) (m : ℕ) (r : Rules) (call : Call) (old p : Post) (result : Result A E) → IsPlaced terms m old.standing → PostAfter r call old p result → IsPlaced terms m p.standing
 after_placed terms m r call old p (Ok a) placed e = subst (λ (q : Post). IsPlaced terms m q.standing) (sym e) (post_placed terms m r call old (reached_post r call (Some old)) placed)

@@ -1,4 +1,4 @@
--- A line that touches no record leaves told lists as they are.
+-- A line that touches no record leaves observable lists as they are.
 use Rattle.std.proofs.Common.{◌≡◌, ℕ, Bool, true, false, cond, Option, Some, None, Result, Ok, Err}
 use Rattle.outside.specs.Lists.{Journals}
 use Rattle.protocol_spec.specs.Chain.Certificates.{Rules}

@@ -1,4 +1,4 @@
--- A line that names a transaction or a certificate, by what is spelled.
+-- A line that names a transaction or a certificate, by what is encoded.
 use Rattle.std.proofs.Common.{◌≡◌, ◌∙◌, ap, refl, sym, subst, ℕ, List, [], ◌∷◌, Option, Some, None, Result, Ok, Err, option_map, append-nil, inl, inr}
 use Rattle.outside.specs.Lists.{Journals}
 use Rattle.chain_messages.specs.declared.messages.Certificate.{Certificate}
@@ -21,7 +21,7 @@ use Rattle.world_core.specs.Kept.{LeavesAs}
 use Rattle.world_core.specs.Texts.{spelled_cert, spelled_tx}
 use Rattle.validator_core.proofs.Settling.{keeps_same}
 
--- ---- told lists behind a call
+-- ---- observable lists after a call
 
 -- a call leaves its record, or none
 pub adds_all : (before now : Option Journals) (m : ℕ) (x : Option Record) → AddsLeft before now m x → AddsAll before now m (list_of x)
@@ -64,7 +64,7 @@ vote_some_kept r sc m None bytes before now e is result = absurd (cc)
 vote_some_kept r sc m (Some t) bytes before now e is (Ok b) = adds_all before now m _ (subst (λ c. AddsLeft before now m (record_left (reached_in r sc.posts m (votes c)))) (cc) is)
 vote_some_kept r sc m (Some t) bytes before now e is (Err b) = adds_front before now m _ (inl (subst (λ c. AddsLeft before now m (record_left (reached_in r sc.posts m (votes c)))) (cc) is))
 
--- where nothing more comes of it
+-- if nothing more comes of it
 pub vote_cut : (r : Rules) (sc : Scene) (m : ℕ) (t : Option Made) (bytes : List ℕ) (before now : Option Journals) → Some bytes ≡ option_map spelled_tx t
     → MayAddLeft before now m (record_left (reached_in r sc.posts m (votes bytes))) → MayAddLine (records_left r sc (asked m (option_map signed_call t))) before now
 vote_cut r sc m None bytes before now e is = absurd (cc)
@@ -104,7 +104,7 @@ pub send_cut : (r : Rules) (sc : Scene) (m : ℕ) (c : Option Certificate) (byte
 send_cut r sc m None bytes before now e is = absurd (cc)
 send_cut r sc m (Some c) bytes before now e is = adds_front before now m _ (subst (λ x. MayAddLeft before now m (record_left (reached_in r sc.posts m (holds x)))) (cc) is)
 
--- ---- a call behind which something else fails
+-- ---- a call after which something else fails
 
 pub may_left : (before now : Option Journals) (m : ℕ) (x : Option Record) → AddsLeft before now m x → MayAddLeft before now m x
 may_left before now m x is = inl is

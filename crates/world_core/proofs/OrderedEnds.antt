@@ -1,4 +1,4 @@
--- Ends that lines order, and the epochs that open behind them.
+-- Ends that lines order, and the epochs that open after them.
 use Rattle.std.proofs.Common.{◌≡◌, ◌∙◌, ap, sym, refl, ℕ, Bool, true, false, cond, List, length, Option, Some, None}
 use Rattle.std.specs.Prelude.{slice_get}
 use Rattle.std.proofs.lemmas.Bool.{eq-eqb, ne_eqb}

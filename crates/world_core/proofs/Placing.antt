@@ -53,7 +53,7 @@ whole_with terms flags posts n m old p count low is whole placed same =
 pub changed_is : (change : Post → Post) (posts : List Post) (n m : ℕ) (old p : Post) → n ≡ length posts → m < n → old ≡ get_or posts m old → p ≡ change old → set posts m p ≡ changed_at posts m change (slice_get posts m)
 changed_is change posts n m old p count low is e = ap (set posts m) e ∙ ap (changed_at posts m change) (sym (slice_get_read posts n m old count low is))
 
--- ---- behind a call
+-- ---- after a call
 
 pub placed_behind : (terms : Terms) (m : ℕ) (r : Rules) (call : Call) (old : Seated) → old ≡ seat_at terms m old.state → seat_behind r call old ≡ seat_at terms m (called r old.state call)
 placed_behind terms m r call old e = ap (λ (s : Seated). record s { state = called r old.state call }) e

@@ -4,7 +4,7 @@ use Rattle.std.proofs.lemmas.List.{take_more, take_all}
 use Rattle.outside.specs.Lists.{Journals, IsCountOf, IsRecordAt, KeepsJournals, journal_of}
 use Rattle.world_core.specs.SeatRestarts.{IsJournal}
 
--- these are the first records of a member, where lists are told
+-- these are the first records of a member, if lists are observable
 abbrev pub AreFirst : Option Journals → ℕ → ℕ → List (List ℕ) → Type 0
 AreFirst None m k kept = Unit {0}
 AreFirst (Some lists) m k kept = kept ≡ take k (journal_of lists m)

@@ -25,7 +25,7 @@ abbrev told : Option Journals → Journals
 told None = []
 told (Some lists) = lists
 
--- behind a call the list has the record that is due, or none
+-- after a call the list has the record that is due, or none
 pub paper_due : (n m : ℕ) (x : Option Record) (new : Journals) → m < n → AddsLeft (Some (replicate n [])) (Some new) m x → slice_get (journal_of new m) 0 ≡ spelled_due x
 paper_due n m None new low h = ap (λ (o : Option Journals). slice_get (journal_of (told o) m) 0) h ∙ ap (λ (l : List (List ℕ)). slice_get l 0) (none_on_paper n m low)
 paper_due n m (Some x) new low h = ap (λ (o : Option Journals). slice_get (journal_of (told o) m) 0) h ∙ first_on_paper n m (journal_record.spell x) low

@@ -45,7 +45,7 @@ module _ (accepts : Accepting) (terms : Terms) (m : ℕ) (seat : Seated) (standi
 pub asked_none : {A : Type 0} (f : Member → A) (standing : Option Seated) → None ≡ standing → None ≡ option_map f (option_map seat_state standing)
 asked_none f standing is = ap (λ (s : Option Seated). option_map f (option_map seat_state s)) is
 
--- ---- what is told of it
+-- ---- what is said of it
 
 module _ (k : Known) (r : Rules) (m : ℕ) (state : Option Member) where
   pub end_by_none : None ≡ option_map (end_answer r) state → end_text.Down ≡ end_text_by k r state

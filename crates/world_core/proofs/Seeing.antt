@@ -1,4 +1,4 @@
--- A member that is handed entries, one after the other: behind the first that it does not take, nothing changes.
+-- A member that is handed entries, one after the other: after the first that it does not take, nothing changes.
 use Rattle.std.proofs.Common.{◌≡◌, ◌∙◌, ap, sym, refl, subst, ℕ, zero, suc, Bool, true, false, List, [], ◌∷◌, ◌++◌, map, length, Option, Some, None, option_map, append_assoc, append-nil, arith}
 use Rattle.std.specs.Prelude.{◌<◌, ◌-◌, slice_get, slice_set, option_and_then, fold}
 use Rattle.chain_messages.specs.declared.messages.Entry.{Entry}
@@ -134,7 +134,7 @@ module _ (r : Rules) (m : ℕ) where
     pub halted_rests : (f : Fork) → fork_of seat.state ≡ Some f → (n : ℕ) → Rests sc n
     halted_rests f e n = refused_rests (no_see.Halted f.first f.second) (rw (e) refl) n
 
--- ---- behind the first entry that is not taken nothing changes
+-- ---- after the first entry that is not taken nothing changes
 
 module _ (trust : Trust) (sc : Scene) (m : ℕ) where
   abbrev r : Rules
@@ -236,7 +236,7 @@ module _ (trust : Trust) (sc : Scene) (m : ℕ) where
       by_post None at = none_next (ap (λ (o : Option Post). option_and_then (next_call_of (bare_world sc)) (option_map seat_state (standing_at o))) at) n
       by_post (Some p) at = by_standing p at p.standing refl
 
--- ---- told lists grow in steps
+-- ---- observable lists grow in steps
 
 fold_join : {A B : Type 0} (f : B → A → B) (b : B) (xs ys : List A) → fold f b (xs ++ ys) ≡ fold f (fold f b xs) ys
 fold_join f b [] ys = refl
@@ -315,7 +315,7 @@ module _ (trust : Trust) (m n : ℕ) (old : Scene) (before : Option Journals) (l
           subst (λ (r : Rules). Rests r m next still) same_rules
           (subst (λ (x : Scene). Rests rules_now m x still) (sym is) (ends_there trust now m (sym goes) still))
 
-      -- the last one, behind which nothing goes on
+      -- the last one, after which nothing goes on
       pub last_scene : next ≡ sees_to rules_old n old m
       last_scene = sym rests.scene ∙ scene_now is
 
@@ -335,7 +335,7 @@ module _ (trust : Trust) (m n : ℕ) (old : Scene) (before : Option Journals) (l
           ∙ sym has.records)
           (adds_then before told later m has.done (left_if rules_old now m (next_on now m)) has.adds (left_now adds))
 
-    -- where it did not end
+    -- if it did not end
     pub seen_cut : AddsFront told later m (left_if rules_now now m (next_on now m)) → AddsFront before later m (sees_left rules_old n old m)
     seen_cut adds =
         record {

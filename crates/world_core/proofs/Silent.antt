@@ -73,7 +73,7 @@ module _ (r : Rules) (call : Call) (silent : (s : Member) → due r s call ≡ N
   same_posts : (posts : List Post) (m : ℕ) → posts_behind r posts m call ≡ posts
   same_posts posts m = same_at posts m (slice_get posts m) refl
 
-  -- the scene behind it has more that was said, and nothing else
+  -- the scene after it has more that was said, and nothing else
   pub silent_scene : (sc : Scene) (m : ℕ) → called_scene r sc m call ≡ record sc { said = sc.said ++ map (said_by m) (stated_in r call (reached_of (state_at sc m))) }
   silent_scene sc m =
       ap (λ (posts : List Post). record sc { posts = posts; said = sc.said ++ map (said_by m) (stated_in r call (reached_in r sc.posts m call)) }) (same_posts sc.posts m)
@@ -106,7 +106,7 @@ module _ (trust : Trust) (sc : Scene) (m : ℕ) where
   abbrev r : Rules
   r = rules_in trust.accepts sc
 
-  -- the scene behind an End
+  -- the scene after an End
   pub end_scene : (said : List Said) → said ≡ sc.said ++ map (said_by m) (end_statements r (state_at sc m)) → saying sc said ≡ called_scene r sc m ends
   end_scene said told =
       ap (saying sc) (told ∙ ap (λ (xs : List Statement). sc.said ++ map (said_by m) xs) (sym (end_stated r (state_at sc m))))
@@ -123,7 +123,7 @@ module _ (trust : Trust) (sc : Scene) (m : ℕ) where
   end_leaves told result = left_on r sc m ends told told result (subst (λ (x : Option Record). AddsLeft told told m x) (sym (none_left r ends (ends_silent r) sc.posts m)) (keeps_same told))
 
   module _ (tx : Digest) where
-    -- and behind an acknowledgement
+    -- and after an acknowledgement
     pub ack_scene : (said : List Said) → said ≡ sc.said ++ map (said_by m) (ack_statements r tx (state_at sc m)) → saying sc said ≡ called_scene r sc m (acks tx)
     ack_scene said told =
         ap (saying sc) (told ∙ ap (λ (xs : List Statement). sc.said ++ map (said_by m) xs) (sym (ack_stated r tx (state_at sc m))))
@@ -139,7 +139,7 @@ module _ (trust : Trust) (sc : Scene) (m : ℕ) where
     pub ack_leaves : {A E : Type 0} (told : Option Journals) (result : Result A E) → LeavesAs r sc (asks m (acks tx)) told told result
     ack_leaves told result = left_on r sc m (acks tx) told told result (subst (λ (x : Option Record). AddsLeft told told m x) (sym (none_left r (acks tx) (acks_silent r tx) sc.posts m)) (keeps_same told))
 
--- ---- an End, told of the world as it was
+-- ---- an End, said of the world as it was
 
 module _ {E : Type 0} (trust : Trust) (v sc : Scene) (m : ℕ) (result : Result (List Line) E) (view : v ≡ sc) where
   pub end_told : (said : List Said) → said ≡ v.said ++ map (said_by m) (end_statements (rules_in trust.accepts v) (state_at v m)) → OnOk result (saying v said ≡ called_scene (rules_in trust.accepts sc) sc m ends)

@@ -92,7 +92,7 @@ named_spelled (x ∷ xs) name t all e = go (bytes_eq x.name name) refl (λ h. na
         same h = cc
     go false is more = more (sym (ap (λ c. cond c (Some x) (find (λ (y : Made). bytes_eq y.name name) xs)) is) ∙ e)
 
--- a transaction of a name can be spelled
+-- a transaction of a name can be encoded
 pub spelled_named : (k : Known) (name : Name) (made : MadeTx) → Each IsSpelled k.txs → Some (made_as made) ≡ made_named (world_with k) name → transactions.signed.short made.signed
 spelled_named k name made all e = named_spelled k.txs name (made_as made) all (sym e)
 
@@ -160,7 +160,7 @@ last_spelled (f ∷ fs) name c all e = go (last_where (λ (x : Formed). bytes_eq
         none : (let o : Option Certificate = None in o) ≡ Some c → ⊥
         none h = cc
 
--- a certificate of a name can be spelled
+-- a certificate of a name can be encoded
 pub spelled_cert : (fs : List Formed) (name : Name) (c : Certificate) → Each IsSpelledCert fs → Some c ≡ option_map cert_in (last_where (λ (f : Formed). bytes_eq f.name name) fs) → messages.certificate.short c
 spelled_cert fs name c all e = last_spelled fs name c all (sym e)
 

@@ -29,7 +29,7 @@ ArePlaced terms posts = (m : ℕ) → IsPlacedPost terms m (slice_get posts m)
 abbrev pub honest_flags : List Post → List Bool
 honest_flags posts = map (λ (p : Post). p.honest) posts
 
--- the member, where it is honest and up
+-- the member, if it is honest and up
 abbrev pub honest_at : Option Post → Option Seated
 honest_at None = None
 honest_at (Some p) = if p.honest then p.standing else None
@@ -50,14 +50,14 @@ shown_of seat = (seat.state.epoch, live_objects seat.state)
 
 -- ---- faults
 
--- a member behind a fault of the keeper or want of memory is down
+-- a member after a fault of the keeper or running out of memory is down
 abbrev pub fallen : Post → Post
 fallen p = record p { standing = None }
 
 abbrev pub fallen_at : List Post → ℕ → List Post
 fallen_at posts m = changed_at posts m fallen (slice_get posts m)
 
--- a member behind a call that ended so
+-- a member after a call that ended so
 abbrev pub PostAfter : {A E : Type 0} → Rules → Call → Post → Post → Result A E → Type 0
 PostAfter r call old new (Ok a) = new ≡ post_behind r call old (reached_post r call (Some old))
 PostAfter r call old new (Err e) = new ≡ fallen old

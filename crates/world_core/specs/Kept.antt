@@ -1,4 +1,4 @@
--- What a line leaves in told lists, and which lines hand a call to a member.
+-- What a line leaves in observable lists, and which lines hand a call to a member.
 use Rattle.std.specs.Prelude.{Bool, true, false, Option, Result, Ok, Err}
 use Rattle.outside.specs.Lists.{Journals}
 use Rattle.protocol_spec.specs.Chain.Certificates.{Rules}
@@ -7,7 +7,7 @@ use Rattle.schedule_text.specs.declared.words.Event.TheVariants as event
 use Rattle.scene_spec.specs.Scene.{Scene}
 use Rattle.scene_spec.specs.Steps.{AddsLine, MayAddLine, Work, records_left}
 
--- Ok: the records that the line leaves were added, or nothing where it leaves none; else the first of them
+-- Ok: the records that the line leaves were added, or nothing if it leaves none; else the first of them
 abbrev pub LeavesAs : {A E : Type 0} → Rules → Scene → Work → Option Journals → Option Journals → Result A E → Type 0
 LeavesAs r sc work before now (Ok a) = AddsLine (records_left r sc work) before now
 LeavesAs r sc work before now (Err e) = MayAddLine (records_left r sc work) before now

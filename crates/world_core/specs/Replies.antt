@@ -55,7 +55,7 @@ Replies Says what reply.Down = what ≡ finds_down
 Replies Says what reply.Stopped = HasStopped what
 Replies Says what (reply.Answered answer) = HasAnswered Says what answer
 
--- ---- what a member that is up answers; neither a fault of the keeper nor want of memory
+-- ---- what a member that is up answers; neither a fault of the keeper nor running out of memory
 
 abbrev pub Accepting : Type 0
 Accepting = Signer → List ℕ → Digest → Bool
@@ -87,7 +87,7 @@ pub record SaysTurn (r : Rules) (before : Member) (given : Result (List Digest) 
 
 -- ---- the record
 
--- Ok: the record that the call leaves was added, where there is one; else it was added or nothing was
+-- Ok: the record that the call leaves was added, if there is one; else it was added or nothing was
 abbrev pub Leaves : {A E : Type 0} → Option Journals → Option Journals → ℕ → Option Record → Result A E → Type 0
 Leaves before now m x (Ok a) = AddsLeft before now m x
 Leaves before now m x (Err e) = MayAddLeft before now m x
@@ -136,6 +136,6 @@ turn_fault answer = None
 
 -- ---- on paper
 
--- the spelling of a record that is due
+-- the encoding of a record that is due
 abbrev pub spelled_due : Option Record → Option (List ℕ)
 spelled_due x = option_map journals.journal_record.spell x

@@ -9,7 +9,7 @@ use Rattle.scene_spec.specs.Starts.{started}
 use Rattle.scene_spec.specs.Terms.{Terms}
 use Rattle.scene_spec.specs.Posts.{Post, started_at}
 
--- these are the records of a member, where lists are told
+-- these are the records of a member, if lists are observable
 abbrev pub IsJournal : Option Journals → ℕ → List (List ℕ) → Type 0
 IsJournal None m kept = Unit {0}
 IsJournal (Some lists) m kept = kept ≡ journal_of lists m

@@ -1,4 +1,4 @@
--- What holds of each world: its transactions and certificates can be spelled, its entries can be kept, and its opening
+-- What holds of each world: its transactions and certificates can be encoded, its entries can be kept, and its opening
 -- has no id twice.
 use Rattle.std.specs.Prelude.{List}
 use Rattle.chain_types.specs.declared.objects.Object.{Object}

@@ -45,7 +45,7 @@ abbrev pub show_by : Known → ℕ → Option Seated → List Line
 show_by k m None = line.Show m show_text.Down ∷ []
 show_by k m (Some seat) = shown (setting_with k) (world_with k) m seat.state.epoch (live_objects seat.state)
 
--- the spelling of a transaction of a line, and of a certificate
+-- the encoding of a transaction of a line, and of a certificate
 abbrev pub spelled_tx : Made → List ℕ
 spelled_tx t = transactions.signed.spell t.signed
 

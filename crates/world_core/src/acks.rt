@@ -76,7 +76,7 @@ fn false_ack(seats: &Seats, made: &MadeTx, spoiled: bool) -> Statement
         None => Digest([0; 32]),
     };
     Statement::Ack {
-        epoch: made.signed.tx.epoch,
+        epoch: made.signed.value().tx.epoch,
         tx: made.digest,
         effects: spoiled_if(spoiled, &digest),
     }
@@ -145,7 +145,7 @@ impl World {
         let Some(made) = self.directory.made(tx) else {
             return final_line(self.alloc, tx, FinalText::NoAck { member: 0 });
         };
-        let epoch = made.signed.tx.epoch;
+        let epoch = made.signed.value().tx.epoch;
         let committee = self.seats.committee();
         let collected = self
             .said

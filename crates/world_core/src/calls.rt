@@ -25,8 +25,6 @@ ghost use Rattle.world_core.specs.Trusts.{trust_by};
 use crate::world::World;
 use crate::{Reply, SeatFault, Seats};
 use answer_types::{Ran, RunRefusal, VoteRefusal, Voted};
-use chain_messages::encode_certificate;
-use chain_types::encode_signed;
 use outside::Keeper;
 use quorum_core::Sealer;
 use report_text::{Line, RunText, SendText, VoteText};
@@ -57,7 +55,7 @@ fn tell_vote(
     }
 }
 
-/// Asks a member for its vote for the transaction that the bytes spell.
+/// Asks a member for its vote for the transaction that the bytes encode.
 #[tactic(auto, using(crate::proofs::Texts::vote_down, crate::proofs::Texts::vote_stopped, crate::proofs::Texts::vote_said, crate::proofs::Texts::down_states, crate::proofs::Texts::stopped_states, crate::proofs::Texts::vote_states))]
 fn ask<R: Threads + Sync, D: Keeper, S: Sealer>(
     rt: &R,
@@ -93,7 +91,7 @@ fn ask<R: Threads + Sync, D: Keeper, S: Sealer>(
     }
 }
 
-/// Hands the certificate that the bytes spell to a member.
+/// Hands the certificate that the bytes encode to a member.
 #[tactic(auto, using(crate::proofs::Texts::hold_down, crate::proofs::Texts::hold_stopped, crate::proofs::Texts::hold_said))]
 fn hand<R: Threads + Sync, D: Keeper, S: Sealer>(
     rt: &R,
@@ -213,7 +211,7 @@ pub(crate) fn told(alloc: Global, line: Line) -> Result<Seq<Line>, SeatFault>
 }
 
 impl World {
-    /// The spelling of the transaction of this name; none exactly where no line made one.
+    /// The encoding of the transaction of this name; none exactly if no line made one.
     #[tactic(auto, using(crate::proofs::Voting::spelled_named))]
     fn spelled_tx(&self, name: &[u8]) -> Result<Option<Seq<u8>>, OutOfMemory>
         ensures { IfOk result (λ bytes. bytes ≡ option_map spelled_tx (made_named (bare_world self.now) name.now)) }
@@ -221,11 +219,10 @@ impl World {
         let Some(made) = self.directory.made(name) else {
             return Ok(None);
         };
-        let bytes = encode_signed(self.alloc, &made.signed)?;
-        Ok(Some(bytes))
+        Ok(Some(Seq::from_slice(self.alloc, made.signed.bytes())?))
     }
 
-    /// The spelling of the certificate that was formed last for this name; none exactly where none was.
+    /// The encoding of the certificate that was formed last for this name; none exactly if none was.
     #[tactic(auto, using(crate::proofs::Voting::spelled_cert))]
     fn spelled_cert(&self, name: &[u8]) -> Result<Option<Seq<u8>>, OutOfMemory>
         ensures { IfOk result (λ bytes. bytes ≡ option_map spelled_cert (cert_named (bare_world self.now) name.now)) }
@@ -233,11 +230,10 @@ impl World {
         let Some(cert) = self.certs.last_named(name) else {
             return Ok(None);
         };
-        let bytes = encode_certificate(self.alloc, cert)?;
-        Ok(Some(bytes))
+        Ok(Some(Seq::from_slice(self.alloc, cert.bytes())?))
     }
 
-    /// Asks a member for its vote for the transaction that the bytes spell.
+    /// Asks a member for its vote for the transaction that the bytes encode.
     #[tactic(auto, using(crate::proofs::Texts::vote_text_is))]
     fn ask<R: Threads + Sync, D: Keeper, S: MakesSeals>(
         &mut self,
@@ -267,7 +263,7 @@ impl World {
         )
     }
 
-    /// Hands the certificate that the bytes spell to a member.
+    /// Hands the certificate that the bytes encode to a member.
     #[tactic(auto, using(crate::proofs::Texts::hold_text_is, crate::proofs::Texts::hold_states))]
     fn hand<R: Threads + Sync, D: Keeper, S: MakesSeals>(
         &mut self,
@@ -424,7 +420,7 @@ impl World {
         )
     }
 
-    /// The line `raw .. vote`: asks a member for its vote for what the bytes spell.
+    /// The line `raw .. vote`: asks a member for its vote for what the bytes encode.
     #[tactic(auto, unfolding(scene_spec::specs::Steps::steps_to, scene_spec::specs::Steps::lines_in, scene_spec::specs::Steps::work_of), using(crate::proofs::Lines::left_as, crate::proofs::Lines::left_on))]
     fn raw_vote<R: Threads + Sync, D: Keeper, S: MakesSeals>(
         &mut self,

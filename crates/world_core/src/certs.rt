@@ -9,12 +9,12 @@ ghost use Rattle.world_core.specs.Trusts.{trust_by};
 
 use crate::world::World;
 use report_text::{CertText, Line};
-use wire_bcs::{OutOfMemory, Seq};
+use wire_bcs::{Encoded, OutOfMemory, Seq};
 use world_lines::{cert_lines, certify, collected_lines, is_whole};
 use world_names::MakesSeals;
 
 impl World {
-    /// The line `cert`: collects the votes of the members, and forms their certificate where all agree.
+    /// The line `cert`: collects the votes of the members, and forms their certificate if all agree.
     #[tactic(auto, using(crate::proofs::Sound::sound_formed, crate::proofs::Voting::spelled_named, crate::proofs::Voting::unnamed_forms, crate::proofs::Voting::whole_forms, crate::proofs::Voting::others_form, crate::proofs::Voting::collected_lines, crate::proofs::Voting::unnamed_cert_lines))]
     pub(crate) fn form_cert<S: MakesSeals>(
         &mut self,
@@ -36,7 +36,8 @@ impl World {
             return Ok(lines);
         }
         let cert = certify(self.alloc, sealer, &self.said, made, members)?;
-        self.certs.add(made.name.as_slice(), cert)?;
+        let encoded = Encoded::new(self.alloc, cert)?;
+        self.certs.add(made.name.as_slice(), encoded)?;
         Ok(lines)
     }
 }

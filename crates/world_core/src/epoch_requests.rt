@@ -18,7 +18,7 @@ use std::thread::Threads;
 use validator_core::Validator;
 use wire_bcs::Seq;
 
-/// The entry of this number of the member's sequence, spelled.
+/// The entry of this number of the member's sequence, encoded.
 #[derive(Clone, Copy)]
 pub(crate) struct SeeRequest<'a> {
     pub(crate) number: u64,
@@ -43,7 +43,7 @@ impl Asks for SeeRequest<'_> {
     }
 }
 
-/// The fault behind an answer; none where it is one.
+/// The fault that kept a call from its answer; none if it was answered.
 fn see_fault(answer: &Result<Seen, SeeRefusal>) -> Option<SeatFault>
     ensures { result ≡ see_fault answer.now }
 {
@@ -109,7 +109,7 @@ impl Asks for CloseRequest {
     }
 }
 
-/// The fault behind an answer; none where it is one.
+/// The fault that kept a call from its answer; none if it was answered.
 fn close_fault(answer: &Result<bool, CloseRefusal>) -> Option<SeatFault>
     ensures { result ≡ close_fault answer.now }
 {
@@ -165,7 +165,7 @@ impl Asks for TurnRequest {
     }
 }
 
-/// The fault behind an answer; none where it is one.
+/// The fault that kept a call from its answer; none if it was answered.
 fn turn_fault(answer: &Result<Seq<Digest>, TurnRefusal>) -> Option<SeatFault>
     ensures { result ≡ turn_fault answer.now }
 {

@@ -6,7 +6,7 @@
 //! stand. Each step is the definition's step of that scene, with its lines, and the keeper's lists grow by the
 //! records that the line leaves.
 //! [`World::replay`] starts a member from records that were kept before, beside the world.
-//! [`World::sums`] tells what a member has built and holds, in numbers.
+//! [`World::sums`] says what a member has built and holds, in numbers.
 //! Each name, vote and version is found by a map, so a line costs time in proportion to its own words.
 //!
 //! Within, [`Seats`] are the members, up or down, with armed stops and restarts: each hands a call to the member that

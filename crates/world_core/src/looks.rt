@@ -48,7 +48,7 @@ impl World {
         self.seats.is_honest(member)
     }
 
-    /// A member, at its seat; none exactly where it is faulty, down or not there. Takes no memory.
+    /// A member, at its seat; none exactly if it is faulty, down or not there. Takes no memory.
     pub fn member(&self, member: u32) -> Option<&Validator>
         ensures value { option_copied result ≡ honest_at (slice_get self.now.posts member) }
         ensures placed { IsPlaced self.now.terms member (option_copied result) }
@@ -56,7 +56,7 @@ impl World {
         self.seats.honest(member)
     }
 
-    /// The checkpoint of this number, counted from 0 over all epochs, that a member built; none exactly where the member
+    /// The checkpoint of this number, counted from 0 over all epochs, that a member built; none exactly if the member
     /// is faulty, down or not there, or has not built it. Takes no memory.
     pub fn checkpoint(&self, member: u32, number: u64) -> Option<&Checkpoint>
         ensures { option_map (λ (c : _). c.now) result ≡ checkpoint_at (slice_get self.now.posts member) number }
@@ -67,27 +67,27 @@ impl World {
         }
     }
 
-    /// The transaction of this digest, which can be spelled; none exactly where no `tx` line made it. Takes no memory.
+    /// The transaction of this digest, which can be encoded; none exactly if no `tx` line made it. Takes no memory.
     #[tactic(auto, using(crate::proofs::Asked::short_of))]
     pub fn transaction(&self, tx: &Digest) -> Option<&Transaction>
         ensures short { IfSome result (λ t. transactions.transaction.short t.now) }
         ensures value { option_map (λ (t : _). t.now) result ≡ transaction_of self.now.known tx.now }
     {
         match self.directory.made_of(tx) {
-            Some(made) => Some(&made.signed.tx),
+            Some(made) => Some(&made.signed.value().tx),
             None => None,
         }
     }
 
     /// The signed transaction of the `tx` line at this place, counted from 0 among the `tx` lines that ran, which can be
-    /// spelled; none exactly where there is no such line. Takes no memory.
+    /// encoded; none exactly if there is no such line. Takes no memory.
     #[tactic(auto, using(crate::proofs::Asked::short_at))]
     pub fn signed(&self, place: u32) -> Option<&SignedTx>
         ensures short { IfSome result (λ t. transactions.signed.short t.now) }
         ensures value { option_map (λ (t : _). t.now) result ≡ signed_at self.now.known place }
     {
         match self.directory.made_at(place as usize) {
-            Some(made) => Some(&made.signed),
+            Some(made) => Some(made.signed.value()),
             None => None,
         }
     }
@@ -99,19 +99,22 @@ impl World {
         &self.directory
     }
 
-    /// The certificate of the `cert` line at this place, counted from 0 among those that formed one, which can be spelled;
-    /// none exactly where there is no such line. Takes no memory.
+    /// The certificate of the `cert` line at this place, counted from 0 among those that formed one, which can be encoded;
+    /// none exactly if there is no such line. Takes no memory.
     #[tactic(auto, using(crate::proofs::Asked::formed_short))]
     pub fn certificate(&self, place: usize) -> Option<&Certificate>
         ensures short { IfSome result (λ c. messages.certificate.short c.now) }
         ensures value { option_copied result ≡ option_map cert_in (slice_get self.now.certs place) }
     {
-        self.certs.at(place)
+        match self.certs.at(place) {
+            Some(cert) => Some(cert.value()),
+            None => None,
+        }
     }
 
     /// The line of a `vote` of a member for this transaction, with this reply: the transaction goes by the name of the first
-    /// `tx` line that made it, and by a question mark where none did. The reply is an answer, and no fault of the keeper or
-    /// want of memory.
+    /// `tx` line that made it, and by a question mark if none did. The reply is an answer, and no fault of the keeper or
+    /// running out of memory.
     pub fn vote_line(
         &self,
         member: u32,

@@ -30,7 +30,7 @@ impl World {
         let _order = &self.order;
     }
 
-    /// The line `order T`: orders the certificate that was formed last for this name, where it is of the open epoch.
+    /// The line `order T`: orders the certificate that was formed last for this name, if it is of the open epoch.
     #[tactic(auto, using(crate::proofs::Ordered::orders_none, crate::proofs::Ordered::orders_late, crate::proofs::Ordered::orders_one, crate::proofs::Ordered::short_cert))]
     pub(crate) fn order_cert(&mut self, tx: &[u8]) -> Result<Seq<Line>, OutOfMemory>
         ensures world { OnOk result (self.new ≡ with_order self.old (ordered (bare_world self.old) (cert_named (bare_world self.old) tx.now))) }
@@ -39,7 +39,7 @@ impl World {
         let Some(cert) = self.certs.last_named(tx) else {
             return order_line(self.alloc, tx, OrderText::NoCertificate);
         };
-        if cert.tx.epoch != self.order.epoch() {
+        if cert.value().tx.epoch != self.order.epoch() {
             return order_line(self.alloc, tx, OrderText::NotTaken);
         }
         let lines = order_line(
@@ -49,7 +49,7 @@ impl World {
                 entry: self.order.len(),
             },
         )?;
-        self.order.push(&Entry::Cert(cert.copy()?))?;
+        self.order.push(&Entry::Cert(cert.value().copy()?))?;
         Ok(lines)
     }
 
@@ -63,7 +63,7 @@ impl World {
         self.order.push(&Entry::Commit)?;
         one_line(self.alloc, Line::OrderCommit { entry })
     }
-    /// Orders a member's End of the open epoch. Another epoch opens where the members of its Ends are a quorum then.
+    /// Orders a member's End of the open epoch. Another epoch opens if the members of its Ends are a quorum then.
     fn append_end<S: MakesSeals>(
         &mut self,
         sealer: &S,
@@ -95,8 +95,8 @@ impl World {
         self.append_end(sealer, member)
     }
 
-    /// The line `order end`: orders the last End of an honest member, where it is of the open epoch; a faulty member
-    /// states one of the open epoch first. Another epoch opens where the open one has ended then.
+    /// The line `order end`: orders the last End of an honest member, if it is of the open epoch; a faulty member
+    /// states one of the open epoch first. Another epoch opens if the open one has ended then.
     pub(crate) fn order_end<S: MakesSeals>(
         &mut self,
         sealer: &S,

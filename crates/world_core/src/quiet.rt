@@ -17,7 +17,7 @@ use world_lines::{one_line, shown_lines};
 use world_names::{MakeRefusal, MakesSeals, TxLine, make};
 
 impl World {
-    /// The line `tx`: makes the transaction of the words. One that cannot be spelled counts as want of memory; no
+    /// The line `tx`: makes the transaction of the words. One that cannot be encoded counts as running out of memory; no
     /// text of a schedule is long enough to say one.
     #[tactic(auto, using(crate::proofs::Sound::sound_made))]
     fn make_tx<S: MakesSeals>(

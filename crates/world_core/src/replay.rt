@@ -25,7 +25,7 @@ pub struct Replayed {
 impl World {
     /// Starts a member of this committee from the records that a keeper has of it, in an epoch 0 that opens with the
     /// set-up's objects. The world and the keeper's lists stay as they are. `BadRecord` comes exactly at the first
-    /// record that does not decode, or that no call would have appended; `KeepFault` only where the keeper's count of
+    /// record that does not decode, or that no call would have appended; `KeepFault` only if the keeper's count of
     /// faults rose.
     pub fn replay<D: Keeper, S: Sealer>(
         &self,

@@ -47,13 +47,13 @@ pub(crate) trait Asks {
         ensures fault { IsErrOf result faults.KeepFault → Rose (D.failed keeper.old) (D.failed keeper.new) };
 }
 
-/// A request for the vote for the transaction that the bytes spell.
+/// A request for the vote for the transaction that the bytes encode.
 #[derive(Clone, Copy)]
 pub(crate) struct VoteRequest<'a> {
     pub(crate) bytes: &'a [u8],
 }
 
-/// A request to hold the certificate that the bytes spell.
+/// A request to hold the certificate that the bytes encode.
 #[derive(Clone, Copy)]
 pub(crate) struct HoldRequest<'a> {
     pub(crate) bytes: &'a [u8],
@@ -95,7 +95,7 @@ impl Asks for HoldRequest<'_> {
     }
 }
 
-/// The fault behind an answer; none where it is one.
+/// The fault that kept a call from its answer; none if it was answered.
 fn vote_fault(answer: &Result<Voted, VoteRefusal>) -> Option<SeatFault>
     ensures { result ≡ vote_fault answer.now }
 {
@@ -146,7 +146,7 @@ fn ask_vote<D: Keeper, S: Sealer>(
     }
 }
 
-/// The fault behind an answer; none where it is one.
+/// The fault that kept a call from its answer; none if it was answered.
 fn hold_fault(answer: &Result<bool, HoldRefusal>) -> Option<SeatFault>
     ensures { result ≡ hold_fault answer.now }
 {
@@ -217,7 +217,7 @@ impl Asks for RunRequest {
     }
 }
 
-/// The fault behind an answer; none where it is one.
+/// The fault that kept a call from its answer; none if it was answered.
 fn run_fault(answer: &Result<Ran, RunRefusal>) -> Option<SeatFault>
     ensures { result ≡ run_fault answer.now }
 {

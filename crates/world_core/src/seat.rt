@@ -24,7 +24,7 @@ use std::marker::Model;
 use std::thread::Threads;
 use validator_core::Validator;
 
-/// A member: whether it is honest, the member where it is up, and an armed stop, which keeps the next record or
+/// A member: whether it is honest, the member if it is up, and an armed stop, which keeps the next record or
 /// loses it. Contracts see the definition's post.
 #[derive(Drop)]
 pub(crate) struct Seat {
@@ -80,14 +80,14 @@ impl Seat {
         self.honest
     }
 
-    /// The member, where it is up. Takes no memory.
+    /// The member, if it is up. Takes no memory.
     pub(crate) fn standing(&self) -> Option<&Validator>
         ensures { option_copied result ≡ self.now.standing }
     {
         self.validator.as_ref()
     }
 
-    /// The member, where it is honest and up. Takes no memory.
+    /// The member, if it is honest and up. Takes no memory.
     pub(crate) fn honest(&self) -> Option<&Validator>
         ensures { option_copied result ≡ honest_at (Some self.now) }
     {
@@ -98,7 +98,7 @@ impl Seat {
         }
     }
 
-    /// The digest that the member has of a version, where it is honest, up and holds it. Takes no memory.
+    /// The digest that the member has of a version, if it is honest, up and holds it. Takes no memory.
     pub(crate) fn held_digest(&self, key: &ObjectKey) -> Option<Digest>
         ensures { result ≡ (if self.now.honest then held_by key.now self.now.standing else None) }
     {
@@ -111,7 +111,7 @@ impl Seat {
         }
     }
 
-    /// The digest of the effects that the member has of a transaction, where it is honest, up and executed it in its
+    /// The digest of the effects that the member has of a transaction, if it is honest, up and executed it in its
     /// present epoch. Takes no memory.
     pub(crate) fn executed_digest(&self, tx: &Digest) -> Option<Digest>
         ensures { result ≡ (if self.now.honest then option_and_then (λ (seat : Seated). executed_digest tx.now seat.state) self.now.standing else None) }
@@ -125,7 +125,7 @@ impl Seat {
         }
     }
 
-    /// Asks the member, of this number in its committee. Behind a refusal it is down.
+    /// Asks the member, of this number in its committee. After a refusal it is down.
     pub(crate) fn call<R: Threads + Sync, D: Keeper, S: Sealer, Q: Asks>(
         &mut self,
         rt: &R,

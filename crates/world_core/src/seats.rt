@@ -174,9 +174,9 @@ impl Seats {
         seat.call(rt, alloc, keeper, sealer, &self.terms, member, request)
     }
 
-    /// Asks a member for its vote for the transaction that the bytes spell (Sui Lutris). `Down`: the member is
+    /// Asks a member for its vote for the transaction that the bytes encode (Sui Lutris). `Down`: the member is
     /// down or not there. `Stopped`: a stop was armed and a record was due; the member is down, and its record was
-    /// kept where the stop keeps. Else it answered, and its record stands. Behind a refusal the member is down, and
+    /// kept if the stop keeps. Else it answered, and its record stands. After a refusal the member is down, and
     /// its record stands or does not; the other members stay.
     #[tactic(auto, using(crate::proofs::Calling::on_ok, crate::proofs::Calling::on_err))]
     pub fn vote<R: Threads + Sync, D: Keeper, S: Sealer>(
@@ -342,7 +342,7 @@ impl Seats {
         self.call(rt, alloc, keeper, sealer, member, &TurnRequest)
     }
 
-    /// The epoch of a member that is up; 0 where it is down or not there. Takes no memory.
+    /// The epoch of a member that is up; 0 if it is down or not there. Takes no memory.
     #[tactic(auto, using(crate::proofs::Turning::epoch_none, crate::proofs::Turning::epoch_some))]
     pub fn epoch(&self, member: u32) -> u64
         ensures { result ≡ epoch_of (standing_at (slice_get self.now.posts member)) }
@@ -353,7 +353,7 @@ impl Seats {
         }
     }
 
-    /// What a member says of its End (epoch change of Sui Lutris); none where it is down or not there. It keeps no
+    /// What a member says of its End (epoch change of Sui Lutris); none if it is down or not there. It keeps no
     /// record.
     #[tactic(auto, using(crate::proofs::Saying::end_asked, crate::proofs::Saying::asked_none))]
     pub fn end<S: Sealer>(
@@ -370,7 +370,7 @@ impl Seats {
         Ok(Some(answer))
     }
 
-    /// What a member says of a transaction that it may have executed (Sui Lutris); none where it is down or not there.
+    /// What a member says of a transaction that it may have executed (Sui Lutris); none if it is down or not there.
     /// It keeps no record.
     #[tactic(auto, using(crate::proofs::Saying::ack_asked, crate::proofs::Saying::asked_none))]
     pub fn ack<S: Sealer>(
@@ -389,7 +389,7 @@ impl Seats {
     }
 
     /// The digest of the effects that the lowest-numbered honest member has of a transaction that is up and executed it
-    /// in its present epoch; none where none did. Takes no memory.
+    /// in its present epoch; none if none did. Takes no memory.
     pub fn executed_digest(&self, tx: &Digest) -> Option<Digest>
         ensures { result ≡ says_in (executed_digest tx.now) self.now.posts }
     {
@@ -397,8 +397,8 @@ impl Seats {
     }
 
     /// Starts a member from the records that its keeper has, in an epoch 0 that opens with these objects, and
-    /// answers how many they are. No stop is armed behind it. A member that is not there: 0, and nothing changes.
-    /// Behind a refusal nothing changes.
+    /// answers how many they are. No stop is armed after it. A member that is not there: 0, and nothing changes.
+    /// After a refusal nothing changes.
     pub fn restart<D: Keeper, S: Sealer>(
         &mut self,
         alloc: Global,
@@ -457,7 +457,7 @@ impl Seats {
         self.terms.start(alloc, member, opening, kept, sealer)
     }
 
-    /// A member that is up; none where it is down or not there. Takes no memory.
+    /// A member that is up; none if it is down or not there. Takes no memory.
     #[tactic(auto, using(crate::proofs::Placing::placed_at))]
     pub fn standing(&self, member: u32) -> Option<&Validator>
         ensures value { option_copied result ≡ standing_at (slice_get self.now.posts member) }
@@ -469,7 +469,7 @@ impl Seats {
         }
     }
 
-    /// A member that is honest and up; none where it is faulty, down or not there. Takes no memory.
+    /// A member that is honest and up; none if it is faulty, down or not there. Takes no memory.
     #[tactic(auto, using(crate::proofs::Placing::honest_placed))]
     pub fn honest(&self, member: u32) -> Option<&Validator>
         ensures value { option_copied result ≡ honest_at (slice_get self.now.posts member) }
@@ -481,7 +481,7 @@ impl Seats {
         }
     }
 
-    /// Whether the member is honest, up or not; false where it is not there. Takes no memory.
+    /// Whether the member is honest, up or not; false if it is not there. Takes no memory.
     pub fn is_honest(&self, member: u32) -> bool
         ensures { result ≡ honest_post (slice_get self.now.posts member) }
     {
@@ -491,7 +491,7 @@ impl Seats {
         }
     }
 
-    /// The epoch of a member that is up, and its live objects by ascending id; none where it is down or not there.
+    /// The epoch of a member that is up, and its live objects by ascending id; none if it is down or not there.
     pub fn show(&self, member: u32) -> Result<Option<(u64, Seq<Object>)>, OutOfMemory>
         ensures { IfOk result (λ shown. shown ≡ option_map shown_of (standing_at (slice_get self.now.posts member))) }
     {

@@ -37,7 +37,7 @@ use wire_bcs::{OutOfMemory, Seq};
 use world_lines::{OrderBook, SaidBook, add_entry_lines, one_line, tx_text};
 use world_names::{Directory, MakesSeals};
 
-/// Adds the lines for a member's answer to an entry, and tells whether the line goes on behind it; the checkpoints that
+/// Adds the lines for a member's answer to an entry, and says whether the line goes on after it; the checkpoints that
 /// the entry completed are stated.
 fn tell_entry(
     directory: &Directory,
@@ -68,7 +68,7 @@ fn see_line(alloc: Global, member: u32, text: SeeText) -> Result<Seq<Line>, Seat
     told(alloc, Line::See { member, text })
 }
 
-/// Adds a line behind which nothing goes on.
+/// Adds a line after which nothing goes on.
 fn add_last(lines: &mut Seq<Line>, line: Line) -> Result<bool, SeatFault>
     ensures lines { OnOk result (lines.new ≡ lines.old ++ line ∷ []) }
     ensures goes { IfOk result (λ goes. goes ≡ false) }
@@ -80,7 +80,7 @@ fn add_last(lines: &mut Seq<Line>, line: Line) -> Result<bool, SeatFault>
     }
 }
 
-/// Hands a member the entry of this number, adds its lines, and tells whether the line goes on behind it.
+/// Hands a member the entry of this number, adds its lines, and says whether the line goes on after it.
 #[tactic(auto, using(crate::proofs::SeeTexts::see_down, crate::proofs::SeeTexts::down_ends, crate::proofs::SeeTexts::see_stopped, crate::proofs::SeeTexts::stopped_ends, crate::proofs::SeeTexts::see_said, crate::proofs::SeeTexts::said_goes, crate::proofs::SeeTexts::see_states, crate::proofs::Texts::down_states, crate::proofs::Texts::stopped_states))]
 fn see<R: Threads + Sync, D: Keeper, S: Sealer>(
     rt: &R,
@@ -136,7 +136,7 @@ fn see<R: Threads + Sync, D: Keeper, S: Sealer>(
     }
 }
 
-/// The next entry of a member that is up, by its number and spelled; none exactly where there is none.
+/// The next entry of a member that is up, by its number and encoded; none exactly if there is none.
 #[tactic(auto, using(crate::proofs::Nexts::by_none, crate::proofs::Nexts::by_ended, crate::proofs::Nexts::by_left, crate::proofs::Nexts::by_some))]
 fn next_entry<'a>(seats: &Seats, order: &'a OrderBook, member: u32) -> Option<(u64, &'a Seq<u8>)>
     ensures { option_map (λ (p : _). sees p.0 p.1.now) result ≡ next_by seats.now.posts order.now.sequences member }
@@ -155,8 +155,8 @@ fn next_entry<'a>(seats: &Seats, order: &'a OrderBook, member: u32) -> Option<(u
 }
 
 impl World {
-    /// Hands a member its next entry, where it is up and there is one: adds its lines, and tells whether the line goes
-    /// on behind it.
+    /// Hands a member its next entry, if it is up and there is one: adds its lines, and says whether the line goes
+    /// on after it.
     fn see_next<R: Threads + Sync, D: Keeper, S: MakesSeals>(
         &mut self,
         rt: &R,
@@ -192,7 +192,7 @@ impl World {
         )
     }
 
-    /// Hands a member so many entries, one after the other, up to the first behind which nothing goes on: adds their
+    /// Hands a member so many entries, one after the other, up to the first after which nothing goes on: adds their
     /// lines.
     #[tactic(auto, using(crate::proofs::Seeing::seen_none, crate::proofs::Seeing::seen_one, crate::proofs::Seeing::last_scene, crate::proofs::Seeing::last_lines, crate::proofs::Seeing::last_kept, crate::proofs::Seeing::seen_cut, crate::proofs::Seeing::all_scene, crate::proofs::Seeing::all_lines, crate::proofs::Seeing::all_kept))]
     fn see_all<R: Threads + Sync, D: Keeper, S: MakesSeals>(

@@ -24,7 +24,7 @@ impl World {
     /// Runs one line, and answers the lines that the report has for it. A member's run goes by the line's workers, in
     /// threads. Each record that it leaves is appended before the call that leaves it answers. `KeepFault`: the keeper
     /// failed, and its count of faults rose. `BadRecord`: the member of a `restart` line does not start from its records.
-    /// Behind a fault nothing is said of the world.
+    /// After a fault nothing is said of the world.
     #[tactic(auto, unfolding(scene_spec::specs::Steps::work_of), using(crate::proofs::Steps::fault_left, crate::proofs::Leaving::quiet_leaves, crate::proofs::Stays::restart_stays))]
     pub fn step<R: Threads + Sync, D: Keeper, S: MakesSeals>(
         &mut self,

@@ -19,7 +19,7 @@ use std::thread::Threads;
 use validator_core::Validator;
 use wire_bcs::{OutOfMemory, Seq};
 
-/// The first record of a member; none where it has none. Any failure is taken for want of memory.
+/// The first record of a member; none if it has none. Any failure counts as out of memory.
 fn first_record(paper: &mut MemKeeper, member: u32) -> Result<Option<Seq<u8>>, OutOfMemory>
     requires known { member < length paper.old.lists }
     ensures { IfOk result (λ first. first ≡ slice_get (journal_of paper.old.lists member) 0) }
@@ -33,7 +33,7 @@ fn first_record(paper: &mut MemKeeper, member: u32) -> Result<Option<Seq<u8>>, O
     }
 }
 
-/// Asks a member that is up and keeps no record: the answer, and the spelling of the record that is due.
+/// Asks a member that is up and keeps no record: the answer, and the encoding of the record that is due.
 #[tactic(auto, using(crate::proofs::Replying::paper_due))]
 fn ask_on_paper<R: Threads + Sync, S: Sealer, Q: Asks>(
     rt: &R,
@@ -59,7 +59,7 @@ fn ask_on_paper<R: Threads + Sync, S: Sealer, Q: Asks>(
     Ok((answer, due))
 }
 
-/// Appends the bytes of a record. Those of 2^31 bytes, more than any record has, count as want of memory.
+/// Appends the bytes of a record. Those of 2^31 bytes, more than any record has, count as running out of memory.
 fn append<D: Keeper>(keeper: &mut D, member: u32, bytes: &[u8]) -> Result<(), SeatFault>
     requires known { member < D.width keeper.old }
     ensures kept { AddsBytes (D.lists keeper.old) (D.lists keeper.new) member bytes.now result }
@@ -77,7 +77,7 @@ fn append<D: Keeper>(keeper: &mut D, member: u32, bytes: &[u8]) -> Result<(), Se
     }
 }
 
-/// Appends the bytes of a record where a stop keeps it.
+/// Appends the bytes of a record if a stop keeps it.
 fn stop<D: Keeper>(keeper: &mut D, member: u32, kept: bool, bytes: &[u8]) -> Result<(), SeatFault>
     requires known { member < D.width keeper.old }
     ensures kept { KeptWhere kept (D.lists keeper.old) (D.lists keeper.new) member bytes.now result }
@@ -91,7 +91,7 @@ fn stop<D: Keeper>(keeper: &mut D, member: u32, kept: bool, bytes: &[u8]) -> Res
     append(keeper, member, bytes)
 }
 
-/// Asks a member that is up and has an armed stop, which keeps the record or loses it: its answer; none where
+/// Asks a member that is up and has an armed stop, which keeps the record or loses it: its answer; none if
 /// it stops.
 #[tactic(auto, using(crate::proofs::Replying::met_idle, crate::proofs::Replying::met_stop, crate::proofs::Replying::left_idle, crate::proofs::Replying::left_stop, crate::proofs::Replying::left_same))]
 fn ask_armed<R: Threads + Sync, D: Keeper, S: Sealer, Q: Asks>(
@@ -128,7 +128,7 @@ fn ask_armed<R: Threads + Sync, D: Keeper, S: Sealer, Q: Asks>(
     }
 }
 
-/// Asks a member that is up: its answer; none where it stops at an armed stop.
+/// Asks a member that is up: its answer; none if it stops at an armed stop.
 pub(crate) fn meet<R: Threads + Sync, D: Keeper, S: Sealer, Q: Asks>(
     rt: &R,
     alloc: Global,

@@ -38,7 +38,7 @@ fn sums_of(validator: &Validator) -> Result<Sums, OutOfMemory>
 }
 
 impl World {
-    /// The sums of a member; none exactly where it is faulty, down or not there. No answer but want of memory is a
+    /// The sums of a member; none exactly if it is faulty, down or not there. No answer but running out of memory is a
     /// refusal.
     pub fn sums(&self, member: u32) -> Result<Option<Sums>, OutOfMemory>
         ensures { IfOk result (λ told. told ≡ sums.sums_at (slice_get self.now.posts member)) }

@@ -46,7 +46,7 @@ impl World {
             return Ok(lines);
         }
         let statement = Statement::Vote {
-            epoch: made.signed.tx.epoch,
+            epoch: made.signed.value().tx.epoch,
             tx: made.digest,
             origins,
         };

@@ -23,12 +23,12 @@ use world_names::{Directory, MakesSeals, honest_of, opening_of, stakes_of, write
 /// Why a set-up opens no world.
 #[derive(Clone, Copy, Debug, PartialEq, Eq)]
 pub enum WorldRefusal {
-    /// Its members are no committee: there are none or more than 64, or one has no stake.
+    /// Its members are not a committee: there are none or more than 64, or one has no stake.
     NoCommittee,
     OutOfMemory,
 }
 
-/// Why a line did not come to its end. Nothing is said of the world behind it.
+/// Why a line did not come to its end. Nothing is said of the world after it.
 #[derive(Clone, Copy, Debug, PartialEq, Eq)]
 pub enum WorldFault {
     /// A record was not kept or not read, and the keeper's count of faults rose.
@@ -93,7 +93,7 @@ impl World {
     }
 
     /// The world before the first line: each member of the set-up is up, and has opened epoch 0 with the set-up's
-    /// objects. `NoCommittee` comes only where the members are no committee, and the world only where they are one.
+    /// objects. `NoCommittee` comes only if the members are not a committee, and the world only if they are one.
     #[tactic(auto, using(crate::proofs::Sound::committee_whole))]
     pub fn new<S: MakesSeals>(
         alloc: Global,

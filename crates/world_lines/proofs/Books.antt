@@ -1,4 +1,4 @@
--- What the books find, and what they are behind one more row.
+-- What the books find, and what they are after one more row.
 use Rattle.std.proofs.Common.{◌≡◌, ◌∙◌, ap, sym, refl, ℕ, ◌&&◌, ◌==◌, Bool, true, false, cond, List, [], ◌∷◌, ◌++◌, length, Option, Some, None, option_map, slice_get, subst, Vec, Global}
 use Rattle.std.specs.Prelude.{bytes_eq, nat_eq, option_and_then}
 use Rattle.std.specs.Map.{lookup}

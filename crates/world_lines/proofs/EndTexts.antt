@@ -1,4 +1,4 @@
--- What the bytes of an entry are read as: an End where it is one, where its values are those of their types.
+-- What the bytes of an entry are read as: an End if it is one, when its values are those of their types.
 use Rattle.std.proofs.Common.{◌≡◌, ◌∙◌, ap, refl, ℕ, Bool, true, false, cond, List, [], ◌∷◌, length, map, Option, None, Result, Ok, Err, inl}
 use Rattle.std.specs.Prelude.{◌==◌}
 use Rattle.std.specs.List.{cons_option, filter_map}
@@ -15,7 +15,7 @@ use Rattle.protocol_spec.specs.Chain.Certificates.{read_as, read_entry}
 use Rattle.protocol_spec.specs.Chain.Words.{Each}
 use Rattle.world_lines.specs.Ends.{end_in, end_of_read, end_read, ends_read}
 
--- ---- what is spelled is read back, where it fits
+-- ---- what is encoded is read back, if it fits
 
 end_spelled : (epoch : ℕ) (e : Entry) → messages.entry.fits e → end_read epoch (messages.entry.spell e) ≡ end_in epoch e
 unfolding end_read read_entry

@@ -1,4 +1,4 @@
--- An epoch has ended exactly where the members of its accepted Ends are a quorum.
+-- An epoch has ended exactly if the members of its accepted Ends are a quorum.
 use Rattle.std.proofs.Common.{◌≡◌, ◌∙◌, ap, sym, refl, subst, inl, inr, arith, append_assoc, ℕ, suc, ◌+◌, ◌*◌, ◌<◌, ◌≤◌, Bool, true, false, cond, ◌||◌, List, [], ◌∷◌, ◌++◌, length, map, Option, Some, None, Result, Ok, Err}
 use Rattle.std.specs.Prelude.{◌⊎◌, ◌==◌, ◌&&◌, not, nat_lt, fold}
 use Rattle.std.specs.List.{cons_option, filter, list_any}
@@ -56,7 +56,7 @@ nobody_from : (member : ℕ) (stakes : List ℕ) → weight_from member stakes (
 nobody_from member [] = refl
 nobody_from member (stake ∷ stakes) = let rest = nobody_from (suc member) stakes in omega arith
 
--- nobody is no quorum
+-- an empty set of members is not a quorum
 nobody : (stakes : List ℕ) → is_quorum stakes (weight stakes []) ≡ false
 unfolding weight_of
 nobody stakes = le-ltb (2 * total_of stakes) (3 * weight_from 0 stakes (is_among [])) (let e = nobody_from 0 stakes in omega arith)
@@ -92,7 +92,7 @@ module _ (r : Rules) (opening : List Object) (epoch : ℕ) where
 
   -- ---- a sequence in which so many Ends were read
 
-  -- the epoch goes on: the members counted are those of accepted Ends, and are no quorum
+  -- the epoch goes on: the members counted are those of accepted Ends, and are not a quorum
   record IsGoing (q : Sequence) (ends : List MemberSeal) : Type 0 where
     going : q.ended ≡ false
     counted : (m : ℕ) → nat_lt m (length r.stakes) ≡ true → is_among q.counted m ≡ among ends m
@@ -258,7 +258,7 @@ module _ (r : Rules) (opening : List Object) (epoch : ℕ) where
       steps (saw r opening epoch q bytes) (behind ends (end_read epoch bytes)) entries (step q ends bytes s)
       ∙ ap (λ (es : List MemberSeal). are_an_end r.stakes r.accepts epoch es) (sym (behind_then ends (ends_read epoch entries) (end_read epoch bytes)))
 
-  -- whether the epoch has ended is said by the Ends among its entries alone
+  -- whether the epoch has ended is said only by the Ends among its entries
   pub ended_is : (entries : List (List ℕ)) → (seen r opening epoch entries).ended ≡ are_an_end r.stakes r.accepts epoch (ends_read epoch entries)
   unfolding seen
   ended_is entries = steps nothing_seen [] entries (inl (record { going = refl; counted = λ m known. refl; light = nobody r.stakes }))

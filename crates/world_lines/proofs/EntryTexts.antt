@@ -14,7 +14,7 @@ use Rattle.world_names.proofs.Pushed.{all_pushed}
 pub taken_lines : {A : Type 0} (f : A → Line) (old : List Line) (l : Line) (xs : List A) → each_pushed f (old ++ l ∷ []) xs ≡ old ++ (l ∷ map f xs)
 taken_lines f old l xs = all_pushed f (old ++ l ∷ []) xs ∙ append_assoc old (l ∷ []) (map f xs)
 
--- a refusal is said alike whatever the stakes are, and nothing goes on behind it
+-- a refusal is said alike whatever the stakes are, and nothing goes on after it
 said_alike : (stakes : List ℕ) (k : Known) (w : World) (m number : ℕ) (e : SeeRefusal) → entry_lines (setting_staked [] k) w m number (Err e) ≡ entry_lines (setting_staked stakes k) w m number (Err e)
 said_alike stakes k w m number no_see.Down = refl
 said_alike stakes k w m number (no_see.Halted first second) = refl

@@ -116,7 +116,7 @@ rises past rows o view =
     ∙ ap (λ (n : ℕ). let x : Orders = record { sequences = (map entries_of past ++ entries_of rows ∷ []) ++ [] ∷ []; epoch = n } in x) (length-append past (rows ∷ []))
     ∙ ap risen_orders view
 
--- the rows of the open epoch take the place that was made for them behind the others, and none are open
+-- the rows of the open epoch take the place that was made for them after the others, and none are open
 pub record Raised (past : List (List OrderedRow)) (rows : List OrderedRow) (new : List (List OrderedRow)) (left : List OrderedRow) : Type 0 where
   pub before : new ≡ past ++ rows ∷ []
   pub none : left ≡ []

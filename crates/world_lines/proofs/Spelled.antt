@@ -1,4 +1,4 @@
--- What lines form and order can be spelled.
+-- What lines form and order can be encoded.
 use Rattle.std.proofs.Common.{◌≡◌, ◌∙◌, ap, sym, refl, subst, suc, ℕ, ◌≤◌, List, [], ◌∷◌, length, Option, arith}
 use Rattle.digest_core.specs.declared.Digest.{Digest}
 use Rattle.quorum_core.specs.declared.signer.Signer.{Signer}

@@ -1,4 +1,4 @@
--- The lines of a turn look at the epoch alone of the member that turned, and at nothing of one that did not turn.
+-- The lines of a turn look only at the epoch of the member that turned, and at nothing of one that did not turn.
 use Rattle.std.proofs.Common.{◌≡◌, ◌∙◌, refl, ℕ, List, [], ◌∷◌, Result, Ok, Err}
 use Rattle.digest_core.specs.declared.Digest.{Digest}
 use Rattle.answer_types.specs.declared.refusals.TurnRefusal.{TurnRefusal}

@@ -19,14 +19,14 @@ use Rattle.protocol_spec.specs.Chain.Words.{where_true}
 
 -- ---- the Ends of an epoch
 
--- a member's seal on its End of this epoch, where its statement is that
+-- a member's seal on its End of this epoch, if its statement is that
 abbrev pub end_stated : ℕ → Sealed → Statement → Option MemberSeal
 end_stated epoch s (statement.Vote of_epoch tx origins) = None
 end_stated epoch s (statement.End of_epoch) = where_true (of_epoch == epoch) (record { member = s.member; seal = s.seal })
 end_stated epoch s (statement.Checkpoint of_epoch number digest) = None
 end_stated epoch s (statement.Ack of_epoch tx effects) = None
 
--- the same of an entry
+-- likewise for an entry
 abbrev pub end_in : ℕ → Entry → Option MemberSeal
 end_in epoch (entry.Cert c) = None
 end_in epoch (entry.End s) = end_stated epoch s s.statement
@@ -36,7 +36,7 @@ abbrev pub end_of_read : ℕ → Result Entry WireFault → Option MemberSeal
 end_of_read epoch (Ok e) = end_in epoch e
 end_of_read epoch (Err fault) = None
 
--- the same of the bytes of an entry, as a member reads them
+-- likewise for the bytes of an entry, as a member reads them
 unfoldable pub end_read : ℕ → List ℕ → Option MemberSeal
 end_read epoch bytes = end_of_read epoch (read_entry bytes)
 
@@ -54,7 +54,7 @@ is_accepted accepts epoch x = accepts (signers.Member x.member) (messages.statem
 abbrev pub ended_by : (Signer → List ℕ → Digest → Bool) → ℕ → List MemberSeal → List ℕ
 ended_by accepts epoch ends = map (λ (x : MemberSeal). x.member) (filter (is_accepted accepts epoch) ends)
 
--- they end the epoch where these members are a quorum, each counted once
+-- they end the epoch if these members are a quorum, each counted once
 unfoldable pub are_an_end : List ℕ → (Signer → List ℕ → Digest → Bool) → ℕ → List MemberSeal → Bool
 are_an_end stakes accepts epoch ends = is_quorum stakes (weight stakes (ended_by accepts epoch ends))
 
@@ -64,7 +64,7 @@ are_an_end stakes accepts epoch ends = is_quorum stakes (weight stakes (ended_by
 abbrev pub is_same : MemberSeal → MemberSeal → Bool
 is_same x y = (x.member == y.member) && digest_eq x.seal y.seal
 
--- one End more, where it is not there already
+-- one End more, if it is not there already
 abbrev pub with_end : List MemberSeal → Option MemberSeal → List MemberSeal
 with_end ends None = ends
 with_end ends (Some x) = if list_any (is_same x) ends then ends else ends ++ x ∷ []

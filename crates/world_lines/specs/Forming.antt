@@ -1,4 +1,4 @@
--- The certificate of members that vote alike, where the seals are given as a function. Source: Sui Lutris.
+-- The certificate of members that vote alike, with the seals given as a function. Source: Sui Lutris.
 use Rattle.std.specs.Prelude.{ℕ, List, [], ◌∷◌, map, Option}
 use Rattle.digest_core.specs.declared.Digest.{Digest}
 use Rattle.quorum_core.specs.declared.signer.Signer.{Signer}

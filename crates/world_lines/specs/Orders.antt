@@ -38,11 +38,11 @@ with_entry o e = record o { sequences = slice_set o.sequences o.epoch (open_in o
 abbrev pub risen_orders : Orders → Orders
 risen_orders o = record { sequences = o.sequences ++ [] ∷ []; epoch = o.epoch + 1 }
 
--- the spelling of an entry
+-- the encoding of an entry
 abbrev pub spelled_entry : Entry → List ℕ
 spelled_entry e = messages.entry.spell e
 
--- the open epoch has ended where a member that sees its entries sees its end
+-- the open epoch has ended if a member that sees its entries sees its end
 abbrev pub has_ended_by : Rules → Orders → Bool
 has_ended_by r o = (seen r [] o.epoch (map spelled_entry (open_in o))).ended
 
@@ -52,7 +52,7 @@ has_ended_by r o = (seen r [] o.epoch (map spelled_entry (open_in o))).ended
 abbrev pub sealed_end_by : (Signer → List ℕ → Digest) → ℕ → ℕ → Entry
 sealed_end_by seal m epoch = entry.End (record { member = m; statement = statement.End epoch; seal = seal (signers.Member m) (messages.statement.spell (statement.End epoch)) })
 
--- another epoch opens where the open one has ended
+-- another epoch opens if the open one has ended
 abbrev pub risen_by : Rules → Orders → Orders
 risen_by r o = if has_ended_by r o then risen_orders o else o
 
@@ -75,7 +75,7 @@ AreSpelled rows = Each IsSpelled rows
 abbrev pub row_bytes : OrderedRow → List ℕ
 row_bytes r = r.bytes
 
--- these are the Ends of an epoch among the rows: each test holds of one of them where it holds of one of those
+-- these are the Ends of an epoch among the rows: each test holds of one of them if it holds of one of those
 pub record AreEnds (epoch : ℕ) (rows : List OrderedRow) (ends : List MemberSeal) : Type 0 where
   pub same : (test : MemberSeal → Bool) → list_any test ends ≡ list_any test (ends_read epoch (map row_bytes rows))
 

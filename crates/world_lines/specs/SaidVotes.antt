@@ -11,11 +11,11 @@ use Rattle.world_spec.specs.Step.{last_said, vote_in}
 abbrev pub vote_by : List Said → Digest → ℕ → Option (List (Option Digest))
 vote_by said tx m = last_said (vote_in tx) m said
 
--- the same, where the member is honest
+-- the same, if the member is honest
 abbrev pub vote_if : List Said → Digest → (ℕ × Bool) → Option (List (Option Digest))
 vote_if said tx flag = if flag.1 then vote_by said tx flag.0 else None
 
--- the last vote of the lowest-numbered honest member that has one, where these members are honest
+-- the last vote of the lowest-numbered honest member that has one, if these members are honest
 abbrev pub first_vote : List Said → Digest → List Bool → Option (List (Option Digest))
 first_vote said tx honest = first_of (vote_if said tx) (enumerate_from 0 honest)
 

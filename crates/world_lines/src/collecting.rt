@@ -75,7 +75,7 @@ impl SaidBook {
     }
 
     /// What the last acknowledgements of a transaction in an epoch by these members give, as `collect` for votes; two
-    /// differ where their digests of the effects do. Takes no memory.
+    /// differ if their digests of the effects do. Takes no memory.
     pub fn collect_acks(
         &self,
         committee: &Committee,

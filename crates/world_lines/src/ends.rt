@@ -14,7 +14,7 @@ use quorum_core::{Committee, Sealer, Signer};
 use std::alloc::Global;
 use wire_bcs::{OutOfMemory, Seq, Unread};
 
-/// A member's seal on its End of this epoch, where its statement is that. Takes no memory.
+/// A member's seal on its End of this epoch, if its statement is that. Takes no memory.
 fn end_stated(epoch: u64, said: &Sealed) -> Option<MemberSeal>
     ensures { result ≡ end_stated epoch said.now said.now.statement }
 {
@@ -32,7 +32,7 @@ fn end_stated(epoch: u64, said: &Sealed) -> Option<MemberSeal>
     }
 }
 
-/// The same of an entry. Takes no memory.
+/// Likewise for an entry. Takes no memory.
 fn end_in(epoch: u64, entry: &Entry) -> Option<MemberSeal>
     ensures { result ≡ end_in epoch entry.now }
 {
@@ -42,7 +42,7 @@ fn end_in(epoch: u64, entry: &Entry) -> Option<MemberSeal>
     }
 }
 
-/// The same of the bytes of an entry, as a member reads them.
+/// Likewise for the bytes of an entry, as a member reads them.
 #[tactic(auto, unfolding(crate::specs::Ends::end_read, protocol_spec::specs::Chain::Certificates::read_entry))]
 fn end_read(alloc: Global, epoch: u64, bytes: &[u8]) -> Result<Option<MemberSeal>, OutOfMemory>
     ensures { IfOk result (λ end. end ≡ end_read epoch bytes.now) }
@@ -79,7 +79,7 @@ fn is_kept(ends: &[MemberSeal], end: &MemberSeal) -> bool
         .any(|kept| end.member == kept.member && end.seal == kept.seal)
 }
 
-/// Keeps an End, where there is one and it is not kept already; there is room.
+/// Keeps an End, if there is one and it is not kept already; there is room.
 pub(crate) fn keep_end(ends: &mut Vec<MemberSeal>, end: Option<MemberSeal>)
     requires { vec_len ends.old < vec_capacity ends.old }
     ensures { ends.new.items ≡ with_end ends.old.items end }
@@ -93,7 +93,7 @@ pub(crate) fn keep_end(ends: &mut Vec<MemberSeal>, end: Option<MemberSeal>)
     push_in_room(ends, end);
 }
 
-/// The members of accepted Ends, where these bytes are what an End says.
+/// The members of accepted Ends, if these bytes are what an End says.
 fn ended_by<S: Sealer>(
     alloc: Global,
     sealer: &S,

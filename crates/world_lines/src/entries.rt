@@ -27,7 +27,7 @@ fn ignored_text(cause: Ignore) -> EntryText
     }
 }
 
-/// The ending for what a member made of an entry; the weight of Ends is told against the stake of this committee.
+/// The ending for what a member made of an entry; the weight of Ends is measured against the stake of this committee.
 pub fn what_text(
     directory: &Directory,
     committee: &Committee,
@@ -90,7 +90,7 @@ fn add_taken(
     add_checkpoints(directory, lines, seen.built.as_slice())
 }
 
-/// The line for an entry of this number that a member refused; none where it is behind the end of the epoch, or not the
+/// The line for an entry of this number that a member refused; none if it is after the end of the epoch, or not the
 /// next.
 fn refusal_line(
     directory: &Directory,
@@ -125,8 +125,8 @@ fn refusal_line(
     Ok(Some(Line::See { member, text }))
 }
 
-/// Adds the lines for a member's answer to the entry of this number, and tells whether a member that is handed several
-/// entries goes on behind it.
+/// Adds the lines for a member's answer to the entry of this number, and says whether a member that is handed several
+/// entries goes on after it.
 #[tactic(auto, using(crate::proofs::EntryTexts::refused_lines, crate::proofs::EntryTexts::none_lines, crate::proofs::EntryTexts::refused_ends))]
 pub fn add_entry_lines(
     directory: &Directory,

@@ -143,7 +143,7 @@ fn no_turn_line(
 }
 
 /// The lines for the answer to `turn` of a member that was in this epoch before: the first line, and one for each
-/// transaction that it reverted. A turn out of epoch 2^64 - 1, which has no next one, is told as want of memory.
+/// transaction that it reverted. A turn out of epoch 2^64 - 1, which has no next one, is reported as out of memory.
 #[tactic(auto, using(crate::proofs::TurnTexts::refused_in))]
 pub fn turn_lines(
     directory: &Directory,

@@ -91,7 +91,7 @@ fn named_origins(
     Ok(origins)
 }
 
-/// The origins of a false vote: those that are named; where none are, those of the last vote of the first honest
+/// The origins of a false vote: those that are named; if none are, those of the last vote of the first honest
 /// member that has one, else none for each object.
 #[tactic(auto, using(crate::proofs::Origins::words_named, crate::proofs::Origins::voted_first, crate::proofs::Origins::none_voted))]
 pub fn false_origins(
@@ -108,7 +108,7 @@ pub fn false_origins(
     }
     match said.first_vote(honest, &made.digest) {
         Some(origins) => Seq::from_slice(directory.allocator(), origins.as_slice()),
-        None => no_origins(directory.allocator(), &made.signed.tx),
+        None => no_origins(directory.allocator(), &made.signed.value().tx),
     }
 }
 

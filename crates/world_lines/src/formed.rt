@@ -12,13 +12,13 @@ use chain_messages::Certificate;
 use indexmap::IndexMap;
 use std::alloc::Global;
 use std::marker::Model;
-use wire_bcs::{OutOfMemory, Seq};
+use wire_bcs::{Encoded, OutOfMemory, Seq};
 
-/// A certificate, under the name for which it was formed.
+/// A certificate with its encoding, under the name for which it was formed.
 #[derive(Debug, Drop)]
 pub(crate) struct FormedRow {
     name: Seq<u8>,
-    cert: Certificate,
+    cert: Encoded<Certificate>,
 }
 
 /// Notes the place of a name, which takes that of an older one. A refusal changes nothing.
@@ -35,7 +35,7 @@ fn note_name(
 }
 
 /// The certificate of the row at a place. Takes no memory.
-fn cert_at(rows: &[FormedRow], place: Option<usize>) -> Option<&Certificate>
+fn cert_at(rows: &[FormedRow], place: Option<usize>) -> Option<&Encoded<Certificate>>
     ensures { option_copied result ≡ option_map row_cert (option_and_then (slice_get rows.now) place) }
 {
     match place {
@@ -82,7 +82,7 @@ impl CertBook {
     }
 
     /// Adds a certificate that was formed for this name. A refusal changes nothing.
-    pub fn add(&mut self, name: &[u8], cert: Certificate) -> Result<(), OutOfMemory>
+    pub fn add(&mut self, name: &[u8], cert: Encoded<Certificate>) -> Result<(), OutOfMemory>
         ensures ok { OnOk result (self.new ≡ self.old ++ record { name = name.now; cert = cert } ∷ []) }
         ensures err { OnErr result (self.new ≡ self.old) }
     {
@@ -95,17 +95,17 @@ impl CertBook {
         Ok(())
     }
 
-    /// The certificate that was formed last for this name; none exactly where none was. Takes no memory.
-    pub fn last_named(&self, name: &[u8]) -> Option<&Certificate>
+    /// The certificate that was formed last for this name; none exactly if none was. Takes no memory.
+    pub fn last_named(&self, name: &[u8]) -> Option<&Encoded<Certificate>>
         ensures { option_copied result ≡ option_map cert_in (last_where (λ (f : Formed). bytes_eq f.name name.now) self.now) }
     {
         let place = self.places.get(name).copied();
         cert_at(self.rows.as_slice(), place)
     }
 
-    /// The certificate at a place, counted from 0 in the order of forming; none exactly where none stands there. Takes no
+    /// The certificate at a place, counted from 0 in the order of forming; none exactly if none stands there. Takes no
     /// memory.
-    pub fn at(&self, place: usize) -> Option<&Certificate>
+    pub fn at(&self, place: usize) -> Option<&Encoded<Certificate>>
         ensures { option_copied result ≡ option_map cert_in (slice_get self.now place) }
     {
         cert_at(self.rows.as_slice(), Some(place))

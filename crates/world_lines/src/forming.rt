@@ -16,10 +16,10 @@ use std::alloc::Global;
 use wire_bcs::{Duplicate, OutOfMemory, Seq};
 use world_names::{MadeTx, MakesSeals};
 
-/// The greatest length of a list that can be spelled.
+/// The greatest length of a list that can be encoded.
 const LONGEST_LIST: u64 = 2147483647;
 
-/// The bytes that a voter for a transaction seals. More than 2147483647 origins have no spelling, which is told as want
+/// The bytes that a voter for a transaction seals. More than 2147483647 origins have no encoding, which is reported as out
 /// of memory.
 #[tactic(auto, using(crate::proofs::Spelled::vote_short))]
 fn vote_bytes(
@@ -33,7 +33,7 @@ fn vote_bytes(
         return Err(OutOfMemory);
     }
     let vote = Statement::Vote {
-        epoch: made.signed.tx.epoch,
+        epoch: made.signed.value().tx.epoch,
         tx: made.digest,
         origins: Seq::from_slice(alloc, origins)?,
     };
@@ -68,7 +68,7 @@ fn seals_of<S: MakesSeals>(
 }
 
 /// The certificate of these members' votes for a transaction, which name these origins: each member seals the same
-/// bytes. Origins that are too many to be spelled, more than 2147483647, are told as want of memory.
+/// bytes. Origins that are too many to be encoded, more than 2147483647, are reported as out of memory.
 pub fn certificate<S: MakesSeals>(
     alloc: Global,
     sealer: &S,
@@ -81,13 +81,13 @@ pub fn certificate<S: MakesSeals>(
     let bytes = vote_bytes(alloc, made, origins)?;
     let seals = seals_of(alloc, sealer, bytes.as_slice(), members)?;
     Ok(Certificate {
-        tx: made.signed.tx.copy()?,
+        tx: made.signed.value().tx.copy()?,
         origins: Seq::from_slice(alloc, origins)?,
         seals: Seq::from_vec(seals),
     })
 }
 
-/// The origins that a member voted for last; none where it made no such vote.
+/// The origins that a member voted for last; none if it made no such vote.
 fn voted_origins(
     alloc: Global,
     said: &SaidBook,
@@ -102,7 +102,7 @@ fn voted_origins(
     }
 }
 
-/// The origins that the first of the members voted for; none where there is no member or no vote.
+/// The origins that the first of the members voted for; none if there is no member or no vote.
 #[tactic(auto, using(crate::proofs::Spelled::first_of_none, crate::proofs::Spelled::first_of_some))]
 fn first_origins(
     alloc: Global,
@@ -118,8 +118,8 @@ fn first_origins(
     }
 }
 
-/// The certificate of the votes of these members, which can be spelled. Lists that are too long for that count as
-/// want of memory.
+/// The certificate of the votes of these members, which can be encoded. Lists that are too long for that count as
+/// running out of memory.
 #[tactic(auto, using(crate::proofs::Spelled::certificate_short))]
 pub fn certify<S: MakesSeals>(
     alloc: Global,

@@ -18,14 +18,14 @@ use wire_bcs::{OutOfMemory, Seq};
 /// The bytes of an entry that no record can keep, and more.
 const TOO_LONG: u64 = 1 << 31;
 
-/// An entry of a sequence, spelled once for all members. What it is stands in contracts alone.
+/// An entry of a sequence, encoded once for all members. What it is stands only in contracts.
 #[derive(Drop)]
 pub(crate) struct OrderedRow {
     entry: Snapshot<Entry>,
     bytes: Seq<u8>,
 }
 
-/// An entry, spelled. One of 2^31 bytes, more than any record can keep, is told as want of memory.
+/// An entry, encoded. One of 2^31 bytes, more than any record can keep, is reported as out of memory.
 fn spelled(alloc: Global, entry: &Entry) -> Result<OrderedRow, OutOfMemory>
     requires { codecs.entry.short entry.now }
     ensures spelled { IfOk result IsSpelled }
@@ -172,7 +172,7 @@ impl OrderBook {
         }
     }
 
-    /// How many entries an epoch's sequence has; none where the epoch has not come. Takes no memory.
+    /// How many entries an epoch's sequence has; none if the epoch has not come. Takes no memory.
     #[tactic(auto, using(crate::proofs::Ordering::many_in))]
     pub fn count(&self, epoch: u64) -> u64
         ensures { result ≡ length (entries_at self.now.sequences epoch) }
@@ -180,7 +180,7 @@ impl OrderBook {
         self.rows(epoch).len() as u64
     }
 
-    /// The bytes of an epoch's entry of this number; none exactly where there is no such entry. Takes no memory.
+    /// The bytes of an epoch's entry of this number; none exactly if there is no such entry. Takes no memory.
     #[tactic(auto, using(crate::proofs::Ordering::bytes_in))]
     pub fn bytes(&self, epoch: u64, number: u64) -> Option<&Seq<u8>>
         ensures { option_copied result ≡ option_map spelled_entry (slice_get (entries_at self.now.sequences epoch) number) }

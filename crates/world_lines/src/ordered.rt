@@ -1,4 +1,4 @@
-//! Lines that order entries, the sealed End of a member, and the epochs that open behind Ends.
+//! Lines that order entries, the sealed End of a member, and the epochs that open after Ends.
 
 ghost use Rattle.std.specs.Prelude.{◌≡◌, ◌⊎◌, ℕ, ◌∷◌, [], IfOk, OnErr, OnOk, Option};
 ghost use Rattle.chain_messages.specs.Messages as codecs;
@@ -56,8 +56,8 @@ pub fn sealed_end<S: MakesSeals>(
     }))
 }
 
-/// Orders an entry at the end of the open epoch's sequence, and opens another epoch where the open one has ended then, to
-/// members of this committee that accept these seals. Where memory is refused no epoch opens, and the book is as before or
+/// Orders an entry at the end of the open epoch's sequence, and opens another epoch if the open one has ended then, to
+/// members of this committee that accept these seals. If memory is refused no epoch opens, and the book is as before or
 /// has the entry.
 pub fn order_and_rise<S: Sealer>(
     order: &mut OrderBook,

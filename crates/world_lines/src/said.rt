@@ -22,7 +22,7 @@ pub(crate) struct SaidRow {
     statement: Statement,
 }
 
-/// Puts an item behind the others; there is room.
+/// Puts an item after the others; there is room.
 pub(crate) fn push_in_room<T: Drop>(all: &mut Vec<T>, item: T)
     requires { vec_len all.old < vec_capacity all.old }
     ensures { all.new.items ≡ all.old.items ++ item ∷ [] }
@@ -173,7 +173,7 @@ impl SaidBook {
         origins_at(self.rows.as_slice(), place)
     }
 
-    /// The origins of the member's last vote for the transaction; none exactly where it stated no such vote. Takes no
+    /// The origins of the member's last vote for the transaction; none exactly if it stated no such vote. Takes no
     /// memory.
     pub fn last_vote(&self, member: u32, tx: &Digest) -> Option<&Seq<Option<Digest>>>
         ensures { option_copied result ≡ vote_by self.now tx.now member }
@@ -181,7 +181,7 @@ impl SaidBook {
         self.vote_of(member as u64, tx)
     }
 
-    /// The epoch of the member's last End; none exactly where it stated none. Takes no memory.
+    /// The epoch of the member's last End; none exactly if it stated none. Takes no memory.
     pub fn last_end(&self, member: u32) -> Option<u64>
         ensures { result ≡ last_said end_in member self.now }
     {
@@ -189,7 +189,7 @@ impl SaidBook {
         end_at(self.rows.as_slice(), place)
     }
 
-    /// The digest of the effects in the member's last acknowledgement of the transaction in the epoch; none exactly where
+    /// The digest of the effects in the member's last acknowledgement of the transaction in the epoch; none exactly if
     /// it stated no such acknowledgement. Takes no memory.
     pub fn last_ack(&self, member: u32, epoch: u64, tx: &Digest) -> Option<&Digest>
         ensures { option_copied result ≡ last_said (ack_in epoch tx.now) member self.now }
@@ -198,7 +198,7 @@ impl SaidBook {
         effects_at(self.rows.as_slice(), place)
     }
 
-    /// The origins of the member's last vote for the transaction, where it is honest. Takes no memory.
+    /// The origins of the member's last vote for the transaction, if it is honest. Takes no memory.
     fn vote_if(&self, member: u64, honest: bool, tx: &Digest) -> Option<&Seq<Option<Digest>>>
         ensures { option_copied result ≡ vote_if self.now tx.now (member, honest) }
     {
@@ -208,8 +208,8 @@ impl SaidBook {
         None
     }
 
-    /// The origins of the last vote of the lowest-numbered honest member that has one, where a flag says of each
-    /// member, from 0, whether it is honest; none exactly where none has one. Takes no memory.
+    /// The origins of the last vote of the lowest-numbered honest member that has one, if a flag says of each
+    /// member, from 0, whether it is honest; none exactly if none has one. Takes no memory.
     pub fn first_vote(&self, honest: &[bool], tx: &Digest) -> Option<&Seq<Option<Digest>>>
         ensures { option_copied result ≡ first_vote self.now tx.now honest.now }
     {

@@ -15,7 +15,7 @@ ghost use Rattle.world_spec.specs.Step.{ack_in, certificate_of, honest_vote, las
 ghost use Rattle.world_lines.specs.Forming.{certificate_by};
 ghost use Rattle.world_lines.specs.SaidVotes.{first_vote, flags_of};
 
-/// Where the lists of a world are those of the books, and the seals are its setting's: the first honest vote, what
+/// If the lists of a world are those of the books, and the seals are its setting's: the first honest vote, what
 /// collecting votes and acknowledgements gives, the last certificate of a name, and the certificate of votes are the
 /// definition's.
 pub fn said_in_a_world()

@@ -27,7 +27,7 @@ pub(crate) struct AckKey {
     tx: Digest,
 }
 
-/// Puts a place under a key, where it takes that of an older one. A refusal changes nothing.
+/// Puts a place under a key, if it takes that of an older one. A refusal changes nothing.
 fn put<K: Hash + Eq + Drop>(
     places: &mut IndexMap<K, usize>,
     key: K,

@@ -57,7 +57,7 @@ pub fn tx_names(directory: &Directory, txs: &[Digest]) -> Result<Seq<Seq<u8>>, O
     Ok(names)
 }
 
-/// The name of an origin; none where the epoch opened with the version.
+/// The name of an origin; none if the epoch opened with the version.
 fn origin_name(
     directory: &Directory,
     origin: &Option<Digest>,

@@ -1,4 +1,4 @@
--- A transaction that is made can be spelled where its lists are as short as BCS can spell.
+-- A transaction that is made can be encoded if its lists are as short as BCS can encode.
 use Rattle.std.proofs.Common.{◌≡◌, false, arith}
 use Rattle.chain_types.specs.declared.transactions.Transaction.{Transaction}
 use Rattle.chain_types.specs.Transactions.{transaction}

@@ -10,7 +10,7 @@ all_pushed f ys (x ∷ xs) = all_pushed f (ys ++ f x ∷ []) xs ∙ append_assoc
 pub from_none : {A B : Type 0} → (f : A → B) (xs : List A) → each_pushed f [] xs ≡ map f xs
 from_none f xs = all_pushed f [] xs
 
--- three lists behind a first item
+-- three lists after a first item
 pub three_behind : {A B C D : Type 0} → (f : A → D) (g : B → D) (h : C → D) (d : D) (xs : List A) (ys : List B) (zs : List C)
     → each_pushed h (each_pushed g (each_pushed f (d ∷ []) xs) ys) zs ≡ d ∷ (map f xs ++ (map g ys ++ map h zs))
 three_behind f g h d xs ys zs =

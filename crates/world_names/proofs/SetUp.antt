@@ -7,7 +7,7 @@ use Rattle.world_spec.specs.Setting.{Name, Thing, User, things_from, owners_of, 
 use Rattle.scene_spec.specs.Known.{Known, known_by}
 use Rattle.world_names.specs.SetUp.{with_all, with_setup}
 
--- what more lines name behind these things and users
+-- what more lines name after these things and users
 abbrev behind : Known → List Setup → Known
 behind k lines = record k { things = k.things ++ things_from (length k.things) lines; users = k.users ++ owners_of lines }
 

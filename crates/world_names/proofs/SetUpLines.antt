@@ -31,7 +31,7 @@ flags_go_on flags (line.Writers n ∷ lines) = flags_go_on flags lines
 pub all_flags : (lines : List Setup) → fold with_flag [] lines ≡ honest_of lines
 all_flags lines = flags_go_on [] lines
 
--- one more object, and those behind it
+-- one more object, and those after it
 object_more : (objects : List Object) (o : Object) (rest : ℕ → List Object)
     → (objects ++ o ∷ []) ++ rest (length (objects ++ o ∷ [])) ≡ objects ++ o ∷ rest (length objects + 1)
 object_more objects o rest =

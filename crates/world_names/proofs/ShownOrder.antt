@@ -27,12 +27,12 @@ later_not_same n m h = grind arith
 later : (n m : ℕ) → m < n → nat_cmp n m ≡ Greater
 later n m h = ap (λ b. cond b Less (cond (n == m) Equal Greater)) (later_not_below n m h) ∙ ap (λ b. cond b Equal Greater) (later_not_same n m h)
 
--- ---- the order of places is that of ranks, and behind those of one rank
+-- ---- the order of places is that of ranks, and after those of one rank
 
 abbrev by_tests : Bool → Bool → Ordering
 by_tests below same = cond below Less (cond same Equal Greater)
 
--- behind a place of one rank, before one of a later rank
+-- after a place of one rank, before one of a later rank
 go_before : {A : Type 0} → (bg sg bp sp bn sn : Bool) → (bg && sg) ≡ false → (bp && sp) ≡ false → (x y z : A)
     → match_ordering (ordering_then (ordering_then (ordering_then (by_tests bg sg) (by_tests bp sp)) (by_tests bn sn)) Greater) x y z ≡ cond (cond (sg && sp) bn (cond sg bp bg)) x z
 go_before true true bp sp bn sn h i x y z = absurd (cc)

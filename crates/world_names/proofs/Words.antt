@@ -30,7 +30,7 @@ pub first_turned : (bytes : List ℕ) (d : ℕ) → 0 < length bytes → slice_s
 first_turned [] d h = absurd (omega arith)
 first_turned (b ∷ bytes) d h = refl
 
--- the id of a thing that was found, and zeros where none was
+-- the id of a thing that was found, and zeros if none was
 pub at_thing : (o : Option Thing) (id : ObjectId) → Some id ≡ option_map (λ (t : Thing). t.id) o → id ≡ thing_at o
 at_thing None id h = absurd (cc)
 at_thing (Some t) id h = cc

@@ -6,12 +6,12 @@ use Rattle.world_spec.specs.Names.{drawn_as}
 use Rattle.world_names.specs.declared.rows.DrawnRow.{DrawnRow}
 use Rattle.world_names.specs.Rows.{drawn_of}
 
--- one more, where there is one
+-- one more, if there is one
 abbrev pub with_some : {A : Type 0} → List A → Option A → List A
 with_some xs None = xs
 with_some xs (Some x) = xs ++ x ∷ []
 
--- what each word says, behind what is there
+-- what each word says, after what is there
 abbrev pub all_some : {A W : Type 0} → (W → Option A) → List A → List W → List A
 all_some says xs words = fold (λ done word. with_some done (says word)) xs words
 

@@ -4,7 +4,7 @@ use Rattle.world_names.specs.declared.rows.MadeTx.{MadeTx}
 use Rattle.world_names.specs.declared.making.MakeRefusal.{MakeRefusal}
 use Rattle.world_names.specs.declared.making.MakeRefusal.TheVariants as refusal
 
--- one is made where no list is too long, and said to be too long where one is
+-- one is made if no list is too long, and said to be too long if one is
 abbrev pub Says : Result MadeTx MakeRefusal → Bool → Type 0
 Says (Ok t) long = long ≡ false
 Says (Err refusal.TooLong) long = long ≡ true

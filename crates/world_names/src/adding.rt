@@ -126,7 +126,7 @@ fn drawn_by(alloc: Global, tx: &Digest, commands: &[Command]) -> Result<Vec<Draw
 }
 
 impl Directory {
-    /// The id that a word draws, where it names a created object. Takes no memory.
+    /// The id that a word draws, if it names a created object. Takes no memory.
     fn drawn_word(&self, word: &ObjWord) -> Option<DrawnRow>
         ensures { option_map drawn_of result ≡ drawn_word (world_with self.now) word.now }
     {
@@ -139,7 +139,7 @@ impl Directory {
         }
     }
 
-    /// The id that an input's word draws, where it names a created object. Takes no memory.
+    /// The id that an input's word draws, if it names a created object. Takes no memory.
     fn drawn_input(&self, word: &InputWord) -> Option<DrawnRow>
         ensures { option_map drawn_of result ≡ drawn_input (world_with self.now) word.now }
     {
@@ -169,7 +169,7 @@ impl Directory {
         ensures { IfOk result (λ rows. map drawn_of rows.items ≡ drawn_words self.now (line_of line.now).gas (line_of line.now).inputs ++ drawn_by made.now.digest made.now.signed.tx) }
     {
         let mut rows = self.drawn_words(line)?;
-        let commands = made.signed.tx.commands.as_slice();
+        let commands = made.signed.value().tx.commands.as_slice();
         let mut more = drawn_by(self.alloc, &made.digest, commands)?;
         rows.append(&mut more)?;
         Ok(rows)

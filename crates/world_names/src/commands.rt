@@ -37,7 +37,7 @@ fn arguments_of(alloc: Global, words: &[ArgWord]) -> Result<Seq<Argument>, OutOf
     Ok(Seq::from_vec(args))
 }
 
-/// The argument of the first word; the gas coin where there is none. Takes no memory.
+/// The argument of the first word; the gas coin if there is none. Takes no memory.
 fn first_word(words: &[ArgWord]) -> Argument
     ensures { result ≡ first_word words.now }
 {
@@ -47,7 +47,7 @@ fn first_word(words: &[ArgWord]) -> Argument
     }
 }
 
-/// The arguments of the words behind the first.
+/// The arguments of the words after the first.
 fn words_behind(alloc: Global, words: &[ArgWord]) -> Result<Seq<Argument>, OutOfMemory>
     ensures { IfOk result (λ args. args ≡ words_behind words.now) }
 {
@@ -57,7 +57,7 @@ fn words_behind(alloc: Global, words: &[ArgWord]) -> Result<Seq<Argument>, OutOf
     }
 }
 
-/// The argument of the last word; this one where there is none. Takes no memory.
+/// The argument of the last word; this one if there is none. Takes no memory.
 fn last_after(before: Argument, words: &[ArgWord]) -> Argument
     ensures { result ≡ last_after before words.now }
 {
@@ -68,7 +68,7 @@ fn last_after(before: Argument, words: &[ArgWord]) -> Argument
     last
 }
 
-/// The argument of the last word; the gas coin where there is none. Takes no memory.
+/// The argument of the last word; the gas coin if there is none. Takes no memory.
 #[tactic(auto, using(crate::proofs::Words::last_is))]
 fn last_word(words: &[ArgWord]) -> Argument
     ensures { result ≡ last_word words.now }
@@ -87,7 +87,7 @@ fn words_before(alloc: Global, words: &[ArgWord]) -> Result<Seq<Argument>, OutOf
     arguments_of(alloc, &words[..words.len() - 1])
 }
 
-/// The kind of this number; a coin where none has it. Takes no memory.
+/// The kind of this number; a coin if none has it. Takes no memory.
 fn kind_of(number: u8) -> Kind
     ensures { result ≡ kind_or (slice_get kinds number) }
 {

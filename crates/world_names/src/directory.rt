@@ -112,12 +112,14 @@ impl Directory {
         Ok(())
     }
 
-    /// The allocator that the directory takes its memory from.
-    pub fn allocator(&self) -> Global {
+    /// The allocator that the directory takes its memory from. There is only one.
+    pub fn allocator(&self) -> Global
+        ensures { (other : _) → result ≡ other }
+    {
         self.alloc
     }
 
-    /// The transaction of this name; none exactly where no line made one. Takes no memory.
+    /// The transaction of this name; none exactly if no line made one. Takes no memory.
     pub fn made(&self, name: &[u8]) -> Option<&MadeTx>
         ensures { option_map made_as (option_copied result) ≡ made_named (world_with self.now) name.now }
     {
@@ -134,7 +136,7 @@ impl Directory {
         }
     }
 
-    /// The id of the set-up's first thing of this name; none exactly where there is none. Takes no memory.
+    /// The id of the set-up's first thing of this name; none exactly if there is none. Takes no memory.
     pub fn thing_id(&self, name: &[u8]) -> Option<ObjectId>
         ensures { result ≡ option_map (λ (t : Thing). t.id) (find (λ (t : Thing). bytes_eq t.name name.now) self.now.things) }
     {

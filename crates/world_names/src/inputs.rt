@@ -19,7 +19,7 @@ use wire_bcs::{OutOfMemory, Seq};
 pub trait HeldDigests {
     ghost held: { Self → Key → Option Sum };
 
-    /// The digest of a version that is held; none exactly where none is. Takes no memory.
+    /// The digest of a version that is held; none exactly if none is. Takes no memory.
     fn held_digest(&self, key: &ObjectKey) -> Option<Digest>
         ensures { result ≡ held self.now key.now };
 }
@@ -41,14 +41,14 @@ fn spoil(digest: &Digest) -> Digest
     Digest(bytes)
 }
 
-/// The digest, spoiled where that is asked for. Takes no memory.
+/// The digest, spoiled if that is asked for. Takes no memory.
 pub fn spoiled_if(spoiled: bool, digest: &Digest) -> Digest
     ensures { result ≡ spoiled_if spoiled digest.now }
 {
     if spoiled { spoil(digest) } else { *digest }
 }
 
-/// The id of the set-up's thing of this name; zeros where there is none. Takes no memory.
+/// The id of the set-up's thing of this name; zeros if there is none. Takes no memory.
 fn thing_at(directory: &Directory, name: &[u8]) -> ObjectId
     ensures { result ≡ thing_at (find (λ (t : Thing). bytes_eq t.name name.now) directory.now.things) }
 {
@@ -58,7 +58,7 @@ fn thing_at(directory: &Directory, name: &[u8]) -> ObjectId
     }
 }
 
-/// The id that a word names; zeros where no set-up line has the name. Takes no memory.
+/// The id that a word names; zeros if no set-up line has the name. Takes no memory.
 fn id_of(directory: &Directory, word: &ObjWord) -> ObjectId
     ensures { result ≡ word_id directory.now word.now }
 {

@@ -10,7 +10,7 @@
 //!
 //! [`make`] turns the words of a `tx` line into a signed transaction: the objects are named by a [`Directory`], the
 //! digests of versions are those that are held ([`HeldDigests`]), and the seal is the sender's ([`MakesSeals`]). A
-//! mark behind a version or the sender spoils the digest or the seal.
+//! mark after a version or the sender spoils the digest or the seal.
 #![tactic(auto)]
 
 mod adding;

@@ -9,14 +9,14 @@ use crate::rows::MadeTx;
 use digest_core::Digest;
 
 impl Directory {
-    /// The transaction of this digest, of the first line that made it; none exactly where no line did. Takes no memory.
+    /// The transaction of this digest, of the first line that made it; none exactly if no line did. Takes no memory.
     pub fn made_of(&self, tx: &Digest) -> Option<&MadeTx>
         ensures { option_map made_as (option_copied result) ≡ made_of self.now tx.now }
     {
         self.txs.find(tx)
     }
 
-    /// The transaction of the line at this place, counted from 0; none exactly where no line stands there. Takes no
+    /// The transaction of the line at this place, counted from 0; none exactly if no line stands there. Takes no
     /// memory.
     pub fn made_at(&self, place: usize) -> Option<&MadeTx>
         ensures { option_map made_as (option_copied result) ≡ made_at self.now place }

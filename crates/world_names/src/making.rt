@@ -18,7 +18,7 @@ use chain_types::{Address, SignedTx, Transaction, encode_tx, has_long_list};
 use digest_core::{Digest, TAG_TRANSACTION, address_of, digest_of};
 use quorum_core::{KeyedSeal, Sealer, Signer};
 use std::alloc::Global;
-use wire_bcs::{OutOfMemory, Seq};
+use wire_bcs::{Encoded, OutOfMemory, Seq};
 
 /// A sealer whose seals are determined by the signer and the bytes.
 pub trait MakesSeals: Sealer {
@@ -40,7 +40,7 @@ impl MakesSeals for KeyedSeal {
 /// Why a line makes no transaction.
 #[derive(Clone, Copy, Debug, PartialEq, Eq)]
 pub enum MakeRefusal {
-    /// One of its lists has more than 2147483647 items, so the transaction has no spelling.
+    /// One of its lists has more than 2147483647 items, so the transaction has no encoding.
     TooLong,
     OutOfMemory,
 }
@@ -64,7 +64,7 @@ fn transaction_of<H: HeldDigests>(
     })
 }
 
-/// The digest and the seal of a transaction that can be spelled.
+/// The digest and the seal of a transaction that can be encoded.
 #[tactic(auto, unfolding(chain_types::specs::Digests::transaction_digest, chain_types::specs::Transactions::signed, wire_bcs::specs::Digests::digest))]
 fn sign<S: MakesSeals>(
     alloc: Global,
@@ -77,21 +77,20 @@ fn sign<S: MakesSeals>(
     ensures made { IfOk result (λ t. made_as t ≡ made_by (S.made sealer.now) name.now spoiled tx) }
     ensures short { IfOk result (λ t. codecs.signed.short t.signed) }
 {
-    let bytes = encode_tx(alloc, &tx)?;
+    let mut bytes = encode_tx(alloc, &tx)?;
     let digest = digest_of(TAG_TRANSACTION, bytes.as_slice());
-    let seal = sealer.make_seal(&Signer::User(tx.sender.0), bytes.as_slice());
+    let made = sealer.make_seal(&Signer::User(tx.sender.0), bytes.as_slice());
+    let seal = spoiled_if(spoiled, &made);
+    bytes.extend(&seal.0)?;
     Ok(MadeTx {
         name: Seq::from_slice(alloc, name)?,
         digest,
-        signed: SignedTx {
-            tx,
-            seal: spoiled_if(spoiled, &seal),
-        },
+        signed: Encoded::of(SignedTx { tx, seal }, bytes),
     })
 }
 
-/// The transaction that a line makes, by the digests that are held and the sealer's seals; it can be spelled.
-/// `TooLong` comes exactly where one of its lists is too long for that.
+/// The transaction that a line makes, by the digests that are held and the sealer's seals; it can be encoded.
+/// `TooLong` comes exactly if one of its lists is too long for that.
 #[tactic(auto, using(crate::proofs::MadeSpelled::short_lists))]
 pub fn make<H: HeldDigests, S: MakesSeals>(
     alloc: Global,

@@ -7,14 +7,14 @@ ghost use Rattle.world_names.specs.Rows.{drawn_of};
 use chain_types::{ObjectId, SignedTx};
 use digest_core::{Digest, created_id};
 use tables::{Keyed, Named};
-use wire_bcs::Seq;
+use wire_bcs::{Encoded, Seq};
 
-/// A transaction by the name of its line.
+/// A transaction by the name of its line, with its encoding, which each vote for it takes.
 #[derive(Debug, Drop)]
 pub struct MadeTx {
     pub name: Seq<u8>,
     pub digest: Digest,
-    pub signed: SignedTx,
+    pub signed: Encoded<SignedTx>,
 }
 
 /// A set-up object's name and id.

@@ -48,7 +48,7 @@ impl Directory {
         }
     }
 
-    /// The rank of an object that is no set-up object. Takes no memory.
+    /// The rank of an object that is not a set-up object. Takes no memory.
     fn drawn_rank(&self, drawn: Option<&DrawnRow>) -> Rank
         ensures { rank_as result ≡ ((1, (drawn_rank (world_with self.now) (option_map drawn_of (option_copied drawn.entry))).0), (drawn_rank (world_with self.now) (option_map drawn_of (option_copied drawn.entry))).1) }
     {
@@ -80,7 +80,7 @@ impl Directory {
         }
     }
 
-    /// Puts an object into its place behind those that are there.
+    /// Puts an object into its place after those that are there.
     fn show(&self, shown: &mut BTreeMap<Place, Object>, object: &Object) -> Result<(), OutOfMemory>
         ensures { OnOk result (shown.new.entries ≡ with_shown self.now shown.old.entries object.now) }
     {

@@ -123,7 +123,7 @@ signed_read r (acks tx) = []
 
 -- ---- delivered, formed, certified
 
--- the certificates that a line delivers, also where the call is refused or the entry is ignored
+-- the certificates that a line delivers, also if the call is refused or the entry is ignored
 unfoldable pub delivered : Setting → World → Event → List Certificate
 delivered s w e = flat_map (certificates_read s.rules) (calls_of s w e)
 
@@ -170,7 +170,7 @@ is_faulty_in honest m = is_faulty_one (slice_get honest m)
 abbrev pub FewFaulty : Setting → Type 0
 FewFaulty s = 3 * weight_of s.rules.stakes (is_faulty_in s.honest) < total_of s.rules.stakes
 
--- the statement is made before, where the seal is an honest member's and accepted
+-- the statement is made before, if the seal is an honest member's and accepted
 abbrev pub IsStated : Setting → World → ℕ → Statement → Digest → Type 0
 IsStated s w m st seal = is_honest w m ≡ true → accepts_statement s.rules m st seal ≡ true → Has w.said (said_by m st)
 

@@ -14,12 +14,12 @@ use Rattle.world_spec.specs.World.{Seat, World, new_world, member_at}
 use Rattle.world_spec.specs.Step.{happens}
 use Rattle.world_spec.specs.Report.{lines_of}
 
--- the world behind these lines
+-- the world after these lines
 abbrev pub run : Setting → List Event → World → World
 run s [] w = w
 run s (e ∷ events) w = run s events (happens s w e)
 
--- the lines of the report, each event's behind those of the one before
+-- the lines of the report, each event's after those of the one before
 abbrev pub report_from : Setting → List Event → World → List Line
 report_from s [] w = []
 report_from s (e ∷ events) w = lines_of s w e ++ report_from s events (happens s w e)
@@ -35,11 +35,11 @@ abbrev pub records_of : Option Seat → List Record
 records_of None = []
 records_of (Some seat) = seat.records
 
--- a member's journal: the spellings of its records
+-- a member's journal: the encodings of its records
 unfoldable pub journal : Setting → List Event → ℕ → List (List ℕ)
 journal s events m = map journals.journal_record.spell (records_of (slice_get (world_after s events).seats m))
 
--- what a summary tells of a member: the transactions in the checkpoints that it has built, the number of
+-- what a summary says of a member: the transactions in the checkpoints that it has built, the number of
 -- these, its live objects, and their sum in currency 0
 pub record Sums : Type 0 where
   pub transactions : ℕ

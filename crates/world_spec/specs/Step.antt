@@ -18,15 +18,16 @@ use Rattle.chain_messages.specs.Messages as messages
 use Rattle.protocol_spec.specs.Chain.Words.{first_some, first_of, where_true}
 use Rattle.protocol_spec.specs.Chain.Tests.{origins_eq}
 use Rattle.protocol_spec.specs.Chain.Keys.{objects_of}
+use Rattle.protocol_spec.specs.Chain.Certificates.{Rules}
 use Rattle.protocol_spec.specs.Chain.Collecting.{Collected, lacks, short, differ, whole, collected}
 use Rattle.protocol_spec.specs.Member.Versions.{Execution, execution_of}
 use Rattle.protocol_spec.specs.Member.Sequence.{seen}
 use Rattle.protocol_spec.specs.Member.Member.{Member}
 use Rattle.protocol_spec.specs.Member.Calls.{votes, holds, runs, closes, ends, turns, acks}
 use Rattle.world_spec.specs.Setting.{Name, Setting, member_seal}
-use Rattle.world_spec.specs.World.{Seat, Said, Made, World, said_by, with_seat, called_in, is_honest, member_at, says_first, entries_at, sees_on, list_or_none}
+use Rattle.world_spec.specs.World.{Seat, Said, Made, World, WorldOf, Seating, arms, starts, said_by, with_seat, called_over, honest_in, seat_honest, member_over, says_over, by_records, entries_at, sees_over, list_or_none}
 use Rattle.world_spec.specs.Names.{made_named, cert_named}
-use Rattle.world_spec.specs.Making.{made_by_line, digest_named, spoiled_if, digest_or_zero}
+use Rattle.world_spec.specs.Making.{made_over, digest_named, spoiled_if, digest_or_zero}
 
 -- ---- statements
 
@@ -57,12 +58,12 @@ abbrev pub last_said : {A : Type 0} → (Statement → Option A) → ℕ → Lis
 last_said reads m [] = None
 last_said reads m (x ∷ xs) = first_some (last_said reads m xs ∷ says_of reads m x ∷ [])
 
-abbrev pub says : World → ℕ → Statement → World
+abbrev pub says : {S : Type 0} → WorldOf S → ℕ → Statement → WorldOf S
 says w m st = record w { said = w.said ++ said_by m st ∷ [] }
 
 -- ---- fvote
 
-abbrev pub origin_word : World → Option Name → Option Digest
+abbrev pub origin_word : {S : Type 0} → WorldOf S → Option Name → Option Digest
 origin_word w None = None
 origin_word w (Some name) = Some (digest_named w name)
 
@@ -74,25 +75,34 @@ origins_or none None = none
 origins_or none (Some origins) = origins
 
 -- the last vote of the lowest-numbered honest member that has one
-abbrev pub honest_vote : World → Digest → (ℕ × Seat) → Option (List (Option Digest))
-honest_vote w tx seat = if seat.1.honest then last_said (vote_in tx) seat.0 w.said else None
+abbrev pub vote_by : {S : Type 0} → (S → Bool) → WorldOf S → Digest → (ℕ × S) → Option (List (Option Digest))
+vote_by honest w tx seat = if honest seat.1 then last_said (vote_in tx) seat.0 w.said else None
 
--- the named origins, and where none are named those of an honest member's vote, else none for each object
+abbrev pub honest_vote : World → Digest → (ℕ × Seat) → Option (List (Option Digest))
+honest_vote w tx seat = vote_by seat_honest w tx seat
+
+-- the named origins, and if none are named those of an honest member's vote, else none for each object
+abbrev pub origins_by : {S : Type 0} → (S → Bool) → WorldOf S → Made → List (Option Name) → List (Option Digest)
+origins_by honest w t [] = origins_or (no_origins t.signed.tx) (first_of (vote_by honest w t.digest) (enumerate_from 0 w.seats))
+origins_by honest w t (word ∷ words) = map (origin_word w) (word ∷ words)
+
 abbrev pub fvote_origins : World → Made → List (Option Name) → List (Option Digest)
-fvote_origins w t [] = origins_or (no_origins t.signed.tx) (first_of (honest_vote w t.digest) (enumerate_from 0 w.seats))
-fvote_origins w t (word ∷ words) = map (origin_word w) (word ∷ words)
+fvote_origins w t words = origins_by seat_honest w t words
+
+abbrev pub fvoted_by : {S : Type 0} → (S → Bool) → WorldOf S → ℕ → List (Option Name) → Option Made → WorldOf S
+fvoted_by honest w m words None = w
+fvoted_by honest w m words (Some t) = if honest_in honest w m then w else says w m (statement.Vote t.signed.tx.epoch t.digest (origins_by honest w t words))
 
 abbrev pub fvoted : World → ℕ → List (Option Name) → Option Made → World
-fvoted w m words None = w
-fvoted w m words (Some t) = if is_honest w m then w else says w m (statement.Vote t.signed.tx.epoch t.digest (fvote_origins w t words))
+fvoted w m words t = fvoted_by seat_honest w m words t
 
 -- ---- cert
 
 -- what collecting the votes for a transaction gives
-unfoldable pub votes_collected : Setting → World → Digest → List ℕ → Collected
+unfoldable pub votes_collected : {S : Type 0} → Setting → WorldOf S → Digest → List ℕ → Collected
 votes_collected s w tx ms = collected origins_eq s.rules.stakes (λ m. last_said (vote_in tx) m w.said) ms
 
-abbrev pub first_origins : World → Digest → List ℕ → List (Option Digest)
+abbrev pub first_origins : {S : Type 0} → WorldOf S → Digest → List ℕ → List (Option Digest)
 first_origins w tx [] = []
 first_origins w tx (m ∷ ms) = list_or_none (last_said (vote_in tx) m w.said)
 
@@ -106,74 +116,71 @@ sealed_by s st m = record { member = m; seal = member_seal s m st }
 abbrev pub certificate_of : Setting → Made → List (Option Digest) → List ℕ → Certificate
 certificate_of s t origins ms = record { tx = t.signed.tx; origins = origins; seals = map (sealed_by s (vote_statement t.signed.tx t.digest origins)) ms }
 
-abbrev pub formed_as : Setting → World → Made → List ℕ → Collected → World
+abbrev pub formed_as : {S : Type 0} → Setting → WorldOf S → Made → List ℕ → Collected → WorldOf S
 formed_as s w t ms (lacks m) = w
 formed_as s w t ms (short weight total) = w
 formed_as s w t ms (differ a b) = w
 formed_as s w t ms whole = record w { certs = w.certs ++ record { name = t.name; cert = certificate_of s t (first_origins w t.digest ms) ms } ∷ [] }
 
-abbrev pub formed : Setting → World → List ℕ → Option Made → World
+abbrev pub formed : {S : Type 0} → Setting → WorldOf S → List ℕ → Option Made → WorldOf S
 formed s w ms None = w
 formed s w ms (Some t) = formed_as s w t ms (votes_collected s w t.digest ms)
 
 -- ---- order
 
-abbrev pub open_entries : World → List Entry
+abbrev pub open_entries : {S : Type 0} → WorldOf S → List Entry
 open_entries w = entries_at w.sequences w.epoch
 
-abbrev pub with_entries : World → List Entry → World
+abbrev pub with_entries : {S : Type 0} → WorldOf S → List Entry → WorldOf S
 with_entries w entries = record w { sequences = slice_set w.sequences w.epoch entries }
 
-abbrev pub appended_entry : World → Entry → World
+abbrev pub appended_entry : {S : Type 0} → WorldOf S → Entry → WorldOf S
 appended_entry w e = with_entries w (open_entries w ++ e ∷ [])
 
--- the open epoch ends where a member that sees these entries sees its end
-abbrev pub has_ended : Setting → World → Bool
+-- the open epoch ends if a member that sees these entries sees its end
+abbrev pub has_ended : {S : Type 0} → Setting → WorldOf S → Bool
 has_ended s w = (seen s.rules [] w.epoch (map messages.entry.spell (open_entries w))).ended
 
-abbrev pub risen_if : Bool → World → World
+abbrev pub risen_if : {S : Type 0} → Bool → WorldOf S → WorldOf S
 risen_if true w = record w { epoch = w.epoch + 1; sequences = w.sequences ++ [] ∷ [] }
 risen_if false w = w
 
-abbrev pub risen : Setting → World → World
+abbrev pub risen : {S : Type 0} → Setting → WorldOf S → WorldOf S
 risen s w = risen_if (has_ended s w) w
 
-abbrev pub ordered : World → Option Certificate → World
+abbrev pub ordered : {S : Type 0} → WorldOf S → Option Certificate → WorldOf S
 ordered w None = w
 ordered w (Some c) = if c.tx.epoch == w.epoch then appended_entry w (entry.Cert c) else w
 
 abbrev pub sealed_end : Setting → ℕ → ℕ → Entry
 sealed_end s m epoch = entry.End (record { member = m; statement = statement.End epoch; seal = member_seal s m (statement.End epoch) })
 
-abbrev pub ordered_end : Setting → World → ℕ → ℕ → World
+abbrev pub ordered_end : {S : Type 0} → Setting → WorldOf S → ℕ → ℕ → WorldOf S
 ordered_end s w m epoch = risen s (appended_entry w (sealed_end s m epoch))
 
-abbrev pub honest_end : Setting → World → ℕ → Option ℕ → World
+abbrev pub honest_end : {S : Type 0} → Setting → WorldOf S → ℕ → Option ℕ → WorldOf S
 honest_end s w m None = w
 honest_end s w m (Some epoch) = if epoch == w.epoch then ordered_end s w m epoch else w
 
 -- the last End of an honest member; a faulty one states one of the open epoch
-abbrev pub end_ordered : Setting → World → ℕ → World
-end_ordered s w m =
-    if is_honest w m then honest_end s w m (last_said end_in m w.said)
+abbrev pub end_by : {S : Type 0} → (S → Bool) → Setting → WorldOf S → ℕ → WorldOf S
+end_by honest s w m =
+    if honest_in honest w m then honest_end s w m (last_said end_in m w.said)
     else ordered_end s (says w m (statement.End w.epoch)) m w.epoch
+
+abbrev pub end_ordered : Setting → World → ℕ → World
+end_ordered s w m = end_by seat_honest s w m
 
 -- ---- see
 
 -- how many entries a member has before it
-abbrev pub entries_left : World → Option Member → ℕ
+abbrev pub entries_left : {S : Type 0} → WorldOf S → Option Member → ℕ
 entries_left w None = 0
 entries_left w (Some m) = length (entries_at w.sequences m.epoch) - m.sequence.number
 
 -- ---- stop and restart
 
-abbrev pub armed_seat : Bool → Seat → Seat
-armed_seat kept seat = record seat { armed = Some kept }
-
-abbrev pub started_seat : Seat → Seat
-started_seat seat = record seat { up = true; armed = None }
-
-abbrev pub on_seat : World → ℕ → (Seat → Seat) → Option Seat → World
+abbrev pub on_seat : {S : Type 0} → WorldOf S → ℕ → (S → S) → Option S → WorldOf S
 on_seat w m change None = w
 on_seat w m change (Some seat) = with_seat w m (change seat)
 
@@ -187,43 +194,58 @@ abbrev pub executed_digest : Digest → Member → Option Digest
 executed_digest tx m = option_map effects_digest_at (execution_of m.executed tx)
 
 -- what a faulty member acknowledges: what the lowest-numbered honest member has that is up and executed it, else zeros
+abbrev pub false_ack_over : {S : Type 0} → Seating S → WorldOf S → Made → Bool → Statement
+false_ack_over k w t spoiled = statement.Ack t.signed.tx.epoch t.digest (spoiled_if spoiled (digest_or_zero (says_over k (executed_digest t.digest) w.seats)))
+
 abbrev pub false_ack : Setting → World → Made → Bool → Statement
-false_ack s w t spoiled = statement.Ack t.signed.tx.epoch t.digest (spoiled_if spoiled (digest_or_zero (says_first s (executed_digest t.digest) w.seats)))
+false_ack s w t spoiled = false_ack_over (by_records s) w t spoiled
+
+abbrev pub acked_over : {S : Type 0} → Seating S → Rules → WorldOf S → ℕ → Bool → Option Made → WorldOf S
+acked_over k r w m spoiled None = w
+acked_over k r w m spoiled (Some t) = if honest_in k.honest w m then called_over k r w m (acks t.digest) else says w m (false_ack_over k w t spoiled)
 
 abbrev pub acked : Setting → World → ℕ → Bool → Option Made → World
-acked s w m spoiled None = w
-acked s w m spoiled (Some t) = if is_honest w m then called_in s w m (acks t.digest) else says w m (false_ack s w t spoiled)
+acked s w m spoiled t = acked_over (by_records s) s.rules w m spoiled t
 
 -- ---- the step
 
+abbrev pub voted_over : {S : Type 0} → Seating S → Rules → WorldOf S → ℕ → Option Made → WorldOf S
+voted_over k r w m None = w
+voted_over k r w m (Some t) = called_over k r w m (votes (transactions.signed.spell t.signed))
+
 abbrev pub voted_on : Setting → World → ℕ → Option Made → World
-voted_on s w m None = w
-voted_on s w m (Some t) = called_in s w m (votes (transactions.signed.spell t.signed))
+voted_on s w m t = voted_over (by_records s) s.rules w m t
+
+abbrev pub sent_over : {S : Type 0} → Seating S → Rules → WorldOf S → ℕ → Option Certificate → WorldOf S
+sent_over k r w m None = w
+sent_over k r w m (Some c) = called_over k r w m (holds (messages.certificate.spell c))
 
 abbrev pub sent : Setting → World → ℕ → Option Certificate → World
-sent s w m None = w
-sent s w m (Some c) = called_in s w m (holds (messages.certificate.spell c))
+sent s w m c = sent_over (by_records s) s.rules w m c
 
--- the world behind a line
-unfoldable pub happens : Setting → World → Event → World
-happens s w (event.Tx name sender spoiled epoch gas budget inputs commands) =
-    made_by_line s w (record { name = name; sender = sender; spoiled = spoiled; epoch = epoch; gas = gas; budget = budget; inputs = inputs; commands = commands })
-happens s w (event.Vote m tx) = voted_on s w m (made_named w tx)
-happens s w (event.Fvote m tx origins) = fvoted w m origins (made_named w tx)
-happens s w (event.Cert tx members) = formed s w members (made_named w tx)
-happens s w (event.Send m tx) = sent s w m (cert_named w tx)
-happens s w (event.Order tx) = ordered w (cert_named w tx)
-happens s w (event.OrderEnd m) = end_ordered s w m
-happens s w event.OrderCommit = appended_entry w entry.Commit
-happens s w (event.See m entries) = sees_on s (min entries (entries_left w (member_at s w m))) w m
-happens s w (event.Run m workers) = called_in s w m runs
-happens s w (event.Close m) = called_in s w m closes
-happens s w (event.End m) = called_in s w m ends
-happens s w (event.Turn m) = called_in s w m turns
-happens s w (event.Show m) = w
-happens s w (event.Stop m kept) = on_seat w m (armed_seat kept) (slice_get w.seats m)
-happens s w (event.Restart m) = on_seat w m started_seat (slice_get w.seats m)
-happens s w (event.RawVote m bytes) = called_in s w m (votes bytes)
-happens s w (event.RawHold m bytes) = called_in s w m (holds bytes)
-happens s w (event.Ack m tx spoiled) = acked s w m spoiled (made_named w tx)
-happens s w (event.Final tx members) = w
+-- the world after a line
+unfoldable pub happens_over : {S : Type 0} → Seating S → Setting → WorldOf S → Event → WorldOf S
+happens_over k s w (event.Tx name sender spoiled epoch gas budget inputs commands) =
+    made_over k s w (record { name = name; sender = sender; spoiled = spoiled; epoch = epoch; gas = gas; budget = budget; inputs = inputs; commands = commands })
+happens_over k s w (event.Vote m tx) = voted_over k s.rules w m (made_named w tx)
+happens_over k s w (event.Fvote m tx origins) = fvoted_by k.honest w m origins (made_named w tx)
+happens_over k s w (event.Cert tx members) = formed s w members (made_named w tx)
+happens_over k s w (event.Send m tx) = sent_over k s.rules w m (cert_named w tx)
+happens_over k s w (event.Order tx) = ordered w (cert_named w tx)
+happens_over k s w (event.OrderEnd m) = end_by k.honest s w m
+happens_over k s w event.OrderCommit = appended_entry w entry.Commit
+happens_over k s w (event.See m entries) = sees_over k s.rules (min entries (entries_left w (member_over k w m))) w m
+happens_over k s w (event.Run m workers) = called_over k s.rules w m runs
+happens_over k s w (event.Close m) = called_over k s.rules w m closes
+happens_over k s w (event.End m) = called_over k s.rules w m ends
+happens_over k s w (event.Turn m) = called_over k s.rules w m turns
+happens_over k s w (event.Show m) = w
+happens_over k s w (event.Stop m kept) = on_seat w m (λ seat. k.acts seat (arms kept)) (slice_get w.seats m)
+happens_over k s w (event.Restart m) = on_seat w m (λ seat. k.acts seat starts) (slice_get w.seats m)
+happens_over k s w (event.RawVote m bytes) = called_over k s.rules w m (votes bytes)
+happens_over k s w (event.RawHold m bytes) = called_over k s.rules w m (holds bytes)
+happens_over k s w (event.Ack m tx spoiled) = acked_over k s.rules w m spoiled (made_named w tx)
+happens_over k s w (event.Final tx members) = w
+
+abbrev pub happens : Setting → World → Event → World
+happens s w e = happens_over (by_records s) s w e

@@ -1,6 +1,6 @@
 -- The world of a run: the members with their records, what was said, made and ordered. Source: this profile;
 -- one consensus sequence for each epoch is the premise of the Sui Lutris paper.
-use Rattle.std.specs.Prelude.{ℕ, zero, suc, Bool, true, false, ◌&&◌, List, [], ◌∷◌, ◌++◌, map, slice_get, slice_set, Option, Some, None, option_map, option_and_then, Result, Ok, Err, if◌then◌else◌}
+use Rattle.std.specs.Prelude.{ℕ, zero, suc, Bool, true, false, ◌&&◌, List, [], ◌∷◌, ◌++◌, map, length, slice_get, slice_set, Option, Some, None, option_map, option_and_then, Result, Ok, Err, if◌then◌else◌}
 use Rattle.digest_core.specs.declared.Digest.{Digest}
 use Rattle.chain_types.specs.declared.objects.ObjectId.{ObjectId}
 use Rattle.chain_types.specs.declared.transactions.SignedTx.{SignedTx}
@@ -52,11 +52,11 @@ pub record Drawn : Type 0 where
   pub tx : Digest
   pub number : ℕ
 
-pub record World : Type 0 where
+pub record WorldOf (S : Type 0) : Type 0 where
   -- the sequences of the epochs up to the open one, which is the last
   pub sequences : List (List Entry)
   pub epoch : ℕ
-  pub seats : List Seat
+  pub seats : List S
   -- all statements made, oldest first
   pub said : List Said
   -- the transactions made, the certificates formed, and the names that lines gave to users and created objects
@@ -64,6 +64,36 @@ pub record World : Type 0 where
   pub certs : List Formed
   pub users : List User
   pub drawn : List Drawn
+
+abbrev pub World : Type 0
+World = WorldOf Seat
+
+-- each seat by its number, of which the first has this one
+abbrev pub placed : {A B : Type 0} → (ℕ → A → B) → ℕ → List A → List B
+placed h n [] = []
+placed h n (x ∷ xs) = h n x ∷ placed h (suc n) xs
+
+-- a world with something else in each seat
+abbrev pub reseated : {A B : Type 0} → (ℕ → A → B) → WorldOf A → WorldOf B
+reseated h w = record { sequences = w.sequences; epoch = w.epoch; seats = placed h 0 w.seats; said = w.said; txs = w.txs; certs = w.certs; users = w.users; drawn = w.drawn }
+
+-- what a line does to a seat: the member answers, and keeps a record if one is due; it stops, and keeps the record or
+-- loses it; a stop is armed; it starts
+pub data Deed : Type 0 where
+  keeps : Option Record → Deed
+  halts : Bool → Record → Deed
+  arms : Bool → Deed
+  starts : Deed
+
+-- what stands in a seat: whether the member is honest and up, its armed stop, its state and the number of its records,
+-- and how a deed changes it
+pub record Seating (S : Type 0) : Type 0 where
+  pub honest : S → Bool
+  pub up : S → Bool
+  pub armed : S → Option Bool
+  pub state : S → Member
+  pub count : S → ℕ
+  pub acts : S → Deed → S
 
 abbrev pub new_seat : Bool → Seat
 new_seat honest = record { honest = honest; records = []; up = true; armed = None }
@@ -105,8 +135,8 @@ abbrev pub answered_statement : {E : Type 0} → Result Statement E → List Sta
 answered_statement (Ok st) = st ∷ []
 answered_statement (Err refusal) = []
 
--- the statements that a call makes where it answers: a vote, new or again; an End; an acknowledgement; a
--- checkpoint where it is listed as built
+-- the statements that a call makes if it answers: a vote, new or again; an End; an acknowledgement; a
+-- checkpoint if it is listed as built
 unfoldable pub stated : Rules → Member → Call → List Statement
 stated r m (votes bytes) = voted_statement (vote_answer r m bytes)
 stated r m (holds bytes) = []
@@ -128,15 +158,15 @@ reached_up m None x = answers m x
 reached_up m (Some kept) None = answers m None
 reached_up m (Some kept) (Some x) = stops kept x
 
-abbrev pub reached_seat : Setting → Call → Seat → Reached
-reached_seat s call seat = if seat.up then reached_up (member_in s seat) seat.armed (due s.rules (member_in s seat) call) else finds_down
+abbrev pub reached_by : {S : Type 0} → Seating S → Rules → Call → S → Reached
+reached_by k r call seat = if k.up seat then reached_up (k.state seat) (k.armed seat) (due r (k.state seat) call) else finds_down
 
-abbrev pub reached_at : Setting → Call → Option Seat → Reached
-reached_at s call None = finds_down
-reached_at s call (Some seat) = reached_seat s call seat
+abbrev pub reached_where : {S : Type 0} → Seating S → Rules → Call → Option S → Reached
+reached_where k r call None = finds_down
+reached_where k r call (Some seat) = reached_by k r call seat
 
-unfoldable pub reached : Setting → World → ℕ → Call → Reached
-reached s w m call = reached_at s call (slice_get w.seats m)
+unfoldable pub reached_over : {S : Type 0} → Seating S → Rules → WorldOf S → ℕ → Call → Reached
+reached_over k r w m call = reached_where k r call (slice_get w.seats m)
 
 abbrev pub said_by : ℕ → Statement → Said
 said_by m st = record { member = m; statement = st }
@@ -145,54 +175,107 @@ abbrev pub appended : List Record → Option Record → List Record
 appended records None = records
 appended records (Some x) = records ++ x ∷ []
 
-abbrev pub with_seat : World → ℕ → Seat → World
+abbrev pub with_seat : {S : Type 0} → WorldOf S → ℕ → S → WorldOf S
 with_seat w m seat = record w { seats = slice_set w.seats m seat }
 
 -- a stop takes the answer and the statements; the record is kept or lost
 abbrev pub stopped_seat : Seat → Bool → Record → Seat
 stopped_seat seat kept x = record seat { records = if kept then seat.records ++ x ∷ [] else seat.records; up = false; armed = None }
 
+abbrev pub behind_over : {S : Type 0} → Seating S → Rules → WorldOf S → ℕ → Call → S → Reached → WorldOf S
+behind_over k r w m call seat finds_down = w
+behind_over k r w m call seat (stops kept x) = with_seat w m (k.acts seat (halts kept x))
+behind_over k r w m call seat (answers before x) =
+    record (with_seat w m (k.acts seat (keeps x))) { said = w.said ++ map (said_by m) (stated r before call) }
+
+abbrev pub called_where : {S : Type 0} → Seating S → Rules → WorldOf S → ℕ → Call → Option S → WorldOf S
+called_where k r w m call None = w
+called_where k r w m call (Some seat) = behind_over k r w m call seat (reached_by k r call seat)
+
+-- the world after a call on a member
+unfoldable pub called_over : {S : Type 0} → Seating S → Rules → WorldOf S → ℕ → Call → WorldOf S
+called_over k r w m call = called_where k r w m call (slice_get w.seats m)
+
+-- ---- seats of records: the laws take all of the above at these
+
+abbrev pub seat_honest : Seat → Bool
+seat_honest seat = seat.honest
+
+abbrev pub seat_up : Seat → Bool
+seat_up seat = seat.up
+
+abbrev pub armed_seat : Bool → Seat → Seat
+armed_seat kept seat = record seat { armed = Some kept }
+
+abbrev pub started_seat : Seat → Seat
+started_seat seat = record seat { up = true; armed = None }
+
+abbrev pub acts_on : Seat → Deed → Seat
+acts_on seat (keeps x) = record seat { records = appended seat.records x }
+acts_on seat (halts kept x) = stopped_seat seat kept x
+acts_on seat (arms kept) = armed_seat kept seat
+acts_on seat starts = started_seat seat
+
+abbrev pub by_records : Setting → Seating Seat
+by_records s = record { honest = seat_honest; up = seat_up; armed = λ seat. seat.armed; state = member_in s; count = λ seat. length seat.records; acts = acts_on }
+
+abbrev pub reached_seat : Setting → Call → Seat → Reached
+reached_seat s call seat = reached_by (by_records s) s.rules call seat
+
+abbrev pub reached_at : Setting → Call → Option Seat → Reached
+reached_at s call seat = reached_where (by_records s) s.rules call seat
+
+abbrev pub reached : Setting → World → ℕ → Call → Reached
+reached s w m call = reached_over (by_records s) s.rules w m call
+
 abbrev pub behind : Setting → World → ℕ → Call → Seat → Reached → World
-behind s w m call seat finds_down = w
-behind s w m call seat (stops kept x) = with_seat w m (stopped_seat seat kept x)
-behind s w m call seat (answers before x) =
-    record (with_seat w m (record seat { records = appended seat.records x })) { said = w.said ++ map (said_by m) (stated s.rules before call) }
+behind s w m call seat r = behind_over (by_records s) s.rules w m call seat r
 
 abbrev pub called_seat : Setting → World → ℕ → Call → Option Seat → World
-called_seat s w m call None = w
-called_seat s w m call (Some seat) = behind s w m call seat (reached_seat s call seat)
+called_seat s w m call seat = called_where (by_records s) s.rules w m call seat
 
--- the world behind a call on a member
-unfoldable pub called_in : Setting → World → ℕ → Call → World
-called_in s w m call = called_seat s w m call (slice_get w.seats m)
+abbrev pub called_in : Setting → World → ℕ → Call → World
+called_in s w m call = called_over (by_records s) s.rules w m call
 
 -- ---- members
 
+-- whether it is so of a member; not so of nobody
+abbrev pub seat_is : {S : Type 0} → (S → Bool) → Option S → Bool
+seat_is test None = false
+seat_is test (Some seat) = test seat
+
+abbrev pub honest_in : {S : Type 0} → (S → Bool) → WorldOf S → ℕ → Bool
+honest_in honest w m = seat_is honest (slice_get w.seats m)
+
 abbrev pub honest_seat : Option Seat → Bool
-honest_seat None = false
-honest_seat (Some seat) = seat.honest
+honest_seat seat = seat_is seat_honest seat
+
+abbrev pub is_seat_up : Option Seat → Bool
+is_seat_up seat = seat_is seat_up seat
 
 abbrev pub is_honest : World → ℕ → Bool
-is_honest w m = honest_seat (slice_get w.seats m)
+is_honest w m = honest_in seat_honest w m
+
+abbrev pub state_in : {S : Type 0} → Seating S → S → Option Member
+state_in k seat = Some (k.state seat)
 
 abbrev pub state_of : Setting → Seat → Option Member
 state_of s seat = Some (member_in s seat)
 
 -- the state of a member
+abbrev pub member_over : {S : Type 0} → Seating S → WorldOf S → ℕ → Option Member
+member_over k w m = option_and_then (state_in k) (slice_get w.seats m)
+
 abbrev pub member_at : Setting → World → ℕ → Option Member
-member_at s w m = option_and_then (state_of s) (slice_get w.seats m)
+member_at s w m = member_over (by_records s) w m
 
-abbrev pub up_seat : Option Seat → Bool
-up_seat None = false
-up_seat (Some seat) = seat.up
+-- what the lowest-numbered honest member that is up says of something, if one says anything
+abbrev pub says_over : {A S : Type 0} → Seating S → (Member → Option A) → List S → Option A
+says_over k says [] = None
+says_over k says (seat ∷ seats) = first_some ((if k.honest seat && k.up seat then says (k.state seat) else None) ∷ says_over k says seats ∷ [])
 
-abbrev pub is_up : World → ℕ → Bool
-is_up w m = up_seat (slice_get w.seats m)
-
--- what the lowest-numbered honest member that is up says of something, where one says anything
 abbrev pub says_first : {A : Type 0} → Setting → (Member → Option A) → List Seat → Option A
-says_first s says [] = None
-says_first s says (seat ∷ seats) = first_some ((if seat.honest && seat.up then says (member_in s seat) else None) ∷ says_first s says seats ∷ [])
+says_first s says seats = says_over (by_records s) says seats
 
 -- ---- entries
 
@@ -200,20 +283,29 @@ says_first s says (seat ∷ seats) = first_some ((if seat.honest && seat.up then
 abbrev pub numbered_call : ℕ → Entry → Call
 numbered_call number e = sees number (messages.entry.spell e)
 
-abbrev pub next_entry : World → Member → Option Entry
+abbrev pub next_entry : {S : Type 0} → WorldOf S → Member → Option Entry
 next_entry w m = if m.sequence.ended then None else slice_get (entries_at w.sequences m.epoch) m.sequence.number
 
-abbrev pub next_call_of : World → Member → Option Call
+abbrev pub next_call_of : {S : Type 0} → WorldOf S → Member → Option Call
 next_call_of w m = option_map (numbered_call m.sequence.number) (next_entry w m)
 
+abbrev pub next_over : {S : Type 0} → Seating S → WorldOf S → ℕ → Option Call
+next_over k w m = option_and_then (next_call_of w) (member_over k w m)
+
 abbrev pub next_call : Setting → World → ℕ → Option Call
-next_call s w m = option_and_then (next_call_of w) (member_at s w m)
+next_call s w m = next_over (by_records s) w m
+
+abbrev pub if_called : {S : Type 0} → Seating S → Rules → WorldOf S → ℕ → Option Call → WorldOf S
+if_called k r w m None = w
+if_called k r w m (Some call) = called_over k r w m call
 
 abbrev pub called_if : Setting → World → ℕ → Option Call → World
-called_if s w m None = w
-called_if s w m (Some call) = called_in s w m call
+called_if s w m call = if_called (by_records s) s.rules w m call
 
 -- a member takes so many entries, as far as there are any
+abbrev pub sees_over : {S : Type 0} → Seating S → Rules → ℕ → WorldOf S → ℕ → WorldOf S
+sees_over k r zero w m = w
+sees_over k r (suc n) w m = sees_over k r n (if_called k r w m (next_over k w m)) m
+
 abbrev pub sees_on : Setting → ℕ → World → ℕ → World
-sees_on s zero w m = w
-sees_on s (suc n) w m = sees_on s n (called_if s w m (next_call s w m)) m
+sees_on s n w m = sees_over (by_records s) s.rules n w m

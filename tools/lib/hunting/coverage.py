@@ -14,6 +14,7 @@ NEVER = {
     "native coin_burn code 2": "a cap counts all coins of its currency",
     "bytes why 8": "nothing that members are handed holds a text",
     "report `make N: transactions A checkpoints B objects C sum D`": "the line of another command",
+    "report `restart M: bad record PLACE`": "needs altered records, which no schedule leaves",
     "status 1": "of the script ./committee alone",
     "status 2": "of words that are no command",
     "status 4": "needs a fault of standard input",

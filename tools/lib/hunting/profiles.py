@@ -2,7 +2,7 @@
 
 import random as randoms
 
-from . import actions, refusals, scenes, sizes
+from . import actions, corners, refusals, scenes, sizes
 from .draft import Draft
 from .plans import USERS
 
@@ -33,10 +33,11 @@ STYLES = {
     "raw": Style({**BASE, "raw": 16, "ask_halted": 2}, faulty=0.2),
     "mixed": Style({**BASE, **ENDS, **STOPS, **FINAL, "raw": 2, "force": 3, "staged": 2, "crowd": 1, "ask_halted": 2}, faulty=0.3, lines=(60, 160)),
 }
-OTHERS = {"refused": refusals.text, "limits": sizes.text}
+OTHERS = {"refused": refusals.text, "limits": sizes.text, "corners": lambda random, turn: corners.text(random, turn, STYLES["mixed"])}
 PROFILES = (*STYLES, *OTHERS)
-# The turns of a hunt of all profiles. A refused text shows one fault alone, and costs little.
-TURNS = (*STYLES, "refused", "shared", "limits", "refused", "refused", "refused")
+# The turns of a hunt of all profiles. A refused text shows one fault alone, and costs little. Each second turn of `edges` is one of `corners`.
+ROUND = (*STYLES, "refused", "shared", "limits", "refused", "refused", "refused")
+TURNS = (*ROUND, *("corners" if it == "edges" else it for it in ROUND))
 
 
 def set_up(draft, style):
@@ -82,15 +83,22 @@ def styled(random, style):
     return draft.lines
 
 
+def turns_of(wanted):
+    """The profiles in their turns: one, some, or all where none is wanted."""
+    return (wanted,) if isinstance(wanted, str) else wanted or TURNS
+
+
 def profile_of(seed, wanted=None):
-    """The profile of a seed: each in its turn, where none is wanted."""
-    return wanted or TURNS[seed % len(TURNS)]
+    """The profile of a seed."""
+    turns = turns_of(wanted)
+    return turns[seed % len(turns)]
 
 
 def turn_of(seed, wanted=None):
     """How many seeds below this one have its profile."""
-    rounds, place = divmod(seed, len(TURNS))
-    return seed if wanted else rounds * TURNS.count(TURNS[place]) + TURNS[:place].count(TURNS[place])
+    turns = turns_of(wanted)
+    rounds, place = divmod(seed, len(turns))
+    return rounds * turns.count(turns[place]) + turns[:place].count(turns[place])
 
 
 def schedule(seed, wanted=None):

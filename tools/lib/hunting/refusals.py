@@ -48,7 +48,7 @@ BY_CAUSE = (
     "vote 0 t9", "fvote 2 t9", "fvote 2 t1 - t9", "cert t9 0", "send 0 t9", "order t9", "ack 0 t9", "ack 2 t9 !", "final t9 0", "tx z alice 0 g9@1 1", "tx z alice 0 z.0@1 1", "tx z alice 0 g0@1 1 r:t9.0@1",
     "vote 3 t1", "fvote 3 t1", "cert t1 0 3", "send 3 t1", "order end 3", "see 9 1", "run 3 1", "close 3", "end 3", "turn 3", "show 3", "stop 3 lost", "restart 3", "ack 3 t1", "final t1 3", "raw 3 vote 00",
     "vote 2 t1", "fvote 0 t1", "send 2 t1", "see 2 1", "run 2 1", "close 2", "end 2", "turn 2", "show 2", "stop 2 kept", "restart 2", "raw 2 hold 00", "raw 2 vote 00", "ack 0 t1 !",
-    "cert t1 1 0", "cert t1 0 0", "final t1 1 0", "final t1 2 2", "writers 4", "cap z bob 7",
+    "cert t1 1 0", "cert t1 0 0", "final t1 1 0", "final t1 2 2", "writers 4", "cap z bob 7", "counter a_name_of_17_lett 5",
 )
 SETUP = ("member", "coin", "counter", "cap", "writers")
 

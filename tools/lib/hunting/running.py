@@ -44,6 +44,21 @@ class Program:
             return Answer(status if status >= 0 else f"ended by signal {-status}", wrote.read())
 
 
+    def complaint(self, text):
+        """What the program writes to standard error."""
+        with tempfile.TemporaryFile() as given, tempfile.TemporaryFile() as wrote:
+            given.write(text)
+            given.seek(0)
+            with subprocess.Popen(self.words, stdin=given, stdout=subprocess.DEVNULL, stderr=wrote) as process:
+                self.limit(process.pid)
+                try:
+                    process.wait(WAITING * self.seconds)
+                except subprocess.TimeoutExpired:
+                    process.kill()
+            wrote.seek(0)
+            return wrote.read()
+
+
 class Plain:
     """The plain model of the rules."""
 

@@ -13,12 +13,13 @@ def shown(data, most=60):
     return "\n".join([*cut, *(f"    {line[:200]}" for line in lines[-most:])])
 
 
-def story(finding):
-    """A finding with its schedule and both reports."""
+def story(finding, complaint=b""):
+    """A finding with its schedule and both reports, and what the program wrote to standard error."""
     parts = [f"seed {finding.seed}, profile {finding.profile}: {finding.kind}", finding.said, "the schedule:", shown(finding.schedule)]
     if finding.wanted:
         parts += [f"wanted, status {finding.wanted.status}:", shown(finding.wanted.report)]
-    return "\n".join([*parts, f"had, status {finding.had.status}:", shown(finding.had.report)])
+    parts += [f"had, status {finding.had.status}:", shown(finding.had.report)]
+    return "\n".join([*parts, "and on standard error:", shown(complaint, 20)] if complaint else parts)
 
 
 def save(folder, finding):
@@ -32,14 +33,15 @@ def save(folder, finding):
             it.write(data)
 
 
-def junit(path, program, tried, finding):
-    """One test case a seed; that of the finding has failed."""
-    lines = ['<?xml version="1.0" encoding="UTF-8"?>', f'<testsuite name="hunt" tests="{len(tried)}" failures="{int(finding is not None)}">']
+def junit(path, program, tried, findings):
+    """One test case a seed; those of the findings have failed."""
+    lines = ['<?xml version="1.0" encoding="UTF-8"?>', f'<testsuite name="hunt" tests="{len(tried)}" failures="{len(findings)}">']
+    by_seed = {it.seed: it for it in findings}
     for seed in tried:
         name = f"  <testcase classname={quoteattr(program)} name=\"seed {seed}\""
-        if finding is not None and finding.seed == seed:
-            text = "".join(it if it == "\n" or " " <= it <= "~" else "?" for it in story(finding))
-            lines.append(f"{name}><failure message={quoteattr(finding.kind)}>{escape(text)}</failure></testcase>")
+        if seed in by_seed:
+            text = "".join(it if it == "\n" or " " <= it <= "~" else "?" for it in story(by_seed[seed]))
+            lines.append(f"{name}><failure message={quoteattr(by_seed[seed].kind)}>{escape(text)}</failure></testcase>")
         else:
             lines.append(f"{name}/>")
     with open(path, "w", encoding="utf-8") as it:

@@ -43,7 +43,7 @@ place_eq (result a i) (input b) = false
 abbrev pub slot_value : Slot → Option Value
 slot_value s = s.value
 
--- the value that lies in a place, none where it is spent or not there
+-- the value that lies in a place, none if it is spent or not there
 abbrev pub value_in : Place → List Slot → Option Value
 value_in p slots = option_and_then slot_value (find (λ (s : Slot). place_eq s.place p) slots)
 

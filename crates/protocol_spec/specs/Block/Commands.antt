@@ -99,7 +99,7 @@ is_bad_pure coins (pure bytes) = false
 is_bad_pure need (object item) = false
 is_bad_pure need (vector k items) = false
 
--- 4: pure bytes where an object or a vector is needed, the contrary, or another kind
+-- 4: pure bytes if an object or a vector is needed, the contrary, or another kind
 abbrev pub is_right_kind : Need → Value → Bool
 is_right_kind number (pure bytes) = true
 is_right_kind address (pure bytes) = true
@@ -195,7 +195,7 @@ abbrev pub value_cause : Transaction → Command → List Argument → Argument 
 value_cause t c earlier a need None = Some 1
 value_cause t c earlier a need (Some value) = first_some (value_cases t c earlier a need value)
 
--- the first cause of an argument, none where it may be taken
+-- the first cause of an argument, none if it may be taken
 abbrev pub argument_cause : Transaction → Block → Command → List Argument → Argument → Need → Option ℕ
 argument_cause t b c earlier a need =
     first_some (where_true (has_no_result b a) 2 ∷ value_cause t c earlier a need (value_in (place_of a) b.slots) ∷ [])
@@ -248,7 +248,7 @@ spend_all args b = fold (λ (b : Block) (a : Argument). spend a b) b args
 abbrev pub put_back : Argument → Item → Block → Block
 put_back a item b = record b { slots = put_in (place_of a) (Some (object item)) b.slots }
 
--- ---- Split: one new coin of the same currency for each amount; 8 where the coin shows less than their sum
+-- ---- Split: one new coin of the same currency for each amount; 8 if the coin shows less than their sum
 
 abbrev pub numbered_coin : Site → ℕ → (ℕ × ℕ) → Value
 numbered_coin s currency n = object (new_item s n.0 (content.Coin currency n.1))
@@ -263,8 +263,8 @@ split s c b coin None amounts = Err (cause 4)
 split s c b coin (Some item) amounts =
     if nat_lt (amount_of item.content) (sum amounts) then Err (cause 8) else Ok (split_block s c b coin item amounts)
 
--- ---- Merge: the sources are deleted; 10 where one has another currency, and then 9 where the sum, with the
--- withheld budget where the target is the gas coin, is no amount
+-- ---- Merge: the sources are deleted; 10 if one has another currency, and then 9 if the sum, with the
+-- withheld budget if the target is the gas coin, is not an amount
 
 abbrev pub withheld : Transaction → Argument → ℕ
 withheld t argument.Gas = t.budget
@@ -357,7 +357,7 @@ called c b needs (gave.Done results changed left made) = Ok (called_block c b ne
 abbrev pub site : Digest → ℕ → Block → Site
 site tx version b = record { tx = tx; version = version; made = b.made }
 
--- what the command of number c does, where its arguments may be taken
+-- what the command of number c does, if its arguments may be taken
 abbrev pub performed : Transaction → Digest → ℕ → ℕ → Block → Command → Result Block Fault
 performed t tx version c b (command.Split coin amounts) = split (site tx version b) c b coin (item_in b coin) (map (number_in b) amounts)
 performed t tx version c b (command.Merge target sources) = merge t b target (item_in b target) sources

@@ -36,7 +36,7 @@ item_of o = record { id = o.id; content = o.content; fresh = false }
 abbrev pub gas_item : Transaction → Object → Item
 gas_item t o = record { id = o.id; content = with_amount (amount_of o.content - t.budget) o.content; fresh = false }
 
--- each input with its number and its object, where it names one
+-- each input with its number and its object, if it names one
 abbrev pub input_slots : ℕ → List Input → List Object → List Slot
 input_slots n [] os = []
 input_slots n (inputs.Pure bytes ∷ is) os = record { place = input n; value = Some (pure bytes) } ∷ input_slots (suc n) is os
@@ -125,8 +125,8 @@ abbrev pub created_objects : Digest → ℕ → Block → List Object
 created_objects tx version b = filter_map (λ n. left_in version b.placed (record { 0 = created_id_of tx n })) (numbers_below b.made)
 
 -- at the end the budget less the cost goes back to the gas coin, whoever owns it then, up to the largest amount
--- that there is. A Merge counts the withheld budget, so the bound can be met only where another object has the
--- gas coin's id: where ids are apart, the conservation of money shows that it is not
+-- that there is. A Merge counts the withheld budget, so the bound can be met only if another object has the
+-- gas coin's id: if ids are apart, the conservation of money shows that it is not
 abbrev pub with_rest : Transaction → Object → Object
 with_rest t o = record o { content = with_amount (min (amount_of o.content + (t.budget - cost t)) (amount_limit - 1)) o.content }
 

@@ -94,7 +94,7 @@ parameters =
     (mode.Number ∷ []) ∷
     (mode.ByMut kind.Counter ∷ mode.Number ∷ mode.ByRef kind.Limit ∷ []) ∷ []
 
--- a valid shape names the 14 natives alone, so another number never comes
+-- a valid shape names only the 14 natives, so another number never comes
 abbrev pub parameters_at : Option (List Mode) → List Mode
 parameters_at None = []
 parameters_at (Some modes) = modes
@@ -103,7 +103,7 @@ parameters_at (Some modes) = modes
 abbrev pub parameters_of : ℕ → List Mode
 parameters_of native = parameters_at (slice_get parameters native)
 
--- how a native takes the parameter at this place, none where it has no such parameter
+-- how a native takes the parameter at this place, none if it has no such parameter
 unfoldable pub mode_of : ℕ → ℕ → Option Mode
 mode_of native place = slice_get (parameters_of native) place
 
@@ -154,7 +154,7 @@ pub record Site : Type 0 where
   pub version : ℕ
   pub made : ℕ
 
--- a new object under the next number, or the k-th behind it
+-- a new object under the next number, or the k-th after it
 abbrev pub new_item : Site → ℕ → Content → Item
 new_item s k c = record { id = record { 0 = created_id_of s.tx (s.made + k) }; content = c; fresh = true }
 
@@ -170,7 +170,7 @@ gives s (c ∷ cs) changed = gave.Done (new_item s 0 c ∷ []) changed None (s.m
 abbrev pub owned_by_all : Site → Item → Owner → Gave
 owned_by_all s item who = gave.Done [] None (Some (record { item = item; owner = who })) s.made
 
--- an abort where the test holds, and else what comes next
+-- an abort if the test holds, and else what comes next
 abbrev pub abort_if : Bool → ℕ → Gave → Gave
 abort_if true code rest = gave.Abort code
 abort_if false code rest = rest

@@ -34,14 +34,14 @@ pub record Rules : Type 0 where
 abbrev pub rules_of : List ℕ → Option ℕ → (Signer → List ℕ → Digest → Bool) → Rules
 rules_of stakes writers accepts = record { stakes = stakes; writers = writers; accepts = accepts }
 
--- a member's seal covers the spelling of the statement, a sender's that of the transaction
+-- a member's seal covers the encoding of the statement, a sender's that of the transaction
 abbrev pub accepts_statement : Rules → ℕ → Statement → Digest → Bool
 accepts_statement r member st seal = r.accepts (signers.Member member) (messages.statement.spell st) seal
 
 abbrev pub accepts_sender : Rules → Transaction → Digest → Bool
 accepts_sender r t seal = r.accepts (signers.User t.sender.0) (transactions.transaction.spell t) seal
 
--- ---- reading: the value that all the bytes spell, or their first fault
+-- ---- reading: the value that all the bytes encode, or their first fault
 
 abbrev pub read_as : {A : Type 0} → Result A Stop → Result A WireFault
 read_as (Ok x) = Ok x
@@ -77,6 +77,6 @@ cert_cases rules c =
     where_true (not (is_quorum rules.stakes (weight rules.stakes (members_of c)))) (refused.ShortStake (weight rules.stakes (members_of c)) (total_of rules.stakes)) ∷
     first_of (bad_seal rules c) c.seals ∷ []
 
--- why a certificate is not valid, where it is not
+-- why a certificate is not valid, if it is not
 unfoldable pub cert_refusal : Rules → Certificate → Option CertRefusal
 cert_refusal rules c = first_some (cert_cases rules c)

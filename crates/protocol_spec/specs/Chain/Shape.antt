@@ -88,6 +88,6 @@ shape_cases t =
     where_true (list_any names_bad_version (objects_of t)) 11 ∷
     where_true (list_any (λ c. nat_lt 512 (length (arguments_of c))) t.commands) 12 ∷ []
 
--- the least fault, where there is one
+-- the least fault, if there is one
 unfoldable pub shape_fault : Transaction → Option ℕ
 shape_fault t = first_some (shape_cases t)

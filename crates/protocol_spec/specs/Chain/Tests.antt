@@ -21,7 +21,7 @@ producer_eq (producer.Tx a) (producer.Tx b) = digest_eq a b
 producer_eq producer.Opening (producer.Tx b) = false
 producer_eq (producer.Tx a) producer.Opening = false
 
--- the numbers of the kinds, as they are spelled
+-- the numbers of the kinds, as they are encoded
 abbrev pub kind_number : Kind → ℕ
 kind_number kind.Coin = 0
 kind_number kind.Cap = 1

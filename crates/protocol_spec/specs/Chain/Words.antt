@@ -15,17 +15,17 @@ abbrev pub first_of : {A B : Type 0} → (A → Option B) → List A → Option 
 first_of says [] = None
 first_of says (x ∷ xs) = first_some (says x ∷ first_of says xs ∷ [])
 
--- this value, where the test holds
+-- this value, if the test holds
 abbrev pub where_true : {A : Type 0} → Bool → A → Option A
 where_true true x = Some x
 where_true false x = None
 
--- a refusal where there is one, and else this answer
+-- a refusal if there is one, and else this answer
 abbrev pub unless_refused : {A E : Type 0} → Option E → A → Result A E
 unless_refused None answer = Ok answer
 unless_refused (Some refusal) answer = Err refusal
 
--- a refusal where there is one, and else what comes next
+-- a refusal if there is one, and else what comes next
 abbrev pub refused_or : {A E : Type 0} → Option E → Result A E → Result A E
 refused_or None rest = rest
 refused_or (Some refusal) rest = Err refusal
@@ -37,12 +37,12 @@ and_then (Err refusal) next = Err refusal
 
 -- ---- lists
 
--- the element in front of the list, where there is one
+-- a list with one more element before it, if there is one
 abbrev pub onto_some : {A : Type 0} → A → Option (List A) → Option (List A)
 onto_some x None = None
 onto_some x (Some xs) = Some (x ∷ xs)
 
--- all the values, where there is one in each place
+-- all the values, if there is one in each place
 abbrev pub all_some : {A : Type 0} → List (Option A) → Option (List A)
 all_some [] = Some []
 all_some (None ∷ rest) = None
@@ -86,6 +86,6 @@ abbrev pub Along : {A : Type 0} → (List A → A → Type 0) → List A → Lis
 Along P before [] = Unit {0}
 Along P before (x ∷ xs) = P before x × Along P (before ++ x ∷ []) xs
 
--- the first list is a front of the second
+-- the first list is a prefix of the second
 abbrev pub IsFront : {A : Type 0} → List A → List A → Type 0
 IsFront {A} xs ys = (rest : List A) × (ys ≡ xs ++ rest)

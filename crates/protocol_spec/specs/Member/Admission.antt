@@ -55,7 +55,7 @@ writes id a = has_id (mutable_ids a.cert) id
 abbrev pub since_mark : Admission → List Admitted
 since_mark a = drop a.marked a.admitted
 
--- the object has fewer writers since the last mark than the limit, where there is one
+-- the object has fewer writers since the last mark than the limit, if there is one
 abbrev pub has_room : Option ℕ → Admission → ObjectId → Bool
 has_room None a id = true
 has_room (Some limit) a id = nat_lt (count_by (writes id) (since_mark a)) limit
@@ -109,7 +109,7 @@ standing_or (Some s) = s
 abbrev pub cert_of : Admitted → Certificate
 cert_of a = a.cert
 
--- The current version of a shared object for a certificate that comes behind these: the last that wrote it,
+-- The current version of a shared object for a certificate that comes after these: the last that wrote it,
 -- and else what the first says that names it, this certificate included.
 unfoldable pub current : List Object → List Admitted → Certificate → ObjectId → Standing
 current opening earlier c id =
@@ -140,7 +140,7 @@ taken_version opening earlier c (inputs.Shared id initial mutable) = (current op
 abbrev pub version_at_admission : List Object → List Admitted → Certificate → ℕ
 version_at_admission opening earlier c = lamport_version (map (taken_version opening earlier c) (objects_of c.tx))
 
--- the certificate as it is admitted behind these
+-- the certificate as it is admitted after these
 unfoldable pub admit : List Object → List Admitted → Held → Admitted
 admit opening earlier h = record {
   digest = h.digest;
@@ -194,7 +194,7 @@ take_all writers opening a = take_free writers opening (length a.pending) a
 unfoldable pub entered : Option ℕ → List Object → Admission → Held → Admission
 entered writers opening a h = take_all writers opening (record a { pending = a.pending ++ h ∷ [] })
 
--- a Commit mark, behind its cut
+-- a Commit mark, after its cut
 unfoldable pub passed_mark : Option ℕ → List Object → Admission → Admission
 passed_mark writers opening a = take_all writers opening (record a { marked = length a.admitted })
 

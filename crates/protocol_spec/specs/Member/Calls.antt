@@ -93,7 +93,7 @@ abbrev pub vote_again : Member → Transaction → Option VoteRefusal → Option
 vote_again m t unsealed (Some v) = Ok (voted_as m t v.origins false)
 vote_again m t unsealed None = new_vote m t unsealed
 
--- the vote for a transaction, where its seal is accepted or refused as said
+-- the vote for a transaction, if its seal is accepted or refused as said
 abbrev pub vote_on : Member → Transaction → Option VoteRefusal → Result Voted VoteRefusal
 vote_on m t unsealed = refused_or (where_true (not (t.epoch == m.epoch)) (no_vote.WrongEpoch t.epoch m.epoch)) (vote_again m t unsealed (vote_for m (transaction_digest t)))
 
@@ -124,7 +124,7 @@ new_hold_cases r m c =
 abbrev pub new_hold : Rules → Member → Certificate → Result Bool HoldRefusal
 new_hold r m c = unless_refused (first_some (new_hold_cases r m c)) true
 
--- true where it is newly held, false where its transaction's certificate is held already
+-- true if it is newly held, false if its transaction's certificate is held already
 abbrev pub hold_certificate : Rules → Member → Certificate → Result Bool HoldRefusal
 hold_certificate r m c =
     refused_or (where_true (not (c.tx.epoch == m.epoch)) (no_hold.WrongEpoch c.tx.epoch m.epoch))
@@ -175,7 +175,7 @@ run_answer r m = unless_refused (first_some (halted no_run.Halted m ∷ full no_
 
 -- ---- close, end, turn, ack
 
--- true where the member closes, false where it was closed
+-- true if the member closes, false if it was closed
 unfoldable pub close_answer : Rules → Member → Result Bool CloseRefusal
 close_answer r m = unless_refused (first_some (halted no_close.Halted m ∷ full no_close.Full m ∷ [])) (not m.closed)
 
@@ -239,7 +239,7 @@ vote_record (Err fault) answer = None
 vote_record (Ok s) (Err refusal) = None
 vote_record (Ok s) (Ok v) = if v.fresh then kept_vote s.tx v.statement else None
 
--- a certificate is kept where it is newly held, and where it is the evidence of a fork
+-- a certificate is kept if it is newly held, and if it is the evidence of a fork
 abbrev pub is_hold_kept : Result Bool HoldRefusal → Bool
 is_hold_kept (Ok new) = new
 is_hold_kept (Err no_hold.Down) = false
@@ -299,6 +299,6 @@ abbrev pub after_due : Rules → Member → Option Record → Member
 after_due r m None = m
 after_due r m (Some x) = after r m x
 
--- the state behind a call
+-- the state after a call
 abbrev pub called : Rules → Member → Call → Member
 called r m call = after_due r m (due r m call)

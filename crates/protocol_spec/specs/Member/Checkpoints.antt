@@ -39,7 +39,7 @@ abbrev pub digest_before : Option Checkpoint → Digest
 digest_before None = zero_digest
 digest_before (Some c) = digest_of_checkpoint c
 
--- the checkpoint of a cut, behind those before it: numbers go on, and the parent is the one before
+-- the checkpoint of a cut, after those before it: numbers go on, and the parent is the one before
 unfoldable pub checkpoint_behind : ℕ → List Execution → List Checkpoint → Cut → Checkpoint
 checkpoint_behind epoch executed before c = record {
   epoch = epoch;

@@ -6,6 +6,6 @@ use Rattle.protocol_spec.specs.Chain.Certificates.{Rules}
 use Rattle.protocol_spec.specs.Member.Member.{state}
 use Rattle.protocol_spec.specs.Member.Calls.{Call, due}
 
--- some call appends the record behind these
+-- some call appends the record after these
 abbrev pub IsDueBehind : Rules → List Object → List Record → Record → Type 0
 IsDueBehind r opening before x = (call : Call) × (due r (state r opening before) call ≡ Some x)

@@ -118,7 +118,7 @@ changed r m (record_as.Ran txs) = with_rounds m
 changed r m record_as.Turn = turned m
 changed r m (record_as.Ran2 items) = with_rounds m
 
--- the state behind one more record
+-- the state after one more record
 unfoldable pub after : Rules → Member → Record → Member
 after r m x = record (changed r m x) { records = m.records + 1 }
 

@@ -67,11 +67,11 @@ abbrev pub is_wanted : ObjectKey → Option Producer → Version → Bool
 is_wanted key None v = false
 is_wanted key (Some producer) v = key_eq (object_key v.object) key && producer_eq v.producer producer
 
--- the object that is wanted, none where it is not present
+-- the object that is wanted, none if it is not present
 abbrev pub found : List Version → Wanted → Option Object
 found held w = option_map object_in (find (is_wanted w.key w.producer) held)
 
--- all inputs of a certificate, where all are present
+-- all inputs of a certificate, if all are present
 unfoldable pub present : Books → List Execution → Held → Option (List Object)
 present b executed h = all_some (map (found (versions b.opening executed)) (wants_of b.admission h))
 
@@ -96,7 +96,7 @@ abbrev pub ready_on : Books → List Execution → Held → Option (List Object)
 ready_on b executed h None = None
 ready_on b executed h (Some objects) = if fits h.cert.tx objects then ready_as b executed h (execution h.cert.tx objects) else None
 
--- what a certificate's execution gives, where it is ready behind these
+-- what a certificate's execution gives, if it is ready after these
 unfoldable pub ready : Books → List Execution → Held → Option Execution
 ready b executed h = if not (is_executed executed h.digest) && may_run b h then ready_on b executed h (present b executed h) else None
 
@@ -114,11 +114,11 @@ abbrev pub round_among : Books → List Execution → List Execution → List He
 round_among b executed round [] = round
 round_among b executed round (h ∷ hs) = round_among b executed (round_add round (ready b executed h)) hs
 
--- the certificates that are ready behind these, in order of holding
+-- the certificates that are ready after these, in order of holding
 unfoldable pub round_of : Books → List Execution → List Execution
 round_of b executed = round_among b executed [] b.held
 
--- at most so many rounds; behind an empty one all are empty
+-- at most so many rounds; after an empty one all are empty
 abbrev pub rounds_within : ℕ → Books → List Execution → List Execution
 rounds_within zero b executed = []
 rounds_within (suc n) b executed = round_of b executed ++ rounds_within n b (executed ++ round_of b executed)
@@ -147,7 +147,7 @@ is_due b executed h =
 abbrev pub missing : List Version → Wanted → Option ObjectKey
 missing held w = where_true (not (is_some (found held w))) w.key
 
--- the first version that is not present, or none where it does not fit
+-- the first version that is not present, or none if it does not fit
 abbrev pub left_as : Books → List Execution → Held → Left
 left_as b executed h = record { tx = h.digest; key = first_of (missing (versions b.opening executed)) (wants_of b.admission h) }
 

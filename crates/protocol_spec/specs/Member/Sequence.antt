@@ -113,7 +113,7 @@ numbered q = record q { number = q.number + 1 }
 unfoldable pub with_entry : Rules → List Object → Sequence → What → Sequence
 with_entry r opening q what = numbered (with_what r opening q what)
 
--- entries behind the end of the epoch are not taken
+-- entries after the end of the epoch are not taken
 unfoldable pub saw : Rules → List Object → ℕ → Sequence → List ℕ → Sequence
 saw r opening epoch q bytes = if q.ended then q else with_entry r opening q (what_of r epoch q bytes)
 
@@ -138,7 +138,7 @@ abbrev pub counted_what : Bool → ℕ → ℕ → SeenWhat
 counted_what true member w = seen_as.Ended member w
 counted_what false member w = seen_as.Counted member w
 
--- what the entry did, between the sequence before it and behind it
+-- what the entry did, between the sequence before it and after it
 unfoldable pub seen_what : Rules → Sequence → Sequence → What → SeenWhat
 seen_what r old new (takes h) = waiting_on old new h.digest (pending_on new.admission h.digest) (deferred_on r.writers new.admission h.digest)
 seen_what r old new commits = seen_as.Commit (newly_admitted old new) (newly_dropped old new)

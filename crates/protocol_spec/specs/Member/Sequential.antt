@@ -45,7 +45,7 @@ read_by m t = all_some (map (named_in m) (objects_of t))
 abbrev pub map_after : Objects → Executed → Objects
 map_after m x = fold without_id (fold with_object m x.objects) x.effects.deleted
 
--- the map, and the effects of each transaction, none where it had none
+-- the map, and the effects of each transaction, none if it had none
 pub record Folded : Type 0 where
   pub map : Objects
   pub effects : List (Option Effects)

@@ -46,21 +46,21 @@ is_key key v = key_eq (object_key v.object) key
 abbrev pub is_id : ObjectId → Version → Bool
 is_id id v = id_eq v.object.id id
 
--- the version of this key, none where it is not held
+-- the version of this key, none if it is not held
 abbrev pub version_at : List Version → ObjectKey → Option Version
 version_at held key = find (is_key key) held
 
 abbrev pub object_in : Version → Object
 object_in v = v.object
 
--- the execution of a transaction, none where it was not executed
+-- the execution of a transaction, none if it was not executed
 abbrev pub execution_of : List Execution → Digest → Option Execution
 execution_of executed tx = find (λ (x : Execution). digest_eq x.digest tx) executed
 
 abbrev pub is_executed : List Execution → Digest → Bool
 is_executed executed tx = is_some (execution_of executed tx)
 
--- the transaction that consumed this version, none where no executed one did
+-- the transaction that consumed this version, none if no executed one did
 abbrev pub consumer_of : List Execution → ObjectKey → Option Execution
 consumer_of executed key = find (λ (x : Execution). has_key x.consumed key) executed
 
@@ -77,7 +77,7 @@ newest id held = fold newer None (map object_in (filter (is_id id) held))
 abbrev pub is_deleted : List Execution → ObjectId → Bool
 is_deleted executed id = list_any (λ (x : Execution). has_id x.gave.effects.deleted id) executed
 
--- the newest version of an id, none where none is held or the object was deleted
+-- the newest version of an id, none if none is held or the object was deleted
 unfoldable pub live : List Object → List Execution → ObjectId → Option Object
 live opening executed id = if is_deleted executed id then None else newest id (versions opening executed)
 

@@ -69,7 +69,7 @@ wrong_owner b t (inputs.Owned r) = where_true (of_held (object_held b (key_of r)
 wrong_owner b t (inputs.Immutable r) = None
 wrong_owner b t (inputs.Shared id initial mutable) = None
 
--- gas that is no coin of currency 0 of an address
+-- gas that is not a coin of currency 0 of an address
 abbrev pub no_gas : Ballot → Transaction → Option DecideRefusal
 no_gas b t = where_true (of_held (object_held b (key_of t.gas)) (λ (o : Object). not (is_address o.owner && is_gas_coin o.content))) (refused.WrongKind (key_of t.gas))
 
@@ -106,11 +106,11 @@ vote_cases b t tx =
     where_true (nat_lt (gas_balance b t) t.budget) (refused.PoorGas (gas_balance b t) t.budget) ∷
     first_of (locked b.votes tx) (consumed_keys t) ∷ []
 
--- why the member does not vote for a transaction of this digest, where it does not
+-- why the member does not vote for a transaction of this digest, if it does not
 unfoldable pub vote_refusal : Ballot → Transaction → Digest → Option DecideRefusal
 vote_refusal b t tx = first_some (vote_cases b t tx)
 
--- ---- origins: the transaction of this epoch that made each object's version, none where the epoch opened with it
+-- ---- origins: the transaction of this epoch that made each object's version, none if the epoch opened with it
 
 abbrev pub maker : Producer → Option Digest
 maker producers.Opening = None

@@ -34,15 +34,15 @@ use Rattle.protocol_spec.specs.Member.Versions.{versions, live, live_list}
 use Rattle.protocol_spec.specs.Member.Votes.{vote_refusal, vote_origins}
 use Rattle.world_spec.specs.Assumptions.{delivered, delivered_ends, asked, all_delivered, all_formed, all_transactions}
 use Rattle.world_spec.specs.Keyed.{keyed_seal}
-use Rattle.world_spec.specs.Making.{made_by_line}
+use Rattle.world_spec.specs.Making.{made_over}
 use Rattle.world_spec.specs.Openings.{opening_at}
-use Rattle.world_spec.specs.Report.{acks_collected, lines_of}
+use Rattle.world_spec.specs.Report.{acks_collected, lines_over}
 use Rattle.world_spec.specs.Run.{report, world_after, journal, sums_of, summary, report_of}
 use Rattle.world_spec.specs.Setting.{setting_of}
-use Rattle.world_spec.specs.Step.{votes_collected, happens}
-use Rattle.world_spec.specs.World.{new_world, stated, reached, called_in}
+use Rattle.world_spec.specs.Step.{votes_collected, happens_over}
+use Rattle.world_spec.specs.World.{new_world, stated, reached_over, called_over}
 use Rattle.rows_law.proofs.execution_waits_for_origins.Goals as goal
 
 pub returns : goal.returns
-unfolding digits sha256 digest_bytes hash_after compress rounds schedule first_words digest front_read number_spell number_read bool_spell bool_read bytes_spell bytes_read text_read seq_read seq_spell option_read option_spell uleb uleb_below whole tagged_digest created_id_of genesis_id_of address_of_name digest_of_object transaction_digest consumed_keys object_count lamport_version object_id address object_ref owner kind content object input argument command transaction signed signer statement sealed member_seal certificate entry status written effects digest_of_effects item checkpoint digest_of_checkpoint ran_item journal_record read_signed read_certificate read_entry cert_refusal weight_of total_of fits currency_sum shape_fault command_step outcome execution mode_of native_gives current admit entered passed_mark pending_on deferred_on assigned_of vote_answer hold_answer see_answer run_answer close_answer end_answer turn_answer ack_answer due checkpoint_behind built fork_of after state is_allowed replayed wants_of present ready round_of rounds_of_rounds left what_of with_entry saw seen seen_what map_of fold_one fold_all versions live live_list vote_refusal vote_origins delivered delivered_ends asked all_delivered all_formed all_transactions keyed_seal made_by_line opening_at acks_collected lines_of report world_after journal sums_of summary report_of setting_of votes_collected happens new_world stated reached called_in
+unfolding digits sha256 digest_bytes hash_after compress rounds schedule first_words digest front_read number_spell number_read bool_spell bool_read bytes_spell bytes_read text_read seq_read seq_spell option_read option_spell uleb uleb_below whole tagged_digest created_id_of genesis_id_of address_of_name digest_of_object transaction_digest consumed_keys object_count lamport_version object_id address object_ref owner kind content object input argument command transaction signed signer statement sealed member_seal certificate entry status written effects digest_of_effects item checkpoint digest_of_checkpoint ran_item journal_record read_signed read_certificate read_entry cert_refusal weight_of total_of fits currency_sum shape_fault command_step outcome execution mode_of native_gives current admit entered passed_mark pending_on deferred_on assigned_of vote_answer hold_answer see_answer run_answer close_answer end_answer turn_answer ack_answer due checkpoint_behind built fork_of after state is_allowed replayed wants_of present ready round_of rounds_of_rounds left what_of with_entry saw seen seen_what map_of fold_one fold_all versions live live_list vote_refusal vote_origins delivered delivered_ends asked all_delivered all_formed all_transactions keyed_seal made_over opening_at acks_collected lines_over report world_after journal sums_of summary report_of setting_of votes_collected happens_over new_world stated reached_over called_over
 returns c = refl

@@ -36,13 +36,13 @@ use Rattle.protocol_spec.specs.Member.Versions.{versions, live, live_list}
 use Rattle.protocol_spec.specs.Member.Votes.{vote_refusal, vote_origins}
 use Rattle.world_spec.specs.Assumptions.{delivered, delivered_ends, asked, all_delivered, all_formed, all_transactions}
 use Rattle.world_spec.specs.Keyed.{keyed_seal}
-use Rattle.world_spec.specs.Making.{made_by_line}
+use Rattle.world_spec.specs.Making.{made_over}
 use Rattle.world_spec.specs.Openings.{opening_at}
-use Rattle.world_spec.specs.Report.{acks_collected, lines_of}
+use Rattle.world_spec.specs.Report.{acks_collected, lines_over}
 use Rattle.world_spec.specs.Run.{report, world_after, journal, sums_of, summary, report_of}
 use Rattle.world_spec.specs.Setting.{setting_of}
-use Rattle.world_spec.specs.Step.{votes_collected, happens}
-use Rattle.world_spec.specs.World.{new_world, stated, reached, called_in}
+use Rattle.world_spec.specs.Step.{votes_collected, happens_over}
+use Rattle.world_spec.specs.World.{new_world, stated, reached_over, called_over}
 use Rattle.schedule_text.specs.Bytes.{is_name, is_digits, value_from, number_of, number_in, cut_at, has_mark, without_mark, each_of}
 use Rattle.schedule_text.specs.Commands.{is_place, place_value, is_arg, arg_of, native_of, kind_of, command_kind, command_parts, is_command, command_of}
 use Rattle.schedule_text.specs.Inputs.{is_hex, hex_of, input_kind, input_parts, is_input, input_of}
@@ -105,7 +105,7 @@ the_schedule = record {
 }
 
 is_read : schedule_of (text_of lines) ≡ Ok the_schedule
-unfolding digits sha256 digest_bytes hash_after compress rounds schedule first_words digest front_read number_spell number_read bool_spell bool_read bytes_spell bytes_read text_read seq_read seq_spell option_read option_spell uleb uleb_below whole tagged_digest created_id_of genesis_id_of address_of_name digest_of_object transaction_digest consumed_keys object_count lamport_version object_id address object_ref owner kind content object input argument command transaction signed signer statement sealed member_seal certificate entry status written effects digest_of_effects item checkpoint digest_of_checkpoint ran_item journal_record read_signed read_certificate read_entry cert_refusal weight_of total_of fits currency_sum shape_fault command_step outcome execution mode_of native_gives current admit entered passed_mark pending_on deferred_on assigned_of vote_answer hold_answer see_answer run_answer close_answer end_answer turn_answer ack_answer due checkpoint_behind built fork_of after state is_allowed replayed wants_of present ready round_of rounds_of_rounds left what_of with_entry saw seen seen_what map_of fold_one fold_all versions live live_list vote_refusal vote_origins delivered delivered_ends asked all_delivered all_formed all_transactions keyed_seal made_by_line opening_at acks_collected lines_of report world_after journal sums_of summary report_of setting_of votes_collected happens new_world stated reached called_in is_name is_digits value_from number_of number_in cut_at has_mark without_mark each_of is_place place_value is_arg arg_of native_of kind_of command_kind command_parts is_command command_of is_hex hex_of input_kind input_parts is_input input_of roles object_names currencies has_limit tx_names each_check setup_kind_check setup_check new_tx_check fvote_check ack_check event_check add_line member_number member_line coin_line counter_line cap_line writers_line after_inputs front_inputs block_form block_of tx_line member_and_tx member_alone member_and_number tx_and_members origins_of fvote_line order_tx order_end order_line stop_line raw_line ack_event ack_line member_event event_of statement_of is_object object_of is_ref ref_of is_shared read_line read_lines schedule_of
+unfolding digits sha256 digest_bytes hash_after compress rounds schedule first_words digest front_read number_spell number_read bool_spell bool_read bytes_spell bytes_read text_read seq_read seq_spell option_read option_spell uleb uleb_below whole tagged_digest created_id_of genesis_id_of address_of_name digest_of_object transaction_digest consumed_keys object_count lamport_version object_id address object_ref owner kind content object input argument command transaction signed signer statement sealed member_seal certificate entry status written effects digest_of_effects item checkpoint digest_of_checkpoint ran_item journal_record read_signed read_certificate read_entry cert_refusal weight_of total_of fits currency_sum shape_fault command_step outcome execution mode_of native_gives current admit entered passed_mark pending_on deferred_on assigned_of vote_answer hold_answer see_answer run_answer close_answer end_answer turn_answer ack_answer due checkpoint_behind built fork_of after state is_allowed replayed wants_of present ready round_of rounds_of_rounds left what_of with_entry saw seen seen_what map_of fold_one fold_all versions live live_list vote_refusal vote_origins delivered delivered_ends asked all_delivered all_formed all_transactions keyed_seal made_over opening_at acks_collected lines_over report world_after journal sums_of summary report_of setting_of votes_collected happens_over new_world stated reached_over called_over is_name is_digits value_from number_of number_in cut_at has_mark without_mark each_of is_place place_value is_arg arg_of native_of kind_of command_kind command_parts is_command command_of is_hex hex_of input_kind input_parts is_input input_of roles object_names currencies has_limit tx_names each_check setup_kind_check setup_check new_tx_check fvote_check ack_check event_check add_line member_number member_line coin_line counter_line cap_line writers_line after_inputs front_inputs block_form block_of tx_line member_and_tx member_alone member_and_number tx_and_members origins_of fvote_line order_tx order_end order_line stop_line raw_line ack_event ack_line member_event event_of statement_of is_object object_of is_ref ref_of is_shared read_line read_lines schedule_of
 is_read = refl
 
 few : FewFaulty (setting_of (keyed program_secret) the_schedule.setup)
@@ -130,34 +130,34 @@ abbrev both : List Transaction
 both = adding 0 (codes "alice") 10 ∷ adding 1 (codes "bob") 1 ∷ []
 
 are_made : IsAmong both (map (λ (t : Made). t.signed.tx) (world_after (setting_of (keyed program_secret) the_schedule.setup) the_schedule.events).txs)
-unfolding digits sha256 digest_bytes hash_after compress rounds schedule first_words digest front_read number_spell number_read bool_spell bool_read bytes_spell bytes_read text_read seq_read seq_spell option_read option_spell uleb uleb_below whole tagged_digest created_id_of genesis_id_of address_of_name digest_of_object transaction_digest consumed_keys object_count lamport_version object_id address object_ref owner kind content object input argument command transaction signed signer statement sealed member_seal certificate entry status written effects digest_of_effects item checkpoint digest_of_checkpoint ran_item journal_record read_signed read_certificate read_entry cert_refusal weight_of total_of fits currency_sum shape_fault command_step outcome execution mode_of native_gives current admit entered passed_mark pending_on deferred_on assigned_of vote_answer hold_answer see_answer run_answer close_answer end_answer turn_answer ack_answer due checkpoint_behind built fork_of after state is_allowed replayed wants_of present ready round_of rounds_of_rounds left what_of with_entry saw seen seen_what map_of fold_one fold_all versions live live_list vote_refusal vote_origins delivered delivered_ends asked all_delivered all_formed all_transactions keyed_seal made_by_line opening_at acks_collected lines_of report world_after journal sums_of summary report_of setting_of votes_collected happens new_world stated reached called_in is_name is_digits value_from number_of number_in cut_at has_mark without_mark each_of is_place place_value is_arg arg_of native_of kind_of command_kind command_parts is_command command_of is_hex hex_of input_kind input_parts is_input input_of roles object_names currencies has_limit tx_names each_check setup_kind_check setup_check new_tx_check fvote_check ack_check event_check add_line member_number member_line coin_line counter_line cap_line writers_line after_inputs front_inputs block_form block_of tx_line member_and_tx member_alone member_and_number tx_and_members origins_of fvote_line order_tx order_end order_line stop_line raw_line ack_event ack_line member_event event_of statement_of is_object object_of is_ref ref_of is_shared read_line read_lines schedule_of
+unfolding digits sha256 digest_bytes hash_after compress rounds schedule first_words digest front_read number_spell number_read bool_spell bool_read bytes_spell bytes_read text_read seq_read seq_spell option_read option_spell uleb uleb_below whole tagged_digest created_id_of genesis_id_of address_of_name digest_of_object transaction_digest consumed_keys object_count lamport_version object_id address object_ref owner kind content object input argument command transaction signed signer statement sealed member_seal certificate entry status written effects digest_of_effects item checkpoint digest_of_checkpoint ran_item journal_record read_signed read_certificate read_entry cert_refusal weight_of total_of fits currency_sum shape_fault command_step outcome execution mode_of native_gives current admit entered passed_mark pending_on deferred_on assigned_of vote_answer hold_answer see_answer run_answer close_answer end_answer turn_answer ack_answer due checkpoint_behind built fork_of after state is_allowed replayed wants_of present ready round_of rounds_of_rounds left what_of with_entry saw seen seen_what map_of fold_one fold_all versions live live_list vote_refusal vote_origins delivered delivered_ends asked all_delivered all_formed all_transactions keyed_seal made_over opening_at acks_collected lines_over report world_after journal sums_of summary report_of setting_of votes_collected happens_over new_world stated reached_over called_over is_name is_digits value_from number_of number_in cut_at has_mark without_mark each_of is_place place_value is_arg arg_of native_of kind_of command_kind command_parts is_command command_of is_hex hex_of input_kind input_parts is_input input_of roles object_names currencies has_limit tx_names each_check setup_kind_check setup_check new_tx_check fvote_check ack_check event_check add_line member_number member_line coin_line counter_line cap_line writers_line after_inputs front_inputs block_form block_of tx_line member_and_tx member_alone member_and_number tx_and_members origins_of fvote_line order_tx order_end order_line stop_line raw_line ack_event ack_line member_event event_of statement_of is_object object_of is_ref ref_of is_shared read_line read_lines schedule_of
 are_made = record { places = 0 ∷ 1 ∷ []; there = refl }
 
 are_handed : IsAmong both (map (λ (x : SignedTx). x.tx) (all_of asked (setting_of (keyed program_secret) the_schedule.setup) the_schedule.events (new_world (setting_of (keyed program_secret) the_schedule.setup))))
-unfolding digits sha256 digest_bytes hash_after compress rounds schedule first_words digest front_read number_spell number_read bool_spell bool_read bytes_spell bytes_read text_read seq_read seq_spell option_read option_spell uleb uleb_below whole tagged_digest created_id_of genesis_id_of address_of_name digest_of_object transaction_digest consumed_keys object_count lamport_version object_id address object_ref owner kind content object input argument command transaction signed signer statement sealed member_seal certificate entry status written effects digest_of_effects item checkpoint digest_of_checkpoint ran_item journal_record read_signed read_certificate read_entry cert_refusal weight_of total_of fits currency_sum shape_fault command_step outcome execution mode_of native_gives current admit entered passed_mark pending_on deferred_on assigned_of vote_answer hold_answer see_answer run_answer close_answer end_answer turn_answer ack_answer due checkpoint_behind built fork_of after state is_allowed replayed wants_of present ready round_of rounds_of_rounds left what_of with_entry saw seen seen_what map_of fold_one fold_all versions live live_list vote_refusal vote_origins delivered delivered_ends asked all_delivered all_formed all_transactions keyed_seal made_by_line opening_at acks_collected lines_of report world_after journal sums_of summary report_of setting_of votes_collected happens new_world stated reached called_in is_name is_digits value_from number_of number_in cut_at has_mark without_mark each_of is_place place_value is_arg arg_of native_of kind_of command_kind command_parts is_command command_of is_hex hex_of input_kind input_parts is_input input_of roles object_names currencies has_limit tx_names each_check setup_kind_check setup_check new_tx_check fvote_check ack_check event_check add_line member_number member_line coin_line counter_line cap_line writers_line after_inputs front_inputs block_form block_of tx_line member_and_tx member_alone member_and_number tx_and_members origins_of fvote_line order_tx order_end order_line stop_line raw_line ack_event ack_line member_event event_of statement_of is_object object_of is_ref ref_of is_shared read_line read_lines schedule_of
+unfolding digits sha256 digest_bytes hash_after compress rounds schedule first_words digest front_read number_spell number_read bool_spell bool_read bytes_spell bytes_read text_read seq_read seq_spell option_read option_spell uleb uleb_below whole tagged_digest created_id_of genesis_id_of address_of_name digest_of_object transaction_digest consumed_keys object_count lamport_version object_id address object_ref owner kind content object input argument command transaction signed signer statement sealed member_seal certificate entry status written effects digest_of_effects item checkpoint digest_of_checkpoint ran_item journal_record read_signed read_certificate read_entry cert_refusal weight_of total_of fits currency_sum shape_fault command_step outcome execution mode_of native_gives current admit entered passed_mark pending_on deferred_on assigned_of vote_answer hold_answer see_answer run_answer close_answer end_answer turn_answer ack_answer due checkpoint_behind built fork_of after state is_allowed replayed wants_of present ready round_of rounds_of_rounds left what_of with_entry saw seen seen_what map_of fold_one fold_all versions live live_list vote_refusal vote_origins delivered delivered_ends asked all_delivered all_formed all_transactions keyed_seal made_over opening_at acks_collected lines_over report world_after journal sums_of summary report_of setting_of votes_collected happens_over new_world stated reached_over called_over is_name is_digits value_from number_of number_in cut_at has_mark without_mark each_of is_place place_value is_arg arg_of native_of kind_of command_kind command_parts is_command command_of is_hex hex_of input_kind input_parts is_input input_of roles object_names currencies has_limit tx_names each_check setup_kind_check setup_check new_tx_check fvote_check ack_check event_check add_line member_number member_line coin_line counter_line cap_line writers_line after_inputs front_inputs block_form block_of tx_line member_and_tx member_alone member_and_number tx_and_members origins_of fvote_line order_tx order_end order_line stop_line raw_line ack_event ack_line member_event event_of statement_of is_object object_of is_ref ref_of is_shared read_line read_lines schedule_of
 are_handed = record { places = 0 ∷ 0 ∷ 0 ∷ 1 ∷ 1 ∷ []; there = refl }
 
 are_formed : IsAmong both (map (λ (c : Certificate). c.tx) (all_formed (setting_of (keyed program_secret) the_schedule.setup) the_schedule.events))
-unfolding digits sha256 digest_bytes hash_after compress rounds schedule first_words digest front_read number_spell number_read bool_spell bool_read bytes_spell bytes_read text_read seq_read seq_spell option_read option_spell uleb uleb_below whole tagged_digest created_id_of genesis_id_of address_of_name digest_of_object transaction_digest consumed_keys object_count lamport_version object_id address object_ref owner kind content object input argument command transaction signed signer statement sealed member_seal certificate entry status written effects digest_of_effects item checkpoint digest_of_checkpoint ran_item journal_record read_signed read_certificate read_entry cert_refusal weight_of total_of fits currency_sum shape_fault command_step outcome execution mode_of native_gives current admit entered passed_mark pending_on deferred_on assigned_of vote_answer hold_answer see_answer run_answer close_answer end_answer turn_answer ack_answer due checkpoint_behind built fork_of after state is_allowed replayed wants_of present ready round_of rounds_of_rounds left what_of with_entry saw seen seen_what map_of fold_one fold_all versions live live_list vote_refusal vote_origins delivered delivered_ends asked all_delivered all_formed all_transactions keyed_seal made_by_line opening_at acks_collected lines_of report world_after journal sums_of summary report_of setting_of votes_collected happens new_world stated reached called_in is_name is_digits value_from number_of number_in cut_at has_mark without_mark each_of is_place place_value is_arg arg_of native_of kind_of command_kind command_parts is_command command_of is_hex hex_of input_kind input_parts is_input input_of roles object_names currencies has_limit tx_names each_check setup_kind_check setup_check new_tx_check fvote_check ack_check event_check add_line member_number member_line coin_line counter_line cap_line writers_line after_inputs front_inputs block_form block_of tx_line member_and_tx member_alone member_and_number tx_and_members origins_of fvote_line order_tx order_end order_line stop_line raw_line ack_event ack_line member_event event_of statement_of is_object object_of is_ref ref_of is_shared read_line read_lines schedule_of
+unfolding digits sha256 digest_bytes hash_after compress rounds schedule first_words digest front_read number_spell number_read bool_spell bool_read bytes_spell bytes_read text_read seq_read seq_spell option_read option_spell uleb uleb_below whole tagged_digest created_id_of genesis_id_of address_of_name digest_of_object transaction_digest consumed_keys object_count lamport_version object_id address object_ref owner kind content object input argument command transaction signed signer statement sealed member_seal certificate entry status written effects digest_of_effects item checkpoint digest_of_checkpoint ran_item journal_record read_signed read_certificate read_entry cert_refusal weight_of total_of fits currency_sum shape_fault command_step outcome execution mode_of native_gives current admit entered passed_mark pending_on deferred_on assigned_of vote_answer hold_answer see_answer run_answer close_answer end_answer turn_answer ack_answer due checkpoint_behind built fork_of after state is_allowed replayed wants_of present ready round_of rounds_of_rounds left what_of with_entry saw seen seen_what map_of fold_one fold_all versions live live_list vote_refusal vote_origins delivered delivered_ends asked all_delivered all_formed all_transactions keyed_seal made_over opening_at acks_collected lines_over report world_after journal sums_of summary report_of setting_of votes_collected happens_over new_world stated reached_over called_over is_name is_digits value_from number_of number_in cut_at has_mark without_mark each_of is_place place_value is_arg arg_of native_of kind_of command_kind command_parts is_command command_of is_hex hex_of input_kind input_parts is_input input_of roles object_names currencies has_limit tx_names each_check setup_kind_check setup_check new_tx_check fvote_check ack_check event_check add_line member_number member_line coin_line counter_line cap_line writers_line after_inputs front_inputs block_form block_of tx_line member_and_tx member_alone member_and_number tx_and_members origins_of fvote_line order_tx order_end order_line stop_line raw_line ack_event ack_line member_event event_of statement_of is_object object_of is_ref ref_of is_shared read_line read_lines schedule_of
 are_formed = record { places = 0 ∷ 1 ∷ []; there = refl }
 
 have_come : IsAmong both (map (λ (c : Certificate). c.tx) (all_delivered (setting_of (keyed program_secret) the_schedule.setup) the_schedule.events))
-unfolding digits sha256 digest_bytes hash_after compress rounds schedule first_words digest front_read number_spell number_read bool_spell bool_read bytes_spell bytes_read text_read seq_read seq_spell option_read option_spell uleb uleb_below whole tagged_digest created_id_of genesis_id_of address_of_name digest_of_object transaction_digest consumed_keys object_count lamport_version object_id address object_ref owner kind content object input argument command transaction signed signer statement sealed member_seal certificate entry status written effects digest_of_effects item checkpoint digest_of_checkpoint ran_item journal_record read_signed read_certificate read_entry cert_refusal weight_of total_of fits currency_sum shape_fault command_step outcome execution mode_of native_gives current admit entered passed_mark pending_on deferred_on assigned_of vote_answer hold_answer see_answer run_answer close_answer end_answer turn_answer ack_answer due checkpoint_behind built fork_of after state is_allowed replayed wants_of present ready round_of rounds_of_rounds left what_of with_entry saw seen seen_what map_of fold_one fold_all versions live live_list vote_refusal vote_origins delivered delivered_ends asked all_delivered all_formed all_transactions keyed_seal made_by_line opening_at acks_collected lines_of report world_after journal sums_of summary report_of setting_of votes_collected happens new_world stated reached called_in is_name is_digits value_from number_of number_in cut_at has_mark without_mark each_of is_place place_value is_arg arg_of native_of kind_of command_kind command_parts is_command command_of is_hex hex_of input_kind input_parts is_input input_of roles object_names currencies has_limit tx_names each_check setup_kind_check setup_check new_tx_check fvote_check ack_check event_check add_line member_number member_line coin_line counter_line cap_line writers_line after_inputs front_inputs block_form block_of tx_line member_and_tx member_alone member_and_number tx_and_members origins_of fvote_line order_tx order_end order_line stop_line raw_line ack_event ack_line member_event event_of statement_of is_object object_of is_ref ref_of is_shared read_line read_lines schedule_of
+unfolding digits sha256 digest_bytes hash_after compress rounds schedule first_words digest front_read number_spell number_read bool_spell bool_read bytes_spell bytes_read text_read seq_read seq_spell option_read option_spell uleb uleb_below whole tagged_digest created_id_of genesis_id_of address_of_name digest_of_object transaction_digest consumed_keys object_count lamport_version object_id address object_ref owner kind content object input argument command transaction signed signer statement sealed member_seal certificate entry status written effects digest_of_effects item checkpoint digest_of_checkpoint ran_item journal_record read_signed read_certificate read_entry cert_refusal weight_of total_of fits currency_sum shape_fault command_step outcome execution mode_of native_gives current admit entered passed_mark pending_on deferred_on assigned_of vote_answer hold_answer see_answer run_answer close_answer end_answer turn_answer ack_answer due checkpoint_behind built fork_of after state is_allowed replayed wants_of present ready round_of rounds_of_rounds left what_of with_entry saw seen seen_what map_of fold_one fold_all versions live live_list vote_refusal vote_origins delivered delivered_ends asked all_delivered all_formed all_transactions keyed_seal made_over opening_at acks_collected lines_over report world_after journal sums_of summary report_of setting_of votes_collected happens_over new_world stated reached_over called_over is_name is_digits value_from number_of number_in cut_at has_mark without_mark each_of is_place place_value is_arg arg_of native_of kind_of command_kind command_parts is_command command_of is_hex hex_of input_kind input_parts is_input input_of roles object_names currencies has_limit tx_names each_check setup_kind_check setup_check new_tx_check fvote_check ack_check event_check add_line member_number member_line coin_line counter_line cap_line writers_line after_inputs front_inputs block_form block_of tx_line member_and_tx member_alone member_and_number tx_and_members origins_of fvote_line order_tx order_end order_line stop_line raw_line ack_event ack_line member_event event_of statement_of is_object object_of is_ref ref_of is_shared read_line read_lines schedule_of
 have_come = record { places = 0 ∷ 1 ∷ []; there = refl }
 
 digests_differ : repeats digest_eq (map transaction_digest both) ≡ false
-unfolding digits sha256 digest_bytes hash_after compress rounds schedule first_words digest front_read number_spell number_read bool_spell bool_read bytes_spell bytes_read text_read seq_read seq_spell option_read option_spell uleb uleb_below whole tagged_digest created_id_of genesis_id_of address_of_name digest_of_object transaction_digest consumed_keys object_count lamport_version object_id address object_ref owner kind content object input argument command transaction signed signer statement sealed member_seal certificate entry status written effects digest_of_effects item checkpoint digest_of_checkpoint ran_item journal_record read_signed read_certificate read_entry cert_refusal weight_of total_of fits currency_sum shape_fault command_step outcome execution mode_of native_gives current admit entered passed_mark pending_on deferred_on assigned_of vote_answer hold_answer see_answer run_answer close_answer end_answer turn_answer ack_answer due checkpoint_behind built fork_of after state is_allowed replayed wants_of present ready round_of rounds_of_rounds left what_of with_entry saw seen seen_what map_of fold_one fold_all versions live live_list vote_refusal vote_origins delivered delivered_ends asked all_delivered all_formed all_transactions keyed_seal made_by_line opening_at acks_collected lines_of report world_after journal sums_of summary report_of setting_of votes_collected happens new_world stated reached called_in is_name is_digits value_from number_of number_in cut_at has_mark without_mark each_of is_place place_value is_arg arg_of native_of kind_of command_kind command_parts is_command command_of is_hex hex_of input_kind input_parts is_input input_of roles object_names currencies has_limit tx_names each_check setup_kind_check setup_check new_tx_check fvote_check ack_check event_check add_line member_number member_line coin_line counter_line cap_line writers_line after_inputs front_inputs block_form block_of tx_line member_and_tx member_alone member_and_number tx_and_members origins_of fvote_line order_tx order_end order_line stop_line raw_line ack_event ack_line member_event event_of statement_of is_object object_of is_ref ref_of is_shared read_line read_lines schedule_of
+unfolding digits sha256 digest_bytes hash_after compress rounds schedule first_words digest front_read number_spell number_read bool_spell bool_read bytes_spell bytes_read text_read seq_read seq_spell option_read option_spell uleb uleb_below whole tagged_digest created_id_of genesis_id_of address_of_name digest_of_object transaction_digest consumed_keys object_count lamport_version object_id address object_ref owner kind content object input argument command transaction signed signer statement sealed member_seal certificate entry status written effects digest_of_effects item checkpoint digest_of_checkpoint ran_item journal_record read_signed read_certificate read_entry cert_refusal weight_of total_of fits currency_sum shape_fault command_step outcome execution mode_of native_gives current admit entered passed_mark pending_on deferred_on assigned_of vote_answer hold_answer see_answer run_answer close_answer end_answer turn_answer ack_answer due checkpoint_behind built fork_of after state is_allowed replayed wants_of present ready round_of rounds_of_rounds left what_of with_entry saw seen seen_what map_of fold_one fold_all versions live live_list vote_refusal vote_origins delivered delivered_ends asked all_delivered all_formed all_transactions keyed_seal made_over opening_at acks_collected lines_over report world_after journal sums_of summary report_of setting_of votes_collected happens_over new_world stated reached_over called_over is_name is_digits value_from number_of number_in cut_at has_mark without_mark each_of is_place place_value is_arg arg_of native_of kind_of command_kind command_parts is_command command_of is_hex hex_of input_kind input_parts is_input input_of roles object_names currencies has_limit tx_names each_check setup_kind_check setup_check new_tx_check fvote_check ack_check event_check add_line member_number member_line coin_line counter_line cap_line writers_line after_inputs front_inputs block_form block_of tx_line member_and_tx member_alone member_and_number tx_and_members origins_of fvote_line order_tx order_end order_line stop_line raw_line ack_event ack_line member_event event_of statement_of is_object object_of is_ref ref_of is_shared read_line read_lines schedule_of
 digests_differ = refl
 
 ids_differ : repeats id_eq (map created_id (flat_map numbered both) ++ map opened_id (setting_of (keyed program_secret) the_schedule.setup).opening) ≡ false
-unfolding digits sha256 digest_bytes hash_after compress rounds schedule first_words digest front_read number_spell number_read bool_spell bool_read bytes_spell bytes_read text_read seq_read seq_spell option_read option_spell uleb uleb_below whole tagged_digest created_id_of genesis_id_of address_of_name digest_of_object transaction_digest consumed_keys object_count lamport_version object_id address object_ref owner kind content object input argument command transaction signed signer statement sealed member_seal certificate entry status written effects digest_of_effects item checkpoint digest_of_checkpoint ran_item journal_record read_signed read_certificate read_entry cert_refusal weight_of total_of fits currency_sum shape_fault command_step outcome execution mode_of native_gives current admit entered passed_mark pending_on deferred_on assigned_of vote_answer hold_answer see_answer run_answer close_answer end_answer turn_answer ack_answer due checkpoint_behind built fork_of after state is_allowed replayed wants_of present ready round_of rounds_of_rounds left what_of with_entry saw seen seen_what map_of fold_one fold_all versions live live_list vote_refusal vote_origins delivered delivered_ends asked all_delivered all_formed all_transactions keyed_seal made_by_line opening_at acks_collected lines_of report world_after journal sums_of summary report_of setting_of votes_collected happens new_world stated reached called_in is_name is_digits value_from number_of number_in cut_at has_mark without_mark each_of is_place place_value is_arg arg_of native_of kind_of command_kind command_parts is_command command_of is_hex hex_of input_kind input_parts is_input input_of roles object_names currencies has_limit tx_names each_check setup_kind_check setup_check new_tx_check fvote_check ack_check event_check add_line member_number member_line coin_line counter_line cap_line writers_line after_inputs front_inputs block_form block_of tx_line member_and_tx member_alone member_and_number tx_and_members origins_of fvote_line order_tx order_end order_line stop_line raw_line ack_event ack_line member_event event_of statement_of is_object object_of is_ref ref_of is_shared read_line read_lines schedule_of
+unfolding digits sha256 digest_bytes hash_after compress rounds schedule first_words digest front_read number_spell number_read bool_spell bool_read bytes_spell bytes_read text_read seq_read seq_spell option_read option_spell uleb uleb_below whole tagged_digest created_id_of genesis_id_of address_of_name digest_of_object transaction_digest consumed_keys object_count lamport_version object_id address object_ref owner kind content object input argument command transaction signed signer statement sealed member_seal certificate entry status written effects digest_of_effects item checkpoint digest_of_checkpoint ran_item journal_record read_signed read_certificate read_entry cert_refusal weight_of total_of fits currency_sum shape_fault command_step outcome execution mode_of native_gives current admit entered passed_mark pending_on deferred_on assigned_of vote_answer hold_answer see_answer run_answer close_answer end_answer turn_answer ack_answer due checkpoint_behind built fork_of after state is_allowed replayed wants_of present ready round_of rounds_of_rounds left what_of with_entry saw seen seen_what map_of fold_one fold_all versions live live_list vote_refusal vote_origins delivered delivered_ends asked all_delivered all_formed all_transactions keyed_seal made_over opening_at acks_collected lines_over report world_after journal sums_of summary report_of setting_of votes_collected happens_over new_world stated reached_over called_over is_name is_digits value_from number_of number_in cut_at has_mark without_mark each_of is_place place_value is_arg arg_of native_of kind_of command_kind command_parts is_command command_of is_hex hex_of input_kind input_parts is_input input_of roles object_names currencies has_limit tx_names each_check setup_kind_check setup_check new_tx_check fvote_check ack_check event_check add_line member_number member_line coin_line counter_line cap_line writers_line after_inputs front_inputs block_form block_of tx_line member_and_tx member_alone member_and_number tx_and_members origins_of fvote_line order_tx order_end order_line stop_line raw_line ack_event ack_line member_event event_of statement_of is_object object_of is_ref ref_of is_shared read_line read_lines schedule_of
 ids_differ = refl
 
 computed : IsComputed (setting_of (keyed program_secret) the_schedule.setup) the_schedule.events
 computed = record { known = both; made = are_made; handed = are_handed; formed = are_formed; came = have_come; digests = digests_differ; ids = ids_differ }
 
 is_reported : report_of (keyed program_secret) the_schedule ≡ report_is
-unfolding digits sha256 digest_bytes hash_after compress rounds schedule first_words digest front_read number_spell number_read bool_spell bool_read bytes_spell bytes_read text_read seq_read seq_spell option_read option_spell uleb uleb_below whole tagged_digest created_id_of genesis_id_of address_of_name digest_of_object transaction_digest consumed_keys object_count lamport_version object_id address object_ref owner kind content object input argument command transaction signed signer statement sealed member_seal certificate entry status written effects digest_of_effects item checkpoint digest_of_checkpoint ran_item journal_record read_signed read_certificate read_entry cert_refusal weight_of total_of fits currency_sum shape_fault command_step outcome execution mode_of native_gives current admit entered passed_mark pending_on deferred_on assigned_of vote_answer hold_answer see_answer run_answer close_answer end_answer turn_answer ack_answer due checkpoint_behind built fork_of after state is_allowed replayed wants_of present ready round_of rounds_of_rounds left what_of with_entry saw seen seen_what map_of fold_one fold_all versions live live_list vote_refusal vote_origins delivered delivered_ends asked all_delivered all_formed all_transactions keyed_seal made_by_line opening_at acks_collected lines_of report world_after journal sums_of summary report_of setting_of votes_collected happens new_world stated reached called_in is_name is_digits value_from number_of number_in cut_at has_mark without_mark each_of is_place place_value is_arg arg_of native_of kind_of command_kind command_parts is_command command_of is_hex hex_of input_kind input_parts is_input input_of roles object_names currencies has_limit tx_names each_check setup_kind_check setup_check new_tx_check fvote_check ack_check event_check add_line member_number member_line coin_line counter_line cap_line writers_line after_inputs front_inputs block_form block_of tx_line member_and_tx member_alone member_and_number tx_and_members origins_of fvote_line order_tx order_end order_line stop_line raw_line ack_event ack_line member_event event_of statement_of is_object object_of is_ref ref_of is_shared read_line read_lines schedule_of
+unfolding digits sha256 digest_bytes hash_after compress rounds schedule first_words digest front_read number_spell number_read bool_spell bool_read bytes_spell bytes_read text_read seq_read seq_spell option_read option_spell uleb uleb_below whole tagged_digest created_id_of genesis_id_of address_of_name digest_of_object transaction_digest consumed_keys object_count lamport_version object_id address object_ref owner kind content object input argument command transaction signed signer statement sealed member_seal certificate entry status written effects digest_of_effects item checkpoint digest_of_checkpoint ran_item journal_record read_signed read_certificate read_entry cert_refusal weight_of total_of fits currency_sum shape_fault command_step outcome execution mode_of native_gives current admit entered passed_mark pending_on deferred_on assigned_of vote_answer hold_answer see_answer run_answer close_answer end_answer turn_answer ack_answer due checkpoint_behind built fork_of after state is_allowed replayed wants_of present ready round_of rounds_of_rounds left what_of with_entry saw seen seen_what map_of fold_one fold_all versions live live_list vote_refusal vote_origins delivered delivered_ends asked all_delivered all_formed all_transactions keyed_seal made_over opening_at acks_collected lines_over report world_after journal sums_of summary report_of setting_of votes_collected happens_over new_world stated reached_over called_over is_name is_digits value_from number_of number_in cut_at has_mark without_mark each_of is_place place_value is_arg arg_of native_of kind_of command_kind command_parts is_command command_of is_hex hex_of input_kind input_parts is_input input_of roles object_names currencies has_limit tx_names each_check setup_kind_check setup_check new_tx_check fvote_check ack_check event_check add_line member_number member_line coin_line counter_line cap_line writers_line after_inputs front_inputs block_form block_of tx_line member_and_tx member_alone member_and_number tx_and_members origins_of fvote_line order_tx order_end order_line stop_line raw_line ack_event ack_line member_event event_of statement_of is_object object_of is_ref ref_of is_shared read_line read_lines schedule_of
 is_reported = refl
 
 pub returns : goal.returns

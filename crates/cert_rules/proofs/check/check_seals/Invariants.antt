@@ -5,7 +5,7 @@ use Rattle.cert_rules.proofs.check.check_seals.Given as goal
 
 abbrev pub invariant-loop-rest : goal.invariant-loop-rest
 invariant-loop-rest g l =
-    let test = refused_seal (g.S.Sealer.accepts l.sealer) l.bytes in
+    let test = refused_seal (g.C.Checker.accepts l.checker) l.bytes in
     first_of test l.rest ≡ first_of test l.seals
 
 abbrev pub decreases-loop-rest : goal.decreases-loop-rest

@@ -1,7 +1,7 @@
 use Rattle.std.proofs.Common.{◌≡◌, length}
 use Rattle.committee_core.proofs.agreement.are_same_items.Given as goal
 
--- what is left of both is one exactly where both are
+-- what is left of both is one exactly if both are
 abbrev pub invariant-loop-rest : goal.invariant-loop-rest
 invariant-loop-rest l = record {
   forth : l.rest ≡ l.others → l.one ≡ l.other;

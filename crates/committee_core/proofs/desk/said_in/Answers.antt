@@ -5,12 +5,12 @@ use Rattle.committee_core.proofs.desk.said_in.Goals as goal
 
 pub returns-then-not-is_honest : goal.returns-then-not-is_honest
 returns-then-not-is_honest g c =
-    let trust = trust_by (g.S.MakesSeals.made c.args.sealer) (g.S.Sealer.accepts c.args.sealer) in
+    let trust = trust_by (g.S.MakesSeals.made c.args.sealer) (g.S.Checker.accepts c.args.sealer) in
     said_dishonest c.said_line.result trust c.args.callers c.args.schedule.now c.as_slice.result.now c.as_slice.ensures
     (honest_behind trust c.args.schedule.now c.args.world.now false c.requires.txs c.requires.shows c.if-not-is_honest.ensures) c.said_line.ensures
 
 pub returns : goal.returns
 returns g c =
-    let trust = trust_by (g.S.MakesSeals.made c.args.sealer) (g.S.Sealer.accepts c.args.sealer) in
+    let trust = trust_by (g.S.MakesSeals.made c.args.sealer) (g.S.Checker.accepts c.args.sealer) in
     ends_voted trust c.args.callers c.args.schedule.now c.args.world.now c.in_ok-calls.calls c.in_ok-text.text c.requires.shows c.in_ok-calls.ensures.legal c.in_ok-calls.ensures.made c.in_ok-calls.ensures.answered c.in_ok-text.ensures
     (honest_behind trust c.args.schedule.now c.args.world.now true c.requires.txs c.requires.shows c.if-not-is_honest.ensures)

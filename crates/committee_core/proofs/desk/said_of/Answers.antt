@@ -7,10 +7,10 @@ use Rattle.committee_core.proofs.desk.said_of.Goals as goal
 
 pub returns-then-not-only_tx : goal.returns-then-not-only_tx
 returns-then-not-only_tx g c =
-    said_other c.said_line.result (trust_by (g.S.MakesSeals.made c.args.sealer) (g.S.Sealer.accepts c.args.sealer)) c.args.callers c.args.schedule.now c.as_slice-then-not-only_tx.result.now c.as_slice-then-not-only_tx.ensures
+    said_other c.said_line.result (trust_by (g.S.MakesSeals.made c.args.sealer) (g.S.Checker.accepts c.args.sealer)) c.args.callers c.args.schedule.now c.as_slice-then-not-only_tx.result.now c.as_slice-then-not-only_tx.ensures
     (sym (c.if-not-only_tx.ensures ∙ ap (list_all is_tx) c.as_slice.ensures.value)) c.said_line.ensures
 
 pub returns-in-Ok : goal.returns-in-Ok
 returns-in-Ok g c =
-    said_txs c.said_in-said.result (trust_by (g.S.MakesSeals.made c.args.sealer) (g.S.Sealer.accepts c.args.sealer)) c.args.callers c.args.schedule.now
+    said_txs c.said_in-said.result (trust_by (g.S.MakesSeals.made c.args.sealer) (g.S.Checker.accepts c.args.sealer)) c.args.callers c.args.schedule.now
     (sym (c.if-not-only_tx.ensures ∙ ap (list_all is_tx) c.as_slice.ensures.value)) c.said_in-said.ensures

@@ -6,4 +6,4 @@ use Rattle.committee_core.proofs.replay.is_honest.Goals as goal
 pub returns : goal.returns
 returns g c =
     c.is_some.ensures ∙ is_some_copied c.member.result ∙ ap is_some c.member.ensures.value
-    ∙ honest_is (trust_by (g.S.MakesSeals.made c.args.sealer.now) (g.S.Sealer.accepts c.args.sealer.now)) c.args.schedule.now c.args.world.now c.args.member c.requires.opened
+    ∙ honest_is (trust_by (g.S.MakesSeals.made c.args.sealer.now) (g.S.Checker.accepts c.args.sealer.now)) c.args.schedule.now c.args.world.now c.args.member c.requires.opened

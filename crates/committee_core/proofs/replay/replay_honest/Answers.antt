@@ -4,22 +4,22 @@ use Rattle.committee_core.proofs.Replays.{bad_not_zero, cut_bad, cut_started, ke
 use Rattle.committee_core.proofs.replay.replay_honest.Goals as goal
 
 pub returns-in-Ok-clause-whole : goal.returns-in-Ok-clause-whole
-returns-in-Ok-clause-whole g c = λ is. said_started (trust_by (g.S.MakesSeals.made c.args.sealer.now) (g.S.Sealer.accepts c.args.sealer.now)) c.args.schedule.now c.args.member _ _ _ c.args.world.now c.in-Ok.replayed c.requires.opened c.requires.honest c.in-Ok.ensures.ok (c.say_started-status.ensures.written is)
+returns-in-Ok-clause-whole g c = λ is. said_started (trust_by (g.S.MakesSeals.made c.args.sealer.now) (g.S.Checker.accepts c.args.sealer.now)) c.args.schedule.now c.args.member _ _ _ c.args.world.now c.in-Ok.replayed c.requires.opened c.requires.honest c.in-Ok.ensures.ok (c.say_started-status.ensures.written is)
 
 pub returns-in-Ok-clause-bad : goal.returns-in-Ok-clause-bad
 returns-in-Ok-clause-bad g c = λ is. started_not_six c.say_started-status.result c.say_started-status.ensures.known is
 
 pub returns-in-Ok-clause-cut : goal.returns-in-Ok-clause-cut
-returns-in-Ok-clause-cut g c = λ is. cut_started (trust_by (g.S.MakesSeals.made c.args.sealer.now) (g.S.Sealer.accepts c.args.sealer.now)) c.args.schedule.now c.args.member _ _ _ c.args.world.now c.in-Ok.replayed c.requires.opened c.requires.honest c.in-Ok.ensures.ok (c.say_started-status.ensures.cut is)
+returns-in-Ok-clause-cut g c = λ is. cut_started (trust_by (g.S.MakesSeals.made c.args.sealer.now) (g.S.Checker.accepts c.args.sealer.now)) c.args.schedule.now c.args.member _ _ _ c.args.world.now c.in-Ok.replayed c.requires.opened c.requires.honest c.in-Ok.ensures.ok (c.say_started-status.ensures.cut is)
 
 pub returns-in-Err-BadRecord-clause-whole : goal.returns-in-Err-BadRecord-clause-whole
 returns-in-Err-BadRecord-clause-whole g c = λ is. bad_not_zero c.say_bad_record.result c.say_bad_record.ensures.known is
 
 pub returns-in-Err-BadRecord-clause-bad : goal.returns-in-Err-BadRecord-clause-bad
-returns-in-Err-BadRecord-clause-bad g c = λ is. inl (said_bad (trust_by (g.S.MakesSeals.made c.args.sealer.now) (g.S.Sealer.accepts c.args.sealer.now)) c.args.schedule.now c.args.member _ _ _ c.args.world.now c.in-Err-BadRecord.place c.requires.opened c.requires.honest (c.replay.ensures.bad c.in-Err-BadRecord.place (c.in-Err-BadRecord.is ∙ ap Err c.in-Err-BadRecord.field-0-is)) (c.say_bad_record.ensures.written is))
+returns-in-Err-BadRecord-clause-bad g c = λ is. inl (said_bad (trust_by (g.S.MakesSeals.made c.args.sealer.now) (g.S.Checker.accepts c.args.sealer.now)) c.args.schedule.now c.args.member _ _ _ c.args.world.now c.in-Err-BadRecord.place c.requires.opened c.requires.honest (c.replay.ensures.bad c.in-Err-BadRecord.place (c.in-Err-BadRecord.is ∙ ap Err c.in-Err-BadRecord.field-0-is)) (c.say_bad_record.ensures.written is))
 
 pub returns-in-Err-BadRecord-clause-cut : goal.returns-in-Err-BadRecord-clause-cut
-returns-in-Err-BadRecord-clause-cut g c = λ is. cut_bad (trust_by (g.S.MakesSeals.made c.args.sealer.now) (g.S.Sealer.accepts c.args.sealer.now)) c.args.schedule.now c.args.member _ _ _ c.args.world.now c.in-Err-BadRecord.place c.requires.opened c.requires.honest (c.replay.ensures.bad c.in-Err-BadRecord.place (c.in-Err-BadRecord.is ∙ ap Err c.in-Err-BadRecord.field-0-is)) (c.say_bad_record.ensures.cut is)
+returns-in-Err-BadRecord-clause-cut g c = λ is. cut_bad (trust_by (g.S.MakesSeals.made c.args.sealer.now) (g.S.Checker.accepts c.args.sealer.now)) c.args.schedule.now c.args.member _ _ _ c.args.world.now c.in-Err-BadRecord.place c.requires.opened c.requires.honest (c.replay.ensures.bad c.in-Err-BadRecord.place (c.in-Err-BadRecord.is ∙ ap Err c.in-Err-BadRecord.field-0-is)) (c.say_bad_record.ensures.cut is)
 
 pub returns-in-Err-KeepFault-clause-whole : goal.returns-in-Err-KeepFault-clause-whole
 returns-in-Err-KeepFault-clause-whole g c = λ is. six_not_zero is

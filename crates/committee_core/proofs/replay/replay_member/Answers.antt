@@ -14,13 +14,13 @@ pub returns-then-is_honest-clause-cut : goal.returns-then-is_honest-clause-cut
 returns-then-is_honest-clause-cut g c = c.replay_honest.ensures.cut
 
 pub returns-clause-whole : goal.returns-clause-whole
-returns-clause-whole g c = λ is. whole_none (trust_by (g.S.MakesSeals.made c.args.sealer.now) (g.S.Sealer.accepts c.args.sealer.now)) c.args.schedule.now c.args.member _ _ _ c.say_no_member.result (sym c.is_honest.ensures ∙ c.if-is_honest.false) c.say_no_member.ensures.known c.say_no_member.ensures.written is
+returns-clause-whole g c = λ is. whole_none (trust_by (g.S.MakesSeals.made c.args.sealer.now) (g.S.Checker.accepts c.args.sealer.now)) c.args.schedule.now c.args.member _ _ _ c.say_no_member.result (sym c.is_honest.ensures ∙ c.if-is_honest.false) c.say_no_member.ensures.known c.say_no_member.ensures.written is
 
 pub returns-clause-bad : goal.returns-clause-bad
 returns-clause-bad g c = λ is. none_not_six c.say_no_member.result c.say_no_member.ensures.known is
 
 pub returns-clause-cut : goal.returns-clause-cut
-returns-clause-cut g c = λ is. cut_none (trust_by (g.S.MakesSeals.made c.args.sealer.now) (g.S.Sealer.accepts c.args.sealer.now)) c.args.schedule.now c.args.member _ _ _ (sym c.is_honest.ensures ∙ c.if-is_honest.false) (c.say_no_member.ensures.cut is)
+returns-clause-cut g c = λ is. cut_none (trust_by (g.S.MakesSeals.made c.args.sealer.now) (g.S.Checker.accepts c.args.sealer.now)) c.args.schedule.now c.args.member _ _ _ (sym c.is_honest.ensures ∙ c.if-is_honest.false) (c.say_no_member.ensures.cut is)
 
 pub returns-then-is_honest-clause-known : goal.returns-then-is_honest-clause-known
 returns-then-is_honest-clause-known g c = known_honest c.replay_honest.result c.replay_honest.ensures.known

@@ -11,7 +11,7 @@ use Rattle.committee_core.proofs.run.run_events.Goals as goal
 
 pub loop-event-init : goal.loop-event-init
 loop-event-init g c =
-    let trust = trust_by (g.S.MakesSeals.made c.args.sealer.now) (g.S.Sealer.accepts c.args.sealer.now) in
+    let trust = trust_by (g.S.MakesSeals.made c.args.sealer.now) (g.S.Checker.accepts c.args.sealer.now) in
     let shows = subst (λ (sc : Scene). Shows trust (setting_in trust c.args.schedule.now) (new_world (setting_in trust c.args.schedule.now)) sc) (sym c.requires.opened)
     (c.requires.laws.first c.args.schedule.now.setup) in
     record {
@@ -25,7 +25,7 @@ loop-event-init g c =
 pub returns-in_err-run_event-clause-cut : goal.returns-in_err-run_event-clause-cut
 returns-in_err-run_event-clause-cut g c =
     let p = err_from_is_err_and c.from_residual.result c.from_residual.ensures.1 in
-    let trust = trust_by (g.S.MakesSeals.made c.args.sealer.now) (g.S.Sealer.accepts c.args.sealer.now) in
+    let trust = trust_by (g.S.MakesSeals.made c.args.sealer.now) (g.S.Checker.accepts c.args.sealer.now) in
     let below : c.loop-event.event-index < length c.args.schedule.now.events = grind arith in
     let is : c.event-item.result ≡ get_or c.args.schedule.now.events c.loop-event.event-index c.event-item.result = cc (c.event-item.is, c.as_slice-event-items.ensures.value) in
     let wide = subst (λ (n : ℕ). AreAtLeast (g.D.Keeper.lists c.args.keeper.now) n) (sym c.loop-event.invariant.stay) c.requires.wide in
@@ -37,7 +37,7 @@ returns-in_err-run_event-clause-cut g c =
 pub returns-in_err-run_event-clause-bad : goal.returns-in_err-run_event-clause-bad
 returns-in_err-run_event-clause-bad g c =
     let p = err_from_is_err_and c.from_residual.result c.from_residual.ensures.1 in
-    let trust = trust_by (g.S.MakesSeals.made c.args.sealer.now) (g.S.Sealer.accepts c.args.sealer.now) in
+    let trust = trust_by (g.S.MakesSeals.made c.args.sealer.now) (g.S.Checker.accepts c.args.sealer.now) in
     let below : c.loop-event.event-index < length c.args.schedule.now.events = grind arith in
     let is : c.event-item.result ≡ get_or c.args.schedule.now.events c.loop-event.event-index c.event-item.result = cc (c.event-item.is, c.as_slice-event-items.ensures.value) in
     rw (p.1, p.2)
@@ -47,7 +47,7 @@ returns-in_err-run_event-clause-bad g c =
 
 pub loop-event-preserved : goal.loop-event-preserved
 loop-event-preserved g c =
-    let trust = trust_by (g.S.MakesSeals.made c.args.sealer.now) (g.S.Sealer.accepts c.args.sealer.now) in
+    let trust = trust_by (g.S.MakesSeals.made c.args.sealer.now) (g.S.Checker.accepts c.args.sealer.now) in
     let below : c.loop-event.event-index < length c.args.schedule.now.events = grind arith in
     let is : c.event-item.result ≡ get_or c.args.schedule.now.events c.loop-event.event-index c.event-item.result = cc (c.event-item.is, c.as_slice-event-items.ensures.value) in
     let wide = subst (λ (n : ℕ). AreAtLeast (g.D.Keeper.lists c.args.keeper.now) n) (sym c.loop-event.invariant.stay) c.requires.wide in
@@ -63,14 +63,14 @@ loop-event-preserved g c =
 
 pub returns-clause-ok : goal.returns-clause-ok
 returns-clause-ok g c =
-    let trust = trust_by (g.S.MakesSeals.made c.args.sealer.now) (g.S.Sealer.accepts c.args.sealer.now) in
+    let trust = trust_by (g.S.MakesSeals.made c.args.sealer.now) (g.S.Checker.accepts c.args.sealer.now) in
     let done : length c.args.schedule.now.events ≤ c.loop-event.event-index = grind arith in
     whole-run trust c.args.schedule.now (g.D.Keeper.lists c.args.keeper.now) (g.K.Sink.held c.args.sink.now) c.loop-event.event-index c.loop-event.world
     (g.D.Keeper.lists c.loop-event.keeper) (g.K.Sink.held c.loop-event.sink) done c.loop-event.invariant.behind
 
 pub returns-clause-shows : goal.returns-clause-shows
 returns-clause-shows g c =
-    let trust = trust_by (g.S.MakesSeals.made c.args.sealer.now) (g.S.Sealer.accepts c.args.sealer.now) in
+    let trust = trust_by (g.S.MakesSeals.made c.args.sealer.now) (g.S.Checker.accepts c.args.sealer.now) in
     let done : length c.args.schedule.now.events ≤ c.loop-event.event-index = grind arith in
     whole-shown trust c.args.schedule.now (g.D.Keeper.lists c.args.keeper.now) (g.K.Sink.held c.args.sink.now) c.loop-event.event-index c.loop-event.world
     (g.D.Keeper.lists c.loop-event.keeper) (g.K.Sink.held c.loop-event.sink) done c.loop-event.invariant.behind

@@ -2,7 +2,7 @@ use Rattle.std.proofs.Common.{◌≡◌, ◌≤◌, ◌-◌, length, take}
 use Rattle.epoch_turn.specs.Chains.{IsTold, StaysBehind}
 use Rattle.epoch_turn.proofs.telling.tell.Given as goal
 
--- the chain was told of all up to a place
+-- the chain knows of all up to a place
 abbrev pub invariant-loop-place : goal.invariant-loop-place
 invariant-loop-place l = record {
   within : l.place ≤ length l.admission.admission.admitted;

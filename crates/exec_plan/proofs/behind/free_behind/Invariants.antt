@@ -2,7 +2,7 @@ use Rattle.std.proofs.Common.{length}
 use Rattle.exec_plan.specs.Behind.{Frees}
 use Rattle.exec_plan.proofs.behind.free_behind.Given as goal
 
--- the places behind what was passed are freed
+-- the places under what was passed are freed
 abbrev pub invariant-loop-rest : goal.invariant-loop-rest
 invariant-loop-rest l = Frees l.fn.behind.entries l.behind.entries l.freed l.rest l.txs
 

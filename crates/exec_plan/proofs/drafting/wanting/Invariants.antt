@@ -4,7 +4,7 @@ use Rattle.version_store.specs.Stores.{held_in}
 use Rattle.exec_plan.specs.Drafts.{link_in, want_in}
 use Rattle.exec_plan.proofs.drafting.wanting.Given as goal
 
--- what was passed, and then what is left
+-- what was passed, and then the rest
 abbrev pub invariant-loop-rest : goal.invariant-loop-rest
 invariant-loop-rest l = record {
   wants : l.wants ++ map (want_in (held_in l.store) l.numbers.keys) l.rest ≡ map (want_in (held_in l.store) l.numbers.keys) l.needs;

@@ -3,7 +3,7 @@ use Rattle.exec_plan.specs.Books.{digest_of_held}
 use Rattle.exec_plan.specs.Drafts.{picked}
 use Rattle.exec_plan.proofs.planner.digests_at.Given as goal
 
--- what was passed, and then what is left
+-- what was passed, and then the rest
 abbrev pub invariant-loop-rest : goal.invariant-loop-rest
 invariant-loop-rest l = l.txs ++ map digest_of_held (picked l.held l.rest) ≡ map digest_of_held (picked l.held l.places)
 

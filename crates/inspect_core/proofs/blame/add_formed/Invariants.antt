@@ -5,9 +5,9 @@ use Rattle.inspect_core.specs.Certified.{with_valid}
 use Rattle.inspect_core.specs.Found.{AreFound}
 use Rattle.inspect_core.proofs.blame.add_formed.Given as goal
 
--- with those that were formed behind this place the certificates are those of all places
+-- with those that were formed after this place the certificates are those of all places
 abbrev pub invariant-loop-place : goal.invariant-loop-place
 invariant-loop-place g l = record {
-  certs : fold (with_valid (rules_of l.world.terms.stakes None (g.S.Sealer.accepts l.sealer))) l.found.certs (map cert_in (drop l.place l.world.certs)) ≡ fold (with_valid (rules_of l.world.terms.stakes None (g.S.Sealer.accepts l.sealer))) l.fn.found.certs (map cert_in l.world.certs);
+  certs : fold (with_valid (rules_of l.world.terms.stakes None (g.S.Checker.accepts l.sealer))) l.found.certs (map cert_in (drop l.place l.world.certs)) ≡ fold (with_valid (rules_of l.world.terms.stakes None (g.S.Checker.accepts l.sealer))) l.fn.found.certs (map cert_in l.world.certs);
   found : AreFound l.world.terms.stakes l.found.certs l.found.spelled;
 }

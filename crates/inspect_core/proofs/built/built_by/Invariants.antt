@@ -4,7 +4,7 @@ use Rattle.protocol_spec.specs.Chain.Words.{Each}
 use Rattle.protocol_spec.specs.Member.Member.{built}
 use Rattle.inspect_core.proofs.built.built_by.Given as goal
 
--- the copies so far are the first that it built, and can be spelled
+-- the copies so far are the first that it built, and can be encoded
 abbrev pub invariant-loop-number : goal.invariant-loop-number
 invariant-loop-number l = record {
   front : l.checkpoints ≡ take l.number (built l.validator.state);

@@ -5,7 +5,7 @@ use Rattle.light_check.proofs.make.links_of.Given as goal
 
 abbrev pub invariant-loop-rest : goal.invariant-loop-rest
 invariant-loop-rest g l = record {
-  sealed : LinksSoFar (g.S.Sealer.accepts l.sealer) l.members l.checkpoints l.rest l.links;
+  sealed : LinksSoFar (g.S.Checker.accepts l.sealer) l.members l.checkpoints l.rest l.links;
   short : AllShort l.rest;
 }
 

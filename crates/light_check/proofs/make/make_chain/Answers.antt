@@ -9,6 +9,6 @@ links_of-requires g c = subst AllShort (sym c.as_slice.ensures.value) (checkpoin
 
 pub returns-in-Ok-clause-short : goal.returns-in-Ok-clause-short
 returns-in-Ok-clause-short g c =
-    chain_is_short (g.S.Sealer.accepts c.args.sealer.now) c.args.members.now c.args.checkpoints.now c.in-Ok.links
-    (subst (λ (cs : List Checkpoint). AreSealedBy (g.S.Sealer.accepts c.args.sealer.now) c.args.members.now cs c.in-Ok.links) c.as_slice.ensures.value c.in-Ok.ensures)
+    chain_is_short (g.S.Checker.accepts c.args.sealer.now) c.args.members.now c.args.checkpoints.now c.in-Ok.links
+    (subst (λ (cs : List Checkpoint). AreSealedBy (g.S.Checker.accepts c.args.sealer.now) c.args.members.now cs c.in-Ok.links) c.as_slice.ensures.value c.in-Ok.ensures)
     c.requires.short c.requires.few

@@ -3,7 +3,7 @@ use Rattle.std.proofs.lemmas.List.{take-append-drop, drop-drop, length-drop, dro
 use Rattle.std.proofs.Math.Seq.{take-append_seam}
 use Rattle.outside.proofs.source.copy_front.Goals as goal
 
--- what was copied, and what is left behind it, are what was left
+-- what was copied, and what is left after it, are what was left
 copied : (left copy rest after : List ℕ) (n : ℕ) → copy ≡ take n left → length copy ≡ n → after ≡ drop n left → left ≡ take n (copy ++ rest) ++ after
 copied left copy rest after n is size behind =
     let e : take n (copy ++ rest) ≡ copy = ap (λ k. take k (copy ++ rest)) (sym size) ∙ take-append_seam copy rest in

@@ -1,4 +1,4 @@
--- One more than the greatest version is below the limit where the greatest version is below one less.
+-- One more than the greatest version is below the limit if the greatest version is below one less.
 use Rattle.std.proofs.Common.{◌≡◌, ℕ, suc, Bool, true, false, List, refl, sym, subst, ◌∙◌, arith}
 use Rattle.std.specs.Prelude.{nat_lt}
 use Rattle.std.proofs.lemmas.Bool.{ltb-true, ltb-false, lt-ltb, le-ltb}

@@ -2,7 +2,7 @@ use Rattle.std.proofs.Common.{◌≡◌, ◌+◌, ◌≤◌, [], length}
 use Rattle.ptb_run.specs.Needs.{pairs_after}
 use Rattle.ptb_run.proofs.needs.paired.Given as goal
 
--- what is left, behind what was paired, is the whole
+-- what was paired, and then what is left, is the whole
 abbrev pub invariant-loop-rest : goal.invariant-loop-rest
 invariant-loop-rest l = record {
   same : pairs_after l.wanted l.native l.place l.rest ≡ pairs_after [] l.native 0 l.args;

@@ -2,7 +2,7 @@ use Rattle.std.proofs.Common.{◌≡◌, [], length}
 use Rattle.ptb_run.specs.Opening.{cells_after}
 use Rattle.ptb_run.proofs.opening.input_cells.Given as goal
 
--- what is left, behind what was filled, is the whole
+-- what was filled, and then what is left, is the whole
 abbrev pub invariant-loop-left : goal.invariant-loop-left
 invariant-loop-left l = cells_after l.cells l.left l.rest ≡ cells_after [] l.inputs l.objects
 

@@ -2,7 +2,7 @@ use Rattle.std.proofs.Common.{◌≡◌, [], length}
 use Rattle.ptb_run.specs.Remains.{listed_after}
 use Rattle.ptb_run.proofs.remains.list_each.Given as goal
 
--- what is left, behind what was listed, is the whole
+-- what was listed, and then what is left, is the whole
 abbrev pub invariant-loop-rest : goal.invariant-loop-rest
 invariant-loop-rest l = listed_after l.written l.rest ≡ listed_after [] l.objects
 

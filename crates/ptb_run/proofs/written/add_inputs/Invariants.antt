@@ -2,7 +2,7 @@ use Rattle.std.proofs.Common.{◌≡◌, ◌+◌, ◌≤◌, length}
 use Rattle.ptb_run.specs.Written.{moved_after}
 use Rattle.ptb_run.proofs.written.add_inputs.Given as goal
 
--- what is left, behind what was found, is the whole
+-- what was found, and then what is left, is the whole
 abbrev pub invariant-loop-left : goal.invariant-loop-left
 invariant-loop-left l = record {
   same : moved_after l.moved l.number l.left l.rest ≡ moved_after l.initial.moved 0 l.inputs l.objects;

@@ -2,7 +2,7 @@ use Rattle.std.proofs.Common.{◌≡◌, ◌+◌, ◌*◌, ◌≤◌, length}
 use Rattle.quorum_core.specs.Committee.{is_among, weight_from}
 use Rattle.quorum_core.proofs.sets.sum_among.Given as goal
 
--- what is summed up, with what the members behind it add, is the weight
+-- what is summed up, with what the members after it add, is the weight
 abbrev pub invariant-loop-rest : goal.invariant-loop-rest
 invariant-loop-rest l = record {
   below : l.sum ≤ l.member * 4294967295;

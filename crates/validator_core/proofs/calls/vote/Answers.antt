@@ -7,7 +7,7 @@ use Rattle.validator_core.proofs.calls.vote.Goals as goal
 
 pub returns-clause-state : goal.returns-clause-state
 returns-clause-state g c =
-    let r = sealed_as (g.S.Sealer.accepts c.args.sealer.now) in
+    let r = sealed_as (g.S.Checker.accepts c.args.sealer.now) in
     vote_called r c.args.state.now.member c.keep_vote.new.state.member (votes c.args.bytes.now) c.in_ok-tx.tx c.in_ok-tx.decision.origins
     (fresh_due (due r c.args.state.now.member (votes c.args.bytes.now)) (Some (record_as.Vote c.in_ok-tx.tx c.in_ok-tx.decision.origins)) c.in_ok-tx.decision.fresh c.in_ok-tx.ensures.due c.if-not-decision.false)
     c.in_ok-keep_vote.ensures.state

@@ -5,7 +5,7 @@ use Rattle.validator_process.proofs.serving.serve.Goals as goal
 
 pub loop-init : goal.loop-init
 loop-init g c =
-    let accepts = g.S.Sealer.accepts c.args.sealer.now in
+    let accepts = g.S.Checker.accepts c.args.sealer.now in
     let left = g.I.Source.left c.args.source.now in
     let held = g.K.Sink.held c.args.sink.now in
     let kept = g.D.Keeper.lists c.args.keeper.now in
@@ -22,7 +22,7 @@ loop-init g c =
 
 pub loop-preserved : goal.loop-preserved
 loop-preserved g c =
-    let accepts = g.S.Sealer.accepts c.args.sealer.now in
+    let accepts = g.S.Checker.accepts c.args.sealer.now in
     let first = around [] (g.I.Source.left c.args.source.now) (g.K.Sink.held c.args.sink.now) (g.D.Keeper.lists c.args.keeper.now) c.args.validator.now in
     let mid = around c.loop.reader (g.I.Source.left c.loop.source) (g.K.Sink.held c.loop.sink) (g.D.Keeper.lists c.loop.keeper) c.loop.validator in
     let now = around c.serve_next.new.reader (g.I.Source.left c.serve_next.new.source) (g.K.Sink.held c.serve_next.new.sink) (g.D.Keeper.lists c.serve_next.new.keeper) c.serve_next.new.validator in

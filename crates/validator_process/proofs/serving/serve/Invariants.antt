@@ -4,7 +4,7 @@ use Rattle.validator_process.proofs.serving.serve.Given as goal
 
 abbrev pub invariant-loop : goal.invariant-loop
 invariant-loop g l = record {
-  served : (xs : List Exchange) × Serves (g.S.Sealer.accepts l.fn.sealer) xs (around [] (g.I.Source.left l.fn.source) (g.K.Sink.held l.fn.sink) (g.D.Keeper.lists l.fn.keeper) l.fn.validator) (around l.reader (g.I.Source.left l.source) (g.K.Sink.held l.sink) (g.D.Keeper.lists l.keeper) l.validator);
+  served : (xs : List Exchange) × Serves (g.S.Checker.accepts l.fn.sealer) xs (around [] (g.I.Source.left l.fn.source) (g.K.Sink.held l.fn.sink) (g.D.Keeper.lists l.fn.keeper) l.fn.validator) (around l.reader (g.I.Source.left l.source) (g.K.Sink.held l.sink) (g.D.Keeper.lists l.keeper) l.validator);
   member : l.validator.member ≡ l.fn.member;
   up : l.validator.up ≡ true;
   width : g.D.Keeper.width l.keeper ≡ g.D.Keeper.width l.fn.keeper;

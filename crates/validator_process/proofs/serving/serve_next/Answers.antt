@@ -7,7 +7,7 @@ use Rattle.validator_process.proofs.serving.serve_next.Goals as goal
 
 pub returns-in-Ok-clause-next : goal.returns-in-Ok-clause-next
 returns-in-Ok-clause-next g c =
-    let accepts = g.S.Sealer.accepts c.args.sealer.now in
+    let accepts = g.S.Checker.accepts c.args.sealer.now in
     let left = g.I.Source.left c.args.source.now in
     let left' = g.I.Source.left c.next.new.source in
     let held = g.K.Sink.held c.args.sink.now in
@@ -19,7 +19,7 @@ returns-in-Ok-clause-next g c =
 
 pub returns-in-Ok-Line-clause-cut : goal.returns-in-Ok-Line-clause-cut
 returns-in-Ok-Line-clause-cut g c =
-    let accepts = g.S.Sealer.accepts c.args.sealer.now in
+    let accepts = g.S.Checker.accepts c.args.sealer.now in
     let left = g.I.Source.left c.args.source.now in
     let left' = g.I.Source.left c.next.new.source in
     let held = g.K.Sink.held c.args.sink.now in

@@ -9,5 +9,5 @@ pub returns-in-Err-clause-cut : goal.returns-in-Err-clause-cut
 returns-in-Err-clause-cut g c =
     let held = g.K.Sink.held c.args.sink.now in
     let held' = g.K.Sink.held c.say_start.new.sink in
-    unready (g.S.Sealer.accepts c.args.sealer.now) c.args.validator.now (g.I.Source.left c.args.source.now) held held' (g.D.Keeper.lists c.args.keeper.now)
+    unready (g.S.Checker.accepts c.args.sealer.now) c.args.validator.now (g.I.Source.left c.args.source.now) held held' (g.D.Keeper.lists c.args.keeper.now)
     (subst (λ (line : StartLine). AppendsFront held held' (start_bytes line)) c.ready-start.ensures c.in-Err.ensures.some)

@@ -5,7 +5,7 @@ use Rattle.chain_types.specs.declared.objects.ObjectId.{ObjectId}
 use Rattle.chain_types.specs.Equal.{id_eq}
 use Rattle.version_store.proofs.base.take_out.Given as goal
 
--- where what is left is taken out too, all are
+-- if what is left is taken out too, all are
 abbrev pub invariant-loop-id : goal.invariant-loop-id
 invariant-loop-id l =
     (id : ObjectId) → (if list_any (id_eq id) l.id-iterator then None else lookup (id_eq id) l.base.entries)

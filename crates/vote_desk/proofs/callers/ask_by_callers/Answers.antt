@@ -6,5 +6,5 @@ use Rattle.vote_desk.proofs.callers.ask_by_callers.Goals as goal
 
 pub returns-in-Ok-clause-history : goal.returns-in-Ok-clause-history
 returns-in-Ok-clause-history g c =
-    subst (λ (o : Standing g.row.S.Denot). IfOk c.ask_and_close.result (λ left. IsHistory (Follows g.S.Sealer.accepts) o left.2 (standing left.0 o.sealer (g.D.Keeper.failed left.1) (g.D.Keeper.lists left.1))))
+    subst (λ (o : Standing g.row.S.Denot). IfOk c.ask_and_close.result (λ left. IsHistory (Follows g.S.Checker.accepts) o left.2 (standing left.0 o.sealer (g.D.Keeper.failed left.1) (g.D.Keeper.lists left.1))))
     c.in-Ok.ensures.opening c.ask_and_close.ensures.history

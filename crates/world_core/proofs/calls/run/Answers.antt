@@ -8,7 +8,7 @@ use Rattle.world_core.proofs.calls.run.Goals as goal
 
 pub returns-in-Ok-tell_run-clause-said : goal.returns-in-Ok-tell_run-clause-said
 returns-in-Ok-tell_run-clause-said g c =
-    run_states (rules_for c.args.seats.now.terms (g.S.Sealer.accepts c.args.sealer.now)) c.args.member c.args.said.now c.tell_run.new.said
-    (reached_in (rules_for c.args.seats.now.terms (g.S.Sealer.accepts c.args.sealer.now)) c.args.seats.now.posts c.args.member runs) c.in-Answered.answer
-    (subst (λ x. Replies (SaysRun (rules_for c.args.seats.now.terms (g.S.Sealer.accepts c.args.sealer.now))) (reached_in (rules_for c.args.seats.now.terms (g.S.Sealer.accepts c.args.sealer.now)) c.args.seats.now.posts c.args.member runs) x) c.in-Answered.is c.in-Ok.ensures.answer)
+    run_states (rules_for c.args.seats.now.terms (g.S.Checker.accepts c.args.sealer.now)) c.args.member c.args.said.now c.tell_run.new.said
+    (reached_in (rules_for c.args.seats.now.terms (g.S.Checker.accepts c.args.sealer.now)) c.args.seats.now.posts c.args.member runs) c.in-Answered.answer
+    (subst (λ x. Replies (SaysRun (rules_for c.args.seats.now.terms (g.S.Checker.accepts c.args.sealer.now))) (reached_in (rules_for c.args.seats.now.terms (g.S.Checker.accepts c.args.sealer.now)) c.args.seats.now.posts c.args.member runs) x) c.in-Answered.is c.in-Ok.ensures.answer)
     c.in-Ok-tell_run.ensures.said

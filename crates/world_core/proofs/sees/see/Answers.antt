@@ -8,7 +8,7 @@ use Rattle.world_core.proofs.sees.see.Goals as goal
 
 pub returns-in-Ok-tell_entry-clause-said : goal.returns-in-Ok-tell_entry-clause-said
 returns-in-Ok-tell_entry-clause-said g c =
-    see_states (rules_for c.args.seats.now.terms (g.S.Sealer.accepts c.args.sealer.now)) c.args.member c.args.number c.args.bytes.now c.args.said.now c.tell_entry.new.said
-    (reached_in (rules_for c.args.seats.now.terms (g.S.Sealer.accepts c.args.sealer.now)) c.args.seats.now.posts c.args.member (sees c.args.number c.args.bytes.now)) c.in-Answered.answer
-    (subst (λ x. Replies (SaysSee (rules_for c.args.seats.now.terms (g.S.Sealer.accepts c.args.sealer.now)) c.args.number c.args.bytes.now) (reached_in (rules_for c.args.seats.now.terms (g.S.Sealer.accepts c.args.sealer.now)) c.args.seats.now.posts c.args.member (sees c.args.number c.args.bytes.now)) x) c.in-Answered.is c.in-Ok.ensures.answer)
+    see_states (rules_for c.args.seats.now.terms (g.S.Checker.accepts c.args.sealer.now)) c.args.member c.args.number c.args.bytes.now c.args.said.now c.tell_entry.new.said
+    (reached_in (rules_for c.args.seats.now.terms (g.S.Checker.accepts c.args.sealer.now)) c.args.seats.now.posts c.args.member (sees c.args.number c.args.bytes.now)) c.in-Answered.answer
+    (subst (λ x. Replies (SaysSee (rules_for c.args.seats.now.terms (g.S.Checker.accepts c.args.sealer.now)) c.args.number c.args.bytes.now) (reached_in (rules_for c.args.seats.now.terms (g.S.Checker.accepts c.args.sealer.now)) c.args.seats.now.posts c.args.member (sees c.args.number c.args.bytes.now)) x) c.in-Answered.is c.in-Ok.ensures.answer)
     c.in-Ok-tell_entry.ensures.said

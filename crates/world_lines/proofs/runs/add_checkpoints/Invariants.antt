@@ -4,6 +4,6 @@ use Rattle.scene_spec.specs.Known.{world_with}
 use Rattle.world_names.specs.Pushed.{each_pushed}
 use Rattle.world_lines.proofs.runs.add_checkpoints.Given as goal
 
--- what is left adds what is missing
+-- the rest of the loop adds what is missing
 abbrev pub invariant-loop-checkpoint : goal.invariant-loop-checkpoint
 invariant-loop-checkpoint l = each_pushed (checkpoint_line (world_with l.directory)) l.lines (drop l.checkpoint-index l.built) ≡ each_pushed (checkpoint_line (world_with l.directory)) l.fn.lines l.built

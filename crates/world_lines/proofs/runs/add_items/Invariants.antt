@@ -5,6 +5,6 @@ use Rattle.scene_spec.specs.Known.{world_with}
 use Rattle.world_names.specs.Pushed.{each_pushed}
 use Rattle.world_lines.proofs.runs.add_items.Given as goal
 
--- what is left adds what is missing
+-- the rest of the loop adds what is missing
 abbrev pub invariant-loop-item : goal.invariant-loop-item
 invariant-loop-item l = each_pushed (λ (i : Item). tx_name (world_with l.directory) i.tx) l.names (drop l.item-index l.items) ≡ each_pushed (λ (i : Item). tx_name (world_with l.directory) i.tx) l.fn.names l.items

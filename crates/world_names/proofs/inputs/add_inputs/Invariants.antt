@@ -3,7 +3,7 @@ use Rattle.world_names.specs.Pushed.{each_pushed}
 use Rattle.scene_spec.specs.MadeLines.{input_by}
 use Rattle.world_names.proofs.inputs.add_inputs.Given as goal
 
--- what is left adds what is missing
+-- the rest of the loop adds what is missing
 abbrev pub invariant-loop-word : goal.invariant-loop-word
 invariant-loop-word g l =
     each_pushed (input_by l.directory (g.H.HeldDigests.held l.held)) l.inputs (drop l.word-index l.words)

@@ -8,7 +8,7 @@ use Rattle.inspect_core.proofs.certified.Found.add_handed.Given as goal
 -- with those of the lines that are left the certificates are those of all lines
 abbrev pub invariant-loop-rest : goal.invariant-loop-rest
 invariant-loop-rest g l = record {
-  certs : fold (with_valid (rules_of l.committee None (g.S.Sealer.accepts l.sealer))) l.self.certs (flat_map handed_over l.rest) ≡ fold (with_valid (rules_of l.committee None (g.S.Sealer.accepts l.sealer))) l.fn.self.certs (flat_map handed_over l.events);
+  certs : fold (with_valid (rules_of l.committee None (g.S.Checker.accepts l.sealer))) l.self.certs (flat_map handed_over l.rest) ≡ fold (with_valid (rules_of l.committee None (g.S.Checker.accepts l.sealer))) l.fn.self.certs (flat_map handed_over l.events);
   found : AreFound l.committee l.self.certs l.self.spelled;
 }
 

@@ -3,7 +3,7 @@ use Rattle.ptb_run.specs.Blocks.{block_of}
 use Rattle.ptb_run.specs.Gathering.{items_after}
 use Rattle.ptb_run.proofs.block.Block.gather.Given as goal
 
--- what is left, behind what was gathered, is the whole
+-- what was gathered, and then what is left, is the whole
 abbrev pub invariant-loop-rest : goal.invariant-loop-rest
 invariant-loop-rest l = items_after (block_of l.self) l.items l.rest ≡ items_after (block_of l.self) [] l.args
 

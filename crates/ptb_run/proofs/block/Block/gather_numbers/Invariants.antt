@@ -6,7 +6,7 @@ use Rattle.ptb_run.specs.Gathering.{numbers_after}
 use Rattle.ptb_run.specs.Takes.{is_taken}
 use Rattle.ptb_run.proofs.block.Block.gather_numbers.Given as goal
 
--- what is left, behind what was gathered, is the whole, and is numbers
+-- what was gathered, and then what is left, is the whole, and is numbers
 abbrev pub invariant-loop-rest : goal.invariant-loop-rest
 invariant-loop-rest l = record {
   same : numbers_after (block_of l.self) l.numbers l.rest ≡ numbers_after (block_of l.self) [] l.args;

@@ -8,5 +8,5 @@ use Rattle.sui_validator.proofs.member.Member.hold.Goals as goal
 
 pub returns-clause-kept : goal.returns-clause-kept
 returns-clause-kept g c =
-    subst (λ m. Kept (g.J.Journal.records m.journal) (g.J.Journal.records c.hold.new.keeper.journal) (due_at (rules_of_seat m.seat (g.S.Sealer.accepts m.sealer)) m.seat (holds c.args.bytes.now)) (hold_ended c.hold.result)) c.self.view_is
+    subst (λ m. Kept (g.J.Journal.records m.journal) (g.J.Journal.records c.hold.new.keeper.journal) (due_at (rules_of_seat m.seat (g.S.Checker.accepts m.sealer)) m.seat (holds c.args.bytes.now)) (hold_ended c.hold.result)) c.self.view_is
     (keeps_own c.self.inside.validator.member c.self.inside.keeper.member c.hold.new.keeper.member _ _ _ _ c.self.invariant c.hold.ensures.width c.hold.ensures.kept)

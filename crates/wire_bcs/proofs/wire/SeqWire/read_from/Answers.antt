@@ -11,5 +11,6 @@ loop-preserved g c =
       record {
         input = c.in_ok-read_from.ensures.ahead.input ∙ c.loop.invariant.1.input;
         at = omega (arith, c.in_ok-read_from.ensures.ahead.at, c.loop.invariant.1.at);
+        end = c.in_ok-read_from.ensures.ahead.end;
       },
     )

@@ -11,7 +11,7 @@ use Rattle.world_core.proofs.seats.Seats.call.Goals as goal
 pub invariant_of-self : goal.invariant_of-self
 invariant_of-self g c =
     let s = c.self.inside in
-    let r = rules_for s.terms (g.S.Sealer.accepts c.args.sealer.now) in
+    let r = rules_for s.terms (g.S.Checker.accepts c.args.sealer.now) in
     whole_after s.terms s.flags s.seats.items c.len.result c.args.member r (g.Q.Asks.call c.args.request.now) c.index_mut-seat.result.now c.call.new.self c.call.result (c.len.ensures ∙ s.seats.ok.0) c.if-member-len.false c.index_mut-seat.ensures.value c.self.invariant
     (placed_in s.terms s.seats.items c.len.result c.args.member c.index_mut-seat.result.now (c.len.ensures ∙ s.seats.ok.0) c.if-member-len.false c.index_mut-seat.ensures.value c.self.invariant.0)
     c.call.ensures.post
@@ -19,7 +19,7 @@ invariant_of-self g c =
 pub returns-clause-answer : goal.returns-clause-answer
 returns-clause-answer g c =
     let s = c.self.inside in
-    let accepts = g.S.Sealer.accepts c.args.sealer.now in
+    let accepts = g.S.Checker.accepts c.args.sealer.now in
     subst (λ (w : Crew). IfOk c.call.result (Replies (g.Q.Asks.says c.args.request.now (rules_for w.terms accepts) accepts c.args.member) (reached_in (rules_for w.terms accepts) w.posts c.args.member (g.Q.Asks.call c.args.request.now)))) c.self.view_is
     (said_in (g.Q.Asks.says c.args.request.now (rules_for s.terms accepts) accepts c.args.member) s.seats.items c.len.result c.args.member (rules_for s.terms accepts) (g.Q.Asks.call c.args.request.now) c.index_mut-seat.result.now c.call.result
     (c.len.ensures ∙ s.seats.ok.0) c.if-member-len.false c.index_mut-seat.ensures.value c.call.ensures.answer)
@@ -27,7 +27,7 @@ returns-clause-answer g c =
 pub returns-clause-posts : goal.returns-clause-posts
 returns-clause-posts g c =
     let s = c.self.inside in
-    let accepts = g.S.Sealer.accepts c.args.sealer.now in
+    let accepts = g.S.Checker.accepts c.args.sealer.now in
     let call = g.Q.Asks.call c.args.request.now in
     subst (λ (w : Crew). PostsAfter (rules_for w.terms accepts) call c.args.member w.posts (set s.seats.items c.args.member c.call.new.self) c.call.result) c.self.view_is
     (posts_after s.seats.items c.len.result c.args.member (rules_for s.terms accepts) call c.index_mut-seat.result.now c.call.new.self c.call.result (c.len.ensures ∙ s.seats.ok.0) c.if-member-len.false c.index_mut-seat.ensures.value c.call.ensures.post)
@@ -35,7 +35,7 @@ returns-clause-posts g c =
 pub returns-clause-kept : goal.returns-clause-kept
 returns-clause-kept g c =
     let s = c.self.inside in
-    let accepts = g.S.Sealer.accepts c.args.sealer.now in
+    let accepts = g.S.Checker.accepts c.args.sealer.now in
     let call = g.Q.Asks.call c.args.request.now in
     subst (λ (w : Crew). Leaves (g.D.Keeper.lists c.args.keeper.now) (g.D.Keeper.lists c.call.new.keeper) c.args.member (record_left (reached_in (rules_for w.terms accepts) w.posts c.args.member call)) c.call.result) c.self.view_is
     (left_in (g.D.Keeper.lists c.args.keeper.now) (g.D.Keeper.lists c.call.new.keeper) s.seats.items c.len.result c.args.member (rules_for s.terms accepts) call c.index_mut-seat.result.now c.call.result (c.len.ensures ∙ s.seats.ok.0) c.if-member-len.false

@@ -12,7 +12,7 @@ use Rattle.world_core.proofs.world.World.collect_final.Goals as goal
 
 pub returns : goal.returns
 returns g c =
-    final_told (trust_by (g.S.MakesSeals.made c.args._sealer.now) (g.S.Sealer.accepts c.args._sealer.now)) (let v : Scene = record { terms = c.self.inside.seats.terms; opening = c.self.inside.opening; known = c.self.inside.directory; sequences = c.self.inside.order.sequences; epoch = c.self.inside.order.epoch; said = c.self.inside.said; certs = c.self.inside.certs; posts = c.self.inside.seats.posts } in v) c.args.self.now c.args.tx.now c.args.members.now
+    final_told (trust_by (g.S.MakesSeals.made c.args._sealer.now) (g.S.Checker.accepts c.args._sealer.now)) (let v : Scene = record { terms = c.self.inside.seats.terms; opening = c.self.inside.opening; known = c.self.inside.directory; sequences = c.self.inside.order.sequences; epoch = c.self.inside.order.epoch; said = c.self.inside.said; certs = c.self.inside.certs; posts = c.self.inside.seats.posts } in v) c.args.self.now c.args.tx.now c.args.members.now
     (made_as c.in-Some.made.now) (collected_as c.collect_acks-collected.result) c.in_ok-text.text c.final_line-2.result c.self.view_is
     (sym (ap (λ x. option_map made_as (option_copied x)) c.in-Some.is) ∙ c.made.ensures)
     (c.collect_acks-collected.ensures ∙ ap (λ (stakes : List ℕ). collected digest_eq stakes (λ m. last_said (ack_in c.in-Some.made.now.signed.tx.epoch c.in-Some.made.now.digest) m c.self.inside.said) c.args.members.now) c.committee-committee.ensures)

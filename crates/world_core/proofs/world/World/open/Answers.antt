@@ -7,7 +7,7 @@ use Rattle.world_core.proofs.Sound.{sound_first}
 use Rattle.world_core.proofs.world.World.open.Goals as goal
 
 pub returns : goal.returns
-returns g c = scene_first (trust_by (g.S.MakesSeals.made c.args.sealer.now) (g.S.Sealer.accepts c.args.sealer.now)) c.args.setup.now c.args.committee.now c.as_slice.result.now c.in_ok-opening.opening c.in-Ok.directory c.new-3.result c.new-4.result c.new-5.result c.in_ok-seats.seats c.requires (c.as_slice.ensures.value ∙ c.in_ok-honest.ensures) c.in_ok-opening.ensures c.in-Ok.ensures c.new-3.ensures c.new-4.ensures c.new-5.ensures
+returns g c = scene_first (trust_by (g.S.MakesSeals.made c.args.sealer.now) (g.S.Checker.accepts c.args.sealer.now)) c.args.setup.now c.args.committee.now c.as_slice.result.now c.in_ok-opening.opening c.in-Ok.directory c.new-3.result c.new-4.result c.new-5.result c.in_ok-seats.seats c.requires (c.as_slice.ensures.value ∙ c.in_ok-honest.ensures) c.in_ok-opening.ensures c.in-Ok.ensures c.new-3.ensures c.new-4.ensures c.new-5.ensures
     (c.in_ok-seats.ensures
     ∙ ap (λ (terms : Terms). crew_of terms c.in_ok-opening.opening c.as_slice.result.now) (c.new-terms.ensures ∙ ap (λ (writers : Option ℕ). record { stakes = c.args.committee.now; writers = writers }) c.writers_of.ensures))
 

@@ -10,4 +10,5 @@ pub push-requires : goal.push-requires
 push-requires c =
     short_cert c.in_ok-copy.field-0
     (subst (λ (x : Certificate). messages.certificate.short x) (sym c.in_ok-copy.ensures)
-    (spelled_cert c.self.inside.certs c.args.tx.now c.in-Some.cert.now c.self.invariant.formed (sym (ap (λ x. option_copied x) c.in-Some.is) ∙ c.last_named.ensures)))
+    (subst (λ (x : Certificate). messages.certificate.short x) (sym c.value-2.ensures)
+    (spelled_cert c.self.inside.certs c.args.tx.now c.in-Some.cert.now c.self.invariant.formed (sym (ap (λ x. option_copied x) c.in-Some.is) ∙ c.last_named.ensures))))

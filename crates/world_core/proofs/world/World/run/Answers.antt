@@ -4,4 +4,4 @@ use Rattle.world_core.proofs.Texts.{run_told}
 use Rattle.world_core.proofs.world.World.run.Goals as goal
 
 pub returns-clause-lines : goal.returns-clause-lines
-returns-clause-lines g c = run_told (trust_by (g.S.MakesSeals.made c.args.sealer.now) (g.S.Sealer.accepts c.args.sealer.now)) (let v : Scene = record { terms = c.self.inside.seats.terms; opening = c.self.inside.opening; known = c.self.inside.directory; sequences = c.self.inside.order.sequences; epoch = c.self.inside.order.epoch; said = c.self.inside.said; certs = c.self.inside.certs; posts = c.self.inside.seats.posts } in v) c.args.self.now c.args.member c.args.workers c.run.result c.self.view_is c.run.ensures.lines
+returns-clause-lines g c = run_told (trust_by (g.S.MakesSeals.made c.args.sealer.now) (g.S.Checker.accepts c.args.sealer.now)) (let v : Scene = record { terms = c.self.inside.seats.terms; opening = c.self.inside.opening; known = c.self.inside.directory; sequences = c.self.inside.order.sequences; epoch = c.self.inside.order.epoch; said = c.self.inside.said; certs = c.self.inside.certs; posts = c.self.inside.seats.posts } in v) c.args.self.now c.args.member c.args.workers c.run.result c.self.view_is c.run.ensures.lines

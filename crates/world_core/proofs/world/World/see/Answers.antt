@@ -10,7 +10,7 @@ use Rattle.world_core.proofs.world.World.see.Goals as goal
 pub returns-in_default-clause-kept : goal.returns-in_default-clause-kept
 unfolding work_of
 returns-in_default-clause-kept g c =
-    down_kept (trust_by (g.S.MakesSeals.made c.args.sealer.now) (g.S.Sealer.accepts c.args.sealer.now)) c.args.self.now c.args.member c.args.entries
+    down_kept (trust_by (g.S.MakesSeals.made c.args.sealer.now) (g.S.Checker.accepts c.args.sealer.now)) c.args.self.now c.args.member c.args.entries
     (c.in_default.ensures.value ∙ ap (λ (x : Scene). standing_at (slice_get x.posts c.args.member)) c.self.view_is)
     (g.D.Keeper.lists c.args.keeper.now) c.see_line.result
 
@@ -18,20 +18,20 @@ pub returns-in-Some-fork-clause-world : goal.returns-in-Some-fork-clause-world
 unfolding steps_to work_of
 returns-in-Some-fork-clause-world g c =
     on_ok _ c.match-see_halted.result
-    (halted_world (trust_by (g.S.MakesSeals.made c.args.sealer.now) (g.S.Sealer.accepts c.args.sealer.now)) c.args.self.now c.args.member c.args.entries c.in-Some.validator.now
+    (halted_world (trust_by (g.S.MakesSeals.made c.args.sealer.now) (g.S.Checker.accepts c.args.sealer.now)) c.args.self.now c.args.member c.args.entries c.in-Some.validator.now
     (c.in-Some.ensures.value ∙ ap (λ (x : Scene). standing_at (slice_get x.posts c.args.member)) c.self.view_is) c.in-Some-fork.first c.in-Some-fork.second c.in-Some-fork.ensures)
 
 pub returns-in-Some-fork-clause-kept : goal.returns-in-Some-fork-clause-kept
 unfolding work_of
 returns-in-Some-fork-clause-kept g c =
-    halted_kept (trust_by (g.S.MakesSeals.made c.args.sealer.now) (g.S.Sealer.accepts c.args.sealer.now)) c.args.self.now c.args.member c.args.entries c.in-Some.validator.now
+    halted_kept (trust_by (g.S.MakesSeals.made c.args.sealer.now) (g.S.Checker.accepts c.args.sealer.now)) c.args.self.now c.args.member c.args.entries c.in-Some.validator.now
     (c.in-Some.ensures.value ∙ ap (λ (x : Scene). standing_at (slice_get x.posts c.args.member)) c.self.view_is) c.in-Some-fork.first c.in-Some-fork.second c.in-Some-fork.ensures
     (g.D.Keeper.lists c.args.keeper.now) c.match-see_halted.result
 
 pub returns-then-is_empty-clause-kept : goal.returns-then-is_empty-clause-kept
 unfolding work_of
 returns-then-is_empty-clause-kept g c =
-    taken_kept (trust_by (g.S.MakesSeals.made c.args.sealer.now) (g.S.Sealer.accepts c.args.sealer.now)) c.args.self.now c.args.member c.args.entries c.in-Some.validator.now
+    taken_kept (trust_by (g.S.MakesSeals.made c.args.sealer.now) (g.S.Checker.accepts c.args.sealer.now)) c.args.self.now c.args.member c.args.entries c.in-Some.validator.now
     (c.in-Some.ensures.value ∙ ap (λ (x : Scene). standing_at (slice_get x.posts c.args.member)) c.self.view_is) c.min-count.result
     (c.min-count.ensures ∙ ap (λ (n : ℕ). min c.args.entries n) c.entries_left.ensures)
     (g.D.Keeper.lists c.args.keeper.now) (g.D.Keeper.lists c.see_all.new.keeper) c.see_line-then-is_empty.result c.in-Ok-see_all.ensures.kept

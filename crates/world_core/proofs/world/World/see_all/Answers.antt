@@ -5,18 +5,18 @@ use Rattle.world_core.proofs.world.World.see_all.Goals as goal
 
 pub returns-in-Err-clause-kept : goal.returns-in-Err-clause-kept
 returns-in-Err-clause-kept g c =
-    seen_cut (trust_by (g.S.MakesSeals.made c.args.sealer.now) (g.S.Sealer.accepts c.args.sealer.now)) c.args.member c.args.count c.args.self.now (g.D.Keeper.lists c.args.keeper.now) c.args.lines.now
+    seen_cut (trust_by (g.S.MakesSeals.made c.args.sealer.now) (g.S.Checker.accepts c.args.sealer.now)) c.args.member c.args.count c.args.self.now (g.D.Keeper.lists c.args.keeper.now) c.args.lines.now
     c.loop-left.self c.see_next.new.self (g.D.Keeper.lists c.loop-left.keeper) (g.D.Keeper.lists c.see_next.new.keeper) c.loop-left.lines c.see_next.new.lines c.loop-left.left c.loop-left-test.true c.loop-left.invariant.seen
     c.in-Err.ensures.kept
 
 pub returns-then-not-goes-clause-world : goal.returns-then-not-goes-clause-world
 returns-then-not-goes-clause-world g c =
-    last_scene (trust_by (g.S.MakesSeals.made c.args.sealer.now) (g.S.Sealer.accepts c.args.sealer.now)) c.args.member c.args.count c.args.self.now (g.D.Keeper.lists c.args.keeper.now) c.args.lines.now
+    last_scene (trust_by (g.S.MakesSeals.made c.args.sealer.now) (g.S.Checker.accepts c.args.sealer.now)) c.args.member c.args.count c.args.self.now (g.D.Keeper.lists c.args.keeper.now) c.args.lines.now
     c.loop-left.self c.see_next.new.self (g.D.Keeper.lists c.loop-left.keeper) (g.D.Keeper.lists c.see_next.new.keeper) c.loop-left.lines c.see_next.new.lines c.loop-left.left c.loop-left-test.true c.loop-left.invariant.seen
     c.in-Ok.ensures.world (sym c.if-not-goes.true ∙ c.in-Ok.ensures.goes)
 
 pub returns-then-not-goes-clause-kept : goal.returns-then-not-goes-clause-kept
 returns-then-not-goes-clause-kept g c =
-    last_kept (trust_by (g.S.MakesSeals.made c.args.sealer.now) (g.S.Sealer.accepts c.args.sealer.now)) c.args.member c.args.count c.args.self.now (g.D.Keeper.lists c.args.keeper.now) c.args.lines.now
+    last_kept (trust_by (g.S.MakesSeals.made c.args.sealer.now) (g.S.Checker.accepts c.args.sealer.now)) c.args.member c.args.count c.args.self.now (g.D.Keeper.lists c.args.keeper.now) c.args.lines.now
     c.loop-left.self c.see_next.new.self (g.D.Keeper.lists c.loop-left.keeper) (g.D.Keeper.lists c.see_next.new.keeper) c.loop-left.lines c.see_next.new.lines c.loop-left.left c.loop-left-test.true c.loop-left.invariant.seen
     c.in-Ok.ensures.world (sym c.if-not-goes.true ∙ c.in-Ok.ensures.goes) c.in-Ok.ensures.kept

@@ -6,7 +6,7 @@ use Rattle.world_core.proofs.world.World.see_all.Given as goal
 -- what was handed in, and what is left, come to all
 abbrev pub invariant-loop-left : goal.invariant-loop-left
 invariant-loop-left g l = record {
-  seen : HasSeen (trust_by (g.S.MakesSeals.made l.fn.sealer) (g.S.Sealer.accepts l.fn.sealer)) l.member l.count l.fn.self l.self (g.D.Keeper.lists l.fn.keeper) (g.D.Keeper.lists l.keeper) l.fn.lines l.lines l.left;
+  seen : HasSeen (trust_by (g.S.MakesSeals.made l.fn.sealer) (g.S.Checker.accepts l.fn.sealer)) l.member l.count l.fn.self l.self (g.D.Keeper.lists l.fn.keeper) (g.D.Keeper.lists l.keeper) l.fn.lines l.lines l.left;
   width : g.D.Keeper.width l.keeper ≡ g.D.Keeper.width l.fn.keeper;
   later : g.D.Keeper.failed l.fn.keeper ≤ g.D.Keeper.failed l.keeper;
 }

@@ -7,12 +7,12 @@ use Rattle.world_core.proofs.world.World.see_next.Goals as goal
 
 pub returns-clause-lines : goal.returns-clause-lines
 returns-clause-lines g c =
-    next_lines (trust_by (g.S.MakesSeals.made c.args.sealer.now) (g.S.Sealer.accepts c.args.sealer.now)) (let v : Scene = record { terms = c.self.inside.seats.terms; opening = c.self.inside.opening; known = c.self.inside.directory; sequences = c.self.inside.order.sequences; epoch = c.self.inside.order.epoch; said = c.self.inside.said; certs = c.self.inside.certs; posts = c.self.inside.seats.posts } in v) c.args.self.now c.args.member c.in-Some.number c.as_slice.result.now c.self.view_is
+    next_lines (trust_by (g.S.MakesSeals.made c.args.sealer.now) (g.S.Checker.accepts c.args.sealer.now)) (let v : Scene = record { terms = c.self.inside.seats.terms; opening = c.self.inside.opening; known = c.self.inside.directory; sequences = c.self.inside.order.sequences; epoch = c.self.inside.order.epoch; said = c.self.inside.said; certs = c.self.inside.certs; posts = c.self.inside.seats.posts } in v) c.args.self.now c.args.member c.in-Some.number c.as_slice.result.now c.self.view_is
     (ap (λ (b : List ℕ). Some (sees c.in-Some.number b)) c.as_slice.ensures.value ∙ c.in-Some.ensures)
     c.see.result c.args.lines.now c.see.new.lines c.see.ensures.lines
 
 pub returns-clause-kept : goal.returns-clause-kept
 returns-clause-kept g c =
-    next_kept (trust_by (g.S.MakesSeals.made c.args.sealer.now) (g.S.Sealer.accepts c.args.sealer.now)) (let v : Scene = record { terms = c.self.inside.seats.terms; opening = c.self.inside.opening; known = c.self.inside.directory; sequences = c.self.inside.order.sequences; epoch = c.self.inside.order.epoch; said = c.self.inside.said; certs = c.self.inside.certs; posts = c.self.inside.seats.posts } in v) c.args.self.now c.args.member c.in-Some.number c.as_slice.result.now c.self.view_is
+    next_kept (trust_by (g.S.MakesSeals.made c.args.sealer.now) (g.S.Checker.accepts c.args.sealer.now)) (let v : Scene = record { terms = c.self.inside.seats.terms; opening = c.self.inside.opening; known = c.self.inside.directory; sequences = c.self.inside.order.sequences; epoch = c.self.inside.order.epoch; said = c.self.inside.said; certs = c.self.inside.certs; posts = c.self.inside.seats.posts } in v) c.args.self.now c.args.member c.in-Some.number c.as_slice.result.now c.self.view_is
     (ap (λ (b : List ℕ). Some (sees c.in-Some.number b)) c.as_slice.ensures.value ∙ c.in-Some.ensures)
     c.see.result (g.D.Keeper.lists c.args.keeper.now) (g.D.Keeper.lists c.see.new.keeper) c.see.ensures.kept

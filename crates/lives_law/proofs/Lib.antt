@@ -1,0 +1,5 @@
+mod Voting
+mod Along
+mod Shut
+mod Standing
+mod Owned
