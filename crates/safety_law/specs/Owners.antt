@@ -17,7 +17,7 @@ use Rattle.protocol_spec.specs.Member.Calls.{Call, called}
 use Rattle.world_spec.specs.Setting.{Setting}
 use Rattle.world_spec.specs.World.{Seat, Said, World, new_world, said_by, member_in, is_honest, entries_at}
 use Rattle.world_spec.specs.Run.{world_after}
-use Rattle.world_spec.specs.Assumptions.{calls_of, asked, all_of, all_formed, all_delivered, all_transactions, IsCertified, TransactionsApart, NoForgery, IsHonestRun}
+use Rattle.world_spec.specs.Assumptions.{calls_of, asked, all_of, all_formed, all_delivered, IsCertified, NoForgery, IsHonestRun}
 
 -- ---- statements
 
@@ -31,7 +31,7 @@ HasStated w c m = Has w.said (said_by m (vote_of c))
 
 -- each member whose seal a certificate has that a line formed stated that vote
 abbrev pub FormedIsVotedFor : Type 0
-FormedIsVotedFor = (s : Setting) (events : List Event) → TransactionsApart (all_transactions s events) → (c : Certificate) → Has (all_formed s events) c
+FormedIsVotedFor = (s : Setting) (events : List Event) (c : Certificate) → Has (all_formed s events) c
     → Each (λ (x : MemberSeal). HasStated (world_after s events) c x.member) c.seals
 
 -- a certificate that a line formed, valid or not, or a valid one that a line delivered
@@ -155,7 +155,7 @@ pub record AreSpellable (s : Setting) (events : List Event) : Type 0 where
 -- End that its member stated
 abbrev pub NothingIsForged : Type 0
 NothingIsForged = (s : Setting) (events : List Event) → Each (λ (e : Event). is_raw_hold e ≡ false) events
-    → TransactionsApart (all_transactions s events) → AreSpellable s events → NoForgery s events (new_world s)
+    → AreSpellable s events → NoForgery s events (new_world s)
 
 -- ---- prefixes
 
