@@ -175,12 +175,7 @@ impl SaidBook {
 
     /// The origins of the member's last vote for the transaction of the epoch; none exactly if it stated no such vote.
     /// Takes no memory.
-    pub fn last_vote(
-        &self,
-        member: u32,
-        epoch: u64,
-        tx: &Digest,
-    ) -> Option<&Seq<Option<Digest>>>
+    pub fn last_vote(&self, member: u32, epoch: u64, tx: &Digest) -> Option<&Seq<Option<Digest>>>
         ensures { option_copied result ≡ vote_by self.now epoch tx.now member }
     {
         self.vote_of(member as u64, epoch, tx)
