@@ -3,6 +3,7 @@ use Rattle.std.proofs.Common.{◌≡◌, ◌∙◌, ap, sym, refl, subst, ℕ, z
 use Rattle.std.specs.Prelude.{bytes_eq, find, slice_get}
 use Rattle.digest_core.specs.declared.Digest.{Digest}
 use Rattle.chain_types.specs.Transactions as transactions
+use Rattle.chain_types.specs.declared.transactions.SignedTx.{SignedTx}
 use Rattle.chain_messages.specs.declared.messages.Certificate.{Certificate}
 use Rattle.chain_messages.specs.declared.messages.Statement.TheVariants as statement
 use Rattle.chain_messages.specs.Messages as messages
@@ -106,6 +107,15 @@ unnamed_cert_lines trust sc name ms (Some t) lines e l = absurd (cc)
 
 abbrev collects : Scene → ℕ → Digest → List ℕ → Collected
 collects sc epoch tx ms = collected origins_eq sc.terms.stakes (λ m. last_said (vote_in epoch tx) m sc.said) ms
+
+-- what the book gives, by the committee and the transaction that are kept
+pub collected_here : (said : List Said) (tx : Digest) (ms : List ℕ) (got : Collected) (stakes kept : List ℕ) (x y : SignedTx)
+    → got ≡ collected origins_eq stakes (λ m. last_said (vote_in x.tx.epoch tx) m said) ms → stakes ≡ kept → x ≡ y
+    → got ≡ collected origins_eq kept (λ m. last_said (vote_in y.tx.epoch tx) m said) ms
+collected_here said tx ms got stakes kept x y is e o =
+    is
+    ∙ ap (λ (ss : List ℕ). collected origins_eq ss (λ m. last_said (vote_in x.tx.epoch tx) m said) ms) e
+    ∙ ap (λ (z : SignedTx). collected origins_eq kept (λ m. last_said (vote_in z.tx.epoch tx) m said) ms) o
 
 pub collected_lines : (trust : Trust) (sc : Scene) (name : Name) (ms : List ℕ) (made : MadeTx) (t : Option Made) (got : Given) (lines : List Line) → Some (made_as made) ≡ t
     → collected_as got ≡ collects sc made.signed.tx.epoch made.digest ms → lines ≡ line.Cert name (cert_collected ms (collected_as got)) ∷ [] → lines ≡ cert_lines (bare_setting trust sc) (bare_world sc) name ms t
