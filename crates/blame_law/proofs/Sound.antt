@@ -32,7 +32,7 @@ module _ (s : Setting) (events : List Event) (none : NoForgery s events (new_wor
   stated c is m h honest = go (has_mapped (λ (x : MemberSeal). x.member) c.seals m h) is
     where
       go : (x : MemberSeal) × Has c.seals x × (x.member ≡ m) → IsFormedOrValid s events c → HasStated (world_after s events) c m
-      go (x, k, e) (inl h) = subst (HasStated (world_after s events) c) e (each_has (λ (y : MemberSeal). HasStated (world_after s events) c y.member) c.seals x (each-formed s events apart c h) k)
+      go (x, k, e) (inl h) = subst (HasStated (world_after s events) c) e (each_has (λ (y : MemberSeal). HasStated (world_after s events) c y.member) c.seals x (each-formed s events c h) k)
       go (x, k, e) (inr d) = subst (HasStated (world_after s events) c) e (delivered-stated s events none c d.0 d.1 x k (subst (λ (n : ℕ). is_honest (world_after s events) n ≡ true) (sym e) honest))
 
   kept : (c : Certificate) → IsFormedOrValid s events c → (m : ℕ) (seat : Seat) → slice_get (world_after s events).seats m ≡ Some seat → seat.honest ≡ true → HasStated (world_after s events) c m
