@@ -1,5 +1,5 @@
--- In each world of a run each seal of a formed certificate is over a vote that was stated, and what is ordered was formed
--- or stated.
+-- In each world of a run each seal of a formed certificate is its member's on a vote that it stated, and what is ordered
+-- was formed or stated.
 use Rattle.std.proofs.Common.{inl, inr, refl, sym, subst, ap, ◌∙◌}
 use Rattle.std.proofs.lemmas.Bool.{eqb-true}
 use Rattle.std.specs.Prelude.{◌≡◌, ◌⊎◌, ℕ, zero, suc, Bool, true, false, not, ◌&&◌, ◌==◌, List, [], ◌∷◌, ◌++◌, map, slice_get, slice_set, Option, Some, None}
@@ -21,7 +21,7 @@ use Rattle.protocol_spec.specs.Chain.Committee.{weight, total_of, is_quorum}
 use Rattle.protocol_spec.specs.Chain.Certificates.{vote_of}
 use Rattle.protocol_spec.proofs.Truth.{and_true, where_not_true}
 use Rattle.protocol_spec.specs.Member.Calls.{Call}
-use Rattle.world_spec.specs.Setting.{Setting}
+use Rattle.world_spec.specs.Setting.{Setting, member_seal}
 use Rattle.world_spec.specs.World.{Seat, Made, Formed, World, Reached, finds_down, stops, answers, said_by, with_seat, stopped_seat, reached_seat, behind, called_seat, called_in, is_honest, entries_at, list_or_none, called_over}
 use Rattle.world_spec.specs.Step.{says, vote_in, last_said, first_origins, vote_statement, sealed_by, certificate_of, votes_collected, appended_entry, open_entries, risen_if}
 use Rattle.world_spec.specs.Making.{TxLine, with_made}
@@ -153,9 +153,10 @@ IsGiven total txs t = ((x : Made) × Has txs x × (x.signed.tx ≡ t)) ⊎ ((x :
 
 -- ---- the world
 
-pub record IsSound (w : World) : Type 0 where
+pub record IsSound (s : Setting) (w : World) : Type 0 where
   pub made : (t : Made) → Has w.txs t → t.digest ≡ transaction_digest t.signed.tx
   pub voted : (f : Formed) → Has w.certs f → (x : MemberSeal) → Has f.cert.seals x → Has w.said (said_by x.member (vote_of f.cert))
+  pub sealed : (f : Formed) → Has w.certs f → (x : MemberSeal) → Has f.cert.seals x → x.seal ≡ member_seal s x.member (vote_of f.cert)
   pub backed : (es : List Entry) → Has w.sequences es → (e : Entry) → Has es e → IsBacked w e
 
 backed-grown : (w v : World) → IsGrown w v → (e : Entry) → IsBacked w e → IsBacked v e
@@ -191,35 +192,36 @@ entry-in qs n e h = go (slice_get qs n) refl h
     go (Some es) q h = (es, get-has qs n es q, h)
 
 -- if transactions, certificates and sequences stay
-sound-as : (w v : World) → IsGrown w v → v.txs ≡ w.txs → v.certs ≡ w.certs → v.sequences ≡ w.sequences → IsSound w → IsSound v
-sound-as w v g txs certs sequences sound = record {
+sound-as : (s : Setting) (w v : World) → IsGrown w v → v.txs ≡ w.txs → v.certs ≡ w.certs → v.sequences ≡ w.sequences → IsSound s w → IsSound s v
+sound-as s w v g txs certs sequences sound = record {
   made = λ t h. sound.made t (subst (λ (ts : List Made). Has ts t) txs h);
   voted = λ f h x k. g.said _ (sound.voted f (subst (λ (fs : List Formed). Has fs f) certs h) x k);
+  sealed = λ f h x k. sound.sealed f (subst (λ (fs : List Formed). Has fs f) certs h) x k;
   backed = λ es h e k. backed-grown w v g e (sound.backed es (subst (λ (qs : List (List Entry)). Has qs es) sequences h) e k);
 }
 
 module _ (s : Setting) where
-  sound-behind : (w : World) (m : ℕ) (call : Call) (seat : Seat) (r : Reached) → slice_get w.seats m ≡ Some seat → IsSound w → IsSound (behind s w m call seat r)
+  sound-behind : (w : World) (m : ℕ) (call : Call) (seat : Seat) (r : Reached) → slice_get w.seats m ≡ Some seat → IsSound s w → IsSound s (behind s w m call seat r)
   sound-behind w m call seat finds_down at sound = sound
   sound-behind w m call seat (stops kept x) at sound =
-      sound-as w (with_seat w m (stopped_seat seat kept x)) (grown-seat w m seat (stopped_seat seat kept x) at refl) refl refl refl sound
+      sound-as s w (with_seat w m (stopped_seat seat kept x)) (grown-seat w m seat (stopped_seat seat kept x) at refl) refl refl refl sound
   sound-behind w m call seat (answers before x) at sound =
-      sound-as w (behind s w m call seat (answers before x)) (grown-behind s w m call seat (answers before x) at) refl refl refl sound
+      sound-as s w (behind s w m call seat (answers before x)) (grown-behind s w m call seat (answers before x) at) refl refl refl sound
 
-  sound-called_seat : (w : World) (m : ℕ) (call : Call) (seat : Option Seat) → slice_get w.seats m ≡ seat → IsSound w → IsSound (called_seat s w m call seat)
+  sound-called_seat : (w : World) (m : ℕ) (call : Call) (seat : Option Seat) → slice_get w.seats m ≡ seat → IsSound s w → IsSound s (called_seat s w m call seat)
   sound-called_seat w m call None at sound = sound
   sound-called_seat w m call (Some seat) at sound = sound-behind w m call seat (reached_seat s call seat) at sound
 
-  sound-called : (w : World) (m : ℕ) (call : Call) → IsSound w → IsSound (called_in s w m call)
+  sound-called : (w : World) (m : ℕ) (call : Call) → IsSound s w → IsSound s (called_in s w m call)
   unfolding called_over
   sound-called w m call sound = sound-called_seat w m call (slice_get w.seats m) refl sound
 
-  sound-says : (w : World) (m : ℕ) (st : Statement) → is_honest w m ≡ false → IsOfMade w st → IsSound w → IsSound (says w m st)
+  sound-says : (w : World) (m : ℕ) (st : Statement) → is_honest w m ≡ false → IsOfMade w st → IsSound s w → IsSound s (says w m st)
   sound-says w m st faulty of_made sound =
-      sound-as w (says w m st) ((grown-keeps s w).lies w m st faulty of_made (grown-same w)) refl refl refl sound
+      sound-as s w (says w m st) ((grown-keeps s w).lies w m st faulty of_made (grown-same w)) refl refl refl sound
 
-  sound-enters : (w : World) (e : Entry) → IsBacked w e → IsSound w → IsSound (appended_entry w e)
-  sound-enters w e backed sound = record { made = sound.made; voted = sound.voted; backed = entries }
+  sound-enters : (w : World) (e : Entry) → IsBacked w e → IsSound s w → IsSound s (appended_entry w e)
+  sound-enters w e backed sound = record { made = sound.made; voted = sound.voted; sealed = sound.sealed; backed = entries }
     where
       grown : IsGrown w (appended_entry w e)
       grown = (grown-keeps s w).enters w e backed (grown-same w)
@@ -235,8 +237,8 @@ module _ (s : Setting) where
           go (inl h) = backed-grown w (appended_entry w e) grown x (sound.backed es h x k)
           go (inr q) = backed-grown w (appended_entry w e) grown x (newer x (has-push (open_entries w) e x (subst (λ (ys : List Entry). Has ys x) (sym q) k)))
 
-  sound-rises : (w : World) → IsSound w → IsSound (risen_if true w)
-  sound-rises w sound = record { made = sound.made; voted = sound.voted; backed = entries }
+  sound-rises : (w : World) → IsSound s w → IsSound s (risen_if true w)
+  sound-rises w sound = record { made = sound.made; voted = sound.voted; sealed = sound.sealed; backed = entries }
     where
       entries : (es : List Entry) → Has (w.sequences ++ [] ∷ []) es → (x : Entry) → Has es x → IsBacked (risen_if true w) x
       entries es h x k = go (has-push w.sequences [] es h)
@@ -245,10 +247,11 @@ module _ (s : Setting) where
           go (inl h) = backed-grown w (risen_if true w) ((grown-keeps s w).rises w (grown-same w)) x (sound.backed es h x k)
           go (inr q) = absurd (subst (λ (ys : List Entry). Has ys x) (sym q) k)
 
-  sound-makes : (w : World) (l : TxLine) (t : Made) → t.digest ≡ transaction_digest t.signed.tx → IsSound w → IsSound (with_made w l t)
+  sound-makes : (w : World) (l : TxLine) (t : Made) → t.digest ≡ transaction_digest t.signed.tx → IsSound s w → IsSound s (with_made w l t)
   sound-makes w l t digest sound = record {
     made = λ x h. made x (has-push w.txs t x h);
     voted = sound.voted;
+    sealed = sound.sealed;
     backed = λ es h e k. backed-grown w (with_made w l t) ((grown-keeps s w).makes w l t digest (grown-same w)) e (sound.backed es h e k);
   }
     where
@@ -261,10 +264,16 @@ module _ (s : Setting) where
   has-sealed st (m ∷ ms) x (inl e) = inl (ap (λ (y : MemberSeal). y.member) e)
   has-sealed st (m ∷ ms) x (inr h) = inr (has-sealed st ms x h)
 
-  sound-forms : (w : World) (t : Made) (ms : List ℕ) → Has w.txs t → votes_collected s w t ms ≡ whole → IsSound w → IsSound (with_formed s w t ms)
+  their-seals : (st : Statement) (ms : List ℕ) (x : MemberSeal) → Has (map (sealed_by s st) ms) x → x.seal ≡ member_seal s x.member st
+  their-seals st [] x h = absurd h
+  their-seals st (m ∷ ms) x (inl e) = subst (λ (y : MemberSeal). y.seal ≡ member_seal s y.member st) e refl
+  their-seals st (m ∷ ms) x (inr h) = their-seals st ms x h
+
+  sound-forms : (w : World) (t : Made) (ms : List ℕ) → Has w.txs t → votes_collected s w t ms ≡ whole → IsSound s w → IsSound s (with_formed s w t ms)
   sound-forms w t ms h e sound = record {
     made = sound.made;
     voted = λ f k x l. voted f x l (has-push w.certs _ f k);
+    sealed = λ f k x l. sealed f x l (has-push w.certs _ f k);
     backed = λ es k y l. backed-grown w (with_formed s w t ms) ((grown-keeps s w).forms w t ms h e (grown-same w)) y (sound.backed es k y l);
   }
     where
@@ -280,11 +289,20 @@ module _ (s : Setting) where
       voted f x l (inl k) = sound.voted f k x l
       voted f x l (inr q) = subst (λ (g : Formed). Has g.cert.seals x → Has w.said (said_by x.member (vote_of g.cert))) q (by x) l
 
-  pub sound-keeps : Keeps s (λ _ _. Unit {0}) IsSound
+      own : (x : MemberSeal) → Has new.cert.seals x → x.seal ≡ member_seal s x.member (vote_of new.cert)
+      own x l =
+          subst (λ (d : Digest). x.seal ≡ member_seal s x.member (vote_statement t.signed.tx d (first_origins w t ms))) (sound.made t h)
+          (their-seals (vote_statement t.signed.tx t.digest (first_origins w t ms)) ms x l)
+
+      sealed : (f : Formed) (x : MemberSeal) → Has f.cert.seals x → Has w.certs f ⊎ (new ≡ f) → x.seal ≡ member_seal s x.member (vote_of f.cert)
+      sealed f x l (inl k) = sound.sealed f k x l
+      sealed f x l (inr q) = subst (λ (g : Formed). Has g.cert.seals x → x.seal ≡ member_seal s x.member (vote_of g.cert)) q (own x) l
+
+  pub sound-keeps : Keeps s (λ _ _. Unit {0}) (IsSound s)
   sound-keeps = record {
     calls = λ w m call _ sound. sound-called w m call sound;
     lies = λ w m st faulty of_made sound. sound-says w m st faulty of_made sound;
-    seats = λ w m seat new at same records sound. sound-as w (with_seat w m new) (grown-seat w m seat new at same) refl refl refl sound;
+    seats = λ w m seat new at same records sound. sound-as s w (with_seat w m new) (grown-seat w m seat new at same) refl refl refl sound;
     enters = λ w e backed sound. sound-enters w e backed sound;
     rises = λ w sound. sound-rises w sound;
     makes = λ w l t digest sound. sound-makes w l t digest sound;

@@ -82,17 +82,17 @@ module _ (s : Setting) where
 
   -- ---- the world at the end
 
-  pub sound-new : IsSound (new_world s)
+  pub sound-new : IsSound s (new_world s)
   unfolding new_world
-  sound-new = record { made = λ t h. absurd h; voted = λ f h. absurd h; backed = none }
+  sound-new = record { made = λ t h. absurd h; voted = λ f h. absurd h; sealed = λ f h. absurd h; backed = none }
     where
       none : (es : List Entry) → Has ([] ∷ []) es → (e : Entry) → Has es e → IsBacked (new_world s) e
       none es (inl q) e k = absurd (subst (λ (ys : List Entry). Has ys e) (sym q) k)
       none es (inr h) e k = absurd h
 
-  pub sound-after : (events : List Event) → IsSound (world_after s events)
+  pub sound-after : (events : List Event) → IsSound s (world_after s events)
   unfolding world_after
-  sound-after events = step-run s (λ _ _. Unit {0}) IsSound (sound-keeps s) events (new_world s) (any-given s events (new_world s)) sound-new
+  sound-after events = step-run s (λ _ _. Unit {0}) (IsSound s) (sound-keeps s) events (new_world s) (any-given s events (new_world s)) sound-new
 
 -- ---- all transactions of the run
 

@@ -98,7 +98,7 @@ module _ (s : Setting) where
 -- ---- one world of the run
 
 module _ (s : Setting) (all : List Event) (spellable : AreSpellable s all) (w : World)
-    (sound : IsSound w) (grown : IsGrown w (world_after s all)) (longer : IsLonger w (world_after s all)) where
+    (sound : IsSound s w) (grown : IsGrown w (world_after s all)) (longer : IsLonger w (world_after s all)) where
   formed-among : (f : Formed) → Has w.certs f → Has (all_formed s all) f.cert
   unfolding all_formed
   formed-among f h = has_map (λ (g : Formed). g.cert) (world_after s all).certs f (grown.certs f h)
@@ -204,11 +204,11 @@ module _ (s : Setting) (all : List Event) (spellable : AreSpellable s all) (w : 
 -- ---- the whole run
 
 module _ (s : Setting) (all : List Event) (spellable : AreSpellable s all) where
-  unforged-from : (events : List Event) (w : World) → run s events w ≡ world_after s all → IsSound w → Each (λ (e : Event). is_raw_hold e ≡ false) events → NoForgery s events w
+  unforged-from : (events : List Event) (w : World) → run s events w ≡ world_after s all → IsSound s w → Each (λ (e : Event). is_raw_hold e ≡ false) events → NoForgery s events w
   unforged-from [] w is sound raw = tt
   unforged-from (e ∷ events) w is sound raw =
       let line = line-unforged s all spellable w sound (subst (IsGrown w) is (grown-run s (e ∷ events) w)) (subst (IsLonger w) is (longer-run s (e ∷ events) w)) e raw.0 in
-      (line.0, line.1, unforged-from events (happens s w e) is (step-line s (λ _ _. Unit {0}) IsSound (sound-keeps s) w e (each-any (calls_of s w e)) sound) raw.1)
+      (line.0, line.1, unforged-from events (happens s w e) is (step-line s (λ _ _. Unit {0}) (IsSound s) (sound-keeps s) w e (each-any (calls_of s w e)) sound) raw.1)
 
 after-is : (s : Setting) (events : List Event) → run s events (new_world s) ≡ world_after s events
 unfolding world_after
