@@ -113,7 +113,7 @@ vote_statement t tx origins = statement.Vote t.epoch tx origins
 abbrev pub sealed_by : Setting → Statement → ℕ → MemberSeal
 sealed_by s st m = record { member = m; seal = member_seal s m st }
 
--- the certificate of these members' votes: the seal that each of them made on its own, which are all one statement
+-- the certificate of these members' votes, which are all one statement, with the seal that each of them made on it
 abbrev pub certificate_of : Setting → Made → List (Option Digest) → List ℕ → Certificate
 certificate_of s t origins ms = record { tx = t.signed.tx; origins = origins; seals = map (sealed_by s (vote_statement t.signed.tx t.digest origins)) ms }
 
