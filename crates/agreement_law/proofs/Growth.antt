@@ -98,7 +98,7 @@ module _ (s : Setting) where
 
   grows-formed : (w : World) (ms : List ℕ) (t : Option Made) → Grows w (formed s w ms t)
   grows-formed w ms None = grown-same w.sequences
-  grows-formed w ms (Some t) = grows-formed_as w t ms (votes_collected s w t.digest ms)
+  grows-formed w ms (Some t) = grows-formed_as w t ms (votes_collected s w t ms)
 
   grows-sent : (w : World) (m : ℕ) (c : Option Certificate) → Grows w (sent s w m c)
   grows-sent w m None = grown-same w.sequences

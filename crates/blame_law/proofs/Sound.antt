@@ -7,7 +7,7 @@ use Rattle.chain_messages.specs.declared.messages.MemberSeal.{MemberSeal}
 use Rattle.chain_messages.specs.declared.messages.Certificate.{Certificate}
 use Rattle.journal_core.specs.declared.records.Record.TheVariants as record_as
 use Rattle.schedule_text.specs.declared.words.Event.{Event}
-use Rattle.protocol_spec.proofs.ListLemmas.{each_has, has_left, has_mapped, has_right}
+use Rattle.protocol_spec.proofs.ListLemmas.{has_left, has_mapped, has_right}
 use Rattle.protocol_spec.specs.Chain.Words.{Has}
 use Rattle.world_spec.specs.Setting.{Setting}
 use Rattle.world_spec.specs.World.{Seat, is_honest, new_world, honest_seat}
@@ -18,7 +18,7 @@ use Rattle.safety_law.proofs.Once.{voted-once}
 use Rattle.safety_law.proofs.Kept.{IsKept, every-vote}
 use Rattle.safety_law.proofs.Totals.{certificate-among, given-among, handed-among}
 use Rattle.safety_law.proofs.Handed.{WasHanded, voted-handed}
-use Rattle.safety_law.proofs.Voted.{delivered-stated, each-formed}
+use Rattle.safety_law.proofs.Voted.{delivered-stated, formed-stated}
 use Rattle.light_check.specs.declared.rivals.DoubleVote.{DoubleVote}
 use Rattle.light_check.specs.Blamed.{blamed, sealers}
 use Rattle.blame_law.proofs.Blaming.{IsDouble, blamed-is, sealed-first, sealed-second}
@@ -32,7 +32,7 @@ module _ (s : Setting) (events : List Event) (none : NoForgery s events (new_wor
   stated c is m h honest = go (has_mapped (λ (x : MemberSeal). x.member) c.seals m h) is
     where
       go : (x : MemberSeal) × Has c.seals x × (x.member ≡ m) → IsFormedOrValid s events c → HasStated (world_after s events) c m
-      go (x, k, e) (inl h) = subst (HasStated (world_after s events) c) e (each_has (λ (y : MemberSeal). HasStated (world_after s events) c y.member) c.seals x (each-formed s events apart c h) k)
+      go (x, k, e) (inl h) = subst (HasStated (world_after s events) c) e (formed-stated s events c h x k)
       go (x, k, e) (inr d) = subst (HasStated (world_after s events) c) e (delivered-stated s events none c d.0 d.1 x k (subst (λ (n : ℕ). is_honest (world_after s events) n ≡ true) (sym e) honest))
 
   kept : (c : Certificate) → IsFormedOrValid s events c → (m : ℕ) (seat : Seat) → slice_get (world_after s events).seats m ≡ Some seat → seat.honest ≡ true → HasStated (world_after s events) c m

@@ -120,7 +120,7 @@ module _ (s : Setting) (flags : List Bool) where
 
   step-formed : (w : World) (ms : List ℕ) (t : Option Made) → Stand w → Stand (formed s w ms t)
   step-formed w ms None q = q
-  step-formed w ms (Some t) q = step-formed_as w t ms (votes_collected s w t.digest ms) q
+  step-formed w ms (Some t) q = step-formed_as w t ms (votes_collected s w t ms) q
 
   step-sent : (w : World) (m : ℕ) (c : Option Certificate) → Stand w → Stand (sent s w m c)
   step-sent w m None q = q

@@ -137,7 +137,7 @@ pub meets-all : (text : List ℕ) (t : Schedule) → schedule_of text ≡ Ok t �
     → IsComputed (setting_of (keyed program_secret) t.setup) t.events → IsHonestRun (setting_of (keyed program_secret) t.setup) t.events
 meets-all text t read raw few it = record {
   few_faulty = few;
-  no_forgery = read-unforged text t read program_secret raw (transactions-apart (setting_of (keyed program_secret) t.setup) t.events it);
+  no_forgery = read-unforged text t read program_secret raw;
   transactions = transactions-apart (setting_of (keyed program_secret) t.setup) t.events it;
   ids = ids-apart (setting_of (keyed program_secret) t.setup) t.events it;
 }

@@ -281,7 +281,7 @@ module _ {A B : Type 0} (a : Seating A) (b : Seating B) (h : ℕ → A → B) (s
   formed-looks : (w : WorldOf A) (ms : List ℕ) (x : Option Made) → look (formed s w ms x) ≡ formed t (look w) ms x
   unfolding votes_collected
   formed-looks w ms None = refl
-  formed-looks w ms (Some x) = formed-as w x ms (votes_collected s w x.digest ms)
+  formed-looks w ms (Some x) = formed-as w x ms (votes_collected s w x ms)
 
   on-looks : (w : WorldOf A) (m : ℕ) (d : Deed) → is_start d ≡ false → (o : Option A) → look (on_seat w m (λ x. a.acts x d) o) ≡ on_seat (look w) m (λ y. b.acts y d) (option_map (at_place m) o)
   on-looks w m d other None = refl
@@ -361,19 +361,19 @@ module _ {A B : Type 0} (a : Seating A) (b : Seating B) (h : ℕ → A → B) (s
   honest-looks : (w : WorldOf A) (m : ℕ) → honest_in a.honest w m ≡ honest_in b.honest (look w) m
   honest-looks w m = test-looks a.honest b.honest carried.honest w m
 
-  votes-look : (w : WorldOf A) (tx : Digest) (n k : ℕ) (xs : List A)
-      → first_of (vote_by a.honest w tx) (enumerate_from n xs) ≡ first_of (vote_by b.honest (look w) tx) (enumerate_from n (placed h k xs))
-  votes-look w tx n k [] = refl
-  votes-look w tx n k (x ∷ xs) =
-      ap (λ (rest : Option (List (Option Digest))). first_some (vote_by a.honest w tx (n, x) ∷ rest ∷ [])) (votes-look w tx (n + 1) (suc k) xs)
-      ∙ ap (λ (honest : Bool). first_some (cond honest (last_said (vote_in tx) n w.said) None ∷ first_of (vote_by b.honest (look w) tx) (enumerate_from (n + 1) (placed h (suc k) xs)) ∷ [])) (carried.honest k x)
+  votes-look : (w : WorldOf A) (made : Made) (n k : ℕ) (xs : List A)
+      → first_of (vote_by a.honest w made) (enumerate_from n xs) ≡ first_of (vote_by b.honest (look w) made) (enumerate_from n (placed h k xs))
+  votes-look w made n k [] = refl
+  votes-look w made n k (x ∷ xs) =
+      ap (λ (rest : Option (List (Option Digest))). first_some (vote_by a.honest w made (n, x) ∷ rest ∷ [])) (votes-look w made (n + 1) (suc k) xs)
+      ∙ ap (λ (honest : Bool). first_some (cond honest (last_said (vote_in made.signed.tx.epoch made.digest) n w.said) None ∷ first_of (vote_by b.honest (look w) made) (enumerate_from (n + 1) (placed h (suc k) xs)) ∷ [])) (carried.honest k x)
 
   origin-looks : (w : WorldOf A) (o : Option Name) → origin_word w o ≡ origin_word (look w) o
   origin-looks w None = refl
   origin-looks w (Some name) = refl
 
   origins-look : (w : WorldOf A) (x : Made) (words : List (Option Name)) → origins_by a.honest w x words ≡ origins_by b.honest (look w) x words
-  origins-look w x [] = ap (λ (found : Option (List (Option Digest))). origins_or (no_origins x.signed.tx) found) (votes-look w x.digest 0 0 w.seats)
+  origins-look w x [] = ap (λ (found : Option (List (Option Digest))). origins_or (no_origins x.signed.tx) found) (votes-look w x 0 0 w.seats)
   origins-look w x (word ∷ words) = ap (λ (f : Option Name → Option Digest). map f (word ∷ words)) (λ i o. origin-looks w o i)
 
   says-if : (w : WorldOf A) (m : ℕ) (st : Statement) (honest : Bool) → look (cond honest w (says w m st)) ≡ cond honest (look w) (says (look w) m st)

@@ -89,7 +89,7 @@ module _ (trust : Trust) (s : Setting) (rules : s.rules ≡ rules_for (terms_of 
 
   cert-same : (tx : Name) (ms : List ℕ) (t : Option Made) → cert_lines s w tx ms t ≡ cert_lines bare_s bare_w tx ms t
   cert-same tx ms None = refl
-  cert-same tx ms (Some t) = ap (λ (c : Collected). line.Cert tx (cert_collected ms c) ∷ []) (collected-same s trust seal w t.digest ms)
+  cert-same tx ms (Some t) = ap (λ (c : Collected). line.Cert tx (cert_collected ms c) ∷ []) (collected-same s trust seal w t ms)
 
   hold-text : (bytes : List ℕ) (r : Reached) → hold_reached s w bytes r ≡ hold_reached bare_s bare_w bytes r
   hold-text bytes finds_down = refl

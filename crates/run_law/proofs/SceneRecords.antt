@@ -176,7 +176,7 @@ module _ (s : Setting) where
 
   cert-keeps : (w : World) (ms : List ℕ) (t : Option Made) → KeepsRecords w (formed s w ms t)
   cert-keeps w ms None = λ k. refl
-  cert-keeps w ms (Some t) = formed-keeps w t ms (votes_collected s w t.digest ms)
+  cert-keeps w ms (Some t) = formed-keeps w t ms (votes_collected s w t ms)
 
   order-keeps : (w : World) (c : Option Certificate) → KeepsRecords w (ordered w c)
   order-keeps w None = λ k. refl

@@ -99,18 +99,18 @@ module _ (s : Setting) where
   bare-honest k (seat ∷ seats) zero = refl
   bare-honest k (seat ∷ seats) (suc m) = bare-honest (suc k) seats m
 
-  bare-votes : (w : World) (tx : Digest) (n k : ℕ) (seats : List worlds.Seat)
-      → first_of (honest_vote w tx) (enumerate_from n seats) ≡ first_of (honest_vote (bare_world (scene_of s w)) tx) (enumerate_from n (map bare_seat (posts_from s k seats)))
-  bare-votes w tx n k [] = refl
-  bare-votes w tx n k (seat ∷ seats) =
-      ap (λ (rest : Option (List (Option Digest))). first_some (honest_vote w tx (n, seat) ∷ rest ∷ [])) (bare-votes w tx (n + 1) (suc k) seats)
+  bare-votes : (w : World) (t : Made) (n k : ℕ) (seats : List worlds.Seat)
+      → first_of (honest_vote w t) (enumerate_from n seats) ≡ first_of (honest_vote (bare_world (scene_of s w)) t) (enumerate_from n (map bare_seat (posts_from s k seats)))
+  bare-votes w t n k [] = refl
+  bare-votes w t n k (seat ∷ seats) =
+      ap (λ (rest : Option (List (Option Digest))). first_some (honest_vote w t (n, seat) ∷ rest ∷ [])) (bare-votes w t (n + 1) (suc k) seats)
 
   word-same : (w : World) (word : Option Name) → origin_word w word ≡ origin_word (bare_world (scene_of s w)) word
   word-same w None = refl
   word-same w (Some name) = refl
 
   pub origins-same : (w : World) (t : Made) (words : List (Option Name)) → fvote_origins w t words ≡ fvote_origins (bare_world (scene_of s w)) t words
-  origins-same w t [] = ap (λ (found : Option (List (Option Digest))). origins_or (no_origins t.signed.tx) found) (bare-votes w t.digest 0 0 w.seats)
+  origins-same w t [] = ap (λ (found : Option (List (Option Digest))). origins_or (no_origins t.signed.tx) found) (bare-votes w t 0 0 w.seats)
   origins-same w t (word ∷ words) = ap (λ (f : Option Name → Option Digest). map f (word ∷ words)) (λ i o. word-same w o i)
 
   said-if : (w : World) (m : ℕ) (st : Statement) (b : Bool)
@@ -153,18 +153,18 @@ module _ (s : Setting) where
     formed-same w t ms (short weight total) = refl
     formed-same w t ms (differ a b) = refl
     formed-same w t ms whole =
-        ap (λ (seals : Signer → List ℕ → Digest). record (scene_of s w) { certs = w.certs ++ record { name = t.name; cert = certificate_with seals t (first_origins w t.digest ms) ms } ∷ [] }) seal
+        ap (λ (seals : Signer → List ℕ → Digest). record (scene_of s w) { certs = w.certs ++ record { name = t.name; cert = certificate_with seals t (first_origins w t ms) ms } ∷ [] }) seal
 
-    pub collected-same : (w : World) (tx : Digest) (ms : List ℕ) → votes_collected s w tx ms ≡ votes_collected (bare_setting trust (scene_of s w)) (bare_world (scene_of s w)) tx ms
+    pub collected-same : (w : World) (t : Made) (ms : List ℕ) → votes_collected s w t ms ≡ votes_collected (bare_setting trust (scene_of s w)) (bare_world (scene_of s w)) t ms
     unfolding votes_collected
-    collected-same w tx ms = refl
+    collected-same w t ms = refl
 
     cert-same : (w : World) (ms : List ℕ) (t : Option Made)
         → scene_of s (formed s w ms t) ≡ record (scene_of s w) { certs = (formed (bare_setting trust (scene_of s w)) (bare_world (scene_of s w)) ms t).certs }
     cert-same w ms None = refl
     cert-same w ms (Some t) =
-        formed-same w t ms (votes_collected s w t.digest ms)
-        ∙ ap (λ (c : Collected). record (scene_of s w) { certs = (formed_as (bare_setting trust (scene_of s w)) (bare_world (scene_of s w)) t ms c).certs }) (collected-same w t.digest ms)
+        formed-same w t ms (votes_collected s w t ms)
+        ∙ ap (λ (c : Collected). record (scene_of s w) { certs = (formed_as (bare_setting trust (scene_of s w)) (bare_world (scene_of s w)) t ms c).certs }) (collected-same w t ms)
 
   formed-open : (w : World) (t : Made) (ms : List ℕ) (c : Collected) → (formed_as s w t ms c).sequences ≡ w.sequences
   formed-open w t ms (lacks m) = refl
@@ -174,7 +174,7 @@ module _ (s : Setting) where
 
   pub cert-open : (w : World) (ms : List ℕ) (t : Option Made) → (formed s w ms t).sequences ≡ w.sequences
   cert-open w ms None = refl
-  cert-open w ms (Some t) = formed-open w t ms (votes_collected s w t.digest ms)
+  cert-open w ms (Some t) = formed-open w t ms (votes_collected s w t ms)
 
   -- ---- calls of names
 

@@ -175,7 +175,7 @@ module _ (s : Setting) (P : List Record → Type 0) (B : List Record → Stateme
 
   back-formed : (w : World) (ms : List ℕ) (t : Option Made) → Backs w → Backs (formed s w ms t)
   back-formed w ms None back = back
-  back-formed w ms (Some t) back = back-formed_as w t ms (votes_collected s w t.digest ms) back
+  back-formed w ms (Some t) back = back-formed_as w t ms (votes_collected s w t ms) back
 
   back-ordered : (w : World) (c : Option Certificate) → Backs w → Backs (ordered w c)
   back-ordered w None back = back

@@ -108,7 +108,7 @@ module _ (s : Setting) (Given : Call → Type 0) (P : List Record → Type 0) (s
 
   kept-formed : (w : World) (ms : List ℕ) (t : Option Made) → AllSeats w → AllSeats (formed s w ms t)
   kept-formed w ms None all = all
-  kept-formed w ms (Some t) all = kept-formed_as w t ms (votes_collected s w t.digest ms) all
+  kept-formed w ms (Some t) all = kept-formed_as w t ms (votes_collected s w t ms) all
 
   kept-sent : (w : World) (m : ℕ) (c : Option Certificate) → Each Given (send_call c) → AllSeats w → AllSeats (sent s w m c)
   kept-sent w m None g all = all

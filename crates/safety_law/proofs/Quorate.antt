@@ -44,14 +44,14 @@ module _ (s : Setting) where
   abbrev AreQuorate : World → Type 0
   AreQuorate w = (f : Formed) → Has w.certs f → IsQuorate f
 
-  quorate-forms : (w : World) (t : Made) (ms : List ℕ) → votes_collected s w t.digest ms ≡ whole → AreQuorate w → AreQuorate (with_formed s w t ms)
+  quorate-forms : (w : World) (t : Made) (ms : List ℕ) → votes_collected s w t ms ≡ whole → AreQuorate w → AreQuorate (with_formed s w t ms)
   quorate-forms w t ms e all f h = go (has-push w.certs new f h)
     where
       new : Formed
-      new = record { name = t.name; cert = certificate_of s t (first_origins w t.digest ms) ms }
+      new = record { name = t.name; cert = certificate_of s t (first_origins w t ms) ms }
 
       one : IsQuorate new
-      one = subst (λ (ns : List ℕ). is_quorum s.rules.stakes (weight s.rules.stakes ns) ≡ true) (sym (same-members (vote_statement t.signed.tx t.digest (first_origins w t.digest ms)) ms)) (collected-quorum s w t.digest ms e)
+      one = subst (λ (ns : List ℕ). is_quorum s.rules.stakes (weight s.rules.stakes ns) ≡ true) (sym (same-members (vote_statement t.signed.tx t.digest (first_origins w t ms)) ms)) (collected-quorum s w t ms e)
 
       go : Has w.certs f ⊎ (new ≡ f) → IsQuorate f
       go (inl h) = all f h
@@ -68,7 +68,7 @@ module _ (s : Setting) where
     forms = λ w t ms _ e all. quorate-forms w t ms e all;
   }
 
-  any-given : (events : List Event) (w : World) → AllGiven s (λ _ _. Unit {0}) events w
+  pub any-given : (events : List Event) (w : World) → AllGiven s (λ _ _. Unit {0}) events w
   any-given [] w = tt
   any-given (e ∷ events) w = (each-any (calls_of s w e), any-given events (happens s w e))
 

@@ -1,9 +1,8 @@
--- In each world of a run: votes are for transactions that were made or handed to a member, each seal of a formed
--- certificate is over a vote that was stated, and what is ordered was formed or stated.
+-- In each world of a run each seal of a formed certificate is its member's on a vote that it stated, and what is ordered
+-- was formed or stated.
 use Rattle.std.proofs.Common.{inl, inr, refl, sym, subst, ap, ◌∙◌}
 use Rattle.std.proofs.lemmas.Bool.{eqb-true}
-use Rattle.std.specs.Prelude.{◌≡◌, ◌⊎◌, ℕ, zero, suc, Bool, true, false, not, ◌==◌, List, [], ◌∷◌, ◌++◌, map, slice_get, slice_set, Option, Some, None, Result, Ok, Err}
-use Rattle.wire_bcs.specs.declared.fault.WireFault.{WireFault}
+use Rattle.std.specs.Prelude.{◌≡◌, ◌⊎◌, ℕ, zero, suc, Bool, true, false, not, ◌&&◌, ◌==◌, List, [], ◌∷◌, ◌++◌, map, slice_get, slice_set, Option, Some, None}
 use Rattle.digest_core.specs.declared.Digest.{Digest}
 use Rattle.chain_types.specs.Equal.{digest_eq}
 use Rattle.chain_types.specs.Digests.{transaction_digest}
@@ -14,30 +13,20 @@ use Rattle.chain_messages.specs.declared.messages.Statement.TheVariants as state
 use Rattle.chain_messages.specs.declared.messages.MemberSeal.{MemberSeal}
 use Rattle.chain_messages.specs.declared.messages.Entry.{Entry}
 use Rattle.chain_messages.specs.declared.messages.Entry.TheVariants as entry
-use Rattle.answer_types.specs.declared.refusals.VoteRefusal.{VoteRefusal}
-use Rattle.answer_types.specs.declared.refusals.VoteRefusal.TheVariants as no_vote
-use Rattle.answer_types.specs.declared.refusals.AckRefusal.TheVariants as no_ack
 use Rattle.protocol_spec.proofs.Equality.{origins_same, digest_same}
 use Rattle.protocol_spec.specs.Chain.Collecting.{Collected, short, differ, whole, lacks_where, differ_from, differs_among, too_short, whole_or}
-use Rattle.protocol_spec.specs.Chain.Words.{Has, Each, first_some, first_of, where_true, refused_or, unless_refused}
+use Rattle.protocol_spec.specs.Chain.Words.{Has, first_some, first_of, where_true}
 use Rattle.protocol_spec.specs.Chain.Tests.{origins_eq}
 use Rattle.protocol_spec.specs.Chain.Committee.{weight, total_of, is_quorum}
-use Rattle.protocol_spec.specs.Chain.Certificates.{Rules, read_signed}
-use Rattle.protocol_spec.proofs.ListLemmas.{has_parts, has_left}
-use Rattle.protocol_spec.proofs.Truth.{where_not_true}
-use Rattle.protocol_spec.specs.Member.Versions.{execution_of}
-use Rattle.protocol_spec.specs.Member.Votes.{Cast, vote_origins}
-use Rattle.protocol_spec.specs.Member.Member.{Member, ballot, vote_for}
-use Rattle.protocol_spec.specs.Member.Calls.{Call, votes, holds, sees, runs, closes, ends, turns, acks, new_vote_cases, voted_as, vote_again, unsealed_of, vote_read, vote_stopped, vote_answer, see_answer, run_answer, end_answer, ack_answer, end_cases, halted}
-use Rattle.world_spec.specs.Setting.{Setting}
-use Rattle.world_spec.specs.World.{Seat, Said, Made, Formed, World, Reached, finds_down, stops, answers, said_by, with_seat, stopped_seat, stated, voted_statement, reached_seat, behind, called_seat, called_in, is_honest, entries_at, list_or_none, called_over}
-use Rattle.world_spec.specs.Step.{says, vote_in, last_said, first_origins, vote_statement, sealed_by, votes_collected, appended_entry, open_entries, risen_if}
+use Rattle.protocol_spec.specs.Chain.Certificates.{vote_of}
+use Rattle.protocol_spec.proofs.Truth.{and_true, where_not_true}
+use Rattle.protocol_spec.specs.Member.Calls.{Call}
+use Rattle.world_spec.specs.Setting.{Setting, member_seal}
+use Rattle.world_spec.specs.World.{Seat, Made, Formed, World, Reached, finds_down, stops, answers, said_by, with_seat, stopped_seat, reached_seat, behind, called_seat, called_in, is_honest, entries_at, list_or_none, called_over}
+use Rattle.world_spec.specs.Step.{says, vote_in, last_said, first_origins, vote_statement, sealed_by, certificate_of, votes_collected, appended_entry, open_entries, risen_if}
 use Rattle.world_spec.specs.Making.{TxLine, with_made}
-use Rattle.world_spec.specs.Assumptions.{read_list, signed_read}
 use Rattle.safety_law.proofs.Apart.{none-of}
-use Rattle.safety_law.proofs.Backed.{has-said}
 use Rattle.safety_law.proofs.Once.{has-push}
-use Rattle.safety_law.proofs.Kept.{no-seen, no-ran, no-end, no-ack}
 use Rattle.safety_law.proofs.Steps.{Keeps, IsBacked, IsOfMade, last-said, with_formed}
 use Rattle.safety_law.proofs.Grown.{IsGrown, grown-same, grown-seat, grown-behind, grown-keeps}
 
@@ -121,126 +110,53 @@ module _ (reads : ℕ → Option (List (Option Digest))) where
 
 -- ---- the votes of a formed certificate
 
-is-vote : (tx : Digest) (st : Statement) (o : List (Option Digest)) → vote_in tx st ≡ Some o → (e : ℕ) × (st ≡ statement.Vote e tx o)
-is-vote tx (statement.End e) o q = absurd (cc)
-is-vote tx (statement.Checkpoint e number digest) o q = absurd (cc)
-is-vote tx (statement.Ack e t effects) o q = absurd (cc)
-is-vote tx (statement.Vote e t p) o q = go (digest_eq t tx) refl q
+is-vote : (epoch : ℕ) (tx : Digest) (st : Statement) (o : List (Option Digest)) → vote_in epoch tx st ≡ Some o → st ≡ statement.Vote epoch tx o
+is-vote epoch tx (statement.End e) o q = absurd (cc)
+is-vote epoch tx (statement.Checkpoint e number digest) o q = absurd (cc)
+is-vote epoch tx (statement.Ack e t effects) o q = absurd (cc)
+is-vote epoch tx (statement.Vote e t p) o q = go ((e == epoch) && digest_eq t tx) refl q
   where
-    named : t ≡ tx → Some p ≡ Some o → statement.Vote e t p ≡ statement.Vote e tx o
-    named a b = cc
+    named : e ≡ epoch → t ≡ tx → Some p ≡ Some o → statement.Vote e t p ≡ statement.Vote epoch tx o
+    named n a b = cc
 
-    go : (b : Bool) → digest_eq t tx ≡ b → where_true b p ≡ Some o → (n : ℕ) × (statement.Vote e t p ≡ statement.Vote n tx o)
-    go true d q = (e, named (digest_same t tx d) q)
+    go : (b : Bool) → ((e == epoch) && digest_eq t tx) ≡ b → where_true b p ≡ Some o → statement.Vote e t p ≡ statement.Vote epoch tx o
+    go true d q = let both = and_true (e == epoch) (digest_eq t tx) d in named (eqb-true e epoch both.0) (digest_same t tx both.1) q
     go false d q = absurd (cc)
 
-module _ (s : Setting) (w : World) (tx : Digest) where
+module _ (s : Setting) (w : World) (t : Made) where
   abbrev said_of : ℕ → Option (List (Option Digest))
-  said_of m = last_said (vote_in tx) m w.said
+  said_of m = last_said (vote_in t.signed.tx.epoch t.digest) m w.said
 
   -- none of the causes applies
-  free : (ms : List ℕ) → votes_collected s w tx ms ≡ whole → (first_of (λ k. lacks_where k (said_of k)) ms ≡ None) × (too_short s.rules.stakes ms ≡ None) × (differs_among origins_eq said_of ms ≡ None)
+  free : (ms : List ℕ) → votes_collected s w t ms ≡ whole → (first_of (λ k. lacks_where k (said_of k)) ms ≡ None) × (too_short s.rules.stakes ms ≡ None) × (differs_among origins_eq said_of ms ≡ None)
   unfolding votes_collected
   free ms e = whole-none (first_of (λ k. lacks_where k (said_of k)) ms) (too_short s.rules.stakes ms) (differs_among origins_eq said_of ms)
       (never-first (λ k. lacks_where k (said_of k)) whole (no-lack said_of) ms) (no-short said_of s.rules.stakes ms) (no-differs said_of ms) e
 
-  firsts : (ms : List ℕ) (m : ℕ) → votes_collected s w tx ms ≡ whole → Has ms m → said_of m ≡ Some (first_origins w tx ms)
+  firsts : (ms : List ℕ) (m : ℕ) → votes_collected s w t ms ≡ whole → Has ms m → said_of m ≡ Some (first_origins w t ms)
   firsts [] m e h = absurd h
   firsts (a ∷ ms) m e h = let none = free (a ∷ ms) e in agreed said_of a ms none.0 none.2 m h
 
-  pub collected-quorum : (ms : List ℕ) → votes_collected s w tx ms ≡ whole → is_quorum s.rules.stakes (weight s.rules.stakes ms) ≡ true
+  pub collected-quorum : (ms : List ℕ) → votes_collected s w t ms ≡ whole → is_quorum s.rules.stakes (weight s.rules.stakes ms) ≡ true
   collected-quorum ms e = where_not_true (is_quorum s.rules.stakes (weight s.rules.stakes ms)) (short (weight s.rules.stakes ms) (total_of s.rules.stakes)) (free ms e).1
 
-  pub collected-said : (ms : List ℕ) (m : ℕ) → votes_collected s w tx ms ≡ whole → Has ms m → (e : ℕ) × Has w.said (said_by m (statement.Vote e tx (first_origins w tx ms)))
-  collected-said ms m e h = go (last-said (vote_in tx) m w.said (first_origins w tx ms) (firsts ms m e h))
+  pub collected-said : (ms : List ℕ) (m : ℕ) → votes_collected s w t ms ≡ whole → Has ms m → Has w.said (said_by m (vote_statement t.signed.tx t.digest (first_origins w t ms)))
+  collected-said ms m e h = go (last-said (vote_in t.signed.tx.epoch t.digest) m w.said (first_origins w t ms) (firsts ms m e h))
     where
-      go : (st : Statement) × Has w.said (said_by m st) × (vote_in tx st ≡ Some (first_origins w tx ms)) → (n : ℕ) × Has w.said (said_by m (statement.Vote n tx (first_origins w tx ms)))
-      go (st, k, r) = let v = is-vote tx st (first_origins w tx ms) r in (v.0, subst (λ (x : Statement). Has w.said (said_by m x)) v.1 k)
+      go : (st : Statement) × Has w.said (said_by m st) × (vote_in t.signed.tx.epoch t.digest st ≡ Some (first_origins w t ms)) → Has w.said (said_by m (vote_statement t.signed.tx t.digest (first_origins w t ms)))
+      go (st, k, r) = subst (λ (x : Statement). Has w.said (said_by m x)) (is-vote t.signed.tx.epoch t.digest st (first_origins w t ms) r) k
 
 -- ---- a vote is for a transaction that was made or handed
 
 abbrev pub IsGiven : List SignedTx → List Made → Transaction → Type 0
 IsGiven total txs t = ((x : Made) × Has txs x × (x.signed.tx ≡ t)) ⊎ ((x : SignedTx) × Has total x × (x.tx ≡ t))
 
-abbrev pub IsSpoken : List SignedTx → List Made → Statement → Type 0
-IsSpoken total txs (statement.Vote epoch tx origins) = (t : Transaction) × IsGiven total txs t × (transaction_digest t ≡ tx) × (t.epoch ≡ epoch)
-IsSpoken total txs (statement.End epoch) = Unit {0}
-IsSpoken total txs (statement.Checkpoint epoch number digest) = Unit {0}
-IsSpoken total txs (statement.Ack epoch tx effects) = Unit {0}
-
-module _ (total : List SignedTx) where
-  pub given-more : (txs more : List Made) → ((t : Made) → Has txs t → Has more t) → (t : Transaction) → IsGiven total txs t → IsGiven total more t
-  given-more txs more grow t (inl (x, h, e)) = inl (x, grow x h, e)
-  given-more txs more grow t (inr x) = inr x
-
-  spoken-more : (txs more : List Made) → ((t : Made) → Has txs t → Has more t) → (st : Statement) → IsSpoken total txs st → IsSpoken total more st
-  spoken-more txs more grow (statement.Vote epoch tx origins) (t, g, d, e) = (t, given-more txs more grow t g, d, e)
-  spoken-more txs more grow (statement.End epoch) spoken = tt
-  spoken-more txs more grow (statement.Checkpoint epoch number digest) spoken = tt
-  spoken-more txs more grow (statement.Ack epoch tx effects) spoken = tt
-
-  spoken-made : (w : World) (st : Statement) → ((t : Made) → Has w.txs t → t.digest ≡ transaction_digest t.signed.tx) → IsOfMade w st → IsSpoken total w.txs st
-  spoken-made w (statement.Vote epoch tx origins) made (t, h, d, e) = (t.signed.tx, inl (t, h, refl), sym (made t h) ∙ d, e)
-  spoken-made w (statement.End epoch) made spoken = tt
-  spoken-made w (statement.Checkpoint epoch number digest) made spoken = tt
-  spoken-made w (statement.Ack epoch tx effects) made spoken = tt
-
-  module _ (r : Rules) (m : Member) (txs : List Made) (epoch : ℕ) (d : Digest) (o : List (Option Digest)) where
-    abbrev Spoken : Type 0
-    Spoken = IsSpoken total txs (statement.Vote epoch d o)
-
-    voted-spoken : (x : SignedTx) (origins : List (Option Digest)) → Has total x → (x.tx.epoch == m.epoch) ≡ true → statement.Vote m.epoch (transaction_digest x.tx) origins ≡ statement.Vote epoch d o → Spoken
-    voted-spoken x origins h same q = (x.tx, inr (x, h, refl), of-digest q, eqb-true x.tx.epoch m.epoch same ∙ of-epoch q)
-      where
-        of-digest : statement.Vote m.epoch (transaction_digest x.tx) origins ≡ statement.Vote epoch d o → transaction_digest x.tx ≡ d
-        of-digest q = cc
-
-        of-epoch : statement.Vote m.epoch (transaction_digest x.tx) origins ≡ statement.Vote epoch d o → m.epoch ≡ epoch
-        of-epoch q = cc
-
-    new-spoken : (x : SignedTx) (refusal : Option VoteRefusal) → Has total x → (x.tx.epoch == m.epoch) ≡ true → Has (voted_statement (unless_refused refusal (voted_as m x.tx (vote_origins (ballot m) x.tx) true))) (statement.Vote epoch d o) → Spoken
-    new-spoken x (Some refusal) t same h = absurd h
-    new-spoken x None t same (inl q) = voted-spoken x (vote_origins (ballot m) x.tx) t same q
-    new-spoken x None t same (inr h) = absurd h
-
-    again-spoken : (x : SignedTx) (v : Option Cast) → Has total x → (x.tx.epoch == m.epoch) ≡ true → Has (voted_statement (vote_again m x.tx (unsealed_of r x) v)) (statement.Vote epoch d o) → Spoken
-    again-spoken x None t same h = new-spoken x (first_some (new_vote_cases m x.tx (unsealed_of r x))) t same h
-    again-spoken x (Some v) t same (inl q) = voted-spoken x v.origins t same q
-    again-spoken x (Some v) t same (inr h) = absurd h
-
-    on-spoken : (x : SignedTx) (same : Bool) → (x.tx.epoch == m.epoch) ≡ same → Has total x → Has (voted_statement (refused_or (where_true (not same) (no_vote.WrongEpoch x.tx.epoch m.epoch)) (vote_again m x.tx (unsealed_of r x) (vote_for m (transaction_digest x.tx))))) (statement.Vote epoch d o) → Spoken
-    on-spoken x false q t h = absurd h
-    on-spoken x true q t h = again-spoken x (vote_for m (transaction_digest x.tx)) t q h
-
-    read-spoken : (read : Result SignedTx WireFault) (stopped : Option VoteRefusal) → Each (Has total) (read_list read) → Has (voted_statement (refused_or stopped (vote_read r m read))) (statement.Vote epoch d o) → Spoken
-    read-spoken (Err fault) None g h = absurd h
-    read-spoken (Err fault) (Some refusal) g h = absurd h
-    read-spoken (Ok x) (Some refusal) g h = absurd h
-    read-spoken (Ok x) None g h = on-spoken x (x.tx.epoch == m.epoch) refl g.0 h
-
-    call-spoken : (call : Call) → Each (Has total) (signed_read r call) → Has (stated r m call) (statement.Vote epoch d o) → Spoken
-    unfolding stated vote_answer end_answer ack_answer
-    call-spoken (votes bytes) g h = read-spoken (read_signed bytes) (vote_stopped m) g h
-    call-spoken (holds bytes) g h = absurd h
-    call-spoken (sees number bytes) g h = absurd (no-seen m epoch d o (see_answer r m number bytes) h)
-    call-spoken runs g h = absurd (no-ran m epoch d o (run_answer r m) h)
-    call-spoken closes g h = absurd h
-    call-spoken ends g h = absurd (no-end m epoch d o (first_some (end_cases m)) h)
-    call-spoken turns g h = absurd h
-    call-spoken (acks tx) g h = absurd (no-ack m epoch d o tx (halted no_ack.Halted m) (execution_of m.executed tx) h)
-
-  stated-spoken : (r : Rules) (m : Member) (call : Call) (txs : List Made) (st : Statement) → Each (Has total) (signed_read r call) → Has (stated r m call) st → IsSpoken total txs st
-  stated-spoken r m call txs (statement.Vote epoch d o) g h = call-spoken r m txs epoch d o call g h
-  stated-spoken r m call txs (statement.End epoch) g h = tt
-  stated-spoken r m call txs (statement.Checkpoint epoch number digest) g h = tt
-  stated-spoken r m call txs (statement.Ack epoch tx effects) g h = tt
-
 -- ---- the world
 
-pub record IsSound (total : List SignedTx) (w : World) : Type 0 where
+pub record IsSound (s : Setting) (w : World) : Type 0 where
   pub made : (t : Made) → Has w.txs t → t.digest ≡ transaction_digest t.signed.tx
-  pub spoken : (x : Said) → Has w.said x → IsSpoken total w.txs x.statement
-  pub voted : (f : Formed) → Has w.certs f → (x : MemberSeal) → Has f.cert.seals x → (e : ℕ) × Has w.said (said_by x.member (statement.Vote e (transaction_digest f.cert.tx) f.cert.origins))
+  pub voted : (f : Formed) → Has w.certs f → (x : MemberSeal) → Has f.cert.seals x → Has w.said (said_by x.member (vote_of f.cert))
+  pub sealed : (f : Formed) → Has w.certs f → (x : MemberSeal) → Has f.cert.seals x → x.seal ≡ member_seal s x.member (vote_of f.cert)
   pub backed : (es : List Entry) → Has w.sequences es → (e : Entry) → Has es e → IsBacked w e
 
 backed-grown : (w v : World) → IsGrown w v → (e : Entry) → IsBacked w e → IsBacked v e
@@ -276,53 +192,36 @@ entry-in qs n e h = go (slice_get qs n) refl h
     go (Some es) q h = (es, get-has qs n es q, h)
 
 -- if transactions, certificates and sequences stay
-sound-as : (total : List SignedTx) (w v : World) → IsGrown w v → v.txs ≡ w.txs → v.certs ≡ w.certs → v.sequences ≡ w.sequences → ((x : Said) → Has v.said x → IsSpoken total w.txs x.statement) → IsSound total w → IsSound total v
-sound-as total w v g txs certs sequences spoken sound = record {
+sound-as : (s : Setting) (w v : World) → IsGrown w v → v.txs ≡ w.txs → v.certs ≡ w.certs → v.sequences ≡ w.sequences → IsSound s w → IsSound s v
+sound-as s w v g txs certs sequences sound = record {
   made = λ t h. sound.made t (subst (λ (ts : List Made). Has ts t) txs h);
-  spoken = λ x h. subst (λ (ts : List Made). IsSpoken total ts x.statement) (sym txs) (spoken x h);
-  voted = λ f h x k. let v = sound.voted f (subst (λ (fs : List Formed). Has fs f) certs h) x k in (v.0, g.said _ v.1);
+  voted = λ f h x k. g.said _ (sound.voted f (subst (λ (fs : List Formed). Has fs f) certs h) x k);
+  sealed = λ f h x k. sound.sealed f (subst (λ (fs : List Formed). Has fs f) certs h) x k;
   backed = λ es h e k. backed-grown w v g e (sound.backed es (subst (λ (qs : List (List Entry)). Has qs es) sequences h) e k);
 }
 
-module _ (s : Setting) (total : List SignedTx) where
-  abbrev pub IsGivenCall : Option ℕ → Call → Type 0
-  IsGivenCall m call = Each (Has total) (signed_read s.rules call)
+module _ (s : Setting) where
+  sound-behind : (w : World) (m : ℕ) (call : Call) (seat : Seat) (r : Reached) → slice_get w.seats m ≡ Some seat → IsSound s w → IsSound s (behind s w m call seat r)
+  sound-behind w m call seat finds_down at sound = sound
+  sound-behind w m call seat (stops kept x) at sound =
+      sound-as s w (with_seat w m (stopped_seat seat kept x)) (grown-seat w m seat (stopped_seat seat kept x) at refl) refl refl refl sound
+  sound-behind w m call seat (answers before x) at sound =
+      sound-as s w (behind s w m call seat (answers before x)) (grown-behind s w m call seat (answers before x) at) refl refl refl sound
 
-  sound-behind : (w : World) (m : ℕ) (call : Call) (seat : Seat) (r : Reached) → slice_get w.seats m ≡ Some seat → Each (Has total) (signed_read s.rules call) → IsSound total w → IsSound total (behind s w m call seat r)
-  sound-behind w m call seat finds_down at g sound = sound
-  sound-behind w m call seat (stops kept x) at g sound =
-      sound-as total w (with_seat w m (stopped_seat seat kept x)) (grown-seat w m seat (stopped_seat seat kept x) at refl) refl refl refl sound.spoken sound
-  sound-behind w m call seat (answers before x) at g sound =
-      sound-as total w (behind s w m call seat (answers before x)) (grown-behind s w m call seat (answers before x) at) refl refl refl spoken sound
-    where
-      spoken : (y : Said) → Has (w.said ++ map (said_by m) (stated s.rules before call)) y → IsSpoken total w.txs y.statement
-      spoken y h = go (has_parts w.said (map (said_by m) (stated s.rules before call)) y h)
-        where
-          go : Has w.said y ⊎ Has (map (said_by m) (stated s.rules before call)) y → IsSpoken total w.txs y.statement
-          go (inl h) = sound.spoken y h
-          go (inr h) = stated-spoken total s.rules before call w.txs y.statement g (has-said m (stated s.rules before call) y h).1
+  sound-called_seat : (w : World) (m : ℕ) (call : Call) (seat : Option Seat) → slice_get w.seats m ≡ seat → IsSound s w → IsSound s (called_seat s w m call seat)
+  sound-called_seat w m call None at sound = sound
+  sound-called_seat w m call (Some seat) at sound = sound-behind w m call seat (reached_seat s call seat) at sound
 
-  sound-called_seat : (w : World) (m : ℕ) (call : Call) (seat : Option Seat) → slice_get w.seats m ≡ seat → Each (Has total) (signed_read s.rules call) → IsSound total w → IsSound total (called_seat s w m call seat)
-  sound-called_seat w m call None at g sound = sound
-  sound-called_seat w m call (Some seat) at g sound = sound-behind w m call seat (reached_seat s call seat) at g sound
-
-  sound-called : (w : World) (m : ℕ) (call : Call) → Each (Has total) (signed_read s.rules call) → IsSound total w → IsSound total (called_in s w m call)
+  sound-called : (w : World) (m : ℕ) (call : Call) → IsSound s w → IsSound s (called_in s w m call)
   unfolding called_over
-  sound-called w m call g sound = sound-called_seat w m call (slice_get w.seats m) refl g sound
+  sound-called w m call sound = sound-called_seat w m call (slice_get w.seats m) refl sound
 
-  sound-says : (w : World) (m : ℕ) (st : Statement) → is_honest w m ≡ false → IsOfMade w st → IsSound total w → IsSound total (says w m st)
+  sound-says : (w : World) (m : ℕ) (st : Statement) → is_honest w m ≡ false → IsOfMade w st → IsSound s w → IsSound s (says w m st)
   sound-says w m st faulty of_made sound =
-      sound-as total w (says w m st) ((grown-keeps s w).lies w m st faulty of_made (grown-same w)) refl refl refl spoken sound
-    where
-      spoken : (y : Said) → Has (w.said ++ said_by m st ∷ []) y → IsSpoken total w.txs y.statement
-      spoken y h = go (has-push w.said (said_by m st) y h)
-        where
-          go : Has w.said y ⊎ (said_by m st ≡ y) → IsSpoken total w.txs y.statement
-          go (inl h) = sound.spoken y h
-          go (inr e) = subst (λ (z : Said). IsSpoken total w.txs z.statement) e (spoken-made total w st sound.made of_made)
+      sound-as s w (says w m st) ((grown-keeps s w).lies w m st faulty of_made (grown-same w)) refl refl refl sound
 
-  sound-enters : (w : World) (e : Entry) → IsBacked w e → IsSound total w → IsSound total (appended_entry w e)
-  sound-enters w e backed sound = record { made = sound.made; spoken = sound.spoken; voted = sound.voted; backed = entries }
+  sound-enters : (w : World) (e : Entry) → IsBacked w e → IsSound s w → IsSound s (appended_entry w e)
+  sound-enters w e backed sound = record { made = sound.made; voted = sound.voted; sealed = sound.sealed; backed = entries }
     where
       grown : IsGrown w (appended_entry w e)
       grown = (grown-keeps s w).enters w e backed (grown-same w)
@@ -338,8 +237,8 @@ module _ (s : Setting) (total : List SignedTx) where
           go (inl h) = backed-grown w (appended_entry w e) grown x (sound.backed es h x k)
           go (inr q) = backed-grown w (appended_entry w e) grown x (newer x (has-push (open_entries w) e x (subst (λ (ys : List Entry). Has ys x) (sym q) k)))
 
-  sound-rises : (w : World) → IsSound total w → IsSound total (risen_if true w)
-  sound-rises w sound = record { made = sound.made; spoken = sound.spoken; voted = sound.voted; backed = entries }
+  sound-rises : (w : World) → IsSound s w → IsSound s (risen_if true w)
+  sound-rises w sound = record { made = sound.made; voted = sound.voted; sealed = sound.sealed; backed = entries }
     where
       entries : (es : List Entry) → Has (w.sequences ++ [] ∷ []) es → (x : Entry) → Has es x → IsBacked (risen_if true w) x
       entries es h x k = go (has-push w.sequences [] es h)
@@ -348,11 +247,11 @@ module _ (s : Setting) (total : List SignedTx) where
           go (inl h) = backed-grown w (risen_if true w) ((grown-keeps s w).rises w (grown-same w)) x (sound.backed es h x k)
           go (inr q) = absurd (subst (λ (ys : List Entry). Has ys x) (sym q) k)
 
-  sound-makes : (w : World) (l : TxLine) (t : Made) → t.digest ≡ transaction_digest t.signed.tx → IsSound total w → IsSound total (with_made w l t)
+  sound-makes : (w : World) (l : TxLine) (t : Made) → t.digest ≡ transaction_digest t.signed.tx → IsSound s w → IsSound s (with_made w l t)
   sound-makes w l t digest sound = record {
     made = λ x h. made x (has-push w.txs t x h);
-    spoken = λ x h. spoken-more total w.txs (w.txs ++ t ∷ []) (λ y k. has_left w.txs (t ∷ []) y k) x.statement (sound.spoken x h);
     voted = sound.voted;
+    sealed = sound.sealed;
     backed = λ es h e k. backed-grown w (with_made w l t) ((grown-keeps s w).makes w l t digest (grown-same w)) e (sound.backed es h e k);
   }
     where
@@ -365,31 +264,45 @@ module _ (s : Setting) (total : List SignedTx) where
   has-sealed st (m ∷ ms) x (inl e) = inl (ap (λ (y : MemberSeal). y.member) e)
   has-sealed st (m ∷ ms) x (inr h) = inr (has-sealed st ms x h)
 
-  sound-forms : (w : World) (t : Made) (ms : List ℕ) → Has w.txs t → votes_collected s w t.digest ms ≡ whole → IsSound total w → IsSound total (with_formed s w t ms)
+  their-seals : (st : Statement) (ms : List ℕ) (x : MemberSeal) → Has (map (sealed_by s st) ms) x → x.seal ≡ member_seal s x.member st
+  their-seals st [] x h = absurd h
+  their-seals st (m ∷ ms) x (inl e) = subst (λ (y : MemberSeal). y.seal ≡ member_seal s y.member st) e refl
+  their-seals st (m ∷ ms) x (inr h) = their-seals st ms x h
+
+  sound-forms : (w : World) (t : Made) (ms : List ℕ) → Has w.txs t → votes_collected s w t ms ≡ whole → IsSound s w → IsSound s (with_formed s w t ms)
   sound-forms w t ms h e sound = record {
     made = sound.made;
-    spoken = sound.spoken;
     voted = λ f k x l. voted f x l (has-push w.certs _ f k);
+    sealed = λ f k x l. sealed f x l (has-push w.certs _ f k);
     backed = λ es k y l. backed-grown w (with_formed s w t ms) ((grown-keeps s w).forms w t ms h e (grown-same w)) y (sound.backed es k y l);
   }
     where
       new : Formed
-      new = record { name = t.name; cert = record { tx = t.signed.tx; origins = first_origins w t.digest ms; seals = map (sealed_by s (vote_statement t.signed.tx t.digest (first_origins w t.digest ms))) ms } }
+      new = record { name = t.name; cert = certificate_of s t (first_origins w t ms) ms }
 
-      by : (x : MemberSeal) → Has new.cert.seals x → (n : ℕ) × Has w.said (said_by x.member (statement.Vote n (transaction_digest t.signed.tx) (first_origins w t.digest ms)))
+      by : (x : MemberSeal) → Has new.cert.seals x → Has w.said (said_by x.member (vote_of new.cert))
       by x l =
-          let v = collected-said s w t.digest ms x.member e (has-sealed (vote_statement t.signed.tx t.digest (first_origins w t.digest ms)) ms x l) in
-          (v.0, subst (λ (d : Digest). Has w.said (said_by x.member (statement.Vote v.0 d (first_origins w t.digest ms)))) (sound.made t h) v.1)
+          subst (λ (d : Digest). Has w.said (said_by x.member (vote_statement t.signed.tx d (first_origins w t ms)))) (sound.made t h)
+          (collected-said s w t ms x.member e (has-sealed (vote_statement t.signed.tx t.digest (first_origins w t ms)) ms x l))
 
-      voted : (f : Formed) (x : MemberSeal) → Has f.cert.seals x → Has w.certs f ⊎ (new ≡ f) → (n : ℕ) × Has w.said (said_by x.member (statement.Vote n (transaction_digest f.cert.tx) f.cert.origins))
+      voted : (f : Formed) (x : MemberSeal) → Has f.cert.seals x → Has w.certs f ⊎ (new ≡ f) → Has w.said (said_by x.member (vote_of f.cert))
       voted f x l (inl k) = sound.voted f k x l
-      voted f x l (inr q) = subst (λ (g : Formed). Has g.cert.seals x → (n : ℕ) × Has w.said (said_by x.member (statement.Vote n (transaction_digest g.cert.tx) g.cert.origins))) q (by x) l
+      voted f x l (inr q) = subst (λ (g : Formed). Has g.cert.seals x → Has w.said (said_by x.member (vote_of g.cert))) q (by x) l
 
-  pub sound-keeps : Keeps s IsGivenCall (IsSound total)
+      own : (x : MemberSeal) → Has new.cert.seals x → x.seal ≡ member_seal s x.member (vote_of new.cert)
+      own x l =
+          subst (λ (d : Digest). x.seal ≡ member_seal s x.member (vote_statement t.signed.tx d (first_origins w t ms))) (sound.made t h)
+          (their-seals (vote_statement t.signed.tx t.digest (first_origins w t ms)) ms x l)
+
+      sealed : (f : Formed) (x : MemberSeal) → Has f.cert.seals x → Has w.certs f ⊎ (new ≡ f) → x.seal ≡ member_seal s x.member (vote_of f.cert)
+      sealed f x l (inl k) = sound.sealed f k x l
+      sealed f x l (inr q) = subst (λ (g : Formed). Has g.cert.seals x → x.seal ≡ member_seal s x.member (vote_of g.cert)) q (own x) l
+
+  pub sound-keeps : Keeps s (λ _ _. Unit {0}) (IsSound s)
   sound-keeps = record {
-    calls = λ w m call g sound. sound-called w m call g sound;
+    calls = λ w m call _ sound. sound-called w m call sound;
     lies = λ w m st faulty of_made sound. sound-says w m st faulty of_made sound;
-    seats = λ w m seat new at same records sound. sound-as total w (with_seat w m new) (grown-seat w m seat new at same) refl refl refl sound.spoken sound;
+    seats = λ w m seat new at same records sound. sound-as s w (with_seat w m new) (grown-seat w m seat new at same) refl refl refl sound;
     enters = λ w e backed sound. sound-enters w e backed sound;
     rises = λ w sound. sound-rises w sound;
     makes = λ w l t digest sound. sound-makes w l t digest sound;

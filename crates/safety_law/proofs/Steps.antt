@@ -73,7 +73,7 @@ IsOfMade w (statement.Checkpoint epoch number digest) = Unit {0}
 IsOfMade w (statement.Ack epoch tx effects) = Unit {0}
 
 abbrev pub with_formed : Setting → World → Made → List ℕ → World
-with_formed s w t ms = record w { certs = w.certs ++ record { name = t.name; cert = certificate_of s t (first_origins w t.digest ms) ms } ∷ [] }
+with_formed s w t ms = record w { certs = w.certs ++ record { name = t.name; cert = certificate_of s t (first_origins w t ms) ms } ∷ [] }
 
 -- a certificate that a line names was formed
 pub named-backed : (w : World) (name : Name) (x : Certificate) → cert_named w name ≡ Some x → IsBacked w (entry.Cert x)
@@ -94,7 +94,7 @@ pub record Keeps (s : Setting) (Given : Option ℕ → Call → Type 0) (Q : Wor
   pub enters : (w : World) (e : Entry) → IsBacked w e → Q w → Q (appended_entry w e)
   pub rises : (w : World) → Q w → Q (risen_if true w)
   pub makes : (w : World) (l : TxLine) (t : Made) → t.digest ≡ transaction_digest t.signed.tx → Q w → Q (with_made w l t)
-  pub forms : (w : World) (t : Made) (ms : List ℕ) → Has w.txs t → votes_collected s w t.digest ms ≡ whole → Q w → Q (with_formed s w t ms)
+  pub forms : (w : World) (t : Made) (ms : List ℕ) → Has w.txs t → votes_collected s w t ms ≡ whole → Q w → Q (with_formed s w t ms)
 
 -- each call of the run is as given
 abbrev pub AllGiven : Setting → (Option ℕ → Call → Type 0) → List Event → World → Type 0
@@ -124,7 +124,7 @@ module _ (s : Setting) (Given : Option ℕ → Call → Type 0) (Q : World → T
   step-fvoted w m words (Some t) has q = step-if (is_honest w m) w (says w m (statement.Vote t.signed.tx.epoch t.digest (fvote_origins w t words))) (λ _. q)
       (λ faulty. k.lies w m (statement.Vote t.signed.tx.epoch t.digest (fvote_origins w t words)) faulty (t, has t refl, refl, refl) q)
 
-  step-formed_as : (w : World) (t : Made) (ms : List ℕ) (c : Collected) → Has w.txs t → votes_collected s w t.digest ms ≡ c → Q w → Q (formed_as s w t ms c)
+  step-formed_as : (w : World) (t : Made) (ms : List ℕ) (c : Collected) → Has w.txs t → votes_collected s w t ms ≡ c → Q w → Q (formed_as s w t ms c)
   step-formed_as w t ms (lacks m) h e q = q
   step-formed_as w t ms (short weight total) h e q = q
   step-formed_as w t ms (differ a b) h e q = q
@@ -132,7 +132,7 @@ module _ (s : Setting) (Given : Option ℕ → Call → Type 0) (Q : World → T
 
   step-formed : (w : World) (ms : List ℕ) (t : Option Made) → ((x : Made) → t ≡ Some x → Has w.txs x) → Q w → Q (formed s w ms t)
   step-formed w ms None has q = q
-  step-formed w ms (Some t) has q = step-formed_as w t ms (votes_collected s w t.digest ms) (has t refl) refl q
+  step-formed w ms (Some t) has q = step-formed_as w t ms (votes_collected s w t ms) (has t refl) refl q
 
   step-sent : (w : World) (m : ℕ) (c : Option Certificate) → Each (Given (Some m)) (send_call c) → Q w → Q (sent s w m c)
   step-sent w m None g q = q

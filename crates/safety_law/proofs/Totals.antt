@@ -18,7 +18,8 @@ use Rattle.world_spec.specs.Assumptions.{calls_of, signed_read, asked, all_of, a
 use Rattle.safety_law.proofs.InWorld.{each-any}
 use Rattle.safety_law.specs.Owners.{callee, is_member, handed}
 use Rattle.safety_law.proofs.Steps.{IsBacked, AllGiven, step-run}
-use Rattle.safety_law.proofs.Sound.{IsSound, IsGiven, IsGivenCall, sound-keeps}
+use Rattle.safety_law.proofs.Sound.{IsSound, IsGiven, sound-keeps}
+use Rattle.safety_law.proofs.Quorate.{any-given}
 
 pub each-all : {A : Type 0} (P : A → Type 0) (xs : List A) → ((x : A) → Has xs x → P x) → Each P xs
 each-all P [] all = tt
@@ -32,14 +33,6 @@ flat-each f P (x ∷ xs) all = (each-all P (f x) (λ y h. all y (has_left (f x) 
 -- ---- what a run hands to its members
 
 module _ (s : Setting) where
-  pub asked-given : (total : List SignedTx) (events : List Event) (w : World) → ((x : SignedTx) → Has (all_of asked s events w) x → Has total x) → AllGiven s (IsGivenCall s total) events w
-  unfolding asked
-  asked-given total [] w sub = tt
-  asked-given total (e ∷ events) w sub = (
-    flat-each (signed_read s.rules) (Has total) (calls_of s w e) (λ y h. sub y (has_left (flat_map (signed_read s.rules) (calls_of s w e)) _ y h)),
-    asked-given total events (happens s w e) (λ y h. sub y (has_right (flat_map (signed_read s.rules) (calls_of s w e)) _ y h)),
-  )
-
   -- a call is on a member that was handed what is read from it
   abbrev pub IsHandedCall : (ℕ → List SignedTx) → Option ℕ → Call → Type 0
   IsHandedCall total None call = Unit {0}
@@ -89,19 +82,17 @@ module _ (s : Setting) where
 
   -- ---- the world at the end
 
-  pub sound-new : (total : List SignedTx) → IsSound total (new_world s)
+  pub sound-new : IsSound s (new_world s)
   unfolding new_world
-  sound-new total = record { made = λ t h. absurd h; spoken = λ x h. absurd h; voted = λ f h. absurd h; backed = none }
+  sound-new = record { made = λ t h. absurd h; voted = λ f h. absurd h; sealed = λ f h. absurd h; backed = none }
     where
       none : (es : List Entry) → Has ([] ∷ []) es → (e : Entry) → Has es e → IsBacked (new_world s) e
       none es (inl q) e k = absurd (subst (λ (ys : List Entry). Has ys e) (sym q) k)
       none es (inr h) e k = absurd h
 
-  pub sound-after : (events : List Event) → IsSound (all_of asked s events (new_world s)) (world_after s events)
+  pub sound-after : (events : List Event) → IsSound s (world_after s events)
   unfolding world_after
-  sound-after events =
-      let total = all_of asked s events (new_world s) in
-      step-run s (IsGivenCall s total) (IsSound total) (sound-keeps s total) events (new_world s) (asked-given total events (new_world s) (λ x h. h)) (sound-new total)
+  sound-after events = step-run s (λ _ _. Unit {0}) (IsSound s) (sound-keeps s) events (new_world s) (any-given s events (new_world s)) sound-new
 
 -- ---- all transactions of the run
 

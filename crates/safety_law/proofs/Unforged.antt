@@ -3,10 +3,7 @@ use Rattle.std.proofs.Common.{refl, sym, subst, ap, ◌∙◌}
 use Rattle.std.specs.Prelude.{◌≡◌, ℕ, zero, suc, min, Bool, true, false, cond, List, [], ◌∷◌, ◌++◌, flat_map, slice_get, slice_set, Option, Some, None, option_map, option_and_then, Result, Ok}
 use Rattle.wire_bcs.specs.declared.fault.WireFault.{WireFault}
 use Rattle.wire_bcs.specs.Whole.{whole-only}
-use Rattle.chain_types.specs.Digests.{transaction_digest}
-use Rattle.chain_types.specs.declared.transactions.Transaction.{Transaction}
 use Rattle.chain_messages.specs.Messages as messages
-use Rattle.chain_messages.specs.declared.messages.Statement.TheVariants as statement
 use Rattle.chain_messages.specs.declared.messages.MemberSeal.{MemberSeal}
 use Rattle.chain_messages.specs.declared.messages.Certificate.{Certificate}
 use Rattle.chain_messages.specs.declared.messages.Entry.{Entry}
@@ -19,17 +16,17 @@ use Rattle.protocol_spec.specs.Chain.Certificates.{read_as, read_certificate, re
 use Rattle.protocol_spec.specs.Member.Member.{Member}
 use Rattle.protocol_spec.specs.Member.Calls.{Call, holds, sees}
 use Rattle.world_spec.specs.Setting.{Setting}
-use Rattle.world_spec.specs.World.{Seat, Made, Formed, World, Reached, finds_down, stops, answers, new_world, said_by, reached_seat, behind, called_seat, called_in, called_if, entries_at, member_at, next_entry, next_call_of, next_call, numbered_call, called_over}
+use Rattle.world_spec.specs.World.{Seat, Made, Formed, World, Reached, finds_down, stops, answers, new_world, reached_seat, behind, called_seat, called_in, called_if, entries_at, member_at, next_entry, next_call_of, next_call, numbered_call, called_over}
 use Rattle.world_spec.specs.Names.{made_named, cert_named}
 use Rattle.world_spec.specs.Step.{happens, open_entries, entries_left}
 use Rattle.world_spec.specs.Run.{run, world_after}
-use Rattle.world_spec.specs.Assumptions.{vote_call, send_call, call_list, see_calls, ack_call, calls_of, read_list, entry_certificates, entry_ends, certificates_read, ends_read, asked, delivered, delivered_ends, all_of, all_formed, all_delivered, all_transactions, IsStated, IsUnforged, IsUnforgedEnd, NoForgery, TransactionsApart}
+use Rattle.world_spec.specs.Assumptions.{vote_call, send_call, call_list, see_calls, ack_call, calls_of, read_list, entry_certificates, entry_ends, certificates_read, ends_read, delivered, delivered_ends, all_formed, IsStated, IsUnforged, IsUnforgedEnd, NoForgery}
 use Rattle.safety_law.proofs.InWorld.{each-any}
 use Rattle.safety_law.specs.Owners.{is_raw_hold, AreSpellable}
-use Rattle.safety_law.proofs.Steps.{Keeps, IsBacked, AllGiven, step-line, named-backed}
+use Rattle.safety_law.proofs.Steps.{Keeps, IsBacked, step-line, named-backed}
 use Rattle.safety_law.proofs.Grown.{IsGrown, grown-run}
-use Rattle.safety_law.proofs.Sound.{IsSound, IsSpoken, IsGivenCall, sound-keeps, entry-in, given-more, get-has}
-use Rattle.safety_law.proofs.Totals.{each-all, asked-given, sound-new, given-among, certificate-among}
+use Rattle.safety_law.proofs.Sound.{IsSound, sound-keeps, entry-in, get-has}
+use Rattle.safety_law.proofs.Totals.{each-all, sound-new}
 
 each-flat : {A B : Type 0} (f : A → List B) (P : B → Type 0) (xs : List A) → Each (λ (x : A). Each P (f x)) xs → Each P (flat_map f xs)
 each-flat f P [] each = tt
@@ -100,25 +97,14 @@ module _ (s : Setting) where
 
 -- ---- one world of the run
 
-module _ (s : Setting) (all : List Event) (apart : TransactionsApart (all_transactions s all)) (spellable : AreSpellable s all) (w : World)
-    (sound : IsSound (all_of asked s all (new_world s)) w) (grown : IsGrown w (world_after s all)) (longer : IsLonger w (world_after s all)) where
+module _ (s : Setting) (all : List Event) (spellable : AreSpellable s all) (w : World)
+    (sound : IsSound s w) (grown : IsGrown w (world_after s all)) (longer : IsLonger w (world_after s all)) where
   formed-among : (f : Formed) → Has w.certs f → Has (all_formed s all) f.cert
   unfolding all_formed
   formed-among f h = has_map (λ (g : Formed). g.cert) (world_after s all).certs f (grown.certs f h)
 
   backed-unforged : (c : Certificate) → IsBacked w (entry.Cert c) → IsUnforged s w c
-  backed-unforged c (f, h, q) = subst (IsUnforged s w) q (each-all (λ (x : MemberSeal). IsStated s w x.member (vote_of f.cert) x.seal) f.cert.seals (λ x k honest accepted. stated x k))
-    where
-      stated : (x : MemberSeal) → Has f.cert.seals x → Has w.said (said_by x.member (vote_of f.cert))
-      stated x k = epochs (sound.voted f h x k)
-        where
-          epochs : (e : ℕ) × Has w.said (said_by x.member (statement.Vote e (transaction_digest f.cert.tx) f.cert.origins)) → Has w.said (said_by x.member (vote_of f.cert))
-          epochs (e, told) = go (sound.spoken (said_by x.member (statement.Vote e (transaction_digest f.cert.tx) f.cert.origins)) told)
-            where
-              go : IsSpoken (all_of asked s all (new_world s)) w.txs (statement.Vote e (transaction_digest f.cert.tx) f.cert.origins) → Has w.said (said_by x.member (vote_of f.cert))
-              go (t, given, d, n) =
-                  let one = apart t f.cert.tx (given-among s all t (given-more (all_of asked s all (new_world s)) w.txs (world_after s all).txs grown.txs t given)) (certificate-among s all f.cert (has_left (all_formed s all) (all_delivered s all) f.cert (formed-among f h))) d in
-                  subst (λ (k : ℕ). Has w.said (said_by x.member (statement.Vote k (transaction_digest f.cert.tx) f.cert.origins))) (sym n ∙ ap (λ (y : Transaction). y.epoch) one) told
+  backed-unforged c (f, h, q) = subst (IsUnforged s w) q (each-all (λ (x : MemberSeal). IsStated s w x.member (vote_of f.cert) x.seal) f.cert.seals (λ x k honest accepted. sound.voted f h x k))
 
   abbrev pub IsHonestCall : Call → Type 0
   IsHonestCall call = Each (IsUnforged s w) (certificates_read s.rules call) × Each (IsUnforgedEnd s w) (ends_read s.rules call)
@@ -217,16 +203,16 @@ module _ (s : Setting) (all : List Event) (apart : TransactionsApart (all_transa
 
 -- ---- the whole run
 
-module _ (s : Setting) (all : List Event) (apart : TransactionsApart (all_transactions s all)) (spellable : AreSpellable s all) where
-  unforged-from : (events : List Event) (w : World) → run s events w ≡ world_after s all → IsSound (all_of asked s all (new_world s)) w → AllGiven s (IsGivenCall s (all_of asked s all (new_world s))) events w → Each (λ (e : Event). is_raw_hold e ≡ false) events → NoForgery s events w
-  unforged-from [] w is sound given raw = tt
-  unforged-from (e ∷ events) w is sound given raw =
-      let line = line-unforged s all apart spellable w sound (subst (IsGrown w) is (grown-run s (e ∷ events) w)) (subst (IsLonger w) is (longer-run s (e ∷ events) w)) e raw.0 in
-      (line.0, line.1, unforged-from events (happens s w e) is (step-line s (IsGivenCall s (all_of asked s all (new_world s))) (IsSound (all_of asked s all (new_world s))) (sound-keeps s (all_of asked s all (new_world s))) w e given.0 sound) given.1 raw.1)
+module _ (s : Setting) (all : List Event) (spellable : AreSpellable s all) where
+  unforged-from : (events : List Event) (w : World) → run s events w ≡ world_after s all → IsSound s w → Each (λ (e : Event). is_raw_hold e ≡ false) events → NoForgery s events w
+  unforged-from [] w is sound raw = tt
+  unforged-from (e ∷ events) w is sound raw =
+      let line = line-unforged s all spellable w sound (subst (IsGrown w) is (grown-run s (e ∷ events) w)) (subst (IsLonger w) is (longer-run s (e ∷ events) w)) e raw.0 in
+      (line.0, line.1, unforged-from events (happens s w e) is (step-line s (λ _ _. Unit {0}) (IsSound s) (sound-keeps s) w e (each-any (calls_of s w e)) sound) raw.1)
 
 after-is : (s : Setting) (events : List Event) → run s events (new_world s) ≡ world_after s events
 unfolding world_after
 after-is s events = refl
 
-pub unforged : (s : Setting) (events : List Event) → Each (λ (e : Event). is_raw_hold e ≡ false) events → TransactionsApart (all_transactions s events) → AreSpellable s events → NoForgery s events (new_world s)
-unforged s events raw apart spellable = unforged-from s events apart spellable events (new_world s) (after-is s events) (sound-new s (all_of asked s events (new_world s))) (asked-given s (all_of asked s events (new_world s)) events (new_world s) (λ x h. h)) raw
+pub unforged : (s : Setting) (events : List Event) → Each (λ (e : Event). is_raw_hold e ≡ false) events → AreSpellable s events → NoForgery s events (new_world s)
+unforged s events raw spellable = unforged-from s events spellable events (new_world s) (after-is s events) (sound-new s) raw

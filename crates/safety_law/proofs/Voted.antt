@@ -1,12 +1,10 @@
 -- Each certified transaction was voted for: a formed certificate by each of its members, a delivered one by each
 -- honest one; and an honest member's vote stands in its journal.
-use Rattle.std.proofs.Common.{inl, inr, refl, sym, subst, ap, ◌∙◌}
+use Rattle.std.proofs.Common.{inl, inr, refl, sym, subst, ◌∙◌}
 use Rattle.std.specs.Prelude.{◌≡◌, ◌⊎◌, ℕ, true, List, [], ◌∷◌, slice_get, Option, Some, None}
-use Rattle.digest_core.specs.declared.Digest.{Digest}
 use Rattle.chain_types.specs.declared.transactions.Transaction.{Transaction}
 use Rattle.chain_types.specs.declared.refusals.CertRefusal.TheVariants as refused
 use Rattle.chain_types.specs.Digests.{transaction_digest}
-use Rattle.chain_messages.specs.declared.messages.Statement.TheVariants as statement
 use Rattle.chain_messages.specs.declared.messages.MemberSeal.{MemberSeal}
 use Rattle.chain_messages.specs.declared.messages.Certificate.{Certificate}
 use Rattle.journal_core.specs.declared.records.Record.TheVariants as record_as
@@ -16,16 +14,15 @@ use Rattle.protocol_spec.proofs.Truth.{where_not_true}
 use Rattle.protocol_spec.specs.Chain.Words.{Has, Each}
 use Rattle.protocol_spec.specs.Chain.Committee.{weight, total_of, is_quorum}
 use Rattle.protocol_spec.specs.Chain.Certificates.{Rules, accepts_statement, vote_of, members_of, bad_seal, cert_cases, cert_refusal}
-use Rattle.world_spec.specs.Setting.{Setting}
+use Rattle.world_spec.specs.Setting.{Setting, member_seal}
 use Rattle.world_spec.specs.World.{Seat, Formed, World, new_world, said_by, honest_seat, is_honest}
 use Rattle.world_spec.specs.Step.{happens}
 use Rattle.world_spec.specs.Run.{run, world_after}
-use Rattle.world_spec.specs.Assumptions.{asked, delivered, all_of, all_formed, all_delivered, all_transactions, IsCertified, IsUnforged, NoForgery, TransactionsApart, IsHonestRun, IsStated}
+use Rattle.world_spec.specs.Assumptions.{delivered, all_of, all_formed, all_delivered, all_transactions, IsCertified, IsUnforged, NoForgery, IsHonestRun, IsStated}
 use Rattle.safety_law.proofs.Apart.{none-each, none-of}
 use Rattle.safety_law.proofs.Kept.{IsKept, every-vote}
-use Rattle.safety_law.specs.Owners.{IsFormedOrValid, HasStated, HasKept, all_handed}
+use Rattle.safety_law.specs.Owners.{IsFormedOrValid, HasStated, IsCollected, HasKept, all_handed}
 use Rattle.safety_law.proofs.Grown.{IsGrown, grown-run}
-use Rattle.safety_law.proofs.Sound.{IsSpoken}
 use Rattle.safety_law.proofs.Totals.{each-all, sound-after, given-among, certificate-among, handed-among}
 use Rattle.safety_law.proofs.Quorate.{quorate-after}
 use Rattle.safety_law.proofs.Handed.{WasHanded, voted-handed}
@@ -46,26 +43,26 @@ formed-of : (s : Setting) (events : List Event) (c : Certificate) → Has (all_f
 unfolding all_formed
 formed-of s events c h = has_mapped (λ (f : Formed). f.cert) (world_after s events).certs c h
 
-module _ (s : Setting) (events : List Event) (apart : TransactionsApart (all_transactions s events)) where
-  -- a vote that was stated for a transaction of the run is of its epoch
-  stated-epoch : (t : Transaction) → Has (all_transactions s events) t → (m epoch : ℕ) (o : List (Option Digest)) → Has (world_after s events).said (said_by m (statement.Vote epoch (transaction_digest t) o)) → epoch ≡ t.epoch
-  stated-epoch t among m epoch o h = go ((sound-after s events).spoken (said_by m (statement.Vote epoch (transaction_digest t) o)) h)
-    where
-      go : IsSpoken (all_of asked s events (new_world s)) (world_after s events).txs (statement.Vote epoch (transaction_digest t) o) → epoch ≡ t.epoch
-      go (u, given, d, e) = sym e ∙ ap (λ (y : Transaction). y.epoch) (apart u t (given-among s events u given) among d)
+-- its member stated the vote
+pub formed-stated : (s : Setting) (events : List Event) (c : Certificate) → Has (all_formed s events) c → (x : MemberSeal) → Has c.seals x → HasStated (world_after s events) c x.member
+formed-stated s events c h x k = go (formed-of s events c h)
+  where
+    go : (f : Formed) × Has (world_after s events).certs f × (f.cert ≡ c) → HasStated (world_after s events) c x.member
+    go (f, l, q) =
+        subst (λ (d : Certificate). HasStated (world_after s events) d x.member) q
+        ((sound-after s events).voted f l x (subst (λ (d : Certificate). Has d.seals x) (sym q) k))
 
-  pub formed-stated : (c : Certificate) → Has (all_formed s events) c → (x : MemberSeal) → Has c.seals x → HasStated (world_after s events) c x.member
-  formed-stated c h x k = go (formed-of s events c h)
-    where
-      go : (f : Formed) × Has (world_after s events).certs f × (f.cert ≡ c) → HasStated (world_after s events) c x.member
-      go (f, l, q) =
-          let v = (sound-after s events).voted f l x (subst (λ (d : Certificate). Has d.seals x) (sym q) k) in
-          let told : Has (world_after s events).said (said_by x.member (statement.Vote v.0 (transaction_digest c.tx) c.origins)) = subst (λ (d : Certificate). Has (world_after s events).said (said_by x.member (statement.Vote v.0 (transaction_digest d.tx) d.origins))) q v.1 in
-          let same = stated-epoch c.tx (certificate-among s events c (has_left (all_formed s events) (all_delivered s events) c h)) x.member v.0 c.origins told in
-          subst (λ (n : ℕ). Has (world_after s events).said (said_by x.member (statement.Vote n (transaction_digest c.tx) c.origins))) same told
+-- and the seal is its own on it
+formed-sealed : (s : Setting) (events : List Event) (c : Certificate) → Has (all_formed s events) c → (x : MemberSeal) → Has c.seals x → x.seal ≡ member_seal s x.member (vote_of c)
+formed-sealed s events c h x k = go (formed-of s events c h)
+  where
+    go : (f : Formed) × Has (world_after s events).certs f × (f.cert ≡ c) → x.seal ≡ member_seal s x.member (vote_of c)
+    go (f, l, q) =
+        subst (λ (d : Certificate). x.seal ≡ member_seal s x.member (vote_of d)) q
+        ((sound-after s events).sealed f l x (subst (λ (d : Certificate). Has d.seals x) (sym q) k))
 
-pub each-formed : (s : Setting) (events : List Event) → TransactionsApart (all_transactions s events) → (c : Certificate) → Has (all_formed s events) c → Each (λ (x : MemberSeal). HasStated (world_after s events) c x.member) c.seals
-each-formed s events apart c h = each-all (λ (x : MemberSeal). HasStated (world_after s events) c x.member) c.seals (λ x k. formed-stated s events apart c h x k)
+pub each-formed : (s : Setting) (events : List Event) (c : Certificate) → Has (all_formed s events) c → Each (IsCollected s (world_after s events) c) c.seals
+each-formed s events c h = each-all (IsCollected s (world_after s events) c) c.seals (λ x k. (formed-stated s events c h x k, formed-sealed s events c h x k))
 
 -- ---- delivered certificates
 
@@ -101,7 +98,7 @@ module _ (s : Setting) (events : List Event) (run_is : IsHonestRun s events) whe
       go (f, l, q) = subst (λ (d : Certificate). is_quorum s.rules.stakes (weight s.rules.stakes (members_of d)) ≡ true) q (quorate-after s events f l)
 
   pub certified-stated : (c : Certificate) → IsFormedOrValid s events c → (x : MemberSeal) → Has c.seals x → is_honest (world_after s events) x.member ≡ true → HasStated (world_after s events) c x.member
-  certified-stated c (inl h) x k honest = formed-stated s events run_is.transactions c h x k
+  certified-stated c (inl h) x k honest = formed-stated s events c h x k
   certified-stated c (inr d) x k honest = delivered-stated s events run_is.no_forgery c d.0 d.1 x k honest
 
   -- the vote stands in the member's journal

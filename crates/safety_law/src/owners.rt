@@ -7,7 +7,7 @@ pub fn statements_only_grow()
     ensures { StatementsOnlyGrow }
 {}
 
-/// Each member whose seal a certificate has that a line formed stated that vote.
+/// Each member whose seal a certificate has that a line formed stated that vote, and the seal is its own on it.
 pub fn formed_is_voted_for()
     ensures { FormedIsVotedFor }
 {}

@@ -14,7 +14,7 @@ use Rattle.world_spec.specs.Setting.{things_from, setting_of}
 use Rattle.world_spec.specs.Keyed.{keyed_seal}
 use Rattle.world_spec.specs.World.{Made, Formed, new_world}
 use Rattle.world_spec.specs.Run.{world_after}
-use Rattle.world_spec.specs.Assumptions.{all_formed, all_transactions, NoForgery, TransactionsApart}
+use Rattle.world_spec.specs.Assumptions.{all_formed, NoForgery}
 use Rattle.text_law.specs.Sayable.{IsStatement}
 use Rattle.text_law.proofs.SaidWhole.{text_said}
 use Rattle.safety_law.specs.Owners.{is_raw_hold, AreSpellable}
@@ -88,5 +88,5 @@ read-spellable text t read secret =
     }
 
 pub read-unforged : (text : List ℕ) (t : Schedule) → schedule_of text ≡ Ok t → (secret : List ℕ) → Each (λ (e : Event). is_raw_hold e ≡ false) t.events
-    → TransactionsApart (all_transactions (keyed_setting secret t) t.events) → NoForgery (keyed_setting secret t) t.events (new_world (keyed_setting secret t))
-read-unforged text t read secret raw apart = unforged (keyed_setting secret t) t.events raw apart (read-spellable text t read secret)
+    → NoForgery (keyed_setting secret t) t.events (new_world (keyed_setting secret t))
+read-unforged text t read secret raw = unforged (keyed_setting secret t) t.events raw (read-spellable text t read secret)

@@ -3,7 +3,7 @@ use Rattle.std.proofs.Common.{refl, ap, sym, subst, arith, ◌∙◌}
 use Rattle.std.proofs.lemmas.Bool.{eqb-true}
 use Rattle.std.proofs.lemmas.List.{length-map}
 use Rattle.std.proofs.lemmas.List.Elements.{All-from_recursion}
-use Rattle.std.specs.Prelude.{◌≡◌, ℕ, ◌+◌, ◌≤◌, zero, suc, min, Bool, true, false, cond, ◌==◌, List, [], ◌∷◌, ◌++◌, map, length, slice_get, Option, Some, None, option_map, bytes_eq}
+use Rattle.std.specs.Prelude.{◌≡◌, ℕ, ◌+◌, ◌≤◌, zero, suc, min, Bool, true, false, cond, ◌&&◌, ◌==◌, List, [], ◌∷◌, ◌++◌, map, length, slice_get, Option, Some, None, option_map, bytes_eq}
 use Rattle.std.specs.List.{AllByRecursion, enumerate_from}
 use Rattle.wire_bcs.specs.Digests.{digest}
 use Rattle.digest_core.specs.declared.Digest.{Digest}
@@ -137,8 +137,8 @@ module _ (s : Setting) (seals : AreSeals s.seal) (things : AreThings s.things) w
   if-fit n false v w one other = other
 
   -- what a member stated last of a transaction
-  voted-origins : (tx : Digest) (st : Statement) (os : List (Option Digest)) → vote_in tx st ≡ Some os → IsFitStatement st → AreOrigins os
-  voted-origins tx (statement.Vote epoch t origins) os e is = go (digest_eq t tx) e
+  voted-origins : (epoch : ℕ) (tx : Digest) (st : Statement) (os : List (Option Digest)) → vote_in epoch tx st ≡ Some os → IsFitStatement st → AreOrigins os
+  voted-origins epoch tx (statement.Vote n t origins) os e is = go ((n == epoch) && digest_eq t tx) e
     where
       go : (b : Bool) → where_true b origins ≡ Some os → AreOrigins os
       go true e = subst AreOrigins (same e) is
@@ -146,14 +146,14 @@ module _ (s : Setting) (seals : AreSeals s.seal) (things : AreThings s.things) w
           same : Some origins ≡ Some os → origins ≡ os
           same e = cc
       go false e = absurd (cc)
-  voted-origins tx (statement.End epoch) os e is = absurd (cc)
-  voted-origins tx (statement.Checkpoint epoch number digest) os e is = absurd (cc)
-  voted-origins tx (statement.Ack epoch t effects) os e is = absurd (cc)
+  voted-origins epoch tx (statement.End n) os e is = absurd (cc)
+  voted-origins epoch tx (statement.Checkpoint n number digest) os e is = absurd (cc)
+  voted-origins epoch tx (statement.Ack n t effects) os e is = absurd (cc)
 
-  last-origins : (said : List Said) (tx : Digest) (m : ℕ) (os : List (Option Digest)) → Each (λ (x : Said). IsFitStatement x.statement) said → last_said (vote_in tx) m said ≡ Some os → AreOrigins os
-  last-origins said tx m os each e =
-      let last = last-said (vote_in tx) m said os e in
-      voted-origins tx last.0 os last.2 (each_has (λ (x : Said). IsFitStatement x.statement) said (said_by m last.0) each last.1)
+  last-origins : (said : List Said) (epoch : ℕ) (tx : Digest) (m : ℕ) (os : List (Option Digest)) → Each (λ (x : Said). IsFitStatement x.statement) said → last_said (vote_in epoch tx) m said ≡ Some os → AreOrigins os
+  last-origins said epoch tx m os each e =
+      let last = last-said (vote_in epoch tx) m said os e in
+      voted-origins epoch tx last.0 os last.2 (each_has (λ (x : Said). IsFitStatement x.statement) said (said_by m last.0) each last.1)
 
   -- ---- fvote
 
@@ -185,11 +185,11 @@ module _ (s : Setting) (seals : AreSeals s.seal) (things : AreThings s.things) w
       go None q (Some z) r e more = more (r ∙ ap (λ (b : B). Some b) (same z e))
       go None q None r e more = absurd (cc)
 
-  honest-origins : (w : World) (tx : Digest) (x : ℕ × Seat) (os : List (Option Digest)) → Each (λ (y : Said). IsFitStatement y.statement) w.said → honest_vote w tx x ≡ Some os → AreOrigins os
-  honest-origins w tx x os each e = go x.1.honest e
+  honest-origins : (w : World) (t : Made) (x : ℕ × Seat) (os : List (Option Digest)) → Each (λ (y : Said). IsFitStatement y.statement) w.said → honest_vote w t x ≡ Some os → AreOrigins os
+  honest-origins w t x os each e = go x.1.honest e
     where
-      go : (b : Bool) → cond b (last_said (vote_in tx) x.0 w.said) None ≡ Some os → AreOrigins os
-      go true e = last-origins w.said tx x.0 os each e
+      go : (b : Bool) → cond b (last_said (vote_in t.signed.tx.epoch t.digest) x.0 w.said) None ≡ Some os → AreOrigins os
+      go true e = last-origins w.said t.signed.tx.epoch t.digest x.0 os each e
       go false e = absurd (cc)
 
   or-origins : (none : List (Option Digest)) (o : Option (List (Option Digest))) → AreOrigins none → ((os : List (Option Digest)) → o ≡ Some os → AreOrigins os) → AreOrigins (origins_or none o)
@@ -198,8 +198,8 @@ module _ (s : Setting) (seals : AreSeals s.seal) (things : AreThings s.things) w
 
   fvote-origins : (w : World) (t : Made) (words : List (Option Name)) → length words ≤ most_words → IsFitMade t → Each IsFitMade w.txs → Each (λ (y : Said). IsFitStatement y.statement) w.said → AreOrigins (fvote_origins w t words)
   fvote-origins w t [] few made txs said =
-      or-origins (no_origins t.signed.tx) (first_of (honest_vote w t.digest) (enumerate_from 0 w.seats)) (no-origins t.signed.tx made.2)
-      (λ os e. first-found AreOrigins (honest_vote w t.digest) (enumerate_from 0 w.seats) os (λ x ps q. honest-origins w t.digest x ps said q) e)
+      or-origins (no_origins t.signed.tx) (first_of (honest_vote w t) (enumerate_from 0 w.seats)) (no-origins t.signed.tx made.2)
+      (λ os e. first-found AreOrigins (honest_vote w t) (enumerate_from 0 w.seats) os (λ x ps q. honest-origins w t x ps said q) e)
   fvote-origins w t (word ∷ words) few made txs said = let all = word-origins w (word ∷ words) txs in let same = all.1 in (omega (arith, same, few), all.0)
 
   fvoted-fit : (n : ℕ) (w : World) (m : ℕ) (words : List (Option Name)) (t : Option Made) → length words ≤ most_words → ((x : Made) → t ≡ Some x → IsFitMade x) → IsFit s n w → IsFit s n (fvoted w m words t)
@@ -214,9 +214,9 @@ module _ (s : Setting) (seals : AreSeals s.seal) (things : AreThings s.things) w
   list-origins None some = (omega arith, tt)
   list-origins (Some os) some = some os refl
 
-  first-origins : (w : World) (tx : Digest) (ms : List ℕ) → Each (λ (y : Said). IsFitStatement y.statement) w.said → AreOrigins (first_origins w tx ms)
-  first-origins w tx [] said = (omega arith, tt)
-  first-origins w tx (m ∷ ms) said = list-origins (last_said (vote_in tx) m w.said) (λ os e. last-origins w.said tx m os said e)
+  first-origins : (w : World) (t : Made) (ms : List ℕ) → Each (λ (y : Said). IsFitStatement y.statement) w.said → AreOrigins (first_origins w t ms)
+  first-origins w t [] said = (omega arith, tt)
+  first-origins w t (m ∷ ms) said = list-origins (last_said (vote_in t.signed.tx.epoch t.digest) m w.said) (λ os e. last-origins w.said t.signed.tx.epoch t.digest m os said e)
 
   seals-fit : (st : Statement) (ms : List ℕ) → AllByRecursion IsMember ms → AllByRecursion member_seal.fits (map (sealed_by s st) ms)
   unfolding member_seal digest
@@ -237,8 +237,8 @@ module _ (s : Setting) (seals : AreSeals s.seal) (things : AreThings s.things) w
   formed-as-fit n w t ms whole made is few f = record {
     txs = f.txs;
     said = f.said;
-    certs = each_join (λ (x : Formed). certificate.fits x.cert) w.certs (record { name = t.name; cert = certificate_of s t (first_origins w t.digest ms) ms } ∷ []) f.certs
-        (certificate-fits t (first_origins w t.digest ms) ms made (first-origins w t.digest ms f.said) is few, tt);
+    certs = each_join (λ (x : Formed). certificate.fits x.cert) w.certs (record { name = t.name; cert = certificate_of s t (first_origins w t ms) ms } ∷ []) f.certs
+        (certificate-fits t (first_origins w t ms) ms made (first-origins w t ms f.said) is few, tt);
     entries = f.entries;
     seats = f.seats;
     epoch = f.epoch;
@@ -246,7 +246,7 @@ module _ (s : Setting) (seals : AreSeals s.seal) (things : AreThings s.things) w
 
   formed-fit : (n : ℕ) (w : World) (ms : List ℕ) (t : Option Made) → ((x : Made) → t ≡ Some x → IsFitMade x) → AllByRecursion IsMember ms → length ms ≤ most_words → IsFit s n w → IsFit s n (formed s w ms t)
   formed-fit n w ms None made is few f = f
-  formed-fit n w ms (Some t) made is few f = formed-as-fit n w t ms (votes_collected s w t.digest ms) (made t refl) is few f
+  formed-fit n w ms (Some t) made is few f = formed-as-fit n w t ms (votes_collected s w t ms) (made t refl) is few f
 
   -- ---- entries
 

@@ -9,7 +9,7 @@ use Rattle.world_spec.specs.Setting.{Setting, setting_of}
 use Rattle.world_spec.specs.Keyed.{keyed}
 use Rattle.world_spec.specs.World.{Made, new_world}
 use Rattle.world_spec.specs.Run.{world_after}
-use Rattle.world_spec.specs.Assumptions.{all_transactions, NoForgery, TransactionsApart}
+use Rattle.world_spec.specs.Assumptions.{NoForgery}
 use Rattle.safety_law.specs.Owners.{is_raw_hold, AreSpellable}
 
 -- what the set-up lines fix, with seals that are keyed digests
@@ -26,9 +26,8 @@ abbrev pub ReadRunsAreSpellable : Type 0
 ReadRunsAreSpellable = (text : List ℕ) (t : Schedule) → schedule_of text ≡ Ok t → (secret : List ℕ)
     → AreSpellable (keyed_setting secret t) t.events
 
--- so without `raw .. hold` lines no statement is forged, if different transactions have different digests
+-- so without `raw .. hold` lines no statement is forged
 abbrev pub NothingReadIsForged : Type 0
 NothingReadIsForged = (text : List ℕ) (t : Schedule) → schedule_of text ≡ Ok t → (secret : List ℕ)
     → Each (λ (e : Event). is_raw_hold e ≡ false) t.events
-    → TransactionsApart (all_transactions (keyed_setting secret t) t.events)
     → NoForgery (keyed_setting secret t) t.events (new_world (keyed_setting secret t))

@@ -1,5 +1,5 @@
 //! Schedules that a text says: all that a run of one makes can be encoded, so without lines that hand over bytes as a
-//! certificate no statement is forged, given only that different transactions have different digests.
+//! certificate no statement is forged.
 ghost use Rattle.text_law.specs.HonestTexts.{NothingReadIsForged, ReadRunsAreSpellable, ReadTransactionsAreSpellable};
 
 /// Each transaction that a read schedule makes is a value of its Rust type, and short enough to be encoded.

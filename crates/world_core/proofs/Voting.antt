@@ -3,6 +3,7 @@ use Rattle.std.proofs.Common.{◌≡◌, ◌∙◌, ap, sym, refl, subst, ℕ, z
 use Rattle.std.specs.Prelude.{bytes_eq, find, slice_get}
 use Rattle.digest_core.specs.declared.Digest.{Digest}
 use Rattle.chain_types.specs.Transactions as transactions
+use Rattle.chain_types.specs.declared.transactions.SignedTx.{SignedTx}
 use Rattle.chain_messages.specs.declared.messages.Certificate.{Certificate}
 use Rattle.chain_messages.specs.declared.messages.Statement.TheVariants as statement
 use Rattle.chain_messages.specs.Messages as messages
@@ -41,7 +42,7 @@ flags_same [] = refl
 flags_same (p ∷ ps) = ap (λ fs. p.honest ∷ fs) (flags_same ps)
 
 origins_same : (sc : Scene) (t : Made) (words : List (Option Name)) → origins_by sc.known sc.said (honest_flags sc.posts) t words ≡ fvote_origins (bare_world sc) t words
-origins_same sc t [] = ap (origins_or (no_origins t.signed.tx)) (sym (first_from (bare_world sc) t.digest 0 (map bare_seat sc.posts) ∙ ap (first_vote sc.said t.digest) (flags_same sc.posts)))
+origins_same sc t [] = ap (origins_or (no_origins t.signed.tx)) (sym (first_from (bare_world sc) t 0 (map bare_seat sc.posts) ∙ ap (first_vote sc.said t.signed.tx.epoch t.digest) (flags_same sc.posts)))
 origins_same sc t (word ∷ words) = refl
 
 pub honest_same : (posts : List Post) (m : ℕ) → flag_at (slice_get (honest_flags posts) m) ≡ honest_seat (slice_get (map bare_seat posts) m)
@@ -104,38 +105,47 @@ pub unnamed_cert_lines : (trust : Trust) (sc : Scene) (name : Name) (ms : List �
 unnamed_cert_lines trust sc name ms None lines e l = l
 unnamed_cert_lines trust sc name ms (Some t) lines e l = absurd (cc)
 
-abbrev collects : Scene → Digest → List ℕ → Collected
-collects sc tx ms = collected origins_eq sc.terms.stakes (λ m. last_said (vote_in tx) m sc.said) ms
+abbrev collects : Scene → ℕ → Digest → List ℕ → Collected
+collects sc epoch tx ms = collected origins_eq sc.terms.stakes (λ m. last_said (vote_in epoch tx) m sc.said) ms
+
+-- what the book gives, by the committee and the transaction that are kept
+pub collected_here : (said : List Said) (tx : Digest) (ms : List ℕ) (got : Collected) (stakes kept : List ℕ) (x y : SignedTx)
+    → got ≡ collected origins_eq stakes (λ m. last_said (vote_in x.tx.epoch tx) m said) ms → stakes ≡ kept → x ≡ y
+    → got ≡ collected origins_eq kept (λ m. last_said (vote_in y.tx.epoch tx) m said) ms
+collected_here said tx ms got stakes kept x y is e o =
+    is
+    ∙ ap (λ (ss : List ℕ). collected origins_eq ss (λ m. last_said (vote_in x.tx.epoch tx) m said) ms) e
+    ∙ ap (λ (z : SignedTx). collected origins_eq kept (λ m. last_said (vote_in z.tx.epoch tx) m said) ms) o
 
 pub collected_lines : (trust : Trust) (sc : Scene) (name : Name) (ms : List ℕ) (made : MadeTx) (t : Option Made) (got : Given) (lines : List Line) → Some (made_as made) ≡ t
-    → collected_as got ≡ collects sc made.digest ms → lines ≡ line.Cert name (cert_collected ms (collected_as got)) ∷ [] → lines ≡ cert_lines (bare_setting trust sc) (bare_world sc) name ms t
+    → collected_as got ≡ collects sc made.signed.tx.epoch made.digest ms → lines ≡ line.Cert name (cert_collected ms (collected_as got)) ∷ [] → lines ≡ cert_lines (bare_setting trust sc) (bare_world sc) name ms t
 unfolding votes_collected
 collected_lines trust sc name ms made t got lines e c l =
     l ∙ ap (λ y. line.Cert name (cert_collected ms y) ∷ []) c ∙ ap (cert_lines (bare_setting trust sc) (bare_world sc) name ms) e
 
 -- what is formed, by what was collected
-forms : (trust : Trust) (sc : Scene) (ms : List ℕ) (t : Made) (c : Collected) → c ≡ collects sc t.digest ms → (formed_as (bare_setting trust sc) (bare_world sc) t ms c).certs ≡ (formed (bare_setting trust sc) (bare_world sc) ms (Some t)).certs
+forms : (trust : Trust) (sc : Scene) (ms : List ℕ) (t : Made) (c : Collected) → c ≡ collects sc t.signed.tx.epoch t.digest ms → (formed_as (bare_setting trust sc) (bare_world sc) t ms c).certs ≡ (formed (bare_setting trust sc) (bare_world sc) ms (Some t)).certs
 unfolding votes_collected
 forms trust sc ms t c is = ap (λ x. (formed_as (bare_setting trust sc) (bare_world sc) t ms x).certs) is
 
-first_same : (sc : Scene) (tx : Digest) (ms : List ℕ) → first_origins_by sc.said tx ms ≡ first_origins (bare_world sc) tx ms
-first_same sc tx [] = refl
-first_same sc tx (m ∷ ms) = refl
+first_same : (sc : Scene) (t : Made) (ms : List ℕ) → first_origins_by sc.said t.signed.tx.epoch t.digest ms ≡ first_origins (bare_world sc) t ms
+first_same sc t [] = refl
+first_same sc t (m ∷ ms) = refl
 
 pub whole_forms : (trust : Trust) (sc : Scene) (ms : List ℕ) (made : MadeTx) (t : Option Made) (got : Given) (cert : Certificate) (certs : List Formed) → Some (made_as made) ≡ t
-    → collected_as got ≡ collects sc made.digest ms → is_whole got ≡ true → cert ≡ certificate_by trust.seal (made_as made) (first_origins_by sc.said made.digest ms) ms
+    → collected_as got ≡ collects sc made.signed.tx.epoch made.digest ms → is_whole got ≡ true → cert ≡ certificate_by trust.seal (made_as made) (first_origins_by sc.said made.signed.tx.epoch made.digest ms) ms
     → certs ≡ sc.certs ++ record { name = made.name; cert = cert } ∷ [] → certs ≡ (formed (bare_setting trust sc) (bare_world sc) ms t).certs
 whole_forms trust sc ms made t (given.Lacks m) cert certs e c is b n = absurd (cc)
 whole_forms trust sc ms made t (given.Short w total) cert certs e c is b n = absurd (cc)
 whole_forms trust sc ms made t (given.Differ x y) cert certs e c is b n = absurd (cc)
 whole_forms trust sc ms made t given.Whole cert certs e c is b n =
     n
-    ∙ ap (λ (x : Certificate). sc.certs ++ record { name = made.name; cert = x } ∷ []) (b ∙ ap (λ os. certificate_by trust.seal (made_as made) os ms) (first_same sc made.digest ms))
+    ∙ ap (λ (x : Certificate). sc.certs ++ record { name = made.name; cert = x } ∷ []) (b ∙ ap (λ os. certificate_by trust.seal (made_as made) os ms) (first_same sc (made_as made) ms))
     ∙ forms trust sc ms (made_as made) whole c
     ∙ ap (λ x. (formed (bare_setting trust sc) (bare_world sc) ms x).certs) e
 
 pub others_form : (trust : Trust) (sc : Scene) (ms : List ℕ) (made : MadeTx) (t : Option Made) (got : Given) → Some (made_as made) ≡ t
-    → collected_as got ≡ collects sc made.digest ms → is_whole got ≡ false → sc.certs ≡ (formed (bare_setting trust sc) (bare_world sc) ms t).certs
+    → collected_as got ≡ collects sc made.signed.tx.epoch made.digest ms → is_whole got ≡ false → sc.certs ≡ (formed (bare_setting trust sc) (bare_world sc) ms t).certs
 others_form trust sc ms made t (given.Lacks m) e c is = forms trust sc ms (made_as made) (lacks m) c ∙ ap (λ x. (formed (bare_setting trust sc) (bare_world sc) ms x).certs) e
 others_form trust sc ms made t (given.Short w total) e c is = forms trust sc ms (made_as made) (short w total) c ∙ ap (λ x. (formed (bare_setting trust sc) (bare_world sc) ms x).certs) e
 others_form trust sc ms made t (given.Differ a b) e c is = forms trust sc ms (made_as made) (differ a b) c ∙ ap (λ x. (formed (bare_setting trust sc) (bare_world sc) ms x).certs) e
@@ -171,20 +181,20 @@ abbrev with_certs : Scene → List Formed → Scene
 with_certs sc certs = record sc { certs = certs }
 
 pub form_others : (trust : Trust) (v sc : Scene) (name : Name) (ms : List ℕ) (made : MadeTx) (got : Given) (b : Bool) → v ≡ sc → Some (made_as made) ≡ made_named (bare_world v) name
-    → collected_as got ≡ collects v made.digest ms → b ≡ is_whole got → b ≡ false → sc ≡ with_certs sc (formed (bare_setting trust sc) (bare_world sc) ms (made_named (bare_world sc) name)).certs
+    → collected_as got ≡ collects v made.signed.tx.epoch made.digest ms → b ≡ is_whole got → b ≡ false → sc ≡ with_certs sc (formed (bare_setting trust sc) (bare_world sc) ms (made_named (bare_world sc) name)).certs
 form_others trust v sc name ms made got b same e c w n =
     subst (λ (x : Scene). x ≡ with_certs x (formed (bare_setting trust x) (bare_world x) ms (made_named (bare_world x) name)).certs) same
     (ap (with_certs v) (others_form trust v ms made (made_named (bare_world v) name) got e c (sym w ∙ n)))
 
 pub form_whole : (trust : Trust) (v sc : Scene) (name : Name) (ms : List ℕ) (made : MadeTx) (got : Given) (b : Bool) (cert : Certificate) (certs : List Formed) → v ≡ sc → Some (made_as made) ≡ made_named (bare_world v) name
-    → collected_as got ≡ collects v made.digest ms → b ≡ is_whole got → b ≡ true → cert ≡ certificate_by trust.seal (made_as made) (first_origins_by v.said made.digest ms) ms
+    → collected_as got ≡ collects v made.signed.tx.epoch made.digest ms → b ≡ is_whole got → b ≡ true → cert ≡ certificate_by trust.seal (made_as made) (first_origins_by v.said made.signed.tx.epoch made.digest ms) ms
     → certs ≡ v.certs ++ record { name = made.name; cert = cert } ∷ [] → with_certs v certs ≡ with_certs sc (formed (bare_setting trust sc) (bare_world sc) ms (made_named (bare_world sc) name)).certs
 form_whole trust v sc name ms made got b cert certs same e c w n by is =
     subst (λ (x : Scene). with_certs v certs ≡ with_certs x (formed (bare_setting trust x) (bare_world x) ms (made_named (bare_world x) name)).certs) same
     (ap (with_certs v) (whole_forms trust v ms made (made_named (bare_world v) name) got cert certs e c (sym w ∙ n) by is))
 
 pub form_lines : (trust : Trust) (v sc : Scene) (name : Name) (ms : List ℕ) (made : MadeTx) (got : Given) (lines : List Line) → v ≡ sc → Some (made_as made) ≡ made_named (bare_world v) name
-    → collected_as got ≡ collects v made.digest ms → lines ≡ line.Cert name (cert_collected ms (collected_as got)) ∷ [] → lines ≡ cert_lines (bare_setting trust sc) (bare_world sc) name ms (made_named (bare_world sc) name)
+    → collected_as got ≡ collects v made.signed.tx.epoch made.digest ms → lines ≡ line.Cert name (cert_collected ms (collected_as got)) ∷ [] → lines ≡ cert_lines (bare_setting trust sc) (bare_world sc) name ms (made_named (bare_world sc) name)
 form_lines trust v sc name ms made got lines same e c l =
     subst (λ (x : Scene). lines ≡ cert_lines (bare_setting trust x) (bare_world x) name ms (made_named (bare_world x) name)) same
     (collected_lines trust v name ms made (made_named (bare_world v) name) got lines e c l)

@@ -28,9 +28,10 @@ impl World {
         let Some(made) = self.directory.made(tx) else {
             return cert_lines(self.alloc, tx, CertText::NoVote { member: 0 });
         };
+        let epoch = made.signed.value().tx.epoch;
         let collected = self
             .said
-            .collect(self.seats.committee(), &made.digest, members);
+            .collect(self.seats.committee(), epoch, &made.digest, members);
         let lines = collected_lines(self.alloc, tx, members, &collected)?;
         if !is_whole(&collected) {
             return Ok(lines);

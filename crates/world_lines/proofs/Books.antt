@@ -90,22 +90,32 @@ of_end = is_keyed nat_eq key_of_end
 abbrev of_ack : AckKey → SaidRow → Bool
 of_ack = is_keyed ack_key_eq key_of_ack
 
-vote_says : (m : ℕ) (tx : Digest) (n : ℕ) (st : Statement) → Says (vote_in tx) m (of_vote (vote_key m tx)) row_origins (record { member = n; statement = st })
-vote_says m tx n (statement.Vote epoch t named) = by (n == m) refl (digest_eq t tx) refl
+vote_says : (m epoch : ℕ) (tx : Digest) (n : ℕ) (st : Statement) → Says (vote_in epoch tx) m (of_vote (vote_key m epoch tx)) row_origins (record { member = n; statement = st })
+vote_says m epoch tx n (statement.Vote e t named) = by (n == m) (e == epoch) (digest_eq t tx) refl refl refl
   where
-    by : (a : Bool) → (n == m) ≡ a → (b : Bool) → digest_eq t tx ≡ b → Says (vote_in tx) m (of_vote (vote_key m tx)) row_origins (record { member = n; statement = statement.Vote epoch t named })
-    by true p true q =
-        this named
-        (ap (λ a. cond a (where_true (digest_eq t tx) named) None) p ∙ ap (λ b. where_true b named) q)
-        (ap (λ a. a && digest_eq t tx) p ∙ q) refl
-    by true p false q =
-        nothing
-        (ap (λ a. cond a (where_true (digest_eq t tx) named) None) p ∙ ap (λ b. where_true b named) q)
-        (ap (λ a. a && digest_eq t tx) p ∙ q)
-    by false p b q = nothing (ap (λ a. cond a (where_true (digest_eq t tx) named) None) p) (ap (λ a. a && digest_eq t tx) p)
-vote_says m tx n (statement.End epoch) = nothing (silent (n == m)) refl
-vote_says m tx n (statement.Checkpoint epoch number digest) = nothing (silent (n == m)) refl
-vote_says m tx n (statement.Ack epoch t effects) = nothing (silent (n == m)) refl
+    says : (a b c : Bool) → (n == m) ≡ a → (e == epoch) ≡ b → digest_eq t tx ≡ c
+        → says_of (vote_in epoch tx) m (record { member = n; statement = statement.Vote e t named }) ≡ cond a (where_true (b && c) named) None
+    says a b c p q r =
+        ap (λ x. cond x (where_true ((e == epoch) && digest_eq t tx) named) None) p
+        ∙ ap (λ x. cond a (where_true (x && digest_eq t tx) named) None) q
+        ∙ ap (λ x. cond a (where_true (b && x) named) None) r
+
+    keyed : (a b c : Bool) → (n == m) ≡ a → (e == epoch) ≡ b → digest_eq t tx ≡ c
+        → of_vote (vote_key m epoch tx) (record { member = n; statement = statement.Vote e t named }) ≡ (a && b && c)
+    keyed a b c p q r =
+        ap (λ x. x && (e == epoch) && digest_eq t tx) p
+        ∙ ap (λ x. a && x && digest_eq t tx) q
+        ∙ ap (λ x. a && b && x) r
+
+    by : (a b c : Bool) → (n == m) ≡ a → (e == epoch) ≡ b → digest_eq t tx ≡ c
+        → Says (vote_in epoch tx) m (of_vote (vote_key m epoch tx)) row_origins (record { member = n; statement = statement.Vote e t named })
+    by true true true p q r = this named (says true true true p q r) (keyed true true true p q r) refl
+    by true true false p q r = nothing (says true true false p q r) (keyed true true false p q r)
+    by true false c p q r = nothing (says true false c p q r) (keyed true false c p q r)
+    by false b c p q r = nothing (says false b c p q r) (keyed false b c p q r)
+vote_says m epoch tx n (statement.End e) = nothing (silent (n == m)) refl
+vote_says m epoch tx n (statement.Checkpoint e number digest) = nothing (silent (n == m)) refl
+vote_says m epoch tx n (statement.Ack e t effects) = nothing (silent (n == m)) refl
 
 end_says : (m n : ℕ) (st : Statement) → Says end_in m (of_end m) row_end (record { member = n; statement = st })
 end_says m n (statement.Vote epoch t named) = nothing (silent (n == m)) refl
@@ -144,11 +154,11 @@ ack_says m epoch tx n (statement.Ack e t effects) = by (n == m) (e == epoch) (di
     by true false c p q r = nothing (says true false c p q r) (keyed true false c p q r)
     by false b c p q r = nothing (says false b c p q r) (keyed false b c p q r)
 
-pub vote_found : (m : ℕ) (tx : Digest) (rows : List SaidRow) (places : LastPlaces) {said : List Said} {lent : List SaidRow} {place : Option ℕ}
-    → AreLast rows places → said_list rows ≡ said → lent ≡ rows → place ≡ lookup (vote_key_eq (vote_key m tx)) places.votes.entries
-    → option_and_then row_origins (option_and_then (slice_get lent) place) ≡ last_said (vote_in tx) m said
-vote_found m tx rows places placed view same at =
-    row_found (vote_in tx) m (of_vote (vote_key m tx)) row_origins (λ r. vote_says m tx r.member r.statement) rows view same (at ∙ placed.votes (vote_key m tx))
+pub vote_found : (m epoch : ℕ) (tx : Digest) (rows : List SaidRow) (places : LastPlaces) {said : List Said} {lent : List SaidRow} {place : Option ℕ}
+    → AreLast rows places → said_list rows ≡ said → lent ≡ rows → place ≡ lookup (vote_key_eq (vote_key m epoch tx)) places.votes.entries
+    → option_and_then row_origins (option_and_then (slice_get lent) place) ≡ last_said (vote_in epoch tx) m said
+vote_found m epoch tx rows places placed view same at =
+    row_found (vote_in epoch tx) m (of_vote (vote_key m epoch tx)) row_origins (λ r. vote_says m epoch tx r.member r.statement) rows view same (at ∙ placed.votes (vote_key m epoch tx))
 
 pub end_found : (m : ℕ) (rows : List SaidRow) (places : LastPlaces) {said : List Said} {lent : List SaidRow} {place : Option ℕ}
     → AreLast rows places → said_list rows ≡ said → lent ≡ rows → place ≡ lookup (nat_eq m) places.ends.entries
@@ -190,11 +200,17 @@ module _ {K : Type 0} (equal : K → K → Bool) (one : (a b : K) → equal a b 
 
 one_vote_key : (a b : VoteKey) → vote_key_eq a b ≡ true → a ≡ b
 one_vote_key a b h =
-    let parts = and_true (a.member == b.member) (digest_eq a.tx b.tx) h in
-    ap (λ (m : ℕ). vote_key m a.tx) (eqb-true a.member b.member parts.0) ∙ ap (vote_key b.member) (digest_same a.tx b.tx parts.1)
+    let parts = and_true ((a.member == b.member) && (a.epoch == b.epoch)) (digest_eq a.tx b.tx) h in
+    let numbers = and_true (a.member == b.member) (a.epoch == b.epoch) parts.0 in
+    ap (λ (m : ℕ). vote_key m a.epoch a.tx) (eqb-true a.member b.member numbers.0)
+    ∙ ap (λ (e : ℕ). vote_key b.member e a.tx) (eqb-true a.epoch b.epoch numbers.1)
+    ∙ ap (vote_key b.member b.epoch) (digest_same a.tx b.tx parts.1)
 
 vote_key_itself : (a : VoteKey) → vote_key_eq a a ≡ true
-vote_key_itself a = ap (λ b. b && digest_eq a.tx a.tx) (eq-eqb a.member a.member refl) ∙ digest_self a.tx
+vote_key_itself a =
+    ap (λ b. b && (a.epoch == a.epoch) && digest_eq a.tx a.tx) (eq-eqb a.member a.member refl)
+    ∙ ap (λ b. b && digest_eq a.tx a.tx) (eq-eqb a.epoch a.epoch refl)
+    ∙ digest_self a.tx
 
 one_ack_key : (a b : AckKey) → ack_key_eq a b ≡ true → a ≡ b
 one_ack_key a b h =

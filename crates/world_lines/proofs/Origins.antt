@@ -29,11 +29,11 @@ words_named k said honest t [] origins some is = absurd (omega arith)
 words_named k said honest t (word ∷ words) origins some is = is
 
 pub voted_first : (k : Known) (said : List Said) (honest : List Bool) (t : Made) (words : List (Option Name)) (origins vote : List (Option Digest))
-    → length words ≤ 0 → Some vote ≡ first_vote said t.digest honest → origins ≡ vote → origins ≡ origins_by k said honest t words
+    → length words ≤ 0 → Some vote ≡ first_vote said t.signed.tx.epoch t.digest honest → origins ≡ vote → origins ≡ origins_by k said honest t words
 voted_first k said honest t [] origins vote none is o = o ∙ ap (origins_or (no_origins t.signed.tx)) is
 voted_first k said honest t (word ∷ words) origins vote none is o = absurd (omega arith)
 
 pub none_voted : (k : Known) (said : List Said) (honest : List Bool) (t : Made) (words : List (Option Name)) (origins : List (Option Digest))
-    → length words ≤ 0 → None ≡ first_vote said t.digest honest → origins ≡ no_origins t.signed.tx → origins ≡ origins_by k said honest t words
+    → length words ≤ 0 → None ≡ first_vote said t.signed.tx.epoch t.digest honest → origins ≡ no_origins t.signed.tx → origins ≡ origins_by k said honest t words
 none_voted k said honest t [] origins none is o = o ∙ ap (origins_or (no_origins t.signed.tx)) is
 none_voted k said honest t (word ∷ words) origins none is o = absurd (omega arith)

@@ -33,11 +33,11 @@ certificate_short seal t origins ms c tx few some is =
     seals_length (x ∷ xs) = ap suc (seals_length xs)
 
 -- the origins of the first of these members
-pub first_of_none : (said : List Said) (tx : Digest) (ms : List ℕ) (origins : List (Option Digest)) → ms ≡ [] → origins ≡ [] → origins ≡ first_origins_by said tx ms
-first_of_none said tx ms origins e o = o ∙ sym (ap (first_origins_by said tx) e)
+pub first_of_none : (said : List Said) (epoch : ℕ) (tx : Digest) (ms : List ℕ) (origins : List (Option Digest)) → ms ≡ [] → origins ≡ [] → origins ≡ first_origins_by said epoch tx ms
+first_of_none said epoch tx ms origins e o = o ∙ sym (ap (first_origins_by said epoch tx) e)
 
-pub first_of_some : (said : List Said) (tx : Digest) (m : ℕ) (rest ms : List ℕ) (origins : List (Option Digest)) → ms ≡ m ∷ rest → origins ≡ list_or_none (vote_by said tx m) → origins ≡ first_origins_by said tx ms
-first_of_some said tx m rest ms origins e o = o ∙ sym (ap (first_origins_by said tx) e)
+pub first_of_some : (said : List Said) (epoch : ℕ) (tx : Digest) (m : ℕ) (rest ms : List ℕ) (origins : List (Option Digest)) → ms ≡ m ∷ rest → origins ≡ list_or_none (vote_by said epoch tx m) → origins ≡ first_origins_by said epoch tx ms
+first_of_some said epoch tx m rest ms origins e o = o ∙ sym (ap (first_origins_by said epoch tx) e)
 
 -- an End under its seal
 pub short_end : (m epoch : ℕ) (seal : Digest) → messages.entry.short (entry.End (record { member = m; statement = statement.End epoch; seal = seal }))

@@ -14,5 +14,5 @@ abbrev pub with_none : List (Option Digest) → Input → List (Option Digest)
 with_none origins input = if is_object input then origins ++ None ∷ [] else origins
 
 abbrev pub origins_by : Known → List Said → List Bool → Made → List (Option Name) → List (Option Digest)
-origins_by k said honest t [] = origins_or (no_origins t.signed.tx) (first_vote said t.digest honest)
+origins_by k said honest t [] = origins_or (no_origins t.signed.tx) (first_vote said t.signed.tx.epoch t.digest honest)
 origins_by k said honest t (word ∷ words) = map (origin_word (world_with k)) (word ∷ words)

@@ -23,6 +23,6 @@ abbrev pub certificate_by : (Signer → List ℕ → Digest) → Made → List (
 certificate_by seal t origins ms = record { tx = t.signed.tx; origins = origins; seals = map (sealed_with seal (vote_bytes t origins)) ms }
 
 -- the origins that the first of these members voted for
-abbrev pub first_origins_by : List Said → Digest → List ℕ → List (Option Digest)
-first_origins_by said tx [] = []
-first_origins_by said tx (m ∷ ms) = list_or_none (vote_by said tx m)
+abbrev pub first_origins_by : List Said → ℕ → Digest → List ℕ → List (Option Digest)
+first_origins_by said epoch tx [] = []
+first_origins_by said epoch tx (m ∷ ms) = list_or_none (vote_by said epoch tx m)

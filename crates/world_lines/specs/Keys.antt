@@ -1,5 +1,5 @@
--- Where the last statements of members stand: the last vote for a transaction, the last End, and the last acknowledgement
--- of a transaction in an epoch.
+-- Where the last statements of members stand: the last vote for a transaction of an epoch, the last End, and the last
+-- acknowledgement of a transaction in an epoch.
 use Rattle.std.specs.Prelude.{◌≡◌, ◌==◌, ◌&&◌, ℕ, Bool, false, nat_eq, List, Option, Some, None}
 use Rattle.indexmap.specs.IndexMap.{insert_entry}
 use Rattle.digest_core.specs.declared.Digest.{Digest}
@@ -14,21 +14,21 @@ use Rattle.world_lines.specs.Places.{LastPlaced}
 
 -- ---- keys
 
-abbrev pub vote_key : ℕ → Digest → VoteKey
-vote_key m tx = record { member = m; tx = tx }
+abbrev pub vote_key : ℕ → ℕ → Digest → VoteKey
+vote_key m epoch tx = record { member = m; epoch = epoch; tx = tx }
 
 abbrev pub ack_key : ℕ → ℕ → Digest → AckKey
 ack_key m epoch tx = record { member = m; epoch = epoch; tx = tx }
 
 abbrev pub vote_key_eq : VoteKey → VoteKey → Bool
-vote_key_eq a b = (a.member == b.member) && digest_eq a.tx b.tx
+vote_key_eq a b = (a.member == b.member) && (a.epoch == b.epoch) && digest_eq a.tx b.tx
 
 abbrev pub ack_key_eq : AckKey → AckKey → Bool
 ack_key_eq a b = (a.member == b.member) && (a.epoch == b.epoch) && digest_eq a.tx b.tx
 
 -- the key of a vote, of an End, and of an acknowledgement
 abbrev pub key_of_vote : ℕ → Statement → Option VoteKey
-key_of_vote m (statement.Vote epoch tx origins) = Some (vote_key m tx)
+key_of_vote m (statement.Vote epoch tx origins) = Some (vote_key m epoch tx)
 key_of_vote m (statement.End epoch) = None
 key_of_vote m (statement.Checkpoint epoch number digest) = None
 key_of_vote m (statement.Ack epoch tx effects) = None

@@ -7,17 +7,17 @@ use Rattle.protocol_spec.specs.Chain.Words.{first_of}
 use Rattle.world_spec.specs.World.{Said, Seat}
 use Rattle.world_spec.specs.Step.{last_said, vote_in}
 
--- the origins of a member's last vote for the transaction
-abbrev pub vote_by : List Said → Digest → ℕ → Option (List (Option Digest))
-vote_by said tx m = last_said (vote_in tx) m said
+-- the origins of a member's last vote for the transaction, which is of this epoch
+abbrev pub vote_by : List Said → ℕ → Digest → ℕ → Option (List (Option Digest))
+vote_by said epoch tx m = last_said (vote_in epoch tx) m said
 
 -- the same, if the member is honest
-abbrev pub vote_if : List Said → Digest → (ℕ × Bool) → Option (List (Option Digest))
-vote_if said tx flag = if flag.1 then vote_by said tx flag.0 else None
+abbrev pub vote_if : List Said → ℕ → Digest → (ℕ × Bool) → Option (List (Option Digest))
+vote_if said epoch tx flag = if flag.1 then vote_by said epoch tx flag.0 else None
 
 -- the last vote of the lowest-numbered honest member that has one, if these members are honest
-abbrev pub first_vote : List Said → Digest → List Bool → Option (List (Option Digest))
-first_vote said tx honest = first_of (vote_if said tx) (enumerate_from 0 honest)
+abbrev pub first_vote : List Said → ℕ → Digest → List Bool → Option (List (Option Digest))
+first_vote said epoch tx honest = first_of (vote_if said epoch tx) (enumerate_from 0 honest)
 
 abbrev pub honest_flag : Seat → Bool
 honest_flag seat = seat.honest

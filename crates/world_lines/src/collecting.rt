@@ -13,10 +13,11 @@ use digest_core::Digest;
 use quorum_core::Committee;
 use wire_bcs::Seq;
 
-/// The last votes for a transaction.
+/// The last votes for a transaction of an epoch.
 #[derive(Clone, Copy)]
 struct Votes<'a> {
     book: &'a SaidBook,
+    epoch: u64,
     tx: &'a Digest,
 }
 
@@ -25,10 +26,10 @@ impl LastWords for Votes<'_> {
 
     ghost same = { origins_eq };
 
-    ghost reads = { λ v m. last_said (vote_in v.tx.now) m v.book.now };
+    ghost reads = { λ v m. last_said (vote_in v.epoch v.tx.now) m v.book.now };
 
     fn last_word(&self, member: u32) -> Option<&Seq<Option<Digest>>> {
-        self.book.last_vote(member, self.tx)
+        self.book.last_vote(member, self.epoch, self.tx)
     }
 
     fn are_same(a: &Seq<Option<Digest>>, b: &Seq<Option<Digest>>) -> bool
@@ -65,13 +66,24 @@ impl LastWords for Acks<'_> {
 }
 
 impl SaidBook {
-    /// What the last votes of these members for a transaction give: the first member without one, too little stake,
+    /// What the last votes of these members for a transaction of an epoch give: the first member without one, too little stake,
     /// the first two that differ, or that all agree. The members may come in any order, and more than once: their
     /// stake is that of their set. Takes no memory.
-    pub fn collect(&self, committee: &Committee, tx: &Digest, members: &[u32]) -> Collected
-        ensures { collected_as result ≡ collected origins_eq committee.now (λ m. last_said (vote_in tx.now) m self.now) members.now }
+    pub fn collect(
+        &self,
+        committee: &Committee,
+        epoch: u64,
+        tx: &Digest,
+        members: &[u32],
+    ) -> Collected
+        ensures { collected_as result ≡ collected origins_eq committee.now (λ m. last_said (vote_in epoch tx.now) m self.now) members.now }
     {
-        collect_words(&Votes { book: self, tx }, committee, members)
+        let votes = Votes {
+            book: self,
+            epoch,
+            tx,
+        };
+        collect_words(&votes, committee, members)
     }
 
     /// What the last acknowledgements of a transaction in an epoch by these members give, as `collect` for votes; two

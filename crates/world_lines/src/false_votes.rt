@@ -106,7 +106,8 @@ pub fn false_origins(
     if !words.is_empty() {
         return named_origins(directory, words);
     }
-    match said.first_vote(honest, &made.digest) {
+    let epoch = made.signed.value().tx.epoch;
+    match said.first_vote(honest, epoch, &made.digest) {
         Some(origins) => Seq::from_slice(directory.allocator(), origins.as_slice()),
         None => no_origins(directory.allocator(), &made.signed.value().tx),
     }

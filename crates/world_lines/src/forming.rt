@@ -91,12 +91,13 @@ pub fn certificate<S: MakesSeals>(
 fn voted_origins(
     alloc: Global,
     said: &SaidBook,
+    epoch: u64,
     tx: &Digest,
     member: u32,
 ) -> Result<Seq<Option<Digest>>, OutOfMemory>
-    ensures { IfOk result (λ origins. origins ≡ list_or_none (vote_by said.now tx.now member)) }
+    ensures { IfOk result (λ origins. origins ≡ list_or_none (vote_by said.now epoch tx.now member)) }
 {
-    match said.last_vote(member, tx) {
+    match said.last_vote(member, epoch, tx) {
         Some(origins) => Seq::from_slice(alloc, origins.as_slice()),
         None => Ok(Seq::new(alloc)),
     }
@@ -107,14 +108,15 @@ fn voted_origins(
 fn first_origins(
     alloc: Global,
     said: &SaidBook,
+    epoch: u64,
     tx: &Digest,
     members: &[u32],
 ) -> Result<Seq<Option<Digest>>, OutOfMemory>
-    ensures { IfOk result (λ origins. origins ≡ first_origins_by said.now tx.now members.now) }
+    ensures { IfOk result (λ origins. origins ≡ first_origins_by said.now epoch tx.now members.now) }
 {
     match members {
         [] => Ok(Seq::new(alloc)),
-        [member, ..] => voted_origins(alloc, said, tx, *member),
+        [member, ..] => voted_origins(alloc, said, epoch, tx, *member),
     }
 }
 
@@ -129,10 +131,11 @@ pub fn certify<S: MakesSeals>(
     members: &[u32],
 ) -> Result<Certificate, OutOfMemory>
     requires { tx_codecs.signed.short made.now.signed }
-    ensures cert { IfOk result (λ cert. cert ≡ certificate_by (S.made sealer.now) (made_as made.now) (first_origins_by said.now made.now.digest members.now) members.now) }
+    ensures cert { IfOk result (λ cert. cert ≡ certificate_by (S.made sealer.now) (made_as made.now) (first_origins_by said.now made.now.signed.tx.epoch made.now.digest members.now) members.now) }
     ensures short { IfOk result (λ cert. codecs.certificate.short cert) }
 {
-    let origins = first_origins(alloc, said, &made.digest, members)?;
+    let epoch = made.signed.value().tx.epoch;
+    let origins = first_origins(alloc, said, epoch, &made.digest, members)?;
     if origins.len() > LONGEST_LIST || members.len() as u64 > LONGEST_LIST {
         return Err(OutOfMemory);
     }

@@ -165,20 +165,20 @@ impl SaidBook {
         Ok(())
     }
 
-    /// The origins of the last vote for a transaction of the member of this number. Takes no memory.
-    fn vote_of(&self, member: u64, tx: &Digest) -> Option<&Seq<Option<Digest>>>
-        ensures { option_copied result ≡ vote_by self.now tx.now member }
+    /// The origins of the last vote for a transaction of an epoch of the member of this number. Takes no memory.
+    fn vote_of(&self, member: u64, epoch: u64, tx: &Digest) -> Option<&Seq<Option<Digest>>>
+        ensures { option_copied result ≡ vote_by self.now epoch tx.now member }
     {
-        let place = self.places.vote(member, tx);
+        let place = self.places.vote(member, epoch, tx);
         origins_at(self.rows.as_slice(), place)
     }
 
-    /// The origins of the member's last vote for the transaction; none exactly if it stated no such vote. Takes no
-    /// memory.
-    pub fn last_vote(&self, member: u32, tx: &Digest) -> Option<&Seq<Option<Digest>>>
-        ensures { option_copied result ≡ vote_by self.now tx.now member }
+    /// The origins of the member's last vote for the transaction of the epoch; none exactly if it stated no such vote.
+    /// Takes no memory.
+    pub fn last_vote(&self, member: u32, epoch: u64, tx: &Digest) -> Option<&Seq<Option<Digest>>>
+        ensures { option_copied result ≡ vote_by self.now epoch tx.now member }
     {
-        self.vote_of(member as u64, tx)
+        self.vote_of(member as u64, epoch, tx)
     }
 
     /// The epoch of the member's last End; none exactly if it stated none. Takes no memory.
@@ -198,25 +198,36 @@ impl SaidBook {
         effects_at(self.rows.as_slice(), place)
     }
 
-    /// The origins of the member's last vote for the transaction, if it is honest. Takes no memory.
-    fn vote_if(&self, member: u64, honest: bool, tx: &Digest) -> Option<&Seq<Option<Digest>>>
-        ensures { option_copied result ≡ vote_if self.now tx.now (member, honest) }
+    /// The origins of the member's last vote for the transaction of the epoch, if it is honest. Takes no memory.
+    fn vote_if(
+        &self,
+        member: u64,
+        honest: bool,
+        epoch: u64,
+        tx: &Digest,
+    ) -> Option<&Seq<Option<Digest>>>
+        ensures { option_copied result ≡ vote_if self.now epoch tx.now (member, honest) }
     {
         if honest {
-            return self.vote_of(member, tx);
+            return self.vote_of(member, epoch, tx);
         }
         None
     }
 
-    /// The origins of the last vote of the lowest-numbered honest member that has one, if a flag says of each
-    /// member, from 0, whether it is honest; none exactly if none has one. Takes no memory.
-    pub fn first_vote(&self, honest: &[bool], tx: &Digest) -> Option<&Seq<Option<Digest>>>
-        ensures { option_copied result ≡ first_vote self.now tx.now honest.now }
+    /// The origins of the last vote for the transaction of the epoch of the lowest-numbered honest member that has
+    /// one, if a flag says of each member, from 0, whether it is honest; none exactly if none has one. Takes no memory.
+    pub fn first_vote(
+        &self,
+        honest: &[bool],
+        epoch: u64,
+        tx: &Digest,
+    ) -> Option<&Seq<Option<Digest>>>
+        ensures { option_copied result ≡ first_vote self.now epoch tx.now honest.now }
     {
         let mut rest = honest;
         let mut member = 0;
         while let [flag, after @ ..] = rest {
-            let vote = self.vote_if(member, *flag, tx);
+            let vote = self.vote_if(member, *flag, epoch, tx);
             if vote.is_some() {
                 return vote;
             }

@@ -19,8 +19,8 @@ ghost use Rattle.world_lines.specs.SaidVotes.{first_vote, flags_of};
 /// collecting votes and acknowledgements gives, the last certificate of a name, and the certificate of votes are the
 /// definition's.
 pub fn said_in_a_world()
-    ensures first { (w : World) (tx : Digest) → first_of (honest_vote w tx) (enumerate_from 0 w.seats) ≡ first_vote w.said tx (flags_of w.seats) }
-    ensures votes { (s : Setting) (w : World) (tx : Digest) (ms : List ℕ) → votes_collected s w tx ms ≡ collected origins_eq s.rules.stakes (λ m. last_said (vote_in tx) m w.said) ms }
+    ensures first { (w : World) (t : Made) → first_of (honest_vote w t) (enumerate_from 0 w.seats) ≡ first_vote w.said t.signed.tx.epoch t.digest (flags_of w.seats) }
+    ensures votes { (s : Setting) (w : World) (t : Made) (ms : List ℕ) → votes_collected s w t ms ≡ collected origins_eq s.rules.stakes (λ m. last_said (vote_in t.signed.tx.epoch t.digest) m w.said) ms }
     ensures acks { (s : Setting) (w : World) (t : Made) (ms : List ℕ) → acks_collected s w t ms ≡ collected digest_eq s.rules.stakes (λ m. last_said (ack_in t.signed.tx.epoch t.digest) m w.said) ms }
     ensures named { (w : World) (name : Name) → cert_named w name ≡ option_map cert_in (last_where (λ (f : Formed). bytes_eq f.name name) w.certs) }
     ensures cert { (s : Setting) (t : Made) (origins : List (Option Digest)) (ms : List ℕ) → certificate_of s t origins ms ≡ certificate_by s.seal t origins ms }

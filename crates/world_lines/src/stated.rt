@@ -12,10 +12,11 @@ use std::alloc::Global;
 use std::hash::Hash;
 use wire_bcs::OutOfMemory;
 
-/// A member, and a transaction that it voted for.
+/// A member, and a transaction of an epoch that it voted for.
 #[derive(Clone, Copy, Debug, PartialEq, Eq, Hash)]
 pub(crate) struct VoteKey {
     member: u64,
+    epoch: u64,
     tx: Digest,
 }
 
@@ -96,9 +97,10 @@ impl LastPlaces {
         ensures err { OnErr result (KeepsPlaces self.old self.new) }
     {
         match statement {
-            Statement::Vote { tx, .. } => {
+            Statement::Vote { epoch, tx, .. } => {
                 let key = VoteKey {
                     member: member as u64,
+                    epoch: *epoch,
                     tx: *tx,
                 };
                 put_vote(&mut self.votes, key, place)
@@ -116,11 +118,15 @@ impl LastPlaces {
         }
     }
 
-    /// The place of the member's last vote for the transaction. Takes no memory.
-    pub(crate) fn vote(&self, member: u64, tx: &Digest) -> Option<usize>
-        ensures { result ≡ lookup (vote_key_eq (vote_key member tx.now)) self.now.votes.entries }
+    /// The place of the member's last vote for the transaction of the epoch. Takes no memory.
+    pub(crate) fn vote(&self, member: u64, epoch: u64, tx: &Digest) -> Option<usize>
+        ensures { result ≡ lookup (vote_key_eq (vote_key member epoch tx.now)) self.now.votes.entries }
     {
-        let key = VoteKey { member, tx: *tx };
+        let key = VoteKey {
+            member,
+            epoch,
+            tx: *tx,
+        };
         self.votes.get(&key).copied()
     }
 

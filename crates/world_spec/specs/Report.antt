@@ -157,7 +157,7 @@ cert_collected ms whole = cert_text.Formed ms
 
 abbrev pub cert_lines : {S : Type 0} → Setting → WorldOf S → Name → List ℕ → Option Made → List Line
 cert_lines s w tx ms None = line.Cert tx (cert_text.NoVote 0) ∷ []
-cert_lines s w tx ms (Some t) = line.Cert tx (cert_collected ms (votes_collected s w t.digest ms)) ∷ []
+cert_lines s w tx ms (Some t) = line.Cert tx (cert_collected ms (votes_collected s w t ms)) ∷ []
 
 abbrev pub final_collected : List ℕ → Collected → FinalText
 final_collected ms (lacks m) = final_text.NoAck m

@@ -31,12 +31,12 @@ use Rattle.world_spec.specs.Making.{made_over, digest_named, spoiled_if, digest_
 
 -- ---- statements
 
--- a vote for a transaction, an End, an acknowledgement of a transaction in an epoch
-abbrev pub vote_in : Digest → Statement → Option (List (Option Digest))
-vote_in tx (statement.Vote epoch t origins) = where_true (digest_eq t tx) origins
-vote_in tx (statement.End epoch) = None
-vote_in tx (statement.Checkpoint epoch number digest) = None
-vote_in tx (statement.Ack epoch t effects) = None
+-- a vote for a transaction of an epoch, an End, an acknowledgement of a transaction in an epoch
+abbrev pub vote_in : ℕ → Digest → Statement → Option (List (Option Digest))
+vote_in epoch tx (statement.Vote e t origins) = where_true ((e == epoch) && digest_eq t tx) origins
+vote_in epoch tx (statement.End e) = None
+vote_in epoch tx (statement.Checkpoint e number digest) = None
+vote_in epoch tx (statement.Ack e t effects) = None
 
 abbrev pub end_in : Statement → Option ℕ
 end_in (statement.Vote epoch t origins) = None
@@ -75,15 +75,15 @@ origins_or none None = none
 origins_or none (Some origins) = origins
 
 -- the last vote of the lowest-numbered honest member that has one
-abbrev pub vote_by : {S : Type 0} → (S → Bool) → WorldOf S → Digest → (ℕ × S) → Option (List (Option Digest))
-vote_by honest w tx seat = if honest seat.1 then last_said (vote_in tx) seat.0 w.said else None
+abbrev pub vote_by : {S : Type 0} → (S → Bool) → WorldOf S → Made → (ℕ × S) → Option (List (Option Digest))
+vote_by honest w t seat = if honest seat.1 then last_said (vote_in t.signed.tx.epoch t.digest) seat.0 w.said else None
 
-abbrev pub honest_vote : World → Digest → (ℕ × Seat) → Option (List (Option Digest))
-honest_vote w tx seat = vote_by seat_honest w tx seat
+abbrev pub honest_vote : World → Made → (ℕ × Seat) → Option (List (Option Digest))
+honest_vote w t seat = vote_by seat_honest w t seat
 
 -- the named origins, and if none are named those of an honest member's vote, else none for each object
 abbrev pub origins_by : {S : Type 0} → (S → Bool) → WorldOf S → Made → List (Option Name) → List (Option Digest)
-origins_by honest w t [] = origins_or (no_origins t.signed.tx) (first_of (vote_by honest w t.digest) (enumerate_from 0 w.seats))
+origins_by honest w t [] = origins_or (no_origins t.signed.tx) (first_of (vote_by honest w t) (enumerate_from 0 w.seats))
 origins_by honest w t (word ∷ words) = map (origin_word w) (word ∷ words)
 
 abbrev pub fvote_origins : World → Made → List (Option Name) → List (Option Digest)
@@ -99,20 +99,21 @@ fvoted w m words t = fvoted_by seat_honest w m words t
 -- ---- cert
 
 -- what collecting the votes for a transaction gives
-unfoldable pub votes_collected : {S : Type 0} → Setting → WorldOf S → Digest → List ℕ → Collected
-votes_collected s w tx ms = collected origins_eq s.rules.stakes (λ m. last_said (vote_in tx) m w.said) ms
+unfoldable pub votes_collected : {S : Type 0} → Setting → WorldOf S → Made → List ℕ → Collected
+votes_collected s w t ms = collected origins_eq s.rules.stakes (λ m. last_said (vote_in t.signed.tx.epoch t.digest) m w.said) ms
 
-abbrev pub first_origins : {S : Type 0} → WorldOf S → Digest → List ℕ → List (Option Digest)
-first_origins w tx [] = []
-first_origins w tx (m ∷ ms) = list_or_none (last_said (vote_in tx) m w.said)
+abbrev pub first_origins : {S : Type 0} → WorldOf S → Made → List ℕ → List (Option Digest)
+first_origins w t [] = []
+first_origins w t (m ∷ ms) = list_or_none (last_said (vote_in t.signed.tx.epoch t.digest) m w.said)
 
 abbrev pub vote_statement : Transaction → Digest → List (Option Digest) → Statement
 vote_statement t tx origins = statement.Vote t.epoch tx origins
 
+-- a member's seal on what it stated
 abbrev pub sealed_by : Setting → Statement → ℕ → MemberSeal
 sealed_by s st m = record { member = m; seal = member_seal s m st }
 
--- the certificate of these members' votes
+-- the certificate of these members' votes, which are all one statement, with the seal that each of them made on it
 abbrev pub certificate_of : Setting → Made → List (Option Digest) → List ℕ → Certificate
 certificate_of s t origins ms = record { tx = t.signed.tx; origins = origins; seals = map (sealed_by s (vote_statement t.signed.tx t.digest origins)) ms }
 
@@ -120,11 +121,11 @@ abbrev pub formed_as : {S : Type 0} → Setting → WorldOf S → Made → List 
 formed_as s w t ms (lacks m) = w
 formed_as s w t ms (short weight total) = w
 formed_as s w t ms (differ a b) = w
-formed_as s w t ms whole = record w { certs = w.certs ++ record { name = t.name; cert = certificate_of s t (first_origins w t.digest ms) ms } ∷ [] }
+formed_as s w t ms whole = record w { certs = w.certs ++ record { name = t.name; cert = certificate_of s t (first_origins w t ms) ms } ∷ [] }
 
 abbrev pub formed : {S : Type 0} → Setting → WorldOf S → List ℕ → Option Made → WorldOf S
 formed s w ms None = w
-formed s w ms (Some t) = formed_as s w t ms (votes_collected s w t.digest ms)
+formed s w ms (Some t) = formed_as s w t ms (votes_collected s w t ms)
 
 -- ---- order
 

@@ -8,7 +8,7 @@ use Rattle.world_lines.proofs.said.SaidBook.first_vote.Given as goal
 abbrev pub invariant-loop-rest : goal.invariant-loop-rest
 invariant-loop-rest l = record {
   length : l.member + length l.rest ≡ length l.honest;
-  same : first_of (vote_if l.self l.tx) (enumerate_from l.member l.rest) ≡ first_vote l.self l.tx l.honest;
+  same : first_of (vote_if l.self l.epoch l.tx) (enumerate_from l.member l.rest) ≡ first_vote l.self l.epoch l.tx l.honest;
 }
 
 abbrev pub decreases-loop-rest : goal.decreases-loop-rest
