@@ -1,5 +1,5 @@
 -- `clap` takes the words of each command, since none of them begins with a dash.
-use Rattle.std.proofs.Common.{◌≡◌, ◌×◌, inl, inr, ◌==◌, ◌&&◌, ℕ, Bool, true, false, List, [], ◌∷◌, length, Option, Some, None, if◌then◌else◌, refl, sym, subst, codes}
+use Rattle.std.proofs.Common.{◌≡◌, inl, inr, ◌==◌, ◌&&◌, ℕ, Bool, true, false, List, [], ◌∷◌, length, Option, Some, None, if◌then◌else◌, refl, sym, subst, arith, codes}
 use Rattle.std.specs.Prelude.{bytes_eq, cond, is_some, option_and_then, option_map}
 use Rattle.std.specs.List.{list_all, onto_first, slice_split}
 use Rattle.std.proofs.lemmas.Bool.{and_parts, ne_eqb}
@@ -11,11 +11,11 @@ use Rattle.clap.specs.declared.error.kind.ErrorKind.TheVariants as kind
 use Rattle.clap.proofs.OnLiterals.{clap_on_literals}
 use Rattle.digest_core.specs.declared.Digest.{Digest}
 use Rattle.protocol_spec.specs.Chain.Words.{first_some}
-use Rattle.schedule_text.specs.Bytes.{each_of, has_leading_zero, is_digit, is_digits, number_in, number_of, value_from, with_both}
+use Rattle.schedule_text.specs.Bytes.{each_of, is_digit, is_digits, number_in, number_of, with_both}
 use Rattle.schedule_text.specs.Inputs.{is_hex_byte}
 use Rattle.command_words.specs.declared.words.Command.{Command}
 use Rattle.command_words.specs.declared.words.Command.TheVariants as command
-use Rattle.command_words.specs.CheckWords.{check_in, check_of, check_words, digest_in, digest_of_bytes, stakes_in}
+use Rattle.command_words.specs.CheckWords.{check_in, check_of, check_words, digest_in, stakes_in}
 use Rattle.command_words.specs.ListWords.{numbers_in, up_to_64}
 use Rattle.command_words.specs.Parsing.{bare, is_taken, of_check, of_one, program, program_top}
 use Rattle.command_words.specs.Words.{command_in, desk_in, follow_in, make_in, replay_in, run_in}
@@ -31,7 +31,7 @@ none_found kinds e = rw e refl
 pub one_found : (kinds : Kinds) (e : Error) → HasKind kinds e → (kind_of e ≡ kind.OutOfMemory → ⊥) → false ≡ is_empty kinds
 one_found [] e (inl memory) other = absurd (other memory)
 one_found [] e (inr among) other = absurd among
-one_found (k ∷ kinds) e has other = refl
+one_found (k ∷ kinds) e has other = sym (ne_eqb (length (k ∷ kinds)) 0 (λ (s : length (k ∷ kinds) ≡ 0). omega (arith, s)))
 
 -- the program grows by a command at a time
 pub grown : (p0 p1 p2 p3 p4 p5 p6 : App) → p0 ≡ program_top → p1 ≡ with_subcommand p0 (bare (codes "run")).top → p2 ≡ with_subcommand p1 (of_one (codes "make") (codes "N")).top → p3 ≡ with_subcommand p2 of_check.top

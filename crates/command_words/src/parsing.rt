@@ -1,6 +1,6 @@
 //! The words as `clap` takes them.
 
-ghost use Rattle.std.specs.Prelude.{◌≡◌, IfOk, codes, is_some, map, true};
+ghost use Rattle.std.specs.Prelude.{◌≡◌, IfOk, codes, false, is_some, map, true};
 ghost use Rattle.std.specs.String.{string_bytes};
 ghost use Rattle.clap.specs.Words.{FailsBy, app_of, fault_of, rule_of, with_subcommand};
 ghost use Rattle.clap.specs.declared.builder.command.Command.TheViews.{out-Command as fields_of};
