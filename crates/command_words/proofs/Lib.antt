@@ -1,2 +1,3 @@
 pub mod ListWords
 pub mod CheckWords
+pub mod Taking

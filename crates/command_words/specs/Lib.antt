@@ -1,3 +1,4 @@
 pub mod ListWords
 pub mod CheckWords
 pub mod Words
+pub mod Parsing

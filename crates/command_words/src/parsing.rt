@@ -1,70 +1,115 @@
 //! The words as `clap` takes them.
 
+ghost use Rattle.std.specs.Prelude.{◌≡◌, IfOk, codes, false, is_some, map, true};
+ghost use Rattle.std.specs.String.{string_bytes};
+ghost use Rattle.clap.specs.Words.{FailsBy, app_of, fault_of, rule_of, with_subcommand};
+ghost use Rattle.clap.specs.declared.builder.command.Command.TheViews.{out-Command as fields_of};
+ghost use Rattle.command_words.specs.Parsing.{bare, is_taken, needed, of_check, of_one, program, program_top};
+ghost use Rattle.command_words.specs.Words.{command_in};
+
+use clap::error::ErrorKind;
 use clap::{Arg, ArgMatches, Command, Error};
 use std::alloc::{AllocError, Global};
 
 /// A command with no flag of clap's own.
-fn bare<'a>(alloc: Global, name: &'a str) -> Command<'a> {
+fn bare<'a>(alloc: Global, name: &'a str) -> Command<'a>
+    ensures app { app_of result ≡ bare name.entry.now }
+    ensures local { (fields_of result).has_globals ≡ false }
+{
     Command::new(alloc, name)
         .disable_help_flag(true)
         .disable_version_flag(true)
         .disable_help_subcommand(true)
 }
 
-/// `make` and its number.
-fn make_command<'a>(alloc: Global) -> Result<Command<'a>, AllocError> {
-    bare(alloc, "make").arg(Arg::new(alloc, "N").required(true))
+/// A word that has to be there.
+fn needed<'a>(alloc: Global, id: &'a str) -> Arg<'a>
+    ensures rule { rule_of result ≡ needed id.entry.now }
+    ensures local { result.global ≡ false }
+{
+    Arg::new(alloc, id).required(true)
+}
+
+/// A command of one word more.
+fn of_one<'a>(alloc: Global, name: &'a str, id: &'a str) -> Result<Command<'a>, AllocError>
+    ensures app { IfOk result (λ c. app_of c ≡ of_one name.entry.now id.entry.now) }
+    ensures local { IfOk result (λ c. (fields_of c).has_globals ≡ false) }
+{
+    bare(alloc, name).arg(needed(alloc, id))
 }
 
 /// `check`, its stakes and its digest.
-fn check_command<'a>(alloc: Global) -> Result<Command<'a>, AllocError> {
-    bare(alloc, "check")
-        .arg(Arg::new(alloc, "STAKES").required(true))?
-        .arg(Arg::new(alloc, "TX").required(true))
+fn of_check<'a>(alloc: Global) -> Result<Command<'a>, AllocError>
+    ensures app { IfOk result (λ c. app_of c ≡ of_check) }
+    ensures local { IfOk result (λ c. (fields_of c).has_globals ≡ false) }
+{
+    of_one(alloc, "check", "STAKES")?.arg(needed(alloc, "TX"))
 }
 
-/// `follow` and its number.
-fn follow_command<'a>(alloc: Global) -> Result<Command<'a>, AllocError> {
-    bare(alloc, "follow").arg(Arg::new(alloc, "M").required(true))
+/// The program with `run`.
+fn with_run<'a>(alloc: Global, program: Command<'a>) -> Result<Command<'a>, AllocError>
+    ensures { IfOk result (λ c. app_of c ≡ with_subcommand (app_of program.entry) (bare (codes "run")).top) }
+{
+    program.subcommand(bare(alloc, "run"))
 }
 
-/// `desk` and its number.
-fn desk_command<'a>(alloc: Global) -> Result<Command<'a>, AllocError> {
-    bare(alloc, "desk").arg(Arg::new(alloc, "N").required(true))
-}
-
-/// `replay` and its number.
-fn replay_command<'a>(alloc: Global) -> Result<Command<'a>, AllocError> {
-    bare(alloc, "replay").arg(Arg::new(alloc, "M").required(true))
-}
-
-/// The program with one more command, if there was memory for both.
-fn with_command<'a>(
+/// The program with a command of one word more.
+fn with_one<'a>(
+    alloc: Global,
     program: Command<'a>,
-    command: Result<Command<'a>, AllocError>,
-) -> Result<Command<'a>, AllocError> {
-    program.subcommand(command?)
+    name: &'a str,
+    id: &'a str,
+) -> Result<Command<'a>, AllocError>
+    ensures { IfOk result (λ c. app_of c ≡ with_subcommand (app_of program.entry) (of_one name.entry.now id.entry.now).top) }
+{
+    program.subcommand(of_one(alloc, name, id)?)
+}
+
+/// The program with `check`.
+fn with_check<'a>(alloc: Global, program: Command<'a>) -> Result<Command<'a>, AllocError>
+    ensures { IfOk result (λ c. app_of c ≡ with_subcommand (app_of program.entry) of_check.top) }
+{
+    program.subcommand(of_check(alloc)?)
+}
+
+/// The program before it has commands.
+fn program_top<'a>(alloc: Global) -> Command<'a>
+    ensures { app_of result ≡ program_top }
+{
+    bare(alloc, "committee")
+        .no_binary_name(true)
+        .subcommand_required(true)
 }
 
 /// The program with its commands, each a subcommand of one level.
-fn program<'a>(alloc: Global) -> Result<Command<'a>, AllocError> {
-    let program = bare(alloc, "committee")
-        .no_binary_name(true)
-        .subcommand_required(true)
-        .subcommand(bare(alloc, "run"))?;
-    let program = with_command(program, make_command(alloc))?;
-    let program = with_command(program, check_command(alloc))?;
-    let program = with_command(program, follow_command(alloc))?;
-    let program = with_command(program, desk_command(alloc))?;
-    with_command(program, replay_command(alloc))
+fn program<'a>(alloc: Global) -> Result<Command<'a>, AllocError>
+    ensures { IfOk result (λ c. app_of c ≡ program) }
+{
+    let program = with_run(alloc, program_top(alloc))?;
+    let program = with_one(alloc, program, "make", "N")?;
+    let program = with_check(alloc, program)?;
+    let program = with_one(alloc, program, "follow", "M")?;
+    let program = with_one(alloc, program, "desk", "N")?;
+    with_one(alloc, program, "replay", "M")
 }
 
-fn parsed<'a>(alloc: Global, words: &'a [String]) -> Result<ArgMatches<'a>, Error> {
+/// What clap makes of the words.
+fn parsed<'a>(alloc: Global, words: &'a [String]) -> Result<ArgMatches<'a>, Error>
+    ensures { FailsBy (fault_of program (map string_bytes words.entry.now)) result }
+{
     program(alloc)?.try_get_matches_from(words)
 }
 
-/// Whether clap takes the words. Nothing rests on what it takes: which words are a command is decided by
-/// [`crate::command_of`] only, and clap refuses those if out of memory.
-pub fn is_parsed(alloc: Global, words: &[String]) -> bool {
-    parsed(alloc, words).is_ok()
+/// Whether clap takes the words, as it does all that are a command. Fails only if out of memory.
+pub fn is_parsed(alloc: Global, words: &[String]) -> Result<bool, AllocError>
+    ensures exact { IfOk result (λ yes. yes ≡ is_taken (map string_bytes words.now)) }
+    ensures command { is_some (command_in (map string_bytes words.now)) ≡ true → IfOk result (λ yes. yes ≡ true) }
+{
+    match parsed(alloc, words) {
+        Ok(_) => Ok(true),
+        Err(error) => match error.kind() {
+            ErrorKind::OutOfMemory => Err(AllocError),
+            _ => Ok(false),
+        },
+    }
 }

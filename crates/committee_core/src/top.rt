@@ -142,7 +142,7 @@ pub fn committee<R: Threads + Wait + Sync, S: Source, K: Sink, D: Keeper>(
         return 2;
     };
     generated_text_is_a_schedule();
-    if !is_parsed(alloc, words) {
+    if is_parsed(alloc, words).is_err() {
         return 7;
     }
     obey(rt, alloc, command, source, sink, keeper)
