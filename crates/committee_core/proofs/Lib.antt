@@ -15,4 +15,5 @@ pub mod Obeying
 pub mod Replays
 pub mod Voting
 pub mod InFiles
+pub mod Through
 pub mod Caught
