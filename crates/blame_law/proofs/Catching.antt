@@ -10,17 +10,19 @@ use Rattle.checkpoint_core.specs.declared.checkpoints.Checkpoint.{Checkpoint}
 use Rattle.checkpoint_core.specs.declared.checkpoints.Item.{Item}
 use Rattle.answer_types.specs.declared.answers.Held.{Held}
 use Rattle.schedule_text.specs.declared.words.Event.{Event}
+use Rattle.schedule_text.specs.declared.words.Setup.{Setup}
 use Rattle.protocol_spec.specs.Chain.Words.{Each, Has}
 use Rattle.protocol_spec.specs.Member.Checkpoints.{chained, checkpoint_behind, is_done}
 use Rattle.protocol_spec.specs.Member.Sequence.{Cut}
 use Rattle.protocol_spec.specs.Member.Versions.{Execution}
 use Rattle.protocol_spec.specs.Member.Member.{Member, built}
-use Rattle.world_spec.specs.Setting.{Setting}
+use Rattle.world_spec.specs.Setting.{Setting, Trust, setting_of}
 use Rattle.world_spec.specs.World.{Seat, member_in}
 use Rattle.world_spec.specs.Run.{world_after}
 use Rattle.world_spec.specs.Assumptions.{IsHonestRun, all_transactions}
 use Rattle.sequence_law.specs.Orderly.{AreApart}
 use Rattle.agreement_law.proofs.Same.{of-run}
+use Rattle.agreement_law.proofs.SetUp.{set-up-apart}
 use Rattle.headline_law.proofs.Along.{past-before}
 use Rattle.follower_core.specs.Catching.{applied_unless, applied_with, before_epoch, caught_from, caught_up, found_from, with_found}
 use Rattle.follower_core.specs.Followed.{Handed}
@@ -128,3 +130,7 @@ followers-come-through s events run_is distinct made m seat at =
           ∙ caught s events made here.past.handed (opened s.opening) here.past.each here.past.applied;
       objects = ap (λ c. c.map) here.course;
     }
+
+pub come-through-in-schedules : (trust : Trust) (lines : List Setup) (events : List Event) → IsHonestRun (setting_of trust lines) events → AllMade (setting_of trust lines) events
+    → (m : ℕ) (seat : Seat) → slice_get (world_after (setting_of trust lines) events).seats m ≡ Some seat → ComesThrough (setting_of trust lines) events (member_in (setting_of trust lines) seat)
+come-through-in-schedules trust lines events run_is = followers-come-through (setting_of trust lines) events run_is (set-up-apart trust lines)

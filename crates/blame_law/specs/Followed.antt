@@ -140,3 +140,8 @@ pub record ComesThrough (s : Setting) (events : List Event) (m : Member) : Type 
 abbrev pub FollowersComeThrough : Type 0
 FollowersComeThrough = (s : Setting) (events : List Event) → IsHonestRun s events → AreApart s.opening → AllMade s events
     → (m : ℕ) (seat : Seat) → slice_get (world_after s events).seats m ≡ Some seat → ComesThrough s events (member_in s seat)
+
+-- and in every run of every schedule
+abbrev pub ComeThroughInSchedules : Type 0
+ComeThroughInSchedules = (trust : Trust) (lines : List Setup) (events : List Event) → IsHonestRun (setting_of trust lines) events → AllMade (setting_of trust lines) events
+    → (m : ℕ) (seat : Seat) → slice_get (world_after (setting_of trust lines) events).seats m ≡ Some seat → ComesThrough (setting_of trust lines) events (member_in (setting_of trust lines) seat)

@@ -1,5 +1,5 @@
 //! What a follower makes of the checkpoints that honest members have built.
-ghost use Rattle.blame_law.specs.Followed.{CanBeFollowedInSchedules, FollowedInSchedules, FollowersComeThrough, FollowersOpenAlike, FollowersStandAtOpenings, HonestCheckpointsAreFollowed, HonestCheckpointsCanBeFollowed, HonestCheckpointsWantOnlyMemory, LookedUpIsHanded, OnlyMemoryInSchedules, OpenedAlikeInSchedules, StandInSchedules};
+ghost use Rattle.blame_law.specs.Followed.{CanBeFollowedInSchedules, ComeThroughInSchedules, FollowedInSchedules, FollowersComeThrough, FollowersOpenAlike, FollowersStandAtOpenings, HonestCheckpointsAreFollowed, HonestCheckpointsCanBeFollowed, HonestCheckpointsWantOnlyMemory, LookedUpIsHanded, OnlyMemoryInSchedules, OpenedAlikeInSchedules, StandInSchedules};
 
 /// Under the run assumptions a follower that opened with the objects of the set-up applies the checkpoints that a member
 /// has built, each handed in with the transactions of the run that have its items' digests; so it refuses one only if it runs out of
@@ -41,4 +41,9 @@ pub fn looked_up_is_handed()
 /// with which the member opened its epoch.
 pub fn followers_come_through()
     ensures { FollowersComeThrough }
+{}
+
+/// And so it is in every run of every schedule.
+pub fn followers_come_through_in_schedules()
+    ensures { ComeThroughInSchedules }
 {}

@@ -10,9 +10,9 @@ ghost use Rattle.blame_law.specs.Blame.{NoneIsHonest, TheyHaveMoreThanAThird};
 
 pub use chains::{certified_agrees, certified_agrees_in_schedules, certified_is_built};
 pub use followers::{
-    followers_come_through, followers_open_alike, followers_open_alike_in_schedules,
-    honest_checkpoints_are_followed, honest_checkpoints_are_followed_in_schedules,
-    looked_up_is_handed,
+    followers_come_through, followers_come_through_in_schedules, followers_open_alike,
+    followers_open_alike_in_schedules, honest_checkpoints_are_followed,
+    honest_checkpoints_are_followed_in_schedules, looked_up_is_handed,
 };
 
 /// If no statement is forged and no digests of transactions collide, no honest member is blamed for two certified

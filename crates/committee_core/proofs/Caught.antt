@@ -28,13 +28,14 @@ use Rattle.follower_core.specs.Following.{State, applied_in, opened}
 use Rattle.blame_law.specs.Followed.{made_as}
 use Rattle.committee_core.specs.declared.verdict.Verdict.{Verdict}
 use Rattle.committee_core.specs.declared.verdict.Verdict.TheVariants as verdict
-use Rattle.committee_core.specs.Follow.{Asked, ComesTo, Finds, FrontOf, IsEqual, IsVerdict, IsVerdictFrom, LeavesObjects, FollowsBad, FollowsFront, asked_at, asked_in, asked_up, follower_of, state_in, unrefused, unrun, verdict_words}
+use Rattle.committee_core.specs.Follow.{Asked, ComesTo, Finds, FrontOf, IsEqual, IsVerdict, IsVerdictBehind, IsVerdictFrom, LeavesObjects, FollowsBad, FollowsFront, asked_at, asked_in, asked_up, follower_of, state_in, unrefused, unrun, verdict_words}
 use Rattle.committee_core.specs.Headline.{program_trust}
-use Rattle.committee_core.specs.Journals.{KeepsFronts}
+use Rattle.committee_core.specs.Journals.{KeepsFronts, ReadsBack}
 use Rattle.committee_core.specs.Report.{refusal_text, setting_in}
 use Rattle.committee_core.specs.Ways.{MeetsBadRecord, RunsCut, RunsSilently, TextCut}
 use Rattle.committee_core.proofs.Ended.{holds_along}
 use Rattle.committee_core.proofs.Made.{whole_fronts}
+use Rattle.committee_core.proofs.Through.{through}
 
 -- ---- a member that is honest and up
 
@@ -102,10 +103,14 @@ unfolding Sees
 found text m kept kept' sc v runs sees = record {
   schedule = runs.schedule;
   is = runs.is;
-  true_of = λ back. shown (setting_in program_trust runs.schedule) (world_after (setting_in program_trust runs.schedule) runs.schedule.events) m v program_trust sc (runs.shows back) sees;
+  true_of = true-of;
+  through = λ back run_is made. through runs.schedule run_is made m v (true-of back);
   journals = runs.journals;
   holds = holds_along text runs.schedule runs.is;
 }
+  where
+    true-of : ReadsBack kept runs.schedule.events → IsVerdictBehind runs.schedule m v
+    true-of back = shown (setting_in program_trust runs.schedule) (world_after (setting_in program_trust runs.schedule) runs.schedule.events) m v program_trust sc (runs.shows back) sees
 
 pub found_if : (text : List ℕ) (m : ℕ) (kept kept' : Option Journals) (sc : Scene) (r : Result Verdict OutOfMemory) → RunsSilently program_trust text kept kept' sc
     → IfOk r (IsVerdict (transaction_of sc.known) sc.opening (asked_at (slice_get sc.posts m))) → IfOk r (Finds text m kept kept')

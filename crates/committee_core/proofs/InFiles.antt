@@ -154,7 +154,6 @@ module _ (words : List (List ℕ)) (old told told' : Option History) (end : ℕ)
   pub called : Opened old told end most_members → lists ≡ kept_in old → first ≤ faults → MayRun words told end → EndsOver (command_in words) told' AtLog Last status → EndsInFile words old told' First Last status
   called opened same later may over = inr (record {
     opened = faults;
-    width = over.width;
     lists = over.lists;
     later = later;
     members = all-members words old told end opened;

@@ -14,5 +14,7 @@ pub mod Usage
 pub mod Obeying
 pub mod Replays
 pub mod Voting
+pub mod Calling
 pub mod InFiles
+pub mod Through
 pub mod Caught

@@ -14,6 +14,7 @@ use Rattle.world_spec.specs.Setting.{Setting}
 use Rattle.world_spec.specs.World as worlds
 use Rattle.world_spec.specs.World.{World, is_honest, member_in}
 use Rattle.world_spec.specs.Run.{world_after}
+use Rattle.world_spec.specs.Assumptions.{IsHonestRun}
 use Rattle.scene_spec.specs.Posts.{Post}
 use Rattle.scene_spec.specs.Seats.{Seated}
 use Rattle.validator_core.specs.Opened.{opening_objects}
@@ -22,7 +23,7 @@ use Rattle.follower_core.specs.declared.catching.CatchUpRefusal.{CatchUpRefusal}
 use Rattle.follower_core.specs.declared.catching.CatchUpRefusal.TheVariants as stopped
 use Rattle.follower_core.specs.Catching.{Known, before_epoch, caught_up}
 use Rattle.follower_core.specs.Following.{State, applied_in, opened}
-use Rattle.blame_law.specs.Followed.{made_as}
+use Rattle.blame_law.specs.Followed.{AllMade, made_as}
 use Rattle.committee_core.specs.declared.verdict.Verdict.{Verdict}
 use Rattle.committee_core.specs.declared.verdict.Verdict.TheVariants as verdict
 use Rattle.committee_core.specs.Headline.{HoldsAlong, IsRefused, program_trust}
@@ -99,6 +100,15 @@ verdict_words (verdict.Equal checkpoints epoch objects) = codes "equal checkpoin
 abbrev pub verdict_text : ℕ → Verdict → List ℕ
 verdict_text m v = codes "follow " ++ decimal m ++ codes ": " ++ verdict_words v ++ 10 ∷ []
 
+-- the follower took all and has the member's objects, or no follower was asked for
+abbrev pub IsThrough : Verdict → Type 0
+IsThrough verdict.NoHonest = Unit {0}
+IsThrough verdict.Down = Unit {0}
+IsThrough (verdict.Stuck number place) = ⊥
+IsThrough (verdict.Differs number place) = ⊥
+IsThrough verdict.Unequal = ⊥
+IsThrough (verdict.Equal checkpoints epoch objects) = Unit {0}
+
 -- ---- by what the code sees of a member
 
 abbrev pub asked_at : Option Post → Asked
@@ -126,12 +136,17 @@ IsVerdictBehind s m v =
     let w : World = world_after at s.events in
     IsVerdict (made_as w) at.opening (asked_in at w m) v
 
+-- under the run assumptions, if lines made all transactions of the run, no follower is stuck, and none differs from a member
+abbrev pub ComesThrough : Schedule → Verdict → Type 0
+ComesThrough s v = IsHonestRun (setting_in program_trust s) s.events → AllMade (setting_in program_trust s) s.events → IsThrough v
+
 -- the text is a schedule whose events all ran, with this verdict after them if what is read back is what was appended; its
 -- journals were kept, and the headline holds at each moment
 pub record Finds (text : List ℕ) (m : ℕ) (kept kept' : Option Journals) (v : Verdict) : Type 0 where
   pub schedule : Schedule
   pub is : schedule_of text ≡ Ok schedule
   pub true_of : ReadsBack kept schedule.events → IsVerdictBehind schedule m v
+  pub through : ReadsBack kept schedule.events → ComesThrough schedule v
   pub journals : KeepsRun program_trust schedule kept kept'
   pub holds : HoldsAlong schedule
 

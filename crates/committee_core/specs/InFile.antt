@@ -3,9 +3,9 @@ use Rattle.std.specs.Prelude.{◌≡◌, ◌⊎◌, ℕ, ◌≤◌, true, false,
 use Rattle.std.specs.Io.KnownBytes.{Appends, Keeps}
 use Rattle.outside.specs.Causes.{Rose}
 use Rattle.outside.specs.Lists.{Journals}
-use Rattle.disk_log.specs.Disk.{History, IfTold}
-use Rattle.disk_log.specs.Records.{bad_member, counted, records_to}
-use Rattle.disk_log.specs.Running.{HoldsLists, Unchanged, lists_in}
+use Rattle.disk_log.specs.Disk.{History, IfTold, IsImage}
+use Rattle.disk_log.specs.Records.{Record, bad_member, counted, journals_of, records_to}
+use Rattle.disk_log.specs.Running.{Unchanged, lists_in}
 use Rattle.disk_log.specs.declared.refusals.OpenRefusal.{OpenRefusal}
 use Rattle.disk_log.specs.declared.refusals.OpenRefusal.TheVariants as open_refusal
 use Rattle.command_words.specs.declared.words.Command.{Command}
@@ -44,6 +44,24 @@ IsBadMember (open_refusal.BadMember at) P = P at
 IsBadMember open_refusal.DiskFault P = ⊥
 IsBadMember open_refusal.OutOfMemory P = ⊥
 
+-- ---- what a call leaves in the file
+
+-- the records that count in a file are these, or, only if the disk's count of faults rose since the log was opened, these and one
+-- more; each is of a member below 64
+pub record IsOfCall (opened faults : ℕ) (records : List Record) (file : List ℕ) : Type 0 where
+  pub counts : (counted file ≡ records) ⊎ (Rose opened faults × (more : Record) × (counted file ≡ records ++ more ∷ []))
+  pub members : bad_member most_members 0 (counted file) ≡ None
+
+-- so it is in each file that a crash may leave now
+abbrev pub LeavesOfCall : ℕ → ℕ → List Record → History → Type 0
+LeavesOfCall opened faults records h = (image : List ℕ) → IsImage h.now image → IsOfCall opened faults records image
+
+-- a disk that shows its bytes holds these lists, in what reads give and in what a crash may leave; one that does not shows none
+abbrev pub HoldsOfCall : ℕ → ℕ → Option History → Option Journals → Type 0
+HoldsOfCall opened faults None lists = lists ≡ None
+HoldsOfCall opened faults (Some h) lists =
+    (records : List Record) × (lists ≡ Some (journals_of most_members records)) × IsOfCall opened faults records h.now.reads × LeavesOfCall opened faults records h
+
 -- ---- over an open log, whose gate stands at `end`
 
 -- the records before the gate are refused, since the words do not replay
@@ -60,10 +78,9 @@ pub record IsFull (words : List (List ℕ)) (told told' : Option History) (end :
 
 -- the command ended, and the disk holds the lists that it left
 pub record EndsOver (command : Option Command) (told' : Option History) (before now : Outside) (status : ℕ) : Type 0 where
-  pub width : ℕ
   pub lists : Option Journals
   pub ends : Ends command before (record now { kept = lists }) status
-  pub holds : HoldsLists width now.keep_faults told' lists
+  pub holds : HoldsOfCall before.keep_faults now.keep_faults told' lists
 
 -- the words may run over the records before the gate
 abbrev pub MayRun : List (List ℕ) → Option History → ℕ → Type 0
@@ -91,13 +108,12 @@ pub record IsUncalled (words : List (List ℕ)) (told told' : Option History) (b
 -- the disk gave, and those after it are what the disk holds. Its count of faults is the disk's, since the log was opened.
 pub record IsCalled (words : List (List ℕ)) (told told' : Option History) (before now : Outside) (status : ℕ) : Type 0 where
   pub opened : ℕ
-  pub width : ℕ
   pub lists : Option Journals
   pub later : before.keep_faults ≤ opened
   pub members : AreOfMembers told
   pub fits : (names_replay words ≡ true) ⊎ IfTold told (λ h. counted h.now.reads ≡ [])
   pub ends : Ends (command_in words) (record before { keep_faults = opened }) (record now { kept = lists }) status
-  pub holds : HoldsLists width now.keep_faults told' lists
+  pub holds : HoldsOfCall opened now.keep_faults told' lists
 
 abbrev pub EndsInFile : List (List ℕ) → Option History → Option History → Outside → Outside → ℕ → Type 0
 EndsInFile words told told' before now status = IsUncalled words told told' before now status ⊎ IsCalled words told told' before now status

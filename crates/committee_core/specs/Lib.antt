@@ -12,3 +12,4 @@ pub mod Agreement
 pub mod Replay
 pub mod Desk
 pub mod InFile
+pub mod Calling

@@ -7,19 +7,22 @@ ghost use Rattle.outside.specs.Causes.{Rose};
 ghost use Rattle.outside.specs.declared.faults.OutFault.TheVariants as out_fault;
 ghost use Rattle.disk_log.specs.Keeping.{told_lists};
 ghost use Rattle.disk_log.specs.declared.refusals.OpenRefusal.TheVariants as open_refusal;
+ghost use Rattle.committee_core.specs.Calling.{IsCalling};
 ghost use Rattle.committee_core.specs.Endings.{BeginsEmpty};
-ghost use Rattle.committee_core.specs.InFile.{EndsInFile, EndsOver, EndsOverLog, IsBadMember, bad_member_text, kept_in, most_members, not_empty_text};
+ghost use Rattle.committee_core.specs.InFile.{EndsInFile, EndsOver, EndsOverLog, IsBadMember, bad_member_text, kept_in, not_empty_text};
 ghost use Rattle.committee_core.specs.Outside.{outside};
 ghost use Rattle.outside.specs.Streams.{AppendsFront};
 ghost use Rattle.command_words.specs.Words.{command_in};
 
+use crate::call_log::{CallLog, Opening};
 use crate::keeping::MOST_MEMBERS;
 use crate::saying::text_with_number;
 use crate::top::committee;
 use command_words::names_replay;
-use disk_log::{Disk, OpenRefusal, RunLog};
+use disk_log::{Disk, DiskLog, OpenRefusal};
 use outside::{OutFault, Sink, Source, write_all};
 use std::alloc::Global;
+use std::marker::Brand;
 use std::sync::Wait;
 use std::thread::Threads;
 use wire_bcs::{OutOfMemory, Seq};
@@ -105,19 +108,20 @@ fn say_not_empty<K: Sink>(sink: &mut K) -> u8
 }
 
 /// Does what the words say, over an open log. Gives the disk back.
-fn obey_over<R: Threads + Wait + Sync, S: Source, K: Sink, F: Disk>(
+fn obey_over<R: Threads + Wait + Sync, S: Source, K: Sink, F: Disk, O: Opening>(
     rt: &R,
     alloc: Global,
     words: &[String],
     source: &mut S,
     sink: &mut K,
-    log: RunLog<F>,
+    log: DiskLog<F>,
 ) -> (u8, F)
-    requires room { length log.counts ≡ most_members }
+    requires opened { F.failed log.disk ≡ O.faults }
+    requires calling { IsCalling O.faults (F.history log.disk) (F.failed log.disk) log.end (length log.counts) }
     requires empty { BeginsEmpty (command_in (map string_bytes words.now)) (told_lists (F.history log.disk) log.end (length log.counts)) }
     ensures { EndsOver (command_in (map string_bytes words.now)) (F.history result.1) (outside (S.left source.old) (S.faults source.old) (K.held sink.old) (K.faults sink.old) (told_lists (F.history log.disk) log.end (length log.counts)) (F.failed log.disk)) (outside (S.left source.new) (S.faults source.new) (K.held sink.new) (K.faults sink.new) (kept_in (F.history result.1)) (F.failed result.1)) result.0 }
 {
-    let mut log = log;
+    let mut log: CallLog<F, O> = CallLog::new(log);
     let status = committee(rt, alloc, words, source, sink, &mut log);
     (status, log.into_disk())
 }
@@ -131,16 +135,16 @@ fn over_log<R: Threads + Wait + Sync, S: Source, K: Sink, F: Disk>(
     words: &[String],
     source: &mut S,
     sink: &mut K,
-    log: RunLog<F>,
+    log: DiskLog<F>,
 ) -> (u8, F)
-    requires room { length log.counts ≡ most_members }
+    requires calling { IsCalling (F.failed log.disk) (F.history log.disk) (F.failed log.disk) log.end (length log.counts) }
     ensures { EndsOverLog (map string_bytes words.now) (F.history log.disk) (F.history result.1) log.end (outside (S.left source.old) (S.faults source.old) (K.held sink.old) (K.faults sink.old) (told_lists (F.history log.disk) log.end (length log.counts)) (F.failed log.disk)) (outside (S.left source.new) (S.faults source.new) (K.held sink.new) (K.faults sink.new) (kept_in (F.history result.1)) (F.failed result.1)) result.0 }
 {
     if names_replay(words) {
-        return obey_over(rt, alloc, words, source, sink, log);
+        return obey_over::<R, S, K, F, Brand>(rt, alloc, words, source, sink, log);
     }
     if log.is_empty() {
-        return obey_over(rt, alloc, words, source, sink, log);
+        return obey_over::<R, S, K, F, Brand>(rt, alloc, words, source, sink, log);
     }
     let status = say_not_empty(sink);
     (status, log.into_disk())
@@ -160,7 +164,9 @@ fn over_log<R: Threads + Wait + Sync, S: Source, K: Sink, F: Disk>(
 /// Under these the records that count are those of before. Else the status is that of [`committee`],
 /// with all that its clauses say of the keeper's lists and its count of faults said of the lists of
 /// the records that count and of the disk's count. So 6 comes only if the disk's count of faults
-/// rose, or a record read back is bad; a log that has no room answers 7.
+/// rose, or a record read back is bad; a log that has no room answers 7. The file then holds those
+/// records; only if that count rose after the opening, it may hold one more. None is of another member.
+#[tactic(auto, using(crate::proofs::Calling::calling_opened))]
 pub fn committee_in<R: Threads + Wait + Sync, S: Source, K: Sink, F: Disk>(
     rt: &R,
     alloc: Global,
@@ -171,7 +177,7 @@ pub fn committee_in<R: Threads + Wait + Sync, S: Source, K: Sink, F: Disk>(
 ) -> (u8, F)
     ensures { EndsInFile (map string_bytes words.now) (F.history disk) (F.history result.1) (outside (S.left source.old) (S.faults source.old) (K.held sink.old) (K.faults sink.old) (kept_in (F.history disk)) (F.failed disk)) (outside (S.left source.new) (S.faults source.new) (K.held sink.new) (K.faults sink.new) (kept_in (F.history result.1)) (F.failed result.1)) result.0 }
 {
-    match RunLog::open(alloc, disk, MOST_MEMBERS) {
+    match DiskLog::open(alloc, disk, MOST_MEMBERS) {
         Ok(log) => over_log(rt, alloc, words, source, sink, log),
         Err(refused) => unopened(alloc, refused, sink),
     }

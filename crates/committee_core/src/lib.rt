@@ -6,6 +6,7 @@
 #![tactic(auto)]
 
 mod agreement;
+mod call_log;
 mod check;
 mod desk;
 mod event;

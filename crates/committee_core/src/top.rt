@@ -97,6 +97,8 @@ fn obey<R: Threads + Wait + Sync, S: Source, K: Sink, D: Keeper>(
 /// | 7 | if out of memory | as at 5 |
 /// | 8 | if all events ran, and one of these applies | the first that does of `follow M: no honest member`, `follow M: down`, `follow M: stuck N P` and `follow M: differs N P`, with the number of the first checkpoint that is not applied and the place of its first bad transaction, `follow M: unequal`; lists as at 0 |
 ///
+/// Under the run assumptions, if `tx` lines made all transactions, `stuck`, `differs` and `unequal` never come.
+///
 /// `desk N`, for N from 1 to 16: puts member 0 of the set-up of the schedule that the source holds, whose events are all
 /// `tx`, behind a vote desk, and lets N callers, each in a thread of its own, ask it for its votes. A caller asks for the
 /// transactions whose places have its number as the remainder by N, in order. It leaves the keeper's lists.

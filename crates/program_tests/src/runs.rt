@@ -23,6 +23,9 @@ const REPORT: &str = "tx t1: made\nvote 0 t1: voted -\nvote 1 t1: voted -\nvote 
 cert t1: formed by 0 1 2\nsend 0 t1: held\nrun 0: executed 1\n  t1 done v2 gas 1200\n\
 show 0: epoch 0 objects 2\n  g0 v2 alice coin 0 8300\n  t1.0 v2 bob coin 0 500\n";
 
+/// The lines of its first two events.
+const TWO_LINES: &str = "tx t1: made\nvote 0 t1: voted -\n";
+
 /// A member votes and starts again.
 const RESTART: &str = "member 1 honest\ncoin g0 alice 10000\n\
 tx t1 alice 0 g0@1 2000 a:bob transfer(gas,i0)\nvote 0 t1\nrestart 0\n";
@@ -93,6 +96,13 @@ fn expect_narrow<R: Abort + Threads + Wait + Sync>(
 fn pieces_do_not_matter(rt: HostRuntime) -> Result<(), Fail> {
     expect_narrow(&rt, rt.alloc(), 7, 0, REPORT)?;
     expect_narrow(&rt, rt.alloc(), 0, 5, "")
+}
+
+#[test]
+fn a_fault_ends_the_report(rt: HostRuntime) -> Result<(), Fail> {
+    expect_run(&rt, rt.alloc(), CERTIFIED, [2, 0, 0], 4, "")?;
+    expect_run(&rt, rt.alloc(), CERTIFIED, [0, 3, 0], 5, TWO_LINES)?;
+    expect_run(&rt, rt.alloc(), CERTIFIED, [0, 0, 1], 6, "tx t1: made\n")
 }
 
 /// Runs a text over a keeper that gives these bytes in place of the first record of member 0, and gives the status.

@@ -1,0 +1,4 @@
+use Rattle.committee_core.proofs.in_file.over_log.Given as goal
+
+abbrev pub ghosts-obey_over : goal.ghosts-obey_over
+ghosts-obey_over g a = record { faults = g.F.Disk.failed a.log.disk }
