@@ -3,3 +3,5 @@ mod Along
 mod Shut
 mod Standing
 mod Owned
+mod Reading
+mod OnFiles
