@@ -4,4 +4,6 @@ mod Shut
 mod Standing
 mod Owned
 mod Reading
+mod Fitting
+mod Back
 mod OnFiles

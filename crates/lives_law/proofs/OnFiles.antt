@@ -7,13 +7,16 @@ use Rattle.disk_log.proofs.Moments.{settled-image}
 use Rattle.chain_types.specs.declared.objects.Object.{Object}
 use Rattle.journal_core.specs.declared.records.Record.{Record}
 use Rattle.protocol_spec.proofs.ListLemmas.{front_then, front_whole}
-use Rattle.protocol_spec.specs.Chain.Words.{IsFront}
+use Rattle.protocol_spec.specs.Chain.Words.{Each, IsFront}
 use Rattle.protocol_spec.specs.Chain.Certificates.{Rules}
 use Rattle.protocol_spec.specs.Member.Member.{Member, state}
 use Rattle.protocol_spec.specs.Member.Calls.{Call}
 use Rattle.scene_spec.specs.Worlds.{spelled}
 use Rattle.lives_law.specs.Lives.{AreLives, Life, NothingIsTakenBack, last_records, records_after}
-use Rattle.lives_law.specs.Files.{AreLivesOf, AreRunsOn, Follows, IsIdleOn, IsLeft, IsLifeOn, Run, dues, kept_of, records_of, records_read}
+use Rattle.lives_law.specs.Files.{AreLivesOf, AreRunsOn, Follows, IsIdleOn, IsLeft, IsLifeOn, IsReadBack, Run, dues, kept_of, records_of, records_read}
+use Rattle.lives_law.proofs.Along.{replayed-sound}
+use Rattle.lives_law.proofs.Back.{dues-back}
+use Rattle.lives_law.proofs.Fitting.{fit-sound}
 use Rattle.lives_law.proofs.Reading.{after-calls, read-front, read-spelled, started-more, started-replayed, started-state}
 use Rattle.lives_law.proofs.Standing.{nothing-back}
 
@@ -50,6 +53,11 @@ module _ (r : Rules) (opening : List Object) (width m : ℕ) where
     abbrev left : List Record
     left = dues r life.member run.calls
 
+    read-back : Each IsReadBack left
+    read-back =
+        let sound = replayed-sound r opening start life.member (started-replayed r opening kept life.member life.starts) in
+        subst (λ (n : Member). Each IsReadBack (dues r n run.calls)) (started-state r opening kept life.member life.starts) (dues-back r opening run.calls start (fit-sound r opening start sound) life.readable)
+
     own-records : records_after r opening start run.calls ≡ start ++ left
     own-records = after-calls r opening run.calls start ∙ ap (λ (n : Member). start ++ dues r n run.calls) (started-state r opening kept life.member life.starts)
 
@@ -57,7 +65,7 @@ module _ (r : Rules) (opening : List Object) (width m : ℕ) where
     read-left more =
         ap (λ (l : List (List ℕ)). records_read l) (append_assoc kept (spelled left) more)
         ∙ started-more r opening kept (spelled left ++ more) life.member life.starts
-        ∙ ap (λ (l : List Record). start ++ l) (read-spelled left more life.read_back)
+        ∙ ap (λ (l : List Record). start ++ l) (read-spelled left more read-back)
         ∙ sym (append_assoc start left (records_read more))
 
     life-leaves : Leaves run.last (records_after r opening start run.calls)

@@ -1,7 +1,9 @@
 -- The lives of a member on one file, from the bytes of the file and the moments of its disk. Source: this profile.
-use Rattle.std.specs.Prelude.{◌≡◌, ◌⊎◌, ℕ, List, [], ◌∷◌, ◌++◌, Result, Ok, Err}
+use Rattle.std.specs.Prelude.{◌≡◌, ◌⊎◌, ◌<◌, ℕ, List, [], ◌∷◌, ◌++◌, length, Result, Ok, Err}
 use Rattle.std.specs.List.{flat_map}
 use Rattle.wire_bcs.specs.declared.fault.WireFault.{WireFault}
+use Rattle.wire_bcs.specs.Items.{length_limit}
+use Rattle.wire_bcs.specs.Place.{IsBytes}
 use Rattle.outside.specs.Lists.{journal_of}
 use Rattle.disk_log.specs.Disk.{History, IsImage, IsQuiet}
 use Rattle.disk_log.specs.Records.{counted, journals_of}
@@ -11,7 +13,7 @@ use Rattle.journal_core.specs.Records as journals
 use Rattle.protocol_spec.specs.Chain.Words.{Each, IsFront}
 use Rattle.protocol_spec.specs.Chain.Certificates.{Rules}
 use Rattle.protocol_spec.specs.Member.Member.{Member}
-use Rattle.protocol_spec.specs.Member.Calls.{Call, called, due}
+use Rattle.protocol_spec.specs.Member.Calls.{Call, acks, called, closes, due, ends, holds, runs, sees, turns, votes}
 use Rattle.scene_spec.specs.Posts.{list_of}
 use Rattle.scene_spec.specs.Starts.{read_record, started}
 use Rattle.scene_spec.specs.Worlds.{spelled}
@@ -62,6 +64,17 @@ dues r m (call ∷ calls) = list_of (due r m call) ++ dues r (called r m call) c
 abbrev pub IsReadBack : Record → Type 0
 IsReadBack x = read_record (journals.journal_record.spell x) ≡ Ok x
 
+-- what the call is handed are bytes, and an entry is not too long to be kept
+abbrev pub IsReadable : Call → Type 0
+IsReadable (votes bytes) = IsBytes bytes
+IsReadable (holds bytes) = IsBytes bytes
+IsReadable (sees number bytes) = length bytes < length_limit
+IsReadable runs = Unit {0}
+IsReadable closes = Unit {0}
+IsReadable ends = Unit {0}
+IsReadable turns = Unit {0}
+IsReadable (acks tx) = Unit {0}
+
 module _ (r : Rules) (opening : List Object) (width m : ℕ) where
   -- the member started from what the file has of it; in each file that is left then, that stands and the records of the
   -- calls after it, and perhaps more
@@ -69,7 +82,7 @@ module _ (r : Rules) (opening : List Object) (width m : ℕ) where
     pub member : Member
     pub starts : started r opening (kept_of width m run.first.now.reads) ≡ Ok member
     pub leaves : (file : List ℕ) → IsLeft run.last file → IsFront (kept_of width m run.first.now.reads ++ spelled (dues r member run.calls)) (kept_of width m file)
-    pub read_back : Each IsReadBack (dues r member run.calls)
+    pub readable : Each IsReadable run.calls
 
   -- no call was answered; in each file that is left then stands what a file had that was left before, and perhaps more
   pub record IsIdleOn (run : Run) : Type 0 where
