@@ -7,3 +7,4 @@ mod Reading
 mod Fitting
 mod Back
 mod OnFiles
+mod Held

@@ -6,3 +6,5 @@ mod Moving
 mod Served
 mod Shorts
 mod Started
+mod Readable
+mod Lives
