@@ -70,8 +70,8 @@ module _ (r : Rules) (opening : List Object) (width m : ℕ) where
 
     life-leaves : Leaves run.last (records_after r opening start run.calls)
     life-leaves file is =
-        let (more, e) = life.leaves file is in
-        (records_read more, ap (λ (l : List (List ℕ)). records_read l) e ∙ read-left more ∙ ap (λ (l : List Record). l ++ records_read more) (sym own-records))
+        let front = life.leaves file is in
+        (records_read front.0, ap (λ (l : List (List ℕ)). records_read l) front.1 ∙ read-left front.0 ∙ ap (λ (l : List Record). l ++ records_read front.0) (sym own-records))
 
   -- ---- one after the other
 

@@ -8,3 +8,4 @@ mod Shorts
 mod Started
 mod Readable
 mod Lives
+mod Made

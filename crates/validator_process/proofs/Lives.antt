@@ -3,12 +3,12 @@ use Rattle.std.proofs.Common.{inl, inr, refl, sym, subst, ap, ◌∙◌, append_
 use Rattle.std.proofs.lemmas.List.{length-append}
 use Rattle.std.specs.Prelude.{◌≡◌, ◌⊎◌, ◌<◌, ◌≤◌, ℕ, List, [], ◌∷◌, ◌++◌, map, length, Option, Some, None, Result, Ok, Err}
 use Rattle.std.specs.List.{flat_map}
-use Rattle.std.specs.Io.KnownBytes.{Appends, Consumes, IsAtEnd, Keeps, append_known}
+use Rattle.std.specs.Io.KnownBytes.{Appends, Keeps, append_known}
 use Rattle.std.proofs.KnownBytes.{Appends-kept, Appends-trans}
 use Rattle.outside.specs.Lists.{AddsRecord, Journals, KeepsJournals, journal_of, with_record}
 use Rattle.outside.specs.Streams.{AppendsFront, ReadsText}
 use Rattle.disk_log.specs.Disk.{History, IsImage, IsQuiet}
-use Rattle.disk_log.specs.Records.{counted, journals_of}
+use Rattle.disk_log.specs.Records.{Record as Kept, counted, journals_of}
 use Rattle.disk_log.specs.Running.{HoldsLists, IsUnchanged, Unchanged}
 use Rattle.disk_log.proofs.Listing.{length-journals}
 use Rattle.schedule_text.specs.Schedule.{longest_text}
@@ -35,7 +35,7 @@ use Rattle.validator_process.specs.declared.words.Task.TheVariants as task
 use Rattle.validator_process.specs.Ending.{EndsJournal, EndsLife, EndsText, IsLife, IsUnopened, kept_in, program_trust}
 use Rattle.validator_process.specs.Genesis.{genesis_of, member_started, ready_line, started_in}
 use Rattle.validator_process.specs.Living.{AreProcesses, AreRunsOf, HasAnswered, HasNotAnswered, HaveLives, IsProcess, IsRunOf, Process, asked_in, calls_of}
-use Rattle.validator_process.specs.Serving.{AddsRecords, AreAnswered, Around, Exchange, IsCutAt, Serves, ServesAll, ServesOne, ServesSome, due_for_request, ended, records_left, request_in, seat_behind_line, seat_behind_request, spelled, with_records}
+use Rattle.validator_process.specs.Serving.{AddsRecords, AreAnswered, Around, Exchange, IsCutAt, Serves, ServesAll, ServesOne, ServesSome, around, due_for_request, records_left, request_in, seat_behind_line, seat_behind_request, spelled, with_records}
 use Rattle.validator_process.specs.Starting.{LivesCut, LivesSome, LivesWhole, StartsAs, start_bytes}
 use Rattle.validator_process.proofs.Along.{same_member, serves_push, texts_push}
 use Rattle.validator_process.proofs.Readable.{line-readable}
@@ -229,7 +229,7 @@ module _ (accepts : Accepting) (m : ℕ) (few : m ≤ 63) (kept : List (List ℕ
             texts xs ++ front,
             rest,
             texts_push (λ (y : Exchange). y.text) xs x ∙ ap (λ (t : List ℕ). texts xs ++ t) e ∙ sym (append_assoc (texts xs) front rest),
-            Appends-trans a.held last.held b.held (texts xs) front serves.writes writes,
+            Appends-trans a.held last.held b.held (texts xs) front serves.writes writes
           );
           more = [];
           stands = no-more b.kept (records_left accepts a.seat (xs ++ x ∷ []))
@@ -291,7 +291,7 @@ module _ (scene : Scene) (m : ℕ) (few : m ≤ 63) (p : Process) where
   same-idle same file left = (file, subst (λ (h : History). IsLeft h file) same left, front_whole (kept_of 65 m file))
 
   as-before : (file : List ℕ) → counted file ≡ counted p.first.now.reads → (old : List ℕ) × IsLeft p.first old × IsFront (kept_of 65 m old) (kept_of 65 m file)
-  as-before file e = (p.first.now.reads, inl refl, subst (λ (k : List (List ℕ)). IsFront first_kept k) (ap (λ c. journal_of (journals_of 65 c) m) (sym e)) (front_whole first_kept))
+  as-before file e = (p.first.now.reads, inl refl, subst (λ (k : List (List ℕ)). IsFront first_kept k) (ap (λ (c : List Kept). journal_of (journals_of 65 c) m) (sym e)) (front_whole first_kept))
 
   unchanged-idle : IsUnchanged p.first p.last → IsIdle
   unchanged-idle stays file (inl e) = as-before file (ap (λ (f : List ℕ). counted f) e ∙ stays.reads)
@@ -344,7 +344,7 @@ module _ (scene : Scene) (m : ℕ) (few : m ≤ 63) (p : Process) where
           start_bytes (ready_line seat) ++ front,
           rest,
           ap (λ (t : List ℕ). start_bytes (ready_line seat) ++ t) e ∙ sym (append_assoc (start_bytes (ready_line seat)) front rest),
-          Appends-trans p.held said p.holds (start_bytes (ready_line seat)) front ready more,
+          Appends-trans p.held said p.holds (start_bytes (ready_line seat)) front ready more
         )
 
     own-member : (seat : Seated) → StartsAs accepts scene m (kept_in (Some p.first)) (Ok seat) → seat.member ≡ m
@@ -355,12 +355,12 @@ module _ (scene : Scene) (m : ℕ) (few : m ≤ 63) (p : Process) where
     mid-stands mid same = stands-same m few (kept_in (Some p.first)) mid first_kept (stands-first m p.first) same
 
     lived-whole : (seat : Seated) (mid : Option Journals) → StartsAs accepts scene m (kept_in (Some p.first)) (Ok seat) → KeepsJournals (kept_in (Some p.first)) mid → LivesWhole accepts seat p.asked p.unread p.held p.holds mid now → Done scene m p
-    lived-whole seat mid starts same lives = lived seat lives.said starts lives.ready (did-all accepts m few first_kept _ _ (own-member seat starts) (mid-stands mid same) lives.serves)
+    lived-whole seat mid starts same lives = lived seat lives.said starts lives.ready (did-all accepts m few first_kept (around [] p.asked lives.said mid seat) (around lives.pending p.unread p.holds now lives.last) (own-member seat starts) (mid-stands mid same) lives.serves)
 
     lived-some : (seat : Seated) (mid : Option Journals) → StartsAs accepts scene m (kept_in (Some p.first)) (Ok seat) → KeepsJournals (kept_in (Some p.first)) mid → LivesSome accepts seat p.asked p.unread p.held p.holds mid now → Done scene m p
     lived-some seat mid starts same lives =
         lived seat lives.said starts lives.ready
-        (did-cut accepts m few first_kept _ _ (own-member seat starts) (mid-stands mid same) lives.serves.exchanges lives.serves.last lives.serves.serves lives.serves.cut)
+        (did-cut accepts m few first_kept (around [] p.asked lives.said mid seat) (around lives.pending p.unread p.holds now lives.last) (own-member seat starts) (mid-stands mid same) lives.serves.exchanges lives.serves.last lives.serves.serves lives.serves.cut)
 
     then-keeps : (mid : Option Journals) → KeepsJournals (kept_in (Some p.first)) mid → KeepsJournals mid now → KeepsJournals (kept_in (Some p.first)) now
     then-keeps mid same keeps = subst (λ (l : Option Journals). KeepsJournals l now) same keeps
@@ -431,7 +431,7 @@ module _ (scene : Scene) (m : ℕ) (few : m ≤ 63) (text : List ℕ) (short : l
         on = (
           subst (λ (x : History). Follows h x) (sym one.is.first) are.0,
           one.on,
-          subst (λ (x : History). AreRunsOn r scene.opening 65 m x rest.runs file) (sym one.is.last) rest.on,
+          subst (λ (x : History). AreRunsOn r scene.opening 65 m x rest.runs file) (sym one.is.last) rest.on
         );
       }
 
