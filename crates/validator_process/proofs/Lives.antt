@@ -229,7 +229,7 @@ module _ (accepts : Accepting) (m : ℕ) (few : m ≤ 63) (kept : List (List ℕ
             texts xs ++ front,
             rest,
             texts_push (λ (y : Exchange). y.text) xs x ∙ ap (λ (t : List ℕ). texts xs ++ t) e ∙ sym (append_assoc (texts xs) front rest),
-            Appends-trans a.held last.held b.held (texts xs) front serves.writes writes
+            Appends-trans a.held last.held b.held (texts xs) front serves.writes writes,
           );
           more = [];
           stands = no-more b.kept (records_left accepts a.seat (xs ++ x ∷ []))
@@ -344,7 +344,7 @@ module _ (scene : Scene) (m : ℕ) (few : m ≤ 63) (p : Process) where
           start_bytes (ready_line seat) ++ front,
           rest,
           ap (λ (t : List ℕ). start_bytes (ready_line seat) ++ t) e ∙ sym (append_assoc (start_bytes (ready_line seat)) front rest),
-          Appends-trans p.held said p.holds (start_bytes (ready_line seat)) front ready more
+          Appends-trans p.held said p.holds (start_bytes (ready_line seat)) front ready more,
         )
 
     own-member : (seat : Seated) → StartsAs accepts scene m (kept_in (Some p.first)) (Ok seat) → seat.member ≡ m
@@ -431,7 +431,7 @@ module _ (scene : Scene) (m : ℕ) (few : m ≤ 63) (text : List ℕ) (short : l
         on = (
           subst (λ (x : History). Follows h x) (sym one.is.first) are.0,
           one.on,
-          subst (λ (x : History). AreRunsOn r scene.opening 65 m x rest.runs file) (sym one.is.last) rest.on
+          subst (λ (x : History). AreRunsOn r scene.opening 65 m x rest.runs file) (sym one.is.last) rest.on,
         );
       }
 
