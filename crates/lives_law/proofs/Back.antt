@@ -42,7 +42,7 @@ use Rattle.protocol_spec.specs.Member.Member.{Member, after, books, state, with_
 use Rattle.protocol_spec.specs.Member.Calls.{Call, votes, holds, sees, runs, closes, ends, turns, acks, Voted, close_answer, close_record, due, halted, hold_answer, hold_record, is_hold_kept, kept_vote, ran_as, ran_item, ran_items, ran_record, record_limit, run_answer, run_record, see_cases, see_record, turn_answer, turn_record, vote_answer, vote_record}
 use Rattle.world_spec.specs.World.{stated, voted_statement}
 use Rattle.safety_law.proofs.Apart.{state-push}
-use Rattle.text_law.proofs.Members.{AreOrigins, IsDigest, IsFitMember, IsFitStatement, fit-step, stated-fit}
+use Rattle.text_law.proofs.Members.{AreOrigins, IsDigest, IsFitMember, IsFitStatement, fit-step, stated-fit, tagged-digest}
 use Rattle.text_law.proofs.Fits.{origins-fit}
 use Rattle.run_law.proofs.SceneCounted.{few-rounds, holds-few}
 use Rattle.scene_spec.specs.Worlds.{ReadsFit}

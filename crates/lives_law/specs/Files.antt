@@ -92,18 +92,18 @@ module _ (r : Rules) (opening : List Object) (width m : ℕ) where
   -- processes one after the other on such a disk, and the file that the last of them leaves
   abbrev pub AreRunsOn : History → List Run → List ℕ → Type 0
   AreRunsOn h [] file = IsLeft h file
-  AreRunsOn h (run ∷ runs) file = Follows h run.first × (IsLifeOn run ⊎ IsIdleOn run) × AreRunsOn run.last runs file
+  AreRunsOn h (run ∷ after) file = Follows h run.first × (IsLifeOn run ⊎ IsIdleOn run) × AreRunsOn run.last after file
 
   -- what they answered are the calls of lives: the first of these finds the records in the file, and perhaps more
-  pub record AreLivesOf (first : List Record) (runs : List Run) (file : List ℕ) : Type 0 where
+  pub record AreLivesOf (first : List Record) (ran : List Run) (file : List ℕ) : Type 0 where
     pub start : List Record
     pub lives : List Life
     pub from : IsFront first start
     pub are : AreLives r opening start lives
-    pub calls : flat_map (λ (life : Life). life.calls) lives ≡ flat_map (λ (run : Run). run.calls) runs
+    pub calls : flat_map (λ (life : Life). life.calls) lives ≡ flat_map (λ (run : Run). run.calls) ran
     pub last : last_records start lives ≡ records_of width m file
 
 -- the processes of a member on one file have lives, so nothing that they answered is taken back
 abbrev pub FilesLive : Type 0
-FilesLive = (r : Rules) (opening : List Object) (width m : ℕ) (h : History) (runs : List Run) (file : List ℕ) → IsQuiet h → AreRunsOn r opening width m h runs file
-    → (l : AreLivesOf r opening width m (records_of width m h.now.reads) runs file) × NothingIsTakenBack r opening l.lives (records_of width m file)
+FilesLive = (r : Rules) (opening : List Object) (width m : ℕ) (h : History) (ran : List Run) (file : List ℕ) → IsQuiet h → AreRunsOn r opening width m h ran file
+    → (l : AreLivesOf r opening width m (records_of width m h.now.reads) ran file) × NothingIsTakenBack r opening l.lives (records_of width m file)

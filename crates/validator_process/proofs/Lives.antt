@@ -439,7 +439,7 @@ module _ (scene : Scene) (m : ℕ) (few : m ≤ 63) (text : List ℕ) (short : l
   have-lives h ps file quiet are =
       let all = all-done ps h file are in
       let lives = files-live r scene.opening 65 m h all.runs file quiet all.on in
-      record { runs = all.runs; are = all.are; lives = lives.0; stand = lives.1 }
+      record { ran = all.runs; are = all.are; lives = lives.0; stand = lives.1 }
 
 pub processes-live : (m : ℕ) (text : List ℕ) (scene : Scene) → m ≤ 63 → length text ≤ longest_text → genesis_of program_trust m text ≡ Ok scene
     → (h : History) (ps : List Process) (file : List ℕ) → IsQuiet h → AreProcesses m text h ps file → HaveLives scene m h ps file

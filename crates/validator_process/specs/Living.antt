@@ -101,16 +101,16 @@ AreProcesses m text h (p ∷ ps) file = Follows h p.first × IsProcess m text p 
 
 abbrev pub AreRunsOf : Scene → ℕ → List Process → List Run → Type 0
 AreRunsOf scene m [] [] = Unit {0}
-AreRunsOf scene m [] (run ∷ runs) = ⊥
+AreRunsOf scene m [] (run ∷ after) = ⊥
 AreRunsOf scene m (p ∷ ps) [] = ⊥
-AreRunsOf scene m (p ∷ ps) (run ∷ runs) = IsRunOf scene m p run × AreRunsOf scene m ps runs
+AreRunsOf scene m (p ∷ ps) (run ∷ after) = IsRunOf scene m p run × AreRunsOf scene m ps after
 
 -- the processes of a member on one file have lives: the calls of these are what the processes answered, and nothing of it
 -- is taken back
 pub record HaveLives (scene : Scene) (m : ℕ) (h : History) (ps : List Process) (file : List ℕ) : Type 0 where
-  pub runs : List Run
-  pub are : AreRunsOf scene m ps runs
-  pub lives : AreLivesOf (rules_in program_trust.accepts scene) scene.opening 65 m (records_of 65 m h.now.reads) runs file
+  pub ran : List Run
+  pub are : AreRunsOf scene m ps ran
+  pub lives : AreLivesOf (rules_in program_trust.accepts scene) scene.opening 65 m (records_of 65 m h.now.reads) ran file
   pub stand : NothingIsTakenBack (rules_in program_trust.accepts scene) scene.opening lives.lives (records_of 65 m file)
 
 abbrev pub ProcessesLive : Type 0
