@@ -49,45 +49,8 @@ use Rattle.scene_spec.specs.Worlds.{ReadsFit}
 use Rattle.lives_law.specs.Files.{IsReadBack, IsReadable}
 use Rattle.protocol_spec.specs.Member.Calls.{after_due}
 use Rattle.scene_spec.specs.Posts.{list_of}
-use Rattle.run_law.proofs.SceneStarts.{hold-bytes, vote-bytes}
+use Rattle.run_law.proofs.SceneStarts.{close-record, hold-bytes, hold-record, items-fit, run-record, see-record, signed-fits, turn-fits, vote-bytes, vote-record}
 use Rattle.lives_law.specs.Files.{dues}
-
-signed-fits : (s : SignedTx) → transactions.signed.fits s → transactions.transaction.fits s.tx
-unfolding transactions.signed
-signed-fits s fits = fits.0
-
-vote-record : (t : Transaction) (origins : List (Option Digest)) → transactions.transaction.fits t → AreOrigins origins → journals.journal_record.fits (record_as.Vote t origins)
-unfolding journals.journal_record
-vote-record t origins fits are = (fits, origins-fit origins are)
-
-hold-record : (c : Certificate) → messages.certificate.fits c → journals.journal_record.fits (record_as.Hold c)
-unfolding journals.journal_record
-hold-record c fits = fits
-
-see-record : (bytes : List ℕ) → length bytes < length_limit → journals.journal_record.fits (record_as.See bytes)
-unfolding journals.journal_record
-see-record bytes few = few
-
-close-record : journals.journal_record.fits record_as.Close
-unfolding journals.journal_record
-close-record = tt
-
-turn-fits : journals.journal_record.fits record_as.Turn
-unfolding journals.journal_record
-turn-fits = tt
-
-effects-digest : (e : Effects) → IsDigest (digest_of_effects e)
-unfolding digest_of_effects
-effects-digest e = tagged-digest _ _
-
-items-fit : (xs : List Execution) → Each (λ (x : Execution). IsDigest x.digest) xs → AllByRecursion journals.ran_item.fits (map ran_item xs)
-unfolding journals.ran_item digest
-items-fit [] each = tt
-items-fit (x ∷ xs) each = ((each.0, effects-digest x.gave.effects), items-fit xs each.1)
-
-run-record : (items : List RanItem) → length items < length_limit → AllByRecursion journals.ran_item.fits items → journals.journal_record.fits (record_as.Ran2 items)
-unfolding journals.journal_record
-run-record items few each = (few, All-from_recursion journals.ran_item.fits items each)
 
 -- a call whose record can be read back: what is read from its bytes fits, and an entry's bytes can be kept
 abbrev Given : Call → Type 0

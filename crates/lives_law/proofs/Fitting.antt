@@ -36,56 +36,9 @@ use Rattle.protocol_spec.specs.Member.Member.{Member, after, ballot, cast_of, st
 use Rattle.protocol_spec.specs.Member.Calls.{Call, votes, sees, runs, Voted, due, new_vote, new_vote_cases, ran_items, ran_record, run_answer, run_record, see_cases, see_record, vote_again, vote_on, vote_stopped, voted_as}
 use Rattle.protocol_spec.specs.Member.Replay.{is_allowed, is_some_list, is_vote_for, ran_item_eq, states_origins}
 use Rattle.safety_law.proofs.Apart.{none-each, state-push}
-use Rattle.text_law.proofs.Members.{AreOrigins, IsDigest, IsFitMember, IsFitStatement, IsOrigin, filter-short, digest-of, fit-none, fit-step}
+use Rattle.text_law.proofs.Members.{AreOrigins, IsDigest, IsFitMember, IsFitStatement, digest-of, fit-none, fit-step, named-origins}
+use Rattle.text_law.proofs.SaidLines.{three}
 use Rattle.lives_law.proofs.Along.{IsAllowedBehind, IsSound}
-
--- ---- origins
-
--- the producer of a version is none or a digest
-abbrev IsMade : Version → Type 0
-IsMade v = IsOrigin (maker v.producer)
-
-opened-made : (objects : List Object) → Each IsMade (map opened objects)
-opened-made [] = tt
-opened-made (o ∷ objects) = (tt, opened-made objects)
-
-written-made : (d : Digest) (objects : List Object) → IsDigest d → Each IsMade (map (written d) objects)
-written-made d [] is = tt
-written-made d (o ∷ objects) is = (is, written-made d objects is)
-
-all-written : (executed : List Execution) → Each (λ (x : Execution). IsDigest x.digest) executed → Each IsMade (flat_map written_by executed)
-all-written [] each = tt
-all-written (x ∷ executed) each = each_join IsMade (written_by x) (flat_map written_by executed) (written-made x.digest x.gave.objects each.0) (all-written executed each.1)
-
-all-made : (opening : List Object) (executed : List Execution) → Each (λ (x : Execution). IsDigest x.digest) executed → Each IsMade (versions opening executed)
-unfolding versions
-all-made opening executed each = each_join IsMade (map opened opening) (flat_map written_by executed) (opened-made opening) (all-written executed each)
-
-at-made : (held : List Version) (key : ObjectKey) → Each IsMade held → IsOrigin (made_by (version_at held key))
-at-made held key each = go (version_at held key) refl
-  where
-    go : (o : Option Version) → version_at held key ≡ o → IsOrigin (made_by o)
-    go None e = tt
-    go (Some v) e = each_has IsMade held v each (find_has (is_key key) held v e)
-
-one-origin : (b : Ballot) (i : Input) → Each IsMade (versions b.opening b.executed) → IsOrigin (origin_of b i)
-one-origin b (input.Pure bytes) each = tt
-one-origin b (input.Owned r) each = at-made (versions b.opening b.executed) (key_of r) each
-one-origin b (input.Immutable r) each = at-made (versions b.opening b.executed) (key_of r) each
-one-origin b (input.Shared id initial mutable) each = at-made (versions b.opening b.executed) (shared_key id initial) each
-
-all-origins : (b : Ballot) (is : List Input) → Each IsMade (versions b.opening b.executed) → Each IsOrigin (map (origin_of b) is) × (length (map (origin_of b) is) ≡ length is)
-all-origins b [] each = (tt, refl)
-all-origins b (i ∷ is) each = let rest = all-origins b is each in let same = rest.1 in ((one-origin b i each, rest.0), omega (arith, same))
-
-named-origins : (b : Ballot) (t : Transaction) → Each (λ (x : Execution). IsDigest x.digest) b.executed → shape_fault t ≡ None → AreOrigins (vote_origins b t)
-unfolding vote_origins
-named-origins b t each shape =
-    let all = all-origins b (objects_of t) (all-made b.opening b.executed each) in
-    let same = all.1 in
-    let short = filter-short is_object t.inputs in
-    let few = few_inputs t shape in
-    (omega (arith, same, short, few), all.0)
 
 abbrev IsFitVote : Result Voted VoteRefusal → Type 0
 IsFitVote (Ok v) = IsFitStatement v.statement
@@ -140,12 +93,6 @@ some-items [] items some same = absurd (cc)
 some-items (t ∷ these) [] some same = absurd (cc)
 some-items (t ∷ these) (i ∷ items) some same = refl
 
-all-three : (a b c : Bool) → (a && b && c) ≡ true → (a ≡ true) × (b ≡ true) × (c ≡ true)
-all-three true true true e = (refl, refl, refl)
-all-three true true false e = absurd (cc)
-all-three true false c e = absurd (cc)
-all-three false b c e = absurd (cc)
-
 module _ (r : Rules) (opening : List Object) (records : List Record) (fit : IsFitMember (state r opening records)) where
   abbrev m : Member
   m = state r opening records
@@ -199,11 +146,11 @@ module _ (r : Rules) (opening : List Object) (records : List Record) (fit : IsFi
   fit-taken (record_as.See bytes) e = fit-see bytes e
   fit-taken record_as.Close e = fit-close
   fit-taken (record_as.Ran txs) e =
-      let all = all-three (is_ok (run_answer r m)) (is_some_list txs) (list_eq digest_eq txs (map (λ (i : RanItem). i.tx) (ran_items m))) e in
+      let all = three (is_ok (run_answer r m)) (is_some_list txs) (list_eq digest_eq txs (map (λ (i : RanItem). i.tx) (ran_items m))) e in
       fit-ran txs (stepped runs (record_as.Ran2 (ran_items m)) (runs-due all.0 (some-txs txs (ran_items m) all.1 all.2)))
   fit-taken record_as.Turn e = fit-turn
   fit-taken (record_as.Ran2 items) e =
-      let all = all-three (is_ok (run_answer r m)) (is_some_list items) (list_eq ran_item_eq items (ran_items m)) e in
+      let all = three (is_ok (run_answer r m)) (is_some_list items) (list_eq ran_item_eq items (ran_items m)) e in
       fit-ran2 items (stepped runs (record_as.Ran2 (ran_items m)) (runs-due all.0 (some-items items (ran_items m) all.1 all.2)))
 
 -- ---- a start

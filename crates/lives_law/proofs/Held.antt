@@ -9,18 +9,12 @@ use Rattle.disk_log.proofs.Listing.{added_to-push, length-journals}
 use Rattle.protocol_spec.proofs.ListLemmas.{front_whole}
 use Rattle.protocol_spec.specs.Chain.Words.{IsFront}
 use Rattle.lives_law.specs.Files.{IsLeft, kept_of}
+use Rattle.run_law.proofs.SceneRecords.{front-set}
 
 pub own-set : (lists : Journals) (m : ℕ) (kept : List (List ℕ)) → m < length lists → journal_of (slice_set lists m kept) m ≡ kept
 own-set [] m kept few = absurd (omega (arith, few))
 own-set (l ∷ ls) zero kept few = refl
 own-set (l ∷ ls) (suc m) kept few = own-set ls m kept (omega (arith, few))
-
-front-set : (lists : Journals) (m : ℕ) (kept : List (List ℕ)) → IsFront (journal_of lists m) kept → (k : ℕ) → IsFront (journal_of lists k) (journal_of (slice_set lists m kept) k)
-front-set [] m kept front k = front_whole []
-front-set (l ∷ ls) zero kept front zero = front
-front-set (l ∷ ls) zero kept front (suc k) = front_whole (journal_of ls k)
-front-set (l ∷ ls) (suc m) kept front zero = front_whole l
-front-set (l ∷ ls) (suc m) kept front (suc k) = front-set ls m kept front k
 
 -- one record more, of whatever member, leaves each list first
 front-more : (width m : ℕ) (records : List Record) (x : Record) → IsFront (journal_of (journals_of width records) m) (journal_of (journals_of width (records ++ x ∷ [])) m)

@@ -18,6 +18,7 @@ use Rattle.scene_spec.specs.Worlds.{spelled}
 use Rattle.safety_law.proofs.Apart.{state-push}
 use Rattle.lives_law.specs.Lives.{records_after}
 use Rattle.lives_law.specs.Files.{IsReadBack, dues, record_then, records_read}
+use Rattle.run_law.proofs.SceneStarts.{same-start}
 
 -- ---- what is read
 
@@ -40,9 +41,6 @@ read-spelled (x ∷ records) more each =
 
 abbrev started_as : Member → Result Member StartRefusal
 started_as m = Ok m
-
-same-start : (m n : Member) → started_as m ≡ started_as n → m ≡ n
-same-start m n e = cc
 
 abbrev replayed_as : Member → Result Member ℕ
 replayed_as m = Ok m

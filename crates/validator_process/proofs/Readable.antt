@@ -18,13 +18,7 @@ use Rattle.process_lines.specs.Requests.{bytes_in, digest_in, number_of_word, re
 use Rattle.lives_law.specs.Files.{IsReadable}
 use Rattle.validator_process.specs.Living.{asked_in}
 use Rattle.validator_process.specs.Serving.{request_in}
-
--- ---- bytes
-
-all-bytes : (bytes : List ℕ) → AllByRecursion IsByte bytes → IsBytes bytes
-all-bytes [] all i = omega arith
-all-bytes (b ∷ bytes) all zero = all.0
-all-bytes (b ∷ bytes) all (suc i) = all-bytes bytes all.1 i
+use Rattle.text_law.proofs.Words.{bytes_by_index}
 
 -- bytes that a word encodes, and no more than half as many
 record AreIn (word bytes : List ℕ) : Type 0 where
@@ -35,7 +29,7 @@ hex-in : (word bytes : List ℕ) → hex_of word ≡ Some bytes → AreIn word b
 hex-in word bytes e =
     let said = hex_said word bytes e in
     let same = said.1 in
-    record { are = all-bytes bytes said.0; few = omega (arith, same) }
+    record { are = bytes_by_index bytes said.0; few = omega (arith, same) }
 
 bytes-if : (word bytes : List ℕ) (b : Bool) → cond b (hex_of word) None ≡ Some bytes → AreIn word bytes
 bytes-if word bytes true e = hex-in word bytes e
