@@ -16,7 +16,7 @@ use Rattle.lives_law.specs.Lives.{Answered, AreLives, IsLived, IsUnlived, Life, 
 use Rattle.lives_law.proofs.Voting.{AreAgreed, AreCast, agreed-after, cast-after}
 
 module _ (r : Rules) (opening : List Object) where
-  abbrev IsAllowedBehind : List Record → Record → Type 0
+  abbrev pub IsAllowedBehind : List Record → Record → Type 0
   IsAllowedBehind before x = is_allowed r (state r opening before) x ≡ true
 
   -- each record is allowed after those before it

@@ -3,3 +3,8 @@ mod Along
 mod Shut
 mod Standing
 mod Owned
+mod Reading
+mod Fitting
+mod Back
+mod OnFiles
+mod Held

@@ -2,7 +2,9 @@
 #![tactic(auto)]
 
 mod certified;
+mod files;
 mod lives;
 
 pub use certified::one_owner_over_lives;
+pub use files::files_live;
 pub use lives::lives_law;

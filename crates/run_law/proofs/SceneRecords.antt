@@ -352,7 +352,7 @@ front-ahead s w e (Some lists) front = λ m. front_then (journal_of lists m) (jo
 -- ---- a line that was cut
 
 -- one list has grown
-front-set : (lists : Journals) (m : ℕ) (kept : List (List ℕ)) → IsFront (journal_of lists m) kept → (k : ℕ) → IsFront (journal_of lists k) (journal_of (slice_set lists m kept) k)
+pub front-set : (lists : Journals) (m : ℕ) (kept : List (List ℕ)) → IsFront (journal_of lists m) kept → (k : ℕ) → IsFront (journal_of lists k) (journal_of (slice_set lists m kept) k)
 front-set [] m kept front k = front_whole []
 front-set (l ∷ ls) zero kept front zero = front
 front-set (l ∷ ls) zero kept front (suc k) = front_whole (journal_of ls k)

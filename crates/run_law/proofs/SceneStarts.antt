@@ -115,7 +115,7 @@ entry-spelled number e fits x is = spelled-fits messages.entry e x fits is
 abbrev started_as : Member → Result Member StartRefusal
 started_as m = Ok m
 
-same-start : (m n : Member) → started_as m ≡ started_as n → m ≡ n
+pub same-start : (m n : Member) → started_as m ≡ started_as n → m ≡ n
 same-start m n e = cc
 
 -- one more record, which is read as x and taken
@@ -142,27 +142,27 @@ fit-along r opening before (x ∷ xs) along fit =
     subst (λ (rs : List Record). IsFitMember (state r opening rs)) (append_assoc before (x ∷ []) xs)
     (fit-along r opening (before ++ x ∷ []) xs along.1 (fit-step r opening before along.0.0 x tt along.0.1 fit))
 
-signed-fits : (s : SignedTx) → transactions.signed.fits s → transactions.transaction.fits s.tx
+pub signed-fits : (s : SignedTx) → transactions.signed.fits s → transactions.transaction.fits s.tx
 unfolding transactions.signed
 signed-fits s fits = fits.0
 
-vote-record : (t : Transaction) (origins : List (Option Digest)) → transactions.transaction.fits t → AreOrigins origins → journals.journal_record.fits (record_as.Vote t origins)
+pub vote-record : (t : Transaction) (origins : List (Option Digest)) → transactions.transaction.fits t → AreOrigins origins → journals.journal_record.fits (record_as.Vote t origins)
 unfolding journals.journal_record
 vote-record t origins fits are = (fits, origins-fit origins are)
 
-hold-record : (c : Certificate) → messages.certificate.fits c → journals.journal_record.fits (record_as.Hold c)
+pub hold-record : (c : Certificate) → messages.certificate.fits c → journals.journal_record.fits (record_as.Hold c)
 unfolding journals.journal_record
 hold-record c fits = fits
 
-see-record : (bytes : List ℕ) → length bytes < length_limit → journals.journal_record.fits (record_as.See bytes)
+pub see-record : (bytes : List ℕ) → length bytes < length_limit → journals.journal_record.fits (record_as.See bytes)
 unfolding journals.journal_record
 see-record bytes few = few
 
-close-record : journals.journal_record.fits record_as.Close
+pub close-record : journals.journal_record.fits record_as.Close
 unfolding journals.journal_record
 close-record = tt
 
-turn-fits : journals.journal_record.fits record_as.Turn
+pub turn-fits : journals.journal_record.fits record_as.Turn
 unfolding journals.journal_record
 turn-fits = tt
 
@@ -170,12 +170,12 @@ effects-digest : (e : Effects) → IsDigest (digest_of_effects e)
 unfolding digest_of_effects
 effects-digest e = tagged-digest _ _
 
-items-fit : (xs : List Execution) → Each (λ (x : Execution). IsDigest x.digest) xs → AllByRecursion journals.ran_item.fits (map ran_item xs)
+pub items-fit : (xs : List Execution) → Each (λ (x : Execution). IsDigest x.digest) xs → AllByRecursion journals.ran_item.fits (map ran_item xs)
 unfolding journals.ran_item digest
 items-fit [] each = tt
 items-fit (x ∷ xs) each = ((each.0, effects-digest x.gave.effects), items-fit xs each.1)
 
-run-record : (items : List RanItem) → length items < length_limit → AllByRecursion journals.ran_item.fits items → journals.journal_record.fits (record_as.Ran2 items)
+pub run-record : (items : List RanItem) → length items < length_limit → AllByRecursion journals.ran_item.fits items → journals.journal_record.fits (record_as.Ran2 items)
 unfolding journals.journal_record
 run-record items few each = (few, All-from_recursion journals.ran_item.fits items each)
 

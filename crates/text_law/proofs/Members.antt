@@ -139,7 +139,7 @@ filter-short test (x ∷ xs) = go (test x) (filter-short test xs)
     go true le = omega (arith, le)
     go false le = omega (arith, le)
 
-named-origins : (b : Ballot) (t : Transaction) → Each (λ (x : Execution). IsDigest x.digest) b.executed → shape_fault t ≡ None → AreOrigins (vote_origins b t)
+pub named-origins : (b : Ballot) (t : Transaction) → Each (λ (x : Execution). IsDigest x.digest) b.executed → shape_fault t ≡ None → AreOrigins (vote_origins b t)
 unfolding vote_origins
 named-origins b t each shape =
     let all = all-origins b (objects_of t) (all-made b.opening b.executed each) in

@@ -30,7 +30,7 @@ ok_said x y r q a b h = cc
 
 -- ---- set-up lines
 
-three : (a b c : Bool) → (a && b && c) ≡ true → (a ≡ true) × (b ≡ true) × (c ≡ true)
+pub three : (a b c : Bool) → (a && b && c) ≡ true → (a ≡ true) × (b ≡ true) × (c ≡ true)
 three a b c h = let hs = and_parts (a && b) c h in let front = and_parts a b hs.0 in (front.0, front.1, hs.1)
 
 role_said : (stake : List ℕ) (role : Option Bool) (x : Statement) → member_setup stake role ≡ Ok x → IsStatement x

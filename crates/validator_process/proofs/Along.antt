@@ -34,7 +34,7 @@ module _ (accepts : Accepting) where
       let next = seat_behind_line accepts seat y.line in
       ap (λ rs. first ++ rs) (records_push next xs x) ∙ sym (append_assoc first (records_left accepts next xs) (spelled (due_for_line accepts (seat_behind_lines accepts next xs) x.line)))
 
-texts_push : {A : Type 0} (f : A → List ℕ) (xs : List A) (x : A) → flat_map f (xs ++ x ∷ []) ≡ flat_map f xs ++ f x
+pub texts_push : {A : Type 0} (f : A → List ℕ) (xs : List A) (x : A) → flat_map f (xs ++ x ∷ []) ≡ flat_map f xs ++ f x
 texts_push f [] x = append-nil (f x)
 texts_push f (y ∷ xs) x = ap (λ t. f y ++ t) (texts_push f xs x) ∙ sym (append_assoc (f y) (flat_map f xs) (f x))
 

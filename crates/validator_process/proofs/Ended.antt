@@ -23,32 +23,12 @@ use Rattle.validator_process.specs.declared.reading.Unstarted.{Unstarted}
 use Rattle.validator_process.specs.declared.reading.Unstarted.TheVariants as unstarted
 use Rattle.validator_process.specs.declared.stop.Stop.{Stop}
 use Rattle.validator_process.specs.declared.stop.Stop.TheVariants as stop
-use Rattle.validator_process.specs.Ending.{EndsJournal, EndsLife, EndsProcess, EndsTask, EndsText, HasHead, IsHeadRefused, HasCause, IsOfWrite, IsSaid, IsStatus, IsUnopenedBy, SaysUnopened, SaysUnstarted, kept_in, program_trust}
+use Rattle.validator_process.specs.Ending.{EndsJournal, EndsLife, EndsProcess, EndsTask, EndsText, HasHead, IsHeadRefused, HasCause, IsNoGenesis, IsOfWrite, IsSaid, IsUnopenedBy, SaysUnopened, SaysUnstarted, kept_in, program_trust}
 use Rattle.validator_process.specs.declared.words.Task.{Task}
 use Rattle.validator_process.specs.declared.words.Task.TheVariants as task
 use Rattle.validator_process.specs.Genesis.{genesis_of, line_status}
 use Rattle.validator_process.specs.Starting.{LivesCut, LivesWhole, OpensAs, StartsAs, start_bytes}
 use Rattle.validator_process.specs.Stops.{status_of}
-
--- ---- statuses
-
-pub stop_status : (why : Stop) → IsStatus (status_of why)
-stop_status stop.ReadFault = inr (inr (inl refl))
-stop_status stop.WriteFault = inr (inr (inr (inl refl)))
-stop_status stop.KeepFault = inr (inr (inr (inr (inl refl))))
-stop_status stop.OutOfMemory = inr (inr (inr (inr (inr (inl refl)))))
-
-pub start_status : (line : StartLine) → IsStatus (line_status line)
-start_status (start.Ready member epoch seen checkpoints records) = inl refl
-start_status (start.Made member genesis) = inl refl
-start_status (start.NoSchedule line cause) = inr (inl refl)
-start_status start.HasEvents = inr (inr (inr (inr (inr (inr refl)))))
-start_status (start.NoMember member) = inr (inr (inr (inr (inr (inr refl)))))
-start_status start.NotMade = inr (inr (inr (inr (inr (inr refl)))))
-start_status start.OtherMember = inr (inr (inr (inr (inr (inr refl)))))
-start_status start.OtherGenesis = inr (inr (inr (inr (inr (inr refl)))))
-start_status start.NotEmpty = inr (inr (inr (inr (inr (inr refl)))))
-start_status (start.BadRecord place) = inr (inr (inr (inr (inl refl))))
 
 -- ---- a line that ends a process
 
@@ -70,19 +50,6 @@ module _ (line : StartLine) (held held' : Option (List ℕ)) (w w' : ℕ) where
     cause = of_write w w' why (λ e. rose (is ∙ ap (λ (s : Stop). Err s) e)) (λ e. only.0 (is ∙ ap (λ (s : Stop). Err s) e)) (λ e. only.1 (is ∙ ap (λ (s : Stop). Err s) e));
     writes = writes;
   })
-
-module _ (held held' : Option (List ℕ)) (w w' status : ℕ) where
-  pub said_status : (line : StartLine) → IsSaid line held held' w w' status → IsStatus status
-  said_status line (inl whole) = subst IsStatus (sym whole.ends) (start_status line)
-  said_status line (inr cut) = subst IsStatus (sym cut.ends) (stop_status cut.why)
-
-  pub unstarted_status : (why : Unstarted) → SaysUnstarted why held held' w w' status → IsStatus status
-  unstarted_status (unstarted.Refused line) said = said_status line said
-  unstarted_status (unstarted.Stopped why) said = subst IsStatus (sym said.0) (stop_status why)
-
-  pub unopened_status : (why : Unopened) → SaysUnopened why held held' w w' status → IsStatus status
-  unopened_status unopened.BadList said = said_status start.NotMade said
-  unopened_status (unopened.Stopped why) said = subst IsStatus (sym said.0) (stop_status why)
 
 -- ---- a life over a keeper
 
@@ -157,9 +124,9 @@ unopened_ends accepts scene m told told' left held held' r w w' k k' status why 
 
 -- ---- from the text of a set-up
 
-module _ (trust : Trust) (accepts : Accepting) (m : ℕ) (text : List ℕ) (told : Option History) (left held held' : Option (List ℕ)) (r w w' k status : ℕ) where
-  pub no_genesis : (why : Unstarted) → OpensAs (genesis_of trust m text) (Err why) → SaysUnstarted why held held' w w' status → EndsText trust accepts m text told told left left held held' r r w w' k k status
-  no_genesis (unstarted.Refused line) opens said = inl (record {
+module _ (trust : Trust) (m : ℕ) (text : List ℕ) (told : Option History) (left held held' : Option (List ℕ)) (w w' k status : ℕ) where
+  pub setup_refused : (why : Unstarted) → OpensAs (genesis_of trust m text) (Err why) → SaysUnstarted why held held' w w' status → IsNoGenesis trust m text told told left left held held' w w' k k status
+  setup_refused (unstarted.Refused line) opens said = record {
     why = unstarted.Refused line;
     is = λ l e. opens ∙ ap (λ (u : StartLine). Err u) (cc);
     memory = λ s e. absurd (cc);
@@ -167,8 +134,8 @@ module _ (trust : Trust) (accepts : Accepting) (m : ℕ) (text : List ℕ) (told
     unread = refl;
     disk = refl;
     uncounted = refl;
-  })
-  no_genesis (unstarted.Stopped why) opens said = inl (record {
+  }
+  setup_refused (unstarted.Stopped why) opens said = record {
     why = unstarted.Stopped why;
     is = λ l e. absurd (cc);
     memory = λ s e. let it : why ≡ s = cc in sym it ∙ opens;
@@ -176,7 +143,11 @@ module _ (trust : Trust) (accepts : Accepting) (m : ℕ) (text : List ℕ) (told
     unread = refl;
     disk = refl;
     uncounted = refl;
-  })
+  }
+
+pub no_genesis : (trust : Trust) (accepts : Accepting) (m : ℕ) (text : List ℕ) (told : Option History) (left held held' : Option (List ℕ)) (r w w' k status : ℕ) (why : Unstarted) → OpensAs (genesis_of trust m text) (Err why) → SaysUnstarted why held held' w w' status
+    → EndsText trust accepts m text told told left left held held' r r w w' k k status
+no_genesis trust accepts m text told left held held' r w w' k status why opens said = inl (setup_refused trust m text told left held held' w w' k status why opens said)
 
 module _ (trust : Trust) (accepts : Accepting) (m : ℕ) (text : List ℕ) (told told' : Option History) (left left' held held' : Option (List ℕ)) (r r' w w' k k' status : ℕ) (scene : Scene) where
   pub begun_ends : (mid : ℕ) (at : Option History) → genesis_of trust m text ≡ Ok scene → HasHead told m text head.Own → at ≡ told → k ≤ mid → EndsJournal accepts scene m at told' left left' held held' r r' w w' mid k' status

@@ -6,3 +6,6 @@ mod Moving
 mod Served
 mod Shorts
 mod Started
+mod Readable
+mod Lives
+mod Made

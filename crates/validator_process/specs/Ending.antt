@@ -1,10 +1,10 @@
 -- How a process ends: its status, why it stopped, and the line that says why no member starts. Source: this profile.
-use Rattle.std.specs.Prelude.{◌≡◌, ◌⊎◌, ℕ, ◌≤◌, List, Option, Some, Ok, Err}
+use Rattle.std.specs.Prelude.{◌≡◌, ◌⊎◌, ℕ, ◌<◌, ◌≤◌, List, [], length, Option, Some, None, Ok, Err}
 use Rattle.std.specs.Io.KnownBytes.{Appends}
 use Rattle.outside.specs.Causes.{Rose}
-use Rattle.outside.specs.Lists.{Journals, KeepsJournals}
+use Rattle.outside.specs.Lists.{AddsRecord, Journals, KeepsJournals}
 use Rattle.disk_log.specs.Disk.{History, IfTold}
-use Rattle.disk_log.specs.Records.{bad_member, counted}
+use Rattle.disk_log.specs.Records.{bad_member, counted, journals_of}
 use Rattle.disk_log.specs.Running.{HoldsLists, Unchanged, lists_in}
 use Rattle.world_spec.specs.Keyed.{keyed, program_secret}
 use Rattle.world_spec.specs.Setting.{Trust}
@@ -26,15 +26,11 @@ use Rattle.validator_process.specs.declared.stop.Stop.TheVariants as stop
 use Rattle.validator_process.specs.declared.words.Task.{Task}
 use Rattle.validator_process.specs.declared.words.Task.TheVariants as task
 use Rattle.validator_process.specs.Genesis.{genesis_of, line_status}
-use Rattle.validator_process.specs.Identity.{genesis_digest, head_of_file}
+use Rattle.validator_process.specs.Identity.{genesis_digest, head_of_file, identity_bytes}
 use Rattle.validator_process.specs.Starting.{IsInside, LivesCut, LivesWhole, StartsAs, start_bytes}
 use Rattle.validator_process.specs.Stops.{status_of}
 
--- ---- statuses
-
--- the statuses that a process ends with
-abbrev pub IsStatus : ℕ → Type 0
-IsStatus n = (n ≡ 0) ⊎ (n ≡ 3) ⊎ (n ≡ 4) ⊎ (n ≡ 5) ⊎ (n ≡ 6) ⊎ (n ≡ 7) ⊎ (n ≡ 8)
+-- ---- faults
 
 -- a stop by a fault comes only if the count of its stream or of the journal rose
 abbrev pub HasCause : Stop → ℕ → ℕ → ℕ → ℕ → ℕ → ℕ → Type 0
@@ -211,9 +207,74 @@ EndsText trust accepts m text told told' left left' held held' r r' w w' k k' st
 abbrev pub program_trust : Trust
 program_trust = keyed program_secret
 
--- the task of a text ended; one that makes a journal reads no request, and ends with one of the statuses
+-- ---- a process that makes a journal
+
+-- no list has a record
+abbrev pub AreFresh : Option Journals → Type 0
+AreFresh None = Unit {0}
+AreFresh (Some lists) = lists ≡ journals_of 65 []
+
+-- lists with the record that says of which member and of which set-up they are
+abbrev pub AddsIdentity : ℕ → List ℕ → Option Journals → Option Journals → Type 0
+AddsIdentity m text kept kept' = AddsRecord kept kept' 64 (identity_bytes m (genesis_digest text))
+
+-- the lists were empty and have that record, and a line says so
+pub record IsMade (m : ℕ) (text : List ℕ) (held held' : Option (List ℕ)) (kept kept' : Option Journals) (w w' status : ℕ) : Type 0 where
+  pub fresh : AreFresh kept
+  pub adds : AddsIdentity m text kept kept'
+  pub said : IsSaid (start.Made m (genesis_digest text)) held held' w w' status
+
+-- the lists had a record, and stay as they were
+pub record IsFull (held held' : Option (List ℕ)) (kept kept' : Option Journals) (w w' status : ℕ) : Type 0 where
+  pub same : KeepsJournals kept kept'
+  pub said : IsSaid start.NotEmpty held held' w w' status
+
+-- a fault of the journal, after which the lists have that record or not, or of memory: nothing is written
+pub record IsUnmade (m : ℕ) (text : List ℕ) (held held' : Option (List ℕ)) (kept kept' : Option Journals) (k k' status : ℕ) : Type 0 where
+  pub why : Stop
+  pub inside : IsInside why
+  pub ends : status ≡ status_of why
+  pub cause : why ≡ stop.KeepFault → Rose k k'
+  pub unsaid : held' ≡ held
+  pub keeps : AddsIdentity m text kept kept' ⊎ KeepsJournals kept kept'
+
+abbrev pub EndsLists : ℕ → List ℕ → Option (List ℕ) → Option (List ℕ) → Option Journals → Option Journals → ℕ → ℕ → ℕ → ℕ → ℕ → Type 0
+EndsLists m text held held' kept kept' w w' k k' status =
+    IsMade m text held held' kept kept' w w' status
+    ⊎ IsFull held held' kept kept' w w' status
+    ⊎ IsUnmade m text held held' kept kept' k k' status
+
+-- the journal was opened, and the disk holds the lists that were left
+pub record IsMaking (m : ℕ) (text : List ℕ) (told told' : Option History) (held held' : Option (List ℕ)) (w w' k k' status : ℕ) : Type 0 where
+  pub opened : ℕ
+  pub width : ℕ
+  pub lists : Option Journals
+  pub later : k ≤ opened
+  pub ends : EndsLists m text held held' (kept_in told) lists w w' opened k' status
+  pub holds : HoldsLists width k' told' lists
+
+abbrev pub EndsMaking : ℕ → List ℕ → Option History → Option History → Option (List ℕ) → Option (List ℕ) → ℕ → ℕ → ℕ → ℕ → ℕ → Type 0
+EndsMaking m text told told' held held' w w' k k' status =
+    IsMaking m text told told' held held' w w' k k' status
+    ⊎ IsUnopened told told' None None held held' w w' k k' status
+
+-- the disk has more bytes than a making that was cut leaves, and is as it was
+pub record IsTooLong (told told' : Option History) (held held' : Option (List ℕ)) (w w' k k' status : ℕ) : Type 0 where
+  pub long : IfTold told (λ h. 66 < length h.now.reads)
+  pub said : IsSaid start.NotEmpty held held' w w' status
+  pub disk : told' ≡ told
+  pub uncounted : k' ≡ k
+
+-- a journal is made for a text that makes a committee with this member
+abbrev pub EndsMade : Trust → ℕ → List ℕ → Option History → Option History → Option (List ℕ) → Option (List ℕ) → ℕ → ℕ → ℕ → ℕ → ℕ → Type 0
+EndsMade trust m text told told' held held' w w' k k' status =
+    IsNoGenesis trust m text told told' None None held held' w w' k k' status
+    ⊎ IsTooLong told told' held held' w w' k k' status
+    ⊎ EndsMaking m text told told' held held' w w' k k' status
+
+-- the task of a text ended; one that makes a journal reads no request
 abbrev pub EndsTask : Task → List ℕ → Option History → Option History → Option (List ℕ) → Option (List ℕ) → Option (List ℕ) → Option (List ℕ) → ℕ → ℕ → ℕ → ℕ → ℕ → ℕ → ℕ → Type 0
-EndsTask (task.Make m) text told told' left left' held held' r r' w w' k k' status = (left' ≡ left) × (r' ≡ r) × IsStatus status
+EndsTask (task.Make m) text told told' left left' held held' r r' w w' k k' status = (left' ≡ left) × (r' ≡ r) × EndsMade program_trust m text told told' held held' w w' k k' status
 EndsTask (task.Serve m) text told told' left left' held held' r r' w w' k k' status = EndsText program_trust program_trust.accepts m text told told' left left' held held' r r' w w' k k' status
 
 -- the set-up was not read: nothing else is read, written and kept

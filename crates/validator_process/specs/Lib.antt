@@ -7,3 +7,4 @@ pub mod Identity
 pub mod Genesis
 pub mod Starting
 pub mod Ending
+pub mod Living

@@ -21,10 +21,6 @@ abbrev pub unwritten : OutFault → Stop
 unwritten fault.Failed = stop.WriteFault
 unwritten fault.OutOfMemory = stop.OutOfMemory
 
-abbrev pub unkept : OutFault → Stop
-unkept fault.Failed = stop.KeepFault
-unkept fault.OutOfMemory = stop.OutOfMemory
-
 abbrev pub unanswered : SeatFault → Stop
 unanswered seat.KeepFault = stop.KeepFault
 unanswered seat.OutOfMemory = stop.OutOfMemory

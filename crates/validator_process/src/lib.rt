@@ -13,6 +13,7 @@ mod asking;
 mod entries;
 mod identity;
 mod journal;
+mod living;
 mod looking;
 mod making;
 mod opening;
@@ -26,5 +27,6 @@ mod turning;
 mod voting;
 mod words;
 
+pub use living::processes_live;
 pub use top::validator;
 pub use words::{Task, task_of};

@@ -1,21 +1,30 @@
 //! Making a journal.
 
-ghost use Rattle.std.specs.Prelude.{◌≡◌, length};
-ghost use Rattle.validator_process.specs.Ending.{IsStatus};
+ghost use Rattle.std.specs.Prelude.{◌≡◌, ◌⊎◌, ◌≤◌, IfErr, IfOk, IsErrOf, OnErr, OnOk, length};
+ghost use Rattle.outside.specs.Causes.{Rose};
+ghost use Rattle.outside.specs.Lists.{KeepsJournals};
+ghost use Rattle.disk_log.specs.Keeping.{told_lists};
+ghost use Rattle.process_lines.specs.declared.starts.StartLine.TheVariants as start;
+ghost use Rattle.world_core.specs.Trusts.{trust_by};
+ghost use Rattle.validator_process.specs.declared.stop.Stop.TheVariants as stop;
+ghost use Rattle.validator_process.specs.Ending.{AddsIdentity, AreFresh, EndsLists, EndsMade, EndsMaking};
+ghost use Rattle.validator_process.specs.Identity.{genesis_digest};
+ghost use Rattle.validator_process.specs.Starting.{IsInside};
 
 use crate::identity::{HEAD_SIZE, IDENTITY_LIST, genesis_digest, identity_of};
 use crate::journal::open_journal;
 use crate::reading::open_world;
 use crate::starting::{say_ended, say_unopened, say_unstarted};
-use crate::stop::{Stop, unkept};
+use crate::stop::Stop;
 use disk_log::{Disk, RunLog};
-use outside::{Keeper, Sink};
+use outside::{Keeper, OutFault, Sink};
 use process_lines::StartLine;
 use std::alloc::Global;
 use wire_bcs::OutOfMemory;
 use world_names::MakesSeals;
 
 /// Appends the first record.
+#[tactic(auto, using(crate::proofs::Made::identity_added, crate::proofs::Made::identity_failed, crate::proofs::Made::identity_lacked, crate::proofs::Made::nothing_added))]
 fn keep_identity<F: Disk>(
     alloc: Global,
     log: &mut RunLog<F>,
@@ -23,6 +32,13 @@ fn keep_identity<F: Disk>(
     text: &[u8],
 ) -> Result<StartLine, Stop>
     requires width { length log.old.counts ≡ 65 }
+    ensures made { IfOk result (λ line. line ≡ start.Made member (genesis_digest text.now)) }
+    ensures adds { OnOk result (AddsIdentity member text.now (told_lists (F.history log.old.disk) log.old.end (length log.old.counts)) (told_lists (F.history log.new.disk) log.new.end (length log.new.counts))) }
+    ensures keeps { OnErr result (AddsIdentity member text.now (told_lists (F.history log.old.disk) log.old.end (length log.old.counts)) (told_lists (F.history log.new.disk) log.new.end (length log.new.counts)) ⊎ KeepsJournals (told_lists (F.history log.old.disk) log.old.end (length log.old.counts)) (told_lists (F.history log.new.disk) log.new.end (length log.new.counts))) }
+    ensures inside { IfErr result IsInside }
+    ensures width { length log.new.counts ≡ 65 }
+    ensures later { F.failed log.old.disk ≤ F.failed log.new.disk }
+    ensures fault { IsErrOf result stop.KeepFault → Rose (F.failed log.old.disk) (F.failed log.new.disk) }
 {
     let genesis = genesis_digest(text);
     let bytes = match identity_of(alloc, member, &genesis) {
@@ -31,12 +47,32 @@ fn keep_identity<F: Disk>(
     };
     match log.append(IDENTITY_LIST, bytes.as_slice()) {
         Ok(()) => Ok(StartLine::Made { member, genesis }),
-        Err(fault) => Err(unkept(fault)),
+        Err(OutFault::Failed) => Err(Stop::KeepFault),
+        Err(OutFault::OutOfMemory) => Err(Stop::OutOfMemory),
+    }
+}
+
+/// Appends the first record to a log that has none, and says so. Answers the status.
+#[tactic(auto, using(crate::proofs::Made::made, crate::proofs::Made::unmade))]
+fn make_first<F: Disk, K: Sink>(
+    alloc: Global,
+    log: &mut RunLog<F>,
+    member: u32,
+    text: &[u8],
+    sink: &mut K,
+) -> u8
+    requires width { length log.old.counts ≡ 65 }
+    requires fresh { AreFresh (told_lists (F.history log.old.disk) log.old.end (length log.old.counts)) }
+    ensures { EndsLists member text.now (K.held sink.old) (K.held sink.new) (told_lists (F.history log.old.disk) log.old.end (length log.old.counts)) (told_lists (F.history log.new.disk) log.new.end (length log.new.counts)) (K.faults sink.old) (K.faults sink.new) (F.failed log.old.disk) (F.failed log.new.disk) result }
+{
+    match keep_identity(alloc, log, member, text) {
+        Ok(start) => say_ended(alloc, &start, sink),
+        Err(stop) => stop.status(),
     }
 }
 
 /// Appends the first record to a log that has none. Answers the status.
-#[tactic(auto, using(crate::proofs::Ended::said_status, crate::proofs::Ended::stop_status))]
+#[tactic(auto, using(crate::proofs::Made::no_lists, crate::proofs::Made::full))]
 fn make_over<F: Disk, K: Sink>(
     alloc: Global,
     log: &mut RunLog<F>,
@@ -45,19 +81,16 @@ fn make_over<F: Disk, K: Sink>(
     sink: &mut K,
 ) -> u8
     requires width { length log.old.counts ≡ 65 }
-    ensures { IsStatus result }
+    ensures { EndsLists member text.now (K.held sink.old) (K.held sink.new) (told_lists (F.history log.old.disk) log.old.end (length log.old.counts)) (told_lists (F.history log.new.disk) log.new.end (length log.new.counts)) (K.faults sink.old) (K.faults sink.new) (F.failed log.old.disk) (F.failed log.new.disk) result }
 {
-    if !log.is_empty() {
-        return say_ended(alloc, &StartLine::NotEmpty, sink);
+    if log.is_empty() {
+        return make_first(alloc, log, member, text, sink);
     }
-    match keep_identity(alloc, log, member, text) {
-        Ok(start) => say_ended(alloc, &start, sink),
-        Err(stop) => stop.status(),
-    }
+    say_ended(alloc, &StartLine::NotEmpty, sink)
 }
 
 /// Makes the journal on a disk that has no more than an interrupted making leaves. Gives the disk back.
-#[tactic(auto, using(crate::proofs::Ended::unopened_status))]
+#[tactic(auto, using(crate::proofs::Made::making, crate::proofs::Made::unmaking))]
 fn make_journal<F: Disk, K: Sink>(
     alloc: Global,
     disk: F,
@@ -65,7 +98,7 @@ fn make_journal<F: Disk, K: Sink>(
     text: &[u8],
     sink: &mut K,
 ) -> (u8, F)
-    ensures { IsStatus result.0 }
+    ensures { EndsMaking member text.now (F.history disk) (F.history result.1) (K.held sink.old) (K.held sink.new) (K.faults sink.old) (K.faults sink.new) (F.failed disk) (F.failed result.1) result.0 }
 {
     match open_journal(alloc, disk) {
         Ok(log) => {
@@ -79,7 +112,7 @@ fn make_journal<F: Disk, K: Sink>(
 
 /// Makes the journal of the member of the set-up that the text is. A disk that has more bytes than an interrupted making
 /// leaves is refused, and nothing is written to it. Gives the disk back.
-#[tactic(auto, using(crate::proofs::Ended::said_status, crate::proofs::Ended::unstarted_status))]
+#[tactic(auto, using(crate::proofs::Made::no_setup, crate::proofs::Made::too_long, crate::proofs::Made::made_for))]
 pub(crate) fn make_text<F: Disk, S: MakesSeals, K: Sink>(
     alloc: Global,
     text: &[u8],
@@ -88,7 +121,7 @@ pub(crate) fn make_text<F: Disk, S: MakesSeals, K: Sink>(
     sealer: &S,
     sink: &mut K,
 ) -> (u8, F)
-    ensures { IsStatus result.0 }
+    ensures { EndsMade (trust_by (S.made sealer.now) (S.accepts sealer.now)) member text.now (F.history disk) (F.history result.1) (K.held sink.old) (K.held sink.new) (K.faults sink.old) (K.faults sink.new) (F.failed disk) (F.failed result.1) result.0 }
 {
     match open_world(alloc, text, member, sealer) {
         Ok(world) => drop(world),

@@ -1,7 +1,7 @@
 //! How a process ends early.
 
 ghost use Rattle.std.specs.Prelude.{◌≡◌};
-ghost use Rattle.validator_process.specs.Stops.{status_of, unanswered, unkept, unread, unwritten};
+ghost use Rattle.validator_process.specs.Stops.{status_of, unanswered, unread, unwritten};
 
 use outside::OutFault;
 use world_core::SeatFault;
@@ -48,16 +48,6 @@ pub(crate) fn unwritten(fault: OutFault) -> Stop
 {
     match fault {
         OutFault::Failed => Stop::WriteFault,
-        OutFault::OutOfMemory => Stop::OutOfMemory,
-    }
-}
-
-/// A fault of the journal.
-pub(crate) fn unkept(fault: OutFault) -> Stop
-    ensures { result ≡ unkept fault }
-{
-    match fault {
-        OutFault::Failed => Stop::KeepFault,
         OutFault::OutOfMemory => Stop::OutOfMemory,
     }
 }

@@ -24,7 +24,7 @@ fn program_sealer() -> KeyedSeal
 }
 
 /// Does the task of a text, over a disk. Gives the disk back.
-#[tactic(auto, using(crate::proofs::Ended::same_trust))]
+#[tactic(auto, using(crate::proofs::Ended::same_trust, crate::proofs::Made::same_maker))]
 fn validator_of<R: Threads + Sync, I: Source, K: Sink, F: Disk>(
     rt: &R,
     alloc: Global,

@@ -1,0 +1,8 @@
+//! The lives of the processes of one member on one file.
+ghost use Rattle.validator_process.specs.Living.{ProcessesLive};
+
+/// Over any processes of one member on one file, each ended by the end of its input, by a fault, or by a crash after its
+/// last call: what they answered are the calls of lives, and nothing of it is taken back.
+pub fn processes_live()
+    ensures { ProcessesLive }
+{}
