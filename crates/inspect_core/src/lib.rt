@@ -16,8 +16,11 @@ mod digests;
 mod lines;
 mod members;
 mod pairs;
+mod part;
 mod questions;
 mod sealing;
+mod state_lines;
+mod states;
 mod suspects;
 mod top;
 
