@@ -33,4 +33,6 @@ pub use top::inspect;
 #[cfg(test)]
 mod blame_tests;
 #[cfg(test)]
+mod states_tests;
+#[cfg(test)]
 mod tests;

@@ -34,11 +34,7 @@ fn faulty_line(alloc: Global, member: u32) -> Result<Seq<u8>, OutOfMemory>
 }
 
 /// The line of a member that is not honest and up, by whether it is honest.
-pub(crate) fn absent_line(
-    alloc: Global,
-    member: u32,
-    honest: bool,
-) -> Result<Seq<u8>, OutOfMemory>
+pub(crate) fn absent_line(alloc: Global, member: u32, honest: bool) -> Result<Seq<u8>, OutOfMemory>
     ensures { IfOk result (λ text. text ≡ absent_text member honest) }
 {
     if honest {
