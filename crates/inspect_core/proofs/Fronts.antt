@@ -3,7 +3,7 @@ use Rattle.std.proofs.Common.{◌≡◌, ◌==◌, ◌∙◌, ◌<◌, ◌≤◌
 use Rattle.std.specs.List.{join_with_byte, onto_first}
 use Rattle.std.proofs.lemmas.Bool.{eqb-true}
 use Rattle.schedule_text.specs.Schedule.{lines_of}
-use Rattle.inspect_core.specs.Part.{first_lines, go_on, line_end, one_less, past}
+use Rattle.inspect_core.specs.Part.{first_lines, go_on, line_end, past}
 
 -- ---- lines
 
@@ -59,28 +59,27 @@ front_is (suc more) (b ∷ bs) = go (b == 10) refl (front_is more bs) (front_is 
     go false is rest same = onto_front b (suc more) (lines_of bs) ∙ ap (λ (t : List ℕ). b ∷ t) same
 
 end_is : (place more : ℕ) (text : List ℕ) → line_end place more text ≡ place + bytes_to more text
+unfolding line_end past
 end_is place zero [] = omega arith
 end_is place (suc more) [] = omega arith
 end_is place zero (b ∷ bs) = go (b == 10) (end_is (place + 1) zero bs)
   where
     go : (ends : Bool) → line_end (place + 1) zero bs ≡ (place + 1) + bytes_to zero bs
-        → go_on (if ends then one_less zero else Some zero) place (λ left. line_end (place + 1) left bs) ≡ place + cond ends 0 (suc (bytes_to zero bs))
+        → go_on (if ends then None else Some zero) place (λ left. line_end (place + 1) left bs) ≡ place + cond ends 0 (suc (bytes_to zero bs))
     go true rest = omega arith
     go false rest = omega (arith, rest)
 end_is place (suc more) (b ∷ bs) = go (b == 10) (end_is (place + 1) more bs) (end_is (place + 1) (suc more) bs)
   where
     go : (ends : Bool) → line_end (place + 1) more bs ≡ (place + 1) + bytes_to more bs → line_end (place + 1) (suc more) bs ≡ (place + 1) + bytes_to (suc more) bs
-        → go_on (if ends then one_less (suc more) else Some (suc more)) place (λ left. line_end (place + 1) left bs) ≡ place + suc (cond ends (bytes_to more bs) (bytes_to (suc more) bs))
-    go true rest same = omega (arith, rest)
+        → go_on (if ends then Some (suc more - 1) else Some (suc more)) place (λ left. line_end (place + 1) left bs) ≡ place + suc (cond ends (bytes_to more bs) (bytes_to (suc more) bs))
+    go true rest same =
+        let less : suc more - 1 ≡ more = omega arith in
+        ap (λ (left : ℕ). line_end (place + 1) left bs) less ∙ (let sum : line_end (place + 1) more bs ≡ place + suc (bytes_to more bs) = omega (arith, rest) in sum)
     go false rest same = omega (arith, same)
 
 -- ---- the code
 
-pub less_by_one : (n : ℕ) → 1 ≤ n → Some (n - 1) ≡ one_less n
-less_by_one zero some = absurd (omega (arith, some))
-less_by_one (suc n) some = ap (λ (k : ℕ). Some k) (let k : suc n - 1 ≡ n = omega arith in k)
-
-pub no_lines : (n : ℕ) (text : List ℕ) → n < 1 → [] ≡ first_lines n text
+pub no_lines : (n : ℕ) (text : List ℕ) → n < 1 → take 0 text ≡ first_lines n text
 unfolding first_lines
 no_lines zero text none = refl
 no_lines (suc n) text none = absurd (omega (arith, none))

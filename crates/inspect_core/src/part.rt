@@ -7,20 +7,18 @@ ghost use Rattle.inspect_core.specs.Part.{first_lines, line_end, part_of, past};
 use crate::questions::Question;
 
 /// How many ends of lines are still to be passed after a byte; none if it ends the last of these lines.
-#[tactic(auto, using(crate::proofs::Fronts::less_by_one))]
+#[tactic(auto, unfolding(crate::specs::Part::past))]
 fn past(more: u64, byte: u8) -> Option<u64>
     ensures { result ≡ past more byte }
 {
     if byte != b'\n' {
         return Some(more);
     }
-    if more < 1 {
-        return None;
-    }
-    Some(more - 1)
+    if 0 < more { Some(more - 1) } else { None }
 }
 
 /// The place where the line ends that stands behind so many ends of lines.
+#[tactic(auto, unfolding(crate::specs::Part::line_end))]
 fn line_end(text: &[u8], more: u64) -> usize
     ensures value { result ≡ line_end 0 more text.now }
     ensures within { result ≤ length text.now }

@@ -87,7 +87,6 @@ fn add_member(
 }
 
 /// The lines of all members.
-#[tactic(auto, using(crate::proofs::Stated::all_told))]
 fn members_text(alloc: Global, world: &World) -> Result<Seq<u8>, OutOfMemory>
     ensures { IfOk result (λ text. text ≡ states_text world.now.known (states_in world.now.posts) 0 (honest_flags world.now.posts)) }
 {
