@@ -1,6 +1,6 @@
 //! The answers of `states` and of `states L`.
 
-ghost use Rattle.std.specs.Prelude.{◌≡◌, ◌++◌, IfOk, IfSome, None, OnOk, Some, length, slice_get};
+ghost use Rattle.std.specs.Prelude.{◌≡◌, ◌++◌, IfOk, OnOk, length, slice_get};
 ghost use Rattle.std.specs.List.{flat_map};
 ghost use Rattle.schedule_text.specs.Schedule.{lines_of};
 ghost use Rattle.world_core.specs.Crews.{honest_flags, honest_post};
