@@ -1,7 +1,10 @@
 -- The first lines of a text are what stands before the end of the last of them.
-use Rattle.std.proofs.Common.{◌≡◌, ◌==◌, ◌∙◌, ◌<◌, ◌≤◌, ◌+◌, ◌-◌, ℕ, zero, suc, Bool, true, false, cond, if◌then◌else◌, List, [], ◌∷◌, take, Some, None, refl, sym, ap, arith}
+use Rattle.std.proofs.Common.{◌≡◌, ◌==◌, ◌∙◌, ◌<◌, ◌≤◌, ◌+◌, ◌-◌, ℕ, zero, suc, Bool, true, false, cond, if◌then◌else◌, List, [], ◌∷◌, length, take, Option, Some, None, refl, sym, ap, arith}
+use Rattle.std.specs.Prelude.{count_by, nat_lt}
 use Rattle.std.specs.List.{join_with_byte, onto_first}
-use Rattle.std.proofs.lemmas.Bool.{eqb-true}
+use Rattle.std.proofs.lemmas.Bool.{eqb-true, lt-ltb}
+use Rattle.std.proofs.lemmas.List.Sums.{count_by-le-length}
+use Rattle.std.proofs.lemmas.List.Splits.{length-slice_split}
 use Rattle.schedule_text.specs.Schedule.{lines_of}
 use Rattle.inspect_core.specs.Part.{first_lines, go_on, line_end, past}
 
@@ -36,7 +39,7 @@ empty_front n (b ∷ bs) = go (b == 10)
 -- ---- bytes
 
 -- the bytes before the end of the line that stands behind so many ends of lines
-bytes_to : ℕ → List ℕ → ℕ
+abbrev bytes_to : ℕ → List ℕ → ℕ
 bytes_to zero [] = 0
 bytes_to (suc more) [] = 0
 bytes_to zero (b ∷ bs) = cond (b == 10) 0 (suc (bytes_to zero bs))
@@ -58,6 +61,13 @@ front_is (suc more) (b ∷ bs) = go (b == 10) refl (front_is more bs) (front_is 
     go true is rest same = empty_front more bs ∙ ap (λ (t : List ℕ). 10 ∷ t) rest ∙ ap (λ (x : ℕ). x ∷ take (bytes_to more bs) bs) (sym (eqb-true b 10 is))
     go false is rest same = onto_front b (suc more) (lines_of bs) ∙ ap (λ (t : List ℕ). b ∷ t) same
 
+some_past : (more : ℕ) → (if nat_lt 0 (suc more) then Some (suc more - 1) else None) ≡ Some more
+some_past more = go (nat_lt 0 (suc more)) (lt-ltb 0 (suc more) (omega arith))
+  where
+    go : (b : Bool) → b ≡ true → (if b then Some (suc more - 1) else None) ≡ Some more
+    go true is = ap (λ (k : ℕ). Some k) (let less : suc more - 1 ≡ more = omega arith in less)
+    go false is = absurd (cc)
+
 end_is : (place more : ℕ) (text : List ℕ) → line_end place more text ≡ place + bytes_to more text
 unfolding line_end past
 end_is place zero [] = omega arith
@@ -68,16 +78,21 @@ end_is place zero (b ∷ bs) = go (b == 10) (end_is (place + 1) zero bs)
         → go_on (if ends then None else Some zero) place (λ left. line_end (place + 1) left bs) ≡ place + cond ends 0 (suc (bytes_to zero bs))
     go true rest = omega arith
     go false rest = omega (arith, rest)
-end_is place (suc more) (b ∷ bs) = go (b == 10) (end_is (place + 1) more bs) (end_is (place + 1) (suc more) bs)
+end_is place (suc more) (b ∷ bs) =
+    ap (λ (o : Option ℕ). go_on (if b == 10 then o else Some (suc more)) place (λ left. line_end (place + 1) left bs)) (some_past more) ∙ go (b == 10) (end_is (place + 1) more bs) (end_is (place + 1) (suc more) bs)
   where
     go : (ends : Bool) → line_end (place + 1) more bs ≡ (place + 1) + bytes_to more bs → line_end (place + 1) (suc more) bs ≡ (place + 1) + bytes_to (suc more) bs
-        → go_on (if ends then Some (suc more - 1) else Some (suc more)) place (λ left. line_end (place + 1) left bs) ≡ place + suc (cond ends (bytes_to more bs) (bytes_to (suc more) bs))
-    go true rest same =
-        let less : suc more - 1 ≡ more = omega arith in
-        ap (λ (left : ℕ). line_end (place + 1) left bs) less ∙ (let sum : line_end (place + 1) more bs ≡ place + suc (bytes_to more bs) = omega (arith, rest) in sum)
+        → go_on (if ends then Some more else Some (suc more)) place (λ left. line_end (place + 1) left bs) ≡ place + suc (cond ends (bytes_to more bs) (bytes_to (suc more) bs))
+    go true rest same = omega (arith, rest)
     go false rest same = omega (arith, same)
 
 -- ---- the code
+
+pub few_ends : (text : List ℕ) → count_by (λ b. b == 10) text ≤ length text
+few_ends text = count_by-le-length (λ b. b == 10) text
+
+pub lines_counted : (text : List ℕ) → length (lines_of text) ≡ count_by (λ b. b == 10) text + 1
+lines_counted text = length-slice_split (λ b. b == 10) text
 
 pub no_lines : (n : ℕ) (text : List ℕ) → n < 1 → take 0 text ≡ first_lines n text
 unfolding first_lines

@@ -1,6 +1,6 @@
 //! The part of a schedule that a question runs.
 
-ghost use Rattle.std.specs.Prelude.{◌≡◌, ◌≤◌, length};
+ghost use Rattle.std.specs.Prelude.{◌≡◌, ◌==◌, ◌≤◌, count_by, length};
 ghost use Rattle.schedule_text.specs.Schedule.{lines_of};
 ghost use Rattle.inspect_core.specs.Part.{first_lines, line_end, part_of, past};
 
@@ -48,11 +48,21 @@ fn first_lines(text: &[u8], lines: u64) -> &[u8]
     &text[..line_end(text, lines - 1)]
 }
 
+/// The number of ends of lines in a text.
+#[tactic(auto, using(crate::proofs::Fronts::few_ends))]
+fn line_ends(text: &[u8]) -> usize
+    ensures value { result ≡ count_by (λ b. b == 10) text.now }
+    ensures within { result ≤ length text.now }
+{
+    text.iter().filter(|byte| **byte == b'\n').count()
+}
+
 /// The number of lines of a text. Takes no memory.
-pub(crate) fn line_count(text: &[u8]) -> usize
+#[tactic(auto, using(crate::proofs::Fronts::lines_counted))]
+pub(crate) fn line_count(text: &[u8]) -> u64
     ensures { result ≡ length (lines_of text.now) }
 {
-    text.split(|byte| *byte == b'\n').count()
+    line_ends(text) as u64 + 1
 }
 
 /// What a question runs of a text. Takes no memory.

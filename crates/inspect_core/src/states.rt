@@ -128,7 +128,7 @@ pub(crate) fn states_at_answer(
 ) -> Result<Answer, OutOfMemory>
     ensures { IfOk result (λ a. SaysStatesAt line (length (lines_of text.now)) world.now.known (honest_flags world.now.posts) (states_in world.now.posts) a.status a.text) }
 {
-    if (line_count(text) as u64) < line {
+    if line_count(text) < line {
         return no_line_answer(alloc, line);
     }
     states_answer(alloc, world)
