@@ -3,7 +3,8 @@
 A step is an event of the schedule; step 0 is the set-up. What a step changes are entries `panel, section, item, value`, and a value of
 None takes the entry away. The panels are the numbers of the members, `committee`, `txs` and `objects`. Everything in them is what a
 line of the report says, or follows from it by the rules of the schedules. What does not is left out, and a note of the member
-says where the report is silent. So a further source of states can add entries of the same form.
+says where the report is silent. States of the members after some lines (states.py) add owners, contents and created objects, as long
+as they fit the report.
 """
 
 import json
@@ -47,8 +48,9 @@ class Member:
 class Run:
     """The steps of a run, and what is told of each transaction and object, as pairs of a line number and a sentence."""
 
-    def __init__(self, schedule, report):
+    def __init__(self, schedule, report, states=None):
         self.setup, self.events = schedules.read(schedule, report)
+        self.known, self.unfit = states or {}, None
         self.members = [Member(at, it.words) for at, it in enumerate(it for it in self.setup if it.word == "member")]
         self.total = sum(it.stake for it in self.members)
         self.txs, self.same, self.state, self.stories = {}, {}, {}, {"tx": {}, "object": {}}
@@ -59,6 +61,8 @@ class Run:
             self.steps.append(Step(event))
             if event.said:
                 self.take(event)
+            if self.unfit is None and event.number in self.known:
+                self.take_states(event.number, self.known[event.number])
 
     # -- entries, and sentences
 
@@ -460,17 +464,46 @@ class Run:
             return
         self.put(member.name, "is", "epoch", int(found[1]))
         self.put(member.name, "is", "silent", None)
-        shown = schedules.shown(event)
-        for name in [it for it in self.entries(member.name, "objects") if it not in {name for name, *_ in shown}]:
+        for name, version, owner, content in self.has(member, schedules.shown(event), event.number):
+            self.tell("object", name, event.number, f"Member {member.name} shows version {version}: {owner}, {content}.")
+
+    def has(self, member, objects, line):
+        """A member has exactly these objects. Answers each that has a name: its version, owner and content."""
+        found = []
+        for name in [it for it in self.entries(member.name, "objects") if it not in {name for name, *_ in objects}]:
             self.put(member.name, "objects", name, None)
             member.stacks.pop(name)
-            self.tell("object", name, event.number, f"Member {member.name} does not have it any more.")
-        for name, version, text in shown:
+            self.tell("object", name, line, f"Member {member.name} does not have it any more.")
+        for name, version, text in objects:
             if name != "?":
                 owner, content = owner_of(text)
-                self.push(member, name, version, self.by_of(member, name, version), event.number)
-                self.learn(name, version, self.by_of(member, name, version), event.number, owner, content)
-                self.tell("object", name, event.number, f"Member {member.name} shows version {version}: {owner}, {content}.")
+                self.push(member, name, version, self.by_of(member, name, version), line)
+                self.learn(name, version, self.by_of(member, name, version), line, owner, content)
+                found.append((name, version, owner, content))
+        return found
+
+    # -- states
+
+    def fits(self, member, told):
+        """Whether what a state says of a member is not otherwise by the report."""
+        objects = {name: version for name, version, _ in told["objects"]}
+        sure = {name: it["v"] for name, it in self.entries(member.name, "objects").items() if it["sure"]}
+        is_silent = self.get(member.name, "is", "silent") is not None
+        return is_silent or told["epoch"] == self.get(member.name, "is", "epoch") and sure == {it: objects.get(it) for it in sure}
+
+    def take_states(self, line, members):
+        """The members after a line, as they stand by the definitions."""
+        pairs = [it for it in zip(self.members, members) if it[1] is not None]
+        if len(members) != len(self.members) or not all(self.fits(*it) for it in pairs):
+            self.unfit = line
+            return
+        for member, told in pairs:
+            self.put(member.name, "is", "epoch", told["epoch"])
+            self.put(member.name, "is", "silent", None)
+            new = {name for name, version, _ in told["objects"] if "content" not in (self.get("objects", name, f"{version} {self.by_of(member, name, version)}") or {})}
+            for name, version, owner, content in self.has(member, told["objects"], line):
+                if name in new:
+                    self.tell("object", name, line, f"Member {member.name} has version {version}: {owner}, {content}.")
 
     # -- stops, and the end of an epoch
 

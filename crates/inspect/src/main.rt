@@ -1,7 +1,8 @@
 //! `inspect chain M MEMBERS` reads a schedule from standard input, runs it without a report, and writes the bytes of the
 //! chain of what member M built, under seals of MEMBERS: `committee check` reads them. `inspect digests` writes the digests
 //! of what lines made, and of what the lowest-numbered member has that is honest and up. `inspect blame` writes who sealed
-//! two votes of which an honest member casts at most one.
+//! two votes of which an honest member casts at most one. `inspect states` writes how each member stands, and its live
+//! objects.
 //!
 //! [`inspect_core::inspect`] is the program over any source, sink and keeper; its clauses are what is promised. `main` hands
 //! it the real standard streams and a keeper in memory, ends with its status, and says on standard error what a status
@@ -37,7 +38,7 @@ fn status_of_words(error: &io::Error) -> u8 {
 /// What standard error says of a status.
 fn message(status: u8) -> Option<&'static str> {
     match status {
-        2 => Some("usage: inspect chain M MEMBERS | digests | blame"),
+        2 => Some("usage: inspect chain M MEMBERS | digests | blame | states [L]"),
         4 => Some("read fault"),
         5 => Some("write fault"),
         6 => Some("keep fault"),

@@ -1,16 +1,16 @@
 -- What is said of a world, and how a question ends.
 use Rattle.std.proofs.Common.{◌≡◌, ◌⊎◌, inl, inr, ℕ, zero, suc, Bool, true, false, List, [], ◌∷◌, map, Option, Some, None, Result, Ok, Err, if◌then◌else◌, refl, sym, ap, subst, ◌∙◌}
-use Rattle.std.specs.Prelude.{option_map, slice_get}
+use Rattle.std.specs.Prelude.{option_map, length, slice_get}
 use Rattle.std.specs.Io.KnownBytes.{Appends, Keeps}
 use Rattle.outside.specs.Lists.{Journals, KeepsJournals}
 use Rattle.outside.specs.Streams.{AppendsFront, ReadsText}
 use Rattle.schedule_text.specs.declared.words.Event.{Event}
 use Rattle.schedule_text.specs.declared.words.Schedule.{Schedule}
-use Rattle.schedule_text.specs.Schedule.{Refused, longest_text, schedule_of}
+use Rattle.schedule_text.specs.Schedule.{Refused, lines_of, longest_text, schedule_of}
 use Rattle.world_spec.specs.Names.{cert_in, tx_name}
 use Rattle.world_spec.specs.Setting.{Setting}
 use Rattle.world_spec.specs.World as worlds
-use Rattle.world_spec.specs.World.{World, member_in}
+use Rattle.world_spec.specs.World.{World, member_in, seat_honest}
 use Rattle.world_spec.specs.Run.{world_after}
 use Rattle.scene_spec.specs.Seats.{Seated}
 use Rattle.scene_spec.specs.Posts.{seat_at}
@@ -18,7 +18,7 @@ use Rattle.scene_spec.specs.Terms.{terms_of}
 use Rattle.scene_spec.specs.Scene.{Scene}
 use Rattle.scene_spec.specs.Known.{Known, names_of}
 use Rattle.scene_spec.specs.Worlds.{Shows, posts_from}
-use Rattle.world_core.specs.Crews.{honest_at}
+use Rattle.world_core.specs.Crews.{honest_at, honest_flags}
 use Rattle.light_check.specs.Certified.{Accepting}
 use Rattle.committee_core.proofs.Caught.{untold}
 use Rattle.committee_core.proofs.Made.{whole_fronts}
@@ -29,8 +29,9 @@ use Rattle.inspect_core.specs.declared.questions.Question.{Question}
 use Rattle.inspect_core.specs.declared.questions.Question.TheVariants as question
 use Rattle.inspect_core.specs.Chain.{SaysChain, nobody, sealed, unsealed}
 use Rattle.inspect_core.specs.Digests.{SaysDigests, alone, standing}
-use Rattle.inspect_core.specs.Ends.{CutsText, KeepsSome, OfText, RunsAndSays, Says, SaysBehind, SaysOf, SaysSome, Writing}
-use Rattle.inspect_core.specs.Sight.{Sight, events_in, sight_in, sight_of}
+use Rattle.inspect_core.specs.Ends.{CutsText, KeepsSome, OfText, Refuses, RunsAndSays, Says, SaysBehind, SaysOf, SaysSome, Writing}
+use Rattle.inspect_core.specs.Sight.{Sight, events_in, sight_behind, sight_in, sight_of}
+use Rattle.inspect_core.specs.StateLines.{SaysStatesAt, missing, there}
 use Rattle.committee_core.specs.Follow.{state_in}
 use Rattle.inspect_core.specs.Standing.{States}
 use Rattle.inspect_core.proofs.Statuses.{IsSaid, said_or_fault}
@@ -48,15 +49,22 @@ state_same s n (seat ∷ seats) zero = go seat.honest seat.up
     go true true = refl
 state_same s n (seat ∷ seats) (suc m) = state_same s (suc n) seats m
 
+-- and whether each is honest
+flags_same : (s : Setting) (n : ℕ) (seats : List worlds.Seat) → honest_flags (posts_from s n seats) ≡ map seat_honest seats
+flags_same s n [] = refl
+flags_same s n (seat ∷ seats) = ap (λ (flags : List Bool). seat.honest ∷ flags) (flags_same s (suc n) seats)
+
 -- and so is all that the questions look at
-sight_same : (s : Setting) (w : World) (sc : Scene) (events : List Event) → Shows program_trust s w sc → sight_in sc events ≡ sight_of s w events
-sight_same s w sc events shows = ap (λ (x : Scene). sight_in x events) shows.scene ∙ (λ i. record {
+sight_same : (s : Setting) (w : World) (sc : Scene) (events : List Event) (lines : ℕ) → Shows program_trust s w sc → sight_in sc events lines ≡ sight_of s w events lines
+sight_same s w sc events lines shows = ap (λ (x : Scene). sight_in x events lines) shows.scene ∙ (λ i. record {
   states = λ m. state_same s 0 w.seats m i;
+  crew = flags_same s 0 w.seats i;
   rules = sym shows.rules i;
   known = names_of s w;
   names = tx_name w;
   formed = map cert_in w.certs;
   events = events;
+  lines = lines;
 })
 
 -- ---- statuses
@@ -70,10 +78,16 @@ digests_said : (k : Known) (states : States) (status : ℕ) (text : List ℕ) �
 digests_said k states status text (standing is) = inl is.done
 digests_said k states status text (alone is) = inl is.done
 
+states_said : (line lines : ℕ) (k : Known) (crew : List Bool) (states : States) (status : ℕ) (text : List ℕ) → SaysStatesAt line lines k crew states status text → IsSaid status
+states_said line lines k crew states status text (there is) = inl is.says.done
+states_said line lines k crew states status text (missing is) = inr is.refused
+
 pub is_said : (q : Question) (x : Sight) (status : ℕ) (text : List ℕ) → Says q x status text → IsSaid status
 is_said (question.Chain m members) x status text says = chain_said program_trust.accepts x.states m members status text says
 is_said question.Digests x status text says = digests_said x.known x.states status text says
 is_said question.Blame x status text says = inl says.done
+is_said question.States x status text says = inl says.done
+is_said (question.StatesAt line) x status text says = states_said line x.lines x.known x.crew x.states status text says
 
 -- ---- one answer
 
@@ -96,14 +110,14 @@ answer_written q x status given text Written says known written said =
 -- ---- the whole
 
 said_behind : (q : Question) (text : List ℕ) (status : ℕ) (Written : Writing) (kept kept' : Option Journals) (sc : Scene) → (runs : RunsSilently program_trust text kept kept' sc)
-    → SaysOf q (sight_in sc (events_in (schedule_of text))) status Written → SaysBehind q runs.schedule kept status Written
+    → SaysOf q (sight_behind sc text) status Written → SaysBehind q text runs.schedule kept status Written
 said_behind q text status Written kept kept' sc runs said = λ reads.
     subst (λ (x : Sight). SaysOf q x status Written)
-    (ap (λ (r : Result Schedule Refused). sight_in sc (events_in r)) runs.is
-    ∙ sight_same (setting_in program_trust runs.schedule) (world_after (setting_in program_trust runs.schedule) runs.schedule.events) sc runs.schedule.events (runs.shows reads)) said
+    (ap (λ (r : Result Schedule Refused). sight_in sc (events_in r) (length (lines_of text))) runs.is
+    ∙ sight_same (setting_in program_trust runs.schedule) (world_after (setting_in program_trust runs.schedule) runs.schedule.events) sc runs.schedule.events (length (lines_of text)) (runs.shows reads)) said
 
 pub ran_said : (q : Question) (text : List ℕ) (status : ℕ) (Written : Writing) (kept kept' : Option Journals) (sc : Scene) → RunsSilently program_trust text kept kept' sc
-    → SaysOf q (sight_in sc (events_in (schedule_of text))) status Written → RunsAndSays q text status Written kept kept'
+    → SaysOf q (sight_behind sc text) status Written → RunsAndSays q text status Written kept kept'
 ran_said q text status Written kept kept' sc runs said = record {
   schedule = runs.schedule;
   is = runs.is;
@@ -112,15 +126,15 @@ ran_said q text status Written kept kept' sc runs said = record {
 }
 
 pub ran_cut : (q : Question) (text : List ℕ) (held held' : Option (List ℕ)) (kept kept' : Option Journals) (sc : Scene) → RunsSilently program_trust text kept kept' sc
-    → Keeps held held' ⊎ ((status : ℕ) × SaysOf q (sight_in sc (events_in (schedule_of text))) status (AppendsFront held held')) → CutsText q text held held' kept kept'
+    → Keeps held held' ⊎ ((status : ℕ) × SaysOf q (sight_behind sc text) status (AppendsFront held held')) → CutsText q text held held' kept kept'
 ran_cut q text held held' kept kept' sc runs cut = record {
   journals = subst (λ (r : Result Schedule Refused). KeepsSome r kept kept') (sym runs.is) (whole_fronts program_trust runs.schedule kept kept' runs.journals);
   written = go cut;
 }
   where
-    go : Keeps held held' ⊎ ((status : ℕ) × SaysOf q (sight_in sc (events_in (schedule_of text))) status (AppendsFront held held')) → Keeps held held' ⊎ SaysSome q (schedule_of text) kept (AppendsFront held held')
+    go : Keeps held held' ⊎ ((status : ℕ) × SaysOf q (sight_behind sc text) status (AppendsFront held held')) → Keeps held held' ⊎ SaysSome q text (schedule_of text) kept (AppendsFront held held')
     go (inl keeps) = inl keeps
-    go (inr (status, said)) = inr (subst (λ (r : Result Schedule Refused). SaysSome q r kept (AppendsFront held held')) (sym runs.is)
+    go (inr (status, said)) = inr (subst (λ (r : Result Schedule Refused). SaysSome q text r kept (AppendsFront held held')) (sym runs.is)
         (status, said_behind q text status (AppendsFront held held') kept kept' sc runs said))
 
 -- ---- what did not run
@@ -140,14 +154,14 @@ refused_kept (Err g) f kept kept' is cut = cut.1
 
 -- a text that is not a schedule
 pub refused_whole : (text : List ℕ) (f : Refused) (held held' : Option (List ℕ)) (kept kept' : Option Journals) → schedule_of text ≡ Err f → TextCut program_trust (schedule_of text) None None kept kept'
-    → Appends held held' (refusal_text f) → (r : Refused) × (schedule_of text ≡ Err r) × Appends held held' (refusal_text r) × KeepsJournals kept kept'
+    → Appends held held' (refusal_text f) → Refuses text held held' kept kept'
 refused_whole text f held held' kept kept' is cut written = (f, is, written, refused_kept (schedule_of text) f kept kept' is cut)
 
 pub refused_cut : (q : Question) (text : List ℕ) (f : Refused) (held held' : Option (List ℕ)) (kept kept' : Option Journals) → schedule_of text ≡ Err f → TextCut program_trust (schedule_of text) None None kept kept'
     → AppendsFront held held' (refusal_text f) → CutsText q text held held' kept kept'
 refused_cut q text f held held' kept kept' is cut written = record {
   journals = some_kept (schedule_of text) kept kept' cut;
-  written = inr (subst (λ (r : Result Schedule Refused). SaysSome q r kept (AppendsFront held held')) (sym is) written);
+  written = inr (subst (λ (r : Result Schedule Refused). SaysSome q text r kept (AppendsFront held held')) (sym is) written);
 }
 
 -- ---- what was read

@@ -9,3 +9,5 @@ pub mod Blaming
 pub mod Asked
 pub mod Ended
 pub mod Digested
+pub mod Fronts
+pub mod Stated

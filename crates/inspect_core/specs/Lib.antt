@@ -2,6 +2,8 @@ pub mod Words
 pub mod Standing
 pub mod Chain
 pub mod Digests
+pub mod StateLines
+pub mod Part
 pub mod Certified
 pub mod Blame
 pub mod Uses

@@ -1,5 +1,5 @@
 -- The words of the program. Source: this profile.
-use Rattle.std.specs.Prelude.{ℕ, List, [], ◌∷◌, Option, Some, None, option_and_then, bytes_eq, codes, if◌then◌else◌}
+use Rattle.std.specs.Prelude.{ℕ, List, [], ◌∷◌, Option, Some, None, option_and_then, option_map, bytes_eq, codes, if◌then◌else◌}
 use Rattle.wire_bcs.specs.Ascending.{ascends}
 use Rattle.schedule_text.specs.Bytes.{number_in}
 use Rattle.protocol_spec.specs.Chain.Words.{first_some, where_true}
@@ -35,6 +35,12 @@ abbrev pub blame_in : List (List ℕ) → Option Question
 blame_in (name ∷ []) = if bytes_eq name (codes "blame") then Some question.Blame else None
 blame_in words = None
 
+-- `states`, or `states` and the number of a line from 1 to 16,777,216
+abbrev pub states_in : List (List ℕ) → Option Question
+states_in (name ∷ []) = if bytes_eq name (codes "states") then Some question.States else None
+states_in (name ∷ line ∷ []) = if bytes_eq name (codes "states") then option_map question.StatesAt (number_in 1 16777216 line) else None
+states_in words = None
+
 -- what the words ask
 unfoldable pub question_in : List (List ℕ) → Option Question
-question_in words = first_some (chain_in words ∷ digests_in words ∷ blame_in words ∷ [])
+question_in words = first_some (chain_in words ∷ digests_in words ∷ blame_in words ∷ states_in words ∷ [])

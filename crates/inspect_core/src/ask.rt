@@ -1,24 +1,24 @@
 //! A question to the world after the schedule that the source holds.
 
-ghost use Rattle.std.specs.Prelude.{◌≡◌, ◌⊎◌, ◌≤◌, ℕ, Err, IfOk};
+ghost use Rattle.std.specs.Prelude.{◌≡◌, ◌⊎◌, ◌≤◌, ℕ, IfOk};
 ghost use Rattle.std.specs.Io.KnownBytes.{Appends, Keeps};
 ghost use Rattle.outside.specs.Causes.{Rose};
 ghost use Rattle.outside.specs.Lists.{KeepsJournals};
 ghost use Rattle.outside.specs.Streams.{AppendsFront};
 ghost use Rattle.report_text.specs.declared.lines.Line.TheVariants as report_line;
 ghost use Rattle.report_text.specs.Text.{text_of};
-ghost use Rattle.schedule_text.specs.Schedule.{Refused, schedule_of};
-ghost use Rattle.committee_core.specs.Headline.{IsRefused};
 ghost use Rattle.committee_core.specs.Journals.{AreEmpty};
-ghost use Rattle.committee_core.specs.Report.{refusal_text};
-ghost use Rattle.inspect_core.specs.Ends.{CutsText, MeetsBad, OfText, RunsAndSays, Says, SaysOf};
-ghost use Rattle.inspect_core.specs.Sight.{events_in, sight_in};
+ghost use Rattle.inspect_core.specs.Ends.{CutsText, MeetsBad, OfText, Refuses, RunsAndSays, Says, SaysOf};
+ghost use Rattle.inspect_core.specs.Part.{part_of};
+ghost use Rattle.inspect_core.specs.Sight.{sight_behind};
 
 use crate::answer::Answer;
 use crate::blame::blame_answer;
 use crate::chain::chain_answer;
 use crate::digests::digests_answer;
+use crate::part::part_of;
 use crate::questions::Question;
+use crate::states::{states_answer, states_at_answer};
 use committee_core::{LONGEST_TEXT, Unrun, refuse, world_behind};
 use outside::{Keeper, OutFault, Sink, Source, read_text, write_all};
 use std::alloc::Global;
@@ -33,7 +33,7 @@ fn answer(
     text: &[u8],
     world: &World,
 ) -> Result<Answer, OutOfMemory>
-    ensures { IfOk result (λ a. Says question.now (sight_in world.now (events_in (schedule_of text.now))) a.status a.text) }
+    ensures { IfOk result (λ a. Says question.now (sight_behind world.now text.now) a.status a.text) }
 {
     match question {
         Question::Chain { member, sealers } => {
@@ -41,6 +41,8 @@ fn answer(
         }
         Question::Digests => digests_answer(alloc, world),
         Question::Blame => blame_answer(alloc, world, text),
+        Question::States => states_answer(alloc, world),
+        Question::StatesAt { line } => states_at_answer(alloc, *line, text, world),
     }
 }
 
@@ -68,9 +70,9 @@ fn say_of<K: Sink>(
     sink: &mut K,
 ) -> u8
     ensures known { (result ≡ 0) ⊎ (result ≡ 5) ⊎ (result ≡ 7) ⊎ (result ≡ 8) }
-    ensures written { (result ≡ 0) ⊎ (result ≡ 8) → SaysOf question.now (sight_in world.now (events_in (schedule_of text.now))) result (Appends (K.held sink.old) (K.held sink.new)) }
+    ensures written { (result ≡ 0) ⊎ (result ≡ 8) → SaysOf question.now (sight_behind world.now text.now) result (Appends (K.held sink.old) (K.held sink.new)) }
     ensures write_fault { result ≡ 5 → Rose (K.faults sink.old) (K.faults sink.new) }
-    ensures cut { (result ≡ 5) ⊎ (result ≡ 7) → Keeps (K.held sink.old) (K.held sink.new) ⊎ ((status : ℕ) × SaysOf question.now (sight_in world.now (events_in (schedule_of text.now))) status (AppendsFront (K.held sink.old) (K.held sink.new))) }
+    ensures cut { (result ≡ 5) ⊎ (result ≡ 7) → Keeps (K.held sink.old) (K.held sink.new) ⊎ ((status : ℕ) × SaysOf question.now (sight_behind world.now text.now) status (AppendsFront (K.held sink.old) (K.held sink.new))) }
 {
     match answer(alloc, question, text, world) {
         Ok(answer) => say(&answer, sink),
@@ -105,7 +107,7 @@ fn ask_text<R: Threads + Sync, K: Sink, D: Keeper>(
     requires empty { AreEmpty (D.lists keeper.old) }
     ensures known { (result ≡ 0) ⊎ (result ≡ 3) ⊎ (result ≡ 5) ⊎ (result ≡ 6) ⊎ (result ≡ 7) ⊎ (result ≡ 8) }
     ensures whole { (result ≡ 0) ⊎ (result ≡ 8) → RunsAndSays question.now text.now result (Appends (K.held sink.old) (K.held sink.new)) (D.lists keeper.old) (D.lists keeper.new) }
-    ensures refused { result ≡ 3 → (r : Refused) × (schedule_of text.now ≡ Err r) × Appends (K.held sink.old) (K.held sink.new) (refusal_text r) × KeepsJournals (D.lists keeper.old) (D.lists keeper.new) }
+    ensures refused { result ≡ 3 → Refuses text.now (K.held sink.old) (K.held sink.new) (D.lists keeper.old) (D.lists keeper.new) }
     ensures write_fault { result ≡ 5 → Rose (K.faults sink.old) (K.faults sink.new) }
     ensures keep_fault { result ≡ 6 → Rose (D.failed keeper.old) (D.failed keeper.new) ⊎ MeetsBad text.now (D.lists keeper.old) }
     ensures unsaid { result ≡ 6 → Keeps (K.held sink.old) (K.held sink.new) }
@@ -124,7 +126,30 @@ fn ask_text<R: Threads + Sync, K: Sink, D: Keeper>(
     }
 }
 
-/// Reads the source, and asks of the world after the schedule that it is. Answers the status.
+/// Runs as much of a text as the question runs, with no report, and writes what is to be said of the world after it. Answers
+/// the status.
+fn ask_part<R: Threads + Sync, K: Sink, D: Keeper>(
+    rt: &R,
+    alloc: Global,
+    question: &Question,
+    text: &[u8],
+    sink: &mut K,
+    keeper: &mut D,
+) -> u8
+    requires room { 64 ≤ D.width keeper.old }
+    requires empty { AreEmpty (D.lists keeper.old) }
+    ensures known { (result ≡ 0) ⊎ (result ≡ 3) ⊎ (result ≡ 5) ⊎ (result ≡ 6) ⊎ (result ≡ 7) ⊎ (result ≡ 8) }
+    ensures whole { (result ≡ 0) ⊎ (result ≡ 8) → RunsAndSays question.now (part_of question.now text.now) result (Appends (K.held sink.old) (K.held sink.new)) (D.lists keeper.old) (D.lists keeper.new) }
+    ensures refused { result ≡ 3 → Refuses (part_of question.now text.now) (K.held sink.old) (K.held sink.new) (D.lists keeper.old) (D.lists keeper.new) }
+    ensures write_fault { result ≡ 5 → Rose (K.faults sink.old) (K.faults sink.new) }
+    ensures keep_fault { result ≡ 6 → Rose (D.failed keeper.old) (D.failed keeper.new) ⊎ MeetsBad (part_of question.now text.now) (D.lists keeper.old) }
+    ensures unsaid { result ≡ 6 → Keeps (K.held sink.old) (K.held sink.new) }
+    ensures cut { (result ≡ 5) ⊎ (result ≡ 6) ⊎ (result ≡ 7) → CutsText question.now (part_of question.now text.now) (K.held sink.old) (K.held sink.new) (D.lists keeper.old) (D.lists keeper.new) }
+{
+    ask_text(rt, alloc, question, part_of(question, text), sink, keeper)
+}
+
+/// Reads the source, and asks of the world after the schedule that it is, or that its first lines are. Answers the status.
 pub(crate) fn ask<R: Threads + Sync, S: Source, K: Sink, D: Keeper>(
     rt: &R,
     alloc: Global,
@@ -136,17 +161,17 @@ pub(crate) fn ask<R: Threads + Sync, S: Source, K: Sink, D: Keeper>(
     requires room { 64 ≤ D.width keeper.old }
     requires empty { AreEmpty (D.lists keeper.old) }
     ensures known { (result ≡ 0) ⊎ (result ≡ 3) ⊎ (result ≡ 4) ⊎ (result ≡ 5) ⊎ (result ≡ 6) ⊎ (result ≡ 7) ⊎ (result ≡ 8) }
-    ensures whole { (result ≡ 0) ⊎ (result ≡ 8) → OfText (λ text. RunsAndSays question.now text result (Appends (K.held sink.old) (K.held sink.new)) (D.lists keeper.old) (D.lists keeper.new)) (S.left source.old) (S.left source.new) }
-    ensures refused { result ≡ 3 → IsRefused (S.left source.old) (S.left source.new) (K.held sink.old) (K.held sink.new) (D.lists keeper.old) (D.lists keeper.new) }
+    ensures whole { (result ≡ 0) ⊎ (result ≡ 8) → OfText (λ text. RunsAndSays question.now (part_of question.now text) result (Appends (K.held sink.old) (K.held sink.new)) (D.lists keeper.old) (D.lists keeper.new)) (S.left source.old) (S.left source.new) }
+    ensures refused { result ≡ 3 → OfText (λ text. Refuses (part_of question.now text) (K.held sink.old) (K.held sink.new) (D.lists keeper.old) (D.lists keeper.new)) (S.left source.old) (S.left source.new) }
     ensures read_fault { result ≡ 4 → Rose (S.faults source.old) (S.faults source.new) }
     ensures unread { result ≡ 4 → Keeps (K.held sink.old) (K.held sink.new) × KeepsJournals (D.lists keeper.old) (D.lists keeper.new) }
     ensures write_fault { result ≡ 5 → Rose (K.faults sink.old) (K.faults sink.new) }
-    ensures keep_fault { result ≡ 6 → Rose (D.failed keeper.old) (D.failed keeper.new) ⊎ OfText (λ text. MeetsBad text (D.lists keeper.old)) (S.left source.old) (S.left source.new) }
+    ensures keep_fault { result ≡ 6 → Rose (D.failed keeper.old) (D.failed keeper.new) ⊎ OfText (λ text. MeetsBad (part_of question.now text) (D.lists keeper.old)) (S.left source.old) (S.left source.new) }
     ensures unsaid { result ≡ 6 → Keeps (K.held sink.old) (K.held sink.new) }
-    ensures cut { (result ≡ 5) ⊎ (result ≡ 6) ⊎ (result ≡ 7) → (Keeps (K.held sink.old) (K.held sink.new) × KeepsJournals (D.lists keeper.old) (D.lists keeper.new)) ⊎ OfText (λ text. CutsText question.now text (K.held sink.old) (K.held sink.new) (D.lists keeper.old) (D.lists keeper.new)) (S.left source.old) (S.left source.new) }
+    ensures cut { (result ≡ 5) ⊎ (result ≡ 6) ⊎ (result ≡ 7) → (Keeps (K.held sink.old) (K.held sink.new) × KeepsJournals (D.lists keeper.old) (D.lists keeper.new)) ⊎ OfText (λ text. CutsText question.now (part_of question.now text) (K.held sink.old) (K.held sink.new) (D.lists keeper.old) (D.lists keeper.new)) (S.left source.old) (S.left source.new) }
 {
     match read_text(alloc, LONGEST_TEXT, source) {
-        Ok(text) => ask_text(rt, alloc, question, text.as_slice(), sink, keeper),
+        Ok(text) => ask_part(rt, alloc, question, text.as_slice(), sink, keeper),
         Err(OutFault::Failed) => 4,
         Err(OutFault::OutOfMemory) => 7,
     }

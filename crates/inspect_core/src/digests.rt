@@ -106,7 +106,7 @@ fn told_answer(
 }
 
 /// A member, if it is honest and up. Takes no memory.
-fn standing(world: &World, member: u32) -> Option<&Validator>
+pub(crate) fn standing(world: &World, member: u32) -> Option<&Validator>
     ensures none { result ≡ None → states_in world.now.posts member ≡ None }
     ensures some { IfSome result (λ v. states_in world.now.posts member ≡ Some v.now.state) }
 {

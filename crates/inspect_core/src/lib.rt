@@ -16,8 +16,11 @@ mod digests;
 mod lines;
 mod members;
 mod pairs;
+mod part;
 mod questions;
 mod sealing;
+mod state_lines;
+mod states;
 mod suspects;
 mod top;
 
@@ -29,5 +32,7 @@ pub use top::inspect;
 
 #[cfg(test)]
 mod blame_tests;
+#[cfg(test)]
+mod states_tests;
 #[cfg(test)]
 mod tests;

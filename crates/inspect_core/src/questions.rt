@@ -2,11 +2,14 @@
 
 ghost use Rattle.std.specs.Prelude.{◌≡◌, ◌∷◌, [], bytes_eq, map};
 ghost use Rattle.std.specs.String.{string_bytes};
-ghost use Rattle.inspect_core.specs.Words.{blame_in, chain_in, chain_with, digests_in, question_in, members_in};
+ghost use Rattle.inspect_core.specs.Words.{blame_in, chain_in, chain_with, digests_in, question_in, members_in, states_in};
 ghost use Rattle.schedule_text.specs.Bytes.{number_in};
 
 use crate::members::{MOST_MEMBER, MemberList};
 use schedule_text::number_in;
+
+/// The highest number of a line.
+const MOST_LINE: u64 = 16_777_216;
 
 /// What is asked of the world after a schedule.
 #[derive(Drop)]
@@ -17,6 +20,10 @@ pub enum Question {
     Digests,
     /// `blame`: who sealed two votes of which an honest member casts at most one.
     Blame,
+    /// `states`: how each member stands after the last line, and its live objects.
+    States,
+    /// `states L`: the same after line L, from 1 on.
+    StatesAt { line: u64 },
 }
 
 /// Whether the word is this one.
@@ -101,6 +108,39 @@ fn blame_of(words: &[String]) -> Option<Question>
     }
 }
 
+fn states_named(name: &str) -> Option<Question>
+    ensures { result ≡ states_in (name.now ∷ []) }
+{
+    if is_word(name, "states") {
+        Some(Question::States)
+    } else {
+        None
+    }
+}
+
+fn states_at_named(name: &str, line: &str) -> Option<Question>
+    ensures { result ≡ states_in (name.now ∷ line.now ∷ []) }
+{
+    if !is_word(name, "states") {
+        return None;
+    }
+    match number_in(1, MOST_LINE, line.as_bytes()) {
+        Some(line) => Some(Question::StatesAt { line }),
+        None => None,
+    }
+}
+
+/// `states`, or `states` and a line
+fn states_of(words: &[String]) -> Option<Question>
+    ensures { result ≡ states_in (map string_bytes words.now) }
+{
+    match words {
+        [name] => states_named(name.as_str()),
+        [name, line] => states_at_named(name.as_str(), line.as_str()),
+        _ => None,
+    }
+}
+
 /// What the words ask, without the program's name. Takes no memory.
 #[tactic(auto, unfolding(crate::specs::Words::question_in))]
 pub fn question_of(words: &[String]) -> Option<Question>
@@ -112,5 +152,8 @@ pub fn question_of(words: &[String]) -> Option<Question>
     if let Some(digests) = digests_of(words) {
         return Some(digests);
     }
-    blame_of(words)
+    if let Some(blame) = blame_of(words) {
+        return Some(blame);
+    }
+    states_of(words)
 }

@@ -1,21 +1,20 @@
 use Rattle.std.proofs.Common.{inl, inr, refl}
 use Rattle.std.proofs.KnownBytes.{Keeps-refl}
 use Rattle.std.specs.Io.KnownBytes.{Appends}
-use Rattle.schedule_text.specs.Schedule.{schedule_of}
-use Rattle.inspect_core.specs.Sight.{events_in, sight_in}
+use Rattle.inspect_core.specs.Sight.{sight_behind}
 use Rattle.inspect_core.proofs.Asked.{answer_known, answer_written, is_said}
 use Rattle.inspect_core.proofs.Statuses.{said_or_fault}
 use Rattle.inspect_core.proofs.ask.say_of.Goals as goal
 
 pub say-requires : goal.say-requires
-say-requires g c = is_said c.args.question.now (sight_in c.args.world.now (events_in (schedule_of c.args.text.now))) c.in-Ok.answer.status c.in-Ok.answer.text c.in-Ok.ensures
+say-requires g c = is_said c.args.question.now (sight_behind c.args.world.now c.args.text.now) c.in-Ok.answer.status c.in-Ok.answer.text c.in-Ok.ensures
 
 pub returns-in-Ok-clause-known : goal.returns-in-Ok-clause-known
-returns-in-Ok-clause-known g c = answer_known c.say.result c.in-Ok.answer.status (is_said c.args.question.now (sight_in c.args.world.now (events_in (schedule_of c.args.text.now))) c.in-Ok.answer.status c.in-Ok.answer.text c.in-Ok.ensures) c.say.ensures.known
+returns-in-Ok-clause-known g c = answer_known c.say.result c.in-Ok.answer.status (is_said c.args.question.now (sight_behind c.args.world.now c.args.text.now) c.in-Ok.answer.status c.in-Ok.answer.text c.in-Ok.ensures) c.say.ensures.known
 
 pub returns-in-Ok-clause-written : goal.returns-in-Ok-clause-written
 returns-in-Ok-clause-written g c = λ said.
-    answer_written c.args.question.now (sight_in c.args.world.now (events_in (schedule_of c.args.text.now))) c.say.result c.in-Ok.answer.status c.in-Ok.answer.text (Appends (g.K.Sink.held c.args.sink.now) (g.K.Sink.held c.say.new.sink))
+    answer_written c.args.question.now (sight_behind c.args.world.now c.args.text.now) c.say.result c.in-Ok.answer.status c.in-Ok.answer.text (Appends (g.K.Sink.held c.args.sink.now) (g.K.Sink.held c.say.new.sink))
     c.in-Ok.ensures c.say.ensures.known c.say.ensures.written said
 
 pub returns-in-Ok-clause-cut : goal.returns-in-Ok-clause-cut
