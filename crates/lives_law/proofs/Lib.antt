@@ -6,5 +6,5 @@ mod Owned
 mod Reading
 mod Fitting
 mod Back
-mod OnFiles
-mod Held
+pub mod OnFiles
+pub mod Held
