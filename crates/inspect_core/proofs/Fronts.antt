@@ -38,7 +38,7 @@ empty_front n (b ∷ bs) = go (b == 10)
 
 -- ---- bytes
 
--- the bytes before the end of the line that stands behind so many ends of lines
+-- the bytes up to the end of the line that comes after so many line ends
 abbrev bytes_to : ℕ → List ℕ → ℕ
 bytes_to zero [] = 0
 bytes_to (suc more) [] = 0
