@@ -7,6 +7,7 @@
 mod answers;
 mod pieces;
 mod refusals;
+mod sentences;
 
 pub use answers::{Assigned, Held, Ignore, Left, Ran, Seen, SeenWhat, Voted};
 pub use pieces::{Executed, Gave, Given, Item, Mode, Placed};

@@ -1,20 +1,41 @@
 //! Objects: who owns them, what they hold, and how they are named.
 
 use digest_core::Digest;
+use std::fmt;
 
 /// The name of an object, which it keeps over all its versions.
 #[derive(Clone, Copy, Debug, PartialEq, Eq, PartialOrd, Ord, Hash)]
 pub struct ObjectId(pub Digest);
 
+/// In 64 hexadecimal digits.
+impl fmt::Display for ObjectId {
+    fn fmt<W: fmt::Write>(&self, f: &mut fmt::Formatter<W>) -> fmt::Result {
+        write!(f, "{}", self.0)
+    }
+}
+
 /// The address of a user.
 #[derive(Clone, Copy, Debug, PartialEq, Eq, PartialOrd, Ord, Hash)]
 pub struct Address(pub Digest);
+
+/// In 64 hexadecimal digits.
+impl fmt::Display for Address {
+    fn fmt<W: fmt::Write>(&self, f: &mut fmt::Formatter<W>) -> fmt::Result {
+        write!(f, "{}", self.0)
+    }
+}
 
 /// One version of one object.
 #[derive(Clone, Copy, Debug, PartialEq, Eq, PartialOrd, Ord, Hash)]
 pub struct ObjectKey {
     pub id: ObjectId,
     pub version: u64,
+}
+
+impl fmt::Display for ObjectKey {
+    fn fmt<W: fmt::Write>(&self, f: &mut fmt::Formatter<W>) -> fmt::Result {
+        write!(f, "version {} of object {}", self.version, self.id)
+    }
 }
 
 /// One version of one object, with the digest that the object has there.

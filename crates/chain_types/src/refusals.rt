@@ -2,6 +2,8 @@
 
 use crate::objects::ObjectKey;
 use digest_core::Digest;
+use std::{error, fmt};
+use wire_bcs::OutOfMemory;
 
 /// Why a member does not vote for a transaction, in the order in which the cases are tried.
 #[derive(Clone, Copy, Debug, PartialEq, Eq)]
@@ -32,3 +34,49 @@ pub enum CertRefusal {
     BadSeal { member: u32 },
     OutOfMemory,
 }
+
+impl fmt::Display for DecideRefusal {
+    fn fmt<W: fmt::Write>(&self, f: &mut fmt::Formatter<W>) -> fmt::Result {
+        match *self {
+            DecideRefusal::Absent(key) => write!(f, "the member does not hold {key}"),
+            DecideRefusal::Consumed { key, by } => {
+                write!(f, "transaction {by} has consumed {key}")
+            }
+            DecideRefusal::WrongDigest(key) => write!(f, "{key} has another digest"),
+            DecideRefusal::WrongOwner(key) => write!(f, "{key} is not the sender's"),
+            DecideRefusal::WrongKind(key) => write!(f, "{key} is of another kind"),
+            DecideRefusal::PoorGas { had, want } => {
+                write!(f, "the gas coin holds {had}, and the budget is {want}")
+            }
+            DecideRefusal::Locked { key, by } => {
+                write!(f, "the member has voted for {by}, which consumes {key}")
+            }
+            DecideRefusal::OutOfMemory => write!(f, "{OutOfMemory}"),
+        }
+    }
+}
+
+impl fmt::Display for CertRefusal {
+    fn fmt<W: fmt::Write>(&self, f: &mut fmt::Formatter<W>) -> fmt::Result {
+        match *self {
+            CertRefusal::Shape(fault) => {
+                write!(f, "the transaction has fault {fault} of its shape")
+            }
+            CertRefusal::Order => {
+                f.write_str("the members do not ascend, repeat, or are not known")
+            }
+            CertRefusal::ShortStake { weight, total } => write!(
+                f,
+                "the members have {weight} of {total} of the stake, which is not more than two thirds"
+            ),
+            CertRefusal::BadSeal { member } => {
+                write!(f, "the seal of member {member} is not accepted")
+            }
+            CertRefusal::OutOfMemory => write!(f, "{OutOfMemory}"),
+        }
+    }
+}
+
+impl error::Error for DecideRefusal {}
+
+impl error::Error for CertRefusal {}

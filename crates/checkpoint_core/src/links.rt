@@ -5,6 +5,7 @@ ghost use Rattle.checkpoint_core.specs.Links.{HasNext, link_answer, wanted_numbe
 
 use crate::checkpoints::Checkpoint;
 use digest_core::Digest;
+use std::{error, fmt};
 
 /// Why a checkpoint does not go on from the one before it, in the order in which the cases are tried.
 #[derive(Clone, Copy, Debug, PartialEq, Eq)]
@@ -12,6 +13,25 @@ pub enum LinkRefusal {
     WrongNumber { had: u64, want: u64 },
     WrongParent { had: Digest, want: Digest },
 }
+
+impl fmt::Display for LinkRefusal {
+    fn fmt<W: fmt::Write>(&self, f: &mut fmt::Formatter<W>) -> fmt::Result {
+        match *self {
+            LinkRefusal::WrongNumber { had, want } => {
+                write!(
+                    f,
+                    "the checkpoint has number {had}, and the next one is {want}"
+                )
+            }
+            LinkRefusal::WrongParent { had, want } => write!(
+                f,
+                "the checkpoint goes on from {had}, and the one before it is {want}"
+            ),
+        }
+    }
+}
+
+impl error::Error for LinkRefusal {}
 
 /// The number of the checkpoint that comes next.
 fn next_number(before: Option<(u64, Digest)>) -> u64

@@ -10,6 +10,7 @@ ghost use Rattle.sha2.specs.Sha256.{sha256};
 ghost use Rattle.digest_core.specs.Tagged.{Hashes, tagged_digest, created_id_of, genesis_id_of, address_of_name};
 
 use sha2::{Digest as _, Sha256};
+use std::fmt;
 
 /// The tag of a transaction's digest.
 pub const TAG_TRANSACTION: u8 = 0x54;
@@ -31,6 +32,16 @@ pub const TAG_SEAL: u8 = 0x53;
 /// A SHA-256 digest. Digests are ordered as their bytes are, the first byte first.
 #[derive(Clone, Copy, Debug, PartialEq, Eq, PartialOrd, Ord, Hash)]
 pub struct Digest(pub [u8; 32]);
+
+/// In 64 hexadecimal digits.
+impl fmt::Display for Digest {
+    fn fmt<W: fmt::Write>(&self, f: &mut fmt::Formatter<W>) -> fmt::Result {
+        for byte in self.0 {
+            write!(f, "{byte:02x}")?;
+        }
+        Ok(())
+    }
+}
 
 /// A digest in the making: it is fed in pieces, which count as the one text that they make.
 #[derive(Drop)]

@@ -3,6 +3,7 @@
 ghost use Rattle.std.specs.Prelude.{◌≡◌};
 ghost use Rattle.disk_log.specs.declared.refusals.OpenRefusal.TheVariants as refused;
 
+use std::{error, fmt};
 use wire_bcs::OutOfMemory;
 
 /// Why a log could not be opened.
@@ -34,3 +35,33 @@ pub enum LogRefusal {
     /// The disk did not do its work, and its count of faults rose. The record stands or does not.
     DiskFault,
 }
+
+impl fmt::Display for OpenRefusal {
+    fn fmt<W: fmt::Write>(&self, f: &mut fmt::Formatter<W>) -> fmt::Result {
+        match *self {
+            OpenRefusal::DiskFault => f.write_str("the disk did not do its work"),
+            OpenRefusal::BadMember { at } => write!(
+                f,
+                "the record at offset {at} is of a member that the log does not have"
+            ),
+            OpenRefusal::OutOfMemory => write!(f, "{OutOfMemory}"),
+        }
+    }
+}
+
+impl fmt::Display for LogRefusal {
+    fn fmt<W: fmt::Write>(&self, f: &mut fmt::Formatter<W>) -> fmt::Result {
+        match *self {
+            LogRefusal::Shut => {
+                f.write_str("the disk failed at an earlier record: open the log again")
+            }
+            LogRefusal::Full => f.write_str("the log would end at 2^63 or more"),
+            LogRefusal::OutOfMemory => write!(f, "{OutOfMemory}"),
+            LogRefusal::DiskFault => f.write_str("the disk did not do its work"),
+        }
+    }
+}
+
+impl error::Error for OpenRefusal {}
+
+impl error::Error for LogRefusal {}

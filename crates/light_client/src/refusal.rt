@@ -45,7 +45,7 @@ impl From<OutOfMemory> for Refusal {
 impl fmt::Display for Refusal {
     fn fmt<W: fmt::Write>(&self, f: &mut fmt::Formatter<W>) -> fmt::Result {
         match *self {
-            Refusal::OutOfMemory => f.write_str("out of memory"),
+            Refusal::OutOfMemory => write!(f, "{OutOfMemory}"),
             Refusal::TooLarge => f.write_str("there are more than 16777216 bytes"),
             Refusal::Malformed { at, why } => {
                 write!(f, "the bytes are wrong at offset {at} (kind {why})")

@@ -3,6 +3,7 @@
 ghost use Rattle.std.specs.Prelude.{◌≡◌};
 ghost use Rattle.outside.specs.declared.faults.OutFault.TheVariants as fault;
 
+use std::{error, fmt};
 use wire_bcs::OutOfMemory;
 
 /// The outside did not do it, and the object's count of faults rose.
@@ -16,6 +17,25 @@ pub enum OutFault {
     Failed,
     OutOfMemory,
 }
+
+impl fmt::Display for Failed {
+    fn fmt<W: fmt::Write>(&self, f: &mut fmt::Formatter<W>) -> fmt::Result {
+        f.write_str("bytes could not be read or written")
+    }
+}
+
+impl fmt::Display for OutFault {
+    fn fmt<W: fmt::Write>(&self, f: &mut fmt::Formatter<W>) -> fmt::Result {
+        match *self {
+            OutFault::Failed => write!(f, "{Failed}"),
+            OutFault::OutOfMemory => write!(f, "{OutOfMemory}"),
+        }
+    }
+}
+
+impl error::Error for Failed {}
+
+impl error::Error for OutFault {}
 
 impl From<OutOfMemory> for OutFault {
     ghost from_gives = { λ _ given. given ≡ fault.OutOfMemory };

@@ -4,6 +4,7 @@ ghost use Rattle.std.specs.Prelude.{◌≡◌, ◌+◌, ◌*◌, ◌≤◌, ℕ,
 ghost use Rattle.quorum_core.specs.Committee.{committee_of, is_quorum, is_roll, total_of, weight, zero_from};
 
 use std::marker::Model;
+use std::{error, fmt};
 
 /// Why a list of stakes is not a committee, in the order in which the cases are tried.
 #[derive(Clone, Copy, Debug, PartialEq, Eq)]
@@ -14,6 +15,18 @@ pub enum CommitteeRefusal {
     /// The first member without stake.
     ZeroStake(u32),
 }
+
+impl fmt::Display for CommitteeRefusal {
+    fn fmt<W: fmt::Write>(&self, f: &mut fmt::Formatter<W>) -> fmt::Result {
+        match *self {
+            CommitteeRefusal::NoMembers => f.write_str("a committee has at least one member"),
+            CommitteeRefusal::TooManyMembers => f.write_str("a committee has at most 64 members"),
+            CommitteeRefusal::ZeroStake(member) => write!(f, "member {member} has no stake"),
+        }
+    }
+}
+
+impl error::Error for CommitteeRefusal {}
 
 /// 1 to 64 members, each with a stake of 1 to 2^32 - 1. Contracts see the list of the stakes.
 #[derive(Drop)]

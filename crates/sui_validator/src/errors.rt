@@ -4,13 +4,9 @@ ghost use Rattle.std.specs.Prelude.{◌≡◌};
 ghost use Rattle.sui_validator.specs.declared.errors.Error.TheVariants as errors;
 
 use crate::opening::OpenRefusal;
-use crate::sentences::{
-    say_ack, say_close, say_committee, say_disk, say_end, say_hold, say_memory, say_outside,
-    say_run, say_see, say_turn, say_unread, say_vote,
-};
 use answer_types::{
-    AckRefusal, CloseRefusal, EndRefusal, HoldRefusal, RunRefusal, SeeRefusal, TurnRefusal,
-    VoteRefusal,
+    AckRefusal, CloseRefusal, EndRefusal, HoldRefusal, RunRefusal, SeeRefusal, StartRefusal,
+    TurnRefusal, VoteRefusal,
 };
 use disk_log::OpenRefusal as DiskRefusal;
 use light_client::Refusal;
@@ -61,13 +57,10 @@ impl fmt::Display for OpenRefusal {
             }
             OpenRefusal::ObjectTwice => f.write_str("an object comes twice among the opening ones"),
             OpenRefusal::ReadFault => f.write_str("a record of the journal could not be read"),
-            OpenRefusal::BadRecord { place, why: 1 } => {
-                write!(f, "record {place} of the journal is no record")
+            OpenRefusal::BadRecord { place, why } => {
+                write!(f, "{}", StartRefusal::BadRecord { place, why })
             }
-            OpenRefusal::BadRecord { place, .. } => {
-                write!(f, "no call would have kept record {place} of the journal")
-            }
-            OpenRefusal::OutOfMemory => say_memory(f),
+            OpenRefusal::OutOfMemory => write!(f, "{OutOfMemory}"),
         }
     }
 }
@@ -76,22 +69,22 @@ impl fmt::Display for Error {
     fn fmt<W: fmt::Write>(&self, f: &mut fmt::Formatter<W>) -> fmt::Result {
         match *self {
             Error::Open(refusal) => write!(f, "{refusal}"),
-            Error::Vote(refusal) => say_vote(f, refusal),
-            Error::Hold(refusal) => say_hold(f, refusal),
-            Error::See(refusal) => say_see(f, refusal),
-            Error::Run(refusal) => say_run(f, refusal),
-            Error::Close(refusal) => say_close(f, refusal),
-            Error::End(refusal) => say_end(f, refusal),
-            Error::Turn(refusal) => say_turn(f, refusal),
-            Error::Ack(refusal) => say_ack(f, refusal),
-            Error::Committee(refusal) => say_committee(f, refusal),
-            Error::Disk(refusal) => say_disk(f, refusal),
-            Error::Unread(unread) => say_unread(f, unread),
+            Error::Vote(refusal) => write!(f, "{refusal}"),
+            Error::Hold(refusal) => write!(f, "{refusal}"),
+            Error::See(refusal) => write!(f, "{refusal}"),
+            Error::Run(refusal) => write!(f, "{refusal}"),
+            Error::Close(refusal) => write!(f, "{refusal}"),
+            Error::End(refusal) => write!(f, "{refusal}"),
+            Error::Turn(refusal) => write!(f, "{refusal}"),
+            Error::Ack(refusal) => write!(f, "{refusal}"),
+            Error::Committee(refusal) => write!(f, "{refusal}"),
+            Error::Disk(refusal) => write!(f, "{refusal}"),
+            Error::Unread(unread) => write!(f, "{unread}"),
             Error::Encode(refusal) => write!(f, "{refusal}"),
             Error::Gather(refusal) => write!(f, "{refusal}"),
             Error::Client(refusal) => write!(f, "{refusal}"),
-            Error::Outside(fault) => say_outside(f, fault),
-            Error::OutOfMemory => say_memory(f),
+            Error::Outside(fault) => write!(f, "{fault}"),
+            Error::OutOfMemory => write!(f, "{OutOfMemory}"),
         }
     }
 }

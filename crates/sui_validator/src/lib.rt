@@ -18,7 +18,6 @@ mod member;
 pub mod node;
 mod opening;
 mod records;
-mod sentences;
 mod sole;
 pub mod types;
 pub mod wallet;

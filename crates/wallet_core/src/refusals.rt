@@ -40,7 +40,7 @@ impl fmt::Display for EncodeRefusal {
             EncodeRefusal::TooLong => f.write_str(
                 "a list of the value has more than 2147483647 items",
             ),
-            EncodeRefusal::OutOfMemory => f.write_str("out of memory"),
+            EncodeRefusal::OutOfMemory => write!(f, "{OutOfMemory}"),
         }
     }
 }
@@ -69,7 +69,7 @@ impl fmt::Display for GatherRefusal {
             GatherRefusal::Differ { a, b } => {
                 write!(f, "the statements of members {a} and {b} differ")
             }
-            GatherRefusal::OutOfMemory => f.write_str("out of memory"),
+            GatherRefusal::OutOfMemory => write!(f, "{OutOfMemory}"),
         }
     }
 }

@@ -4,6 +4,7 @@ ghost use Rattle.std.specs.Prelude.{◌≡◌};
 ghost use Rattle.wire_bcs.specs.declared.fault.Unread.TheVariants as unread;
 
 use crate::seq::OutOfMemory;
+use std::{error, fmt};
 
 /// The first fault of bytes that are not an encoding: `at` is the offset of its item's first byte, `why`
 /// says what is wrong there. This is the table of the faults; the definitions name its rows by their numbers.
@@ -28,6 +29,29 @@ pub enum Unread {
     Wire(WireFault),
     OutOfMemory,
 }
+
+impl fmt::Display for WireFault {
+    fn fmt<W: fmt::Write>(&self, f: &mut fmt::Formatter<W>) -> fmt::Result {
+        write!(
+            f,
+            "the bytes are wrong at offset {} (kind {})",
+            self.at, self.why
+        )
+    }
+}
+
+impl fmt::Display for Unread {
+    fn fmt<W: fmt::Write>(&self, f: &mut fmt::Formatter<W>) -> fmt::Result {
+        match *self {
+            Unread::Wire(fault) => write!(f, "{fault}"),
+            Unread::OutOfMemory => write!(f, "{OutOfMemory}"),
+        }
+    }
+}
+
+impl error::Error for WireFault {}
+
+impl error::Error for Unread {}
 
 impl From<WireFault> for Unread {
     ghost from_gives = { λ fault error. error ≡ unread.Wire fault };
