@@ -27,7 +27,7 @@ pub struct Voted {
 #[derive(Clone, Copy, Debug, PartialEq, Eq)]
 pub enum Ignore {
     Malformed,
-    /// It is sealed, and no End statement.
+    /// It is a sealed statement, but not an End.
     Statement,
     /// It is of another epoch.
     Epoch,
@@ -42,7 +42,7 @@ pub enum Ignore {
 /// What a member made of an entry.
 #[derive(Debug, Drop)]
 pub enum SeenWhat {
-    /// What a certificate's entry let in, in order.
+    /// A certificate's entry: what it admitted and what it dropped, each in order.
     Taken {
         admitted: Seq<Digest>,
         dropped: Seq<Digest>,
@@ -52,22 +52,22 @@ pub enum SeenWhat {
         tx: Digest,
         origin: Digest,
     },
-    /// The transaction waits for the next mark, since this object has its writers.
+    /// The transaction waits for the next mark, since this object has as many writers as the limit allows.
     Deferred {
         tx: Digest,
         id: ObjectId,
     },
-    /// What was taken right after the mark.
+    /// A mark: what was admitted and dropped right after it, each in order.
     Commit {
         admitted: Seq<Digest>,
         dropped: Seq<Digest>,
     },
-    /// The weight of the members whose End was counted.
+    /// A member's End was counted: the weight of the members with one so far.
     Counted {
         member: u32,
         weight: u64,
     },
-    /// The same, if the epoch ends here.
+    /// Likewise, and the epoch ends here.
     Ended {
         member: u32,
         weight: u64,

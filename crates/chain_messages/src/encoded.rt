@@ -39,7 +39,7 @@ fn whole_certificate(alloc: Global, bytes: &[u8]) -> Result<(Certificate, &[u8])
 }
 
 /// The certificate that all the bytes encode, and the bytes of its transaction among them, so that nobody encodes it again.
-/// A fault comes exactly where there is none, and is the first.
+/// A fault comes exactly if there is none, and is the first.
 pub fn decode_certificate_with(alloc: Global, bytes: &[u8]) -> Result<(Certificate, &[u8]), Unread>
     // What is read is encoded so, and is a value of its type.
     ensures found { IfOk result (λ x. (bytes.now ≡ codecs.certificate.spell x.0) × codecs.certificate.fits x.0) }
@@ -83,8 +83,8 @@ fn whole_entry(alloc: Global, bytes: &[u8]) -> Result<(Entry, &[u8]), Unread>
     Ok(entry)
 }
 
-/// The entry that all the bytes encode, and of a certificate the bytes of its transaction among them, of another entry none.
-/// A fault comes exactly where there is none, and is the first.
+/// The entry that all the bytes encode, and the bytes of its transaction among them, none if it is not a certificate.
+/// A fault comes exactly if there is none, and is the first.
 pub fn decode_entry_with(alloc: Global, bytes: &[u8]) -> Result<(Entry, &[u8]), Unread>
     // What is read is encoded so, and is a value of its type.
     ensures found { IfOk result (λ x. (bytes.now ≡ codecs.entry.spell x.0) × codecs.entry.fits x.0) }

@@ -64,7 +64,7 @@ command_short most m (command.Split coin amounts) e = (argument_short coin, args
 command_short most m (command.Merge target sources) e = (argument_short target, args_short most m sources e)
 command_short most m (command.MakeVec of_kind values) e = (kind_short of_kind, args_short most m values e)
 
--- of a limit below that of BCS
+-- lists that are short enough for a limit below that of BCS
 pub short_lists : (most : ℕ) → most < length_limit → (t : Transaction) → has_long_list most t ≡ false → codecs.transaction.short t
 unfolding codecs.transaction address object_ref object_id digest
 short_lists most m t e =

@@ -23,7 +23,7 @@ is_long_command most (commands.Split coin amounts) = is_long_list most amounts
 is_long_command most (commands.Merge target sources) = is_long_list most sources
 is_long_command most (commands.MakeVec of_kind values) = is_long_list most values
 
--- the inputs, the bytes of one, the commands, or the arguments or amounts of one
+-- too many inputs or commands, or an input with too many bytes, or a command with too many arguments or amounts
 abbrev pub has_long_list : ℕ → Transaction → Bool
 has_long_list most t =
     is_long_list most t.inputs || (list_any (is_long_input most) t.inputs || (is_long_list most t.commands || list_any (is_long_command most) t.commands))

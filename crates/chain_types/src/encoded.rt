@@ -34,7 +34,7 @@ fn whole_signed(alloc: Global, bytes: &[u8]) -> Result<(SignedTx, &[u8]), Unread
 }
 
 /// The signed transaction that all the bytes encode, and the bytes of its transaction among them, so that nobody encodes it
-/// again. A fault comes exactly where there is none, and is the first.
+/// again. A fault comes exactly if there is none, and is the first.
 pub fn decode_signed_with(alloc: Global, bytes: &[u8]) -> Result<(SignedTx, &[u8]), Unread>
     // What is read is encoded so, and is a value of its type.
     ensures found { IfOk result (λ x. (bytes.now ≡ codecs.signed.spell x.0) × codecs.signed.fits x.0) }

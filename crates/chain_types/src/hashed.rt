@@ -10,7 +10,7 @@ use std::alloc::Global;
 use std::marker::Model;
 use wire_bcs::{OutOfMemory, Seq};
 
-/// An object with its digest: who asks for it hashes nothing. Contracts see the object.
+/// An object with its digest: asking for it hashes nothing. Contracts see the object.
 #[derive(Clone, Copy, Debug)]
 pub struct HashedObject {
     object: Object,

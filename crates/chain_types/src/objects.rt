@@ -72,7 +72,7 @@ pub enum Kind {
 #[derive(Clone, Copy, Debug, PartialEq, Eq)]
 pub enum Content {
     Coin { currency: u64, balance: u64 },
-    /// The right to mint a currency, with how much of it there is.
+    /// The right to mint and to burn a currency, with its supply.
     Cap { currency: u64, supply: u64 },
     Counter { value: u64 },
     Vault { currency: u64, balance: u64 },

@@ -30,7 +30,7 @@ pub enum Argument {
     Input(u16),
     /// The one result of the command of this number.
     Result(u16),
-    /// The command of the first number's result of the second number.
+    /// Of the command of the first number, the result of the second number.
     Nested(u16, u16),
 }
 

@@ -19,7 +19,7 @@ abbrev pub wanted_parent : Option (ℕ × Digest) → Digest
 wanted_parent None = record { 0 = replicate 32 0 }
 wanted_parent (Some before) = before.1
 
--- whether a checkpoint goes on, or the first reason why it does not
+-- that a checkpoint comes after what was before, or the first reason why it does not
 unfoldable pub link_answer : Option (ℕ × Digest) → Checkpoint → Result (Unit {0}) LinkRefusal
 link_answer before c =
     if not (c.number == wanted_number before) then Err (refused.WrongNumber c.number (wanted_number before)) else

@@ -88,7 +88,7 @@ fn take_input<V: Drop>(
     }
 }
 
-// Puts a value to each of the edges at these places.
+// Gives each of the edges at these places a value.
 fn put_values<V: Drop>(slots: &mut [Option<V>], places: &[u32], values: Seq<V>)
     requires { (place : ℕ) → 0 < times place places.now → place < length slots.old }
     ensures { slots.new ≡ put_at slots.old places.now values }
@@ -100,7 +100,7 @@ fn put_values<V: Drop>(slots: &mut [Option<V>], places: &[u32], values: Seq<V>)
     }
 }
 
-// Puts the last value that is left, if there is one, to the edge at a place.
+// Puts the last value that is left, if there is one, into the slot of the edge at a place.
 fn put_value<V: Drop>(slots: &mut [Option<V>], place: u32, rest: &mut Vec<V>)
     requires { place < length slots.old }
     ensures slots { slots.new ≡ put_at slots.old (place ∷ []) (reverse rest.old.items) }

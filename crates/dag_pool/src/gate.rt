@@ -2,7 +2,7 @@
 
 ghost use Rattle.std.specs.Prelude.{ℕ};
 
-/// Is told when a task is about to run, and when it has run, in the thread that runs it.
+/// Is notified when a task is about to run, and when it has run, in the thread that runs it.
 pub trait Gate {
     /// What holds of a task that has entered.
     ghost entered: { Self → ℕ → Type 0 } = { λ _ _. Unit {0} };

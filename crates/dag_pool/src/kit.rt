@@ -31,7 +31,7 @@ pub(crate) fn make_kits(alloc: Global, workers: u32, tasks: u32) -> Result<Vec<K
     Ok(kits)
 }
 
-// Gives each worker a thief of the deck that is so far behind its own.
+// Gives each worker a thief of the deck that stands so many places after its own.
 fn make_thieves(kits: &mut Vec<Kit>, distance: usize) -> Result<(), OutOfMemory>
     requires few { length kits.old.items ≤ 16 }
     requires distance { distance < 16 }
@@ -43,7 +43,7 @@ fn make_thieves(kits: &mut Vec<Kit>, distance: usize) -> Result<(), OutOfMemory>
     Ok(())
 }
 
-// Gives one worker a thief of the deck that is so far behind its own.
+// Gives one worker a thief of the deck that stands so many places after its own.
 fn make_thief(kits: &mut Vec<Kit>, number: usize, distance: usize) -> Result<(), OutOfMemory>
     requires number { number < length kits.old.items }
     requires few { length kits.old.items ≤ 16 }

@@ -6,8 +6,8 @@
 //! often a job is called is in no clause. Tasks go round by decks, one for each worker; what is proved of a run rests only on the
 //! board. A [`Gate`] is notified of each execution. Beneath stands [`run_team`], for work that can be handed out in parts.
 //!
-//! No speed is promised: a worker that finds nothing retires for good, so after a narrow place in a plan only those run on
-//! that had something. Nor does any proof say that two workers run at one time.
+//! No speed is promised: a worker that finds nothing retires for good, so after a narrow part of a plan only the workers
+//! that had a task there go on. Nor does any proof say that two workers run at the same time.
 #![tactic(auto)]
 
 mod crew;

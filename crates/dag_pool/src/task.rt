@@ -46,7 +46,7 @@ pub(crate) fn try_task<J: Job, G: Gate>(
     }
 }
 
-/// Executes a task that was just claimed, between the two calls of the gate. Where memory is refused now, the task is lost.
+/// Executes a task that was just claimed, between the two calls of the gate. If memory is refused now, the task is lost.
 pub(crate) fn execute<J: Job, G: Gate>(
     crew: &Crew<'_, J, G>,
     post: &mut Post<J>,

@@ -43,7 +43,7 @@ impl fmt::Display for Digest {
     }
 }
 
-/// A digest in the making: it is fed in pieces, which count as the one text that they make.
+/// A hasher: it is fed in pieces, and digests the one text that they make.
 #[derive(Drop)]
 pub struct Hasher {
     inner: Sha256,
@@ -96,7 +96,7 @@ pub fn created_id(tx: &Digest, number: u64) -> Digest
     hasher.end()
 }
 
-/// The id of the object of a set-up line, coins, counters and caps counted together from 0.
+/// The id of the set-up object of this number; coins, counters and caps are counted together, from 0.
 #[tactic(auto, unfolding(crate::specs::Tagged::genesis_id_of))]
 pub fn genesis_id(number: u64) -> Digest
     ensures { result ≡ genesis_id_of number }

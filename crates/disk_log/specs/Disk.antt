@@ -67,7 +67,7 @@ abbrev pub AreSeen : List Moment → Type 0
 AreSeen [] = Unit {0}
 AreSeen (m ∷ ms) = IsImage m m.reads × AreSeen ms
 
--- at each moment from the old one on, itself with them, a crash leaves only files that have P; the moments
+-- at each moment from the old one on, including it, a crash leaves only files that have P; the moments
 -- before it are as they were
 pub record LeavesOnly (P : List ℕ → Type 0) (old new : History) : Type 0 where
   pub more : List Moment

@@ -63,7 +63,7 @@ added_to lists (r ∷ records) = added_to (with_record lists r.member r.bytes) r
 abbrev pub journals_of : ℕ → List Record → Journals
 journals_of members records = added_to (replicate members []) records
 
--- where the gate stands of the first record whose member is none of so many; the first gate stands at a place
+-- the place of the gate of the first record whose member is not one of so many; the first gate stands at a place
 abbrev pub bad_member : ℕ → ℕ → List Record → Option ℕ
 bad_member members at [] = None
 bad_member members at (r ∷ records) =

@@ -119,7 +119,7 @@ impl Duplicate for Effects {
     }
 }
 
-/// How long a list is at least that cannot be encoded.
+/// The least length at which a list cannot be encoded.
 const TOO_LONG: u64 = 2_147_483_648;
 
 impl Effects {

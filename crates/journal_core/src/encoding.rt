@@ -11,7 +11,7 @@ use crate::records::Record;
 use std::alloc::Global;
 use wire_bcs::{OutOfMemory, Seq, Wire, Writer};
 
-/// What a record has beside its payload: its number, and a length.
+/// Room, in bytes, for what a record has beside its payload: its number, and a length.
 const FRAME: usize = 64;
 
 /// Writes a record whose transaction or certificate these bytes encode.

@@ -25,7 +25,7 @@ pub enum Record {
     /// The bytes of the next entry of the epoch's sequence.
     See(Seq<u8>),
     Close,
-    /// The transactions of a run, in order. Read, and no longer appended.
+    /// The transactions of a run, in order. Still read, but no longer appended.
     Ran(Seq<Digest>),
     Turn,
     /// The transactions of a run, in order, with their effects.

@@ -12,7 +12,7 @@ use chain_types::Content;
 use std::alloc::Global;
 use wire_bcs::OutOfMemory;
 
-/// A new vault of no balance, and after it the key that names it.
+/// A new empty vault, and after it the key that names it.
 pub(crate) fn vault_new(alloc: Global, place: &Place, currency: u64) -> Result<Gave, OutOfMemory>
     ensures { IfOk result (λ gave. gave ≡ vault_new (site_of place.now) currency) }
 {

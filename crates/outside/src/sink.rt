@@ -20,7 +20,7 @@ pub trait Sink {
     /// The count of faults.
     ghost faults: { Self → ℕ };
 
-    /// Takes a prefix of the bytes, of which there is one at least, and answers how many it took;
+    /// Takes a prefix of the bytes, of which there is at least one, and answers how many it took;
     /// zero only if the count of faults rose. A refused write takes nothing.
     fn write(&mut self, bytes: &[u8]) -> Result<usize, OutFault>
         requires { 0 < length bytes.now }

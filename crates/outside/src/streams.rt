@@ -12,7 +12,7 @@ use crate::source::Source;
 use std::alloc::Global;
 use wire_bcs::Seq;
 
-/// The bytes that are asked for at once.
+/// How many bytes are asked for at once.
 const PIECE: usize = 65_536;
 
 /// Reads one piece, of at most `room` bytes, after the text. Answers how many; zero is the end.

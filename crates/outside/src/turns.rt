@@ -5,8 +5,8 @@ ghost use Rattle.outside.specs.Turns.{after_call, fails_next};
 
 use wire_bcs::Seq;
 
-/// How many calls were made, and the numbers, from 1, of those that are to fail. The count stands
-/// still at the end of its type.
+/// How many calls were made, and the numbers, from 1, of those that are to fail. The count stops
+/// at the greatest u64.
 #[derive(Debug, Drop)]
 pub struct Turns {
     pub calls: u64,

@@ -1,4 +1,4 @@
--- What a buffer handed on stands in the writer below it.
+-- What a buffer has handed on stands in the writer below it.
 use Rattle.std.proofs.Common.{◌≡◌, ◌∙◌, ℕ, List, [], ◌++◌, Option, Some, None, sym, ap, append-nil}
 use Rattle.std.specs.Io.KnownBytes.{Keeps, append_known}
 

@@ -13,10 +13,10 @@ use std::os::fd::AsRawFd;
 use std::os::unix::fs::{FileExt, MetadataExt};
 use std::path::Path;
 
-/// The size that no file has.
+/// In bytes: each file is smaller.
 const LIMIT: u64 = 1 << 63;
 
-/// A file of the operating system as a disk. It tells no bytes. Contracts see what the system said of it when it was
+/// A file of the operating system as a disk. It does not show its bytes. Contracts see what the system said of it when it was
 /// opened, its size, and its count of faults.
 #[derive(Drop)]
 pub struct FileDisk {
@@ -86,7 +86,7 @@ fn plain(file: &File) -> Result<Metadata, OpenFault>
     }
 }
 
-/// Opens a plain file for reads and writes, and holds it alone.
+/// Opens a plain file for reads and writes, and locks it, so that no other `FileDisk` has it open.
 fn open_alone(rt: &HostRuntime, path: &str, missing: Missing) -> Result<File, OpenFault> {
     if is_link(rt, path)? {
         return Err(OpenFault::Link);
@@ -119,7 +119,7 @@ fn settle(rt: &HostRuntime, file: &File, path: &str) -> io::Result<()> {
 }
 
 impl FileDisk {
-    /// Opens the file of a path, which is no symbolic link. No other `FileDisk` has it open then, and the path names it. It
+    /// Opens the file of a path, which is not a symbolic link. No other `FileDisk` has it open then, and the path names it. It
     /// has met no fault yet. By what the system says it is a plain file of its size. What it holds, and that it is the one at
     /// the path, is in no clause: no contract speaks of the system's files.
     pub fn open(rt: &HostRuntime, path: &str, missing: Missing) -> Result<FileDisk, OpenFault>

@@ -6,7 +6,7 @@ use std::io;
 /// Why the file of a path is not opened as a disk.
 #[derive(Clone, Copy, Debug)]
 pub enum OpenFault {
-    /// A symbolic link stands at the path. The file itself is to be named: it is its folder that is made safe.
+    /// A symbolic link stands at the path. Name the file itself: its folder is made safe from a crash too.
     Link,
     /// It is not a plain file: a folder, say, or a device.
     NotPlain,

@@ -54,7 +54,7 @@ fn appended_to(log: DiskLog<FileDisk>, member: u32) -> Option<Result<(), LogRefu
     answer
 }
 
-/// What opening a path comes to.
+/// How opening a path ends.
 fn opening(rt: &HostRuntime, path: &str, missing: Missing) -> &'static str {
     match FileDisk::open(rt, path, missing) {
         Ok(disk) => {

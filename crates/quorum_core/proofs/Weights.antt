@@ -52,7 +52,7 @@ adds_from member (stake ∷ stakes) (suc place) m ms e new =
     let other = ap (λ b. cond (b || is_among ms member) stake 0 + weight_from (suc member) stakes (is_among (m ∷ ms))) (apart_over member m (omega arith)) in
     other ∙ omega arith
 
--- what ascends from above a member does not have it
+-- a list that ascends from above a member does not have it
 above : (m n : ℕ) (ms : List ℕ) → m < n → ascends (n ∷ ms) ≡ true → is_among (n ∷ ms) m ≡ false
 above m n [] less up = ap (λ b. b || false) (apart_over m n less)
 above m n (k ∷ ks) less up =
@@ -97,7 +97,7 @@ pub weight_below : (bound : ℕ) (stakes members : List ℕ) → ((place : ℕ) 
 unfolding weight_of
 weight_below bound stakes members small = below_from bound 0 stakes (is_among members) small
 
--- the same if a roll is gone through from its start
+-- likewise if a roll is gone through from its start
 front_of : (members : List ℕ) (place : ℕ) → place < length members → drop place members ≡ get_or members place 0 ∷ drop (place + 1) members
 front_of members place below = rw (add-one, drop-cons members place 0) refl
 

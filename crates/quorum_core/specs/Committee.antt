@@ -5,7 +5,7 @@ use Rattle.wire_bcs.specs.Ascending.{ascends}
 use Rattle.quorum_core.specs.declared.committee.CommitteeRefusal.{CommitteeRefusal}
 use Rattle.quorum_core.specs.declared.committee.CommitteeRefusal.TheVariants as refusal
 
--- the stakes of the members of which the test holds; the list begins with this member's stake
+-- the sum of the stakes of the members that pass the test; the list begins with this member's stake
 abbrev pub weight_from : ℕ → List ℕ → (ℕ → Bool) → ℕ
 weight_from member [] among = 0
 weight_from member (stake ∷ stakes) among = (if among member then stake else 0) + weight_from (suc member) stakes among

@@ -1,9 +1,9 @@
 //! The committee and its seals: who signs, with what weight, and which seals are accepted.
 //!
-//! A [`Committee`] is a list of 1 to 64 stakes; a weight is a quorum where it is more than two
+//! A [`Committee`] is a list of 1 to 64 stakes; a weight is a quorum if it is more than two
 //! thirds of the stake (Sui Lutris). A [`Checker`] checks seals of members and users, and a
 //! [`Sealer`] makes them too: what it made is accepted. What is promised is said by the definitions of `specs/`, one
-//! equation a call. No call here takes memory, but the codec of [`Signer`].
+//! equation a call. No call here takes memory, except the codec of [`Signer`].
 #![tactic(auto)]
 
 mod committee;

@@ -44,7 +44,7 @@ is_outcome_line (line.Failed tx command cause version gas) = true
 is_outcome_line (line.Aborted tx command code version gas) = true
 is_outcome_line other = false
 
--- the end of a member's epoch, or its turn to the next
+-- the end of a member's epoch, or its change to the next
 abbrev pub is_turn_line : Line → Bool
 is_turn_line (line.Close member text) = true
 is_turn_line (line.End member text) = true
@@ -52,7 +52,7 @@ is_turn_line (line.Turn member text) = true
 is_turn_line (line.Reverted tx) = true
 is_turn_line other = false
 
--- a member that stops, begins again or is shown
+-- a member that stops, restarts or is shown
 abbrev pub is_member_line : Line → Bool
 is_member_line (line.Stop member kept) = true
 is_member_line (line.Restart member text) = true

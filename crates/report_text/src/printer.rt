@@ -244,7 +244,7 @@ fn print_outcome_line(out: &mut Seq<u8>, line: &Line) -> Result<(), OutOfMemory>
     }
 }
 
-/// Prints a line on the end of a member's epoch, or on its turn to the next.
+/// Prints a line on the end of a member's epoch, or on its change to the next.
 #[tactic(auto, unfolding(crate::specs::Text::body_of))]
 fn print_turn_line(out: &mut Seq<u8>, line: &Line) -> Result<(), OutOfMemory>
     requires { IsTrue (is_turn_line line.now) }
@@ -284,7 +284,7 @@ fn print_object_head(out: &mut Seq<u8>, object: &Seq<u8>, version: u64) -> Resul
     )
 }
 
-/// Prints a line on a member that stops, begins again or is shown.
+/// Prints a line on a member that stops, restarts or is shown.
 #[tactic(auto, unfolding(crate::specs::Text::body_of))]
 fn print_member_line(out: &mut Seq<u8>, line: &Line) -> Result<(), OutOfMemory>
     requires { IsTrue (is_member_line line.now) }

@@ -6,6 +6,6 @@ use Rattle.world_spec.specs.Setting.{Setting}
 use Rattle.world_spec.specs.World.{World, says_first}
 use Rattle.world_spec.specs.Making.{held_digest}
 
--- the digest that the lowest-numbered honest member has that is up and holds the version
+-- the digest of the version at the lowest-numbered honest member that is up and holds it
 abbrev pub held_in : Setting → World → ObjectKey → Option Digest
 held_in s w key = says_first s (held_digest key) w.seats

@@ -45,7 +45,7 @@ abbrev pub held_by : ObjectKey → Option Seated → Option Digest
 held_by key None = None
 held_by key (Some seat) = held_digest key seat.state
 
--- the digest that the lowest-numbered honest member has that is up and holds the version
+-- the digest of the version at the lowest-numbered honest member that is up and holds it
 abbrev pub held_in : List Post → ObjectKey → Option Digest
 held_in [] key = None
 held_in (p ∷ posts) key = first_some ((if p.honest then held_by key p.standing else None) ∷ held_in posts key ∷ [])
@@ -172,7 +172,7 @@ MayAddLine (Some (m, records)) before now = AddsFront before now m records
 abbrev pub with_order : Scene → World → Scene
 with_order sc w = record sc { sequences = w.sequences; epoch = w.epoch; said = w.said }
 
--- what the lowest-numbered honest member says that is up, if one says anything
+-- what the lowest-numbered honest member that is up says, if one says anything
 abbrev pub says_in : {A : Type 0} → (Member → Option A) → List Post → Option A
 says_in says [] = None
 says_in says (p ∷ posts) = first_some ((if p.honest then option_and_then (λ (seat : Seated). says seat.state) p.standing else None) ∷ says_in says posts ∷ [])

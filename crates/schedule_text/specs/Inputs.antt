@@ -1,4 +1,4 @@
--- The input words of a transaction: a letter, `:`, and what it is of. Source: this profile.
+-- The input words of a transaction: a letter for the kind, `:`, and a value. Source: this profile.
 use Rattle.std.specs.Prelude.{◌==◌, ℕ, ◌%◌, Bool, true, false, ◌&&◌, ◌||◌, nat_le, List, [], ◌∷◌, length, Option, Some, None, option_map, if◌then◌else◌}
 use Rattle.std.specs.List.{list_all}
 use Rattle.std.specs.Result.{result_ok}

@@ -1,4 +1,4 @@
-//! The input words of a transaction: a letter, `:`, and what it is of.
+//! The input words of a transaction: a letter for the kind, `:`, and a value.
 
 ghost use Rattle.std.specs.Prelude.{◌≡◌, IfOk, option_map};
 ghost use Rattle.std.specs.List.{list_all};
@@ -11,7 +11,7 @@ use hex::FromHexError;
 use std::alloc::Global;
 use wire_bcs::{OutOfMemory, Seq};
 
-/// What an input is of.
+/// The kind of an input, by its letter.
 #[derive(Clone, Copy)]
 pub(crate) enum InputKind {
     /// `n`

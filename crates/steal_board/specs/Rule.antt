@@ -50,7 +50,7 @@ pub record Agrees {T : Type 0} (paper : Paper T) (words : List ℕ) (homes : Lis
   -- a task is claimed at most once
   pub once : (task : ℕ) → mine task ≤ 1
   pub inside : (task : ℕ) → paper.tasks ≤ task → mine task ≡ 0
-  -- a word to spare is at the mark
+  -- a spare word is at the mark
   pub spare : (task : ℕ) → paper.tasks ≤ task → task < length words → slice_index words task ≡ mark
   -- all incoming edges of a ready task are paid
   pub ready_paid : (task : ℕ) → 0 < ready task → owing paid paper.edges task ≡ 0

@@ -162,7 +162,7 @@ impl<J: Job> Board<J> {
         }
     }
 
-    /// Pays the plan's value of an edge whose source this seat claimed. True exactly if the target's word came to 0.
+    /// Pays the plan's value of an edge whose source this seat claimed. True exactly if the target's word became 0.
     pub fn pay(&self, seat: &mut BoardSeat<J>, edge: u32, value: J::Value) -> bool
         requires of { IsOf self.now seat.old }
         requires edge { edge < length (over self.now).edges }

@@ -12,7 +12,7 @@ use wire_bcs::{OutOfMemory, Seq};
 /// The word of a claimed task.
 pub(crate) const MARK: u64 = u64::MAX;
 
-// A word for each task, the number of its incoming edges. One to spare, at the mark, if there is no task.
+// A word for each task, the number of its incoming edges. If there is no task, one spare word, at the mark.
 pub(crate) fn first_words<J: Job>(alloc: Global, plan: &Plan<J>) -> Result<Vec<u64>, OutOfMemory>
     ensures some { IfOk result (λ words. 0 < length words.items) }
     ensures wide { IfOk result (λ words. length plan.now.jobs ≤ length words.items) }

@@ -20,7 +20,7 @@ below [] port v e = absurd (some-ne-none v (sym e))
 below (x ∷ xs) zero v e = omega arith
 below (x ∷ xs) (suc port) v e = let h = below xs port v e in omega arith
 
--- a party that is alone has all that was taken
+-- the only party has all that was taken
 lone : (f : Track → ℕ) (views : List Track) (port : ℕ) (v : Track) → length views ≡ 1 → get_elem? views port ≡ some v → sum_by f views ≡ f v
 lone f [] port v n e = absurd (omega arith)
 lone f (x ∷ []) zero v n e = let q = ap f (some-injective x v e) in omega (arith, sum_by-cons f x [])

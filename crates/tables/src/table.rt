@@ -95,7 +95,7 @@ impl<T: Keyed + Drop> Table<T> {
         }
     }
 
-    /// Makes room for so many rows more. The rows stay, whatever the result.
+    /// Makes room for so many more rows. The rows stay, whatever the result.
     pub fn make_room(&mut self, count: usize) -> Result<(), OutOfMemory>
         ensures rows { self.new.rows ≡ self.old.rows }
         ensures room { OnOk result (count ≤ self.new.room) }

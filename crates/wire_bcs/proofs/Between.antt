@@ -12,6 +12,6 @@ marked p text q count t e =
     let long : length text ≡ count = omega (arith, e, moved) in
     ap (λ (bytes : List ℕ). take count bytes) t.parts ∙ take_at text (left q) count long
 
--- what a reader took since a mark is the spelling of what it read from there
+-- what a reader took since a mark is the encoding of what it read from there
 pub encoded : {A : Type 0} (c : Codec A) (p : Place) (x : A) (q : Place) (bytes : List ℕ) → IsBytes p.input → c.read p ≡ Ok (x, q) → ((text : List ℕ) → Takes p text q → bytes ≡ text) → bytes ≡ c.spell x
 encoded c p x q bytes fits e since = since (c.spell x) (c.takes p x q fits e).0

@@ -25,7 +25,7 @@ Gives new (Ok x) read = read ≡ Ok (x, new)
 Gives new (Err (unread.Wire f)) read = (read ≡ Err (record { place = new; why = f.why })) × (f.at ≡ new.at)
 Gives new (Err unread.OutOfMemory) read = Unit {0}
 
--- The same of a result that holds the value beside something else.
+-- Likewise for a result that holds the value beside something else.
 abbrev pub GivesAs : {X A : Type 0} → (X → A) → Place → Result X Unread → Read A → Type 0
 GivesAs view new (Ok x) read = read ≡ Ok (view x, new)
 GivesAs view new (Err (unread.Wire f)) read = (read ≡ Err (record { place = new; why = f.why })) × (f.at ≡ new.at)
@@ -66,7 +66,7 @@ Decodes bytes (Ok x) read = read ≡ Ok x
 Decodes bytes (Err (unread.Wire f)) read = read ≡ Err (record { place = record { input = bytes; at = f.at }; why = f.why })
 Decodes bytes (Err unread.OutOfMemory) read = Unit {0}
 
--- The same of a result that holds the value beside something else.
+-- Likewise for a result that holds the value beside something else.
 abbrev pub DecodesAs : {X A : Type 0} → (X → A) → List ℕ → Result X Unread → Result A Stop → Type 0
 DecodesAs view bytes (Ok x) read = read ≡ Ok (view x)
 DecodesAs view bytes (Err (unread.Wire f)) read = read ≡ Err (record { place = record { input = bytes; at = f.at }; why = f.why })

@@ -7,7 +7,7 @@ use Rattle.wire_bcs.specs.Place.{Place, Takes, IsBytes, left, forward, stop, bin
 use Rattle.wire_bcs.specs.Little.{IsBytes-rest}
 use Rattle.wire_bcs.specs.Uleb.{uleb_in, uleb, behind, uleb_rest, uleb_at, counted, uleb_below}
 
--- which way a test went
+-- from the value of a choice, which branch was taken
 pub chosen : {A : Type 0} (b : Bool) (x y z : A) → cond b x y ≡ z → ((b ≡ true) × (x ≡ z)) ⊎ ((b ≡ false) × (y ≡ z))
 chosen true x y z e = inl (refl, e)
 chosen false x y z e = inr (refl, e)
@@ -44,7 +44,7 @@ uleb_in-behind more b n high byte some =
     let big : 128 ≤ b - 128 + 128 * n = omega arith in
     uleb_in-more more (b - 128 + 128 * n) big ∙ rw (low, rest) refl
 
--- what stands where a value and a count of bytes were read
+-- the bytes at the place at which a value and a count of bytes were read
 abbrev Reads : ℕ → List ℕ → ℕ × ℕ → Type 0
 Reads more bytes x = (bytes ≡ uleb_in more x.0 ++ drop x.1 bytes) × (x.1 ≡ length (uleb_in more x.0)) × (0 < x.0) × (x.0 < room more)
 

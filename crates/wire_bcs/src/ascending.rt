@@ -3,7 +3,7 @@
 ghost use Rattle.std.specs.Prelude.{◌≡◌};
 ghost use Rattle.wire_bcs.specs.Ascending.{ascends};
 
-/// Whether each number is less than the next, as those of members are that a certificate names. Takes no memory.
+/// Whether each number is less than the next, as the numbers of a certificate's members are. Takes no memory.
 pub fn ascends(numbers: &[u32]) -> bool
     ensures { result ≡ ascends numbers.now }
 {

@@ -76,7 +76,7 @@ impl<'a> Reader<'a> {
         }
     }
 
-    /// The next bytes, so many.
+    /// The next `count` bytes.
     #[tactic(auto, unfolding(crate::specs::Items::front_read))]
     fn front(&mut self, count: usize) -> Result<&'a [u8], WireFault>
         ensures item { Item (λ b. b.now) self.old self.new result (front_read count self.old) }
@@ -279,7 +279,7 @@ impl<'a> Reader<'a> {
     }
 }
 
-/// What a slice of bytes holds are bytes, said for proofs.
+/// A lemma: each item of a slice of bytes is a byte.
 fn are_bytes(bytes: &[u8])
     ensures { IsBytes bytes.now }
 {}

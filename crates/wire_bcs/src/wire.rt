@@ -97,7 +97,7 @@ impl<T: Wire> Wire for Option<T> {
     }
 }
 
-/// The room with which an encoding begins: most statements, transactions and effects fit, so they never move.
+/// The bytes for which an encoding has room at first: most statements, transactions and effects fit, so they never move.
 const FIRST_ROOM: usize = 256;
 
 /// The one encoding of a value.

@@ -1,4 +1,4 @@
--- The program's own seals, which are a keyed SHA-256 and no security. Source: this profile.
+-- The program's own seals, a keyed SHA-256 whose key is public: they authenticate nothing. Source: this profile.
 use Rattle.std.specs.Prelude.{ℕ, List, replicate}
 unfoldable pub use Rattle.quorum_core.specs.Seals.{keyed_seal}
 use Rattle.chain_types.specs.Equal.{digest_eq}

@@ -1,5 +1,5 @@
--- The objects with which each epoch opens: what one thread leaves that executes the checkpointed transactions in
--- order. Source: Sui Lutris.
+-- The objects with which each epoch opens: what executing the checkpointed transactions in
+-- order on one thread leaves. Source: Sui Lutris.
 use Rattle.std.specs.Prelude.{ℕ, zero, suc, List, map, flat_map}
 use Rattle.std.specs.FinMap.{values}
 use Rattle.chain_types.specs.declared.objects.Object.{Object}

@@ -106,7 +106,7 @@ voted_text w new (statement.End epoch) = vote_text.Down
 voted_text w new (statement.Checkpoint epoch number digest) = vote_text.Down
 voted_text w new (statement.Ack epoch tx effects) = vote_text.Down
 
--- running out of memory comes in no run, and a fault of the keeper is a stop; both are given the text of a member that is down
+-- no run is out of memory, and a fault of the keeper is a stop; both are given the text of a member that is down
 abbrev pub vote_answered : {S : Type 0} → Setting → WorldOf S → Result Voted VoteRefusal → VoteText
 vote_answered s w (Ok v) = voted_text w v.fresh v.statement
 vote_answered s w (Err no_vote.Down) = vote_text.Down

@@ -194,7 +194,7 @@ effects_digest_at x = digest_of_effects x.gave.effects
 abbrev pub executed_digest : Digest → Member → Option Digest
 executed_digest tx m = option_map effects_digest_at (execution_of m.executed tx)
 
--- what a faulty member acknowledges: what the lowest-numbered honest member has that is up and executed it, else zeros
+-- what a faulty member acknowledges: the effects digest of the lowest-numbered honest member that is up and executed it, else zeros
 abbrev pub false_ack_over : {S : Type 0} → Seating S → WorldOf S → Made → Bool → Statement
 false_ack_over k w t spoiled = statement.Ack t.signed.tx.epoch t.digest (spoiled_if spoiled (digest_or_zero (says_over k (executed_digest t.digest) w.seats)))
 

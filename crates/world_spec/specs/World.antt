@@ -239,7 +239,7 @@ called_in s w m call = called_over (by_records s) s.rules w m call
 
 -- ---- members
 
--- whether it is so of a member; not so of nobody
+-- whether it holds of a member; false if there is no such member
 abbrev pub seat_is : {S : Type 0} → (S → Bool) → Option S → Bool
 seat_is test None = false
 seat_is test (Some seat) = test seat

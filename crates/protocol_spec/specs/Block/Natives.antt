@@ -110,7 +110,7 @@ mode_of native place = slice_get (parameters_of native) place
 -- ---- arguments
 
 -- Each argument was read by the mode of its parameter (`parameters`), so it has the form that its native looks for. Words
--- are total, so these also say what another form would give; no call comes to that.
+-- are total, so these also say what another form would give; no call has one.
 
 abbrev pub no_item : Item
 no_item = record { id = record { 0 = record { 0 = [] } }; content = content.Limit 0; fresh = false }
