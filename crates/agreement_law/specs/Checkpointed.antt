@@ -29,7 +29,7 @@ CheckpointsOfFold = (s : Setting) (events : List Event) → IsHonestRun s events
     → (m : ℕ) (seat : Seat) → slice_get (world_after s events).seats m ≡ Some seat
     → (cuts : List Cut) → IsFront cuts (member_in s seat).sequence.cuts → Each (IsBuilt (member_in s seat)) cuts → GivesOneThread (member_in s seat) (flat_map admitted_in cuts)
 
--- a member that turns with all its checkpoints built opens the next epoch with what one thread leaves that executes
+-- a member that turns with all its checkpoints built opens the next epoch with what one thread leaves after executing
 -- the checkpointed transactions in order
 abbrev pub TurnsToFold : Type 0
 TurnsToFold = (s : Setting) (events : List Event) → IsHonestRun s events → AreApart s.opening

@@ -43,7 +43,7 @@ pub record IsOver (opening : List Object) (q : Sequence) : Type 0 where
 abbrev pub IsPast : Setting → List (List Entry) → ℕ → Type 0
 IsPast s sequences epoch = IsOver (opening_at s sequences epoch) (sequence_of s sequences epoch (opening_at s sequences epoch))
 
--- The member opened its epoch with the objects that one thread leaves that executes the checkpointed transactions of the
+-- The member opened its epoch with the objects that one thread leaves after executing the checkpointed transactions of the
 -- epochs before, one epoch after the other; all of these epochs are over, and their checkpoints are those of that thread.
 pub record OpensAsLeft (s : Setting) (sequences : List (List Entry)) (m : Member) : Type 0 where
   pub opening : m.opening ≡ opening_at s sequences m.epoch

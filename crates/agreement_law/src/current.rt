@@ -1,4 +1,4 @@
-//! What a member executes of its sequence, under the run assumptions, is what one thread executes that goes over the
+//! What a member executes of its sequence, under the run assumptions, is what one thread executes when it goes over the
 //! admitted transactions in order.
 ghost use Rattle.agreement_law.specs.Same.{ExecutionsSame};
 ghost use Rattle.agreement_law.specs.Steps.{ExecutedIsStep, VersionsSame};

@@ -1,4 +1,4 @@
-//! Every honest member opens each epoch with the same objects: those that one thread leaves that executes the
+//! Every honest member opens each epoch with the same objects: those that one thread leaves after executing the
 //! checkpointed transactions of the epochs before, in order. All build one list of checkpoints.
 ghost use Rattle.agreement_law.specs.Opened.{EveryOpening, OpenedAlike};
 ghost use Rattle.agreement_law.specs.AgreedEpochs.{BuiltIsOfThread, EveryCheckpoint, MembersAgree, OneListOfCheckpoints};
@@ -6,7 +6,7 @@ ghost use Rattle.agreement_law.specs.Chains.{VersionsAreChains};
 ghost use Rattle.agreement_law.specs.Sums.{CurrenciesAreBacked, OnlyGasLeaves, SetUpHasNoGasCap, SetUpIsBacked};
 
 /// Under the run assumptions, from a set-up with objects of different ids, every member opened its epoch with the
-/// objects that one thread leaves that executes the checkpointed transactions of the epochs before, one epoch after the
+/// objects that one thread leaves after executing the checkpointed transactions of the epochs before, one epoch after the
 /// other; what stands in no checkpoint leaves no trace.
 pub fn every_opening()
     ensures { EveryOpening }
@@ -30,7 +30,7 @@ pub fn members_agree()
     ensures { MembersAgree }
 {}
 
-/// The checkpoints that a member has built, in all epochs until now, are the first of those that one thread gives which
+/// The checkpoints that a member has built, in all epochs until now, are the first of those that one thread gives when it
 /// executes the world's sequences.
 pub fn built_is_of_thread()
     ensures { BuiltIsOfThread }

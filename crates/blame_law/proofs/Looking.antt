@@ -1,4 +1,4 @@
--- Whoever looks the transactions of a checkpoint up by digest, among those that the lines of the run made, hands in
+-- A caller that looks the transactions of a checkpoint up by digest, among those that the lines of the run made, hands in
 -- transactions of the run.
 use Rattle.std.proofs.Common.{refl, sym, subst, ap, ◌∙◌}
 use Rattle.std.specs.Prelude.{◌≡◌, List, [], ◌∷◌, find, map, Option, Some, None, option_map}

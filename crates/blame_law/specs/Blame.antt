@@ -14,7 +14,7 @@ use Rattle.safety_law.specs.Owners.{IsFormedOrValid}
 use Rattle.light_check.specs.declared.rivals.DoubleVote.{DoubleVote}
 use Rattle.light_check.specs.Blamed.{blamed}
 
--- whoever is blamed for two certified transactions of a run is not honest, whatever stake is faulty
+-- a member that is blamed for two certified transactions of a run is not honest, whatever stake is faulty
 abbrev pub NoneIsHonest : Type 0
 NoneIsHonest = (s : Setting) (events : List Event) → NoForgery s events (new_world s) → TransactionsApart (all_transactions s events)
     → (c d : Certificate) → IsFormedOrValid s events c → IsFormedOrValid s events d → (b : DoubleVote) → blamed c d ≡ Some b

@@ -46,7 +46,7 @@ pub record AreHanded (s : Setting) (events : List Event) (checkpoints : List Che
 abbrev pub made_as : World → Digest → Option Transaction
 made_as w tx = option_map (λ (t : Made). t.signed.tx) (find (λ (t : Made). digest_eq t.digest tx) w.txs)
 
--- whoever finds each item's transaction among those that the lines made hands in transactions of the run
+-- a caller that finds each item's transaction among those that the lines made hands in transactions of the run
 abbrev pub LookedUpIsHanded : Type 0
 LookedUpIsHanded = (s : Setting) (events : List Event) (c : Checkpoint) (txs : List Transaction)
     → map (λ (i : Item). made_as (world_after s events) i.tx) c.items ≡ map Some txs → IsHandedFrom (all_transactions s events) (record { checkpoint = c; txs = txs })

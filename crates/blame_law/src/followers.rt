@@ -30,7 +30,7 @@ pub fn followers_open_alike_in_schedules()
     ensures alike { OpenedAlikeInSchedules }
 {}
 
-/// Whoever looks each item's transaction up by digest, among those that the lines of the run made, hands in transactions
+/// A caller that looks each item's transaction up by digest, among those that the lines of the run made, hands in transactions
 /// of the run.
 pub fn looked_up_is_handed()
     ensures { LookedUpIsHanded }

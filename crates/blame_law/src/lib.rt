@@ -16,7 +16,7 @@ pub use followers::{
 };
 
 /// If no statement is forged and no digests of transactions collide, no honest member is blamed for two certified
-/// transactions of a run: whoever is, did vote twice. How many are faulty plays no part.
+/// transactions of a run: a member that is blamed did vote twice. How many are faulty plays no part.
 pub fn none_is_honest()
     ensures { NoneIsHonest }
 {}

@@ -1,4 +1,4 @@
--- Of each currency, what is held moves with the supplies of its caps and with the gas.
+-- For each currency, what is held moves with the supplies of its caps and with the gas.
 use Rattle.std.proofs.Common.{refl, ap, sym, subst, ◌∙◌, inl, inr}
 use Rattle.std.specs.Prelude.{◌≡◌, ◌≤◌, ◌<◌, ◌+◌, ◌-◌, min, ℕ, Bool, true, false, cond, ◌==◌, List, [], ◌∷◌, ◌++◌, map, filter_map, find, sum_by, option_map, Option, Some, None, Result, Ok, Err}
 use Rattle.std.specs.List.{cons_option}

@@ -33,7 +33,7 @@ pub record MayRun (t : Transaction) (objects : List Object) : Type 0 where
   pub held : GasIsAmount objects
   pub apart : repeats id_eq (touched_ids t (execution t objects).effects) ≡ false
 
--- of each currency, what coins and vaults hold moves with the supplies of its caps, and with the gas
+-- for each currency, what coins and vaults hold moves with the supplies of its caps, and with the gas
 abbrev pub MoneyMovesWithSupplies : Type 0
 MoneyMovesWithSupplies =
     (t : Transaction) (objects : List Object) → MayRun t objects → (currency : ℕ) →

@@ -18,7 +18,7 @@ pub fn effects_name_each_id_once()
     ensures { EffectsNameEachIdOnce }
 {}
 
-/// Of each currency, what coins and vaults hold moves with the supplies of its caps, and with the gas that is charged.
+/// For each currency, what coins and vaults hold moves with the supplies of its caps, and with the gas that is charged.
 pub fn money_moves_with_supplies()
     ensures { MoneyMovesWithSupplies }
 {}

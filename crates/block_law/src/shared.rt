@@ -6,7 +6,7 @@ pub fn shared_inputs_are_written()
     ensures { SharedInputsAreWritten }
 {}
 
-/// A written object is shared since the version since which it was, and a new one since the version of the transaction,
+/// A written object that is shared stays shared since the same version, and a new one is shared since the version of the transaction,
 /// if at all.
 pub fn writes_stay_shared()
     ensures { WritesStayShared }

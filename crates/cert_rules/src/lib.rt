@@ -8,8 +8,8 @@
 //! certificate, if the transaction has a valid shape and the votes name one origin for each
 //! object. A check encodes the vote once and checks one seal a member.
 //!
-//! What the words of members on something give together, votes or acknowledgements, is said by
-//! [`collect_words`], over any [`LastWords`]; [`collect`] stands on it too, and [`collect_acks`], which says what the
+//! What the words of members on something, votes or acknowledgements, give together is the answer of
+//! [`collect_words`], over any [`LastWords`]; [`collect`] stands on it too, and so does [`collect_acks`], which says what the
 //! acknowledgements of a quorum make final.
 #![tactic(auto)]
 

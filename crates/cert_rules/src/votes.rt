@@ -148,8 +148,8 @@ fn certificate_of(
     })
 }
 
-/// The certificate of votes for a transaction, which members that ascend, are distinct and are
-/// known sealed: the transaction, the origins that all of them name, and their seals in order. Or
+/// The certificate of votes for a transaction; members that ascend, are distinct and are
+/// known sealed them. It has the transaction, the origins that all of them name, and their seals in order. Or
 /// the first reason why they make none.
 pub fn collect(
     alloc: Global,

@@ -13,7 +13,7 @@ turned : (members : List ℕ) (member : ℕ) → list_any (nat_eq member) member
 turned [] member = refl
 turned (m ∷ ms) member = ap (λ b. b || list_any (nat_eq member) ms) (nat_eq_equiv.symm member m) ∙ ap (λ b. (m == member) || b) (turned ms member)
 
--- whoever is known stays known
+-- a member that is known stays known
 pub one_known : (stakes members : List ℕ) (member : ℕ) → member < length stakes → all_known stakes members ≡ true → all_known stakes (members ++ member ∷ []) ≡ true
 one_known stakes [] member less known = grind arith
 one_known stakes (m ∷ ms) member less known =

@@ -1,4 +1,4 @@
-//! What holds of chains of checkpoints, whoever builds them.
+//! What holds of chains of checkpoints, whichever member builds them.
 
 ghost use Rattle.std.specs.Prelude.{ℕ, ◌≤◌, ◌++◌, List, length};
 ghost use Rattle.checkpoint_core.specs.declared.checkpoints.Checkpoint.{Checkpoint};

@@ -4,7 +4,7 @@
 //! it was cut, and each [`Chain::advance`] builds the checkpoints of the cuts up to the first that has a transaction which
 //! is not done by then: at constant work for each transaction, since what is done stays done. Its numbers and parents go
 //! on over the epochs. [`tell`] reports to it what an admission has let in, [`first_unordered`] finds what keeps a member from saying that
-//! its epoch is to end, and [`revert_uncut`] and [`renew`] open the next one. [`next_opening`] does so for whoever holds only a
+//! its epoch is to end, and [`revert_uncut`] and [`renew`] open the next one. [`next_opening`] does so for a caller that holds only a
 //! store and the checkpointed transactions.
 #![tactic(auto)]
 

@@ -22,7 +22,7 @@ use Rattle.version_assign.specs.Calls.{Admitting, admitted_since, with_entry, wi
 use Rattle.exec_plan.specs.declared.waiting.Waiting.{Waiting}
 use Rattle.exec_plan.specs.Waits.{Admits, IsWaiting, StoodBefore}
 
--- ---- who is admitted
+-- ---- what is admitted
 
 abbrev of_tx : Digest → Admitted → Bool
 of_tx tx x = digest_eq x.digest tx
@@ -54,7 +54,7 @@ found_more tx (x ∷ xs) ys there = go (of_tx tx x) there (found_more tx xs ys)
     go true there rest = refl
     go false there rest = rest there
 
--- who is named among these
+-- whether a transaction is named among these
 named_any : (tx : Digest) (more : List Admitted) → is_among (map digest_of_admitted more) tx ≡ is_admitted more tx
 named_any tx [] = refl
 named_any tx (x ∷ xs) = ap (λ b. digest_eq x.digest tx || b) (named_any tx xs)

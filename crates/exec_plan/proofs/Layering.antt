@@ -128,7 +128,7 @@ module _ (b : Books) (before more : List Execution) (h : Held) where
       go true e = e
       go false e = refl
 
--- ---- who is planned
+-- ---- which certificates are planned
 
 pub planned_join : (xs ys : List Held) (tx : Digest) → is_planned (xs ++ ys) tx ≡ (is_planned xs tx || is_planned ys tx)
 planned_join xs ys tx = any_both (is_of tx) xs ys
@@ -212,7 +212,7 @@ turn_planned b (h ∷ hs) executed tx there = go (ready b executed h) refl there
         either (inl is) = or_left (digest_eq h.digest tx) (is_planned hs tx) (itself (digest_eq x.digest tx) refl is)
         either (inr more_is) = or_right (digest_eq h.digest tx) (is_planned hs tx) (more (executed ++ x ∷ []) more_is)
 
--- ---- who makes what is wanted
+-- ---- which transaction makes what is wanted
 
 pub opening_other : (more : List Execution) → AreOthers producers.Opening more
 opening_other [] = tt
@@ -533,7 +533,7 @@ pub turns_are_rounds : TurnsAreRounds
 unfolding planned_of rounds
 turns_are_rounds b executed apart = layers_turn (length b.held) b executed [] executed apart (nothing_planned b executed)
 
--- ---- who is planned joins a layer
+-- ---- a planned certificate joins a layer
 
 module _ (b : Books) (executed : List Execution) (planned : List Held) where
   joins_behind : (more : List Held) (h : Held) → Joins b executed planned h → is_planned more h.digest ≡ false → Joins b executed (planned ++ more) h

@@ -70,7 +70,7 @@ one_named txs d tx = go (list_any (digest_eq d) txs) refl
         absorb (list_any (digest_eq tx) txs) (digest_eq tx d) (λ same. ap (λ (x : Digest). list_any (digest_eq x) txs) (digest_same tx d same) ∙ there)
     go false there = any_both (digest_eq tx) txs (d ∷ []) ∙ ap (λ b. list_any (digest_eq tx) txs || b) (sym (or_none (digest_eq tx d)))
 
--- who is named after more names
+-- whether a transaction is named, after more names
 pub all_named : (more txs : List Digest) (tx : Digest) → list_any (digest_eq tx) (insert_all digest_eq txs more) ≡ (list_any (digest_eq tx) txs || list_any (digest_eq tx) more)
 all_named [] txs tx = or_none (list_any (digest_eq tx) txs)
 all_named (d ∷ ds) txs tx =
@@ -94,7 +94,7 @@ agrees_more txs planned more agrees tx =
     ∙ ap (λ c. is_planned planned tx || c) (planned_is more tx)
     ∙ sym (planned_join planned more tx)
 
--- ---- who joins
+-- ---- which certificates join
 
 module _ (s : Stored) (a : Admission) (held : List Held) (txs : List Digest) (planned : List Held) (agrees : Agrees txs planned) where
   abbrev now : Stored
@@ -189,7 +189,7 @@ module _ (s : Stored) (a : Admission) (all : List Held) where
           let same : i ≡ 0 + i = omega arith in
           subst (λ n. Has places n ⊎ Rests h) same (names i h at)
 
-  -- ---- who waits for nothing
+  -- ---- which certificates wait for nothing
 
   open_or_rests : (w : Waiting) → IsWaiting s a all w → (place : ℕ) (h : Held) → slice_get all place ≡ Some h → Has w.next.keys place ⊎ (joins_now s a h ≡ false)
   open_or_rests w filed place h at = go (filed.at place h at)
@@ -363,7 +363,7 @@ one_layer : (n : ℕ) (b : Books) (executed : List Execution) (planned : List He
 one_layer zero b executed planned some = absurd (omega (arith, some))
 one_layer (suc n) b executed planned some = ap (λ k. layer_of b executed planned ++ layers_within k b executed (planned ++ layer_of b executed planned)) (omega arith)
 
--- the layers that are left come to the whole plan
+-- the layers that are left make up the whole plan
 pub record Goes (s : Stored) (a : Admission) (held : List Held) (left : ℕ) (txs : List Digest) (planned : List Held) : Type 0 where
   pub whole : planned ++ layers_within left (books_of s a held) s.executed planned ≡ planned_of (books_of s a held) s.executed
   pub agrees : Agrees txs planned

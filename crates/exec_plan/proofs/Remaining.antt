@@ -1,4 +1,4 @@
--- What is left of a plan's outputs is what the run leaves: whoever is due was planned, and lacked what is missing.
+-- What is left of a plan's outputs is what the run leaves: a certificate that is due was planned, and lacked what is missing.
 use Rattle.std.proofs.Common.{◌≡◌, ℕ, zero, suc, ◌+◌, ◌<◌, ◌≤◌, Bool, true, false, cond, not, ◌&&◌, ◌||◌, List, [], ◌∷◌, ◌++◌, map, length, Option, Some, None, is_some, inl, inr, refl, ap, sym, subst, ◌∙◌, append_assoc, append-nil, arith}
 use Rattle.std.specs.Prelude.{◌⊎◌, filter, filter_map, find, slice_get, zip}
 use Rattle.std.specs.List.{cons_option, list_all, list_any}

@@ -31,7 +31,7 @@ and_false : (a : Bool) → (a && false) ≡ false
 and_false true = refl
 and_false false = refl
 
--- ---- who made what a transaction wrote
+-- ---- which transaction made what a transaction wrote
 
 -- a transaction wrote nothing that another made
 pub not_by : (key : ObjectKey) (p : Producer) (tx : Digest) (objects : List Object) → producer_eq (producers.Tx tx) p ≡ false → find (is_wanted key (Some p)) (map (written tx) objects) ≡ None

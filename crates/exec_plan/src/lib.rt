@@ -9,7 +9,7 @@
 //! at those that wait for nothing, and at those that wait for what it plans.
 //!
 //! No round is executed as such. [`plan_ready`] makes a [`Task`] for each certificate whose turn may come, layer after
-//! layer, and an edge for each version that one makes for a later one, and executes nothing. Whoever evaluates the
+//! layer, and an edge for each version that one makes for a later one, and executes nothing. A caller that evaluates the
 //! plan, on one thread or on many, hands its outputs to [`settle`], which keeps those that the rounds execute, writes
 //! them and answers their effects. A task may turn out not to be kept: if one that makes what it wants is not,
 //! if what it wants is lacking or does not fit it, and if it writes a version that is there. [`run_planned`] does

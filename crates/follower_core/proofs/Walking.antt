@@ -9,7 +9,7 @@ use Rattle.follower_core.specs.declared.refusals.FollowRefusal.{FollowRefusal}
 use Rattle.follower_core.specs.Courses.{Course, behind, behind_all, first_bad, place_refusal}
 use Rattle.follower_core.specs.Ledgers.{Ledger}
 
--- what is left, from this place on, comes to what all come to, and nothing is kept yet
+-- what is left, from this place on, gives what all give, and nothing is kept yet
 pub record Walks (start : Ledger) (items : List Item) (txs : List Transaction) (now : Ledger) (place : ℕ) (left : List Item) (rest : List Transaction) : Type 0 where
   pub kept : now.kept ≡ start.kept
   pub same : first_bad now.present place left rest ≡ first_bad start.present 0 items txs

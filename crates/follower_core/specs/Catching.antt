@@ -1,4 +1,4 @@
--- How far a follower comes that takes checkpoints in order, each with the transactions that are known by the digests of its
+-- How far a follower gets if it takes checkpoints in order, each with the transactions that are known by the digests of its
 -- items. Source: Sui Lutris; what is said of the first that it does not apply is this profile's own.
 use Rattle.std.specs.Prelude.{ℕ, ◌+◌, nat_lt, Bool, true, false, List, [], ◌∷◌, filter, Option, Some, None, Result, Ok, Err, if◌then◌else◌}
 use Rattle.digest_core.specs.declared.Digest.{Digest}
@@ -70,7 +70,7 @@ caught_up known s (c ∷ cs) = caught_from (applied_by known s c) (λ (t : State
 
 -- ---- the step at a place
 
--- memory was wanted
+-- memory was refused
 abbrev pub is_wanting : CatchUpRefusal → Bool
 is_wanting (stopped.Stuck number place) = false
 is_wanting (stopped.Differs number place) = false

@@ -1,4 +1,4 @@
--- What checkpoints and their transactions come to, from the objects of the set-up on. Source: Sui Lutris (a node that
+-- What checkpoints and their transactions leave, from the objects of the set-up on. Source: Sui Lutris (a node that
 -- executes what is checkpointed).
 use Rattle.std.specs.Prelude.{List, flat_map, map, Option, Some}
 use Rattle.digest_core.specs.declared.Digest.{Digest}

@@ -82,7 +82,7 @@ is_memory (refused.Stuck place) = false
 is_memory (refused.Differs place had want) = false
 is_memory refused.OutOfMemory = true
 
--- the number of checkpoints, or the refusal; memory may be refused where the transactions are looked at
+-- the number of checkpoints, or the refusal; memory may be refused if the transactions are looked at
 abbrev pub Answers : State → Checkpoint → List Transaction → Result ℕ FollowRefusal → Type 0
 Answers s c txs (Ok count) = (refusal_of s c txs ≡ None) × (count ≡ applied_in s.tip + 1)
 Answers s c txs (Err refusal) =

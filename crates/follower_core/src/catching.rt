@@ -15,7 +15,7 @@ use digest_core::Digest;
 use std::alloc::Global;
 use wire_bcs::{Duplicate, OutOfMemory, Seq};
 
-/// Why a follower that takes checkpoints in order comes no further. Checkpoints go by their numbers; places are those of
+/// Why a follower that takes checkpoints in order stops. Checkpoints go by their numbers; places are those of
 /// a checkpoint's transactions, counted from 0, and the first bad place is reported.
 #[derive(Clone, Copy, Debug, PartialEq, Eq)]
 pub enum CatchUpRefusal {

@@ -1,4 +1,4 @@
-//! What applied checkpoints come to.
+//! What applied checkpoints leave.
 
 ghost use Rattle.std.specs.Prelude.{◌≡◌, List, map, option_map};
 ghost use Rattle.chain_types.specs.declared.objects.Object.{Object};

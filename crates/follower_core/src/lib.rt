@@ -3,7 +3,7 @@
 //! A [`Follower`] opens with the objects of the set-up. [`Follower::apply`] takes the next checkpoint with its
 //! transactions, executes them one after the other, and compares what each did with what the checkpoint says; or it
 //! reports the first thing that is wrong, and stands as before, or is down after running out of memory. Its live objects are those
-//! that one thread leaves which executes the transactions of all applied checkpoints in order ([`applied_is_followed`]).
+//! that one thread leaves after executing the transactions of all applied checkpoints in order ([`applied_is_followed`]).
 //! [`catch_up`] takes the checkpoints of an [`Archive`] in order, up to an epoch.
 #![tactic(auto)]
 

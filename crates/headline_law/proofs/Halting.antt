@@ -40,7 +40,7 @@ fork-last earlier (k ∷ hs) h f e = go (fork_with earlier k) (fork-last (earlie
     go None rest = (rest.0, ap (λ (o : Option Fork). first_some (None ∷ o ∷ [])) rest.1)
 
 module _ (s : Setting) where
-  -- ---- who holds two certificates that consume one version
+  -- ---- which members hold two certificates that consume one version
 
   pub record IsForked (w : World) (m : ℕ) : Type 0 where
     pub seat : Seat

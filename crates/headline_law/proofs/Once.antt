@@ -86,7 +86,7 @@ module _ (s : Setting) (events : List Event) (run_is : IsHonestRun s events) (m 
       let honest = honest-front s l.front l.back (subst (IsHonestRun s) (sym l.whole) run_is) in
       sym a.gave ∙ ap (λ (g : Executed). digest_of_effects g.effects) (one-gave s l.front honest l.member l.seat l.there a.of b.of a.there b.there (a.named ∙ sym b.named)) ∙ b.gave
 
--- an honest member acknowledged it, and whoever executed it agrees with that member
+-- an honest member acknowledged it, and every member that executed it agrees with that one
 pub final-agreed : (s : Setting) (events : List Event) → IsHonestRun s events → AreApart s.opening
     → (epoch : ℕ) (tx effects : Digest) (members : List ℕ) → IsFinal s (world_after s events) epoch tx effects members
     → (front back : List Event) → events ≡ front ++ back → (m : ℕ) (seat : Seat) → slice_get (world_after s front).seats m ≡ Some seat

@@ -66,7 +66,7 @@ among-has xs m e = let x = any-has (λ (n : ℕ). n == m) xs e in subst (Has xs)
 pub front-has : {A : Type 0} (xs ys : List A) (x : A) → IsFront xs ys → Has xs x → Has ys x
 front-has {A = A} xs ys x (more, e) h = subst (λ (zs : List A). Has zs x) (sym e) (has_left xs more x h)
 
--- ---- who is honest
+-- ---- which members are honest
 
 -- ---- the checkpoints of cuts that are done
 

@@ -40,7 +40,7 @@ FinalStandsInSchedules = (trust : Trust) (lines : List Setup) (events : List Eve
     → (epoch : ℕ) (tx effects : Digest) (members : List ℕ) → IsFinal (setting_of trust lines) (world_after (setting_of trust lines) events) epoch tx effects members
     → StandsForGood (setting_of trust lines) events epoch tx effects
 
--- whoever has executed the transaction in that epoch has it with these effects, at whatever moment of the run
+-- every member that has executed the transaction in that epoch has it with these effects, at whatever moment of the run
 abbrev pub FinalIsAgreed : Type 0
 FinalIsAgreed = (s : Setting) (events : List Event) → IsHonestRun s events → AreApart s.opening
     → (epoch : ℕ) (tx effects : Digest) (members : List ℕ) → IsFinal s (world_after s events) epoch tx effects members

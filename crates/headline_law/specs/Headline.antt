@@ -57,7 +57,7 @@ pub record AreSafe (s : Setting) (events : List Event) : Type 0 where
 
 -- what holds of a member
 pub record Stands (s : Setting) (w : World) (m : Member) : Type 0 where
-  -- it opened its epoch with what one thread leaves that executes the checkpointed transactions of the epochs before, in order
+  -- it opened its epoch with what one thread leaves after executing the checkpointed transactions of the epochs before, in order
   pub opens : OpensAsLeft s w.sequences m
   -- the checkpoints that it has built are the first of that thread: numbers, parents, transactions, effects
   pub builds : IsFront (built m) (past_at s w.sequences (suc m.epoch))

@@ -13,7 +13,7 @@ pub fn final_stands_in_schedules()
     ensures { FinalStandsInSchedules }
 {}
 
-/// Before that too: whoever has executed it in that epoch has it with these effects.
+/// Before that too: every member that has executed it in that epoch has it with these effects.
 pub fn final_is_agreed()
     ensures { FinalIsAgreed }
 {}

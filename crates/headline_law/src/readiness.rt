@@ -101,7 +101,7 @@ pub fn runs_execute_all()
     ensures { RunsExecuteAll }
 {}
 
-/// So a run executes all that the member admitted: whoever sees his transaction admitted has its effects after the next
+/// So a run executes all that the member admitted: once a transaction is admitted there, its effects are known after the next
 /// run of any honest member that has seen as much of the sequence.
 pub fn runs_execute_admitted()
     ensures { RunsExecuteAdmitted }

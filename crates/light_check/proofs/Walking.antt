@@ -39,7 +39,7 @@ walks_on stakes accepts place before l ls none = rw none (only (first_bad_from s
     only None = refl
     only (Some x) = refl
 
--- the links that are left, of which the first stands at this place after this tip, come to what all come to
+-- the links that are left, of which the first stands at this place after this tip, give what all give
 pub record Walks (stakes : List ℕ) (accepts : Accepting) (links : List Link) (place : ℕ) (before : Option Tip) (rest : List Link) : Type 0 where
   pub same : first_bad_from stakes accepts place before rest ≡ first_bad_from stakes accepts 0 None links
   pub count : place + length rest ≡ length links

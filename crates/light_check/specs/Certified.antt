@@ -1,4 +1,4 @@
--- Certified chains: what a client knows that trusts only the stakes of a committee. Source: Sui Lutris; where the
+-- Certified chains: what a client that trusts only the stakes of a committee knows. Source: Sui Lutris; where the
 -- chain begins is this profile's own.
 use Rattle.std.specs.Prelude.{◌≡◌, ℕ, ◌+◌, Bool, true, List, [], ◌∷◌, map, Option, Some, None, option_map, if◌then◌else◌}
 use Rattle.digest_core.specs.declared.Digest.{Digest}

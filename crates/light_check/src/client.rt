@@ -43,11 +43,11 @@ fn check_read<C: Checker, K: Sink>(
 ///
 /// | Status | Comes | Written |
 /// |---|---|---|
-/// | 0 | only if the bytes spell a certified chain, and the line was written | `certified N included in K` with the number of links and the number of the first checkpoint that lists the transaction, or `certified N not included` |
-/// | 4 | only where the source's count of faults rose | nothing |
-/// | 5 | only where the sink's count of faults rose | a front of the line |
-/// | 7 | for want of memory | a front of the line |
-/// | 8 | only if there are more bytes than 16777216, or they spell no chain, or one that is not certified, and the line was written | `refused too large`, `refused malformed at A why W`, `refused link P cause C` |
+/// | 0 | only if the bytes encode a certified chain, and the line was written | `certified N included in K` with the number of links and the number of the first checkpoint that lists the transaction, or `certified N not included` |
+/// | 4 | only if the source's count of faults rose | nothing |
+/// | 5 | only if the sink's count of faults rose | a prefix of the line |
+/// | 7 | if it ran out of memory | a prefix of the line |
+/// | 8 | only if there are more bytes than 16777216, or they encode no chain, or one that is not certified, and the line was written | `refused too large`, `refused malformed at A why W`, `refused link P cause C` |
 pub fn check_source<C: Checker, S: Source, K: Sink>(
     alloc: Global,
     committee: &Committee,

@@ -55,7 +55,7 @@ pub(crate) fn find_in<C: Checker>(
     }
 }
 
-/// The status that a verdict ends with.
+/// The status with which a verdict ends.
 fn verdict_status(verdict: Verdict) -> u8
     ensures { result ≡ verdict_status verdict }
 {
@@ -65,7 +65,7 @@ fn verdict_status(verdict: Verdict) -> u8
     }
 }
 
-/// The status that the command ends with.
+/// The status with which the command ends.
 pub(crate) fn finding_status(finding: Finding) -> u8
     ensures { result ≡ finding_status finding }
 {

@@ -78,9 +78,9 @@ pub fn judge<C: Checker>(
     tx: &Digest,
 ) -> Result<Verdict, OutOfMemory>
     ensures said { IfOk result (λ v. v ≡ verdict_on committee.now (C.accepts checker.now) tx.now bytes.now) }
-    // What is called certified is spelled by these bytes, and is certified.
+    // What is called certified is encoded by these bytes, and is certified.
     ensures certified { (links : ℕ) (included : Option ℕ) → result ≡ Ok (verdict.Certified links included) → SpellsCertified committee.now (C.accepts checker.now) tx.now bytes.now links included }
-    // What is certified and spelled by these bytes is called so, unless memory runs out.
+    // What is certified and encoded by these bytes is called so, unless memory runs out.
     ensures only { (c : ChainOf) → codecs.chain.fits c → bytes.now ≡ codecs.chain.spell c → IsCertified committee.now (C.accepts checker.now) c.links → IfOk result (λ v. v ≡ verdict.Certified (length c.links) (number_with tx.now c.links)) }
 {
     match decode_chain(alloc, bytes) {

@@ -38,7 +38,7 @@ fn blamed_with(alloc: Global, one: &Certificate, other: &[u8]) -> Result<DoubleV
     answer
 }
 
-/// The first version that the transactions of the two certificates consume that the bytes encode, if these are two
+/// The first version that the transactions of the two encoded certificates both consume, if these are two
 /// transactions of one epoch, and the members whose seals stand under both certificates; else why there is none:
 /// `TooLarge` or `Malformed` of the first and then of the second, or `NoRivals`. It says nothing of whether they are valid: if both
 /// are, and no honest member's seal is forged, none of these members is honest, and they have more than a third of the

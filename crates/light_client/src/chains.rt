@@ -50,7 +50,7 @@ fn judged<C: Checker>(
     }
 }
 
-/// How many links the chain has that the bytes encode, if the committee has certified it under seals that the checker
+/// How many links the chain that the bytes encode has, if the committee has certified it under seals that the checker
 /// accepts (Sui Lutris); else why not: `TooLarge`, `Malformed`, or `BadLink`.
 #[tactic(auto, unfolding(crate::specs::Chains::chain_answer))]
 pub fn check_chain<C: Checker>(
@@ -60,7 +60,7 @@ pub fn check_chain<C: Checker>(
     checker: &C,
 ) -> Result<u64, Refusal>
     ensures exact { Answers result (chain_answer committee.now (C.accepts checker.now) bytes.now) }
-    // What is passed is spelled by these bytes, and is certified.
+    // What is passed is encoded by these bytes, and is certified.
     ensures certified { (links : ℕ) → result ≡ Ok links → SpellsCertified committee.now (C.accepts checker.now) bytes.now links }
 {
     let chain: Chain = read_input(alloc, bytes)?;
@@ -69,7 +69,7 @@ pub fn check_chain<C: Checker>(
     answer
 }
 
-/// The same under the seals of a sealer.
+/// Likewise under the seals of a sealer.
 pub fn check_chain_by<S: Sealer>(
     alloc: Global,
     bytes: &[u8],

@@ -13,7 +13,7 @@ abbrev pub Among : ObjectKey → List ObjectKey → Type 0
 Among key [] = ⊥
 Among key (k ∷ ks) = (key ≡ k) ⊎ Among key ks
 
--- whoever holds one of the keys is this transaction
+-- a transaction that holds one of the keys is this one
 abbrev pub IsFree : Locks → List ObjectKey → Digest → Type 0
 IsFree locks keys tx = (key : ObjectKey) → Among key keys → (by : Digest) → locked_by locks key ≡ Some by → by ≡ tx
 

@@ -11,7 +11,7 @@ use Rattle.ptb_run.specs.declared.needs.Wanted.{Wanted}
 use Rattle.ptb_run.specs.Values.{spot_at, spot_eq}
 use Rattle.ptb_run.specs.Needs.{need_meant}
 
--- the causes that speak of the value, if it is known whether an earlier argument names its place
+-- the causes that concern the value, if it is known whether an earlier argument names its place
 abbrev pub named_cases : Transaction → Command → Bool → Place → Need → Value → List (Option ℕ)
 named_cases t c named p need value =
     where_true (is_bad_pure need value) 3 ∷

@@ -81,7 +81,7 @@ fn is_pure(value: &Value) -> bool
     }
 }
 
-/// The first cause that speaks of a value; `named` says that an earlier argument names its place.
+/// The first cause that concerns a value; `named` says that an earlier argument names its place.
 #[tactic(auto, unfolding(crate::specs::Causes::named_value_cause))]
 fn value_cause(
     tx: &Transaction,

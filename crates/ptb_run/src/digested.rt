@@ -1,4 +1,4 @@
-//! Objects that tell their digest.
+//! Objects that know their digest.
 
 ghost use Rattle.std.specs.Prelude.{◌≡◌};
 ghost use Rattle.chain_types.specs.Digests.{digest_of_object};
@@ -6,7 +6,7 @@ ghost use Rattle.chain_types.specs.Digests.{digest_of_object};
 use chain_types::{HashedObject, Object, object_digest};
 use digest_core::Digest;
 
-/// An object that tells its digest. Contracts see the object.
+/// An object that knows its digest. Contracts see the object.
 pub(crate) trait Digested {
     ghost use Rattle.chain_types.specs.declared.objects.Object.{Object as TheObject};
 
@@ -21,7 +21,7 @@ pub(crate) trait Digested {
         ensures { result ≡ digest_of_object (Self.seen self.now) };
 }
 
-/// It is hashed.
+/// A plain object is hashed for it.
 impl Digested for Object {
     ghost seen = { λ o. o };
 

@@ -33,7 +33,7 @@ impl From<OutOfMemory> for Halt {
 /// Why a block does not end well.
 #[derive(Clone, Copy, Debug, PartialEq, Eq)]
 pub(crate) enum Failed {
-    /// The command of this number fails, or at the end of the block its number is that of the commands.
+    /// The command of this number fails; at the end of the block the number is how many commands there are.
     At { command: u16, fault: Fault },
     OutOfMemory,
 }

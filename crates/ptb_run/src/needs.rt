@@ -62,7 +62,7 @@ pub(crate) fn is_bad_pure(need: Need, value: &Value) -> bool
     }
 }
 
-/// Whether two kinds are one.
+/// Whether two kinds are equal.
 fn is_kind(a: Kind, b: Kind) -> bool
     ensures { result ≡ kind_eq a b }
 {

@@ -97,7 +97,7 @@ round-front b executed round (h ∷ hs) = go (ready b executed h) (round-front b
         by-clash false found = (x ∷ found.0, found.1 ∙ append_assoc round (x ∷ []) found.0)
 
 module _ (b : Books) (executed : List Execution) where
-  -- so many more were executed, and so many wait no more
+  -- so many more were executed, and so many no longer wait
   abbrev Counts : List Execution → List Execution → List Held → Type 0
   Counts round done hs = length done + waiting (executed ++ done) hs ≤ length round + waiting executed hs
 
@@ -121,7 +121,7 @@ module _ (b : Books) (executed : List Execution) where
         one-more h hs (waiting (executed ++ with_round round) hs) (length round) (length (with_round round)) (is_executed executed h.digest) (is_executed (executed ++ with_round round) h.digest)
         (stays_executed executed (with_round round) h.digest) (more round)
 
-    -- its execution is added, so it waits no more
+    -- its execution is added, so it no longer waits
     one-added : (round : List Execution) (x : Execution) → x.digest ≡ h.digest → is_executed executed h.digest ≡ false → Counts round (with_round (round ++ x ∷ [])) (h ∷ hs)
     one-added round x same waits =
         let done = with_round (round ++ x ∷ []) in

@@ -33,7 +33,7 @@ HasStated w c m = Has w.said (said_by m (vote_of c))
 abbrev pub IsCollected : Setting → World → Certificate → MemberSeal → Type 0
 IsCollected s w c x = HasStated w c x.member × (x.seal ≡ member_seal s x.member (vote_of c))
 
--- each member whose seal a certificate has that a line formed stated that vote, and the seal is its own on it
+-- each member whose seal stands in a certificate that a line formed stated that vote, and the seal is its own on it
 abbrev pub FormedIsVotedFor : Type 0
 FormedIsVotedFor = (s : Setting) (events : List Event) (c : Certificate) → Has (all_formed s events) c → Each (IsCollected s (world_after s events) c) c.seals
 
@@ -49,7 +49,7 @@ CertifiedIsFormedOrValid = (s : Setting) (events : List Event) (c : Certificate)
 abbrev pub HasKept : World → Certificate → ℕ → Type 0
 HasKept w c m = (seat : Seat) × (slice_get w.seats m ≡ Some seat) × Has seat.records (record_as.Vote c.tx c.origins)
 
--- of each certified transaction, each honest member whose seal the certificate has stated that vote, and has it
+-- for each certified transaction, each honest member whose seal stands in the certificate stated that vote, and has it
 -- in its journal
 abbrev pub CertifiedIsVotedFor : Type 0
 CertifiedIsVotedFor = (s : Setting) (events : List Event) → IsHonestRun s events → (c : Certificate) → IsFormedOrValid s events c
@@ -118,7 +118,7 @@ abbrev pub NoForkIsMet : Type 0
 NoForkIsMet = (s : Setting) (front back : List Event) → IsHonestRun s (front ++ back) → (m : ℕ) (seat : Seat) → slice_get (world_after s front).seats m ≡ Some seat
     → fork_of (member_in s seat) ≡ None
 
--- nor does a call of the next line lead a member to one, also if it stops at the append
+-- nor does a call of the next line lead a member to one, even if it stops at the append
 abbrev pub NoCallMeetsAFork : Type 0
 NoCallMeetsAFork = (s : Setting) (front back : List Event) (e : Event) → IsHonestRun s (front ++ e ∷ back) → (m : ℕ) (seat : Seat) → slice_get (world_after s front).seats m ≡ Some seat
     → (call : Call) → Has (calls_of s (world_after s front) e) call → fork_of (called s.rules (member_in s seat) call) ≡ None

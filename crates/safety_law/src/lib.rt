@@ -1,4 +1,4 @@
-//! Laws over every member in every run: quorums meet, votes share no version, certified transactions neither, and a
+//! Laws over every member in every run: quorums intersect, no version is in two votes or two certified transactions, and a
 //! journal gives the member back.
 #![tactic(auto)]
 

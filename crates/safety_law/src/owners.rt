@@ -7,7 +7,7 @@ pub fn statements_only_grow()
     ensures { StatementsOnlyGrow }
 {}
 
-/// Each member whose seal a certificate has that a line formed stated that vote, and the seal is its own on it.
+/// Each member whose seal stands in a certificate that a line formed stated that vote, and the seal is its own on it.
 pub fn formed_is_voted_for()
     ensures { FormedIsVotedFor }
 {}
@@ -18,7 +18,7 @@ pub fn certified_is_formed_or_valid()
     ensures { CertifiedIsFormedOrValid }
 {}
 
-/// Of each certified transaction, each honest member whose seal the certificate has stated that vote, and has it in
+/// For each certified transaction, each honest member whose seal stands in the certificate stated that vote, and has it in
 /// its journal.
 pub fn certified_is_voted_for()
     ensures { CertifiedIsVotedFor }
@@ -45,7 +45,7 @@ pub fn no_fork_is_met()
     ensures { NoForkIsMet }
 {}
 
-/// Nor does a call of the next line lead a member to two such certificates, also if it stops at the append.
+/// Nor does a call of the next line lead a member to two such certificates, even if it stops at the append.
 pub fn no_call_meets_a_fork()
     ensures { NoCallMeetsAFork }
 {}

@@ -39,14 +39,14 @@ Follow f (t ∷ txs) = ((objects : List Object) → read_by f.map t ≡ Some obj
 abbrev pub opened_with : Objects → Folded
 opened_with m = record { map = m; effects = [] }
 
--- of each currency, what all objects hold moves with the supplies of its caps, and with the gas
+-- for each currency, what all objects hold moves with the supplies of its caps, and with the gas
 abbrev pub MoneyMovesInSequence : Type 0
 MoneyMovesInSequence =
     (m : Objects) (txs : List Transaction) → Follow (opened_with m) txs → (currency : ℕ) →
     held_in (fold_all m txs).map currency + gas_of currency (fold_all m txs).effects + supplied_in m currency
     ≡ held_in m currency + supplied_in (fold_all m txs).map currency
 
--- if a currency other than that of gas is as much as its caps say, it still is
+-- if there is as much of a currency other than that of gas as its caps say, there still is
 abbrev pub BackedCurrenciesStayBacked : Type 0
 BackedCurrenciesStayBacked =
     (m : Objects) (txs : List Transaction) → Follow (opened_with m) txs → (currency : ℕ) → currency ≢ 0 →

@@ -1,4 +1,4 @@
--- What sequential execution leaves alone.
+-- What sequential execution does not touch.
 use Rattle.std.specs.Prelude.{◌≡◌, false, List, Option, Some, None}
 use Rattle.std.specs.FinMap.{get}
 use Rattle.chain_types.specs.declared.objects.ObjectId.{ObjectId}

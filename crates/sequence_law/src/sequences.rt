@@ -7,7 +7,7 @@ pub fn untouched_objects_stay()
     ensures { UntouchedObjectsStay }
 {}
 
-/// Of each currency, what all objects hold moves with the supplies of its caps, and with the gas of the executions.
+/// For each currency, what all objects hold moves with the supplies of its caps, and with the gas of the executions.
 pub fn money_moves_in_sequence()
     ensures { MoneyMovesInSequence }
 {}

@@ -7,7 +7,7 @@ ghost use Rattle.tx_check.specs.Parts.{listed_of, lone_of};
 
 use chain_types::{Argument, Command, Transaction};
 
-/// Whether the argument is an input that there is not.
+/// Whether the argument is an input that does not exist.
 fn is_no_input(tx: &Transaction, argument: &Argument) -> bool
     ensures { result ≡ is_no_input tx.now argument.now }
 {
@@ -28,7 +28,7 @@ fn is_late(here: usize, argument: &Argument) -> bool
     }
 }
 
-/// Whether one of the arguments is an input that there is not.
+/// Whether one of the arguments is an input that does not exist.
 fn any_no_input(tx: &Transaction, arguments: &[Argument]) -> bool
     ensures { result ≡ list_any (is_no_input tx.now) arguments.now }
 {
@@ -77,7 +77,7 @@ fn listed_of(command: &Command) -> &[Argument]
     }
 }
 
-/// Whether a command names an input that there is not.
+/// Whether a command names an input that does not exist.
 #[tactic(auto, using(crate::proofs::Both::any_of_both))]
 pub(crate) fn command_no_input(tx: &Transaction, command: &Command) -> bool
     ensures { result ≡ list_any (is_no_input tx.now) (arguments_of command.now) }

@@ -7,7 +7,7 @@ ghost use Rattle.protocol_spec.specs.Chain.Shape.{arguments_of, is_idle, is_no_i
 use crate::arguments::{argument_count, command_late, command_no_input};
 use chain_types::{Command, Transaction};
 
-/// Whether one of the commands names an input that there is not.
+/// Whether one of the commands names an input that does not exist.
 pub(crate) fn names_no_input(tx: &Transaction, commands: &[Command]) -> bool
     ensures { result ≡ list_any (λ c. list_any (is_no_input tx.now) (arguments_of c)) commands.now }
 {
@@ -57,7 +57,7 @@ pub(crate) fn any_idle(commands: &[Command]) -> bool
     false
 }
 
-/// Whether the command calls a native that there is not.
+/// Whether the command calls a native that does not exist.
 fn is_no_native(command: &Command) -> bool
     ensures { result ≡ is_no_native command.now }
 {
@@ -70,7 +70,7 @@ fn is_no_native(command: &Command) -> bool
     }
 }
 
-/// Whether one of the commands calls a native that there is not.
+/// Whether one of the commands calls a native that does not exist.
 pub(crate) fn any_no_native(commands: &[Command]) -> bool
     ensures { result ≡ list_any is_no_native commands.now }
 {

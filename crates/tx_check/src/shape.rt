@@ -25,7 +25,7 @@ pub enum ShapeRefusal {
     /// - 3: it has more than 1024 commands
     /// - 4: it has more than 256 inputs
     /// - 5: two of its objects have one id
-    /// - 6: an argument is an input that there is not
+    /// - 6: an argument is an input that does not exist
     /// - 7: an argument is a result of a command that is not earlier
     /// - 8: a Split, Merge or Transfer has no amounts, sources or values
     /// - 9: a native is above 13

@@ -46,7 +46,7 @@ Puts old new id o = (q : ObjectId) → lookup (id_eq q) new ≡ (if id_eq q id t
 abbrev pub Changes : Shelved → Shelved → List Change → Type 0
 Changes old new changes = (q : ObjectId) → lookup (id_eq q) new ≡ changed_by changes q (lookup (id_eq q) old)
 
--- with the changes that are left, the table comes to what it comes to by all of them
+-- with the changes that are left, the table becomes what it becomes with all of them
 pub record ChangesOn (old now : Shelved) (all rest : List Change) : Type 0 where
   pub own : Each IsOwn rest
   pub shared : AreShared now

@@ -58,7 +58,7 @@ abbrev pub Pops : Shelf → Shelf → Digest → Option ℕ → Type 0
 Pops old new name None = IsEmptyUnder old new name
 Pops old new name (Some p) = PopsPlace old new name p
 
--- ---- who waits for what
+-- ---- which certificates wait, and for what
 
 abbrev pub is_awake : Waits → ℕ → Bool
 is_awake w place = contains nat_cmp w.awake place
@@ -145,14 +145,14 @@ pub record TurnsOn (rows : List (Option Row)) (old new : Waits) (id : ObjectId) 
       → (is_under new.queues.entries name q ≡ true) ⊎ ((id.0 ≡ name) × (writes_at rows q id ≡ true → is_awake new q ≡ true))
   pub next : new.whole ≡ true → (q : ℕ) → is_under new.queues.entries id.0 q ≡ true → HasNext rows new id q
 
--- those that were passed wait no more, or do not write the object
+-- those that were passed no longer wait, or do not write the object
 pub record Passes (rows : List (Option Row)) (old new : Waits) (id : ObjectId) : Type 0 where
   pub whole : new.whole ≡ true → old.whole ≡ true
   pub awake : (p : ℕ) → is_awake old p ≡ true → is_awake new p ≡ true
   pub behind : KeepsShelf old.behind.entries new.behind.entries
   pub queues : (name : Digest) (q : ℕ) → is_under old.queues.entries name q ≡ true → (is_under new.queues.entries name q ≡ true) ⊎ ((id.0 ≡ name) × (writes_at rows q id ≡ false))
 
--- whoever was filed while the queues of these inputs' objects were to be opened is filed
+-- a certificate that was filed while the queues of these inputs' objects were to be opened is filed
 pub record Opens (rows : List (Option Row)) (room : ObjectId → Bool) (old new : Waits) (all rest : List Input) : Type 0 where
   pub at : (admits : Digest → Bool) (due : ObjectId → Bool) → IsFiled rows old admits room (or_one_of all due) → IsFiled rows new admits room (or_one_of rest due)
 
@@ -177,7 +177,7 @@ pub data Aside (w : Waits) (admits : Digest → Bool) (room : ObjectId → Bool)
   aside_behind : (tx : Digest) → Has c.origins (Some tx) → admits tx ≡ false → is_under w.behind.entries tx place ≡ true → Aside w admits room place c
   aside_queued : (id : ObjectId) → has_id (mutable_ids c) id ≡ true → is_under w.queues.entries id.0 place ≡ true → room id ≡ false → Aside w admits room place c
 
--- a place is no more among those that may be free
+-- a place is no longer among those that may be free
 pub record Rests (old new : Waits) (place : ℕ) : Type 0 where
   pub whole : new.whole ≡ true → old.whole ≡ true
   pub awake : (p : ℕ) → is_awake old p ≡ true → (p ≡ place) ⊎ (is_awake new p ≡ true)

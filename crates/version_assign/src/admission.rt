@@ -198,7 +198,7 @@ impl Admission {
         self.register.book.cert_at(place)
     }
 
-    /// Goes back to where no entry of the epoch was seen. Takes no memory.
+    /// Goes back to the state in which no entry of the epoch was seen. Takes no memory.
     pub fn clear(&mut self)
         ensures { self.new ≡ record self.old { admission = nothing_admitted } }
     {

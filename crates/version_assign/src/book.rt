@@ -208,7 +208,7 @@ impl Book {
         }
     }
 
-    /// The object that the input writes, if it has its writers.
+    /// The object that the input writes, if it has as many writers as the limit.
     fn full_one(&self, input: &Input) -> Option<ObjectId>
         requires { AreLines self.now.writers (opening_of self.now) (admission_of self.now) self.now.lines.entries }
         ensures { result ≡ full_one self.now.writers (admission_of self.now) input.now }
@@ -221,7 +221,7 @@ impl Book {
         None
     }
 
-    /// The first object that these inputs write and that has its writers.
+    /// The first object that these inputs write and that has as many writers as the limit.
     pub(crate) fn full(&self, inputs: &[Input]) -> Option<ObjectId>
         requires { AreLines self.now.writers (opening_of self.now) (admission_of self.now) self.now.lines.entries }
         ensures { result ≡ first_of (full_one self.now.writers (admission_of self.now)) inputs.now }

@@ -10,7 +10,7 @@ use chain_types::{Object, ObjectId};
 use indexmap::IndexMap;
 use wire_bcs::OutOfMemory;
 
-/// An object that an epoch changed, as it lives at its end; none if it lives no more.
+/// An object that an epoch changed, as it lives at its end; none if it no longer lives.
 #[derive(Clone, Copy, Debug, PartialEq, Eq)]
 pub struct Change {
     pub id: ObjectId,

@@ -176,7 +176,7 @@ impl Book {
         }
     }
 
-    /// What was admitted is in a checkpoint: it counts no more for the limit of writers.
+    /// What was admitted is in a checkpoint: it no longer counts for the limit of writers.
     pub(crate) fn pass(&mut self)
         requires { Each (IsLet self.old.lines.entries) self.old.admitted.entries }
         ensures { Marks self.old self.new }

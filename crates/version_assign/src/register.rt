@@ -51,7 +51,7 @@ impl Register {
         }
     }
 
-    /// The same; after it the places are skipped at which nothing waits.
+    /// Likewise; after it, the places at which nothing waits are skipped.
     fn settle_all(&mut self)
         requires { IsWhole self.old }
         ensures kept { IsWhole self.new }
@@ -140,7 +140,7 @@ impl Register {
         Ok(self.enter(row, admitted, dropped))
     }
 
-    /// What was admitted is in a checkpoint, and counts no more for the limit of writers: whatever waited for that may be
+    /// What was admitted is in a checkpoint, and no longer counts for the limit of writers: whatever waited for that may be
     /// free.
     pub(crate) fn cut(&mut self)
         requires { IsWhole self.old }

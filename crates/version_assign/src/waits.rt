@@ -24,7 +24,7 @@ use std::alloc::Global;
 use std::collections::BTreeSet;
 
 /// Each certificate that waits may be free, or stands under an origin that is not admitted, or in the queue of an
-/// object that it writes and that has its writers. If an object has room for one more writer, the first of its
+/// object that it writes and that is full: it has as many writers as the limit. If an object has room for one more writer, the first of its
 /// queue goes to those that may be free, and takes the next with it. A place may stand somewhere longer than its
 /// certificate waits.
 #[derive(Drop)]
@@ -173,7 +173,7 @@ impl Waits {
         }
     }
 
-    /// The first in the queue of an object may be free. Those that wait no more are passed over.
+    /// The first in the queue of an object may be free. Those that no longer wait are passed over.
     fn wake_next(&mut self, rows: &[Option<Row>], id: &ObjectId)
         ensures { TurnsOn rows.now self.old self.new id.now }
     {
@@ -210,7 +210,7 @@ impl Waits {
         }
     }
 
-    /// The place is no more among those that may be free.
+    /// The place is no longer among those that may be free.
     fn rest(&mut self, place: usize)
         ensures { Rests self.old self.new place }
     {
@@ -218,7 +218,7 @@ impl Waits {
     }
 
     /// Files a certificate that is not free under its first missing origin, or in the queue of the first object that
-    /// has its writers.
+    /// is full.
     fn file(&mut self, book: &Book, place: usize, held: &Held)
         requires { IsKept book.now }
         ensures kept { Grows self.old self.new }

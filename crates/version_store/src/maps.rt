@@ -119,7 +119,7 @@ pub(crate) fn add_ids(deleted: &mut IndexSet<ObjectId>, ids: &[ObjectId])
     }
 }
 
-/// Says who consumed a key, unless it is known; there is room.
+/// Notes the transaction that consumed a key, unless one is noted; there is room.
 fn add_consumer(consumers: &mut IndexMap<ObjectKey, Digest>, key: ObjectKey, tx: Digest)
     requires { 0 < spare consumers.old }
     ensures entries { consumers.new.entries ≡ with_consumer tx consumers.old.entries key }
@@ -130,7 +130,7 @@ fn add_consumer(consumers: &mut IndexMap<ObjectKey, Digest>, key: ObjectKey, tx:
     }
 }
 
-/// Says who consumed each of the keys, unless it is known; there is room.
+/// Notes the transaction that consumed each of the keys, unless one is noted; there is room.
 pub(crate) fn add_consumers(
     consumers: &mut IndexMap<ObjectKey, Digest>,
     keys: &[ObjectKey],

@@ -71,7 +71,7 @@ fn newest_staying(
     Ok(newest)
 }
 
-/// Who consumed a key, of the kept.
+/// For each key, the first of the kept transactions that consumed it.
 fn consumers_staying(
     alloc: Global,
     executed: &IndexMap<Digest, Ran>,

@@ -97,7 +97,7 @@ impl Store {
         }
     }
 
-    /// The same, with the object's digest.
+    /// Likewise, with the object's digest.
     pub fn hashed(&self, key: &ObjectKey) -> Option<&HashedObject>
         ensures { option_copied result ≡ option_map object_in (version_at (held_in self.now) key.now) }
     {
@@ -140,7 +140,7 @@ impl Store {
         }
     }
 
-    /// The same, with the object's digest.
+    /// Likewise, with the object's digest.
     #[tactic(auto, unfolding(protocol_spec::specs::Member::Versions::live))]
     fn live_hashed(&self, id: &ObjectId) -> Option<&HashedObject>
         ensures { option_copied result ≡ live self.now.opening self.now.executed id.now }

@@ -1,4 +1,4 @@
-//! The turn of an epoch.
+//! The change to the next epoch.
 
 ghost use Rattle.std.specs.Prelude.{◌≡◌, OnErr, OnOk};
 ghost use Rattle.version_store.specs.Stores.{next_epoch};

@@ -21,7 +21,7 @@ use std::marker::Model;
 use tables::insert_in_room;
 use wire_bcs::OutOfMemory;
 
-/// Says who holds a certificate that consumes a key, unless one is known; there is room.
+/// Notes the held transaction that consumes a key, unless one is noted; there is room.
 fn add_holder(holders: &mut IndexMap<ObjectKey, Digest>, key: ObjectKey, tx: Digest)
     requires { 0 < spare holders.old }
     ensures entries { holders.new.entries ≡ with_holder tx holders.old.entries key }
@@ -32,7 +32,7 @@ fn add_holder(holders: &mut IndexMap<ObjectKey, Digest>, key: ObjectKey, tx: Dig
     }
 }
 
-/// Says so for each of the keys; there is room.
+/// Notes it for each of the keys; there is room.
 fn add_holders(holders: &mut IndexMap<ObjectKey, Digest>, keys: &[ObjectKey], tx: Digest)
     requires { length keys.now ≤ spare holders.old }
     ensures { holders.new.entries ≡ with_holders tx holders.old.entries keys.now }

@@ -71,7 +71,7 @@ fn unfit_acks(
     out_of_order(alloc, committee, acks)
 }
 
-/// The same. Acknowledgements with which nothing is wrong may be collected.
+/// Likewise, and acknowledgements with which nothing is wrong may be collected.
 #[tactic(auto, using(crate::proofs::Fit::are_acks_of, crate::proofs::Fit::sealers_in_order))]
 fn unfit_or_not(
     alloc: Global,
@@ -85,7 +85,7 @@ fn unfit_or_not(
     unfit_acks(alloc, committee, acks)
 }
 
-/// What acknowledgements with which nothing is wrong make final, but maybe their stake, or that they differ.
+/// What acknowledgements with which nothing is wrong make final; their stake may be short, or they may differ.
 fn collected(
     alloc: Global,
     acks: &Seq<Sealed>,

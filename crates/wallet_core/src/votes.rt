@@ -84,7 +84,7 @@ fn unfit_votes(
     out_of_order(alloc, committee, votes)
 }
 
-/// The same of votes for a transaction none of whose lists is too long.
+/// Likewise for votes for a transaction none of whose lists is too long.
 #[tactic(auto, using(crate::proofs::Fit::are_votes, crate::proofs::Fit::voters_in_order))]
 fn unfit_for(
     alloc: Global,
@@ -101,7 +101,7 @@ fn unfit_for(
     unfit_votes(alloc, committee, tx.epoch, &digest, votes)
 }
 
-/// The certificate of votes with which nothing is wrong but maybe their stake, or that they differ.
+/// The certificate of votes with which nothing is wrong, except that their stake may be short, or that they may differ.
 fn collected(
     alloc: Global,
     tx: &Transaction,

@@ -123,7 +123,7 @@ signed_read r (acks tx) = []
 
 -- ---- delivered, formed, certified
 
--- the certificates that a line delivers, also if the call is refused or the entry is ignored
+-- the certificates that a line delivers, even if the call is refused or the entry is ignored
 unfoldable pub delivered : Setting → World → Event → List Certificate
 delivered s w e = flat_map (certificates_read s.rules) (calls_of s w e)
 

@@ -2,7 +2,7 @@ use Rattle.std.proofs.Common.{◌≡◌, [], length}
 use Rattle.epoch_turn.specs.Openings.{changes_after}
 use Rattle.epoch_turn.proofs.opening.changes_of.Given as goal
 
--- what is left comes to what all come to
+-- what is left gives what all give
 abbrev pub invariant-loop-rest : goal.invariant-loop-rest
 invariant-loop-rest l = changes_after l.store l.changes l.rest ≡ changes_after l.store [] l.ids
 

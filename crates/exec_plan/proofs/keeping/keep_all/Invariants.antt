@@ -5,7 +5,7 @@ use Rattle.exec_plan.specs.Runs.{with_executions}
 use Rattle.exec_plan.specs.Tasks.{kept_of}
 use Rattle.exec_plan.proofs.keeping.keep_all.Given as goal
 
--- what is kept of what is left, after what is kept so far, comes to all
+-- what is kept of what is left, after what is kept so far, makes up all
 abbrev pub invariant-loop-rest : goal.invariant-loop-rest
 invariant-loop-rest l = record {
   written : with_executions l.store (kept_of l.store.opening l.store.executed l.rest l.left) ≡ with_executions l.fn.store (kept_of l.fn.store.opening l.fn.store.executed l.tasks l.outputs);

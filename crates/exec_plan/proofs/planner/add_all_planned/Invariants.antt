@@ -3,7 +3,7 @@ use Rattle.indexmap.specs.IndexSet.{insert_all}
 use Rattle.chain_types.specs.Equal.{digest_eq}
 use Rattle.exec_plan.proofs.planner.add_all_planned.Given as goal
 
--- what is left, added to those so far, comes to all
+-- what is left, added to those so far, makes up all
 abbrev pub invariant-loop-rest : goal.invariant-loop-rest
 invariant-loop-rest l = insert_all digest_eq l.planned.keys l.rest ≡ insert_all digest_eq l.fn.planned.keys l.txs
 

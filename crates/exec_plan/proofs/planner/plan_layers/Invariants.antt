@@ -5,7 +5,7 @@ use Rattle.exec_plan.specs.Waits.{IsWaiting}
 use Rattle.exec_plan.proofs.Looking.{Goes}
 use Rattle.exec_plan.proofs.planner.plan_layers.Given as goal
 
--- the layers that are left come to the whole plan
+-- the layers that are left make up the whole plan
 abbrev pub invariant-loop-left : goal.invariant-loop-left
 invariant-loop-left l = record {
   goes : Goes l.store l.admission.admission l.held l.left l.ahead.planned.keys (picked l.held l.ahead.places);

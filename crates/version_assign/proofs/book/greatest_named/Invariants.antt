@@ -3,7 +3,7 @@ use Rattle.std.specs.Prelude.{fold}
 use Rattle.version_assign.specs.Lines.{greater_named}
 use Rattle.version_assign.proofs.book.greatest_named.Given as goal
 
--- the greatest so far, and those that are left, come to all
+-- the greatest so far, and those that are left, make up all
 abbrev pub invariant-loop-rest : goal.invariant-loop-rest
 invariant-loop-rest l = fold greater_named l.greatest l.rest ≡ fold greater_named l.fn.greatest l.inputs
 

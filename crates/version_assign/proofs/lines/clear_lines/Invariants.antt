@@ -2,7 +2,7 @@ use Rattle.std.proofs.Common.{◌≡◌, true, length}
 use Rattle.version_assign.specs.Lines.{are_lined, clear_all}
 use Rattle.version_assign.proofs.lines.clear_lines.Given as goal
 
--- what is left comes to all, and has its places
+-- the rest gives what all give, and has its places
 abbrev pub invariant-loop-rest : goal.invariant-loop-rest
 invariant-loop-rest l = record {
   same : clear_all l.lines.entries l.rest ≡ clear_all l.fn.lines.entries l.assigned;

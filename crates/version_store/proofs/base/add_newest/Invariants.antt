@@ -3,7 +3,7 @@ use Rattle.indexmap.specs.IndexMap.{spare, values}
 use Rattle.version_store.specs.Steps.{with_all_newer}
 use Rattle.version_store.proofs.base.add_newest.Given as goal
 
--- there is room for what is left, and adding it comes to adding all
+-- there is room for what is left, and adding it gives what adding all gives
 abbrev pub invariant-loop-object : goal.invariant-loop-object
 invariant-loop-object l = record {
   room : length l.object-iterator ≤ spare l.base;

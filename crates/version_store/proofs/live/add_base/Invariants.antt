@@ -3,6 +3,6 @@ use Rattle.indexmap.specs.IndexMap.{values}
 use Rattle.version_store.specs.Openings.{all_placed}
 use Rattle.version_store.proofs.live.add_base.Given as goal
 
--- the rest of the loop leads to what all lead to
+-- from here the loop gives what the whole loop gives
 abbrev pub invariant-loop-object : goal.invariant-loop-object
 invariant-loop-object l = all_placed l.opened.entries l.object-iterator ≡ all_placed l.fn.opened.entries (values l.base)

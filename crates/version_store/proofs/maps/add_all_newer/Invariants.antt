@@ -3,7 +3,7 @@ use Rattle.indexmap.specs.IndexMap.{spare}
 use Rattle.version_store.specs.Steps.{with_all_newer}
 use Rattle.version_store.proofs.maps.add_all_newer.Given as goal
 
--- there is room for what is left, and adding it comes to adding all
+-- there is room for what is left, and adding it gives what adding all gives
 abbrev pub invariant-loop-object : goal.invariant-loop-object
 invariant-loop-object l = record {
   room : length l.objects ≤ spare l.newest + l.object-index;

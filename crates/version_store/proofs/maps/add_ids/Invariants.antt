@@ -3,7 +3,7 @@ use Rattle.indexmap.specs.IndexSet.{insert_all, spare}
 use Rattle.chain_types.specs.Equal.{id_eq}
 use Rattle.version_store.proofs.maps.add_ids.Given as goal
 
--- there is room for what is left, and marking it comes to marking all
+-- there is room for what is left, and marking it gives what marking all gives
 abbrev pub invariant-loop-id : goal.invariant-loop-id
 invariant-loop-id l = record {
   room : length l.ids ≤ spare l.deleted + l.id-index;

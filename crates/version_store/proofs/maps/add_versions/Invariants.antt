@@ -3,7 +3,7 @@ use Rattle.indexmap.specs.IndexMap.{spare}
 use Rattle.version_store.specs.Steps.{with_versions}
 use Rattle.version_store.proofs.maps.add_versions.Given as goal
 
--- there is room for what is left, and holding it comes to holding all
+-- there is room for what is left, and holding it gives what holding all gives
 abbrev pub invariant-loop-object : goal.invariant-loop-object
 invariant-loop-object l = record {
   room : length l.objects ≤ spare l.versions + l.object-index;

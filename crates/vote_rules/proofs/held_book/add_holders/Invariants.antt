@@ -3,7 +3,7 @@ use Rattle.indexmap.specs.IndexMap.{spare}
 use Rattle.vote_rules.specs.Holders.{with_holders}
 use Rattle.vote_rules.proofs.held_book.add_holders.Given as goal
 
--- there is room for what is left, and adding it comes to adding all
+-- there is room for what is left, and adding it gives what adding all gives
 abbrev pub invariant-loop-key : goal.invariant-loop-key
 invariant-loop-key l = record {
   room : length l.keys ≤ spare l.holders + l.key-index;

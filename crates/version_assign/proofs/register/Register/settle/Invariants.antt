@@ -4,7 +4,7 @@ use Rattle.version_assign.specs.Calls.{settled}
 use Rattle.version_assign.specs.Registers.{IsWhole}
 use Rattle.version_assign.proofs.register.Register.settle.Given as goal
 
--- what is left to take comes to all
+-- what is left to take makes up all
 abbrev pub invariant-loop-place : goal.invariant-loop-place
 invariant-loop-place l = record {
   kept : IsWhole l.self;

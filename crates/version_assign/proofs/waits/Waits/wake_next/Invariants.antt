@@ -1,7 +1,7 @@
 use Rattle.version_assign.specs.Waiting.{Passes, count_under}
 use Rattle.version_assign.proofs.waits.Waits.wake_next.Given as goal
 
--- those that were passed wait no more, or do not write the object
+-- those that were passed no longer wait, or do not write the object
 abbrev pub invariant-loop-place : goal.invariant-loop-place
 invariant-loop-place l = Passes l.rows l.fn.self l.self l.id
 
