@@ -1,4 +1,4 @@
-//! Plans of several shapes, by one thread and by crews; and two tasks that run at one time, which no clause says.
+//! Plans of several shapes, by one thread and by crews; and two tasks that run at the same time, which no clause says.
 
 ghost use Rattle.std.specs.Prelude.{◌<◌, ◌≤◌};
 

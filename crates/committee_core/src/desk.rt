@@ -87,7 +87,7 @@ fn signed_requests(alloc: Global, world: &World) -> Result<Seq<Seq<u8>>, OutOfMe
         };
         requests.push(encode_signed(alloc, signed)?)?;
     }
-    // a text has no room for so many lines, and so has no memory
+    // no text has so many lines; it counts as running out of memory
     Err(OutOfMemory)
 }
 

@@ -112,7 +112,7 @@ pub record IsAdmitting (from : ℕ) (c : Course) : Type 0 where
   pub told : IsTold c.held (take from c.admission.admission.admitted) c.chain
   pub behind : IsBehind c.epoch c.store.executed c.chain
 
--- what stays through all of an epoch, also if memory is refused half way
+-- what stays through all of an epoch, even if memory is refused half way
 pub record Stays (old new : Course) : Type 0 where
   pub writers : new.admission.writers ≡ old.admission.writers
   pub opening : HasOpening old → HasOpening new

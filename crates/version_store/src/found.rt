@@ -24,7 +24,7 @@ fn is_producer(made: &Producer, wanted: &Producer) -> bool
     *made == *wanted
 }
 
-/// The object of this version, if it is an opening object and is to be one.
+/// The object of this version, if it is an opening object, and one is asked for.
 fn found_opening<'a>(
     base: &'a IndexMap<ObjectId, HashedObject>,
     key: &ObjectKey,
