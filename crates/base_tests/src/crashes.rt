@@ -215,7 +215,7 @@ fn sum(counts: [u64; 4]) -> u64 {
         .saturating_add(three)
 }
 
-/// Opens what a crash left of a run with so many acknowledged records, and runs on. Answers whether these records were
+/// Opens what a crash left of a run with this many acknowledged records, and runs on. Answers whether these records were
 /// found, with the one in progress or without it, and the run ends as it does undisturbed.
 fn runs_on(alloc: Global, run: &Run, disk: MemDisk, acknowledged: u64) -> bool {
     let Ok(log) = DiskLog::open(alloc, disk, 4) else {

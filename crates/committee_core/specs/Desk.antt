@@ -82,7 +82,7 @@ signed_bytes t = transactions.signed.spell t.signed
 abbrev pub desk_opening : Trust → Schedule → Standing Accepts
 desk_opening trust s = standing (seat_at (terms_of (setting_in trust s).rules) 0 (fresh (setting_in trust s).opening)) trust.accepts 0 (Some (replicate 64 []))
 
--- a history of the desk: so many callers ask, in turns, for the transactions of the lines. Each is answered, as one member answers them one after the other
+-- a history of the desk: this many callers ask, in turns, for the transactions of the lines. Each is answered, as one member answers them one after the other
 pub record AreVotes (trust : Trust) (callers : ℕ) (s : Schedule) (entries : List DeskEntry) : Type 0 where
   pub legal : IsLegal FollowsUnder (desk_opening trust s) entries
   pub made : AreMadeBy callers (map signed_bytes (desk_world trust s).txs) (asked_in entries)

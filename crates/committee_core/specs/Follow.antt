@@ -63,7 +63,7 @@ pub record LeavesObjects (r : Result State CatchUpRefusal) (Live : List Object �
   pub is : r ≡ Ok state
   pub live : Live (values state.course.map)
 
--- they are the objects with which the member opened its epoch; so many checkpoints, this epoch, so many objects
+-- they are the objects with which the member opened its epoch; this many checkpoints, this epoch, this many objects
 pub record IsEqual (m : Member) (checkpoints epoch objects : ℕ) (live : List Object) : Type 0 where
   pub same : live ≡ opening_objects m
   pub checkpoints_are : checkpoints ≡ length (before_epoch m.epoch (built m))

@@ -33,7 +33,7 @@ pub(crate) enum Verdict {
     },
     /// The follower's live objects are not those with which the member opened its epoch.
     Unequal,
-    /// They are: so many checkpoints of the epochs before this one, and so many objects.
+    /// They are: this many checkpoints of the epochs before this one, and this many objects.
     Equal {
         checkpoints: u64,
         epoch: u64,

@@ -48,7 +48,7 @@ fn links_keyed(alloc: Global, stakes: &[u32], chain: &[u8], secret: &Bytes32) ->
     links_by(alloc, stakes, chain, &sealer)
 }
 
-/// The answer for so many links.
+/// The answer for this many links.
 fn tell_links(links: Result<u64, Answer>) -> Answer
     ensures { result ≡ told (λ n. said 0 0 n 0) links }
 {

@@ -38,7 +38,7 @@ fn coin_of(number: u64) -> Object {
     }
 }
 
-/// A set-up with so many coins.
+/// A set-up with this many coins.
 fn setup(alloc: Global, coins: u64) -> Result<String, AllocError> {
     let mut text = String::from_str(alloc, "member 1 honest\n")?;
     for number in 0..coins {
@@ -48,7 +48,7 @@ fn setup(alloc: Global, coins: u64) -> Result<String, AllocError> {
     Ok(text)
 }
 
-/// A member over so many coins.
+/// A member over this many coins.
 fn member_over(alloc: Global, coins: u64) -> Option<Validator>
     ensures { IfSome result (λ member. member.member ≡ 0) }
 {
@@ -195,7 +195,7 @@ fn are_same(member: &mut Validator, keeper: &mut MemKeeper, history: &[DeskEntry
     true
 }
 
-/// Whether a member over so many coins, asked by one thread for the calls of a history over a keeper that fails at these
+/// Whether a member over this many coins, asked by one thread for the calls of a history over a keeper that fails at these
 /// calls, says the same.
 fn is_replayed(alloc: Global, coins: u64, failing: &[u64], history: &[DeskEntry]) -> Option<bool> {
     let mut keeper = MemKeeper::new(alloc, 1, failing).ok()?;
@@ -205,7 +205,7 @@ fn is_replayed(alloc: Global, coins: u64, failing: &[u64], history: &[DeskEntry]
     Some(same)
 }
 
-/// The history that is left if callers ask a member over so many coins, whose keeper fails at these calls.
+/// The history that is left if callers ask a member over this many coins, whose keeper fails at these calls.
 fn left_by_callers<R: Threads + Wait + Sync>(
     rt: &R,
     alloc: Global,

@@ -96,7 +96,7 @@ fn outcomes(alloc: Global, effects: &[HashedEffects]) -> Result<Vec<Outcome>, Ou
     Ok(all)
 }
 
-/// The outcomes of what a run by so many workers executes.
+/// The outcomes of what a run by this many workers executes.
 fn runs<R: Threads + Sync, G: Gate + Sync>(
     rt: &R,
     alloc: Global,
@@ -175,7 +175,7 @@ fn two_certificates_are_executed_at_once(rt: HostRuntime) {
     same(&rt, meeting.late.load(Ordering::SeqCst), 0);
 }
 
-/// Whether a run by so many workers, of which the reader was held last, has these outcomes, in this order.
+/// Whether a run by this many workers, of which the reader was held last, has these outcomes, in this order.
 fn comes_to<R: Threads + Sync>(rt: &R, alloc: Global, workers: u32, wanted: &[Outcome]) -> bool
     requires { (0 < workers) × (workers ≤ 16) }
 {

@@ -92,7 +92,7 @@ impl<J: Journal, S: Sealer> Member<J, S> {
             .see(&mut self.keeper, &self.sealer, number, bytes)
     }
 
-    /// Lets the member execute what it holds, by so many threads: the effects in order, the certificates that it left although
+    /// Lets the member execute what it holds, by this many threads: the effects in order, the certificates that it left although
     /// all that they waited for is executed, and the checkpoints that the run completes.
     pub fn run<R: Threads + Sync>(&mut self, rt: &R, workers: &Workers) -> Result<Ran, RunRefusal>
         ensures answer { Runs (run_said (bare_rules self.old.seat) self.old.seat) result }

@@ -75,7 +75,7 @@ impl Course {
         })
     }
 
-    /// Holds nothing and has seen nothing, if memory was refused half way. Takes no memory.
+    /// Holds nothing and has seen nothing, if memory was refused on the way. Takes no memory.
     pub(crate) fn forget(&mut self)
         requires { HasOpening self.old }
         ensures sound { IsSound self.new }

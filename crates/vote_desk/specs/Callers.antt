@@ -40,7 +40,7 @@ abbrev pub AreAnswered : List DeskEntry → Type 0
 AreAnswered entries = Each (λ (e : DeskEntry). vote_ended e.reply ≡ answered) entries
 
 module _ {R D S : Type 0} {k : Keeping D} {z : Sealing S} where
-  -- what is handed out to so many callers: nothing was asked with it yet
+  -- what is handed out to this many callers: nothing was asked with it yet
   pub record IsFresh (crew : Crew R D S k z) (callers : ℕ) (turn : Turn D S k z) : Type 0 where
     pub of : IsOf crew.desk.now turn.pass
     pub wide : callers ≤ share turn.pass
