@@ -34,7 +34,7 @@ pub record IsEarlier (q p : Sequence) : Type 0 where
   pub admitted : IsFront q.admission.admitted p.admission.admitted
   pub cuts : IsFront q.cuts p.cuts
 
--- of two members of one epoch that opened it with equal objects, the one is where the other was or will be
+-- of two members of one epoch that opened it with equal objects, one has admitted and cut a prefix of what the other has
 abbrev pub OneSequence : Type 0
 OneSequence = (s : Setting) (events : List Event) (m n : ℕ) (a b : Seat)
     → slice_get (world_after s events).seats m ≡ Some a → slice_get (world_after s events).seats n ≡ Some b

@@ -38,15 +38,15 @@ EveryCheckpoint = (s : Setting) (events : List Event) → IsHonestRun s events �
     → (cuts : List Cut) → IsFront cuts (member_in s seat).sequence.cuts → Each (IsBuilt (member_in s seat)) cuts
     → AreOfThread s (world_after s events).sequences (member_in s seat) cuts
 
--- Of two members of one epoch, the one admitted and cut what the other did or will, what both executed gave the same, and
--- they have the same checkpoints of the epochs before.
+-- Of two members of one epoch, one has admitted and cut a prefix of what the other has, what both executed gave the same,
+-- and they have the same checkpoints of the epochs before.
 pub record Agree (a b : Member) : Type 0 where
   pub openings : a.opening ≡ b.opening
   pub sequences : IsEarlier a.sequence b.sequence ⊎ IsEarlier b.sequence a.sequence
   pub executions : (x y : Execution) → Has a.executed x → Has b.executed y → x.digest ≡ y.digest → x.gave ≡ y.gave
   pub past : a.past ≡ b.past
 
--- at whatever two moments of the run, the first of which may be the second
+-- at any two moments of the run, the first of which may be the second
 abbrev pub MembersAgree : Type 0
 MembersAgree = (s : Setting) (front back : List Event) → IsHonestRun s (front ++ back) → AreApart s.opening
     → (m n : ℕ) (a b : Seat) → slice_get (world_after s front).seats m ≡ Some a → slice_get (world_after s (front ++ back)).seats n ≡ Some b

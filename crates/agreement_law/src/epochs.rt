@@ -23,8 +23,8 @@ pub fn every_checkpoint()
     ensures { EveryCheckpoint }
 {}
 
-/// Of two members of one epoch, at whatever two moments of the run, the one admitted and cut what the other did or will,
-/// what both executed gave the same, in whatever order they executed, and they have the same checkpoints of the epochs
+/// Of two members of one epoch, at any two moments of the run, one has admitted and cut a prefix of what the other has;
+/// what both executed gave the same, in whatever order they executed; and they have the same checkpoints of the epochs
 /// before.
 pub fn members_agree()
     ensures { MembersAgree }

@@ -215,7 +215,7 @@ fn sum(counts: [u64; 4]) -> u64 {
         .saturating_add(three)
 }
 
-/// Opens what a crash left of a run with so many acknowledged records, and runs on. Answers whether these records were
+/// Opens what a crash left of a run with this many acknowledged records, and runs on. Answers whether these records were
 /// found, with the one in progress or without it, and the run ends as it does undisturbed.
 fn runs_on(alloc: Global, run: &Run, disk: MemDisk, acknowledged: u64) -> bool {
     let Ok(log) = DiskLog::open(alloc, disk, 4) else {
@@ -251,13 +251,13 @@ const TRANSFER_CHOICES: &[u64] = &[
     0, 1, 2, 3, 4, 5, 6, 7, 8, 10, 70, 73, 75, 79, 82, 907, 1803, 171458, 438920, 688094,
 ];
 
-/// The same for records of 1, 3, 48, 66, 165, 202 and 205 bytes.
+/// Likewise for records of 1, 3, 48, 66, 165, 202 and 205 bytes.
 const EPOCHS_CHOICES: &[u64] = &[
     0, 1, 2, 3, 4, 5, 6, 7, 8, 70, 73, 79, 907, 1803, 22868, 27440, 130310, 171458, 397772, 482354,
     489212,
 ];
 
-/// The same for the short run: 10 writes a prefix of two places, 73 one of nine; at 22868, 25154 and 27440 all are 1, an
+/// Likewise for the short run: 10 writes a prefix of two places, 73 one of nine; at 22868, 25154 and 27440 all are 1, an
 /// open gate, if they are 10, 11 or 12.
 const SHORT_CHOICES: &[u64] = &[
     0, 1, 2, 3, 4, 5, 6, 7, 8, 10, 12, 37, 39, 70, 73, 75, 79, 82, 22868, 25154, 27440, 999999996,

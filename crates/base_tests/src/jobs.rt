@@ -123,7 +123,7 @@ fn jobs_for(alloc: Global, tasks: u32, edges: &[Edge], own: Own) -> Result<Seq<M
     Ok(jobs)
 }
 
-/// The plan of so many tasks and these edges.
+/// The plan of this many tasks and these edges.
 pub(crate) fn plan_over(
     alloc: Global,
     tasks: u32,

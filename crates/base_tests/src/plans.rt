@@ -18,7 +18,7 @@ fn outputs_of(
     Ok((counts.0, counts.1, outputs?.into_vec()))
 }
 
-/// Whether the plan has so many tasks and edges, and these outputs.
+/// Whether the plan has this many tasks and edges, and these outputs.
 fn gives(alloc: Global, tasks: u32, edges: &[Edge], want: &[u64]) -> Result<bool, PlanRefusal> {
     let (found, count, outputs) = outputs_of(alloc, tasks, edges)?;
     Ok(found == tasks && count as usize == edges.len() && outputs.as_slice() == want)

@@ -1,4 +1,4 @@
-//! Plans of several shapes, by one thread and by crews; and two tasks that run at one time, which no clause says.
+//! Plans of several shapes, by one thread and by crews; and two tasks that run at the same time, which no clause says.
 
 ghost use Rattle.std.specs.Prelude.{◌<◌, ◌≤◌};
 
@@ -18,7 +18,7 @@ fn are_done(words: &[u64]) -> bool {
     words.iter().all(|word| *word == u64::MAX)
 }
 
-/// Whether a crew of so many workers gives these outputs, and leaves nothing.
+/// Whether a crew of this many workers gives these outputs, and leaves nothing.
 fn gives<R: Threads + Sync>(
     rt: &R,
     alloc: Global,
@@ -105,7 +105,7 @@ fn add_edges(edges: &mut Seq<Edge>, shape: Shape, to: u32) -> Result<(), OutOfMe
     }
 }
 
-/// Whether all agree on so many tasks with edges of this shape.
+/// Whether all agree on this many tasks with edges of this shape.
 fn agrees_on<R: Threads + Sync>(
     rt: &R,
     alloc: Global,

@@ -8,7 +8,7 @@ pub fn certified_is_built()
 {}
 
 /// So under the run assumptions a certified chain never differs from what a member has built: at each place at which
-/// both have a checkpoint, it is one.
+/// both have a checkpoint, it is the same.
 pub fn certified_agrees()
     ensures { CertifiedAgrees }
 {}

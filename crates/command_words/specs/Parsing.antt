@@ -1,4 +1,4 @@
--- What `clap` is told of the program's words. Source: this profile.
+-- How the program's words are described to `clap`. Source: this profile.
 use Rattle.std.specs.Prelude.{ℕ, Bool, true, List, [], ◌∷◌, codes}
 use Rattle.clap.specs.Words.{App, Rule, fault_of, new_app, new_rule, with_rule, with_subcommand}
 use Rattle.clap.specs.Walk.{is_empty}

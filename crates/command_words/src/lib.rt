@@ -1,7 +1,7 @@
 //! The words of the program's commands.
 //!
 //! [`command_of`] says which command the words are; [`is_parsed`] whether the `clap` crate takes them, as it does all
-//! that are a command, for which it wants memory. [`place_of`] finds the path of a journal file in them.
+//! that are a command, for which it needs memory. [`place_of`] finds the path of a journal file in them.
 //! [`read_numbers`] reads a word that is a list of numbers.
 #![tactic(auto)]
 

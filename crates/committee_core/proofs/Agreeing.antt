@@ -48,7 +48,7 @@ same_link links place k l one two = sym (same (one ∙ two))
 pub no_link : {A : Type 0} (links : List Link) (place : ℕ) (l : Link) → None ≡ slice_get links place → slice_get links place ≡ Some l → A
 no_link links place l none there = absurd (clash (none ∙ there))
 
--- ---- who differs
+-- ---- which members differ
 
 pub not_so : {A : Type 0} → IsTrue false ↔ A → A → ⊥
 not_so is a = never (is.1 a)

@@ -195,7 +195,7 @@ pub said_no_member : {E : Type 0} (r : Result (List ℕ) E) (front back : List �
 said_no_member r front back m f b said =
     subst (λ (x : List ℕ). IfOk r (λ text. text ≡ x)) (ap (λ (x : List ℕ). x ++ decimal m ++ back) f ∙ ap (λ (x : List ℕ). codes "replay " ++ decimal m ++ x) b ∙ regrouped (codes "replay " ++ decimal m) (codes ": no honest member") (10 ∷ [])) said
 
--- ---- who is honest
+-- ---- which members are honest
 
 pub is_some_copied : {T : Type 0} (o : Option (Bor T)) → is_some o ≡ is_some (option_copied o)
 is_some_copied None = refl

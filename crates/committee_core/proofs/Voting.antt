@@ -1,4 +1,4 @@
--- What is asked for at the desk, who is behind it, and what is said of its history.
+-- What is asked for at the desk, which member is behind it, and what is said of its history.
 use Rattle.std.proofs.Common.{◌≡◌, ◌⊎◌, inl, inr, ℕ, zero, suc, ◌+◌, Bool, true, false, List, [], ◌∷◌, ◌++◌, length, map, take, replicate, Option, Some, None, option_map, Result, Ok, Err, refl, sym, ap, ◌∙◌, subst, slice_get, add-one}
 use Rattle.std.specs.Prelude.{IfOk}
 use Rattle.std.specs.List.{flat_map, list_all}
@@ -84,7 +84,7 @@ pub read_none : (bytes : List ℕ) (s : Stop) → whole transactions.signed byte
 unfolding read_signed
 read_none bytes s is = ap (λ r. digest_read (read_as r)) is
 
--- ---- who is behind the desk
+-- ---- which member is behind the desk
 
 fresh-list : (n : ℕ) → journal_of (replicate n []) 0 ≡ []
 fresh-list zero = refl
@@ -114,7 +114,7 @@ legal_at member opened accepts keeper lists r is kept legal =
     subst (λ (v : Seated). IfOk r (IsLegal FollowsUnder (standing v accepts 0 (Some lists)))) is
     (subst (λ (l : Journals). IfOk r (IsLegal FollowsUnder (standing member accepts 0 (Some l)))) kept legal)
 
--- ---- who is honest
+-- ---- which members are honest
 
 -- a `tx` line leaves the seats
 same-seats : (s : Setting) (w : World) (e : Event) → is_tx e ≡ true → (happens s w e).seats ≡ w.seats

@@ -82,7 +82,7 @@ signed_bytes t = transactions.signed.spell t.signed
 abbrev pub desk_opening : Trust → Schedule → Standing Accepts
 desk_opening trust s = standing (seat_at (terms_of (setting_in trust s).rules) 0 (fresh (setting_in trust s).opening)) trust.accepts 0 (Some (replicate 64 []))
 
--- a history of the desk: so many callers ask, in turns, for the transactions of the lines. Each is answered, as one member answers them one after the other
+-- a history of the desk: this many callers ask, in turns, for the transactions of the lines. Each is answered, as one member answers them one after the other
 pub record AreVotes (trust : Trust) (callers : ℕ) (s : Schedule) (entries : List DeskEntry) : Type 0 where
   pub legal : IsLegal FollowsUnder (desk_opening trust s) entries
   pub made : AreMadeBy callers (map signed_bytes (desk_world trust s).txs) (asked_in entries)
@@ -99,7 +99,7 @@ digest_read (Err fault) = zero_digest
 abbrev pub call_line : Setting → World → DeskEntry → Line
 call_line s w e = line.Vote 0 (tx_name w (digest_read (read_signed e.bytes))) (vote_answered s w (vote_as e.reply))
 
--- the same, by what is known under names
+-- likewise, by what is known under names
 abbrev pub call_line_by : Known → DeskEntry → Line
 call_line_by k e = vote_line_by k 0 (digest_read (read_signed e.bytes)) (vote_as e.reply)
 

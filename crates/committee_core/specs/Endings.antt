@@ -39,7 +39,7 @@ pub record CheckEnds (stakes : List ℕ) (tx : Digest) (before now : Outside) (s
   pub cut : (status ≡ 5) ⊎ (status ≡ 7) → IsCheckCut stakes program_trust.accepts tx before.left now.left before.held now.held
   pub kept : now.kept ≡ before.kept
 
--- words that are not a command: nothing is read, written, kept and counted
+-- words that are not a command: nothing is read, written, kept or counted
 pub record IsUnused (before now : Outside) (status : ℕ) : Type 0 where
   pub two : status ≡ 2
   pub same : now ≡ before

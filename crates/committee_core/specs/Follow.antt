@@ -1,5 +1,5 @@
 -- What the program promises of `follow M`: it runs the schedule and writes no report; then a follower that opens with the objects
--- of the set-up takes the checkpoints that member M built in the epochs before its own, and one line says how far it came.
+-- of the set-up takes the checkpoints that member M built in the epochs before its own, and one line says how far it got.
 use Rattle.std.specs.Prelude.{◌≡◌, ◌⊎◌, ℕ, Bool, true, false, List, [], ◌∷◌, ◌++◌, length, Option, None, Some, Result, Ok, Err, option_map, slice_get, codes, decimal, if◌then◌else◌}
 use Rattle.std.specs.FinMap.{values}
 use Rattle.std.specs.Io.KnownBytes.{Appends, Keeps}
@@ -46,11 +46,11 @@ state_in s (Some seat) = if seat.honest then (if seat.up then Some (member_in s 
 abbrev pub asked_in : Setting → World → ℕ → Asked
 asked_in s w m = record { honest = is_honest w m; state = state_in s (slice_get w.seats m) }
 
--- how far a follower comes with the checkpoints of the member's epochs before its own
+-- how far a follower gets with the checkpoints of the member's epochs before its own
 abbrev pub follower_of : Known → List Object → Member → Result State CatchUpRefusal
 follower_of known opening m = caught_up known (opened opening) (before_epoch m.epoch (built m))
 
--- an honest member is up, and a follower comes so far
+-- an honest member is up, and a follower gets so far
 pub record ComesTo (known : Known) (opening : List Object) (asked : Asked) (Far : Member → Result State CatchUpRefusal → Type 0) : Type 0 where
   pub honest : asked.honest ≡ true
   pub member : Member
@@ -63,7 +63,7 @@ pub record LeavesObjects (r : Result State CatchUpRefusal) (Live : List Object �
   pub is : r ≡ Ok state
   pub live : Live (values state.course.map)
 
--- they are the objects with which the member opened its epoch; so many checkpoints, this epoch, so many objects
+-- they are the objects with which the member opened its epoch; this many checkpoints, this epoch, this many objects
 pub record IsEqual (m : Member) (checkpoints epoch objects : ℕ) (live : List Object) : Type 0 where
   pub same : live ≡ opening_objects m
   pub checkpoints_are : checkpoints ≡ length (before_epoch m.epoch (built m))

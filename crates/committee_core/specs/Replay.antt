@@ -37,7 +37,7 @@ pub record Ending : Type 0 where
   pub status : ℕ
   pub text : List ℕ
 
--- the member starts in a state, or a record is bad. (That a definition lacks memory is never so.)
+-- the member starts in a state, or a record is bad. (A definition never runs out of memory.)
 abbrev pub start_ending : Trust → Schedule → ℕ → ℕ → Result Member StartRefusal → Ending
 start_ending trust s m count (Ok state) = record { status = 0; text = lines_text (restarted_lines trust s m count state) }
 start_ending trust s m count (Err (no_start.BadRecord place why)) = record { status = 6; text = bad_record_text m place }

@@ -1,4 +1,4 @@
--- How the run of a schedule ends: what is written and kept then. Each speaks of the bytes and the lists before and after it.
+-- How the run of a schedule ends: what is written and kept then. Each is about the bytes and the lists before and after it.
 use Rattle.std.specs.Prelude.{◌≡◌, ◌⊎◌, ℕ, List, ◌∷◌, ◌++◌, Option, None, Result, Ok, Err}
 use Rattle.std.specs.Io.KnownBytes.{Appends}
 use Rattle.outside.specs.Lists.{Journals, KeepsJournals}
@@ -55,7 +55,7 @@ pub record MeetsBadRecord (trust : Trust) (s : Schedule) (Writes : Option (List 
   pub bad : ReadsBack kept front → HasBad (setting_in trust s) place
   pub written : ReadsBack kept front → Writes held held' (lines_text (report (setting_in trust s) front) ++ bad_record_text member place)
 
--- a run that did not end: cut, or cut where it says that a record is bad
+-- a run that did not end: cut, or cut in the line that says that a record is bad
 abbrev pub RunsCut : Trust → Schedule → Option (List ℕ) → Option (List ℕ) → Option Journals → Option Journals → Type 0
 RunsCut trust s held held' kept kept' = RunsFront trust s held held' kept kept' ⊎ MeetsBadRecord trust s AppendsFront held held' kept
 

@@ -37,7 +37,7 @@ fn is_same_item(one: &Item, other: &Item) -> bool
     *one == *other
 }
 
-/// Whether two lists of items are one.
+/// Whether two lists of items are equal.
 fn are_same_items(one: &[Item], other: &[Item]) -> bool
     ensures { IsTrue result ↔ (one.now ≡ other.now) }
 {
@@ -56,7 +56,7 @@ fn are_same_items(one: &[Item], other: &[Item]) -> bool
     others.is_empty()
 }
 
-/// Whether two checkpoints are one. Takes no memory.
+/// Whether two checkpoints are equal. Takes no memory.
 pub fn is_same(one: &Checkpoint, other: &Checkpoint) -> bool
     ensures { IsTrue result ↔ (one.now ≡ other.now) }
 {
@@ -130,8 +130,8 @@ fn first_difference(world: &World, links: &[Link]) -> Option<(u64, u32)>
     None
 }
 
-/// Whether a chain is certified by the committee of the world, and agrees with what its honest members have built that
-/// are up (Sui Lutris); a member agrees as far as it has built checkpoints. If the world is that of a run under the
+/// Whether a chain is certified by the committee of the world, and agrees with what its honest members that are up
+/// have built (Sui Lutris); a member agrees as far as it has built checkpoints. If the world is that of a run under the
 /// run assumptions, no accepted seal of an honest member in the chain is forged, and no digests of checkpoints collide,
 /// it never differs.
 pub fn agrees<S: Sealer>(

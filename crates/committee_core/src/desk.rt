@@ -87,7 +87,7 @@ fn signed_requests(alloc: Global, world: &World) -> Result<Seq<Seq<u8>>, OutOfMe
         };
         requests.push(encode_signed(alloc, signed)?)?;
     }
-    // a text has no room for so many lines, and so has no memory
+    // no text has so many lines; it counts as running out of memory
     Err(OutOfMemory)
 }
 
@@ -180,7 +180,7 @@ fn opened_member<S: Sealer>(
     }
 }
 
-/// The history of so many callers that ask member 0 of a world for its votes, for the transactions that the lines made.
+/// The history of this many callers that ask member 0 of a world for its votes, for the transactions that the lines made.
 fn calls_in<R: Threads + Wait + Sync, S: Sealer + Drop + Send + Sync>(
     rt: &R,
     alloc: Global,
@@ -348,7 +348,7 @@ fn say<K: Sink>(said: &Said, sink: &mut K) -> u8
     }
 }
 
-/// Lets so many callers ask at the desk of a text that was read, under the seals of the program. Answers the status.
+/// Lets this many callers ask at the desk of a text that was read, under the seals of the program. Answers the status.
 fn desk_read<R: Threads + Wait + Sync, K: Sink>(
     rt: &R,
     alloc: Global,
@@ -371,7 +371,7 @@ fn desk_read<R: Threads + Wait + Sync, K: Sink>(
     }
 }
 
-/// The command `desk`: reads the source, and lets so many callers ask at the desk of the schedule that it is. Answers the
+/// The command `desk`: reads the source, and lets this many callers ask at the desk of the schedule that it is. Answers the
 /// status.
 pub(crate) fn desk<R: Threads + Wait + Sync, S: Source, K: Sink>(
     rt: &R,

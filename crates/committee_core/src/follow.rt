@@ -1,4 +1,4 @@
-//! The command `follow`: how far a follower comes with what a member built in a run.
+//! The command `follow`: how far a follower gets with what a member built in a run.
 
 ghost use Rattle.std.specs.Prelude.{◌≡◌, ◌⊎◌, ◌≤◌, ℕ, None, Ok, Err, IfOk, IsErrOf, OnErr, OnOk};
 ghost use Rattle.std.specs.Io.KnownBytes.{Appends, Keeps};
@@ -107,7 +107,7 @@ fn follow_text<R: Threads + Sync, K: Sink, D: Keeper>(
     }
 }
 
-/// The command `follow`: reads the source, runs the schedule that it is, and writes how far a follower comes with what the
+/// The command `follow`: reads the source, runs the schedule that it is, and writes how far a follower gets with what the
 /// member built. Answers the status.
 pub(crate) fn follow<R: Threads + Sync, S: Source, K: Sink, D: Keeper>(
     rt: &R,

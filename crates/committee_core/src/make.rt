@@ -35,7 +35,7 @@ enum Unmade {
     OutOfMemory,
 }
 
-/// The world after the generator's schedule of so many transactions.
+/// The world after the generator's schedule of this many transactions.
 fn made_world<R: Threads + Sync, D: Keeper>(
     rt: &R,
     alloc: Global,
@@ -75,7 +75,7 @@ fn sum_up(world: &World) -> Result<Sums, OutOfMemory>
     }
 }
 
-/// Runs the generator's schedule of so many transactions, and sums up its member 0.
+/// Runs the generator's schedule of this many transactions, and sums up its member 0.
 #[tactic(auto, using(crate::proofs::Made::has_sums, crate::proofs::Made::summed, crate::proofs::Made::kept_whole))]
 fn sums_of_made<R: Threads + Sync, D: Keeper>(
     rt: &R,
@@ -128,7 +128,7 @@ fn write_summary<K: Sink>(
     written
 }
 
-/// The command `make`: runs the generator's schedule of so many transactions, and writes its summary. Answers the
+/// The command `make`: runs the generator's schedule of this many transactions, and writes its summary. Answers the
 /// status.
 pub(crate) fn make<R: Threads + Sync, K: Sink, D: Keeper>(
     rt: &R,

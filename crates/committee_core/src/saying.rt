@@ -1,4 +1,4 @@
-//! Lines of the program that are none of a report.
+//! Lines of the program that are not lines of a report.
 
 ghost use Rattle.std.specs.Prelude.{◌≡◌, ◌++◌, IfOk, decimal};
 

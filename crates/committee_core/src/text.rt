@@ -47,7 +47,7 @@ pub fn refuse<K: Sink>(alloc: Global, line: u64, cause: u8, sink: &mut K) -> Res
     written
 }
 
-/// Runs a text: writes the report of the schedule that it is, or the line that says why it is none.
+/// Runs a text: writes the report of the schedule that it is, or the line that says why it is not one.
 #[tactic(auto, using(crate::proofs::Members::read_committee, crate::proofs::Whole::nothing_done, crate::proofs::Whole::schedule_cut, crate::proofs::Whole::refusal_cut, validator_core::proofs::Settling::keeps_same))]
 pub(crate) fn run_text<R: Threads + Sync, S: MakesSeals, K: Sink, D: Keeper>(
     rt: &R,

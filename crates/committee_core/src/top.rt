@@ -105,12 +105,12 @@ fn obey<R: Threads + Wait + Sync, S: Source, K: Sink, D: Keeper>(
 ///
 /// | Status | Comes | Written |
 /// |---|---|---|
-/// | 0 | if all were asked for, and none lacked memory | `desk 0: calls C`, and for each call, in the order in which they were made, two spaces and the line of its vote: one history of them all |
+/// | 0 | if all were asked for, and none ran out of memory | `desk 0: calls C`, and for each call, in the order in which they were made, two spaces and the line of its vote: one history of them all |
 /// | 3 | only if the bytes are not a schedule, and the line was written | `refused line L cause C` |
 /// | 4 | only if the source's count of faults rose | nothing |
 /// | 5 | only if the sink's count of faults rose | a prefix of what was to be written |
 /// | 7 | if out of memory | as at 5 |
-/// | 8 | only if an event is no `tx` line, or member 0 is not honest, and the line was written | `desk: only tx lines`, else `desk: no honest member` |
+/// | 8 | only if an event is not a `tx` line, or member 0 is not honest, and the line was written | `desk: only tx lines`, else `desk: no honest member` |
 ///
 /// `replay M`, for M from 0 to 63: starts member M of the set-up of the schedule that the source holds, whose events do
 /// not run, from the records that the keeper has. It leaves the keeper's lists.
@@ -125,7 +125,7 @@ fn obey<R: Threads + Wait + Sync, S: Source, K: Sink, D: Keeper>(
 /// | 7 | if out of memory | as at 5 |
 /// | 8 | only if the set-up has no honest member M, and the line was written | `replay M: no honest member` |
 ///
-/// Status 2 comes exactly if the words are not a command: nothing is read, written and kept then.
+/// Status 2 comes exactly if the words are not a command: nothing is read, written or kept then.
 #[tactic(auto, using(crate::proofs::Obeying::unused, crate::proofs::Obeying::obeyed, crate::proofs::Obeying::starved))]
 pub fn committee<R: Threads + Wait + Sync, S: Source, K: Sink, D: Keeper>(
     rt: &R,

@@ -1,4 +1,4 @@
-//! How far a follower comes with what a member of a world has built.
+//! How far a follower gets with what a member of a world has built.
 
 ghost use Rattle.std.specs.Prelude.{◌≡◌, ◌↔◌, ◌++◌, ◌∷◌, [], IfOk, IsTrue, OnOk, codes, decimal, slice_get};
 ghost use Rattle.world_core.specs.Looks.{transaction_of};
@@ -33,7 +33,7 @@ pub(crate) enum Verdict {
     },
     /// The follower's live objects are not those with which the member opened its epoch.
     Unequal,
-    /// They are: so many checkpoints of the epochs before this one, and so many objects.
+    /// They are: this many checkpoints of the epochs before this one, and this many objects.
     Equal {
         checkpoints: u64,
         epoch: u64,
@@ -75,7 +75,7 @@ fn is_same_object(one: &Object, other: &Object) -> bool
     *one == *other
 }
 
-/// Whether two lists of objects are one.
+/// Whether two lists of objects are equal.
 fn are_same_objects(one: &[Object], other: &[Object]) -> bool
     ensures { IsTrue result ↔ (one.now ≡ other.now) }
 {
@@ -153,7 +153,7 @@ pub(crate) fn verdict_behind(
     said
 }
 
-/// The status that a verdict ends with.
+/// The status with which a verdict ends.
 pub(crate) fn verdict_status(verdict: Verdict) -> u8
     ensures { result ≡ verdict_status verdict }
 {

@@ -69,7 +69,7 @@ first_behind {A} {B} test of (x ∷ xs) = by (test x) (first_behind test of xs)
         alone (Some y) = refl
     by false rest = refl
 
--- so many more are found after it
+-- this many more are found after it
 pub front_further : {A : Type 0} (test : A → Bool) (n more : ℕ) (xs rest : List A) → n ≤ front_length test xs → rest ≡ drop n xs → more ≡ front_length test rest → n + more ≡ front_length test xs
 front_further test n more xs rest front is count = let all = front_behind test n xs front in let same = count ∙ ap (front_length test) is in omega (arith, same, all)
 

@@ -27,7 +27,7 @@ abbrev pub front_length : {A : Type 0} → (A → Bool) → List A → ℕ
 front_length test [] = 0
 front_length test (x ∷ xs) = if test x then suc (front_length test xs) else 0
 
--- the cuts of a list of admitted transactions: each has the next so many of them
+-- the cuts of a list of admitted transactions: each has the next of them, as many as its mark says
 abbrev pub cuts_of : List Admitted → List CutMark → List Cut
 cuts_of admitted [] = []
 cuts_of admitted (m ∷ ms) = record { txs = take m.size admitted; last = m.last } ∷ cuts_of (drop m.size admitted) ms

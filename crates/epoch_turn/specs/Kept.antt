@@ -26,7 +26,7 @@ pub record Ends (items : List Checkpoint) (tip : Tip) : Type 0 where
 abbrev pub shown : Rows → Chaining
 shown t = record { past = take t.opened t.items.items; built = t.items.items; due = t.due.items; marks = t.marks.items; done = t.done }
 
--- the epochs before built so many of the checkpoints, and each of the epoch's is that of the next of its cuts
+-- the epochs before built this many of the checkpoints, and each of the epoch's is that of the next of its cuts
 pub record IsKept (t : Rows) : Type 0 where
   pub ends : Ends t.items.items t.tip
   pub split : t.opened + t.tip.cuts ≡ length t.items.items
@@ -53,7 +53,7 @@ next_checkpoint epoch executed tip txs last = record {
   last = last;
 }
 
--- the tip after one more checkpoint, with so many transactions and this digest
+-- the tip after one more checkpoint, with this many transactions and this digest
 abbrev pub tip_after : Tip → ℕ → Digest → Tip
 tip_after tip size digest = record {
   number = tip.number + 1;
@@ -81,7 +81,7 @@ grown_all epoch executed g due (m ∷ ms) =
 abbrev pub growth_of : ℕ → List Execution → Rows → Growth
 growth_of epoch executed t = grown_all epoch executed (record { fresh = []; tip = t.tip }) (drop t.tip.taken t.due.items) (drop t.tip.cuts t.marks.items)
 
--- the tables with that, and with so many found done
+-- the tables with that, and with this many found done
 pub record Takes (g : Growth) (done : ℕ) (old new : Rows) : Type 0 where
   pub items : new.items.items ≡ old.items.items ++ g.fresh
   pub opened : new.opened ≡ old.opened

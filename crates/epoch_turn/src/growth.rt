@@ -92,7 +92,7 @@ impl Tip {
         })
     }
 
-    /// Where the chain ends after one more checkpoint, with so many transactions and this digest. A number or a count
+    /// Where the chain ends after one more checkpoint, with this many transactions and this digest. A number or a count
     /// past its type counts as running out of memory.
     fn behind(&self, size: usize, digest: Digest) -> Result<Tip, OutOfMemory>
         ensures { IfOk result (λ tip. tip ≡ tip_after self.now size digest) }
@@ -115,7 +115,7 @@ impl Tip {
 }
 
 impl Growth {
-    /// Adds a checkpoint with so many transactions. One that cannot be encoded counts as running out of memory.
+    /// Adds a checkpoint with this many transactions. One that cannot be encoded counts as running out of memory.
     fn push(&mut self, alloc: Global, size: usize, next: Checkpoint) -> Result<(), OutOfMemory>
         ensures { OnOk result (self.new ≡ grown_by self.old size next) }
     {
@@ -140,7 +140,7 @@ impl Growth {
         self.push(alloc, txs.len(), next)
     }
 
-    /// Adds the checkpoints of the cuts of these transactions, up to the first that is not done; so many transactions
+    /// Adds the checkpoints of the cuts of these transactions, up to the first that is not done; this many transactions
     /// at the start are.
     pub(crate) fn add_all(
         &mut self,

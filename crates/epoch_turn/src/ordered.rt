@@ -55,7 +55,7 @@ fn digest_at(held: &[Held], place: usize) -> Option<Digest>
     }
 }
 
-/// The first transaction that is held and not in the sequence; so many of the first that are held are in it, and are not
+/// The first transaction that is held and not in the sequence; this many of the first that are held are in it, and are not
 /// looked at. Takes no memory.
 #[tactic(auto, using(crate::proofs::Fronts::front_within))]
 pub fn first_unordered(held: &[Held], admission: &Admission, ordered: usize) -> Option<Digest>

@@ -37,7 +37,7 @@ fn due_at(held: &HeldBook, admission: &Admission, place: usize) -> Option<Due>
     })
 }
 
-/// Tells the chain of the transaction that was admitted at a place.
+/// Reports to the chain the transaction that was admitted at a place.
 fn tell_one(
     chain: &mut Chain,
     held: &HeldBook,

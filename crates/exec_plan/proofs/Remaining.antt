@@ -83,7 +83,7 @@ module _ (b : Books) (executed : List Execution) where
       go false join false pl true is more = omega (arith, more)
       go false join false pl false is more = omega (arith, more)
 
-  -- none joins after so many layers as there were certificates that were not planned
+  -- none joins after as many layers as there were certificates that were not planned
   none_joins : (n : ℕ) (planned : List Held) → length (filter (is_out planned) b.held) ≤ n → (place : ℕ) (h : Held) → slice_get b.held place ≡ Some h
       → joining (planned ++ layers_within n b executed planned) h ≡ false
   none_joins zero planned few place h at = go (joining (planned ++ []) h) refl

@@ -36,7 +36,7 @@ joins_layer b executed planned h =
 abbrev pub layer_of : Books → List Execution → List Held → List Held
 layer_of b executed planned = filter (joins_layer b executed planned) b.held
 
--- at most so many layers; after an empty one all are empty
+-- at most this many layers; after an empty one all are empty
 abbrev pub layers_within : ℕ → Books → List Execution → List Held → List Held
 layers_within zero b executed planned = []
 layers_within (suc n) b executed planned = layer_of b executed planned ++ layers_within n b executed (planned ++ layer_of b executed planned)

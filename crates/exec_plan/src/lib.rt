@@ -11,11 +11,11 @@
 //! No round is executed as such. [`plan_ready`] makes a [`Task`] for each certificate whose turn may come, layer after
 //! layer, and an edge for each version that one makes for a later one, and executes nothing. A caller that evaluates the
 //! plan, on one thread or on many, hands its outputs to [`settle`], which keeps those that the rounds execute, writes
-//! them and answers their effects. A task may turn out not to be kept: if one that makes what it wants is not,
-//! if what it wants is lacking or does not fit it, and if it writes a version that is there. [`run_planned`] does
-//! all three on the caller's thread, [`run_pooled`] on workers in threads of their own. That what is kept is the
-//! rounds, and what is left is what the rounds leave, are [`plan_keeps_the_rounds`] and [`plan_leaves_the_left`], laws
-//! over the definitions. No member executes a block but by a task.
+//! them and answers their effects. A task is not kept if one that makes what it wants is not, if what it wants is
+//! missing or does not fit it, or if it writes a version that is already there. [`run_planned`] does all three on the
+//! caller's thread, [`run_pooled`] on workers in threads of their own. [`plan_keeps_the_rounds`] and
+//! [`plan_leaves_the_left`] are laws over the definitions: what is kept is the rounds, and what is left is what the
+//! rounds leave. A member executes a block only by a task.
 #![tactic(auto)]
 
 mod behind;

@@ -20,7 +20,7 @@ use version_assign::Admission;
 use version_store::Store;
 use wire_bcs::{OutOfMemory, Seq};
 
-/// So many workers, and no more than tasks, but one at least.
+/// This many workers, and no more than tasks, but one at least.
 fn workers_for(ready: &Ready, workers: u32) -> u32
     requires { (0 < workers) × (workers ≤ 16) }
     ensures { (0 < result) × (result ≤ 16) }

@@ -33,7 +33,7 @@ pub enum Carry {
 pub enum Outcome {
     /// It was executed.
     Done(HashedExecuted),
-    /// This version, the first that is lacking, is not there.
+    /// This version is missing, the first that is.
     Absent { key: ObjectKey, origin: Producer },
     /// What it wants is there and does not fit it.
     Unfit,

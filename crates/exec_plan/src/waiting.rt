@@ -125,7 +125,7 @@ impl Waiting {
         self.file_each(&Past::of(store, &none), admission, held, woken.as_slice())
     }
 
-    /// The same as [`Waiting::hold`] does, of the certificate at a place, if there is one.
+    /// What [`Waiting::hold`] does, for the certificate at a place, if there is one.
     fn file_at(
         &mut self,
         past: &Past<'_>,

@@ -49,7 +49,7 @@ module _ (b : Books) (executed : List Execution) where
 
 -- ---- rounds
 
--- so many more, counted up
+-- this many more, counted up
 abbrev beyond : ℕ → ℕ → ℕ
 beyond zero k = k
 beyond (suc n) k = suc (beyond n k)
@@ -61,7 +61,7 @@ module _ (b : Books) where
       ap (λ (r : List Execution). r ++ rounds_within n b (executed ++ r)) none
       ∙ (ap (rounds_within n b) (append-nil executed) ∙ rounds-empty n executed none)
 
-  -- so many rounds, and more after them
+  -- this many rounds, and more after them
   rounds-append : (n k : ℕ) (executed : List Execution) → rounds_within (beyond n k) b executed ≡ rounds_within n b executed ++ rounds_within k b (executed ++ rounds_within n b executed)
   rounds-append zero k executed = ap (rounds_within k b) (sym (append-nil executed))
   rounds-append (suc n) k executed =
@@ -82,7 +82,7 @@ more-or-less (suc n) (suc limit) = go (more-or-less n limit)
     go (inl (k, e)) = inl (k, ap suc e)
     go (inr (k, e)) = inr (k, ap suc e)
 
--- if something is ready after so many rounds, the round after these is one of the run's
+-- if something is ready after this many rounds, the round after these is one of the run's
 pub is-one-round : (b : Books) (executed : List Execution) (n : ℕ) (h : Held) (x : Execution) → Has b.held h → ready b (executed ++ rounds_within n b executed) h ≡ Some x
     → (more : List Execution) × (rounds b executed ≡ rounds_within n b executed ++ (round_of b (executed ++ rounds_within n b executed) ++ more))
 unfolding rounds

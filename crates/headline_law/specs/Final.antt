@@ -23,7 +23,7 @@ pub record StandsIn (checkpoints : List Checkpoint) (epoch : ℕ) (tx effects : 
   pub item : Has checkpoint.items (record { tx = tx; effects = effects })
   pub only : (c : Checkpoint) → Has checkpoints c → c.epoch ≡ epoch → (i : Item) → Has c.items i → i.tx ≡ tx → i.effects ≡ effects
 
--- so it stands in what each member has built that left the epoch, which is one in a later epoch, at whatever moment of the run
+-- so it stands in what each member that left the epoch, and so is in a later one, has built, at whatever moment of the run
 abbrev pub StandsForGood : Setting → List Event → ℕ → Digest → Digest → Type 0
 StandsForGood s events epoch tx effects = (front back : List Event) → events ≡ front ++ back → (m : ℕ) (seat : Seat) → slice_get (world_after s front).seats m ≡ Some seat
     → epoch < (member_in s seat).epoch → StandsIn (built (member_in s seat)) epoch tx effects

@@ -48,7 +48,7 @@ use Rattle.headline_law.specs.Printed.{WasFinal, final_by}
 
 -- what holds of the certified transactions
 pub record AreSafe (s : Setting) (events : List Event) : Type 0 where
-  -- two of one epoch that consume one version are one transaction
+  -- two of one epoch that consume one version are the same transaction
   pub one_owner : (c d : Certificate) → IsCertified s events c → IsCertified s events d → c.tx.epoch ≡ d.tx.epoch
       → (key : ObjectKey) → Has (consumed_keys c.tx) key → Has (consumed_keys d.tx) key → c.tx ≡ d.tx
   -- some honest member was handed each with its sender's accepted seal

@@ -52,7 +52,7 @@ pub record RunsAs (r : Rules) (m : Member) (x : Execution) : Type 0 where
   pub told : Has ran.executed x.gave.effects
   pub stands : Has (with_rounds m).executed x
 
--- what a certificate's execution gives, if it is ready after so many rounds of the member's next run
+-- what a certificate's execution gives, if it is ready after this many rounds of the member's next run
 abbrev pub ready_behind : ℕ → Member → Held → Option Execution
 ready_behind n m h = ready (books m) (m.executed ++ rounds_within n (books m) m.executed) h
 

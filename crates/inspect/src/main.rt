@@ -1,6 +1,6 @@
 //! `inspect chain M MEMBERS` reads a schedule from standard input, runs it without a report, and writes the bytes of the
 //! chain of what member M built, under seals of MEMBERS: `committee check` reads them. `inspect digests` writes the digests
-//! of what lines made, and of what the lowest-numbered member has that is honest and up. `inspect blame` writes who sealed
+//! of what lines made, and of what the lowest-numbered member that is honest and up has. `inspect blame` writes who sealed
 //! two votes of which an honest member casts at most one. `inspect states` writes how each member stands, and its live
 //! objects.
 //!

@@ -1,4 +1,4 @@
--- What is said of rivals, as the code comes to it.
+-- What is said of rivals, as the code finds it.
 use Rattle.std.proofs.Common.{◌≡◌, ◌∙◌, ℕ, List, map, None, refl, ap}
 use Rattle.schedule_text.specs.declared.words.Event.{Event}
 use Rattle.protocol_spec.specs.Chain.Certificates.{rules_of}

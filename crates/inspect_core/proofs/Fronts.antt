@@ -38,7 +38,7 @@ empty_front n (b ∷ bs) = go (b == 10)
 
 -- ---- bytes
 
--- the bytes up to the end of the line that comes after so many line ends
+-- the bytes up to the end of the line that comes after this many line ends
 abbrev bytes_to : ℕ → List ℕ → ℕ
 bytes_to zero [] = 0
 bytes_to (suc more) [] = 0

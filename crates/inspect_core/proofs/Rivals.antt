@@ -1,4 +1,4 @@
--- What is said of two certificates, as the code comes to it.
+-- What is said of two certificates, as the code finds it.
 use Rattle.std.proofs.Common.{◌≡◌, ◌<◌, ℕ, Bool, true, false, cond, List, [], ◌∷◌, filter, length, Option, Some, None, refl, sym, ap, subst, arith}
 use Rattle.std.specs.Prelude.{◌&&◌, nat_lt, option_map}
 use Rattle.std.proofs.lemmas.Bool.{ltb-true, lt-ltb}

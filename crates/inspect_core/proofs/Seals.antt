@@ -1,4 +1,4 @@
--- Who seals what, as the code sees the members.
+-- Which member seals what, as the code sees the members.
 use Rattle.std.proofs.Common.{◌≡◌, ◌↔◌, ℕ, true, false, List, Option, Some, None, IsTrue, refl, sym, ap, ◌∙◌, arith, ◌≤◌, ◌<◌, length, inl, inr}
 use Rattle.std.specs.Prelude.{option_and_then, option_map, slice_get}
 use Rattle.std.proofs.lemmas.Bool.{cases_lt}

@@ -1,7 +1,7 @@
 -- Who sealed two votes of which an honest member casts at most one, in the certificates of a run. Source: Sui Lutris (in an
 -- epoch an honest member votes for one transaction of each owned version); the lines and their order are this profile's own.
 -- Each line is of two certificates of the run that are formed, or valid and delivered by a line, and of what `blamed` says of them.
--- So the laws of blame_law speak of it: if no statement is forged and no digests of transactions collide, none of its members is
+-- So the laws of blame_law apply to it: if no statement is forged and no digests of transactions collide, none of its members is
 -- honest (`none_is_honest`), and its stake is more than a third (`they_have_more_than_a_third`). A certificate is of the epoch of its
 -- transaction, and two of different epochs are not rivals: a version that is voted for again in a later epoch blames nobody. Whether
 -- that epoch is the open one plays no part.

@@ -91,7 +91,7 @@ pub record AskEnds (q : Question) (before now : Outside) (status : ℕ) : Type 0
   pub unsaid : status ≡ 6 → Keeps before.held now.held
   pub cut : (status ≡ 5) ⊎ (status ≡ 6) ⊎ (status ≡ 7) → (Keeps before.held now.held × KeepsJournals before.kept now.kept) ⊎ OfText (λ text. CutsText q (part_of q text) before.held now.held before.kept now.kept) before.left now.left
 
--- words that ask nothing: nothing is read, written, kept and counted
+-- words that ask nothing: nothing is read, written, kept or counted
 pub record IsUnused (before now : Outside) (status : ℕ) : Type 0 where
   pub two : status ≡ 2
   pub same : now ≡ before

@@ -27,7 +27,7 @@ abbrev pub go_on : Option ℕ → ℕ → (ℕ → ℕ) → ℕ
 go_on None place next = place
 go_on (Some left) place next = next left
 
--- where the line ends that comes after so many line ends, in bytes of which the first stands at this place
+-- where the line ends that comes after this many line ends, in bytes of which the first stands at this place
 unfoldable pub line_end : ℕ → ℕ → List ℕ → ℕ
 line_end place more [] = place
 line_end place more (b ∷ bs) = go_on (past more b) place (λ left. line_end (place + 1) left bs)

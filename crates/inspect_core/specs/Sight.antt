@@ -27,7 +27,7 @@ pub record Sight : Type 0 where
   pub events : List Event
   pub lines : ℕ
 
--- of a world after these events, of a text of so many lines
+-- of a world after these events, of a text of this many lines
 abbrev pub sight_of : Setting → World → List Event → ℕ → Sight
 sight_of s w events lines = record { states = states_of s w; crew = map seat_honest w.seats; rules = s.rules; known = names_of s w; names = tx_name w; formed = map cert_in w.certs; events = events; lines = lines }
 

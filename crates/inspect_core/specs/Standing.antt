@@ -1,4 +1,4 @@
--- Who is honest and up in a world. Source: this profile.
+-- Which members are honest and up in a world. Source: this profile.
 use Rattle.std.specs.Prelude.{ℕ, List, Option, option_map, slice_get}
 use Rattle.protocol_spec.specs.Member.Member.{Member}
 use Rattle.world_spec.specs.Setting.{Setting}

@@ -70,12 +70,12 @@ pub record LacksLine (line lines : ℕ) (status : ℕ) (text : List ℕ) : Type 
   pub few : lines < line
   pub is : text ≡ no_line_text line
 
--- there are as many, and the members are told
+-- there are as many, and the members are reported
 pub record HasLine (line lines : ℕ) (k : Known) (crew : List Bool) (states : States) (status : ℕ) (text : List ℕ) : Type 0 where
   pub enough : line ≤ lines
   pub says : SaysStates k crew states status text
 
--- what `states L` says of a run of so many lines
+-- what `states L` says of a run of this many lines
 pub data SaysStatesAt (line lines : ℕ) (k : Known) (crew : List Bool) (states : States) (status : ℕ) (text : List ℕ) : Type 0 where
   there : HasLine line lines k crew states status text → SaysStatesAt line lines k crew states status text
   missing : LacksLine line lines status text → SaysStatesAt line lines k crew states status text

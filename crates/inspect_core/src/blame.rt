@@ -40,7 +40,7 @@ fn add_formed<S: Sealer>(
         };
         found.add(alloc, world.committee(), sealer, cert)?;
     }
-    // a text has no room for so many lines, and so has no memory
+    // no text has so many lines; it counts as running out of memory
     Err(OutOfMemory)
 }
 

@@ -124,7 +124,7 @@ fvote 2 t2\n\
 fvote 3 t2\n\
 cert t2 1 2 3\n";
 
-/// Its last seal is another one, and then most of its bytes are wanting.
+/// Its last seal is another one, and then most of its bytes are missing.
 const BAD: &str = "member 1 honest\n\
 member 1 faulty\n\
 member 1 faulty\n\

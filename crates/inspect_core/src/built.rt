@@ -10,10 +10,10 @@ use std::alloc::Global;
 use validator_core::Validator;
 use wire_bcs::{Duplicate, OutOfMemory, Seq};
 
-/// Lists of so many items have no encoding.
+/// Lists of this many items have no encoding.
 const TOO_LONG: u64 = 2_147_483_648;
 
-/// A copy of a checkpoint that can be encoded. One of more than 2147483647 items is said to be out of memory.
+/// A copy of a checkpoint that can be encoded. One of more than 2147483647 items counts as running out of memory.
 fn copy_short(checkpoint: &Checkpoint) -> Result<Checkpoint, OutOfMemory>
     ensures value { IfOk result (λ c. c ≡ checkpoint.now) }
     ensures short { IfOk result codec.short }
@@ -37,8 +37,8 @@ fn copy_at(validator: &Validator, number: u64) -> Result<Checkpoint, OutOfMemory
     }
 }
 
-/// The checkpoints that the member has built, over all its epochs. More than 2147483647 of them, or such a checkpoint with
-/// more items, are said to want memory.
+/// The checkpoints that the member has built, over all its epochs. More than 2147483647 of them, or a checkpoint with
+/// more items, counts as running out of memory.
 pub(crate) fn built_by(alloc: Global, validator: &Validator) -> Result<Seq<Checkpoint>, OutOfMemory>
     ensures value { IfOk result (λ cs. cs ≡ built validator.now.state) }
     ensures short { IfOk result codecs.checkpoints.short }

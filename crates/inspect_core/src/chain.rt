@@ -52,7 +52,7 @@ fn sealed_answer(
     })
 }
 
-/// The line that says that a seal is wanting, with status 8.
+/// The line that says that a seal is missing, with status 8.
 fn unsealed_answer(
     alloc: Global,
     member: u32,

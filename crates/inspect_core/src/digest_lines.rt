@@ -38,7 +38,7 @@ pub(crate) fn add_tx(text: &mut Seq<u8>, made: &MadeTx) -> Result<(), OutOfMemor
     add_digest(text, &made.digest)
 }
 
-/// `checkpoint N HEX`. A checkpoint of more than 2147483647 items is said to want memory.
+/// `checkpoint N HEX`. A checkpoint of more than 2147483647 items counts as running out of memory.
 #[tactic(auto, using(crate::proofs::Digested::checkpoint_words))]
 pub(crate) fn add_checkpoint(
     alloc: Global,

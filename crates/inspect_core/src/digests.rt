@@ -26,7 +26,7 @@ fn add_txs(text: &mut Seq<u8>, names: &Directory) -> Result<(), OutOfMemory>
         };
         add_tx(text, made)?;
     }
-    // no text has room for so many lines
+    // no text has so many lines; it counts as running out of memory
     Err(OutOfMemory)
 }
 

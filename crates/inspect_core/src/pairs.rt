@@ -112,7 +112,7 @@ fn add_pairs(
     Ok(())
 }
 
-/// The lines of each of the certificates and each after it. Only those that share a version are held against each other.
+/// The lines of each of the certificates and each after it. Only those that share a version are compared.
 pub(crate) fn pairs_text(
     alloc: Global,
     names: &Directory,

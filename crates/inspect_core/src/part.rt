@@ -17,7 +17,7 @@ fn past(more: u64, byte: u8) -> Option<u64>
     if 0 < more { Some(more - 1) } else { None }
 }
 
-/// Where the line ends that comes after so many line ends.
+/// Where the line ends that comes after this many line ends.
 #[tactic(auto, unfolding(crate::specs::Part::line_end))]
 fn line_end(text: &[u8], more: u64) -> usize
     ensures value { result ≡ line_end 0 more text.now }

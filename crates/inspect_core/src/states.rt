@@ -119,7 +119,7 @@ fn no_line_answer(alloc: Global, line: u64) -> Result<Answer, OutOfMemory>
     })
 }
 
-/// What is answered of the members of a world after a text of which so many lines were to run.
+/// What is answered of the members of a world after a text of which this many lines were to run.
 pub(crate) fn states_at_answer(
     alloc: Global,
     line: u64,

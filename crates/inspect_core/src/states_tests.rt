@@ -8,7 +8,7 @@ const PAID: &str = "member 1 honest\nmember 1 honest\nmember 1 faulty\nmember 1 
 coin g0 alice 10000\ntx t1 alice 0 g0@1 2000 n:500 a:bob split(gas,i0) transfer(r0,i1)\n\
 vote 0 t1\nvote 1 t1\nvote 3 t1\ncert t1 0 1 3\nsend 0 t1\nrun 0 1\nstop 1 lost\nclose 1";
 
-/// What is told of it.
+/// What is reported of it.
 const TOLD: &[u8] =
     b"member 0: epoch 0 entries 0 checkpoints 0 objects 2\n  g0 v2 alice coin 0 8300\n  t1.0 v2 bob coin 0 500\n\
 member 1: down\nmember 2: faulty\n\

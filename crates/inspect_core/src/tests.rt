@@ -14,7 +14,7 @@ use std::thread::Threads;
 const ENDED: &str = "member 1 honest\nmember 1 honest\nmember 1 faulty\nmember 1 honest\n\
 close 0\nend 0\norder end 0\nclose 1\nend 1\norder end 1\nclose 3\nend 3\norder end 3\nsee 0 9\nsee 1 9\n";
 
-/// The same, and member 1 is down after it.
+/// Likewise, and member 1 is down after it.
 const DOWN: &str = "member 1 honest\nmember 1 honest\nmember 1 faulty\nmember 1 honest\n\
 close 0\nend 0\norder end 0\nclose 1\nend 1\norder end 1\nclose 3\nend 3\norder end 3\nsee 0 9\nsee 1 9\n\
 stop 1 lost\nturn 1\n";
@@ -81,7 +81,7 @@ const BY_ONE: [u8; 88] = [
     136, 213, 21, 240, 184, 37, 41,
 ];
 
-/// The same under the seals of members 0 and 1.
+/// Likewise under the seals of members 0 and 1.
 const BY_TWO: [u8; 124] = [
     1, 0, 0, 0, 0, 0, 0, 0, 0, 0, 0, 0, 0, 0, 0, 0, 0, 0, 0, 0, 0, 0, 0, 0, 0, 0, 0, 0, 0, 0, 0, 0,
     0, 0, 0, 0, 0, 0, 0, 0, 0, 0, 0, 0, 0, 0, 0, 0, 0, 0, 1, 2, 0, 0, 0, 0, 117, 28, 128, 122, 103,

@@ -14,7 +14,7 @@ filled buffer items = items ++ drop (length items) buffer
 
 -- ---- listings
 
--- if both buffers have room code 0, and else 14; with the numbers that are wanted
+-- if both buffers have room code 0, and else 14; with the numbers that are needed
 abbrev pub list_told : ℕ → ℕ → Listing → Answer
 list_told rows statements l =
     if nat_lt rows (length l.rows) || nat_lt statements (length l.statements) then said 14 0 (length l.rows) (length l.statements)

@@ -55,7 +55,7 @@ fn put_blame(both: &DoubleVote, members: &mut [u32], version: &mut Version) -> A
 
 /// Who is to blame for the two certificates that the bytes encode, which are of two transactions of one epoch that
 /// consume one version. Code 0: `members` begins with the members whose seals stand under both, `first` is their number, and
-/// `version` is filled. Code 14: `members` has too little room, `first` says what is wanted, and nothing is written.
+/// `version` is filled. Code 14: `members` has too little room, `first` says how much is needed, and nothing is written.
 #[unsafe(no_mangle)]
 pub extern "C" fn kothaysu_blame(
     alloc: Global,

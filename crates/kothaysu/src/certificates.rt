@@ -25,7 +25,7 @@ fn certified<C: Checker>(
     Ok(check_certificate(alloc, certificate, &committee, checker)?)
 }
 
-/// The same under keyed seals.
+/// Likewise under keyed seals.
 fn certified_keyed(
     alloc: Global,
     stakes: &[u32],
@@ -67,7 +67,7 @@ pub extern "C" fn kothaysu_check_certificate(
     answer.code
 }
 
-/// The same under the keyed seals of this secret.
+/// Likewise under the keyed seals of this secret.
 #[unsafe(no_mangle)]
 pub extern "C" fn kothaysu_check_certificate_keyed(
     alloc: Global,

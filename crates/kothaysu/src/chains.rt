@@ -27,7 +27,7 @@ fn links<C: Checker>(
     Ok(check_chain(alloc, chain, &committee, checker)?)
 }
 
-/// The same under the seals of a sealer.
+/// Likewise under the seals of a sealer.
 fn links_by<S: Sealer>(
     alloc: Global,
     stakes: &[u32],
@@ -40,7 +40,7 @@ fn links_by<S: Sealer>(
     Ok(check_chain_by(alloc, chain, &committee, sealer)?)
 }
 
-/// The same under keyed seals.
+/// Likewise under keyed seals.
 fn links_keyed(alloc: Global, stakes: &[u32], chain: &[u8], secret: &Bytes32) -> Result<u64, Answer>
     ensures { Answered result (for_committee stakes.now (λ s. chain_answer s (keyed secret.now) chain.now)) }
 {
@@ -48,7 +48,7 @@ fn links_keyed(alloc: Global, stakes: &[u32], chain: &[u8], secret: &Bytes32) ->
     links_by(alloc, stakes, chain, &sealer)
 }
 
-/// The answer for so many links.
+/// The answer for this many links.
 fn tell_links(links: Result<u64, Answer>) -> Answer
     ensures { result ≡ told (λ n. said 0 0 n 0) links }
 {
@@ -77,7 +77,7 @@ pub extern "C" fn kothaysu_check_chain(
     answer.code
 }
 
-/// The same under the keyed seals of this secret.
+/// Likewise under the keyed seals of this secret.
 #[unsafe(no_mangle)]
 pub extern "C" fn kothaysu_check_chain_keyed(
     alloc: Global,

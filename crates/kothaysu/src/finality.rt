@@ -45,7 +45,7 @@ fn acknowledged<C: Checker>(
     Ok(check_final(alloc, acknowledgements, &committee, checker)?)
 }
 
-/// The same under keyed seals.
+/// Likewise under keyed seals.
 fn acknowledged_keyed(
     alloc: Global,
     stakes: &[u32],
@@ -87,7 +87,7 @@ pub extern "C" fn kothaysu_check_final(
     answer.code
 }
 
-/// The same under the keyed seals of this secret.
+/// Likewise under the keyed seals of this secret.
 #[unsafe(no_mangle)]
 pub extern "C" fn kothaysu_check_final_keyed(
     alloc: Global,

@@ -19,7 +19,7 @@ fn of_chain(alloc: Global, bytes: &[u8]) -> Result<Listing, Answer>
 
 /// The seals of the chain that the bytes encode, each on what its member states of the checkpoint. Code 0: `rows` and `statements` begin
 /// with the listing; `first` is the number of its rows, `second` that of the bytes of its statements. Code 14: one of them has too
-/// little room, `first` and `second` say what is wanted, and nothing is written.
+/// little room, `first` and `second` say how much is needed, and nothing is written.
 #[unsafe(no_mangle)]
 pub extern "C" fn kothaysu_chain_seals(
     alloc: Global,
@@ -54,7 +54,7 @@ fn of_certificate(alloc: Global, bytes: &[u8]) -> Result<Listing, Answer>
 
 /// The seals of the certificate that the bytes encode, each on the vote of its member. Code 0: `rows` and `statements` begin
 /// with the listing; `first` is the number of its rows, `second` that of the bytes of its statements. Code 14: one of them has too
-/// little room, `first` and `second` say what is wanted, and nothing is written.
+/// little room, `first` and `second` say how much is needed, and nothing is written.
 #[unsafe(no_mangle)]
 pub extern "C" fn kothaysu_certificate_seals(
     alloc: Global,
@@ -89,7 +89,7 @@ fn of_acknowledgements(alloc: Global, bytes: &[u8]) -> Result<Listing, Answer>
 
 /// The seals of the list of sealed statements that the bytes encode, each on its statement. Code 0: `rows` and `statements` begin
 /// with the listing; `first` is the number of its rows, `second` that of the bytes of its statements. Code 14: one of them has too
-/// little room, `first` and `second` say what is wanted, and nothing is written.
+/// little room, `first` and `second` say how much is needed, and nothing is written.
 #[unsafe(no_mangle)]
 pub extern "C" fn kothaysu_final_seals(
     alloc: Global,

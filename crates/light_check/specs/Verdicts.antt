@@ -29,7 +29,7 @@ verdict_on_read stakes accepts tx (Err stop) = verdict.Malformed stop.place.at s
 unfoldable pub verdict_on : List ℕ → Accepting → Digest → List ℕ → Verdict
 verdict_on stakes accepts tx bytes = verdict_on_read stakes accepts tx (whole codecs.chain bytes)
 
--- the bytes encode a certified chain of so many links, and the transaction stands in this checkpoint of it, or in none
+-- the bytes encode a certified chain of this many links, and the transaction stands in this checkpoint of it, or in none
 pub record SpellsCertified (stakes : List ℕ) (accepts : Accepting) (tx : Digest) (bytes : List ℕ) (links : ℕ) (included : Option ℕ) : Type 0 where
   pub chain : Chain
   pub spelled : bytes ≡ codecs.chain.spell chain

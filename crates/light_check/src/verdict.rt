@@ -20,7 +20,7 @@ use wire_bcs::{OutOfMemory, Unread};
 /// What a client that trusts only the stakes says of bytes.
 #[derive(Clone, Copy, Debug, PartialEq, Eq)]
 pub enum Verdict {
-    /// They encode a certified chain of so many links, and the first checkpoint that lists the transaction has this
+    /// They encode a certified chain of this many links, and the first checkpoint that lists the transaction has this
     /// number; none if none lists it.
     Certified { links: u64, included: Option<u64> },
     /// They are not an encoding of a chain: the offset of the first fault, and what is wrong there.

@@ -6,7 +6,7 @@ use Rattle.quorum_core.specs.declared.signer.Signer.{Signer}
 use Rattle.quorum_core.specs.declared.signer.Signer.TheVariants as signers
 use Rattle.light_client.specs.declared.accepted.SealRow.{SealRow}
 
--- the statement that a row names: so many of the bytes from its offset on
+-- the statement that a row names: this many of the bytes from its offset on
 abbrev pub statement_of : List ℕ → SealRow → List ℕ
 statement_of statements row = take row.length (drop row.at statements)
 

@@ -23,7 +23,7 @@ links_answer stakes accepts links = unless_refused (option_map bad_link (first_b
 unfoldable pub chain_answer : List ℕ → Accepting → List ℕ → Result ℕ Refusal
 chain_answer stakes accepts bytes = and_then (input codecs.chain bytes) (λ (c : Chain). links_answer stakes accepts c.links)
 
--- the bytes encode a certified chain of so many links
+-- the bytes encode a certified chain of this many links
 pub record SpellsCertified (stakes : List ℕ) (accepts : Accepting) (bytes : List ℕ) (links : ℕ) : Type 0 where
   pub chain : Chain
   pub spelled : bytes ≡ codecs.chain.spell chain

@@ -29,7 +29,7 @@ pub struct AcceptedSeals<'a> {
     next: Cell<usize>,
 }
 
-/// The statement of a row: so many bytes from its offset on, as far as there are some.
+/// The statement of a row: this many bytes from its offset on, as far as there are some.
 fn statement_of<'a>(statements: &'a [u8], row: &SealRow) -> &'a [u8]
     ensures { result.now ≡ statement_of statements.now row.now }
 {

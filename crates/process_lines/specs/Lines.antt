@@ -36,7 +36,7 @@ Reads pending pending' left left' got.End = ReadsEnd pending left left'
 
 -- ---- while a line is read
 
--- a line stands first, and has so many bytes with its end
+-- a line stands first, and has this many bytes with its end
 pub record IsCutAt (bytes line : List ℕ) (used : ℕ) : Type 0 where
   pub parts : bytes ≡ line ++ 10 ∷ drop used bytes
   pub whole : HasNoEnd line

@@ -3,7 +3,7 @@
 //! A [`LineReader`] cuts what a source gives into lines of at most 4 MiB. [`read_request`] says which request a line is;
 //! the words of a line are parted by one space, and bytes are hexadecimal digits in lower case. Each answer is one line,
 //! and for each kind of answer one function appends it to a text: a word first, then numbers, digests and bytes. Versions
-//! are written as `ID@V`. Nothing here speaks to a member.
+//! are written as `ID@V`. Nothing here calls a member.
 #![tactic(auto)]
 
 mod checkpoints;

@@ -29,7 +29,7 @@ pub enum StartLine {
         line: u64,
         cause: u8,
     },
-    /// The set-up has lines that are none.
+    /// The set-up has event lines.
     HasEvents,
     /// The set-up has no honest member of this number.
     NoMember {

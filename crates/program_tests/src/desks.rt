@@ -38,7 +38,7 @@ fn coin_of(number: u64) -> Object {
     }
 }
 
-/// A set-up with so many coins.
+/// A set-up with this many coins.
 fn setup(alloc: Global, coins: u64) -> Result<String, AllocError> {
     let mut text = String::from_str(alloc, "member 1 honest\n")?;
     for number in 0..coins {
@@ -48,7 +48,7 @@ fn setup(alloc: Global, coins: u64) -> Result<String, AllocError> {
     Ok(text)
 }
 
-/// A member over so many coins.
+/// A member over this many coins.
 fn member_over(alloc: Global, coins: u64) -> Option<Validator>
     ensures { IfSome result (λ member. member.member ≡ 0) }
 {
@@ -76,7 +76,7 @@ fn transfer(alloc: Global, number: u64, user: u8) -> Result<Seq<u8>, OutOfMemory
     joined(alloc, pieces.as_slice())
 }
 
-/// The same under her seal.
+/// Likewise under her seal.
 fn request(alloc: Global, number: u64, user: u8) -> Result<Seq<u8>, OutOfMemory> {
     let mut bytes = transfer(alloc, number, user)?;
     let seal = sealer().seal(&Signer::User(Digest(ALICE)), bytes.as_slice());
@@ -131,7 +131,7 @@ fn ask_by_two<W: Wait>(
     (one, two, desk.join(first, second))
 }
 
-/// The same, and how many calls the history has that the desk leaves.
+/// Likewise, and how many calls the history has at the end.
 fn ask_and_close<W: Wait>(
     rt: &W,
     desk: Desk<MemKeeper, KeyedSeal>,
@@ -148,7 +148,7 @@ fn ask_and_close<W: Wait>(
     (one, two, history.len())
 }
 
-/// The same at a desk whose member has a coin and is asked for a transfer of it.
+/// Likewise at a desk whose member has a coin and is asked for a transfer of it.
 fn asked_by_two<W: Wait>(rt: &W, alloc: Global) -> Option<(Option<bool>, Option<bool>, u64)> {
     let bytes = request(alloc, 0, 2).ok()?;
     let keeper = MemKeeper::new(alloc, 1, [].as_slice()).ok()?;
@@ -195,7 +195,7 @@ fn are_same(member: &mut Validator, keeper: &mut MemKeeper, history: &[DeskEntry
     true
 }
 
-/// Whether a member over so many coins, asked by one thread for the calls of a history over a keeper that fails at these
+/// Whether a member over this many coins, asked by one thread for the calls of a history over a keeper that fails at these
 /// calls, says the same.
 fn is_replayed(alloc: Global, coins: u64, failing: &[u64], history: &[DeskEntry]) -> Option<bool> {
     let mut keeper = MemKeeper::new(alloc, 1, failing).ok()?;
@@ -205,7 +205,7 @@ fn is_replayed(alloc: Global, coins: u64, failing: &[u64], history: &[DeskEntry]
     Some(same)
 }
 
-/// The history that is left if callers ask a member over so many coins, whose keeper fails at these calls.
+/// The history that is left if callers ask a member over this many coins, whose keeper fails at these calls.
 fn left_by_callers<R: Threads + Wait + Sync>(
     rt: &R,
     alloc: Global,

@@ -1,4 +1,4 @@
-//! Ends of the members of a committee with equal stakes, ordered in a book of sequences: also such as no line makes.
+//! Ends of the members of a committee with equal stakes, ordered in a book of sequences: including some that no line makes.
 
 ghost use Rattle.std.specs.Prelude.{IfOk};
 ghost use Rattle.chain_messages.specs.Messages as codecs;

@@ -50,7 +50,7 @@ fn path(alloc: Global) -> Result<MemSource, Fail> {
 }
 
 /// What comes of the run and of the replay if the call of this number fails, and whether the replay says that there
-/// are so many records.
+/// are this many records.
 fn behind_fault<R: Threads + Wait + Sync>(
     rt: &R,
     alloc: Global,
@@ -74,7 +74,7 @@ fn behind_fault<R: Threads + Wait + Sync>(
     Ok((ran, replayed, is_said))
 }
 
-/// What a replay says first of so many records.
+/// What a replay says first of this many records.
 fn said_of(records: u64) -> &'static [u8] {
     match records {
         0 => b"restart 0: records 0\n".as_slice(),

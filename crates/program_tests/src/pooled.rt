@@ -83,10 +83,10 @@ const HELD: &[u8] = &[1];
 /// And before one that came as an entry of 224 bytes.
 const SEEN: &[u8] = &[2, 224, 1, 0];
 
-/// What a transaction came to: its digest, the status of its effects, their version and the gas.
+/// The outcome of a transaction: its digest, the status of its effects, their version and the gas.
 type Outcome = (Digest, Status, u64, u64);
 
-/// What each came to.
+/// The outcome of each.
 fn outcomes(alloc: Global, effects: &[HashedEffects]) -> Result<Vec<Outcome>, OutOfMemory> {
     let mut all = Vec::new(alloc);
     for one in effects {
@@ -96,7 +96,7 @@ fn outcomes(alloc: Global, effects: &[HashedEffects]) -> Result<Vec<Outcome>, Ou
     Ok(all)
 }
 
-/// What those came to that a run by so many workers executes.
+/// The outcomes of what a run by this many workers executes.
 fn runs<R: Threads + Sync, G: Gate + Sync>(
     rt: &R,
     alloc: Global,
@@ -175,7 +175,7 @@ fn two_certificates_are_executed_at_once(rt: HostRuntime) {
     same(&rt, meeting.late.load(Ordering::SeqCst), 0);
 }
 
-/// Whether a run by so many workers, of which the reader was held last, comes to this, in this order.
+/// Whether a run by this many workers, of which the reader was held last, has these outcomes, in this order.
 fn comes_to<R: Threads + Sync>(rt: &R, alloc: Global, workers: u32, wanted: &[Outcome]) -> bool
     requires { (0 < workers) × (workers ≤ 16) }
 {

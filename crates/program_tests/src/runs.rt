@@ -76,7 +76,7 @@ pub(crate) fn expect_run<R: Abort + Threads + Wait + Sync>(
     Ok(())
 }
 
-/// Runs a text over a sink that takes at most so many bytes of a piece.
+/// Runs a text over a sink that takes at most this many bytes of a piece.
 fn expect_narrow<R: Abort + Threads + Wait + Sync>(
     rt: &R,
     alloc: Global,

@@ -9,7 +9,7 @@ use Rattle.answer_types.specs.declared.pieces.Placed.{Placed}
 use Rattle.ptb_run.specs.declared.value.Value.{Value}
 use Rattle.ptb_run.specs.declared.value.Value.TheVariants as values
 
--- the new coin of this amount, so many after the next number
+-- the new coin of this amount, this many after the next number
 abbrev pub new_coin : Digest → ℕ → ℕ → ℕ → ℕ → Item
 new_coin tx made currency k amount = record { id = record { 0 = created_id_of tx (made + k) }; content = content.Coin currency amount; fresh = true }
 

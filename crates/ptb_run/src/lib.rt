@@ -2,7 +2,7 @@
 //!
 //! [`fits`] says whether objects are those that a transaction names, and takes no memory. [`execute`]
 //! gives the effects of a transaction of valid shape on objects that fit it, and the objects that it
-//! writes. What fails in the block is said by the status of the effects; the only error of a call is that
+//! writes. The status of the effects says what fails in the block; the only error of a call is that
 //! memory is refused. Both cost time in proportion to the commands, their arguments and the objects, and
 //! each argument and each object is found without a scan.
 #![tactic(auto)]

@@ -8,7 +8,7 @@ use Rattle.chain_types.specs.declared.transactions.Input.TheVariants as inputs
 use Rattle.protocol_spec.specs.Chain.Shape.{shape_fault}
 use Rattle.rows_law.specs.SomeTransaction.{transaction_of}
 
--- so many pairs of a new counter and its freezing, from the command of this number on
+-- this many pairs of a new counter and its freezing, from the command of this number on
 abbrev pub pairs : ℕ → ℕ → List Command
 pairs from zero = []
 pairs from (suc n) = command.Call 4 (argument.Input 0 ∷ []) ∷ command.Call 11 (argument.Result from ∷ []) ∷ pairs (from + 2) n

@@ -262,7 +262,7 @@ fn has(alloc: Global, follower: &Follower, objects: &str) -> Option<bool> {
     Some(live.as_slice() == want.as_slice())
 }
 
-/// How a follower of the two coins comes through the lines: the first that is answered otherwise, the epoch after them,
+/// How a follower of the two coins gets through the lines: the first that is answered otherwise, the epoch after them,
 /// and whether its objects are these.
 fn come_through<'a>(
     alloc: Global,
@@ -375,7 +375,7 @@ impl Archive for Store {
     }
 }
 
-/// What an archive has and where a follower of the two coins comes with it, one line each: the checkpoints in order (`f`
+/// What an archive has and where a follower of the two coins gets with it, one line each: the checkpoints in order (`f`
 /// the first, `l` the empty last one of its epoch, `t` the third, `o` the first with other effects, `s` one whose
 /// transaction stands there twice), the transactions that are known, the follower's epoch, and the answer: how many
 /// checkpoints were applied, or the number and the place at which it is `stuck` or `differs`.
@@ -430,7 +430,7 @@ fn shelf_of(alloc: Global, word: &str) -> Option<Shelf> {
     Some(shelf)
 }
 
-/// Where a follower comes: a word and two numbers.
+/// Where a follower gets: a word and two numbers.
 fn caught_up(alloc: Global, store: &Store, epoch: u64) -> Option<(&'static str, u64, u64)> {
     let opening = objects_of(alloc, COINS)?;
     Some(match catch_up(alloc, &opening, store, epoch) {
@@ -441,7 +441,7 @@ fn caught_up(alloc: Global, store: &Store, epoch: u64) -> Option<(&'static str, 
     })
 }
 
-/// Whether a follower comes where a line says.
+/// Whether a follower gets where a line says.
 fn comes_there(alloc: Global, line: &str) -> Option<bool> {
     let mut words = line.split_whitespace();
     let store = Store {
@@ -454,7 +454,7 @@ fn comes_there(alloc: Global, line: &str) -> Option<bool> {
     Some(said && is_digit(words.next()?, number) && is_digit(words.next()?, place))
 }
 
-/// The first line of which something else is so.
+/// The first line for which something else holds.
 fn first_other(alloc: Global) -> Option<&'static str> {
     for line in ARCHIVES.lines() {
         if comes_there(alloc, line) != Some(true) {

@@ -1,4 +1,4 @@
-//! What a run leaves where no schedule comes: two certificates of one version with no fork noticed, and a transaction that
+//! What a run leaves in cases that no schedule reaches: two certificates of one version with no fork noticed, and a transaction that
 //! was admitted by another certificate, so that nothing is assigned to it.
 
 ghost use Rattle.std.specs.Prelude.{◌≡◌};

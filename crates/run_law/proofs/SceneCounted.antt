@@ -97,7 +97,7 @@ round-front b executed round (h ∷ hs) = go (ready b executed h) (round-front b
         by-clash false found = (x ∷ found.0, found.1 ∙ append_assoc round (x ∷ []) found.0)
 
 module _ (b : Books) (executed : List Execution) where
-  -- so many more were executed, and so many no longer wait
+  -- this many more were executed, and this many no longer wait
   abbrev Counts : List Execution → List Execution → List Held → Type 0
   Counts round done hs = length done + waiting (executed ++ done) hs ≤ length round + waiting executed hs
 

@@ -120,7 +120,7 @@ module _ (s : Setting) where
   pub next-same : (w : World) (m : ℕ) → scene_of s (called_if s w m (next_call s w m)) ≡ scenes.called_if s.rules (scene_of s w) m (next_on (scene_of s w) m)
   next-same w m = step-by w m (stands w m)
 
-  -- ---- so many entries
+  -- ---- this many entries
 
   pub sees-same : (n : ℕ) (w : World) (m : ℕ) → scene_of s (sees_on s n w m) ≡ sees_to s.rules n (scene_of s w) m
   sees-same zero w m = refl

@@ -127,7 +127,7 @@ abbrev pub AddsLeft : Option Journals → Option Journals → ℕ → Option Rec
 AddsLeft before now m None = KeepsJournals before now
 AddsLeft before now m (Some x) = AddsRecord before now m (journals.journal_record.spell x)
 
--- the same if the call did not end: its record was added, or nothing
+-- likewise if the call did not end: its record was added, or nothing
 abbrev pub MayAddLeft : Option Journals → Option Journals → ℕ → Option Record → Type 0
 MayAddLeft before now m x = AddsLeft before now m x ⊎ KeepsJournals before now
 

@@ -18,7 +18,7 @@ pub record Seated : Type 0 where
 abbrev pub rules_of_seat : Seated → (Signer → List ℕ → Digest → Bool) → Rules
 rules_of_seat seat accepts = rules_for seat.terms accepts
 
--- the same if no seal is accepted, for calls in which the rules play no part
+-- likewise if no seal is accepted, for calls in which the rules play no part
 abbrev pub bare_rules : Seated → Rules
 bare_rules seat = rules_of_seat seat (λ by bytes seal. false)
 

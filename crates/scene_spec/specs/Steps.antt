@@ -161,7 +161,7 @@ abbrev pub AddsLine : Option (ℕ × List Record) → Option Journals → Option
 AddsLine None before now = KeepsJournals before now
 AddsLine (Some (m, records)) before now = AddsAll before now m records
 
--- the same if the line did not end: the first of them were added
+-- likewise if the line did not end: the first of them were added
 abbrev pub MayAddLine : Option (ℕ × List Record) → Option Journals → Option Journals → Type 0
 MayAddLine None before now = KeepsJournals before now
 MayAddLine (Some (m, records)) before now = AddsFront before now m records

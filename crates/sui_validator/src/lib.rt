@@ -5,7 +5,7 @@
 //! - [`wallet`]: certificates of votes, and what acknowledgements make final;
 //! - [`client`]: a light client.
 //!
-//! What a member answers, keeps and becomes is said by one equation a call, over the definitions of the Sui Lutris
+//! One equation for each call says what a member answers, keeps and becomes, over the definitions of the Sui Lutris
 //! protocol: those of `validator_core`, of which this is the edge that requires nothing of a caller.
 #![tactic(auto)]
 

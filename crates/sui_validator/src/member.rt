@@ -67,7 +67,7 @@ impl<J: Journal, S: Sealer> Member<J, S> {
         self.validator.vote(&mut self.keeper, &self.sealer, bytes)
     }
 
-    /// Hands the certificate to the member that the bytes encode: true if it is newly held, false if a certificate of its
+    /// Hands the certificate that the bytes encode to the member: true if it is newly held, false if a certificate of its
     /// transaction is held already.
     pub fn hold(&mut self, bytes: &[u8]) -> Result<bool, HoldRefusal>
         ensures answer { Holds (hold_said (rules_of_seat self.old.seat (S.accepts self.old.sealer)) self.old.seat bytes.now) result }
@@ -79,7 +79,7 @@ impl<J: Journal, S: Sealer> Member<J, S> {
         self.validator.hold(&mut self.keeper, &self.sealer, bytes)
     }
 
-    /// Hands the next entry of the epoch's sequence to the member, which has this number from 0: what it did, and the
+    /// Hands the next entry of the epoch's sequence, which has this number from 0, to the member: what it did, and the
     /// checkpoints that it completes.
     pub fn see(&mut self, number: u64, bytes: &[u8]) -> Result<Seen, SeeRefusal>
         ensures answer { Sees (see_said (rules_of_seat self.old.seat (S.accepts self.old.sealer)) self.old.seat number bytes.now) result }
@@ -92,7 +92,7 @@ impl<J: Journal, S: Sealer> Member<J, S> {
             .see(&mut self.keeper, &self.sealer, number, bytes)
     }
 
-    /// Lets the member execute what it holds, by so many threads: the effects in order, the certificates that it left although
+    /// Lets the member execute what it holds, by this many threads: the effects in order, the certificates that it left although
     /// all that they waited for is executed, and the checkpoints that the run completes.
     pub fn run<R: Threads + Sync>(&mut self, rt: &R, workers: &Workers) -> Result<Ran, RunRefusal>
         ensures answer { Runs (run_said (bare_rules self.old.seat) self.old.seat) result }

@@ -25,7 +25,7 @@ use wire_bcs::{OutOfMemory, Seq};
 /// Why a member is not opened, in the order in which the cases are tried.
 #[derive(Clone, Copy, Debug, PartialEq, Eq)]
 pub enum OpenRefusal {
-    /// The committee has so many members, and none of this number.
+    /// The committee has this many members, and no member of this number.
     NoMember { number: u32, members: u32 },
     /// An object comes twice among those that the first epoch opens with.
     ObjectTwice,

@@ -22,7 +22,7 @@ impl Model for Workers {
 }
 
 impl Workers {
-    /// So many; none if they are not 1 to 16.
+    /// This many; none if they are not 1 to 16.
     pub fn new(count: u32) -> Option<Workers>
         ensures { result ≡ workers_of count }
     {

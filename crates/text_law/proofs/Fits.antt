@@ -147,7 +147,7 @@ argument-fits (arg_word.Nested n k) is = let one = is.0 in let two = is.1 in (om
 gas-fits : argument.fits (argument_of arg_word.Gas)
 gas-fits = argument-fits arg_word.Gas tt
 
--- so many arguments at most
+-- this many arguments at most
 abbrev AreArguments : ℕ → List Argument → Type 0
 AreArguments n args = (length args ≤ n) × AllByRecursion argument.fits args
 

@@ -43,14 +43,14 @@ use Rattle.text_law.proofs.Members.{IsDigest, IsOrigin, AreOrigins, IsFitStateme
 use Rattle.text_law.proofs.Texts.{most_words, IsShortEvent}
 use Rattle.text_law.proofs.Fits.{IsFitMade, AreThings, IsFitLine, spoiled-digest, named-digest, few-made, transaction-fits, signed-fits, origins-fit}
 
--- an event that a text can say, of at most so many words
+-- an event that a text can say, of at most this many words
 abbrev pub IsFitEvent : Event → Type 0
 IsFitEvent e = IsEvent e × IsShortEvent most_words e
 
 abbrev pub AreSeals : (Signer → List ℕ → Digest) → Type 0
 AreSeals seal = (signer : Signer) (bytes : List ℕ) → IsDigest (seal signer bytes)
 
--- what a world has can be encoded, after so many lines
+-- what a world has can be encoded, after this many lines
 pub record IsFit (s : Setting) (lines : ℕ) (w : World) : Type 0 where
   pub txs : Each IsFitMade w.txs
   pub said : Each (λ (x : Said). IsFitStatement x.statement) w.said

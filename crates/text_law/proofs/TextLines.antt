@@ -31,7 +31,7 @@ use Rattle.protocol_spec.proofs.Truth.{some_same}
 none : {A : Type 0} → (P : Type 0) (c : Cause) (x : A) → Err c ≡ Ok x → P
 none P c x h = absurd (cc)
 
--- the words of a line after the first: at most so many, each of less bytes
+-- the words of a line after the first: at most this many, each of less bytes
 abbrev Words : ℕ → List (List ℕ) → Type 0
 Words n ws = (length ws ≤ suc n) × AreWords n ws
 
@@ -260,7 +260,7 @@ after-same : (c : Check) (v u : Schedule) → after_check c v ≡ Ok u → v ≡
 after-same (Ok tt) v u h = same v u h
 after-same (Err c) v u h = absurd (cc)
 
--- the events are short, and so many lines at most stand after them
+-- the events are short, and this many lines at most stand after them
 record Reads (n most : ℕ) (t : Schedule) : Type 0 where
   short : AllByRecursion (IsShortEvent n) t.events
   few : length t.events ≤ most

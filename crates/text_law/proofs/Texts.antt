@@ -25,7 +25,7 @@ use Rattle.protocol_spec.proofs.Truth.{some_same}
 abbrev pub most_words : ℕ
 most_words = suc longest_text
 
--- ---- events whose lists have at most so many elements
+-- ---- events whose lists have at most this many elements
 
 abbrev pub IsShortInput : ℕ → InputWord → Type 0
 IsShortInput n (input.Number k) = Unit {0}
@@ -54,7 +54,7 @@ IsShortEvent n e = Unit {0}
 
 -- ---- parts
 
--- words, each of at most so many bytes
+-- words, each of at most this many bytes
 abbrev pub AreWords : ℕ → List (List ℕ) → Type 0
 AreWords n ws = AllByRecursion (λ (w : List ℕ). length w ≤ n) ws
 

@@ -162,7 +162,7 @@ is_free m t digest origins is new few none named = record {
 
 -- ---- runs
 
--- whether a refusal comes does not hang on what is answered else
+-- whether a refusal comes does not depend on what is answered otherwise
 pub goes_alike : (o : Option RunRefusal) (answer : Result (Unit {0}) RunRefusal) (ran : Ran) → answer ≡ unless_refused o tt → is_ok answer ≡ is_ok (unless_refused o ran)
 goes_alike None answer ran e = ap (λ (a : Result (Unit {0}) RunRefusal). is_ok a) e
 goes_alike (Some refusal) answer ran e = ap (λ (a : Result (Unit {0}) RunRefusal). is_ok a) e

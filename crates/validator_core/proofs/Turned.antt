@@ -1,4 +1,4 @@
--- The turn to the next epoch: what is answered and due, and the state after it.
+-- The change to the next epoch: what is answered and due, and the state after it.
 use Rattle.std.proofs.Common.{◌≡◌, ◌+◌, ℕ, Bool, true, false, cond, not, List, [], ◌∷◌, Option, Some, None, refl, ap, sym, ◌∙◌, subst}
 use Rattle.std.specs.Prelude.{◌⊎◌, Result, Ok, Err, is_err, is_ok, is_some, option_map}
 use Rattle.digest_core.specs.declared.Digest.{Digest}

@@ -167,7 +167,7 @@ Acks accepts member said (Err refusal) = said ≡ Err refusal
 abbrev pub end_said : Rules → Seated → Result Statement EndRefusal
 end_said r seat = if seat.up then end_answer r seat.state else Err no_end.Down
 
--- the statement under the member's seal; memory may be wanted if there is one, and else not
+-- the statement under the member's seal; memory is needed only if there is one
 abbrev pub Ends : (Signer → List ℕ → Digest → Bool) → ℕ → Result Statement EndRefusal → Result Sealed EndRefusal → Type 0
 Ends accepts member said (Ok s) = (said ≡ Ok s.statement) × IsSealedBy accepts member s
 Ends accepts member said (Err no_end.OutOfMemory) = is_ok said ≡ true

@@ -99,7 +99,7 @@ pub record IsSound (c : Course) : Type 0 where
   pub ahead : IsAhead c.epoch c.store.executed c.chain
   pub all : BuildsAll c.epoch c.store.executed c.chain
 
--- of one whose chain and waiting list know of only so many admitted transactions
+-- of one whose chain and waiting list know of only this many admitted transactions
 pub record IsAdmitting (from : ℕ) (c : Course) : Type 0 where
   pub held : Each IsSoundHeld c.held
   pub waits : StoodBefore c.store c.admission.admission (map digest_of_admitted (drop from c.admission.admission.admitted)) c.held c.waiting
@@ -112,7 +112,7 @@ pub record IsAdmitting (from : ℕ) (c : Course) : Type 0 where
   pub told : IsTold c.held (take from c.admission.admission.admitted) c.chain
   pub behind : IsBehind c.epoch c.store.executed c.chain
 
--- what stays through all of an epoch, also if memory is refused half way
+-- what stays through all of an epoch, even if memory is refused half way
 pub record Stays (old new : Course) : Type 0 where
   pub writers : new.admission.writers ≡ old.admission.writers
   pub opening : HasOpening old → HasOpening new

@@ -7,7 +7,7 @@ use Rattle.epoch_turn.specs.Dues.{front_length, is_ordered}
 use Rattle.validator_core.specs.Courses.{Coursed, IsSound, coursed}
 use Rattle.validator_core.specs.declared.course.Course.{Course}
 
--- the member of so many records, whether it closed the epoch, its votes, and what else it has of the epoch
+-- the member of this many records, whether it closed the epoch, its votes, and what else it has of the epoch
 abbrev pub member_with : ℕ → Bool → List Cast → Coursed → Member
 member_with records closed votes c = record {
   records = records;
@@ -32,7 +32,7 @@ AllFew votes = Each HasFew votes
 abbrev pub ordered_front : Coursed → ℕ
 ordered_front c = front_length (is_ordered c.sequence.admission) c.held
 
--- votes can be encoded, what the epoch has is sound, each entry that was seen has its record, and so many of the first
+-- votes can be encoded, what the epoch has is sound, each entry that was seen has its record, and this many of the first
 -- held certificates are in the sequence
 pub record Stands (records : ℕ) (votes : List Cast) (ordered : ℕ) (c : Course) : Type 0 where
   pub few : AllFew votes

@@ -32,7 +32,7 @@ turning m = record (turned m) { records = m.records + 1 }
 abbrev pub counted : Member → Member
 counted m = record m { records = m.records + 1 }
 
--- the same, if the run has one
+-- likewise, if the run has one
 abbrev pub counted_where : Option Record → Member → Member
 counted_where None m = m
 counted_where (Some x) m = counted m

@@ -75,7 +75,7 @@ impl Course {
         })
     }
 
-    /// Holds nothing and has seen nothing, if memory was refused half way. Takes no memory.
+    /// Holds nothing and has seen nothing, if memory was refused on the way. Takes no memory.
     pub(crate) fn forget(&mut self)
         requires { HasOpening self.old }
         ensures sound { IsSound self.new }
@@ -106,7 +106,7 @@ impl Course {
         self.held.hold(new)
     }
 
-    /// Tells the tables of the transactions that were admitted from a place on, which are these.
+    /// Reports to the tables the transactions that were admitted from a place on, which are these.
     pub(crate) fn let_in(&mut self, from: usize, txs: &[Digest]) -> Result<(), OutOfMemory>
         requires admitting { IsAdmitting from self.old }
         requires txs { txs.now ≡ map digest_of_admitted (drop from self.old.admission.admission.admitted) }
@@ -153,7 +153,7 @@ impl Course {
         )
     }
 
-    /// The same by 1 to 16 workers in threads. The gate is notified of each execution.
+    /// Likewise, by 1 to 16 workers in threads. The gate is notified of each execution.
     fn execute_pooled<R: Threads + Sync, G: Gate + Sync>(
         &mut self,
         rt: &R,
@@ -197,7 +197,7 @@ impl Course {
         Ok((effects, built))
     }
 
-    /// The same by 1 to 16 workers in threads. The gate is notified of each execution.
+    /// Likewise, by 1 to 16 workers in threads. The gate is notified of each execution.
     pub(crate) fn run_pooled<R: Threads + Sync, G: Gate + Sync>(
         &mut self,
         rt: &R,

@@ -45,7 +45,7 @@ impl Course {
         }
     }
 
-    /// Has nothing, if memory was refused as the epoch turned. Takes no memory.
+    /// Has nothing, if memory was refused as the epoch changed. Takes no memory.
     pub(crate) fn abandon(&mut self)
         ensures sound { IsSound self.new }
         ensures limit { self.new.admission.writers ≡ self.old.admission.writers }

@@ -20,7 +20,7 @@ use std::alloc::Global;
 use std::thread::Threads;
 use wire_bcs::{OutOfMemory, Seq};
 
-/// How long a list is at least that cannot be encoded.
+/// The least length at which a list cannot be encoded.
 const TOO_LONG: u64 = 2_147_483_648;
 
 /// The item of an executed transaction. Takes no memory.

@@ -362,7 +362,7 @@ impl State {
         }
     }
 
-    /// The same by 1 to 16 workers in threads. The gate is notified of each execution.
+    /// Likewise, by 1 to 16 workers in threads. The gate is notified of each execution.
     #[tactic(auto, unfolding(protocol_spec::specs::Member::Member::built), using(crate::proofs::Named::ran_named))]
     pub fn execute_pooled<R: Threads + Sync, G: Gate + Sync>(
         &mut self,

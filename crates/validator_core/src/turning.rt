@@ -1,4 +1,4 @@
-//! The turn to the next epoch, over the state of a member.
+//! The change to the next epoch, over the state of a member.
 
 ghost use Rattle.std.specs.Prelude.{◌≡◌, ◌<◌, ◌≤◌, IfOk, IsErrOf, None, false, is_some, nat_le, true};
 ghost use Rattle.outside.specs.Causes.{Rose};

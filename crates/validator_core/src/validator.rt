@@ -246,7 +246,7 @@ impl Validator {
         answer
     }
 
-    /// Hands the next entry of the epoch's consensus sequence to the member, which has this number from 0 (Sui Lutris):
+    /// Hands the next entry of the epoch's consensus sequence, which has this number from 0, to the member (Sui Lutris):
     /// answers what it did, and the checkpoints that it completes. Order of the refusals: `Down`, `Halted`, `Full`,
     /// `Over` if the end of the epoch was seen, `Gap` if `number` is not that of the entries seen, `KeepFault`,
     /// `Fork`. The record is appended before the call answers, whatever the entry is. After `KeepFault` and running out of
@@ -288,7 +288,7 @@ impl Validator {
     /// Lets the member execute what it holds, round after round (Sui Lutris): answers the effects in order, and the
     /// certificates that it left although all that they waited for is executed, and the checkpoints that the run
     /// completes. The certificates are executed by 1 to 16 workers in threads, and the gate is notified of each execution;
-    /// what they come to is the same for any number of workers, whatever the order of their steps. Order of the refusals: `Down`, `Halted`, `Full`, `KeepFault`. The record of a run that executed
+    /// the result is the same for any number of workers and in every interleaving. Order of the refusals: `Down`, `Halted`, `Full`, `KeepFault`. The record of a run that executed
     /// something is appended before the call answers. After `KeepFault` and running out of memory the member is down.
     #[tactic(auto, using(crate::proofs::Running::run_settles, crate::proofs::Running::run_at, crate::proofs::Running::run_due_at, crate::proofs::Running::run_owed_at, crate::proofs::Settling::down_keeps))]
     pub fn run<R: Threads + Sync, D: Keeper, G: Gate + Sync>(

@@ -133,7 +133,7 @@ effects_line (Some e) = effects_text e
 
 -- ---- the state in numbers
 
--- how many of these held certificates are of executed transactions, and so many more
+-- how many of these held certificates are of executed transactions, and this many more
 abbrev pub executed_among : Member → ℕ → List Held → ℕ
 executed_among m count [] = count
 executed_among m count (h ∷ held) = executed_among m (if is_some (executed_digest h.digest m) then count + 1 else count) held

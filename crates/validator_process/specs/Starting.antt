@@ -26,7 +26,7 @@ IsInside stop.WriteFault = ⊥
 IsInside stop.KeepFault = Unit {0}
 IsInside stop.OutOfMemory = Unit {0}
 
--- a schedule without events, or the line that says why there is none, whoever the member is
+-- a schedule without events, or the line that says why there is none, whichever the member is
 abbrev pub ReadsAs : Result Schedule Refused → Result Schedule Unstarted → Type 0
 ReadsAs said (Ok s) = (said ≡ Ok s) × ((length s.events == 0) ≡ true)
 ReadsAs said (Err (unstarted.Refused line)) = (trust : Trust) (m : ℕ) → scene_of trust m said ≡ Err line

@@ -111,7 +111,7 @@ fn lacks_one(opening: &IndexMap<ObjectId, Object>, one: &Assigned) -> bool
     matches!(one.writer, Producer::Opening) && !opening.contains_key(&one.id)
 }
 
-/// Whether one of the assigned objects is lacking.
+/// Whether one of the assigned objects is missing.
 fn lacks_any(opening: &IndexMap<ObjectId, Object>, assigned: &[Assigned]) -> bool
     ensures { result ≡ list_any (lacks_one opening.now.entries) assigned.now }
 {
@@ -161,7 +161,7 @@ fn greatest_assigned(greatest: u64, assigned: &[Assigned]) -> u64
     greatest
 }
 
-/// The version after this one, if it stays below the limit and nothing is lacking.
+/// The version after this one, if it stays below the limit and nothing is missing.
 fn version_within(lacks: bool, greatest: u64) -> Option<u64>
     ensures { result ≡ version_within lacks greatest }
 {

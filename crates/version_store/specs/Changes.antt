@@ -29,7 +29,7 @@ pub record SameEntries (old new : Maps) : Type 0 where
   pub newest : new.newest.entries ≡ old.newest.entries
   pub deleted : new.deleted.keys ≡ old.deleted.keys
 
--- room for an execution that writes, consumes and deletes so many
+-- room for an execution that writes, consumes and deletes this many
 pub record HasRoom (maps : Maps) (written consumed deleted : ℕ) : Type 0 where
   pub for_versions : written ≤ spare maps.versions
   pub for_newest : written ≤ spare maps.newest

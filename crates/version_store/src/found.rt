@@ -24,7 +24,7 @@ fn is_producer(made: &Producer, wanted: &Producer) -> bool
     *made == *wanted
 }
 
-/// The object of this version, if it is an opening object and is to be one.
+/// The object of this version, if it is an opening object, and one is asked for.
 fn found_opening<'a>(
     base: &'a IndexMap<ObjectId, HashedObject>,
     key: &ObjectKey,
@@ -63,8 +63,8 @@ fn found_among<'a>(
 }
 
 impl Store {
-    /// The object of this version, if it is held and this is who made it; none exactly if it is not
-    /// held, or another made it. Takes no memory.
+    /// The object of this version, if it is held and this producer made it; none exactly if it is not
+    /// held, or another producer made it. Takes no memory.
     pub fn found(&self, key: &ObjectKey, producer: &Producer) -> Option<&HashedObject>
         ensures { option_copied result ≡ found (held_in self.now) (wanted_of key.now producer.now) }
     {

@@ -158,7 +158,7 @@ impl Maps {
         }
     }
 
-    /// Makes room for one execution that writes, consumes and deletes so many.
+    /// Makes room for one execution that writes, consumes and deletes this many.
     pub(crate) fn make_room(
         &mut self,
         written: usize,

@@ -45,7 +45,7 @@ module _ {C Q A E S : Type 0} where
       let once = ascending_once place (merged (view one).mine (view other).mine) (subst (λ (v : V). IsAscending v.mine) now look.rises) in
       let both = times-merged place (view one).mine (view other).mine in omega (arith, once, both)
 
-  -- the desk is opened with a clerk of whom nothing was asked
+  -- the desk is opened with a clerk of which nothing was asked
   pub opens_with : (goes : S → E → S → Type 0) (state : C → S) (first : C) (kept : Kept C Q A E S) (before xs : List (Kept C Q A E S)) → before ≡ [] → xs ≡ before ++ kept ∷ [] → kept.entries.items ≡ [] → first ≡ kept.clerk
       → Held (Stands goes state) (state first) (Tables.opening (0 ∷ []) xs (first_view (state first)))
   opens_with goes state first kept before xs none_before is bare same =

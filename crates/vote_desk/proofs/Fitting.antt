@@ -34,7 +34,7 @@ module _ {O E : Type 0} (o : O) (log : List E) where
   pub fit_returning : (v : View O E) → 0 < v.share → IsFit o log v → IsFit o log (returning v)
   fit_returning v has fit = record { same = fit.same; idle = λ z. absurd (omega (arith, z, has)); seen = fit.seen; heard = fit.heard; rises = fit.rises; below = fit.below; knows = λ h. absurd (omega (arith, h)) }
 
-  -- the history goes on, and another pass has the slot no more
+  -- the history goes on, and another pass no longer has the slot
   pub fit_longer : (v : View O E) (entry : E) → v.out ≡ 0 → IsFit o log v → IsFit o (log ++ entry ∷ []) v
   fit_longer v entry calm fit = record { same = fit.same; idle = fit.idle; seen = front_more v.seen log (entry ∷ []) fit.seen; heard = fit.heard; rises = fit.rises; below = fit.below; knows = λ h. absurd (omega (arith, h, calm)) }
 

@@ -40,7 +40,7 @@ abbrev pub AreAnswered : List DeskEntry → Type 0
 AreAnswered entries = Each (λ (e : DeskEntry). vote_ended e.reply ≡ answered) entries
 
 module _ {R D S : Type 0} {k : Keeping D} {z : Sealing S} where
-  -- what is handed out to so many callers: nothing was asked with it yet
+  -- what is handed out to this many callers: nothing was asked with it yet
   pub record IsFresh (crew : Crew R D S k z) (callers : ℕ) (turn : Turn D S k z) : Type 0 where
     pub of : IsOf crew.desk.now turn.pass
     pub wide : callers ≤ share turn.pass
@@ -50,7 +50,7 @@ module _ {R D S : Type 0} {k : Keeping D} {z : Sealing S} where
   abbrev pub Asked : Crew R D S k z → (ℕ → Type 0) → Turn D S k z → Type 0
   Asked crew Due turn = HaveMade Due crew.callers crew.requests.now (asked_in (seen turn.pass)) (mine turn.pass)
 
-  -- what the callers of these numbers, the second excluded, bring back: if none lacked memory, each asked for its requests
+  -- what the callers of these numbers, the second excluded, bring back: if none ran out of memory, each asked for its requests
   pub record HaveAsked (crew : Crew R D S k z) (low high : ℕ) (turn : Turn D S k z) : Type 0 where
     pub of : IsOf crew.desk.now turn.pass
     pub asked : turn.whole ≡ true → Asked crew (IsDue crew.callers low high (length crew.requests.now)) turn

@@ -2,7 +2,7 @@
 use Rattle.std.specs.Prelude.{◌≡◌, ℕ, ◌<◌, ◌≤◌, ◌%◌, List, length, slice_get}
 use Rattle.vote_desk.specs.Counts.{times}
 
--- the calls that were made are the requests, as so many callers make them
+-- the calls that were made are the requests, as this many callers make them
 pub record AreMadeBy {A : Type 0} (callers : ℕ) (requests calls : List A) : Type 0 where
   -- the place at which each request stands among the calls
   pub at : ℕ → ℕ

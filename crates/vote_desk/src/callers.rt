@@ -64,7 +64,7 @@ fn both(one: bool, two: bool) -> bool
     one && two
 }
 
-// Asks for the requests of this caller, in order, up to one for which memory is wanted. Answers whether all were asked for.
+// Asks for the requests of this caller, in order, up to one for which memory is refused. Answers whether all were asked for.
 fn ask_own<R: Wait, D: Keeper + Drop, S: Sealer + Drop>(
     crew: &Crew<'_, R, D, S>,
     pass: &mut DeskPass<D, S>,
@@ -216,7 +216,7 @@ fn lacks_memory(reply: &Result<Voted, VoteRefusal>) -> bool
     }
 }
 
-// Whether memory was wanted in one of the calls.
+// Whether one of the calls ran out of memory.
 fn any_lacks_memory(history: &Seq<DeskEntry>) -> bool
     ensures { result ≡ list_any is_starved_call history.now }
 {

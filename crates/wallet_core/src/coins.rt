@@ -8,7 +8,7 @@ ghost use Rattle.chain_types.specs.declared.objects.Content.TheVariants as conte
 use chain_types::{Address, Content, Object, ObjectId, Owner};
 use digest_core::{address_of, genesis_id};
 
-/// The coin of this number that a first epoch opens with: so many units of currency 0, which pays gas, of the user of this name.
+/// The coin of this number that a first epoch opens with: this many units of currency 0, which pays gas, of the user of this name.
 pub fn coin_of(name: &[u8], number: u64, balance: u64) -> Object
     ensures { result ≡ record { id = record { 0 = genesis_id_of number }; version = 1; owner = owner.Address (record { 0 = address_of_name name.now }); content = content.Coin 0 balance } }
 {

@@ -2,14 +2,14 @@
 
 use std::alloc::Global;
 
-/// A byte so many times.
+/// A byte this many times.
 fn repeated(alloc: Global, byte: &str, count: &str) -> Option<Vec<u8>> {
     let byte = u8::from_str_radix(byte, 16).ok()?;
     let count = count.parse::<usize>().ok()?;
     vec![in alloc; byte; count].ok()
 }
 
-/// The bytes of one word: hexadecimal digits; `09*32`, a byte so many times; `<33`, so many of the bytes that were kept.
+/// The bytes of one word: hexadecimal digits; `09*32`, a byte this many times; `<33`, this many of the bytes that were kept.
 fn piece_of(alloc: Global, word: &str, kept: &[u8]) -> Option<Vec<u8>> {
     if let Some(count) = word.strip_prefix('<') {
         let count = count.parse::<usize>().ok()?;

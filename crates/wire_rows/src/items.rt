@@ -70,7 +70,7 @@ pub(crate) fn read_items(rt: &HostRuntime, words: &str) -> io::Result<()> {
     }
 }
 
-/// Writes a number in so many bytes.
+/// Writes a number in this many bytes.
 fn put_number(writer: &mut Writer, kind: &str, number: u128) -> Result<(), OutOfMemory> {
     match kind {
         "u8" => writer.put_u8((number % (1 << 8)) as u8),

@@ -1,4 +1,4 @@
-//! Reads rows of worked bytes and calls, and writes what each comes to: a line for a line.
+//! Reads rows of worked bytes and calls, and writes the result of each: a line for a line.
 //!
 //! A row begins with a name. After a type come the bytes of a value: the answer is the value and whether it is encoded so
 //! again, or the fault. After a call come its arguments. Empty lines and lines that begin with `#` are written as they are.

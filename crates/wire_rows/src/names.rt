@@ -68,7 +68,7 @@ pub(crate) fn address(rt: &HostRuntime, words: &str) -> io::Result<()> {
     tell_digest(rt, &address_of(words.as_bytes()))
 }
 
-/// Says the digest of the schedule that is made of so many transactions for so many workers.
+/// Says the digest of the schedule that is made of this many transactions for this many workers.
 pub(crate) fn made(rt: &HostRuntime, words: &str) -> io::Result<()> {
     let Some((number, workers)) = pair(words) else {
         return println!(rt; "no numbers");

@@ -12,7 +12,7 @@ use std::alloc::Global;
 use std::io;
 use wire_bcs::{Unread, decode};
 
-/// The numbers of the words; `1*65` is a number so many times.
+/// The numbers of the words; `1*65` is a number this many times.
 fn numbers_of(alloc: Global, words: &str) -> Option<Vec<u32>> {
     let mut numbers = Vec::new(alloc);
     for word in words.split_whitespace() {

@@ -1,4 +1,4 @@
--- What members say that are asked, and state then; the first of them that says something.
+-- What members that are asked say, and state then; the first of them that says something.
 use Rattle.std.proofs.Common.{◌≡◌, ◌∙◌, ap, sym, refl, ℕ, Bool, List, [], ◌∷◌, ◌++◌, map, append-nil, Option, Some, None, option_map, Result}
 use Rattle.std.specs.Prelude.{if◌then◌else◌, option_and_then}
 use Rattle.digest_core.specs.declared.Digest.{Digest}

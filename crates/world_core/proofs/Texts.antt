@@ -198,7 +198,7 @@ run_lines_is trust sc m = go (reached_in (rules_in trust.accepts sc) sc.posts m 
     go (stops kept x) = refl
     go (answers before x) = sym (run_same (bare_setting trust sc) (bare_world sc) m (run_answer (rules_in trust.accepts sc) before))
 
--- ---- the same, of what a call on a scene answers
+-- ---- likewise of what a call on a scene answers
 
 ok_then : {A E : Type 0} (P Q : A → Type 0) (result : Result A E) → ((a : A) → P a → Q a) → IfOk result P → IfOk result Q
 ok_then P Q (Ok a) f p = f a p

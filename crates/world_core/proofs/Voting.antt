@@ -175,7 +175,7 @@ pub spelled_cert : (fs : List Formed) (name : Name) (c : Certificate) → Each I
 spelled_cert fs name c all e = last_spelled fs name c all (sym e)
 
 -- the origins of the first of the members
--- ---- the same in a scene that is seen from inside
+-- ---- likewise in a scene that is seen from inside
 
 abbrev with_certs : Scene → List Formed → Scene
 with_certs sc certs = record sc { certs = certs }

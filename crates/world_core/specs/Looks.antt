@@ -18,7 +18,7 @@ use Rattle.world_spec.specs.Names.{tx_name}
 use Rattle.world_spec.specs.Report.{vote_answered}
 use Rattle.world_spec.specs.World.{Made}
 
--- the checkpoint of this number, counted from 0 over all epochs, that a member built which is honest and up
+-- the checkpoint of this number, counted from 0 over all epochs, that a member that is honest and up built
 abbrev pub checkpoint_at : Option Post → ℕ → Option Checkpoint
 checkpoint_at post number = option_and_then (λ (seat : Seated). slice_get (built seat.state) number) (honest_at post)
 

@@ -10,7 +10,7 @@ use Rattle.scene_spec.specs.Posts.{seat_at}
 use Rattle.world_core.specs.SeatRestarts.{IsJournal}
 use Rattle.world_core.specs.declared.replay.Replayed.{Replayed}
 
--- the member started from its records, which are so many
+-- the member started from its records, which are this many
 pub record IsReplayed (r : Rules) (opening : List Object) (told : Option Journals) (terms : Terms) (m : ℕ) (given : Replayed) : Type 0 where
   pub kept : List (List ℕ)
   pub state : Member

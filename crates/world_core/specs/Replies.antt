@@ -45,7 +45,7 @@ pub record HasAnswered {A : Type 0} (Says : Member → A → Type 0) (what : Rea
   pub is : what ≡ answers before due
   pub says : Says before answer
 
--- the call of a member that is up came to its answer, or to a stop
+-- the call of a member that is up was answered, or stopped
 abbrev pub Met : {A : Type 0} → (Member → A → Type 0) → Reached → Option A → Type 0
 Met Says what None = HasStopped what
 Met Says what (Some answer) = HasAnswered Says what answer

@@ -14,7 +14,7 @@ abbrev pub IsJournal : Option Journals → ℕ → List (List ℕ) → Type 0
 IsJournal None m kept = Unit {0}
 IsJournal (Some lists) m kept = kept ≡ journal_of lists m
 
--- the member started from so many records
+-- the member started from this many records
 pub record HasRestarted (r : Rules) (opening : List Object) (told : Option Journals) (terms : Terms) (m : ℕ) (old new : List Post) (count : ℕ) : Type 0 where
   pub kept : List (List ℕ)
   pub state : Member

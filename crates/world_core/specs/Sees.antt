@@ -36,7 +36,7 @@ abbrev pub LeavesAll : {A E : Type 0} → Option Journals → Option Journals �
 LeavesAll before now m records (Ok a) = AddsAll before now m records
 LeavesAll before now m records (Err e) = AddsFront before now m records
 
--- so many entries are left of those that a member was to be handed: what is still to come of them is what is still to come
+-- this many entries are left of those that a member was to be handed: what is still to come of them is what is still to come
 -- of the whole, after the lines and records so far
 pub record HasSeen (trust : Trust) (m n : ℕ) (old now : Scene) (before told : Option Journals) (lines so_far : List Line) (still : ℕ) : Type 0 where
   pub scene : sees_to (rules_in trust.accepts old) still now m ≡ sees_to (rules_in trust.accepts old) n old m

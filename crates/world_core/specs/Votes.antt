@@ -1,4 +1,4 @@
--- Who may vote falsely.
+-- Which members may vote falsely.
 use Rattle.std.specs.Prelude.{Bool, false, Option, Some, None}
 
 abbrev pub flag_at : Option Bool → Bool

@@ -66,7 +66,7 @@ fn say_ack<S: Sealer>(
     }
 }
 
-/// What a faulty member acknowledges: the digest that the lowest-numbered honest member has that is up and executed the
+/// What a faulty member acknowledges: the digest of the lowest-numbered honest member that is up and executed the
 /// transaction, else zeros.
 fn false_ack(seats: &Seats, made: &MadeTx, spoiled: bool) -> Statement
     ensures { result ≡ false_ack_by seats.now.posts (made_as made.now) spoiled }

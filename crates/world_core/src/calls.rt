@@ -154,7 +154,7 @@ fn tell_run(
     Ok(lines)
 }
 
-/// So many workers, but 1 to 16. A run line that is read has no other number.
+/// This many workers, but 1 to 16. A run line that is read has no other number.
 fn workers_of(number: u32) -> u32
     ensures { (0 < result) × (result ≤ 16) }
 {
@@ -390,7 +390,7 @@ impl World {
         )
     }
 
-    /// The line `run`: lets a member run what it holds, by so many workers.
+    /// The line `run`: lets a member run what it holds, by this many workers.
     #[tactic(auto, unfolding(scene_spec::specs::Steps::steps_to, scene_spec::specs::Steps::lines_in, scene_spec::specs::Steps::work_of), using(crate::proofs::Texts::run_lines_is, crate::proofs::Lines::left_as))]
     fn run<R: Threads + Sync, D: Keeper, S: MakesSeals>(
         &mut self,

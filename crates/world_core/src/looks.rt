@@ -133,7 +133,7 @@ impl World {
         })
     }
 
-    /// The lines of `show` for a member that stands so: its epoch, and its live objects in the order of a report, by the
+    /// The lines of `show` for a member in this state: its epoch, and its live objects in the order of a report, by the
     /// names of the set-up lines and of the `tx` lines that ran.
     pub fn show_lines(&self, member: u32, shown: &Validator) -> Result<Seq<Line>, OutOfMemory>
         ensures { IfOk result (λ lines. lines ≡ show_by self.now.known member (Some shown.now)) }

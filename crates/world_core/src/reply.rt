@@ -1,4 +1,4 @@
-//! What a call on a member comes to.
+//! How a call on a member ends.
 
 /// What became of a call on a member.
 #[derive(Debug, Drop)]
@@ -10,7 +10,7 @@ pub enum Reply<A> {
     Answered(A),
 }
 
-/// Why a call on a member did not come to its end. The member is down.
+/// Why a call on a member was not completed. The member is down.
 #[derive(Clone, Copy, Debug, PartialEq, Eq)]
 pub enum SeatFault {
     /// The record was not kept, and the keeper's count of faults rose.

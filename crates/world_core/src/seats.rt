@@ -388,7 +388,7 @@ impl Seats {
         Ok(Some(answer))
     }
 
-    /// The digest of the effects that the lowest-numbered honest member has of a transaction that is up and executed it
+    /// The digest of a transaction's effects at the lowest-numbered honest member that is up and executed it
     /// in its present epoch; none if none did. Takes no memory.
     pub fn executed_digest(&self, tx: &Digest) -> Option<Digest>
         ensures { result ≡ says_in (executed_digest tx.now) self.now.posts }
@@ -516,7 +516,7 @@ impl HeldDigests for Seats {
     }
 }
 
-/// The digest that the first honest member has that is up and holds the version.
+/// The digest of the version at the first honest member that is up and holds it.
 #[tactic(auto, using(crate::proofs::Holders::held_next, crate::proofs::Holders::held_here))]
 fn digest_in(seats: &[Seat], key: &ObjectKey) -> Option<Digest>
     ensures { result ≡ held_in seats.now key.now }
@@ -531,7 +531,7 @@ fn digest_in(seats: &[Seat], key: &ObjectKey) -> Option<Digest>
     None
 }
 
-/// The digest of the effects that the first honest member has of a transaction that is up and executed it.
+/// The digest of a transaction's effects at the first honest member that is up and executed it.
 #[tactic(auto, using(crate::proofs::Saying::says_next, crate::proofs::Saying::says_here))]
 fn executed_in(seats: &[Seat], tx: &Digest) -> Option<Digest>
     ensures { result ≡ says_in (executed_digest tx.now) seats.now }

@@ -192,7 +192,7 @@ impl World {
         )
     }
 
-    /// Hands a member so many entries, one after the other, up to the first after which nothing goes on: adds their
+    /// Hands a member this many entries, one after the other, up to the first after which nothing goes on: adds their
     /// lines.
     #[tactic(auto, using(crate::proofs::Seeing::seen_none, crate::proofs::Seeing::seen_one, crate::proofs::Seeing::last_scene, crate::proofs::Seeing::last_lines, crate::proofs::Seeing::last_kept, crate::proofs::Seeing::seen_cut, crate::proofs::Seeing::all_scene, crate::proofs::Seeing::all_lines, crate::proofs::Seeing::all_kept))]
     fn see_all<R: Threads + Sync, D: Keeper, S: MakesSeals>(
@@ -257,7 +257,7 @@ impl World {
             .saturating_sub(validator.seen())
     }
 
-    /// The line `see`: hands a member the next entries of its sequence, so many at most.
+    /// The line `see`: hands a member the next entries of its sequence, this many at most.
     #[tactic(auto, unfolding(scene_spec::specs::Steps::steps_to, scene_spec::specs::Steps::lines_in, scene_spec::specs::Steps::work_of), using(crate::proofs::SeeLines::down_world, crate::proofs::SeeLines::down_lines, crate::proofs::SeeLines::down_kept, crate::proofs::SeeLines::halted_world, crate::proofs::SeeLines::halted_lines, crate::proofs::SeeLines::halted_kept, crate::proofs::SeeLines::taken_world, crate::proofs::SeeLines::taken_kept, crate::proofs::SeeLines::taken_cut, crate::proofs::SeeLines::nothing_lines, crate::proofs::SeeLines::taken_lines))]
     pub(crate) fn see<R: Threads + Sync, D: Keeper, S: MakesSeals>(
         &mut self,

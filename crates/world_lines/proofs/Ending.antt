@@ -90,7 +90,7 @@ module _ (r : Rules) (opening : List Object) (epoch : ℕ) where
   among_more : (ends : List MemberSeal) (x : MemberSeal) (m : ℕ) → among (ends ++ x ∷ []) m ≡ (among ends m || is_of m x)
   among_more ends x m = list_any-append (is_of m) ends (x ∷ []) ∙ ap (λ (b : Bool). among ends m || b) (or_false (is_of m x))
 
-  -- ---- a sequence in which so many Ends were read
+  -- ---- a sequence in which this many Ends were read
 
   -- the epoch goes on: the members counted are those of accepted Ends, and are not a quorum
   record IsGoing (q : Sequence) (ends : List MemberSeal) : Type 0 where

@@ -54,7 +54,7 @@ fn end_read(alloc: Global, epoch: u64, bytes: &[u8]) -> Result<Option<MemberSeal
     }
 }
 
-/// The End of this epoch that an entry is to whoever reads its bytes; only the bytes of an End are read here.
+/// The End of this epoch that an entry is to a member that reads its bytes; only the bytes of an End are read here.
 #[tactic(auto, using(crate::proofs::EndTexts::no_end_in_cert, crate::proofs::EndTexts::no_end_in_mark))]
 pub(crate) fn end_of(
     alloc: Global,

@@ -1,4 +1,4 @@
-//! Whether an epoch has ended is said by the Ends among its entries.
+//! Only the Ends among the entries of an epoch say whether it has ended.
 
 ghost use Rattle.std.specs.Prelude.{◌≡◌, ℕ, List, map};
 ghost use Rattle.std.specs.List.{filter_map};
@@ -10,7 +10,7 @@ ghost use Rattle.protocol_spec.specs.Chain.Words.{Each};
 ghost use Rattle.protocol_spec.specs.Member.Sequence.{seen};
 ghost use Rattle.world_lines.specs.Ends.{are_an_end, end_in, ends_read};
 
-/// Whether the entries of a sequence end the epoch is said only by its Ends among them: they do exactly if the
+/// Only the Ends among the entries of a sequence say whether these end the epoch: they do exactly if the
 /// members of accepted Ends are a quorum, each counted once (Sui Lutris). No certificate, no mark, no opening object
 /// and no limit of writers bears on it. What is read of entries that fit, encoded, are the Ends among them.
 #[tactic(auto, using(crate::proofs::Ending::ended_is, crate::proofs::EndTexts::ends_spelled))]

@@ -8,7 +8,7 @@
 //! say what the last votes and acknowledgements of members give. A [`CertBook`] keeps the certificates under the
 //! names for which they were formed, and finds the last of a name by a map. [`certificate`] seals a vote for each
 //! member that is named. An [`OrderBook`] keeps the sequences of the epochs, each entry encoded once, and beside them
-//! the Ends of the open epoch, which alone say whether it has ended. Each answer is the definition's, one equation a
+//! the Ends of the open epoch: only they say whether it has ended. Each answer is the definition's, one equation a
 //! call.
 #![tactic(auto)]
 

@@ -1,4 +1,4 @@
-//! What is said of answers in a world is what is said by what is known in it.
+//! The lines for answers in a world depend only on what is known in it; those for entries depend on the stakes too.
 
 ghost use Rattle.std.specs.Prelude.{◌≡◌, ℕ, Bool, List, Result};
 ghost use Rattle.digest_core.specs.declared.Digest.{Digest};

@@ -63,7 +63,7 @@ fn past_rows(past: &[Seq<OrderedRow>], epoch: u64) -> Option<&Seq<OrderedRow>>
 pub struct OrderBook {
     past: Seq<Seq<OrderedRow>>,
     open: Seq<OrderedRow>,
-    /// The Ends of the open epoch among its entries, each once. They alone say whether it has ended.
+    /// The Ends of the open epoch among its entries, each once. Only they say whether it has ended.
     ends: Vec<MemberSeal>,
     alloc: Global,
 }

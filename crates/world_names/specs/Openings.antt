@@ -1,4 +1,4 @@
--- The set-up, line by line: the stakes, who is honest, and the objects with which epoch 0 opens.
+-- The set-up, line by line: the stakes, which members are honest, and the objects with which epoch 0 opens.
 use Rattle.std.specs.Prelude.{ℕ, Bool, List, [], ◌∷◌, ◌++◌, length, Result, Ok, Err}
 use Rattle.std.specs.List.{list_any}
 use Rattle.chain_types.specs.Equal.{id_eq}

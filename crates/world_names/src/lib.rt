@@ -5,7 +5,7 @@
 //! see the four lists, and each answer is that of the definitions on them. Look-ups are by maps: none scans
 //! what is known. [`Directory::shown_order`] puts objects into the order in which a report shows them.
 //!
-//! [`stakes_of`], [`honest_of`], [`writers_of`] and [`opening_of`] read the set-up lines: the stakes, who is honest, the
+//! [`stakes_of`], [`honest_of`], [`writers_of`] and [`opening_of`] read the set-up lines: the stakes, which members are honest, the
 //! limit of writers, and the objects with which epoch 0 opens.
 //!
 //! [`make`] turns the words of a `tx` line into a signed transaction: the objects are named by a [`Directory`], the

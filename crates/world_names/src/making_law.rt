@@ -1,4 +1,4 @@
-//! The transaction of a line in a world is that by what is known and held in it.
+//! The transaction that a line makes in a world depends only on what is known and held in it.
 
 ghost use Rattle.std.specs.Prelude.{◌≡◌};
 ghost use Rattle.world_spec.specs.Setting.{Setting};

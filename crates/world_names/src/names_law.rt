@@ -1,4 +1,4 @@
-//! Names in a world are those of what is known in it.
+//! Names in a world depend only on what is known in it.
 
 ghost use Rattle.std.specs.Prelude.{◌≡◌, List};
 ghost use Rattle.digest_core.specs.declared.Digest.{Digest};

@@ -1,4 +1,4 @@
-//! What the set-up lines make: the stakes, who is honest, and the opening objects.
+//! What the set-up lines make: the stakes, which members are honest, and the opening objects.
 
 ghost use Rattle.std.specs.Prelude.{◌≡◌, ◌++◌, ◌∷◌, [], IfOk, OnOk, false, fold, map, true};
 ghost use Rattle.world_spec.specs.Setting.{honest_of, objects_from, owned_thing, shared_thing, stakes_of, with_new, writers_of};

@@ -38,7 +38,7 @@ pub record Trust : Type 0 where
   pub seal : Signer → List ℕ → Digest
   pub accepts : Signer → List ℕ → Digest → Bool
 
--- the committee's rules, who is honest, the opening objects, the names of the set-up, and how seals are made
+-- the committee's rules, which members are honest, the opening objects, the names of the set-up, and how seals are made
 pub record Setting : Type 0 where
   pub rules : Rules
   pub honest : List Bool

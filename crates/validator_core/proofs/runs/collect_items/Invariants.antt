@@ -2,7 +2,7 @@ use Rattle.std.proofs.Common.{◌≡◌, [], length}
 use Rattle.validator_core.specs.Steps.{items_after}
 use Rattle.validator_core.proofs.runs.collect_items.Given as goal
 
--- what is left comes to what all come to
+-- what is left gives what all give
 abbrev pub invariant-loop-rest : goal.invariant-loop-rest
 invariant-loop-rest l = items_after l.items l.rest ≡ items_after [] l.effects
 
