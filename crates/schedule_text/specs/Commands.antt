@@ -44,7 +44,7 @@ arg_of word = if bytes_eq word (codes "gas") then Some arg.Gas else place_value 
 abbrev pub comma_parts : List ℕ → List (List ℕ)
 comma_parts inside = slice_split (λ b. b == 44) inside
 
--- likewise, if there may be none
+-- the same, if there may be none
 abbrev pub call_words : List ℕ → List (List ℕ)
 call_words [] = []
 call_words (b ∷ bs) = comma_parts (b ∷ bs)
