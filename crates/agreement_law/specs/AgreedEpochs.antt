@@ -58,7 +58,7 @@ BuiltIsOfThread = (s : Setting) (events : List Event) → IsHonestRun s events �
     → (m : ℕ) (seat : Seat) → slice_get (world_after s events).seats m ≡ Some seat
     → IsFront (built (member_in s seat)) (past_at s (world_after s events).sequences (suc (member_in s seat).epoch))
 
--- so of what two members have built, at whatever two moments and in whatever epochs, the one is a prefix of the other
+-- so of what two members have built, at any two moments and in whatever epochs, the one is a prefix of the other
 abbrev pub OneListOfCheckpoints : Type 0
 OneListOfCheckpoints = (s : Setting) (front back : List Event) → IsHonestRun s (front ++ back) → AreApart s.opening
     → (m n : ℕ) (a b : Seat) → slice_get (world_after s front).seats m ≡ Some a → slice_get (world_after s (front ++ back)).seats n ≡ Some b

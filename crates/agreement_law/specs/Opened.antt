@@ -56,7 +56,7 @@ EveryOpening = (s : Setting) (events : List Event) → IsHonestRun s events → 
     → (m : ℕ) (seat : Seat) → slice_get (world_after s events).seats m ≡ Some seat
     → OpensAsLeft s (world_after s events).sequences (member_in s seat)
 
--- so two members of one epoch opened it with equal objects, at whatever two moments of the run
+-- so two members of one epoch opened it with equal objects, at any two moments of the run
 abbrev pub OpenedAlike : Type 0
 OpenedAlike = (s : Setting) (front back : List Event) → IsHonestRun s (front ++ back) → AreApart s.opening
     → (m n : ℕ) (a b : Seat) → slice_get (world_after s front).seats m ≡ Some a → slice_get (world_after s (front ++ back)).seats n ≡ Some b

@@ -12,7 +12,7 @@ pub fn every_opening()
     ensures { EveryOpening }
 {}
 
-/// So two members of one epoch opened it with equal objects, at whatever two moments of the run.
+/// So two members of one epoch opened it with equal objects, at any two moments of the run.
 pub fn opened_alike()
     ensures { OpenedAlike }
 {}
@@ -36,7 +36,7 @@ pub fn built_is_of_thread()
     ensures { BuiltIsOfThread }
 {}
 
-/// So all members build one list of checkpoints: of what two of them have built, at whatever two moments and in whatever
+/// So all members build one list of checkpoints: of what two of them have built, at any two moments and in whatever
 /// epochs, the one is a prefix of the other. Anyone who follows one honest member never takes a checkpoint back by turning to
 /// another.
 pub fn one_list_of_checkpoints()

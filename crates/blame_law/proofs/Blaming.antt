@@ -33,7 +33,7 @@ kept_has test (x ∷ xs) m h = go (test x) refl h (kept_has test xs m)
 
 -- ---- blame
 
--- two transactions of one epoch that consume one version, and who sealed for both
+-- two transactions of one epoch that consume one version, and the members that sealed for both
 pub record IsDouble (c d : Certificate) (b : DoubleVote) : Type 0 where
   pub epoch : c.tx.epoch ≡ d.tx.epoch
   pub differ : transaction_digest c.tx ≡ transaction_digest d.tx → ⊥

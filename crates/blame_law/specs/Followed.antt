@@ -103,7 +103,7 @@ HonestCheckpointsCanBeFollowed = (s : Setting) (events : List Event) → IsHones
 abbrev pub FollowersStandAtOpenings : Type 0
 FollowersStandAtOpenings = (s : Setting) (events : List Event) → IsHonestRun s events → AreApart s.opening → (m : Member) → IsInRun s events m → StandsAtOpenings s events m
 
--- and of any two members, at whatever two moments
+-- and of any two members, at any two moments
 abbrev pub FollowersOpenAlike : Type 0
 FollowersOpenAlike = (s : Setting) (events : List Event) → IsHonestRun s events → AreApart s.opening → (a b : Member) → IsInRun s events a → IsInRun s events b → IsOpenedAlike s events a b
 

@@ -1,6 +1,6 @@
 //! A member that sealed for two transactions of one epoch that consume one version is faulty, if no seal is forged and no digests
-//! collide; those who sealed two valid certificates of such have more than a third of the stake. A certified chain is made
-//! of what honest members have built, and what a member has built a follower applies.
+//! collide; the members that sealed two valid certificates of such transactions have more than a third of the stake. A
+//! certified chain consists of what honest members have built, and a follower applies what a member has built.
 #![tactic(auto)]
 
 mod chains;

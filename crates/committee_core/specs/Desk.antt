@@ -103,7 +103,7 @@ call_line s w e = line.Vote 0 (tx_name w (digest_read (read_signed e.bytes))) (v
 abbrev pub call_line_by : Known → DeskEntry → Line
 call_line_by k e = vote_line_by k 0 (digest_read (read_signed e.bytes)) (vote_as e.reply)
 
--- it stands two spaces in
+-- the line of a call, after two spaces
 abbrev pub call_text : Line → List ℕ
 call_text l = 32 ∷ 32 ∷ text_of l
 
@@ -128,25 +128,25 @@ none_honest_text = codes "desk: no honest member" ++ 10 ∷ []
 
 -- ---- how it ends if nothing fails: a status, and the bytes that it writes
 
--- one history is written
+-- one history of the callers is written, with status 0
 pub record IsVoted (trust : Trust) (callers : ℕ) (s : Schedule) (status : ℕ) (text : List ℕ) : Type 0 where
   pub entries : List DeskEntry
   pub votes : AreVotes trust callers s entries
   pub nil : status ≡ 0
   pub is : text ≡ desk_text (setting_in trust s) (desk_world trust s) entries
 
--- by whether all lines are `tx`, and whether member 0 is honest
+-- how it ends, by whether all lines are `tx`, and whether member 0 is honest
 abbrev pub EndsBy : Bool → Bool → Trust → ℕ → Schedule → ℕ → List ℕ → Type 0
 EndsBy false honest trust callers s status text = (status ≡ 8) × (text ≡ only_tx_text)
 EndsBy true false trust callers s status text = (status ≡ 8) × (text ≡ none_honest_text)
 EndsBy true true trust callers s status text = IsVoted trust callers s status text
 
--- and a text that is not a schedule is refused
+-- how it ends for any text: one that is not a schedule is refused
 abbrev pub EndsAs : Trust → ℕ → Result Schedule Refused → ℕ → List ℕ → Type 0
 EndsAs trust callers (Ok s) status text = EndsBy (are_txs s) (is_honest (new_world (setting_in trust s)) 0) trust callers s status text
 EndsAs trust callers (Err r) status text = (status ≡ 3) × (text ≡ refusal_text r)
 
--- so it was written
+-- what it ends with was written, all or a part
 pub record IsSaid (trust : Trust) (callers : ℕ) (read : Result Schedule Refused) (Writes : Writing) (status : ℕ) (held held' : Option (List ℕ)) : Type 0 where
   pub said : List ℕ
   pub ends : EndsAs trust callers read status said

@@ -129,7 +129,7 @@ IsVerdictFrom m s (verdict.Equal checkpoints epoch objects) =
 
 -- ---- after the run of a text
 
--- what is true of a member after all lines of a schedule; transactions are known that lines made
+-- what is true of a member after all lines of a schedule; the known transactions are those that lines made
 abbrev pub IsVerdictBehind : Schedule → ℕ → Verdict → Type 0
 IsVerdictBehind s m v =
     let at : Setting = setting_in program_trust s in

@@ -20,7 +20,7 @@ IsRun words = words ≡ codes "run" ∷ []
 unfoldable pub program_trust : Trust
 program_trust = keyed program_secret
 
--- the headline, after each prefix of the lines, whichever of them ran
+-- the headline, after each prefix of the lines, whether or not the run got that far
 abbrev pub HoldsAlong : Schedule → Type 0
 HoldsAlong s = (front rest : List Event) → s.events ≡ front ++ rest → IsPromised (setting_in program_trust s) front
 

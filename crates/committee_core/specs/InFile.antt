@@ -24,7 +24,7 @@ bad_member_text at = codes "journal: bad member at " ++ decimal at ++ 10 ∷ []
 abbrev pub not_empty_text : List ℕ
 not_empty_text = codes "journal: not empty" ++ 10 ∷ []
 
--- the members that a committee has at most
+-- the most members of a committee
 abbrev pub most_members : ℕ
 most_members = 64
 
@@ -32,8 +32,8 @@ most_members = 64
 abbrev pub AreOfMembers : Option History → Type 0
 AreOfMembers told = IfTold told (λ h. bad_member most_members 0 (counted h.now.reads) ≡ None)
 
--- why a journal is refused, with the line that says so: at a place stands the gate of the first record that counts whose member
--- is none of 64; or a record counts, and the words do not replay
+-- why a journal is refused, with the line that says so: the member of some record that counts is not one of 64, and the gate of
+-- the first such record is named; or a record counts, and the words do not replay
 pub data IsRefusedBy (words : List (List ℕ)) (told : Option History) : List ℕ → Type 0 where
   bad_member_at : (at : ℕ) → IfTold told (λ h. bad_member most_members 0 (counted h.now.reads) ≡ Some at) → IsRefusedBy words told (bad_member_text at)
   is_not_empty : names_replay words ≡ false → AreOfMembers told → IfTold told (λ h. counted h.now.reads ≡ [] → ⊥) → IsRefusedBy words told not_empty_text
@@ -86,7 +86,7 @@ pub record EndsOver (command : Option Command) (told' : Option History) (before 
 abbrev pub MayRun : List (List ℕ) → Option History → ℕ → Type 0
 MayRun words told end = (names_replay words ≡ true) ⊎ IfTold told (λ h. records_to h.now.reads end ≡ [])
 
--- one or the other
+-- the records before the gate are refused, or the command ended over the log
 abbrev pub EndsOverLog : List (List ℕ) → Option History → Option History → ℕ → Outside → Outside → ℕ → Type 0
 EndsOverLog words told told' end before now status =
     IsFull words told told' end before now status ⊎ (MayRun words told end × EndsOver (command_in words) told' before now status)

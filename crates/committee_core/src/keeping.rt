@@ -7,7 +7,7 @@ use outside::MemKeeper;
 use std::alloc::Global;
 use wire_bcs::OutOfMemory;
 
-/// The members that a committee has at most.
+/// The most members of a committee.
 pub(crate) const MOST_MEMBERS: u32 = 64;
 
 /// A keeper in memory with an empty list for each of 64 members. It fails at exactly the calls with

@@ -28,7 +28,7 @@ use std::alloc::Global;
 use std::thread::Threads;
 use world_names::MakesSeals;
 
-/// The bytes of a schedule, at most.
+/// The most bytes of a schedule.
 pub const LONGEST_TEXT: u32 = 16_777_216;
 
 /// Writes the line of a refusal, `refused line L cause C`.

@@ -70,7 +70,7 @@ fn changes_of(alloc: Global, store: &Store, ids: &[ObjectId]) -> Result<Seq<Chan
     Ok(changes)
 }
 
-/// Makes the admission that of the epoch that opens with the live objects of this one's store. Time grows with what the
+/// Turns the admission into that of the epoch that opens with the live objects of this one's store. Time grows with what the
 /// epoch wrote and deleted. If memory is refused it is not to be used.
 #[tactic(auto, using(crate::proofs::Renewing::changes_own))]
 pub fn renew(alloc: Global, store: &Store, admission: &mut Admission) -> Result<(), OutOfMemory>

@@ -34,7 +34,7 @@ fn front_ordered(held: &[Held], admission: &Admission) -> usize
     count
 }
 
-/// How many of the first that are held are in the sequence, up to the first that is not, if so many are known to be.
+/// How many of the first that are held are in the sequence, up to the first that is not, if this many are known to be.
 /// Looks only at those after them. Takes no memory.
 #[tactic(auto, using(crate::proofs::Fronts::front_within))]
 pub fn ordered_on(held: &[Held], admission: &Admission, ordered: usize) -> usize

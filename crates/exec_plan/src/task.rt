@@ -28,7 +28,7 @@ pub enum Carry {
     NotRun,
 }
 
-/// What comes of a task, the first that applies.
+/// The outcome of a task: the first that applies.
 #[derive(Debug, Drop)]
 pub enum Outcome {
     /// It was executed.

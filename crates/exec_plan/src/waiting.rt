@@ -37,7 +37,7 @@ pub struct Waiting {
 }
 
 impl Waiting {
-    /// Nothing waits if nothing is held. Takes no memory.
+    /// Nothing held, so nothing waits. Takes no memory.
     #[tactic(auto, using(crate::proofs::Filing::nothing_waits))]
     pub fn new(alloc: Global) -> Waiting
         ensures { (s : Stored) (a : A) → IsWaiting s a [] result }
@@ -77,7 +77,7 @@ impl Waiting {
         }
     }
 
-    /// One more certificate is held, after these.
+    /// Files one more held certificate, after these.
     fn hold_behind(
         &mut self,
         past: &Past<'_>,
@@ -92,7 +92,7 @@ impl Waiting {
         self.file(past, admission, held.len(), new)
     }
 
-    /// One more certificate is held, after these. After a refusal all that waited waits.
+    /// Files one more held certificate, after these. After a refusal, all that waited still waits.
     pub fn hold(
         &mut self,
         store: &Store,

@@ -63,7 +63,7 @@ abbrev pub caught_from : Result State CatchUpRefusal → (State → Result State
 caught_from (Ok s) go = go s
 caught_from (Err refusal) go = Err refusal
 
--- where checkpoints lead that are taken in order, or why the first that is not applied is not
+-- where checkpoints that are taken in order lead, or why the first that is not applied is refused
 abbrev pub caught_up : Known → State → List Checkpoint → Result State CatchUpRefusal
 caught_up known s [] = Ok s
 caught_up known s (c ∷ cs) = caught_from (applied_by known s c) (λ (t : State). caught_up known t cs)
@@ -81,7 +81,7 @@ abbrev pub passed_at : Known → ℕ → State → Option Checkpoint → Result 
 passed_at known epoch s None = Ok s
 passed_at known epoch s (Some c) = if nat_lt c.epoch epoch then applied_by known s c else Ok s
 
--- and 1 then, else 0
+-- how many were applied: 1 then, else 0
 abbrev pub counted_at : ℕ → Option Checkpoint → ℕ
 counted_at epoch None = 0
 counted_at epoch (Some c) = if nat_lt c.epoch epoch then 1 else 0

@@ -41,7 +41,7 @@ settled s front back n seat at = record {
   explained = executions-explained s front n seat at;
 }
 
--- two members of one epoch, at whatever moments of the run
+-- two members of one epoch, at any moments of the run
 pub record ArePeers (s : Setting) (events : List Event) (p q : Member) : Type 0 where
   pub first : IsSettled s events p
   pub second : IsSettled s events q

@@ -23,7 +23,7 @@ pub record StandsIn (checkpoints : List Checkpoint) (epoch : ℕ) (tx effects : 
   pub item : Has checkpoint.items (record { tx = tx; effects = effects })
   pub only : (c : Checkpoint) → Has checkpoints c → c.epoch ≡ epoch → (i : Item) → Has c.items i → i.tx ≡ tx → i.effects ≡ effects
 
--- so it stands in what each member that left the epoch, and so is in a later one, has built, at whatever moment of the run
+-- so it stands in what each member that has left the epoch has built, at any moment of the run; such a member is in a later epoch
 abbrev pub StandsForGood : Setting → List Event → ℕ → Digest → Digest → Type 0
 StandsForGood s events epoch tx effects = (front back : List Event) → events ≡ front ++ back → (m : ℕ) (seat : Seat) → slice_get (world_after s front).seats m ≡ Some seat
     → epoch < (member_in s seat).epoch → StandsIn (built (member_in s seat)) epoch tx effects
@@ -40,14 +40,14 @@ FinalStandsInSchedules = (trust : Trust) (lines : List Setup) (events : List Eve
     → (epoch : ℕ) (tx effects : Digest) (members : List ℕ) → IsFinal (setting_of trust lines) (world_after (setting_of trust lines) events) epoch tx effects members
     → StandsForGood (setting_of trust lines) events epoch tx effects
 
--- every member that has executed the transaction in that epoch has it with these effects, at whatever moment of the run
+-- every member that has executed the transaction in that epoch has it with these effects, at any moment of the run
 abbrev pub FinalIsAgreed : Type 0
 FinalIsAgreed = (s : Setting) (events : List Event) → IsHonestRun s events → AreApart s.opening
     → (epoch : ℕ) (tx effects : Digest) (members : List ℕ) → IsFinal s (world_after s events) epoch tx effects members
     → (front back : List Event) → events ≡ front ++ back → (m : ℕ) (seat : Seat) → slice_get (world_after s front).seats m ≡ Some seat
     → (others : Digest) → HasExecuted epoch tx others (member_in s seat) → others ≡ effects
 
--- no two quorums acknowledged different effects of a transaction, nor in different epochs
+-- no two quorums acknowledged different effects of one transaction, nor one transaction in different epochs
 abbrev pub FinalOnce : Type 0
 FinalOnce = (s : Setting) (events : List Event) → IsHonestRun s events → (tx : Digest)
     → (epoch other : ℕ) (effects others : Digest) (members peers : List ℕ) → IsFinal s (world_after s events) epoch tx effects members → IsFinal s (world_after s events) other tx others peers

@@ -18,7 +18,7 @@ pub fn final_is_agreed()
     ensures { FinalIsAgreed }
 {}
 
-/// No two quorums acknowledged different effects of a transaction, nor in different epochs.
+/// No two quorums acknowledged different effects of one transaction, nor one transaction in different epochs.
 pub fn final_once()
     ensures { FinalOnce }
 {}

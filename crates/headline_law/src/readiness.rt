@@ -112,7 +112,7 @@ pub fn runs_build_all()
     ensures { RunsBuildAll }
 {}
 
-/// So no turn is refused after a run for a certificate that waits: of what a member admitted nothing keeps it in its epoch.
+/// So no turn is refused after a run for a certificate that waits: nothing that a member admitted keeps it in its epoch.
 pub fn no_turn_waits_behind_a_run()
     ensures { NoTurnWaitsBehindARun }
 {}

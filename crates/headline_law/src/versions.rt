@@ -3,7 +3,7 @@ ghost use Rattle.headline_law.specs.Assigned.{AssignedVersionsRise};
 ghost use Rattle.headline_law.specs.Chained.{VersionsAreOneChain};
 
 /// In every sequence the version of a shared object that is assigned to a transaction is above those that were assigned
-/// to the transactions before it that write the object; so each is assigned to one that writes it, at most.
+/// to the transactions before it that write the object; so each is assigned to at most one that writes it.
 pub fn assigned_versions_rise()
     ensures { AssignedVersionsRise }
 {}

@@ -29,6 +29,6 @@ sealed_both c d = filter (is_among (sealers c)) (sealers d)
 abbrev pub blame_for : Certificate → Certificate → ObjectKey → DoubleVote
 blame_for c d key = record { key = key; members = sealed_both c d }
 
--- if two transactions of one epoch consume one version: the version, and who sealed for both
+-- if two transactions of one epoch consume one version: the version, and the members that sealed for both
 abbrev pub blamed : Certificate → Certificate → Option DoubleVote
 blamed c d = if are_rivals c d then option_map (blame_for c d) (shared_key c d) else None

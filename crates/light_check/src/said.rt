@@ -16,7 +16,7 @@ use quorum_core::{Checker, Committee};
 use std::alloc::Global;
 use wire_bcs::{OutOfMemory, Seq};
 
-/// The bytes of an encoded chain, at most.
+/// The most bytes of an encoded chain.
 pub(crate) const LONGEST_CHAIN: u32 = 16_777_216;
 
 /// What is said of the bytes that a source holds.

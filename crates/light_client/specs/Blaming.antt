@@ -17,6 +17,6 @@ rivals (Some both) = Ok both
 abbrev pub blamed_answer : Certificate → Certificate → Result DoubleVote Refusal
 blamed_answer c d = rivals (blamed c d)
 
--- the version that both consume, and who sealed both; the first bytes are read first
+-- the version that both consume, and the members that sealed both; the first bytes are read first
 unfoldable pub blame_answer : List ℕ → List ℕ → Result DoubleVote Refusal
 blame_answer one other = and_then (input certificate one) (λ (c : Certificate). and_then (input certificate other) (λ (d : Certificate). blamed_answer c d))

@@ -7,7 +7,7 @@ use crate::refusal::Refusal;
 use std::alloc::Global;
 use wire_bcs::{Unread, Wire, decode};
 
-/// The bytes of one input, at most.
+/// The most bytes of one input.
 const MOST_BYTES: usize = 16_777_216;
 
 /// The value that the bytes encode, or why they encode none.

@@ -75,7 +75,7 @@ impl LockTable {
         self.locks.get(key).copied()
     }
 
-    /// The first of the keys that another transaction than this holds, and that transaction. Takes no memory.
+    /// The first of the keys that a transaction other than this one holds, and that transaction. Takes no memory.
     pub fn first_other(&self, keys: &[ObjectKey], tx: &Digest) -> Option<(ObjectKey, Digest)>
         ensures { result ≡ other_lock self.now tx.now keys.now }
     {

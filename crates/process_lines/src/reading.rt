@@ -215,7 +215,7 @@ fn parts_of(alloc: Global, byte: u8, text: &[u8]) -> Result<Vec<&[u8]>, OutOfMem
     Ok(text.split(move |b| *b == byte).collect(alloc)?)
 }
 
-/// The request that the line is, without its end.
+/// The request that a line is, read without its end; none if it is not a request.
 #[tactic(auto, unfolding(crate::specs::Requests::request_of))]
 pub fn read_request(alloc: Global, line: &[u8]) -> Result<Option<Request>, OutOfMemory>
     ensures request { IfOk result (λ r. r ≡ request_of line.now) }

@@ -1,4 +1,4 @@
--- With half of the stake faulty two certificates consume one coin; a member that meets both halts, also after a restart.
+-- With half of the stake faulty two certificates consume one coin; a member that meets both halts, even after a restart.
 use Rattle.std.specs.Prelude.{List, [], ◌∷◌, true, false, None, codes}
 use Rattle.schedule_text.specs.declared.words.Setup.{Setup}
 use Rattle.schedule_text.specs.declared.words.Setup.TheVariants as setup

@@ -72,7 +72,7 @@ pub fn kept_votes_are_remembered()
     ensures { KeptVotesAreRemembered }
 {}
 
-/// With half of the stake faulty two certificates consume one coin; a member that meets both halts, also after a restart.
+/// With half of the stake faulty two certificates consume one coin; a member that meets both halts, even after a restart.
 pub fn a_fork_halts()
     ensures { AForkHalts }
 {}
@@ -142,12 +142,12 @@ pub fn blocks_have_limits()
     ensures { BlocksHaveLimits }
 {}
 
-/// What the members keep of a run: the one that executes its vote, the certificate and the run, two their votes, one nothing.
+/// What members keep of a run: the one that executes keeps its vote, the certificate and the run, two their votes, one nothing.
 pub fn journals_are_kept()
     ensures { JournalsAreKept }
 {}
 
-/// A record that is none, or that may not stand there, has its fault and its place.
+/// Bytes that are not a record, and a record that may not stand there, are refused with their fault and their place.
 pub fn bad_records_are_named()
     ensures { BadRecordsAreNamed }
 {}
@@ -172,7 +172,7 @@ pub fn honest_with_a_counter()
     ensures { HonestWithACounter }
 {}
 
-/// And by one through two epochs, whose second spends what the first made.
+/// And by one over two epochs, of which the second spends what the first made.
 pub fn honest_through_two_epochs()
     ensures { HonestThroughTwoEpochs }
 {}

@@ -42,7 +42,7 @@ pub fn steps_of_a_world()
     ensures posts { (trust : Trust) (s : Setting) (w : World) (sc : Scene) → Shows trust s w sc → length sc.posts ≡ length w.seats }
 {}
 
-/// Each line but a restart does to what code keeps of a member what it does to its records, and says the same lines.
+/// Each line but a restart does to what code keeps of a member what it does to its records, and gives the same lines.
 pub fn steps_of_posts()
     ensures steps { (s : Setting) (w : World) (e : Event) → is_restart e ≡ false → reseated (post_of s) (happens s w e) ≡ happens_over (by_posts s.rules) s (reseated (post_of s) w) e }
     ensures lines { (s : Setting) (w : World) (e : Event) → is_restart e ≡ false → lines_of s w e ≡ lines_over (by_posts s.rules) s (reseated (post_of s) w) e }

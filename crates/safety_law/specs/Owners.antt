@@ -105,7 +105,7 @@ handed m s w e = if is_member m (callee e) then asked s w e else []
 abbrev pub all_handed : Setting → List Event → ℕ → List SignedTx
 all_handed s events m = all_of (handed m) s events (new_world s)
 
--- of each certified transaction, some honest member was handed the transaction with a seal of its sender that is
+-- for each certified transaction, some honest member was handed the transaction with a seal of its sender that is
 -- accepted
 abbrev pub SenderHasSigned : Type 0
 SenderHasSigned = (s : Setting) (events : List Event) → IsHonestRun s events → (c : Certificate) → IsFormedOrValid s events c
@@ -162,6 +162,6 @@ NothingIsForged = (s : Setting) (events : List Event) → Each (λ (e : Event). 
 
 -- ---- prefixes
 
--- the assumptions on a run hold of each prefix of its events
+-- the assumptions on a run hold for each prefix of its events
 abbrev pub FrontsAreHonest : Type 0
 FrontsAreHonest = (s : Setting) (front back : List Event) → IsHonestRun s (front ++ back) → IsHonestRun s front

@@ -34,7 +34,7 @@ pub fn one_list_of_origins()
     ensures { OneListOfOrigins }
 {}
 
-/// Of each certified transaction, some honest member was handed the transaction with a seal of its sender that is
+/// For each certified transaction, some honest member was handed the transaction with a seal of its sender that is
 /// accepted.
 pub fn sender_has_signed()
     ensures { SenderHasSigned }
@@ -55,7 +55,7 @@ pub fn nothing_is_forged()
     ensures { NothingIsForged }
 {}
 
-/// The assumptions on a run hold of each prefix of its events.
+/// The assumptions on a run hold for each prefix of its events.
 pub fn fronts_are_honest()
     ensures { FrontsAreHonest }
 {}

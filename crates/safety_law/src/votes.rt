@@ -7,7 +7,7 @@ pub fn every_record_is_due()
     ensures { EveryRecordIsDue }
 {}
 
-/// Of a member's votes of its epoch, two for transactions of different digests consume no common version.
+/// Two votes of a member in its epoch, for transactions of different digests, consume no common version.
 pub fn votes_share_no_version()
     ensures { VotesShareNoVersion }
 {}

@@ -2,7 +2,7 @@
 ghost use Rattle.sequence_law.specs.Kept.{BackedCurrenciesStayBacked, CapsStayInSequence, MoneyMovesInSequence, OnlyGasGoes};
 ghost use Rattle.sequence_law.specs.Untouched.{UntouchedObjectsStay};
 
-/// Sequential execution leaves every object that no transaction of the list names or creates.
+/// Sequential execution leaves every object as it was that no transaction of the list names or creates.
 pub fn untouched_objects_stay()
     ensures { UntouchedObjectsStay }
 {}
@@ -12,12 +12,12 @@ pub fn money_moves_in_sequence()
     ensures { MoneyMovesInSequence }
 {}
 
-/// A currency of which there is as much as its caps say stays so.
+/// If there is as much of a currency as its caps say, there still is.
 pub fn backed_currencies_stay_backed()
     ensures { BackedCurrenciesStayBacked }
 {}
 
-/// Of the currency that pays gas nothing is made, and nothing goes but the gas of the executions.
+/// Of the currency that pays gas nothing is made, and only the gas of the executions goes.
 pub fn only_gas_goes()
     ensures { OnlyGasGoes }
 {}

@@ -81,7 +81,7 @@ impl<D: Keeper> FirstList<D> {
         Some(FirstList { keeper })
     }
 
-    /// The keeper.
+    /// Gives back the keeper.
     pub fn into_keeper(self) -> D
         ensures { result ≡ self }
     {

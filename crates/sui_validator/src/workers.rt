@@ -22,7 +22,7 @@ impl Model for Workers {
 }
 
 impl Workers {
-    /// This many; none if they are not 1 to 16.
+    /// This number of threads; none if it is not 1 to 16.
     pub fn new(count: u32) -> Option<Workers>
         ensures { result ≡ workers_of count }
     {
@@ -32,14 +32,14 @@ impl Workers {
         Some(Workers { count })
     }
 
-    /// One.
+    /// One thread.
     pub fn one() -> Workers
         ensures { result ≡ 1 }
     {
         Workers { count: 1 }
     }
 
-    /// Their number.
+    /// The number of threads.
     pub fn count(&self) -> u32
         ensures value { result ≡ self.now }
         ensures some { 0 < result }

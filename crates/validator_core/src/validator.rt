@@ -341,10 +341,10 @@ impl Validator {
         answer
     }
 
-    /// Asks the member to say End: it is closed, and every transaction of which it holds a certificate is in the part of
-    /// the sequence that it has seen (epoch change of Sui Lutris). Order of the refusals: `Down`, `Halted`, `NotClosed`,
-    /// `Waits` with the first held transaction that is not there; memory is needed only for an End. Nothing is kept and
-    /// nothing changes, so it can be said again. The held certificates are walked once an epoch, after the entries that
+    /// Asks the member to say End: it has to be closed, and every transaction of which it holds a certificate has to be in
+    /// the part of the sequence that it has seen (epoch change of Sui Lutris). Order of the refusals: `Down`, `Halted`,
+    /// `NotClosed`, `Waits` with the first held transaction that is not there; memory is needed only for an End. Nothing
+    /// is kept and nothing changes, so it can be said again. The held certificates are walked once an epoch, after the entries that
     /// let them in, and not here.
     #[tactic(auto, using(crate::proofs::Said::end_at))]
     pub fn end<S: Sealer>(&self, sealer: &S) -> Result<Sealed, EndRefusal>

@@ -119,8 +119,8 @@ impl State {
         }
     }
 
-    /// The vote for the transaction of this digest, whose seal is accepted or not, as said: the one that was given before, or
-    /// a new one. Order of the refusals: `WrongEpoch`, `Closed`, `Invalid`, `Unsealed`, the vote rule's.
+    /// The vote for the transaction of this digest; `sealed` says whether its seal is accepted. It is the one that was given
+    /// before, or a new one. Order of the refusals: `WrongEpoch`, `Closed`, `Invalid`, `Unsealed`, the vote rule's.
     pub fn vote_on(
         &self,
         tx: &Transaction,

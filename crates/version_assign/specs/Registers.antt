@@ -1,4 +1,4 @@
--- How the tables of an admission are kept, and those that say who may be free.
+-- How the tables of an admission are kept, and those that say which certificates may be free.
 use Rattle.version_assign.specs.declared.register.Register.{Register}
 use Rattle.version_assign.specs.Books.{IsKept}
 use Rattle.version_assign.specs.Waiting.{IsFiledIn}

@@ -63,8 +63,8 @@ fn bound_of(writers: Option<u32>)
 }
 
 impl Admission {
-    /// Before the first entry of an epoch that opens with these objects, of which no two have one id. With a limit no
-    /// more transactions than that write an object from one mark to the next.
+    /// The admission before the first entry of an epoch that opens with these objects, of which no two have one id. With
+    /// a limit, no more transactions than that write an object from one mark to the next.
     pub fn new(
         alloc: Global,
         opening: &Seq<Object>,
@@ -100,8 +100,8 @@ impl Admission {
         self.register.book.known.contains(tx)
     }
 
-    /// A certificate's entry, of valid shape and with one origin for each object; its transaction, of this digest, is
-    /// not in the sequence. It waits until its origins are admitted and each object that it writes has fewer writers
+    /// Takes a certificate of valid shape, with one origin for each object; its transaction, of this digest, is not yet
+    /// in the sequence. It waits until its origins are admitted and each object that it writes has fewer writers
     /// since the last mark than the limit; then it is admitted (and its shared inputs are assigned their current
     /// versions, Sui Lutris), or dropped if its version would be 2^62 or more, or if a shared input of no origin
     /// was not shared as the epoch opened. So are, in order of arrival, those that waited for it. A refusal changes
@@ -118,7 +118,7 @@ impl Admission {
         self.register.push(self.alloc, tx, cert)
     }
 
-    /// A Commit mark, after its cut: the writers are counted anew, and what waited for that is admitted or dropped,
+    /// Takes a Commit mark, after its cut: the writers are counted anew, and what waited for that is admitted or dropped,
     /// in order of arrival. A refusal changes nothing.
     pub fn mark(&mut self) -> Result<Taken, OutOfMemory>
         ensures passed { OnOk result (self.new ≡ with_mark self.old) }
@@ -129,7 +129,7 @@ impl Admission {
         self.register.mark(self.alloc)
     }
 
-    /// The transactions admitted since the last cut or mark, which are cut with it. A refusal cuts nothing.
+    /// Cuts the transactions that were admitted since the last cut or mark, and answers them. A refusal cuts nothing.
     pub fn cut(&mut self) -> Result<Seq<Digest>, OutOfMemory>
         ensures txs { IfOk result (λ txs. txs ≡ uncut self.old) }
         ensures ok { OnOk result (self.new ≡ with_cut self.old) }
@@ -205,7 +205,7 @@ impl Admission {
         self.register.clear(self.alloc);
     }
 
-    /// Before the first entry of an epoch that opens with nothing. Takes no memory.
+    /// The admission before the first entry of an epoch that opens with nothing. Takes no memory.
     pub fn empty(alloc: Global, writers: Option<u32>) -> Admission
         ensures { result ≡ opened [] writers }
     {

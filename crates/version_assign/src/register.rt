@@ -1,4 +1,4 @@
-//! The tables of an admission, with those that say who may be free. What can be refused memory comes first, and then
+//! The tables of an admission, with those that say which certificates may be free. What can be refused memory comes first, and then
 //! what cannot.
 
 ghost use Rattle.std.specs.Prelude.{◌≡◌, ◌+◌, ◌≤◌, [], IfOk, OnErr, OnOk, Some, None, false, length, true};

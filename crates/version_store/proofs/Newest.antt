@@ -1,4 +1,4 @@
--- The newest version of each id, the deleted ids, and who consumed a key.
+-- The newest version of each id, the deleted ids, and the transactions that consumed keys.
 use Rattle.std.proofs.Common.{◌≡◌, Bool, true, false, cond, ◌||◌, List, [], ◌∷◌, ◌++◌, Option, Some, None, is_some, map, refl, ap, sym, ◌∙◌, option_map, append_assoc, append-nil, nat_lt}
 use Rattle.std.specs.Prelude.{filter, fold}
 use Rattle.std.specs.List.{list_any}
@@ -84,7 +84,7 @@ deleted_more ids executed x is id =
     ∙ ap (λ b. b || has_id x.gave.effects.deleted id) (is id)
     ∙ sym (any_last (λ (y : Execution). has_id y.gave.effects.deleted id) executed x)
 
--- ---- who consumed a key
+-- ---- the transaction that consumed a key
 
 consumed_one : (tx : Digest) (consumers : List (ObjectKey × Digest)) (k key : ObjectKey)
     → lookup (key_eq key) (with_consumer tx consumers k) ≡ or_else (lookup (key_eq key) consumers) (cond (key_eq key k) (Some tx) None)

@@ -158,7 +158,7 @@ newest_behind kept (v ∷ vs) before live is id = by (stays_of kept v) (λ more 
 abbrev digest_in : Option Execution → Option Digest
 digest_in o = option_map (λ (x : Execution). x.digest) o
 
--- who consumed a key
+-- the transaction that consumed a key
 consumed_behind : (kept : List Digest) (ran : List (Digest × Ran)) (objects : List Object) (before : List Execution) (consumers : List (ObjectKey × Digest))
     → ((key : ObjectKey) → lookup (key_eq key) consumers ≡ digest_in (consumer_of before key))
     → (key : ObjectKey) → lookup (key_eq key) (consumers_staying kept consumers ran) ≡ digest_in (consumer_of (before ++ filter (is_kept kept) (executions ran objects)) key)

@@ -48,8 +48,8 @@ abbrev pub written_in : List (Digest × Ran) → ℕ
 written_in [] = 0
 written_in (e ∷ es) = e.1.written + written_in es
 
--- every version stands under its key, the newest under its id, the deleted ids are marked, and so is who
--- consumed a key; the counts share the objects out among the opening and the executions
+-- every version stands under its key, the newest under its id, the deleted ids are marked, and so is the
+-- transaction that consumed a key; the counts share the objects out among the opening and the executions
 pub record IsKept (opened : ℕ) (maps : Maps) : Type 0 where
   pub versions : maps.versions.entries ≡ map kept_as (held_in (stored opened maps))
   pub newest : (id : ObjectId) → lookup (id_eq id) maps.newest.entries ≡ newest id (held_in (stored opened maps))

@@ -48,7 +48,7 @@ abbrev pub newest_staying : List Digest → List (ObjectId × Object) → List K
 newest_staying kept done [] = done
 newest_staying kept done (k ∷ ks) = newest_staying kept (if stays kept k.producer then with_newer done k.object else done) ks
 
--- who consumed a key, of the kept
+-- for each key, the first of the kept transactions that consumed it
 abbrev pub consumers_staying : List Digest → List (ObjectKey × Digest) → List (Digest × Ran) → List (ObjectKey × Digest)
 consumers_staying kept done [] = done
 consumers_staying kept done (e ∷ es) = consumers_staying kept (if is_among kept e.0 then with_consumers e.0 done e.1.consumed else done) es

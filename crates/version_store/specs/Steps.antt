@@ -29,7 +29,7 @@ with_newer live o = insert_entry id_eq live o.id (newer_of (lookup (id_eq o.id) 
 abbrev pub with_all_newer : List (ObjectId × Object) → List Object → List (ObjectId × Object)
 with_all_newer live objects = fold with_newer live objects
 
--- the first who consumed a key stays
+-- the first transaction that consumed a key stays
 abbrev pub with_consumer : Digest → List (ObjectKey × Digest) → ObjectKey → List (ObjectKey × Digest)
 with_consumer tx consumers key = if is_some (lookup (key_eq key) consumers) then consumers else insert_entry key_eq consumers key tx
 

@@ -13,7 +13,7 @@ use std::sync::Wait;
 use validator_core::Validator;
 use wire_bcs::{OutOfMemory, Seq};
 
-/// Why a desk answers no vote.
+/// Why a desk gives no vote.
 #[derive(Clone, Copy, Debug, PartialEq, Eq)]
 pub enum DeskRefusal {
     /// The member's refusal, which has an entry.
@@ -94,8 +94,8 @@ impl<D: Keeper + Drop, S: Sealer + Drop> Desk<D, S> {
         }
     }
 
-    /// Joins two passes: the longer of what they have seen, of which the shorter is a prefix, both places, of which none
-    /// stands in both, and both shares. Takes no memory.
+    /// Joins two passes: the joint one has seen the longer of what they had seen, of which the shorter is a prefix; it has
+    /// the places of both, of which none stands in both, and the sum of their shares. Takes no memory.
     #[tactic(auto, using(crate::proofs::Benches::same_share, crate::proofs::Benches::same_seen, crate::proofs::Benches::same_mine))]
     pub fn join(&self, one: DeskPass<D, S>, other: DeskPass<D, S>) -> DeskPass<D, S>
         requires one { IsOf self.now one }

@@ -67,8 +67,8 @@ impl<C: Clerk> SerialDesk<C> {
         }
     }
 
-    /// Joins two passes: the longer of what they have seen, of which the shorter is a prefix, both places, of which none
-    /// stands in both, and both shares.
+    /// Joins two passes: the joint one has seen the longer of what they had seen, of which the shorter is a prefix; it has
+    /// the places of both, of which none stands in both, and the sum of their shares.
     pub fn join(&self, one: Pass<C>, other: Pass<C>) -> Pass<C>
         requires one { IsOf C.step C.state self.now one }
         requires other { IsOf C.step C.state self.now other }

@@ -28,7 +28,7 @@ abbrev pub at_place : List Held → Option ℕ → Option Held
 at_place held None = None
 at_place held (Some place) = slice_get held place
 
--- ---- who consumes a version
+-- ---- which transaction consumes a version
 
 -- the first that does stays
 abbrev pub with_holder : Digest → List (ObjectKey × Digest) → ObjectKey → List (ObjectKey × Digest)

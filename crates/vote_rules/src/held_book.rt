@@ -160,7 +160,7 @@ impl HeldBook {
         self.holders.get(key).copied()
     }
 
-    /// The first of these versions that a held transaction consumes, and the first that does. Takes no memory.
+    /// The first of these versions that a held transaction consumes, and the first transaction that does. Takes no memory.
     pub fn fork_with(&self, keys: &[ObjectKey]) -> Option<(ObjectKey, Digest)>
         ensures { result ≡ first_of (meets self.now) keys.now }
     {

@@ -113,7 +113,7 @@ impl World {
     }
 
     /// The line of a `vote` of a member for this transaction, with this reply: the transaction goes by the name of the first
-    /// `tx` line that made it, and by a question mark if none did. The reply is an answer, and no fault of the keeper or
+    /// `tx` line that made it, and by a question mark if none did. The reply is an answer: neither a fault of the keeper nor
     /// running out of memory.
     pub fn vote_line(
         &self,

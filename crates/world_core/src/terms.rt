@@ -29,7 +29,7 @@ impl Model for Terms {
 }
 
 impl Terms {
-    /// These stakes, with this limit. Takes no memory.
+    /// The terms of these stakes and this limit. Takes no memory.
     pub fn new(committee: &Committee, writers: Option<u32>) -> Terms
         ensures { result ≡ record { stakes = committee.now; writers = writers } }
     {

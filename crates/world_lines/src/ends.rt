@@ -110,7 +110,7 @@ fn ended_by<S: Sealer>(
     )
 }
 
-/// Whether these Ends of an epoch end it: their members of whom the seal is accepted are a quorum (Sui Lutris). Checks
+/// Whether these Ends of an epoch end it: the members whose seal on one is accepted are a quorum (Sui Lutris). Checks
 /// each seal once.
 #[tactic(auto, unfolding(crate::specs::Ends::are_an_end, chain_messages::specs::Messages::statement))]
 pub(crate) fn are_an_end<S: Sealer>(

@@ -15,7 +15,7 @@ use std::marker::Model;
 use std::snapshot::Snapshot;
 use wire_bcs::{OutOfMemory, Seq};
 
-/// The bytes of an entry that no record can keep, and more.
+/// In bytes: no record can keep an entry of this length or more.
 const TOO_LONG: u64 = 1 << 31;
 
 /// An entry of a sequence, encoded once for all members. What it is stands only in contracts.
@@ -172,7 +172,7 @@ impl OrderBook {
         }
     }
 
-    /// How many entries an epoch's sequence has; none if the epoch has not come. Takes no memory.
+    /// How many entries an epoch's sequence has; 0 if the epoch has not come. Takes no memory.
     #[tactic(auto, using(crate::proofs::Ordering::many_in))]
     pub fn count(&self, epoch: u64) -> u64
         ensures { result ≡ length (entries_at self.now.sequences epoch) }
