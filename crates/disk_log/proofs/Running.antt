@@ -6,10 +6,10 @@ use Rattle.disk_log.specs.declared.moment.Moment.{Moment}
 use Rattle.disk_log.specs.declared.refusals.LogRefusal.{LogRefusal}
 use Rattle.disk_log.specs.declared.refusals.LogRefusal.TheVariants as log
 use Rattle.disk_log.specs.Disk.{History, moments, AreSeen, EachImage, IsImage, IfTold, LeavesOnly}
-use Rattle.disk_log.specs.Keeping.{AppendCause, Appends, NotOpened, Opened, OpensOnly, counts_behind, end_behind, shut_behind, told_lists}
+use Rattle.disk_log.specs.Keeping.{AppendCause, Appends, NotOpened, Opened, OpensOnly, counts_behind, end_behind, records_behind, shut_behind, told_lists}
 use Rattle.disk_log.specs.Log.{HasOldOrNew}
 use Rattle.disk_log.specs.Records.{Record, counted, journals_of, records_to}
-use Rattle.disk_log.specs.Running.{HasRecords, HoldsLists, Holds, IsRunning, IsUnchanged, LeavesThese, Unchanged, lists_in, run_answer}
+use Rattle.disk_log.specs.Running.{AddsExactly, HasRecords, HoldsLists, Holds, HoldsTo, IsRunning, IsUnchanged, LeavesThese, Unchanged, lists_in, records_on, run_answer}
 use Rattle.disk_log.proofs.Reading.{adds, keeps, kept-as-was}
 use Rattle.disk_log.specs.SeenLaws.{now-seen}
 
@@ -154,6 +154,30 @@ pub lists-on : (old new : Option History) (end end' member : ℕ) (bytes : List 
 lists-on old new end end' member bytes members members' shut result appends shuts same there as-many =
     answered (told_lists old end members) (told_lists new end' members') member bytes result (lists-behind old new end end' member bytes members members' as-many shut result appends shuts same there)
 
+-- ---- the records, in order
+
+answered-on : (records : List Record) (r : Record) (result : Result (Unit {0}) LogRefusal) → records_behind records r result ≡ records_on records r (run_answer result)
+answered-on records r (Ok done) = refl
+answered-on records r (Err log.Shut) = refl
+answered-on records r (Err log.Full) = refl
+answered-on records r (Err log.OutOfMemory) = refl
+answered-on records r (Err log.DiskFault) = refl
+
+shut-exactly : (old new : Option History) (end end' : ℕ) (r : Record) (e : LogRefusal) → new ≡ old → end' ≡ end → AddsExactly old new end end' r (run_answer (Err e))
+shut-exactly None new end end' r e same there = same
+shut-exactly (Some h) new end end' r e same there = (h, same, ap (λ (k : ℕ). records_to h.now.reads k) there ∙ answered-on (records_to h.now.reads end) r (Err e))
+
+open-exactly : (old new : Option History) (end end' member : ℕ) (bytes : List ℕ) (result : Result (Unit {0}) LogRefusal) → Appends old new end member bytes result → end' ≡ end_behind end (length bytes) result → AddsExactly old new end end' (record { member = member; bytes = bytes }) (run_answer result)
+open-exactly None new end end' member bytes result none there = none
+open-exactly (Some h) new end end' member bytes result (n, is, a) there =
+    (n, is, ap (λ (k : ℕ). records_to n.now.reads k) there ∙ a.records ∙ answered-on (records_to h.now.reads end) (record { member = member; bytes = bytes }) result)
+
+pub exactly-on : (old new : Option History) (end end' member : ℕ) (bytes : List ℕ) (shut : Bool) (result : Result (Unit {0}) LogRefusal) → (shut ≡ false → Appends old new end member bytes result) → (result ≡ Err log.Shut) ↔ (shut ≡ true) → (shut ≡ true → new ≡ old) → end' ≡ end_behind end (length bytes) result
+    → AddsExactly old new end end' (record { member = member; bytes = bytes }) (run_answer result)
+exactly-on old new end end' member bytes true (Ok done) appends shuts same there = absurd (let e = shuts.1 refl in cc)
+exactly-on old new end end' member bytes true (Err refusal) appends shuts same there = shut-exactly old new end end' (record { member = member; bytes = bytes }) refusal (same refl) there
+exactly-on old new end end' member bytes false result appends shuts same there = open-exactly old new end end' member bytes result (appends refl) there
+
 pub counts-many : (counts : List ℕ) (member : ℕ) (result : Result (Unit {0}) LogRefusal) (counts' : List ℕ) → counts' ≡ counts_behind counts member result → length counts' ≡ length counts
 counts-many counts member (Ok done) counts' is = ap length is ∙ length-set counts member (get_or counts member 0 + 1)
 counts-many counts member (Err refusal) counts' is = ap length is
@@ -164,3 +188,7 @@ pub held_lists : (told : Option History) (faults end members : ℕ) (shut : Bool
 held_lists None faults end members shut running seen = refl
 held_lists (Some h) faults end members shut running seen =
     (records_to h.now.reads end, refl, record { reads = running.left h.now.reads (now-seen h seen); crash = running.left })
+
+pub held_exactly : (told : Option History) (faults end : ℕ) (shut : Bool) → IsRunning told faults end shut → IfTold told (λ h. AreSeen (moments h)) → IfTold told (HoldsTo faults end)
+held_exactly None faults end shut running seen = tt
+held_exactly (Some h) faults end shut running seen = record { reads = running.left h.now.reads (now-seen h seen); crash = running.left }

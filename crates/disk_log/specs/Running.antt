@@ -47,6 +47,21 @@ pub record IsRunAppend (told told' : Option History) (end end' : ℕ) (shut : Bo
   pub shuts : (answer ≡ Err log.Shut) ↔ (shut ≡ true)
   pub gate : end' ≡ end_behind end (length bytes) answer
 
+-- these records, and at Ok one more
+abbrev pub records_on : List Record → Record → Result (Unit {0}) OutFault → List Record
+records_on records r (Ok done) = records ++ r ∷ []
+records_on records r (Err fault) = records
+
+-- up to the gate stand the records of before, in order, and at Ok this one after them
+abbrev pub AddsExactly : Option History → Option History → ℕ → ℕ → Record → Result (Unit {0}) OutFault → Type 0
+AddsExactly None new end end' r result = new ≡ None
+AddsExactly (Some old) new end end' r result =
+    (h : History) × (new ≡ Some h) × (records_to h.now.reads end' ≡ records_on (records_to old.now.reads end) r result)
+
+-- the records that the disk holds are those up to the gate, in order
+abbrev pub HoldsTo : ℕ → ℕ → History → Type 0
+HoldsTo faults end h = Holds faults (records_to h.now.reads end) h
+
 -- whether no record counts before a gate
 abbrev pub IsEmptyTo : ℕ → Bool → History → Type 0
 IsEmptyTo end empty h = IsTrue empty ↔ (records_to h.now.reads end ≡ [])

@@ -1,12 +1,12 @@
 //! A log as the keeper of a run.
 
-ghost use Rattle.std.specs.Prelude.{◌≡◌, ◌<◌, ◌≤◌, ◌^◌, length, slice_index, IfErr, IfOk};
+ghost use Rattle.std.specs.Prelude.{◌≡◌, ◌<◌, ◌≤◌, ◌^◌, ℕ, length, slice_index, IfErr, IfOk};
 ghost use Rattle.outside.specs.Causes.{KeepCause};
-ghost use Rattle.outside.specs.Lists.{Appended};
+ghost use Rattle.outside.specs.Lists.{Appended, IsRecordAt, KeepsJournals};
 ghost use Rattle.disk_log.specs.Disk.{IfTold};
 ghost use Rattle.disk_log.specs.Keeping.{NotOpened, Opened, told_lists};
 ghost use Rattle.disk_log.specs.Log.{WalkCause};
-ghost use Rattle.disk_log.specs.Running.{HoldsLists, IsEmptyTo, IsRunAppend, Unchanged, lists_in, run_answer};
+ghost use Rattle.disk_log.specs.Running.{AddsExactly, HoldsLists, HoldsTo, IsEmptyTo, IsRunAppend, Unchanged, lists_in, run_answer};
 
 use crate::disk::Disk;
 use crate::log::DiskLog;
@@ -64,6 +64,7 @@ impl<K: Disk> RunLog<K> {
     pub fn into_disk(self) -> K
         ensures disk { result ≡ self.disk }
         ensures holds { HoldsLists (length self.counts) (K.failed self.disk) (K.history self.disk) (told_lists (K.history self.disk) self.end (length self.counts)) }
+        ensures exactly { IfTold (K.history self.disk) (HoldsTo (K.failed self.disk) self.end) }
     {
         let RunLog { log } = self;
         log.into_disk()
@@ -100,6 +101,7 @@ impl<K: Disk> Keeper for RunLog<K> {
         ensures width { length self.new.counts ≡ length self.old.counts }
         ensures cause { KeepCause (K.failed self.old.disk) (K.failed self.new.disk) result }
         ensures kept { IsRunAppend (K.history self.old.disk) (K.history self.new.disk) self.old.end self.new.end self.old.shut member bytes.now result }
+        ensures exactly { AddsExactly (K.history self.old.disk) (K.history self.new.disk) self.old.end self.new.end (record { member = member; bytes = bytes.now }) result }
     {
         let answer = self.log.append_record(member, bytes);
         passed(answer)
@@ -117,7 +119,17 @@ impl<K: Disk> Keeper for RunLog<K> {
         self.log.count(member)
     }
 
-    fn read(&mut self, member: u32, place: u64) -> Result<Seq<u8>, OutFault> {
+    fn read(&mut self, member: u32, place: u64) -> Result<Seq<u8>, OutFault>
+        requires known { member < length self.old.counts }
+        requires place { place < slice_index self.old.counts member }
+        ensures record { IfOk result (IsRecordAt (told_lists (K.history self.old.disk) self.old.end (length self.old.counts)) member place) }
+        ensures lists { KeepsJournals (told_lists (K.history self.old.disk) self.old.end (length self.old.counts)) (told_lists (K.history self.new.disk) self.new.end (length self.new.counts)) }
+        ensures sizes { (m : ℕ) → slice_index self.new.counts m ≡ slice_index self.old.counts m }
+        ensures width { length self.new.counts ≡ length self.old.counts }
+        ensures cause { KeepCause (K.failed self.old.disk) (K.failed self.new.disk) result }
+        ensures history { K.history self.new.disk ≡ K.history self.old.disk }
+        ensures end { self.new.end ≡ self.old.end }
+    {
         self.log.read(member, place)
     }
 }
