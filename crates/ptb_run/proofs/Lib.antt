@@ -12,6 +12,7 @@ pub mod Merging
 pub mod Given
 pub mod Stepping
 pub mod Drawing
+pub mod Keeping
 pub mod Openings
 pub mod Unused
 pub mod WrittenPlaces

@@ -8,6 +8,7 @@ pub mod Takes
 pub mod Causes
 pub mod Outcomes
 pub mod Rows
+pub mod Drawn
 pub mod Opening
 pub mod Ends
 pub mod Written

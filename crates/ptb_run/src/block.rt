@@ -9,8 +9,10 @@ ghost use Rattle.ptb_run.specs.Blocks.{block_of, rows_of, with_row};
 ghost use Rattle.ptb_run.specs.Rows.{placed_after};
 ghost use Rattle.protocol_spec.specs.Block.Commands as commands;
 ghost use Rattle.ptb_run.specs.Gathering.{items_after, numbers_after};
+ghost use Rattle.ptb_run.specs.Drawn.{AreDrawn, new_ids};
 ghost use Rattle.ptb_run.specs.Takes.{is_taken, value_given};
 
+use crate::drawn::DrawnIds;
 use crate::slots::Slots;
 use crate::value::{Value, spot_of};
 use answer_types::{Given, Item, Placed};
@@ -19,12 +21,14 @@ use digest_core::Digest;
 use std::alloc::Global;
 use wire_bcs::{OutOfMemory, Seq};
 
-/// The places, the objects that left the block to an owner, and the number of the next creation.
+/// The places, the objects that left the block to an owner, the number of the next creation, and the ids that were
+/// drawn.
 #[derive(Debug, Drop)]
 pub(crate) struct Block {
     pub(crate) slots: Slots,
     pub(crate) placed: Seq<Placed>,
     pub(crate) made: u32,
+    pub(crate) drawn: DrawnIds,
 }
 
 impl Block {
@@ -225,6 +229,25 @@ impl Block {
         ensures rows { rows_of self.new ≡ rows_of self.old }
     {
         self.made = made;
+    }
+
+    /// The number of the next creation is now this one, after a native that gave these results.
+    #[tactic(auto, unfolding(crate::specs::Blocks::block_of, crate::specs::Blocks::rows_of))]
+    pub(crate) fn draw_results(
+        &mut self,
+        tx: &Digest,
+        before: u32,
+        made: u32,
+        results: &[Item],
+    ) -> Result<(), OutOfMemory>
+        requires room { before < 2147483136 }
+        requires drawn { AreDrawn tx.now before (new_ids before made results.now) }
+        ensures after { OnOk result (block_of self.new ≡ record (block_of self.old) { made = made }) }
+        ensures rows { rows_of self.new ≡ rows_of self.old }
+    {
+        self.drawn.keep_results(tx, before, made, results)?;
+        self.made = made;
+        Ok(())
     }
 
     /// Objects leave the block to an owner.

@@ -7,6 +7,7 @@ ghost use Rattle.protocol_spec.specs.Block.Block.{value_in};
 ghost use Rattle.protocol_spec.specs.Block.Commands as commands;
 ghost use Rattle.native_calls.specs.Forms.{have_forms};
 ghost use Rattle.ptb_run.specs.Blocks.{block_of, rows_of};
+ghost use Rattle.ptb_run.specs.Drawn.{AreDrawn, new_ids};
 ghost use Rattle.ptb_run.specs.Needs.{need_meant, wanted_of};
 ghost use Rattle.ptb_run.specs.Outcomes.{Steps};
 ghost use Rattle.ptb_run.specs.Rows.{items_row_after};
@@ -112,12 +113,16 @@ fn items_row(alloc: Global, items: &[Item]) -> Result<Seq<Option<Value>>, OutOfM
 fn take_in(
     alloc: Global,
     block: &mut Block,
+    site: &Site,
+    before: u32,
     wanted: &[Wanted],
     results: &[Item],
     changed: Option<Item>,
     placed: Option<Placed>,
     made: u32,
 ) -> Result<(), OutOfMemory>
+    requires room { before < 2147483136 }
+    requires drawn { AreDrawn site.now.tx before (new_ids before made results.now) }
     ensures after { OnOk result (block_of block.new ≡ commands.called_block (rows_of block.old) (block_of block.old) (map wanted_of wanted.now) results.now changed placed made) }
     ensures rows { OnOk result (rows_of block.new ≡ rows_of block.old + 1) }
 {
@@ -125,12 +130,13 @@ fn take_in(
     spend_taken(block, wanted);
     put_changed(block, wanted, changed);
     block.leave(placed)?;
-    block.set_made(made);
+    block.draw_results(&site.tx, before, made, results)?;
     block.add_results(row)?;
     Ok(())
 }
 
 /// Calls a native on arguments that may be taken.
+#[tactic(auto, using(crate::proofs::Drawing::results_drawn))]
 pub(crate) fn call_native(
     alloc: Global,
     block: &mut Block,
@@ -146,7 +152,8 @@ pub(crate) fn call_native(
     ensures rows { OnOk result (rows_of block.new ≡ rows_of block.old + 1) }
 {
     let givens = give_all(alloc, block, wanted)?;
-    match call(alloc, native, &site.tx, site.version, block.made(), givens)? {
+    let before = block.made();
+    match call(alloc, native, &site.tx, site.version, before, givens)? {
         Gave::Abort(code) => Err(Halt::Fault(Fault::Abort(code))),
         Gave::Done {
             results,
@@ -157,6 +164,8 @@ pub(crate) fn call_native(
             take_in(
                 alloc,
                 block,
+                site,
+                before,
                 wanted,
                 results.as_slice(),
                 changed,

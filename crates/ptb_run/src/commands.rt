@@ -11,11 +11,12 @@ ghost use Rattle.ptb_run.specs.Rows.{coins_after};
 ghost use Rattle.ptb_run.specs.Takes.{is_taken};
 
 use crate::block::Block;
+use crate::drawn::DrawnIds;
 use crate::halt::{Fault, Halt};
 use crate::value::Value;
 use answer_types::Item;
-use chain_types::{Argument, Content, Kind, ObjectId, Owner, Transaction};
-use digest_core::{Digest, created_id};
+use chain_types::{Argument, Content, Kind, Owner, Transaction};
+use digest_core::Digest;
 use native_calls::contents::{amount_of, currency_of, holding};
 use std::alloc::Global;
 use wire_bcs::{OutOfMemory, Seq};
@@ -61,6 +62,7 @@ fn any_other_currency(target: &Item, sources: &[Item]) -> bool
 /// New coins of the currency, one for each amount, gathered one after the other.
 fn new_coins(
     alloc: Global,
+    drawn: &mut DrawnIds,
     tx: &Digest,
     made: u32,
     currency: u64,
@@ -74,8 +76,9 @@ fn new_coins(
     let mut ahead = 0;
     let mut rest = amounts;
     while let [amount, after @ ..] = rest {
+        let id = drawn.draw(tx, made + ahead)?;
         row.push(Some(Value::Object(Item {
-            id: ObjectId(created_id(tx, u64::from(made + ahead))),
+            id,
             content: Content::Coin {
                 currency,
                 balance: *amount,
@@ -125,7 +128,14 @@ fn split_coin(
     ensures rows { OnOk result (rows_of block.new ≡ rows_of block.old + 1) }
 {
     let made = block.made();
-    let row = new_coins(alloc, &site.tx, made, currency_of(&item.content), amounts)?;
+    let row = new_coins(
+        alloc,
+        &mut block.drawn,
+        &site.tx,
+        made,
+        currency_of(&item.content),
+        amounts,
+    )?;
     block.put_back(coin, holding(left, item));
     block.set_made(made + amounts.len() as u32);
     block.add_results(row)?;

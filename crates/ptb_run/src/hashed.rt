@@ -45,6 +45,15 @@ impl HashedExecuted {
     {
         &self.objects
     }
+
+    /// The effects and the objects. Takes no memory.
+    pub fn into_parts(self) -> (HashedEffects, Seq<HashedObject>)
+        ensures effects { result.0 ≡ self.effects }
+        ensures objects { result.1 ≡ self.objects }
+    {
+        let HashedExecuted { effects, objects } = self;
+        (effects, objects)
+    }
 }
 
 /// The objects, each with the digest that the effects list.

@@ -12,6 +12,7 @@ mod calls;
 mod causes;
 mod commands;
 mod digested;
+mod drawn;
 mod execution;
 mod fitting;
 mod halt;

@@ -6,10 +6,12 @@ ghost use Rattle.ptb_run.specs.Blocks.{block_of, rows_of};
 ghost use Rattle.ptb_run.specs.Opening.{cells_after};
 
 use crate::block::Block;
+use crate::drawn::DrawnIds;
 use crate::slots::Slots;
 use crate::value::Value;
 use answer_types::Item;
 use chain_types::{Input, Object, Transaction};
+use digest_core::Digest;
 use native_calls::contents::{amount_of, with_amount};
 use std::alloc::Global;
 use wire_bcs::{OutOfMemory, Seq};
@@ -66,11 +68,12 @@ fn input_cells(
     Ok(cells)
 }
 
-/// The block before the first command, on its gas coin and the objects of its inputs.
+/// The block before the first command, on its gas coin and the objects of its inputs; `digest` is the transaction's.
 #[tactic(auto, using(crate::proofs::Openings::opened, crate::proofs::Openings::no_rows))]
 pub(crate) fn first_block(
     alloc: Global,
     tx: &Transaction,
+    digest: &Digest,
     gas: &Object,
     others: &[Object],
 ) -> Result<Block, OutOfMemory>
@@ -86,5 +89,6 @@ pub(crate) fn first_block(
         },
         placed: Seq::new(alloc),
         made: 0,
+        drawn: DrawnIds::new(alloc, digest),
     })
 }

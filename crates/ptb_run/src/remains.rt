@@ -8,11 +8,11 @@ ghost use Rattle.ptb_run.specs.Remains.{created_below, gone_after, kept_after, l
 
 use crate::block::Block;
 use crate::commands::Site;
+use crate::drawn::DrawnIds;
 use crate::left::{moved_now, object_left};
 use crate::written::Moved;
 use answer_types::Placed;
 use chain_types::{Object, ObjectId, Transaction, object_digest};
-use digest_core::created_id;
 use effects_core::Written;
 use indexmap::IndexMap;
 use native_calls::contents::{amount_of, with_amount};
@@ -66,6 +66,7 @@ fn create_each(
     alloc: Global,
     site: &Site,
     left: &IndexMap<ObjectId, Placed>,
+    drawn: &DrawnIds,
     made: u32,
 ) -> Result<Seq<Object>, OutOfMemory>
     ensures { IfOk result (λ objects. objects ≡ created_below site.now.tx site.now.version left.now.entries made) }
@@ -73,7 +74,7 @@ fn create_each(
     let mut objects = Seq::new(alloc);
     let mut number = 0;
     while number < made {
-        let id = ObjectId(created_id(&site.tx, u64::from(number)));
+        let id = drawn.id_of(&site.tx, number);
         if let Some(object) = object_left(site.version, left, &id) {
             objects.push(object)?;
         }
@@ -219,7 +220,7 @@ pub(crate) fn done_objects(
 {
     let mut objects = keep_each(alloc, site.version, left, block, moved)?;
     return_rest(tx, &mut objects);
-    let created = create_each(alloc, site, left, block.made())?;
+    let created = create_each(alloc, site, left, &block.drawn, block.made())?;
     objects.extend(created.as_slice())?;
     Ok(objects)
 }

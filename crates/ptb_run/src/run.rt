@@ -87,7 +87,7 @@ pub(crate) fn outcome(
     requires version { site.now.version ≡ version_of (gas.now ∷ others.now) }
     ensures { Ends result (outcome tx.now site.now.tx (gas.now ∷ others.now)) }
 {
-    let mut block = first_block(alloc, tx, gas, others)?;
+    let mut block = first_block(alloc, tx, &site.tx, gas, others)?;
     run_commands(alloc, &mut block, tx, site, tx.commands.as_slice())?;
     if block.any_unused() {
         return Err(Failed::At {

@@ -3,6 +3,7 @@ use Rattle.ptb_run.proofs.Leaving.{split_is}
 use Rattle.ptb_run.proofs.commands.split_coin.Goals as goal
 
 pub returns-clause-after : goal.returns-clause-after
+unfolding block_of rows_of
 returns-clause-after c =
     split_is c.args.site.now.tx c.args.site.now.version (rows_of c.args.block.now) (block_of c.args.block.now) (block_of c.put_back.new.self) (block_of c.set_made.new.self) (block_of c.add_results.new.self)
     c.args.coin.now c.args.item.now c.args.left c.args.amounts.now c.in_ok-row.row
