@@ -189,7 +189,7 @@ merge_draws t b d target (Some item) sources e = go (first_some (commands.merge_
 call_draws : (s : Site) (c : ℕ) (b d : block.Block) (needs : List (Argument × commands.Need)) (g : Gave) → s.made ≡ b.made → Draws s g → commands.called c b needs g ≡ Ok d → d.made ≤ b.made + 512
 call_draws s c b d needs (gave.Abort code) at few e = absurd (cc)
 call_draws s c b d needs (gave.Done results changed left made) at few e =
-    let low : left ≤ s.made + 2 = few.0 in
+    let low : made ≤ s.made + 2 = few.0 in
     let same = ap (λ (x : block.Block). x.made) (is_done (commands.called_block c b needs results changed left made) d e) in omega arith
 
 does_draw : (t : Transaction) (tx : Digest) (version n : ℕ) (b d : block.Block) (x : Command) → length (arguments_of x) ≤ 512 → commands.performed t tx version n b x ≡ Ok d → d.made ≤ b.made + 512

@@ -111,6 +111,25 @@ fn left_of(coin: &Item, amounts: &[u64]) -> Option<u64>
     }
 }
 
+/// New coins of the currency, one for each amount, under ids that the block draws.
+#[tactic(auto, unfolding(crate::specs::Blocks::block_of, crate::specs::Blocks::rows_of))]
+fn draw_coins(
+    alloc: Global,
+    block: &mut Block,
+    tx: &Digest,
+    made: u32,
+    currency: u64,
+    amounts: &[u64],
+) -> Result<Seq<Option<Value>>, OutOfMemory>
+    requires few { length amounts.now ≤ 512 }
+    requires room { made < 2147483648 }
+    ensures row { IfOk result (λ row. row ≡ coins_after tx.now made currency [] 0 amounts.now) }
+    ensures same { block_of block.new ≡ block_of block.old }
+    ensures rows { rows_of block.new ≡ rows_of block.old }
+{
+    new_coins(alloc, &mut block.drawn, tx, made, currency, amounts)
+}
+
 /// Splits a coin of which so much is left.
 fn split_coin(
     alloc: Global,
@@ -128,9 +147,9 @@ fn split_coin(
     ensures rows { OnOk result (rows_of block.new ≡ rows_of block.old + 1) }
 {
     let made = block.made();
-    let row = new_coins(
+    let row = draw_coins(
         alloc,
-        &mut block.drawn,
+        block,
         &site.tx,
         made,
         currency_of(&item.content),
