@@ -77,7 +77,7 @@ class Build:
                 shutil.rmtree(room, ignore_errors=True)
 
     def try_in(self, room):
-        """Runs a try on empty cases, and takes the program that it makes."""
+        """Runs a try on empty cases, and keeps the program that it makes."""
         for part in ("cases", "tmp", "links"):
             os.makedirs(f"{room}/{part}")
         for case in range(CASES):
@@ -86,15 +86,13 @@ class Build:
             how = {"stdin": subprocess.DEVNULL, "stdout": log, "stderr": log, "env": {**os.environ, "TMPDIR": f"{room}/tmp"}}
             words = ["rt", "try", "--cases", f"{room}/cases"]
             tried = subprocess.Popen(words, cwd=f"{self.top}/crates/{self.name}", preexec_fn=dies_with_parent(signal.SIGTERM), **how)
-            taken = watched(tried, f"{room}/tmp", f"{room}/links")
-        ended = re.findall(r"(?m)^case=\d+ run=ended status=(\d+)", said_in(self.log))
-        if not ended:
-            return NOT_BUILT
-        good = [it for it in taken if answers_alike(it, int(ended[0]))]
-        if not good:
+            good = watched(tried, f"{room}/tmp", f"{room}/links", self.log)
+        if good is None:
+            if not statuses_in(self.log):
+                return NOT_BUILT
             self.write_note("no program")
             return NOT_KEPT
-        os.replace(good[-1], self.program)
+        os.replace(good, self.program)
         self.write_note(f"program {sum_of_file(self.program)}")
         forget_old(self.name)
         return KEPT
@@ -105,21 +103,46 @@ def said_in(path):
         return it.read()
 
 
-def watched(tried, below, links):
-    """Waits until the try has ended, and links each program that stands below its folder meanwhile. Answers the links, oldest first."""
-    taken, seen = [], set()
-    while tried.poll() is None:
+def statuses_in(log):
+    """The statuses of the cases that have ended, by the log of a try."""
+    return re.findall(r"(?m)^case=\d+ run=ended status=(\d+)", said_in(log))
+
+
+def watched(tried, below, links, log):
+    """Links each program that stands below the folder of a try, and answers the first link that ends as a case of the try did; none if
+    there is none. With the program at hand the try is ended: the cases that are left would show nothing more.
+
+    A program counts as whole once a case has ended after it was linked, or the try has."""
+    taken, seen, young, odd = [], set(), [], []
+    while True:
+        over, ended = tried.poll() is not None, statuses_in(log)
+        ripe = [it for it, since in young if over or len(ended) > since] + (odd if over else [])
+        good = next((it for it in ripe if ended and answers_alike(it, int(ended[0]))), None)
+        if good or over:
+            end(tried)
+            return good
+        odd, young = odd + ripe, [it for it in young if it[0] not in ripe]
         for path in glob.glob(f"{below}/*/*/program") + glob.glob(f"{below}/*/program"):
             try:
                 which = os.stat(path).st_ino
                 if which not in seen:
                     os.link(path, f"{links}/{len(taken)}")
                     taken.append(f"{links}/{len(taken)}")
+                    young.append((taken[-1], len(ended)))
                     seen.add(os.stat(taken[-1]).st_ino)
             except OSError:
                 continue
         time.sleep(PAUSE)
-    return taken
+
+
+def end(tried):
+    """Ends a try, which removes what it has below its folder."""
+    tried.terminate()
+    try:
+        tried.wait(timeout=20)
+    except subprocess.TimeoutExpired:
+        tried.kill()
+        tried.wait()
 
 
 def answers_alike(program, status):

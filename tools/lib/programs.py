@@ -5,8 +5,10 @@ now. `note` writes that note, for those who have just proved and built it.
 """
 
 import concurrent.futures
+import errno
 import os
 import re
+import shutil
 import subprocess
 import tempfile
 
@@ -70,6 +72,8 @@ class Program:
 
     def answers(self, cases):
         """The status and the output of each case, by its name. A case is a name, its words and its text."""
+        if not shutil.which(self.words[0]):
+            raise FileNotFoundError(errno.ENOENT, "there is no such program", self.words[0])
         with concurrent.futures.ThreadPoolExecutor(len(os.sched_getaffinity(0))) as pool:
             found = pool.map(lambda case: self.answer(*case[1:]), cases)
             return dict(zip([name for name, *_ in cases], found))

@@ -74,7 +74,7 @@ def read(schedule, report):
     setup, events = [it for it in found if it.is_setup], [it for it in found if not it.is_setup]
     at = -1
     for line in report.splitlines():
-        if not line.startswith("  ") and not (at >= 0 and is_of(events[at], line)):
+        if not line.startswith("  ") and not (0 <= at < len(events) and is_of(events[at], line)):
             at += 1
         if 0 <= at < len(events):
             events[at].said.append(line)
