@@ -54,7 +54,7 @@ def files_of(crate, top=TOP):
     found = []
     for part in PARTS:
         for at, _, names in os.walk(f"{top}/crates/{crate}/{part}"):
-            found += [os.path.relpath(f"{at}/{name}", top) for name in names]
+            found += [f"{at}/{name}"[len(top) + 1 :] for name in names]
     return sorted(found)
 
 
