@@ -229,6 +229,30 @@ def shapes():
     write("shapes/order-of-faults", lines, "Each pair of faults of a shape that a line can bring about: the lesser number is told.", "shape.least shape.1 shape.2 shape.3 shape.4 shape.5 shape.6 shape.7 shape.8 shape.10")
 
 
+# So many references of one object have more bytes than a transaction may have; a reference is 73 bytes.
+MANY_BYTES = ["o:g@1"] * 1800
+
+
+def bytes_first():
+    """A transaction of too many bytes with each other fault of a shape that a line can have: too many inputs, and one object twice, are in all."""
+    lines = ["member 1 honest", "coin g alice 1000000"]
+    tails = {"other_2": [], **{f"other_{it}": SHAPE_FAULTS[it]["commands"] for it in (3, 6, 7, 8, 12)}}
+    for name, commands in tails.items():
+        lines += [f"tx {name} alice 0 g@1 900000 {' '.join([*MANY_BYTES, *commands])}", f"vote 0 {name}"]
+    write("shapes/bytes-before-all", lines, "Too many bytes, and each other fault that a line can have beside them: the bytes are told.", "shape.1 shape.least")
+
+
+def shapes_of_certificates():
+    """A faulty quorum certifies what nobody should vote for: the shape is told of the certificate as well."""
+    lines = ["member 1 honest", "member 9 faulty", "coin g0 alice 1000000", "coin g alice 1000000", "coin own alice 5", "coin ice alice 5"]
+    made = {f"shape_{it}": shape_line(f"shape_{it}", [it]) for it in SHAPE_FAULTS}
+    made["shape_2"] = "tx shape_2 alice 0 g0@1 900000 n:0"
+    made["shape_1"] = f"tx shape_1 alice 0 g@1 900000 {' '.join(MANY_BYTES)} freeze(gas)"
+    for name, line in made.items():
+        lines += [line, f"fvote 1 {name}", f"cert {name} 1", f"send 0 {name}"]
+    write("certificates/each-fault-of-a-shape", lines, "Certificates of transactions with each fault of a shape that a line can have, formed by a faulty quorum: none is held.", "send.shape " + " ".join(f"shape.{it}" for it in sorted({1, 2, *SHAPE_FAULTS})))
+
+
 def native_that_is_none():
     """A native above 13, which only bytes can have, beside each other fault of a shape."""
     native = ("call", 14, ())
@@ -588,6 +612,8 @@ def main():
     left_to_right()
     native_codes()
     native_that_is_none()
+    bytes_first()
+    shapes_of_certificates()
     calls()
     return 0
 
