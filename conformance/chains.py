@@ -9,8 +9,11 @@ usage: conformance/chains.py --write   writes the cases
 import hashlib
 import os
 import sys
+from itertools import combinations
 
 HERE = os.path.dirname(os.path.abspath(__file__))
+EQUAL = "1,1,1,1"
+GREATEST = ",".join(["4294967295"] * 64)
 SECRET = b"\x5a" * 32
 TX = b"\x11" * 32
 EFFECTS = b"\x22" * 32
@@ -67,8 +70,84 @@ def bad(place, cause, links, why):
     return chain(links), f"refused link {place} cause {cause}", 8, why
 
 
+# The causes in their order, each with what a first link has in its place.
+CAUSES = {"number": ("place", 1), "parent": ("parent", OTHER), "epoch": ("epoch", 1), "order": ("members", (0, 2, 1)), "stake": ("members", (0, 1)), "seal": ("of", OTHER)}
+UNORDERED_AND_FEW = (1, 0)
+
+
+def spoiled(*causes):
+    """A first link to which all these causes apply."""
+    made = {"epoch": 0, "place": 0, "parent": ZERO, "members": (0, 1, 2), "of": None}
+    made.update(CAUSES[it] for it in causes)
+    if {"order", "stake"} <= set(causes):
+        made["members"] = UNORDERED_AND_FEW
+    at = made["epoch"], made["place"]
+    spelled = checkpoint(*at, made["parent"])
+    of = digest(spelled)
+    return spelled + sealed(made["members"], *at, made["of"] or of), of
+
+
+def pairs():
+    """Of each two causes the first is named."""
+    names = {it: "order of the members" if it == "order" else it for it in CAUSES}
+    for one, other in combinations(CAUSES, 2):
+        said = f"The {names[one]} and the {names[other]} are at fault: the {names[one]} is named."
+        yield f"{one}-before-{other}", *bad(0, list(CAUSES).index(one) + 1, [spoiled(one, other)], said)
+
+
+def one_bad_seal(which):
+    """A first link under three seals of which one is over another digest."""
+    spelled = checkpoint(0, 0, ZERO)
+    of = digest(spelled)
+    made = [number(it, 4) + seal(it, 0, 0, OTHER if it == which else of) for it in range(3)]
+    return spelled + sequence(made), of
+
+
+def seals():
+    """Each seal is looked at, and all that it states."""
+    for which, word in enumerate(("first", "second", "last")):
+        yield f"{word}-seal", *bad(0, 6, [one_bad_seal(which)], f"Of three seals the {word} one is over another digest.")
+    spelled = checkpoint(0, 0, ZERO)
+    of = digest(spelled)
+    yield "seals-of-others", *bad(0, 6, [(spelled + sequence([number(it, 4) + seal(it + 1, 0, 0, of) for it in range(3)]), of)], "Each seal is that of the next member.")
+    yield "seals-of-another-number", *bad(0, 6, [(spelled + sealed((0, 1, 2), 0, 1, of), of)], "The seals are over another number, with the digest of this checkpoint.")
+    yield "seals-of-another-epoch", *bad(0, 6, [(spelled + sealed((0, 1, 2), 1, 0, of), of)], "The seals are over another epoch, with the digest of this checkpoint.")
+    yield "a-member-twice", *bad(0, 4, [link(0, 0, ZERO, members=(0, 1, 1, 2))], "A member stands twice.")
+    yield "no-seal", *bad(0, 5, [link(0, 0, ZERO, members=())], "No seal at all is no quorum.")
+
+
+def quorums():
+    """A quorum has more than two thirds of the stake: stakes, and what comes of the members that sealed."""
+    def made(name, stakes, members, is_quorum, why):
+        links = [link(0, 0, ZERO, members=members)]
+        said = (chain(links), "certified 1 not included", 0, why) if is_quorum else bad(0, 5, links, why)
+        return name, *said, stakes
+    yield made("two-thirds", "1,1,1", (0, 1), False, "Two of three equal stakes are two thirds, and not more.")
+    yield made("three-thirds", "1,1,1", (0, 1, 2), True, "All members are a quorum.")
+    yield made("one-of-one", "1", (0,), True, "A committee of one member.")
+    yield made("three-of-five", "2,1,1,1", (0, 1), False, "Three of a stake of five are less than two thirds, though a third of the stake is rounded down to one.")
+    yield made("four-of-five", "2,1,1,1", (0, 1, 2), True, "Four of a stake of five are more than two thirds.")
+    yield made("one-member-is-a-quorum", "5,1,1", (0,), True, "Five of a stake of seven are more than two thirds: stakes count, and not members.")
+    yield made("two-members-are-none", "5,1,1", (1, 2), False, "Two members of three have two of a stake of seven.")
+    yield made("sealed-by-greatest-stakes", GREATEST, range(43), True, "43 of 64 members with the greatest stake are a quorum.")
+    yield made("short-of-greatest-stakes", GREATEST, range(42), False, "42 of 64 members with the greatest stake are none.")
+
+
+def lengths():
+    """Lengths that are spelled otherwise, or too great."""
+    def made(name, spelled, at, why, said):
+        return name, spelled, f"refused malformed at {at} why {why}", 8, said
+    yield made("length-too-long", b"\x80\x00", 0, 3, "A length of 0 is spelled with two bytes.")
+    yield made("length-of-33-bits", b"\xff\xff\xff\xff\x1f", 0, 4, "A length of 33 bits is spelled.")
+    yield made("length-out-of-range", b"\x80\x80\x80\x80\x08", 0, 5, "A length of 2147483648 is spelled, one more than the greatest.")
+    yield made("longest-length", b"\xff\xff\xff\xff\x07", 5, 1, "The greatest length is taken; the bytes end in the first link.")
+    yield made("no-link-behind-a-length", b"\x01", 1, 1, "One link is said to stand there, and none does.")
+    spelled = checkpoint(0, 0, ZERO)
+    yield made("length-of-items-too-long", b"\x01" + spelled[:48] + b"\x80\x00", 49, 3, "The length of a checkpoint's items is spelled with two bytes.")
+
+
 def cases():
-    """Each case by its name: the bytes, the line, the status, and a sentence on what it shows."""
+    """Each case by its name: the bytes, the line, the status, and a sentence on what it shows; and the stakes, if they are not four of 1."""
     two = chain([FIRST, LAST])
     yield "included", two, "certified 2 included in 0", 0, "A chain of two checkpoints, of which the first lists the transaction."
     yield "empty-chain", b"\x00", "certified 0 not included", 0, "An empty chain is certified, and lists nothing."
@@ -98,9 +177,13 @@ def cases():
         yield made("stake", 5, link(epoch, place, parent, members=(0, 1)), "Two of four equal stakes are no quorum.")
         yield made("seal", 6, link(epoch, place, parent, seals=sealed((0, 1, 2), epoch, place, OTHER)), "A seal over another digest is not accepted.")
     yield "epoch-stays-after-last", *bad(2, 3, [FIRST, LAST, link(0, 2, LAST[1])], "Behind a last checkpoint the epoch is the next one.")
-    yield "number-before-parent", *bad(0, 1, [link(0, 1, OTHER)], "Where number and parent are both wrong, the number is named.")
-    yield "stake-before-seal", *bad(0, 5, [link(0, 0, ZERO, seals=sealed((0, 1), 0, 0, OTHER))], "Where the stake is short and a seal is wrong, the stake is named.")
     yield "first-bad-link", *bad(0, 6, [link(0, 0, ZERO, seals=sealed((0, 1, 2), 1, 0, OTHER)), link(0, 5, OTHER)], "The first bad link is named.")
+    yield "second-item", chain([link(0, 0, ZERO, [(OTHER, EFFECTS), (TX, EFFECTS)])]), "certified 1 included in 0", 0, "The checkpoint lists the transaction as its second item."
+    eight = [FIRST]
+    for place in range(1, 8):
+        eight.append(link(0, place, eight[-1][1]))
+    yield "eight-checkpoints", chain(eight), "certified 8 included in 0", 0, "Eight checkpoints of one epoch, each under the seals of its own digest."
+    yield from (*pairs(), *seals(), *quorums(), *lengths())
 
 
 def main(words):
@@ -108,12 +191,12 @@ def main(words):
         print(__doc__, end="", file=sys.stderr)
         return 2
     wrong = 0
-    for name, given, line, status, why in cases():
+    for name, given, line, status, why, *stakes in cases():
         files = {
             "schedule": given,
             "report": line.encode() + b"\n",
             "status": f"{status}\n".encode(),
-            "args": f"check\n1,1,1,1\n{TX.hex()}\n".encode(),
+            "args": f"check\n{stakes[0] if stakes else EQUAL}\n{TX.hex()}\n".encode(),
             "about": f"{why}\nrules: check.{'certified' if status == 0 else 'malformed' if 'malformed' in line else 'link'}\n".encode(),
         }
         for ending, text in files.items():

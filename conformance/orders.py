@@ -229,6 +229,46 @@ def shapes():
     write("shapes/order-of-faults", lines, "Each pair of faults of a shape that a line can bring about: the lesser number is told.", "shape.least shape.1 shape.2 shape.3 shape.4 shape.5 shape.6 shape.7 shape.8 shape.10")
 
 
+# So many references of one object have more bytes than a transaction may have; a reference is 73 bytes.
+MANY_BYTES = ["o:g@1"] * 1800
+
+
+def bytes_first():
+    """A transaction of too many bytes with each other fault of a shape that a line can have: too many inputs, and one object twice, are in all."""
+    lines = ["member 1 honest", "coin g alice 1000000"]
+    tails = {"other_2": [], **{f"other_{it}": SHAPE_FAULTS[it]["commands"] for it in (3, 6, 7, 8, 12)}}
+    for name, commands in tails.items():
+        lines += [f"tx {name} alice 0 g@1 900000 {' '.join([*MANY_BYTES, *commands])}", f"vote 0 {name}"]
+    write("shapes/bytes-before-all", lines, "Too many bytes, and each other fault that a line can have beside them: the bytes are told.", "shape.1 shape.least")
+
+
+def shapes_of_certificates():
+    """A faulty quorum certifies what nobody should vote for: the shape is told of the certificate as well."""
+    lines = ["member 1 honest", "member 9 faulty", "coin g0 alice 1000000", "coin g alice 1000000", "coin own alice 5", "coin ice alice 5"]
+    made = {f"shape_{it}": shape_line(f"shape_{it}", [it]) for it in SHAPE_FAULTS}
+    made["shape_2"] = "tx shape_2 alice 0 g0@1 900000 n:0"
+    made["shape_1"] = f"tx shape_1 alice 0 g@1 900000 {' '.join(MANY_BYTES)} freeze(gas)"
+    for name, line in made.items():
+        lines += [line, f"fvote 1 {name}", f"cert {name} 1", f"send 0 {name}"]
+    write("certificates/each-fault-of-a-shape", lines, "Certificates of transactions with each fault of a shape that a line can have, formed by a faulty quorum: none is held.", "send.shape " + " ".join(f"shape.{it}" for it in sorted({1, 2, *SHAPE_FAULTS})))
+
+
+def native_that_is_none():
+    """A native above 13, which only bytes can have, beside each other fault of a shape."""
+    native = ("call", 14, ())
+    faults = {
+        "commands": {"commands": (native,) * 1025}, "inputs": {"inputs": (("pure", b""),) * 257}, "twice": {"inputs": (("owned", (wire.genesis_id(0), 1, wire.ZERO)),)},
+        "no-input": {"commands": (native, ("vec", ("coin",), (("input", 9),)))}, "late": {"commands": (native, ("vec", ("coin",), (("result", 1),)))}, "empty": {"commands": (native, ("split", ("gas",), ()))},
+        "budget": {"budget": 0}, "version": {"gas": (wire.genesis_id(0), 0, wire.ZERO)}, "arguments": {"commands": (native, ("call", 0, (("gas",),) * 513))},
+    }
+    lines = ["member 1 honest", "coin g0 alice 9000"]
+    for change in faults.values():
+        made = {"gas": (wire.genesis_id(0), 1, wire.ZERO), "budget": 900_000, "inputs": (), "commands": (native,), **change}
+        spelled = wire.TX.put((0, wire.address_of("alice"), made["gas"], made["budget"], made["inputs"], made["commands"]))
+        lines.append(f"raw 0 vote {(spelled + wire.seal(('user', wire.address_of('alice')), spelled)).hex()}")
+    write("raw/a-native-that-is-none-and-another-fault", lines, f"A native above 13, and another fault of the shape: {', '.join(faults)}. The least number is told.", "shape.9 shape.least")
+
+
 def shape_limits():
     """The last that is taken, and the first that is not, of commands of all sorts and of versions."""
     lines = ["member 1 honest", "coin g0 alice 1000000"]
@@ -300,6 +340,8 @@ def text():
         rule = {"4": "refused.4 text.names" if "name" in name else "refused.4", "5": "refused.5 text.numbers"}.get(cause, f"refused.{cause}")
         write(f"grammar/refused-limit-{name}", lines, f"A line with one thing that its form or its place does not allow: `{line}`.", rule)
     members = ["member 1 honest"] * 64
+    write("grammar/refused-3-before-7", [*members, "member 1 honest\x7f"], "The 65th member in a line with a byte that is not printable: the least cause is that of the byte.", "refused.3 text.first")
+    write("grammar/refused-3-before-13", [*GOOD[:6], "writers 6\x7f", *GOOD[6:]], "A second limit of writers in a line with a byte that is not printable: the least cause is that of the byte.", "refused.3 text.first")
     write("grammar/refused-5-before-7", [*members, "member 0 honest"], "The 65th member with a stake of 0: the least cause is that of the number.", "refused.5 text.first")
     write("grammar/refused-6-before-7", [*members, "show 0", "member 1 honest"], "The 65th member behind an event: the least cause is that of the late line.", "refused.6 text.first")
 
@@ -395,6 +437,61 @@ def block_cases():
     for name in ("over", "past", "last"):
         great += [f"vote 0 {name}", f"cert {name} 0", f"send 0 {name}"]
     write("blocks/order-of-currency-and-overflow", [*great, "run 0 1", "show 0"], "A merge of another currency above 64 bits fails for the currency; the withheld budget counts in a merge into the gas coin; a sum of 64 bits is taken.", "cause.9 cause.10 block.order")
+
+
+# Commands of which two arguments are at fault, or one and the whole: `r1.9` is no result, `i7` is used up, `i2` is too short, `i0` no object.
+PLACES = "n:1 n:9999999 x:00 a:bob o:own@1 s:c0@1 r:c1@1 o:m0@1 i:ice.0@2 o:big@1"
+BEFORE = "coin_mint(i7,i0) counter_new(i0) freeze(i7)"
+AT_FAULT = {"2": "r1.9", "1": "i7", "4": "i0", "5": "i5", "3": "i2", "7": "i4,i4"}
+
+
+def two_at_fault():
+    """Commands with two arguments at fault by their causes; then such with one at fault where the whole command fails too, or the count of arguments."""
+    for first in "2145":
+        for other in "213457":
+            if other != first:
+                yield f"{first}_then_{other}", f"transfer({AT_FAULT[first]},{AT_FAULT[other]}{'' if other == '3' else ',i3'})"
+    for other, word in {"2": "r1.9", "1": "i7", "4": "i4"}.items():
+        yield f"3_then_{other}", f"split(gas,i2,{word})"
+        yield f"{other}_then_8", f"split(gas,i1,{word})"
+        yield f"{other}_then_key", f"vault_new(i0) vault_new(i0) vault_withdraw(r3.0,r4.1,{word})"
+    yield "3_then_8", "split(gas,i1,i2)"
+    yield "3_then_key", "vault_new(i0) vault_new(i0) vault_withdraw(r3.0,r4.1,i2)"
+    for other, word in {"2": "r1.9", "1": "i7", "4": "i0", "5": "gas", "7": "i4,i4"}.items():
+        yield f"6_then_{other}", f"merge(i8,{word})"
+        yield f"{other}_then_10", f"merge(gas,r0,{word})"
+        yield f"{other}_then_9", f"merge(i4,i9,{word if other != '7' else 'i9'})"
+    yield "6_then_3", "counter_add(i6,i2)"
+    for other, word in {"2": "r1.9", "1": "i7", "4": "i0"}.items():
+        yield f"{other}_then_sum", f"counter_add_limited(i5,i0,{word})"
+    for other, words in {"2": "freeze(r1.9,i4)", "1": "freeze(i7,i4)", "3": "counter_new(i2,i0)", "4": "counter_add(i0)", "5": "freeze(i5,i5)", "6": "counter_add(i6)"}.items():
+        yield f"11_then_{other}", words
+    # Of two codes of a native the first.
+    yield "key_then_less", "vault_new(i0) vault_new(i0) vault_withdraw(r3.0,r4.1,i0)"
+
+
+def left_to_right():
+    """Each command in a transaction of its own, with objects of its own."""
+    them = list(two_at_fault())
+    lines = ["member 1 honest", "coin p alice 9000"]
+    for number in range(len(them)):
+        lines += [f"coin p{number} alice 3000", f"coin own{number} alice 700", f"cap m{number} alice {7 + number}", f"coin big{number} alice 18446744073709551615"]
+    lines += ["counter c0 18446744073709551615", "counter c1 5", "tx ice alice 0 p@1 2000 n:5 split(gas,i0) freeze(r0)", "vote 0 ice", "cert ice 0", "order ice", "see 0 1", "run 0 1"]
+    for number, (name, commands) in enumerate(them):
+        inputs = PLACES.replace("own@1", f"own{number}@1").replace("m0@1", f"m{number}@1").replace("big@1", f"big{number}@1")
+        made = f"c{name}"
+        lines += [f"tx {made} alice 0 p{number}@1 2000 {inputs} {BEFORE} {commands}", f"vote 0 {made}", f"cert {made} 0", f"order {made}"]
+    write("blocks/left-to-right", [*lines, "see 0 99", "run 0 4"], "Commands of which two arguments are at fault: the first one's cause is told, whichever number it has; causes of arguments come before those of the whole command and the codes of a native, and the number of a native's arguments before all.", "cause.1 cause.2 cause.3 cause.4 cause.5 cause.6 cause.7 cause.11 block.order")
+
+
+def native_codes():
+    """Of two codes of one native that both apply the first is told."""
+    lines = ["member 1 honest", "coin g0 alice 9000", "coin g1 alice 9000", "coin big0 alice 18446744073709551615", "coin big1 alice 18446744073709551615", "cap m0 alice 7", "cap m1 alice 8"]
+    lines += ["tx deposit alice 0 g0@1 2000 o:big0@1 o:m0@1 n:1 n:0 a:bob vault_new(i3) vault_deposit(r0.0,i0) coin_mint(i1,i2) vault_deposit(r0.0,r2) transfer(r0.0,r0.1,i4)"]
+    lines += ["tx join alice 0 g1@1 2000 o:big1@1 o:m1@1 n:1 a:bob coin_mint(i1,i2) vec(coin,i0,r0) coin_join_all(r1) transfer(r2,i3)"]
+    for name in ("deposit", "join"):
+        lines += [f"vote 0 {name}", f"cert {name} 0", f"send 0 {name}"]
+    write("blocks/two-codes-of-a-native", [*lines, "run 0 1"], "A deposit of another currency above 64 bits, and a vector of two currencies whose sum is above 64 bits: the first code is told.", "abort.vault_deposit abort.coin_join_all")
 
 
 # What is asked of members in the sequence, at the end of an epoch and of acknowledgements.
@@ -512,6 +609,11 @@ def main():
     taken_limits()
     late()
     block_cases()
+    left_to_right()
+    native_codes()
+    native_that_is_none()
+    bytes_first()
+    shapes_of_certificates()
     calls()
     return 0
 

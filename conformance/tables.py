@@ -4,20 +4,25 @@
 usage: conformance/tables.py            says for each table how many of it the cases have, and names what is missing
        conformance/tables.py --missing  says only what is missing and could be there; the exit status is 1 if something is
 
-The orders are those that docs/REPORTS.md and docs/SCHEDULES.md state. A pair is shown where, in some case, both apply and the first is
-told: the plain model of the rules runs each case, and is asked of each refusal what else would have applied.
+The orders are those that docs/REPORTS.md, docs/SCHEDULES.md and docs/COMMANDS.md state. A pair is shown where, in some case, both apply and
+the first is told: the plain model of the rules runs each case of `run`, and is asked of each refusal what else would have applied. It reads
+the chains of `check` too, and what a case of `check` wants must be what the model says. Answers, causes and statuses are those that
+tools/hunt counts.
 """
 
 import os
 import re
 import sys
+from collections import Counter
 
 sys.dont_write_bytecode = True
 HERE = os.path.dirname(os.path.abspath(__file__))
 TOP = os.path.dirname(HERE)
 sys.path.insert(0, f"{TOP}/tools/lib")
-from hunting.plain import member, text, tx, wire, world
-from hunting.plain.block import Block, Halt, Item, is_of_kind
+from hunting import coverage, running
+from hunting.plain import chain, member, text, tx, wire, world
+from hunting.plain.block import MOST, Block, Halt, Item, is_of_kind
+from hunting.plain.natives import NATIVES
 
 
 def read(path):
@@ -26,12 +31,21 @@ def read(path):
 
 
 def cases():
-    """The schedules of `run`, by their names."""
+    """The schedules of `run`, by their names, and the answers that are wanted."""
     for folder, _, names in sorted(os.walk(HERE)):
         for name in sorted(it for it in names if it.endswith(".schedule")):
             at = f"{folder}/{name.removesuffix('.schedule')}"
             if not os.path.exists(f"{at}.args") and not os.path.exists(f"{at}.program"):
-                yield os.path.relpath(at, HERE), read(f"{folder}/{name}")
+                yield os.path.relpath(at, HERE), read(f"{folder}/{name}"), running.Answer(int(read(f"{at}.status")), read(f"{at}.report"))
+
+
+def chains():
+    """The cases of `check`: the name, the stakes, the digest of the transaction, the bytes, and the status and the line that are wanted."""
+    for name in sorted(it.removesuffix(".schedule") for it in os.listdir(f"{HERE}/check") if it.endswith(".schedule")):
+        at = f"{HERE}/check/{name}"
+        _, stakes, digest = read(f"{at}.args").decode().split()
+        wanted = int(read(f"{at}.status")), read(f"{at}.report").decode().rstrip("\n")
+        yield f"check/{name}", [int(it) for it in stakes.split(",")], bytes.fromhex(digest), read(f"{at}.schedule"), wanted
 
 
 def orders():
@@ -50,7 +64,7 @@ class Watch:
     """What the cases show: pairs by what they are of, and values at limits."""
 
     def __init__(self):
-        self.pairs, self.limits = {}, set()
+        self.pairs, self.limits, self.came = {}, set(), Counter()
 
     def note(self, of, applying):
         """These apply, in their order: the first is told."""
@@ -212,6 +226,94 @@ def causes_of(block, argument, mode, kind, gives_gas):
     return ["4"] * (not is_of_kind(value, mode, kind)) + ["5"] * (taken and lent) + ["6"] * (mode == "mutable" and place.access in ("immutable", "r")) + ["7"] * (isinstance(value, Item) and place.named_by == block.at)
 
 
+def modes_of(command):
+    """How a command takes its arguments, in their order; and whether a native has another number of them."""
+    name, *rest = command
+    if name == "split":
+        return [(rest[0], "mutable", "coin"), *((it, "number") for it in rest[1])], False
+    if name == "merge":
+        return [(rest[0], "mutable", "coin"), *((it, "value", "coin") for it in rest[1])], False
+    if name == "transfer":
+        return [*((it, "value", None, True) for it in rest[0]), (rest[1], "address")], False
+    if name == "vec":
+        return [(it, "value", rest[0][0]) for it in rest[1]], False
+    modes = NATIVES[rest[0]].modes
+    return [(it, *mode) for it, mode in zip(rest[1], modes)], len(modes) != len(rest[1])
+
+
+def causes_of_each(block, taken):
+    """All causes that apply to each argument of a command, if those before it are taken that are not at fault; nothing is changed."""
+    found, named = [], {}
+    for it in taken:
+        argument, mode, kind, gives_gas = (*it, None, None)[:4]
+        found.append(causes_of(block, argument, mode, kind, gives_gas))
+        if not found[-1] and mode not in ("number", "address"):
+            place = block.place(argument)
+            named.setdefault(id(place), (place, place.named_by))
+            place.named_by = block.at
+    for place, before in named.values():
+        place.named_by = before
+    return found
+
+
+def whole_of(block, command, good):
+    """What applies to a whole command by those of its arguments that are not at fault: causes, or the codes of a native."""
+    values = [block.place(it[0]).value for it in good]
+    if command[0] == "split":
+        balance = values[0].content[2] if good and good[0][1] == "mutable" else MOST
+        return ["8"] * (sum(int.from_bytes(it, "little") for it in values if isinstance(it, bytes)) > balance)
+    if command[0] == "merge" and good and good[0][1] == "mutable":
+        (_, currency, balance), withheld = values[0].content, block.tx.budget if block.place(good[0][0]) is block.gas else 0
+        return ["10"] * any(it.content[1] != currency for it in values[1:]) + ["9"] * (balance + withheld + sum(it.content[2] for it in values[1:]) > MOST)
+    return codes_of(NATIVES[command[1]].name, [it for it in values if not isinstance(it, bytes)], [int.from_bytes(it, "little") for it in values if isinstance(it, bytes)]) if command[0] == "call" else []
+
+
+def codes_of(name, values, numbers):
+    """All codes of a native that apply to what it was handed: to items or vectors, and to numbers, as many as there are."""
+    contents = [it.content for it in values if isinstance(it, Item)]
+    if name == "coin_burn" and len(contents) == 2:
+        return ["1"] * (contents[0][1] != contents[1][1]) + ["2"] * (contents[0][2] < contents[1][2])
+    if name == "coin_join_all" and values:
+        items = values[0][1]
+        return ["1"] * (not items) + ["2"] * (len({it.content[1] for it in items}) > 1) + ["3"] * (sum(it.content[2] for it in items) > MOST)
+    if name == "vault_deposit" and len(contents) == 2:
+        return ["1"] * (contents[0][1] != contents[1][1]) + ["2"] * (contents[0][2] + contents[1][2] > MOST)
+    if name == "vault_withdraw" and len(contents) == 2:
+        return ["1"] * (contents[1] != ("key", values[0].id)) + ["2"] * bool(numbers and contents[0][2] < numbers[0])
+    if name == "share" and values:
+        return ["1"] * (values[0].number is None) + ["2"] * (contents[0][0] not in ("counter", "vault"))
+    if name == "counter_add_limited" and contents and numbers:
+        total = contents[0][1] + numbers[0]
+        return ["1"] * (total > MOST) + ["2"] * (len(contents) == 2 and total > contents[1][1])
+    return []
+
+
+def note_command(watch, block, command):
+    """What applies to a command: from left to right, then as a whole; of a native first the number of its arguments."""
+    taken, is_miscounted = modes_of(command)
+    found = causes_of_each(block, taken)
+    if is_miscounted:
+        watch.note("native", ["11", *dict.fromkeys(it for them in found for it in them)])
+        return
+    told = [them[0] for them in found if them]
+    whole = whole_of(block, command, [it for it, them in zip(taken, found) if not them])
+    watch.note("arguments", told)
+    if told and whole:
+        watch.note("command", [told[0], *(["code"] if command[0] == "call" else whole)])
+    elif whole:
+        watch.note(f"native {NATIVES[command[1]].name}" if command[0] == "call" else "command", whole)
+
+
+def watched_run(watch, name, original):
+    """A command that is noted before it runs."""
+
+    def run(self, *values):
+        note_command(watch, self, (name, *values))
+        return original(self, *values)
+
+    return run
+
+
 def causes_of_text(watch, data):
     """The causes against the first bad line of a text."""
     try:
@@ -237,16 +339,26 @@ def causes_of_text(watch, data):
 
 def watched():
     """What all cases show."""
-    watch, taken = Watch(), set()
-    original = Block.take
-    Block.take = watched_take(watch, original)
-    for _, data in cases():
+    watch, taken, originals = Watch(), set(), {it: getattr(Block, it) for it in ("take", "split", "merge", "transfer", "vec", "call")}
+    Block.take = watched_take(watch, originals["take"])
+    for name in list(originals)[1:]:
+        setattr(Block, name, watched_run(watch, name, originals[name]))
+    for _, data, report in cases():
+        watch.came.update(coverage.count(data, report))
         if causes_of_text(watch, data):
             taken.update(data.decode("latin-1").split("\n"))
             it = Watched(watch)
             for event in text.read(data):
                 it.step(event)
-    Block.take = original
+    for name, original in originals.items():
+        setattr(Block, name, original)
+    for _, stakes, _, data, _ in chains():
+        try:
+            bad = chain.first_bad(stakes, wire.decoded(chain.CHAIN, data))
+        except wire.Malformed:
+            bad = None
+        if bad:
+            watch.note("check", [str(it) for it in bad[1]])
     return watch, taken
 
 
@@ -281,6 +393,7 @@ LIMITS = {
     "a version that a reference names": [size("least version", 1), size("version", tx.BOUND - 2), size("least version", 0, 11), size("version", tx.BOUND - 1, 11)],
     "currency of a cap": [in_line(r"^cap \w+ \w+ 1$"), in_line(rf"^cap \w+ \w+ {GREAT}"), refused(5, r"^cap \w+ \w+ 0$"), refused(13, "^cap ")],
 }
+GREAT_CAUSES = ("refusal cause 1", "refusal cause 8")
 TOO_GREAT = {"bytes of a schedule": "the text has 16 MiB", "`tx` lines": "the text has 65,535 lines; docs/SCHEDULES.md has it as an example"}
 
 
@@ -297,8 +410,6 @@ def limits(watch, taken):
 # Of the pairs that an order states, those that cannot come or that no case is made for, with the reason.
 SAME = "what was voted for had a right shape, was there, and was the sender's"
 VALID = "a fork is of valid certificates"
-BYTES = "a native that is none comes in bytes alone"
-LARGE = "one case of a transaction of this size is enough"
 LINES = "the text has 65,536 lines"
 NOT_BOTH = {
     "vote": {("wrong epoch", "again"): "votes are forgotten at a turn", **{("again", it): SAME for it in ("invalid", "absent", "wrong digest", "wrong owner", "wrong kind", "poor gas", "locked")}},
@@ -308,12 +419,12 @@ NOT_BOTH = {
         **{("no certificate", it): "there is none to look at" for it in ("wrong epoch", "again", "closed", "shape", "order", "short stake", "bad seal", "fork")},
     },
     "shapes": {
-        **{("2", it): "without commands" for it in ("3", "6", "7", "8", "9", "12")}, **{(it, "9"): BYTES for it in ("1", "3", "4", "5", "6", "7", "8")}, **{("9", it): BYTES for it in ("10", "11", "12")},
-        **{("1", it): LARGE for it in ("2", "3", "4", "5", "6", "7", "8", "12")},
+        **{("2", it): "without commands" for it in ("3", "6", "7", "8", "9", "12")},
+        ("1", "9"): "a native that is none comes in bytes alone, two digits each",
     },
     "refused": {
         **{(it, "8"): LINES for it in "34567"}, **{("8", it): LINES for it in ("9", "10", "11", "12", "13")}, **{("4", it): "what has no form is read no further" for it in ("6", "7", "9", "10", "11", "12", "13")},
-        **{("7", it): "the line of a member names nothing" for it in ("9", "10", "11", "12", "13")}, **{("3", it): "one fault behind a bad byte is as another" for it in ("7", "13")},
+        **{("7", it): "the line of a member names nothing" for it in ("9", "10", "11", "12", "13")},
         **{("6", it): "a line of the set-up names nothing that was made" for it in ("10", "11", "12")}, ("9", "11"): "no line has both", ("9", "12"): "no line has both",
         ("11", "12"): "one number is one of the two", ("12", "13"): "where members are listed both roles may stand",
     },
@@ -333,11 +444,36 @@ def wanted_pairs():
     lists["shapes"] = [str(it) for it in range(1, 13)]
     lists["refused"] = [str(it) for it in range(3, 14)]
     lists["argument"] = ["2", "1", "4", "5", "6", "7"]
+    lists["check"] = re.findall(r"(?m)^\| (\d) \|", read(f"{TOP}/docs/COMMANDS.md").decode().split("| Cause | The link |")[1].split("```")[0])
     for of, names in lists.items():
         kept = [it for it in names if it not in OUT or (it == "closed" and of in ("vote", "send"))]
         pairs = [(one, other) for place, one in enumerate(kept) for other in kept[place + 1 :]]
         found[of] = [it for it in pairs if it not in NOT_BOTH.get(of, {})]
-    return found
+    return {**found, **of_commands()}
+
+
+def of_commands():
+    """The pairs of two arguments of a command, the left one told; of one argument and the whole command; of the number of a native's arguments; of the codes of a native."""
+    found = {"arguments": [(one, other) for one in "213456" for other in "213457" if one != other and (one, other) not in (("3", "5"), ("3", "7"))]}
+    found["command"] = [*((it, "8") for it in "2134"), *((it, whole) for whole in ("10", "9") for it in "21457"), ("10", "9"), *((it, "code") for it in "2134")]
+    found["native"] = [("11", it) for it in "213456"]
+    for name in ("coin_burn", "vault_deposit", "vault_withdraw", "share", "counter_add_limited"):
+        found[f"native {name}"] = [("1", "2")]
+    return {**found, "native coin_join_all": [("2", "3")]}
+
+
+def answers(watch):
+    """What the tables of the manual name and no case has; and how much they name."""
+    names = [it for it in coverage.wanted() if it not in GREAT_CAUSES]
+    return [f"`{name}` is in no case" for name in names if not watch.came[name]], len(names)
+
+
+def misread():
+    """The cases of `check` of which the plain model says something else."""
+    for name, stakes, digest, data, wanted in chains():
+        had = chain.check(stakes, digest, data)
+        if had != wanted:
+            yield f"{name}: the plain model says {had}, and the case {wanted}"
 
 
 def main(words):
@@ -345,13 +481,14 @@ def main(words):
         print(__doc__, end="", file=sys.stderr)
         return 2
     watch, taken = watched()
-    missing, count = limits(watch, taken)
-    lines = [f"limits: {count - len(missing)} of {count}", *(f"limit `{name}`: not tried: {why}" for name, why in TOO_GREAT.items())]
+    (missing, count), (unseen, named), wrong = limits(watch, taken), answers(watch), list(misread())
+    lines = [f"answers, causes and statuses: {named - len(unseen)} of {named}", f"limits: {count - len(missing)} of {count}", *(f"limit `{name}`: not tried: {why}" for name, why in TOO_GREAT.items())]
     for of, pairs in wanted_pairs().items():
         absent = [it for it in pairs if it not in watch.pairs.get(of, ())]
         without = NOT_BOTH.get(of, {})
         lines.append(f"pairs of {of}: {len(pairs) - len(absent)} of {len(pairs)}{f'; {len(without)} cannot come, or none is made' if without else ''}")
         missing += [f"pair of {of}: `{one}` before `{other}` is in no case" for one, other in absent]
+    missing += [*unseen, *wrong]
     print("\n".join(missing if words else [*lines, *missing]))
     return 1 if words and missing else 0
 
