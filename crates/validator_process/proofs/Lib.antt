@@ -9,3 +9,5 @@ mod Started
 mod Readable
 mod Lives
 mod Made
+mod Headed
+mod FirstStarts

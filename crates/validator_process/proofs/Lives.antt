@@ -396,7 +396,7 @@ module _ (scene : Scene) (m : ℕ) (few : m ≤ 63) (p : Process) where
       (subst (λ (s : Scene). EndsJournal accepts s m (Some p.first) (Some p.last) p.asked p.unread p.held p.holds p.read_before p.read_faults p.write_before p.write_faults begun.mid p.disk_faults p.status) same begun.ends)
 
 -- the text that was read is all of it, if it is not too long
-whole-text : (text read : List ℕ) (left : Option (List ℕ)) → length text ≤ longest_text → ReadsText longest_text (Some text) left read → read ≡ text
+pub whole-text : (text read : List ℕ) (left : Option (List ℕ)) → length text ≤ longest_text → ReadsText longest_text (Some text) left read → read ≡ text
 whole-text text read None short reads = absurd reads.read
 whole-text text read (Some rest) short reads =
     let parts : text ≡ read ++ rest = reads.read in

@@ -1,10 +1,11 @@
 -- How a process ends: its status, why it stopped, and the line that says why no member starts. Source: this profile.
-use Rattle.std.specs.Prelude.{◌≡◌, ◌⊎◌, ℕ, ◌<◌, ◌≤◌, List, [], length, Option, Some, None, Ok, Err}
+use Rattle.std.specs.Prelude.{◌≡◌, ◌⊎◌, ℕ, ◌<◌, ◌≤◌, List, [], ◌∷◌, length, Option, Some, None, Ok, Err}
 use Rattle.std.specs.Io.KnownBytes.{Appends}
 use Rattle.outside.specs.Causes.{Rose}
 use Rattle.outside.specs.Lists.{AddsRecord, Journals, KeepsJournals}
 use Rattle.disk_log.specs.Disk.{History, IfTold}
-use Rattle.disk_log.specs.Records.{bad_member, counted, journals_of}
+use Rattle.disk_log.specs.Keeping.{LeavesRecords}
+use Rattle.disk_log.specs.Records.{Record, bad_member, counted, journals_of}
 use Rattle.disk_log.specs.Running.{HoldsLists, Unchanged, lists_in}
 use Rattle.world_spec.specs.Keyed.{keyed, program_secret}
 use Rattle.world_spec.specs.Setting.{Trust}
@@ -26,7 +27,7 @@ use Rattle.validator_process.specs.declared.stop.Stop.TheVariants as stop
 use Rattle.validator_process.specs.declared.words.Task.{Task}
 use Rattle.validator_process.specs.declared.words.Task.TheVariants as task
 use Rattle.validator_process.specs.Genesis.{genesis_of, line_status}
-use Rattle.validator_process.specs.Identity.{genesis_digest, head_of_file, identity_bytes}
+use Rattle.validator_process.specs.Identity.{genesis_digest, head_of_file, identity_bytes, identity_record}
 use Rattle.validator_process.specs.Starting.{IsInside, LivesCut, LivesWhole, StartsAs, start_bytes}
 use Rattle.validator_process.specs.Stops.{status_of}
 
@@ -244,7 +245,16 @@ EndsLists m text held held' kept kept' w w' k k' status =
     ⊎ IsFull held held' kept kept' w w' status
     ⊎ IsUnmade m text held held' kept kept' k k' status
 
--- the journal was opened, and the disk holds the lists that were left
+-- these records count and no others, in what reads give and in each file that a crash may leave now
+pub record HoldsOnly (records : List Record) (h : History) : Type 0 where
+  pub reads : counted h.now.reads ≡ records
+  pub crash : LeavesRecords h records
+
+-- the record that says of which member and of which set-up a journal is stands alone, if the disk shows its bytes
+abbrev pub HasIdentity : ℕ → List ℕ → Option History → Type 0
+HasIdentity m text told = IfTold told (HoldsOnly (identity_record m (genesis_digest text) ∷ []))
+
+-- the journal was opened, and the disk holds the lists that were left; at 0 that record stands alone
 pub record IsMaking (m : ℕ) (text : List ℕ) (told told' : Option History) (held held' : Option (List ℕ)) (w w' k k' status : ℕ) : Type 0 where
   pub opened : ℕ
   pub width : ℕ
@@ -252,6 +262,7 @@ pub record IsMaking (m : ℕ) (text : List ℕ) (told told' : Option History) (h
   pub later : k ≤ opened
   pub ends : EndsLists m text held held' (kept_in told) lists w w' opened k' status
   pub holds : HoldsLists width k' told' lists
+  pub alone : status ≡ 0 → HasIdentity m text told'
 
 abbrev pub EndsMaking : ℕ → List ℕ → Option History → Option History → Option (List ℕ) → Option (List ℕ) → ℕ → ℕ → ℕ → ℕ → ℕ → Type 0
 EndsMaking m text told told' held held' w w' k k' status =
@@ -265,12 +276,18 @@ pub record IsTooLong (told told' : Option History) (held held' : Option (List �
   pub disk : told' ≡ told
   pub uncounted : k' ≡ k
 
+-- the text makes a committee with this member, and the making ended
+pub record IsMakingFor (trust : Trust) (m : ℕ) (text : List ℕ) (told told' : Option History) (held held' : Option (List ℕ)) (w w' k k' status : ℕ) : Type 0 where
+  pub scene : Scene
+  pub genesis : genesis_of trust m text ≡ Ok scene
+  pub ends : EndsMaking m text told told' held held' w w' k k' status
+
 -- a journal is made for a text that makes a committee with this member
 abbrev pub EndsMade : Trust → ℕ → List ℕ → Option History → Option History → Option (List ℕ) → Option (List ℕ) → ℕ → ℕ → ℕ → ℕ → ℕ → Type 0
 EndsMade trust m text told told' held held' w w' k k' status =
     IsNoGenesis trust m text told told' None None held held' w w' k k' status
     ⊎ IsTooLong told told' held held' w w' k k' status
-    ⊎ EndsMaking m text told told' held held' w w' k k' status
+    ⊎ IsMakingFor trust m text told told' held held' w w' k k' status
 
 -- the task of a text ended; one that makes a journal reads no request
 abbrev pub EndsTask : Task → List ℕ → Option History → Option History → Option (List ℕ) → Option (List ℕ) → Option (List ℕ) → Option (List ℕ) → ℕ → ℕ → ℕ → ℕ → ℕ → ℕ → ℕ → Type 0

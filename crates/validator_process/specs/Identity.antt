@@ -3,6 +3,7 @@ use Rattle.std.specs.Prelude.{ℕ, ◌&&◌, nat_le, List, [], ◌∷◌, ◌++�
 use Rattle.std.specs.Int.{w32, to_le_bytes}
 use Rattle.digest_core.specs.declared.Digest.{Digest}
 use Rattle.digest_core.specs.Tagged.{tagged_digest}
+use Rattle.disk_log.specs.Records.{Record}
 use Rattle.validator_process.specs.declared.identity.Head.{Head}
 use Rattle.validator_process.specs.declared.identity.Head.TheVariants as head
 
@@ -16,6 +17,10 @@ mark = codes "kothaysu validator 1"
 -- the record: the mark, the member, and the digest of the set-up
 abbrev pub identity_bytes : ℕ → Digest → List ℕ
 identity_bytes m genesis = mark ++ to_le_bytes w32 m ++ genesis.0
+
+-- the record as it stands in the file: it is of the list after those of the members
+abbrev pub identity_record : ℕ → Digest → Record
+identity_record m genesis = record { member = 64; bytes = identity_bytes m genesis }
 
 -- an open gate, 56 bytes, of list 64
 abbrev pub front : List ℕ

@@ -8,3 +8,4 @@ pub mod Genesis
 pub mod Starting
 pub mod Ending
 pub mod Living
+pub mod FirstStart

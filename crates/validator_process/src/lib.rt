@@ -27,6 +27,6 @@ mod turning;
 mod voting;
 mod words;
 
-pub use living::processes_live;
+pub use living::{made_starts, processes_live};
 pub use top::validator;
 pub use words::{Task, task_of};

@@ -1,13 +1,15 @@
 //! Making a journal.
 
-ghost use Rattle.std.specs.Prelude.{◌≡◌, ◌⊎◌, ◌≤◌, IfErr, IfOk, IsErrOf, OnErr, OnOk, length};
+ghost use Rattle.std.specs.Prelude.{◌≡◌, ◌⊎◌, ◌≤◌, IfErr, IfOk, IsErrOf, OnErr, OnOk, length, true};
 ghost use Rattle.outside.specs.Causes.{Rose};
 ghost use Rattle.outside.specs.Lists.{KeepsJournals};
+ghost use Rattle.disk_log.specs.Disk.{IfTold};
 ghost use Rattle.disk_log.specs.Keeping.{told_lists};
+ghost use Rattle.disk_log.specs.Running.{IsEmptyTo};
 ghost use Rattle.process_lines.specs.declared.starts.StartLine.TheVariants as start;
 ghost use Rattle.world_core.specs.Trusts.{trust_by};
 ghost use Rattle.validator_process.specs.declared.stop.Stop.TheVariants as stop;
-ghost use Rattle.validator_process.specs.Ending.{AddsIdentity, AreFresh, EndsLists, EndsMade, EndsMaking};
+ghost use Rattle.validator_process.specs.Ending.{AddsIdentity, AreFresh, EndsLists, EndsMade, EndsMaking, HasIdentity};
 ghost use Rattle.validator_process.specs.Identity.{genesis_digest};
 ghost use Rattle.validator_process.specs.Starting.{IsInside};
 
@@ -32,6 +34,7 @@ fn keep_identity<F: Disk>(
     text: &[u8],
 ) -> Result<StartLine, Stop>
     requires width { length log.old.counts ≡ 65 }
+    requires empty { IfTold (F.history log.old.disk) (IsEmptyTo log.old.end true) }
     ensures made { IfOk result (λ line. line ≡ start.Made member (genesis_digest text.now)) }
     ensures adds { OnOk result (AddsIdentity member text.now (told_lists (F.history log.old.disk) log.old.end (length log.old.counts)) (told_lists (F.history log.new.disk) log.new.end (length log.new.counts))) }
     ensures keeps { OnErr result (AddsIdentity member text.now (told_lists (F.history log.old.disk) log.old.end (length log.old.counts)) (told_lists (F.history log.new.disk) log.new.end (length log.new.counts)) ⊎ KeepsJournals (told_lists (F.history log.old.disk) log.old.end (length log.old.counts)) (told_lists (F.history log.new.disk) log.new.end (length log.new.counts))) }
@@ -39,6 +42,7 @@ fn keep_identity<F: Disk>(
     ensures width { length log.new.counts ≡ 65 }
     ensures later { F.failed log.old.disk ≤ F.failed log.new.disk }
     ensures fault { IsErrOf result stop.KeepFault → Rose (F.failed log.old.disk) (F.failed log.new.disk) }
+    ensures alone { OnOk result (HasIdentity member text.now (F.history log.new.disk)) }
 {
     let genesis = genesis_digest(text);
     let bytes = match identity_of(alloc, member, &genesis) {
@@ -53,7 +57,7 @@ fn keep_identity<F: Disk>(
 }
 
 /// Appends the first record to a log that has none, and says so. Answers the status.
-#[tactic(auto, using(crate::proofs::Made::made, crate::proofs::Made::unmade))]
+#[tactic(auto, using(crate::proofs::Made::made, crate::proofs::Made::unmade, crate::proofs::Made::made_alone, crate::proofs::Made::unmade_alone))]
 fn make_first<F: Disk, K: Sink>(
     alloc: Global,
     log: &mut RunLog<F>,
@@ -63,7 +67,9 @@ fn make_first<F: Disk, K: Sink>(
 ) -> u8
     requires width { length log.old.counts ≡ 65 }
     requires fresh { AreFresh (told_lists (F.history log.old.disk) log.old.end (length log.old.counts)) }
-    ensures { EndsLists member text.now (K.held sink.old) (K.held sink.new) (told_lists (F.history log.old.disk) log.old.end (length log.old.counts)) (told_lists (F.history log.new.disk) log.new.end (length log.new.counts)) (K.faults sink.old) (K.faults sink.new) (F.failed log.old.disk) (F.failed log.new.disk) result }
+    requires empty { IfTold (F.history log.old.disk) (IsEmptyTo log.old.end true) }
+    ensures ends { EndsLists member text.now (K.held sink.old) (K.held sink.new) (told_lists (F.history log.old.disk) log.old.end (length log.old.counts)) (told_lists (F.history log.new.disk) log.new.end (length log.new.counts)) (K.faults sink.old) (K.faults sink.new) (F.failed log.old.disk) (F.failed log.new.disk) result }
+    ensures alone { result ≡ 0 → HasIdentity member text.now (F.history log.new.disk) }
 {
     match keep_identity(alloc, log, member, text) {
         Ok(start) => say_ended(alloc, &start, sink),
@@ -72,7 +78,7 @@ fn make_first<F: Disk, K: Sink>(
 }
 
 /// Appends the first record to a log that has none. Answers the status.
-#[tactic(auto, using(crate::proofs::Made::no_lists, crate::proofs::Made::full))]
+#[tactic(auto, using(crate::proofs::Made::no_lists, crate::proofs::Made::full, crate::proofs::Made::still_empty, crate::proofs::Made::full_alone))]
 fn make_over<F: Disk, K: Sink>(
     alloc: Global,
     log: &mut RunLog<F>,
@@ -81,7 +87,8 @@ fn make_over<F: Disk, K: Sink>(
     sink: &mut K,
 ) -> u8
     requires width { length log.old.counts ≡ 65 }
-    ensures { EndsLists member text.now (K.held sink.old) (K.held sink.new) (told_lists (F.history log.old.disk) log.old.end (length log.old.counts)) (told_lists (F.history log.new.disk) log.new.end (length log.new.counts)) (K.faults sink.old) (K.faults sink.new) (F.failed log.old.disk) (F.failed log.new.disk) result }
+    ensures ends { EndsLists member text.now (K.held sink.old) (K.held sink.new) (told_lists (F.history log.old.disk) log.old.end (length log.old.counts)) (told_lists (F.history log.new.disk) log.new.end (length log.new.counts)) (K.faults sink.old) (K.faults sink.new) (F.failed log.old.disk) (F.failed log.new.disk) result }
+    ensures alone { result ≡ 0 → HasIdentity member text.now (F.history log.new.disk) }
 {
     if log.is_empty() {
         return make_first(alloc, log, member, text, sink);
