@@ -71,7 +71,7 @@ module _ (m : ℕ) (text : List ℕ) (h h' : History) (held held' : Option (List
   unstarted-zero (unstarted.Stopped why) is said = never_zero why status said.0 nought
 
   unopened-zero : (why : Unopened) → SaysUnopened why held held' w w' status → ⊥
-  unopened-zero unopened.BadList said = let e : 8 ≡ 0 = said_zero start.NotMade held held' w w' status said nought in cc
+  unopened-zero unopened.BadList said = absurd (let e : 8 ≡ 0 = said_zero start.NotMade held held' w w' status said nought in cc)
   unopened-zero (unopened.Stopped why) said = never_zero why status said.0 nought
 
   making-alone : EndsMaking m text (Some h) (Some h') held held' w w' k k' status → HoldsOnly (identity_record m (genesis_digest text) ∷ []) h'
@@ -166,7 +166,7 @@ module _ (scene : Scene) (m : ℕ) (few : m ≤ 63) (text : List ℕ) (genesis :
   start-refused : (line : StartLine) → StartsAs accepts scene m (kept_in (Some p.first)) (Err (unstarted.Refused line)) → ⊥
   start-refused line (records, are, starts) =
       let e : started_in accepts scene m [] ≡ Err line = subst (λ (kept : List (List ℕ)). started_in accepts scene m kept ≡ Err line) (are ∙ empty) starts in
-      let no : seat_ok (seat_at scene.terms m (fresh scene.opening)) ≡ Err line = sym from-none ∙ e in
+      let never : seat_ok (seat_at scene.terms m (fresh scene.opening)) ≡ Err line = sym from-none ∙ e in
       cc
 
   list-known : (at : ℕ) → bad_member 65 0 (counted p.first.now.reads) ≡ Some at → ⊥
@@ -179,8 +179,8 @@ module _ (scene : Scene) (m : ℕ) (few : m ≤ 63) (text : List ℕ) (genesis :
   life-starts : (k : ℕ) (lists : Option Journals) → p.disk_before ≤ k → EndsLife accepts scene m p.asked p.unread p.held p.holds (kept_in (Some p.first)) lists p.read_before p.read_faults p.write_before p.write_faults k p.disk_faults p.status → IsUp scene m p ⊎ IsStopped p
   life-starts k lists later (inl whole) = inl (record { empty = empty; opened = k; lists = lists; lived = inl whole })
   life-starts k lists later (inr (inl cut)) = inl (record { empty = empty; opened = k; lists = lists; lived = inr cut })
-  life-starts k lists later (inr (inr (inl no))) = absurd (start-refused no.line no.starts)
-  life-starts k lists later (inr (inr (inr no))) = stopped no.why (inside-cause k later no.why no.inside no.cause) no.ends no.unread no.unsaid
+  life-starts k lists later (inr (inr (inl refused))) = absurd (start-refused refused.line refused.starts)
+  life-starts k lists later (inr (inr (inr broken))) = stopped broken.why (inside-cause k later broken.why broken.inside broken.cause) broken.ends broken.unread broken.unsaid
 
   unopened-starts : (k : ℕ) → p.disk_before ≤ k → (why : Unopened) → IsUnopenedBy why (Some p.first) k p.disk_faults → p.unread ≡ p.asked → SaysUnopened why p.held p.holds p.write_before p.write_faults p.status → IsUp scene m p ⊎ IsStopped p
   unopened-starts k later unopened.BadList cause unread said = absurd (list-known cause.0 cause.1)

@@ -38,7 +38,8 @@ module _ (m : ℕ) (g : Digest) where
   head-bytes tail is = identity-parts (take 56 tail) is
 
   if-long : (b : Bool) (h : Head) → b ≡ false → (if b then head.Unmade else h) ≡ h
-  if-long b h no = rw no refl
+  if-long true h short = absurd (cc)
+  if-long false h short = refl
 
   head-file : (tail : List ℕ) → 56 < length tail → take 56 tail ≡ identity_bytes m g → head_of_file m g (1 ∷ 56 ∷ 0 ∷ 0 ∷ 0 ∷ 64 ∷ 0 ∷ 0 ∷ 0 ∷ tail) ≡ head.Own
   head-file tail long is =
