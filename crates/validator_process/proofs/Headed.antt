@@ -9,6 +9,7 @@ use Rattle.digest_core.specs.declared.Digest.{Digest}
 use Rattle.disk_log.specs.Records.{Record, behind_record, count_in, counted, is_counted, record_in}
 use Rattle.disk_log.proofs.Counting.{counted-step}
 use Rattle.protocol_spec.proofs.ListLemmas.{and-first, and-second}
+use Rattle.protocol_spec.proofs.Truth.{both_true}
 use Rattle.validator_process.specs.declared.identity.Head.{Head}
 use Rattle.validator_process.specs.declared.identity.Head.TheVariants as head
 use Rattle.validator_process.specs.Identity.{front, head_of_bytes, head_of_file, head_of_parts, identity_bytes, identity_record, mark}
@@ -21,14 +22,11 @@ same-bytes xs = (bytes_eq-Decides xs xs).1 refl
 all-true : (a b c : Bool) → a ≡ true → b ≡ true → c ≡ true → (if a then (if b then (if c then head.Own else head.OtherGenesis) else head.OtherMember) else head.Unmade) ≡ head.Own
 all-true a b c x y z = rw (x, y, z) refl
 
-both : (a b : Bool) → a ≡ true → b ≡ true → (a && b) ≡ true
-both a b x y = rw (x, y) refl
-
 module _ (m : ℕ) (g : Digest) where
   own-parts : head_of_parts m g front mark (to_le_bytes w32 m) g.0 ≡ head.Own
   own-parts =
       all-true (bytes_eq front front && bytes_eq mark mark) (bytes_eq (to_le_bytes w32 m) (to_le_bytes w32 m)) (bytes_eq g.0 g.0)
-      (both (bytes_eq front front) (bytes_eq mark mark) (same-bytes front) (same-bytes mark)) (same-bytes (to_le_bytes w32 m)) (same-bytes g.0)
+      (both_true (bytes_eq front front) (bytes_eq mark mark) (same-bytes front) (same-bytes mark)) (same-bytes (to_le_bytes w32 m)) (same-bytes g.0)
 
   identity-parts : (bytes : List ℕ) → bytes ≡ identity_bytes m g → head_of_parts m g front (take 20 bytes) (take 4 (drop 20 bytes)) (drop 4 (drop 20 bytes)) ≡ head.Own
   identity-parts bytes is = subst (λ (b : List ℕ). head_of_parts m g front (take 20 b) (take 4 (drop 20 b)) (drop 4 (drop 20 b)) ≡ head.Own) (sym is) own-parts
