@@ -145,7 +145,7 @@ fn wanting(
 }
 
 /// The task that a link comes from hands on its version.
-fn give(tasks: &mut Vec<Task>, link: &Link) -> Result<(), OutOfMemory>
+fn give(tasks: &mut Vec<Task<'_>>, link: &Link) -> Result<(), OutOfMemory>
     ensures { OnOk result (tasks.new.items ≡ given tasks.old.items link.now) }
 {
     match tasks.get_mut(link.from as usize) {
@@ -155,7 +155,7 @@ fn give(tasks: &mut Vec<Task>, link: &Link) -> Result<(), OutOfMemory>
 }
 
 /// So do the tasks of all these links.
-fn give_all(tasks: &mut Vec<Task>, links: &[Link]) -> Result<(), OutOfMemory>
+fn give_all(tasks: &mut Vec<Task<'_>>, links: &[Link]) -> Result<(), OutOfMemory>
     ensures { OnOk result (tasks.new.items ≡ all_given tasks.old.items links.now) }
 {
     let mut rest = links;
@@ -183,13 +183,13 @@ fn add_edges(edges: &mut Seq<Edge>, links: &[Link]) -> Result<(), OutOfMemory>
 
 /// The tasks and edges so far. Contracts see them, and the planned transactions by their numbers.
 #[derive(Drop)]
-pub(crate) struct Draft {
+pub(crate) struct Draft<'a> {
     numbers: IndexSet<Digest>,
-    tasks: Vec<Task>,
+    tasks: Vec<Task<'a>>,
     edges: Seq<Edge>,
 }
 
-impl Model for Draft {
+impl<'a> Model for Draft<'a> {
     ghost use Rattle.exec_plan.specs.Drafts.{Drafted};
 
     ghost Value = { Drafted };
@@ -197,9 +197,9 @@ impl Model for Draft {
     ghost view = { λ d. record { keys = d.numbers.keys; tasks = d.tasks.items; edges = d.edges } };
 }
 
-impl Draft {
+impl<'a> Draft<'a> {
     /// Nothing so far. Takes no memory.
-    pub(crate) fn new(alloc: Global) -> Draft
+    pub(crate) fn new(alloc: Global) -> Draft<'a>
         ensures { result ≡ nothing_drafted }
     {
         Draft {
@@ -215,10 +215,10 @@ impl Draft {
         alloc: Global,
         store: &Store,
         admission: &Admission,
-        held: &Held,
-    ) -> Result<Draft, OutOfMemory>
+        held: &'a Held,
+    ) -> Result<Draft<'a>, OutOfMemory>
         requires { IsSound held.now }
-        ensures { IfOk result (λ draft. draft ≡ drafted_with (held_in store.now) (wants_of admission.now.admission held.now) self held.now) }
+        ensures { IfOk result (λ draft. draft ≡ drafted_with (held_in store.now) (wants_of admission.now.admission held.now) self.entry held.now) }
     {
         let mut numbers = self.numbers;
         let mut tasks = self.tasks;
@@ -230,7 +230,7 @@ impl Draft {
         let wanting = wanting(alloc, store, &numbers, needs.as_slice())?;
         give_all(&mut tasks, wanting.links.as_slice())?;
         add_edges(&mut edges, wanting.links.as_slice())?;
-        tasks.push(Task::bare(alloc, held, wanting.wants)?)?;
+        tasks.push(Task::bare(alloc, held, wanting.wants))?;
         numbers.insert(held.digest)?;
         Ok(Draft {
             numbers,
@@ -240,12 +240,12 @@ impl Draft {
     }
 }
 
-impl Draft {
+impl<'a> Draft<'a> {
     /// The plan. A plan of 2^31 tasks or edges counts as running out of memory.
-    pub(crate) fn into_plan(self, alloc: Global) -> Result<Plan<Task>, OutOfMemory>
+    pub(crate) fn into_plan(self, alloc: Global) -> Result<Plan<Task<'a>>, OutOfMemory>
         requires { IsDraft self }
-        ensures jobs { IfOk result (λ plan. plan.jobs ≡ self.tasks) }
-        ensures edges { IfOk result (λ plan. plan.edges ≡ self.edges) }
+        ensures jobs { IfOk result (λ plan. plan.jobs ≡ self.entry.tasks) }
+        ensures edges { IfOk result (λ plan. plan.edges ≡ self.entry.edges) }
     {
         let tasks = Seq::from_vec(self.tasks);
         if tasks.len() >= LIMIT as u64 || self.edges.len() >= LIMIT as u64 {
@@ -261,16 +261,16 @@ impl Draft {
 
 /// With the task of the certificate at a place, if there is one.
 #[tactic(auto, using(protocol_spec::proofs::ListLemmas::each_at))]
-fn with_at(
-    draft: Draft,
+fn with_at<'a>(
+    draft: Draft<'a>,
     alloc: Global,
     store: &Store,
     admission: &Admission,
-    held: &[Held],
+    held: &'a [Held],
     place: usize,
-) -> Result<Draft, OutOfMemory>
+) -> Result<Draft<'a>, OutOfMemory>
     requires { Each IsSound held.now }
-    ensures { IfOk result (λ more. more ≡ drafted_at (held_in store.now) admission.now.admission draft (slice_get held.now place)) }
+    ensures { IfOk result (λ more. more ≡ drafted_at (held_in store.now) admission.now.admission draft.entry (slice_get held.now place)) }
 {
     match held.get(place) {
         Some(held) => draft.with(alloc, store, admission, held),
@@ -279,13 +279,13 @@ fn with_at(
 }
 
 /// The tasks of the certificates at these places, and the edges between them.
-pub(crate) fn draft_all(
+pub(crate) fn draft_all<'a>(
     alloc: Global,
     store: &Store,
     admission: &Admission,
-    held: &[Held],
+    held: &'a [Held],
     places: &[usize],
-) -> Result<Draft, OutOfMemory>
+) -> Result<Draft<'a>, OutOfMemory>
     requires { Each IsSound held.now }
     ensures { IfOk result (λ draft. draft ≡ drafted_after (held_in store.now) admission.now.admission nothing_drafted (picked held.now places.now)) }
 {

@@ -1,6 +1,6 @@
 //! Which outputs of a plan are kept.
 
-ghost use Rattle.std.specs.Prelude.{◌≡◌, ◌++◌, ◌&&◌, IfOk, OnOk, false, map};
+ghost use Rattle.std.specs.Prelude.{◌≡◌, ◌∷◌, ◌++◌, ◌&&◌, [], IfOk, MatchOption, OnOk, false, map, reverse};
 ghost use Rattle.std.specs.List.{list_all};
 ghost use Rattle.protocol_spec.specs.Block.Execution.{written_keys};
 ghost use Rattle.protocol_spec.specs.Member.Rounds.{writes_new};
@@ -46,7 +46,7 @@ fn are_kept(store: &Store, wants: &[Want]) -> bool
 }
 
 /// Whether what a task gave is kept: all that makes what it wants is executed, and all that it writes is new.
-fn keeps(store: &Store, task: &Task, gave: &HashedExecuted) -> Result<bool, OutOfMemory>
+fn keeps(store: &Store, task: &Task<'_>, gave: &HashedExecuted) -> Result<bool, OutOfMemory>
     ensures { IfOk result (λ keeps. keeps ≡ (list_all (is_origin_kept store.now.executed) task.now.wants && writes_new (held_in store.now) (written_keys gave.now))) }
 {
     if !are_kept(store, task.wants()) {
@@ -60,22 +60,21 @@ fn keep_done(
     alloc: Global,
     store: &mut Store,
     effects: &mut Seq<HashedEffects>,
-    task: &Task,
-    gave: &HashedExecuted,
+    task: &Task<'_>,
+    gave: HashedExecuted,
 ) -> Result<(), OutOfMemory>
-    requires named { gave.now.effects.tx ≡ task.now.digest }
+    requires named { gave.effects.tx ≡ task.now.digest }
     requires first { is_executed store.old.executed task.now.digest ≡ false }
-    ensures written { OnOk result (store.new ≡ with_kept store.old (keep_as store.old.opening store.old.executed task.now (Done gave.now))) }
-    ensures copied { OnOk result (effects.new ≡ with_effects effects.old (keep_as store.old.opening store.old.executed task.now (Done gave.now))) }
+    ensures written { OnOk result (store.new ≡ with_kept store.old (keep_as store.old.opening store.old.executed task.now (Done gave))) }
+    ensures copied { OnOk result (effects.new ≡ with_effects effects.old (keep_as store.old.opening store.old.executed task.now (Done gave))) }
     ensures opening { store.new.opening ≡ store.old.opening }
 {
-    if !keeps(store, task, gave)? {
+    if !keeps(store, task, &gave)? {
         return Ok(());
     }
-    effects.push(gave.effects().copy()?)?;
-    let hashed = gave.effects().copy()?;
+    let (hashed, objects) = gave.into_parts();
+    effects.push(hashed.copy()?)?;
     let consumed = task.consumed(alloc)?;
-    let objects = gave.objects().copy()?;
     store.write(hashed, objects, &consumed)
 }
 
@@ -84,16 +83,16 @@ fn keep_one(
     alloc: Global,
     store: &mut Store,
     effects: &mut Seq<HashedEffects>,
-    task: &Task,
-    output: &(Digest, Outcome),
+    task: &Task<'_>,
+    output: (Digest, Outcome),
 ) -> Result<(), OutOfMemory>
-    requires named { IsNamed task.now output.now.1 }
+    requires named { IsNamed task.now output.1 }
     requires first { is_executed store.old.executed task.now.digest ≡ false }
-    ensures written { OnOk result (store.new ≡ with_kept store.old (keep_as store.old.opening store.old.executed task.now output.now.1)) }
-    ensures copied { OnOk result (effects.new ≡ with_effects effects.old (keep_as store.old.opening store.old.executed task.now output.now.1)) }
+    ensures written { OnOk result (store.new ≡ with_kept store.old (keep_as store.old.opening store.old.executed task.now output.1)) }
+    ensures copied { OnOk result (effects.new ≡ with_effects effects.old (keep_as store.old.opening store.old.executed task.now output.1)) }
     ensures opening { store.new.opening ≡ store.old.opening }
 {
-    match &output.1 {
+    match output.1 {
         Outcome::Done(gave) => keep_done(alloc, store, effects, task, gave),
         Outcome::Absent { .. } => Ok(()),
         Outcome::Unfit => Ok(()),
@@ -101,28 +100,43 @@ fn keep_one(
     }
 }
 
+/// The outputs, the last one first.
+fn turned(outputs: Seq<(Digest, Outcome)>) -> Seq<(Digest, Outcome)>
+    ensures { reverse result ≡ outputs }
+{
+    let mut turned = outputs.into_vec();
+    turned.as_mut_slice().reverse();
+    Seq::from_vec(turned)
+}
+
+/// Takes the first output out of those that are left, which stand with the last one first.
+fn take_first(left: &mut Seq<(Digest, Outcome)>) -> Option<(Digest, Outcome)>
+    ensures { MatchOption result (reverse left.old ≡ []) (λ output. reverse left.old ≡ output ∷ reverse left.new) }
+{
+    left.pop()
+}
+
 /// Likewise for all these tasks, from the first on.
 pub(crate) fn keep_all(
     alloc: Global,
     store: &mut Store,
     effects: &mut Seq<HashedEffects>,
-    tasks: &[Task],
-    outputs: &[(Digest, Outcome)],
+    tasks: &[Task<'_>],
+    outputs: Seq<(Digest, Outcome)>,
 ) -> Result<(), OutOfMemory>
-    requires { CanBeKept store.old.opening store.old.executed tasks.now outputs.now }
-    ensures written { OnOk result (store.new ≡ with_executions store.old (kept_of store.old.opening store.old.executed tasks.now outputs.now)) }
-    ensures copied { OnOk result (effects.new ≡ effects.old ++ map effects_of (kept_of store.old.opening store.old.executed tasks.now outputs.now)) }
+    requires { CanBeKept store.old.opening store.old.executed tasks.now outputs }
+    ensures written { OnOk result (store.new ≡ with_executions store.old (kept_of store.old.opening store.old.executed tasks.now outputs)) }
+    ensures copied { OnOk result (effects.new ≡ effects.old ++ map effects_of (kept_of store.old.opening store.old.executed tasks.now outputs)) }
     ensures opening { store.new.opening ≡ store.old.opening }
 {
+    let mut left = turned(outputs);
     let mut rest = tasks;
-    let mut left = outputs;
     while let [task, after @ ..] = rest {
-        let [output, others @ ..] = left else {
+        let Some(output) = take_first(&mut left) else {
             return Ok(());
         };
         keep_one(alloc, store, effects, task, output)?;
         rest = after;
-        left = others;
     }
     Ok(())
 }

@@ -21,7 +21,7 @@ use version_store::Store;
 use wire_bcs::{OutOfMemory, Seq};
 
 /// This many workers, and no more than tasks, but one at least.
-fn workers_for(ready: &Ready, workers: u32) -> u32
+fn workers_for(ready: &Ready<'_>, workers: u32) -> u32
     requires { (0 < workers) × (workers ≤ 16) }
     ensures { (0 < result) × (result ≤ 16) }
 {
@@ -56,5 +56,5 @@ pub fn run_pooled<R: Threads + Sync, G: Gate + Sync>(
     let (board, seat) = Board::lay(alloc, &ready.plan)?;
     let workers = workers_for(&ready, workers);
     let run = run_plan(rt, alloc, &ready.plan, &board, seat, workers, gate)?;
-    settle(alloc, store, admission, waiting, held, &ready, &run.outputs)
+    settle(alloc, store, admission, waiting, held, &ready, run.outputs)
 }

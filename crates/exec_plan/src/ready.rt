@@ -21,9 +21,9 @@ use wire_bcs::{OutOfMemory, Seq};
 
 /// What a run plans.
 #[derive(Drop)]
-pub struct Ready {
+pub struct Ready<'a> {
     /// A task for each planned certificate, and an edge for each version that one task makes for a later one.
-    pub plan: Plan<Task>,
+    pub plan: Plan<Task<'a>>,
     /// The places that were taken out of what waits, those of all planned certificates among them.
     pub taken: Seq<usize>,
 }
@@ -35,13 +35,13 @@ pub struct Ready {
 /// the outputs are settled. The only error is that memory is refused, or that there are 2^31 tasks or edges: nothing is then
 /// promised of what waits. Looks at what waits for nothing, and at what waits for a planned transaction, once for each such
 /// transaction.
-pub fn plan_ready(
+pub fn plan_ready<'a>(
     alloc: Global,
     store: &Store,
     admission: &Admission,
     waiting: &mut Waiting,
-    held: &[Held],
-) -> Result<Ready, OutOfMemory>
+    held: &'a [Held],
+) -> Result<Ready<'a>, OutOfMemory>
     requires sound { Each IsSound held.now }
     requires apart { AreApart held.now }
     requires waiting { IsWaiting store.now admission.now.admission held.now waiting.old }

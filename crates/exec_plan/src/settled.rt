@@ -38,15 +38,15 @@ pub fn settle(
     admission: &Admission,
     waiting: &mut Waiting,
     held: &[Held],
-    ready: &Ready,
-    outputs: &Seq<(Digest, Outcome)>,
+    ready: &Ready<'_>,
+    outputs: Seq<(Digest, Outcome)>,
 ) -> Result<Seq<HashedEffects>, OutOfMemory>
     requires sound { Each IsSound held.now }
     requires apart { AreApart held.now }
     requires tasks { ready.now.plan.jobs ≡ tasks_of (books_of store.old admission.now.admission held.now) store.old.executed }
     requires edges { ready.now.plan.edges ≡ edges_of (books_of store.old admission.now.admission held.now) store.old.executed }
     requires parked { AreParked store.old admission.now.admission (planned_of (books_of store.old admission.now.admission held.now) store.old.executed) ready.now.taken held.now waiting.old }
-    requires outputs { outputs.now ≡ plan_outputs ready.now.plan }
+    requires outputs { outputs ≡ plan_outputs ready.now.plan }
     ensures written { OnOk result (store.new ≡ with_executions store.old (rounds (books_of store.old admission.now.admission held.now) store.old.executed)) }
     ensures effects { IfOk result (λ effects. effects ≡ map effects_of (rounds (books_of store.old admission.now.admission held.now) store.old.executed)) }
     ensures waiting { OnOk result (IsWaiting store.new admission.now.admission held.now waiting.new) }
@@ -58,7 +58,7 @@ pub fn settle(
         store,
         &mut effects,
         ready.plan.jobs.as_slice(),
-        outputs.as_slice(),
+        outputs,
     )?;
     let none = IndexSet::new(alloc);
     let past = Past::of(store, &none);
@@ -86,5 +86,5 @@ pub fn run_planned(
 {
     let ready = plan_ready(alloc, store, admission, waiting, held)?;
     let outputs = evaluate_plain(alloc, &ready.plan)?;
-    settle(alloc, store, admission, waiting, held, &ready, &outputs)
+    settle(alloc, store, admission, waiting, held, &ready, outputs)
 }

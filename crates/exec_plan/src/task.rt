@@ -11,13 +11,13 @@ ghost use Rattle.exec_plan.specs.Gathering.{gathered_after, is_lacking};
 ghost use Rattle.exec_plan.specs.Tasks.{carry_as, carry_of, first_carry, is_at, is_not_run, object_of, other_carries, outcome_of, outcome_with};
 
 use answer_types::Held;
-use chain_types::{HashedObject, Object, ObjectKey, Producer, Transaction, owned_keys};
+use chain_types::{HashedObject, Object, ObjectKey, Producer, owned_keys};
 use dag_core::Job;
 use digest_core::Digest;
 use ptb_run::{HashedExecuted, execute_hashed, fits_hashed};
 use std::alloc::Global;
 use std::marker::Model;
-use wire_bcs::{Duplicate, OutOfMemory, Seq};
+use wire_bcs::{OutOfMemory, Seq};
 
 /// What an edge carries of a wanted version: the object, or that the transaction that was to make it did not, or
 /// that this was not executed.
@@ -57,24 +57,23 @@ pub struct Want {
     pub slot: Slot,
 }
 
-/// The execution of one certified transaction. Contracts see its digest, the transaction, what it wants, and the keys of
-/// what it hands on, one for each outgoing edge. No task holds a result.
+/// The execution of one certified transaction, whose certificate is held. Contracts see its digest, the transaction, what it
+/// wants, and the keys of what it hands on, one for each outgoing edge. No task holds a result.
 #[derive(Debug, Drop)]
-pub struct Task {
-    digest: Digest,
-    tx: Transaction,
+pub struct Task<'a> {
+    held: &'a Held,
     wants: Seq<Want>,
     gives: Seq<ObjectKey>,
 }
 
-impl Model for Task {
+impl<'a> Model for Task<'a> {
     ghost use Rattle.exec_plan.specs.Tasks.{IsSoundTask, Planned};
 
     ghost Value = { Planned };
 
-    ghost view = { λ t. record { digest = t.digest; tx = t.tx; wants = t.wants; gives = t.gives } };
+    ghost view = { λ t. record { digest = t.held.now.digest; tx = t.held.now.cert.tx; wants = t.wants; gives = t.gives } };
 
-    ghost invariant = { λ t. IsSoundTask t.tx t.digest };
+    ghost invariant = { λ t. IsSoundTask t.held.now.cert.tx t.held.now.digest };
 }
 
 /// What there is of the wants of a task: all objects, or the first want of which there is nothing.
@@ -167,19 +166,17 @@ fn carry_of(outcome: &Outcome, key: &ObjectKey) -> Carry
     }
 }
 
-impl Task {
-    /// The task of a held certificate that wants this, and hands on nothing yet.
-    pub(crate) fn bare(alloc: Global, held: &Held, wants: Seq<Want>) -> Result<Task, OutOfMemory>
+impl<'a> Task<'a> {
+    /// The task of a held certificate that wants this, and hands on nothing yet. Takes no memory.
+    pub(crate) fn bare(alloc: Global, held: &'a Held, wants: Seq<Want>) -> Task<'a>
         requires { IsSound held.now }
-        ensures { IfOk result (λ task. task ≡ bare_task held.now wants) }
+        ensures { result ≡ bare_task held.now wants }
     {
-        let tx = held.cert.tx.copy()?;
-        Ok(Task {
-            digest: held.digest,
-            tx,
+        Task {
+            held,
             wants,
             gives: Seq::new(alloc),
-        })
+        }
     }
 
     /// It hands on one more version.
@@ -200,7 +197,7 @@ impl Task {
     pub(crate) fn consumed(&self, alloc: Global) -> Result<Seq<ObjectKey>, OutOfMemory>
         ensures { IfOk result (λ keys. keys ≡ consumed_keys self.now.tx) }
     {
-        owned_keys(alloc, &self.tx)
+        owned_keys(alloc, &self.held.cert.tx)
     }
 
     /// What comes of it on these objects.
@@ -212,10 +209,10 @@ impl Task {
         ensures { IfOk result (λ outcome. outcome ≡ outcome_with self.now.tx objects.now) }
     {
         let inputs = HashedObject::plain(alloc, objects.as_slice())?;
-        if !fits_hashed(&self.tx, objects.as_slice(), inputs.as_slice()) {
+        if !fits_hashed(&self.held.cert.tx, objects.as_slice(), inputs.as_slice()) {
             return Ok(Outcome::Unfit);
         }
-        let gave = execute_hashed(alloc, &self.tx, &self.digest, &inputs)?;
+        let gave = execute_hashed(alloc, &self.held.cert.tx, &self.held.digest, &inputs)?;
         Ok(Outcome::Done(gave))
     }
 
@@ -278,7 +275,7 @@ fn carries_of(
     Ok(carries)
 }
 
-impl Job for Task {
+impl Job for Task<'_> {
     type Value = Carry;
 
     type Output = (Digest, Outcome);
@@ -303,6 +300,6 @@ impl Job for Task {
     ) -> Result<((Digest, Outcome), Seq<Carry>), OutOfMemory> {
         let outcome = self.outcome(alloc, inputs.as_slice())?;
         let carries = carries_of(alloc, &outcome, self.gives.as_slice())?;
-        Ok(((self.digest, outcome), carries))
+        Ok(((self.held.digest, outcome), carries))
     }
 }

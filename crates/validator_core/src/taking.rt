@@ -32,7 +32,7 @@ impl Course {
         ensures seen { self.new.seen ≡ self.old.seen }
     {
         if self.held.has(&new.digest) {
-            return self.admission.push(&new.digest, &new.cert);
+            return self.admission.enter(new);
         }
         self.waiting
             .hold(&self.store, &self.admission, self.held.as_slice(), &new)?;

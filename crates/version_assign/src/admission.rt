@@ -15,14 +15,14 @@ use crate::register::Register;
 use crate::shared::shared_objects;
 use crate::taken::Taken;
 use crate::waits::Waits;
-use answer_types::Assigned;
+use answer_types::{Assigned, Held};
 use chain_messages::Certificate;
 use chain_types::{Object, ObjectId};
 use digest_core::Digest;
 use indexmap::{IndexMap, IndexSet};
 use std::alloc::Global;
 use std::marker::Model;
-use wire_bcs::{OutOfMemory, Seq};
+use wire_bcs::{Duplicate, OutOfMemory, Seq};
 
 /// The certificates of one epoch's sequence: those that were admitted, dropped, or wait. Contracts see the shared
 /// objects with which the epoch opened, the limit of writers, and these lists.
@@ -115,7 +115,21 @@ impl Admission {
         ensures dropped { IfOk result (λ taken. taken.dropped ≡ dropped_since self.old.admission self.new.admission) }
         ensures err { OnErr result (self.new ≡ self.old) }
     {
-        self.register.push(self.alloc, tx, cert)
+        let cert = cert.copy()?;
+        self.enter(Held { digest: *tx, cert })
+    }
+
+    /// The same, of a certificate that is handed over: it is kept as it is, and not copied. It is gone after a refusal.
+    pub fn enter(&mut self, new: Held) -> Result<Taken, OutOfMemory>
+        requires shaped { shape_fault new.cert.tx ≡ None }
+        requires origins { length new.cert.origins ≡ length (objects_of new.cert.tx) }
+        requires new { is_known self.old.admission new.digest ≡ false }
+        ensures entered { OnOk result (self.new ≡ with_entry self.old new) }
+        ensures admitted { IfOk result (λ taken. taken.admitted ≡ admitted_since self.old.admission self.new.admission) }
+        ensures dropped { IfOk result (λ taken. taken.dropped ≡ dropped_since self.old.admission self.new.admission) }
+        ensures err { OnErr result (self.new ≡ self.old) }
+    {
+        self.register.push(self.alloc, new)
     }
 
     /// Takes a Commit mark, after its cut: the writers are counted anew, and what waited for that is admitted or dropped,

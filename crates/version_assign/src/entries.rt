@@ -19,12 +19,11 @@ use crate::book::{Admit, Book, Row, push_in_room};
 use crate::lines::{Line, clear_lines, make_lines};
 use crate::taken::Taken;
 use answer_types::{Assigned, Held};
-use chain_messages::Certificate;
 use chain_types::ObjectId;
 use digest_core::Digest;
 use indexmap::{IndexMap, IndexSet};
 use std::alloc::Global;
-use wire_bcs::{Duplicate, OutOfMemory, Seq};
+use wire_bcs::{OutOfMemory, Seq};
 
 /// Notes a digest that is new; there is room.
 fn note_digest(known: &mut IndexSet<Digest>, tx: Digest)
@@ -112,21 +111,12 @@ fn list_dropped(list: Vec<Digest>, dropped: &[Digest], from: usize) -> Vec<Diges
 
 impl Book {
     /// The row of a certificate.
-    pub(crate) fn row_of(
-        &self,
-        alloc: Global,
-        tx: &Digest,
-        cert: &Certificate,
-    ) -> Result<Row, OutOfMemory>
+    pub(crate) fn row_of(&self, alloc: Global, held: Held) -> Result<Row, OutOfMemory>
         requires { IsKept self.now }
-        ensures { IfOk result (λ row. IsRowOf (opening_of self.now) (record { digest = tx.now; cert = cert.now }) row) }
+        ensures { IfOk result (λ row. IsRowOf (opening_of self.now) held row) }
     {
-        let assigned = all_begun(alloc, &self.opening, cert)?;
-        let cert = cert.copy()?;
-        Ok(Row {
-            held: Held { digest: *tx, cert },
-            assigned,
-        })
+        let assigned = all_begun(alloc, &self.opening, &held.cert)?;
+        Ok(Row { held, assigned })
     }
 
     /// Makes room for one more row: after it nothing that waits can be refused memory.

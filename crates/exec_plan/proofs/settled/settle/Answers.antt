@@ -1,4 +1,4 @@
-use Rattle.std.proofs.Common.{◌++◌, ◌∙◌, List, ap, map}
+use Rattle.std.proofs.Common.{◌++◌, ◌∙◌, List, ap, map, refl}
 use Rattle.effects_core.specs.declared.effects.Effects.{Effects}
 use Rattle.exec_plan.specs.Tasks.{kept_of}
 use Rattle.exec_plan.specs.Books.{effects_of}
@@ -8,26 +8,26 @@ use Rattle.exec_plan.proofs.settled.settle.Goals as goal
 
 pub keep_all-requires : goal.keep_all-requires
 keep_all-requires c =
-    can_keep c.args.store.now c.args.admission.now.admission c.args.held.now c.args.ready.now.plan.jobs c.as_slice.result.now c.args.ready.now.plan.edges c.args.outputs.now c.as_slice-2.result.now c.requires.apart
-    c.requires.tasks c.requires.edges c.requires.outputs c.as_slice.ensures.value c.as_slice-2.ensures.value c.requires.sound
+    can_keep c.args.store.now c.args.admission.now.admission c.args.held.now c.args.ready.now.plan.jobs c.as_slice.result.now c.args.ready.now.plan.edges c.args.outputs c.args.outputs c.requires.apart
+    c.requires.tasks c.requires.edges c.requires.outputs c.as_slice.ensures.value refl c.requires.sound
 
 pub file_each-requires : goal.file_each-requires
 file_each-requires c =
-    files c.args.store.now c.args.admission.now.admission c.args.held.now c.args.ready.now.plan.jobs c.as_slice.result.now c.args.ready.now.plan.edges c.args.outputs.now c.as_slice-2.result.now c.requires.apart
-    c.requires.tasks c.requires.edges c.requires.outputs c.as_slice.ensures.value c.as_slice-2.ensures.value
-    c.args.ready.now.taken c.as_slice-3.result.now c.args.waiting.now c.of-past.result c.as_slice-3.ensures.value (c.of-past.ensures ∙ c.in_ok-keep_all.ensures.written) c.requires.parked
+    files c.args.store.now c.args.admission.now.admission c.args.held.now c.args.ready.now.plan.jobs c.as_slice.result.now c.args.ready.now.plan.edges c.args.outputs c.args.outputs c.requires.apart
+    c.requires.tasks c.requires.edges c.requires.outputs c.as_slice.ensures.value refl
+    c.args.ready.now.taken c.as_slice-2.result.now c.args.waiting.now c.of-past.result c.as_slice-2.ensures.value (c.of-past.ensures ∙ c.in_ok-keep_all.ensures.written) c.requires.parked
 
 pub returns-clause-written : goal.returns-clause-written
 returns-clause-written c =
     c.in_ok-keep_all.ensures.written
     ∙ ap (with_executions c.args.store.now)
-    (kept_is c.args.store.now c.args.admission.now.admission c.args.held.now c.args.ready.now.plan.jobs c.as_slice.result.now c.args.ready.now.plan.edges c.args.outputs.now c.as_slice-2.result.now c.requires.apart
-    c.requires.tasks c.requires.edges c.requires.outputs c.as_slice.ensures.value c.as_slice-2.ensures.value)
+    (kept_is c.args.store.now c.args.admission.now.admission c.args.held.now c.args.ready.now.plan.jobs c.as_slice.result.now c.args.ready.now.plan.edges c.args.outputs c.args.outputs c.requires.apart
+    c.requires.tasks c.requires.edges c.requires.outputs c.as_slice.ensures.value refl)
 
 pub returns-clause-effects : goal.returns-clause-effects
 returns-clause-effects c =
     c.in_ok-keep_all.ensures.copied
-    ∙ ap (λ (es : List Effects). es ++ map effects_of (kept_of c.args.store.now.opening c.args.store.now.executed c.as_slice.result.now c.as_slice-2.result.now)) c.new-effects.ensures
+    ∙ ap (λ (es : List Effects). es ++ map effects_of (kept_of c.args.store.now.opening c.args.store.now.executed c.as_slice.result.now c.args.outputs)) c.new-effects.ensures
     ∙ ap (map effects_of)
-    (kept_is c.args.store.now c.args.admission.now.admission c.args.held.now c.args.ready.now.plan.jobs c.as_slice.result.now c.args.ready.now.plan.edges c.args.outputs.now c.as_slice-2.result.now c.requires.apart
-    c.requires.tasks c.requires.edges c.requires.outputs c.as_slice.ensures.value c.as_slice-2.ensures.value)
+    (kept_is c.args.store.now c.args.admission.now.admission c.args.held.now c.args.ready.now.plan.jobs c.as_slice.result.now c.args.ready.now.plan.edges c.args.outputs c.args.outputs c.requires.apart
+    c.requires.tasks c.requires.edges c.requires.outputs c.as_slice.ensures.value refl)
