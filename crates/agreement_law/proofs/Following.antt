@@ -53,7 +53,7 @@ module _ (opening : List Object) (distinct : AreApart opening) where
           (stays-after (after_steps opening before) (gave y) id (no-id (given_ids y) id (λ i h e.
           unknown-yet (known-more opening (before ++ y ∷ []) xs id (subst (IsKnown opening (before ++ y ∷ [])) e (wrote.0 i h))))) ∙ none)
 
-  none-known : (before : List Step) → IsGoneOver opening before → (id : ObjectId) → (IsKnown opening before id → ⊥) → get (after_steps opening before) id ≡ None
+  pub none-known : (before : List Step) → IsGoneOver opening before → (id : ObjectId) → (IsKnown opening before id → ⊥) → get (after_steps opening before) id ≡ None
   none-known before over id unknown = not-there id before [] over.known unknown (none-opening opening id (no-id (map id_of opening) id opened))
     where
       opened : (i : ObjectId) → Has (map id_of opening) i → i ≡ id → ⊥

@@ -173,13 +173,13 @@ past-grows s sequences (suc more) epoch later e = subst (λ (n : ℕ). IsFront (
 -- ---- the cuts whose checkpoints a member has built
 
 module _ (epoch : ℕ) (held : List Held) (executed : List Execution) where
-  record AreDone (before : List Checkpoint) (all : List Cut) : Type 0 where
-    cuts : List Cut
-    front : IsFront cuts all
-    done : Each (λ (c : Cut). list_all (is_done held executed) c.txs ≡ true) cuts
-    is : chained epoch held executed before all ≡ chained epoch held executed before cuts
+  pub record AreDone (before : List Checkpoint) (all : List Cut) : Type 0 where
+    pub cuts : List Cut
+    pub front : IsFront cuts all
+    pub done : Each (λ (c : Cut). list_all (is_done held executed) c.txs ≡ true) cuts
+    pub is : chained epoch held executed before all ≡ chained epoch held executed before cuts
 
-  are-done : (all : List Cut) (before : List Checkpoint) → AreDone before all
+  pub are-done : (all : List Cut) (before : List Checkpoint) → AreDone before all
   are-done [] before = record { cuts = []; front = ([], refl); done = tt; is = refl }
   are-done (c ∷ cs) before = go (list_all (is_done held executed) c.txs) refl (are-done cs (before ++ checkpoint_behind epoch executed before c ∷ []))
     where

@@ -1,24 +1,20 @@
 -- What a member has built, handed in with the transactions of its certificates, is applied, if what it has of the epochs
 -- before is.
 use Rattle.std.proofs.Common.{inl, inr, refl, sym, subst, ap, ◌∙◌, append-nil, arith}
-use Rattle.std.proofs.lemmas.Bool.{cond-true}
-use Rattle.std.specs.Prelude.{◌≡◌, ◌⊎◌, ℕ, ◌+◌, Bool, true, false, cond, List, [], ◌∷◌, ◌++◌, flat_map, map, slice_get, Some}
-use Rattle.std.specs.List.{list_all}
+use Rattle.std.specs.Prelude.{◌≡◌, ◌⊎◌, ℕ, ◌+◌, Bool, true, false, List, [], ◌∷◌, ◌++◌, flat_map, map, slice_get, Some}
 use Rattle.chain_types.specs.declared.objects.Object.{Object}
 use Rattle.chain_types.specs.declared.transactions.Transaction.{Transaction}
 use Rattle.chain_types.specs.Digests.{transaction_digest}
 use Rattle.chain_messages.specs.declared.messages.Certificate.{Certificate}
 use Rattle.chain_messages.specs.Messages as messages
 use Rattle.checkpoint_core.specs.declared.checkpoints.Checkpoint.{Checkpoint}
-use Rattle.answer_types.specs.declared.answers.Held.{Held}
 use Rattle.schedule_text.specs.declared.words.Event.{Event}
 use Rattle.protocol_spec.proofs.ListLemmas.{each_front, each_join, each_has, has_left, has_right, has_parts, flat_has}
 use Rattle.protocol_spec.specs.Chain.Words.{Each, Has, IsFront}
-use Rattle.protocol_spec.specs.Member.Versions.{Execution}
 use Rattle.protocol_spec.specs.Member.Admission.{Admitted}
 use Rattle.protocol_spec.specs.Member.Sequence.{Cut}
 use Rattle.protocol_spec.specs.Member.Sequential.{map_of}
-use Rattle.protocol_spec.specs.Member.Checkpoints.{chained, checkpoint_behind, is_done, item_of}
+use Rattle.protocol_spec.specs.Member.Checkpoints.{checkpoint_behind, is_done, item_of}
 use Rattle.protocol_spec.specs.Member.Member.{Member, built}
 use Rattle.world_spec.specs.Setting.{Setting}
 use Rattle.world_spec.specs.World.{Seat, member_in}
@@ -31,6 +27,7 @@ use Rattle.agreement_law.specs.Checkpointed.{IsBuilt, admitted_in}
 use Rattle.agreement_law.specs.Steps.{step_of}
 use Rattle.agreement_law.specs.Thread.{transaction_of}
 use Rattle.agreement_law.proofs.Checkpointed.{all-cut}
+use Rattle.agreement_law.proofs.OneList.{AreDone, are-done}
 use Rattle.agreement_law.proofs.Prefixes.{follows}
 use Rattle.agreement_law.proofs.Thread.{map-twice, map-same}
 use Rattle.agreement_law.proofs.Turned.{CanTurn, has-all}
@@ -44,32 +41,6 @@ use Rattle.blame_law.proofs.Flags.{HasLast, IsFlagged, IsNotLast, seen-flag}
 use Rattle.blame_law.proofs.Linking.{IsState, IsTip}
 use Rattle.blame_law.proofs.Members.{digest-is, has-item, in-run, may-stand, opens}
 use Rattle.safety_law.proofs.Totals.{each-all}
-
--- ---- the cuts whose checkpoints a member has built (as in agreement_law's proof of OneListOfCheckpoints)
-
-module _ (epoch : ℕ) (held : List Held) (executed : List Execution) where
-  record AreDone (before : List Checkpoint) (all : List Cut) : Type 0 where
-    cuts : List Cut
-    front : IsFront cuts all
-    done : Each (λ (c : Cut). list_all (is_done held executed) c.txs ≡ true) cuts
-    is : chained epoch held executed before all ≡ chained epoch held executed before cuts
-
-  are-done : (all : List Cut) (before : List Checkpoint) → AreDone before all
-  are-done [] before = record { cuts = []; front = ([], refl); done = tt; is = refl }
-  are-done (c ∷ cs) before = go (list_all (is_done held executed) c.txs) refl (are-done cs (before ++ checkpoint_behind epoch executed before c ∷ []))
-    where
-      next : List Checkpoint
-      next = before ++ checkpoint_behind epoch executed before c ∷ []
-
-      go : (b : Bool) → list_all (is_done held executed) c.txs ≡ b → AreDone next cs → AreDone before (c ∷ cs)
-      go true e rest = record {
-        cuts = c ∷ rest.cuts;
-        front = (rest.front.0, ap (λ (ds : List Cut). c ∷ ds) rest.front.1);
-        done = (e, rest.done);
-        is = cond-true (list_all (is_done held executed) c.txs) (chained epoch held executed next cs) before e ∙ rest.is
-            ∙ sym (cond-true (list_all (is_done held executed) c.txs) (chained epoch held executed next rest.cuts) before e);
-      }
-      go false e rest = record { cuts = []; front = (c ∷ cs, refl); done = tt; is = ap (λ (b : Bool). cond b (chained epoch held executed next cs) before) e }
 
 -- the prefix of a list with one more is a prefix of the list, or all
 front-or-all : {A : Type 0} (xs rest ys : List A) (y : A) → xs ++ rest ≡ ys ++ y ∷ [] → IsFront xs ys ⊎ (xs ≡ ys ++ y ∷ [])

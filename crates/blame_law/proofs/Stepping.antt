@@ -1,5 +1,5 @@
 -- A step of one thread at a follower: it is not stuck, and it gives what the step gave.
-use Rattle.std.proofs.Common.{inl, inr, refl, sym, subst, ap, ◌∙◌, append_assoc, append-nil}
+use Rattle.std.proofs.Common.{inl, inr, refl, sym, subst, ap, ◌∙◌}
 use Rattle.std.specs.Prelude.{◌≡◌, ◌⊎◌, Bool, true, false, cond, not, ◌&&◌, List, [], ◌∷◌, ◌++◌, map, Option, Some, None}
 use Rattle.std.specs.List.{list_any}
 use Rattle.std.specs.FinMap.{get}
@@ -13,7 +13,7 @@ use Rattle.answer_types.specs.declared.pieces.Executed.{Executed}
 use Rattle.protocol_spec.proofs.Equality.{digest_same}
 use Rattle.protocol_spec.proofs.ListLemmas.{has_mapped, has_parts, has_right}
 use Rattle.protocol_spec.proofs.Truth.{or_false_left, or_false_right}
-use Rattle.protocol_spec.specs.Chain.Words.{Has, Along, repeats}
+use Rattle.protocol_spec.specs.Chain.Words.{Has, repeats}
 use Rattle.protocol_spec.specs.Chain.Tests.{has_digest, has_id}
 use Rattle.protocol_spec.specs.Chain.Keys.{named_ids, objects_of}
 use Rattle.protocol_spec.specs.Chain.Shape.{shape_fault}
@@ -22,9 +22,10 @@ use Rattle.block_law.proofs.Effects.{objects-ids}
 use Rattle.block_law.proofs.Steps.{map-append}
 use Rattle.block_law.proofs.Written.{second}
 use Rattle.sequence_law.specs.Orderly.{AreApart, IsKnown, IsOrderly, ReadsSame, Step, gave, id_of, tx_of}
-use Rattle.sequence_law.proofs.Standing.{any-parts, none-opening, stays-after}
+use Rattle.sequence_law.proofs.Standing.{any-parts}
 use Rattle.sequence_law.proofs.Touched.{IsReplaced, IsTouched, touched-object}
-use Rattle.sequence_law.proofs.Reading.{IsGoneOver, WroteKnown, after-push, after_steps, along-back, given-once, given_ids, has-id, has-mapped-id, known-more, no-id, over-next, thread-is}
+use Rattle.sequence_law.proofs.Reading.{IsGoneOver, WroteKnown, after-push, after_steps, along-back, given-once, has-id, has-mapped-id, known-more, no-id, over-next, thread-is}
+use Rattle.agreement_law.proofs.Following.{none-known}
 use Rattle.follower_core.specs.Courses.{Course, behind, behind_given, creates_held, given, given_on, is_bad, is_held, is_stuck, written_ids}
 use Rattle.headline_law.proofs.Dropping.{any-none}
 
@@ -75,29 +76,6 @@ module _ (opening : List Object) where
     pub new : (y : Step) → Has before y → digest_in y ≡ digest_in x → ⊥
 
   module _ (distinct : AreApart opening) where
-    -- an id that is not known is not in the map (as in agreement_law's proof that orderly steps follow)
-    not-there : (id : ObjectId) (xs before : List Step) → Along (WroteKnown opening) before xs → (IsKnown opening (before ++ xs) id → ⊥) → get (after_steps opening before) id ≡ None → get (after_steps opening (before ++ xs)) id ≡ None
-    not-there id [] before wrote unknown none = subst (λ (ys : List Step). get (after_steps opening ys) id ≡ None) (sym (append-nil before)) none
-    not-there id (y ∷ xs) before wrote unknown none =
-        subst (λ (ys : List Step). get (after_steps opening ys) id ≡ None) whole (not-there id xs (before ++ y ∷ []) wrote.1 unknown-yet here)
-      where
-        whole : (before ++ y ∷ []) ++ xs ≡ before ++ (y ∷ xs)
-        whole = append_assoc before (y ∷ []) xs
-
-        unknown-yet : IsKnown opening ((before ++ y ∷ []) ++ xs) id → ⊥
-        unknown-yet known = unknown (subst (λ (ys : List Step). IsKnown opening ys id) whole known)
-
-        here : get (after_steps opening (before ++ y ∷ [])) id ≡ None
-        here = subst (λ (m : Objects). get m id ≡ None) (sym (after-push opening (map_of opening) before y))
-            (stays-after (after_steps opening before) (gave y) id (no-id (given_ids y) id (λ i h e.
-            unknown-yet (known-more opening (before ++ y ∷ []) xs id (subst (IsKnown opening (before ++ y ∷ [])) e (wrote.0 i h))))) ∙ none)
-
-    none-known : (before : List Step) → IsGoneOver opening before → (id : ObjectId) → (IsKnown opening before id → ⊥) → get (after_steps opening before) id ≡ None
-    none-known before over id unknown = not-there id before [] over.known unknown (none-opening opening id (no-id (map id_of opening) id opened))
-      where
-        opened : (i : ObjectId) → Has (map id_of opening) i → i ≡ id → ⊥
-        opened i h e = let o = has_mapped id_of opening i h in unknown (inl (o.0, o.1, o.2 ∙ e))
-
     module _ (before : List Step) (over : IsGoneOver opening before) (x : Step) (may : MayStand before x) (m : Course) (is : IsBehind m before) where
       map-is : (fold_all (map_of opening) (map tx_of before)).map ≡ after_steps opening before
       map-is = ap (λ (f : Folded). f.map) (thread-is opening before over.orderly over.finds)
@@ -113,7 +91,7 @@ module _ (opening : List Object) where
       -- an id that is not known is held in no version
       not-held : (id : ObjectId) → (IsKnown opening before id → ⊥) → is_held m id ≡ false
       not-held id unknown =
-          rw (ap (λ (k : Objects). get k id) is.objects ∙ none-known before over id unknown)
+          rw (ap (λ (k : Objects). get k id) is.objects ∙ none-known opening distinct before over id unknown)
           (no-id m.gone id (λ i h e. unknown (subst (IsKnown opening before) e (is.gone i h))))
 
       -- an object that it writes is one that it names, or one whose id is held in no version (sequence_law: what a step

@@ -5,63 +5,18 @@
 ghost use Rattle.std.specs.Thread.{IsSync};
 
 mod node;
+mod wallet;
 
 use anyhow::Result;
-use crossbeam_channel::{Receiver, Sender, bounded};
-use node::{Said, live};
+use crossbeam_channel::bounded;
+use node::live;
 use outside::read_text;
 use outside_std::InSource;
 use std::alloc::Global;
 use std::sync::Wait;
 use std::thread::{Threads, join};
 use sui_validator::Error;
-use sui_validator::node::Committee;
-use sui_validator::types::{Entry, Sealed, Seq, decode_signed, encode};
-use sui_validator::wallet::{certify, finality};
-
-/// The wallet's ends of the channels to each node.
-type Nodes = [(Sender<Seq<u8>>, Receiver<Said>); 2];
-
-/// Hands bytes to both nodes.
-fn send<R: Wait>(rt: &R, alloc: Global, nodes: &Nodes, bytes: &[u8]) -> Result<()> {
-    for (asks, _) in nodes {
-        asks.send(rt, Seq::from_slice(alloc, bytes).map_err(Error::from)?)?;
-    }
-    Ok(())
-}
-
-/// Hands bytes to both nodes, and collects the statements that they seal. A refusal is printed.
-fn ask<R: Wait + Print>(rt: &R, alloc: Global, nodes: &Nodes, bytes: &[u8]) -> Result<Seq<Sealed>> {
-    send(rt, alloc, nodes, bytes)?;
-    let mut statements = Seq::new(alloc);
-    for (_, said) in nodes {
-        match said.recv(rt)? {
-            Ok(sealed) => statements.push(sealed).map_err(Error::from)?,
-            Err(refusal) => println!(rt; "no: {refusal}")?,
-        }
-    }
-    Ok(statements)
-}
-
-/// A payment, a second spend of its coin, and the end of the epoch.
-fn trade<R: Wait + Print>(rt: &R, alloc: Global, nodes: &Nodes, text: &[u8]) -> Result<()> {
-    let (payment, second) = text.split_at(text.len() / 2);
-    let committee = Committee::new(&[1, 1]).map_err(Error::from)?;
-    let signed = decode_signed(alloc, payment).map_err(Error::from)?;
-    let votes = ask(rt, alloc, nodes, payment)?;
-    let cert = certify(alloc, &signed.tx, &votes, &committee)?;
-    let acks = ask(rt, alloc, nodes, encode(alloc, &cert)?.as_slice())?;
-    let paid = finality(alloc, &acks, &committee)?;
-    println!(rt; "final by {} nodes", paid.members.len())?;
-    let others = ask(rt, alloc, nodes, second)?;
-    println!(rt; "{} votes for the second spend", others.len())?;
-    let entry = encode(alloc, &Entry::Cert(cert))?;
-    for end in ask(rt, alloc, nodes, entry.as_slice())?.into_vec() {
-        let end = encode(alloc, &Entry::End(end))?;
-        send(rt, alloc, nodes, end.as_slice())?;
-    }
-    Ok(())
-}
+use wallet::trade;
 
 /// Runs the nodes and the wallet side by side.
 fn run<R: Threads + Wait + Print + Sync>(rt: &R, alloc: Global, text: &[u8]) -> Result<()> {

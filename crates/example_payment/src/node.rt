@@ -83,5 +83,7 @@ pub fn live<R: Threads + Wait + Sync>(
     said: Sender<Said>,
 ) -> Result<u64> {
     let mut node = open(alloc, number)?;
-    answer(rt, &mut node, &asks, &said)
+    let epoch = answer(rt, &mut node, &asks, &said);
+    drop(node);
+    epoch
 }

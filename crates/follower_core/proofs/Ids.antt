@@ -1,5 +1,5 @@
--- Ids that are written twice, that a transaction names, and that it creates.
-use Rattle.std.proofs.Common.{◌≡◌, Bool, true, false, cond, ◌&&◌, ◌||◌, not, List, [], ◌∷◌, ◌++◌, Option, Some, None, is_some, map, refl, ap, sym, ◌∙◌}
+-- Ids that a transaction names, and that it creates.
+use Rattle.std.proofs.Common.{◌≡◌, Bool, true, false, cond, ◌&&◌, ◌||◌, not, List, [], ◌∷◌, ◌++◌, Option, Some, None, is_some, refl, ap, sym, ◌∙◌}
 use Rattle.std.specs.Prelude.{filter, filter_map}
 use Rattle.std.specs.List.{list_any}
 use Rattle.indexmap.specs.IndexSet.{insert_key}
@@ -11,13 +11,13 @@ use Rattle.chain_types.specs.declared.transactions.Transaction.{Transaction}
 use Rattle.chain_types.specs.Digests.{is_object}
 use Rattle.chain_types.specs.Equal.{id_eq}
 use Rattle.answer_types.specs.declared.pieces.Executed.{Executed}
-use Rattle.protocol_spec.proofs.Equality.{id_same, id_turned}
+use Rattle.protocol_spec.proofs.Equality.{id_same}
 use Rattle.protocol_spec.proofs.Truth.{or_assoc}
 use Rattle.protocol_spec.specs.Chain.Keys.{named_id, named_ids}
 use Rattle.protocol_spec.specs.Chain.Tests.{has_id}
 use Rattle.protocol_spec.specs.Chain.Words.{repeats}
 use Rattle.follower_core.specs.Courses.{Course, creates_held, is_bad, is_held, written_ids}
-use Rattle.follower_core.specs.Steps.{creates_in, named_after, repeats_after}
+use Rattle.follower_core.specs.Steps.{creates_in, named_after}
 
 -- ---- truth values
 
@@ -37,50 +37,6 @@ any_join test (x ∷ xs) ys = ap (λ b. test x || b) (any_join test xs ys) ∙ s
 
 has_behind : (ids : List ObjectId) (i id : ObjectId) → has_id (ids ++ i ∷ []) id ≡ (has_id ids id || id_eq id i)
 has_behind ids i id = any_join (id_eq id) ids (i ∷ []) ∙ ap (λ b. has_id ids id || b) (or_none (id_eq id i))
-
--- ---- an id that is written twice
-
--- an earlier id, among the objects that are left
-later_seen : List ObjectId → List Object → Bool
-later_seen seen os = list_any (λ (o : Object). has_id seen o.id) os
-
-ids_of : List Object → List ObjectId
-ids_of os = map (λ (o : Object). o.id) os
-
-swapped : (a b c d : Bool) → ((a || b) || (c || d)) ≡ ((a || c) || (b || d))
-swapped true b c d = refl
-swapped false true true d = refl
-swapped false true false d = refl
-swapped false false true d = refl
-swapped false false false d = refl
-
-seen_more : (seen : List ObjectId) (id : ObjectId) (os : List Object) → later_seen (seen ++ id ∷ []) os ≡ (later_seen seen os || list_any (id_eq id) (ids_of os))
-unfolding later_seen ids_of
-seen_more seen id [] = refl
-seen_more seen id (o ∷ os) =
-    ap (λ b. b || later_seen (seen ++ id ∷ []) os) (has_behind seen id o.id ∙ ap (λ b. has_id seen o.id || b) (id_turned o.id id))
-    ∙ ap (λ b. (has_id seen o.id || id_eq id o.id) || b) (seen_more seen id os)
-    ∙ swapped (has_id seen o.id) (id_eq id o.id) (later_seen seen os) (list_any (id_eq id) (ids_of os))
-
-after_is : (seen : List ObjectId) (os : List Object) → repeats_after seen os ≡ (later_seen seen os || repeats id_eq (ids_of os))
-unfolding later_seen ids_of
-after_is seen [] = refl
-after_is seen (o ∷ os) = by (has_id seen o.id) (after_is (seen ++ o.id ∷ []) os ∙ ap (λ b. b || repeats id_eq (ids_of os)) (seen_more seen o.id os) ∙ or_assoc (later_seen seen os) (list_any (id_eq o.id) (ids_of os)) (repeats id_eq (ids_of os)))
-  where
-    by : (b : Bool) → repeats_after (seen ++ o.id ∷ []) os ≡ (later_seen seen os || (list_any (id_eq o.id) (ids_of os) || repeats id_eq (ids_of os)))
-        → cond b true (repeats_after (seen ++ o.id ∷ []) os) ≡ ((b || later_seen seen os) || (list_any (id_eq o.id) (ids_of os) || repeats id_eq (ids_of os)))
-    by true more = refl
-    by false more = more
-
-none_seen : (os : List Object) → later_seen [] os ≡ false
-unfolding later_seen
-none_seen [] = refl
-none_seen (o ∷ os) = none_seen os
-
--- seen from the start, an id comes twice if one does
-pub repeats_whole : (os : List Object) → repeats_after [] os ≡ repeats id_eq (map (λ (o : Object). o.id) os)
-unfolding ids_of
-repeats_whole os = after_is [] os ∙ ap (λ b. b || repeats id_eq (ids_of os)) (none_seen os)
 
 -- ---- the ids that are named
 

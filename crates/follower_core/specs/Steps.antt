@@ -30,11 +30,6 @@ reads_from m (Some done) (i ∷ is) = reads_from m (if is_object i then with_rea
 
 -- ---- ids
 
--- whether an id was among the earlier ones, or comes twice
-abbrev pub repeats_after : List ObjectId → List Object → Bool
-repeats_after seen [] = false
-repeats_after seen (o ∷ os) = if has_id seen o.id then true else repeats_after (seen ++ o.id ∷ []) os
-
 abbrev pub with_named : List ObjectId → Option ObjectId → List ObjectId
 with_named ids None = ids
 with_named ids (Some id) = insert_key id_eq ids id

@@ -1,17 +1,13 @@
 //! Whether a transaction can stand after others, and what it gives.
 
-ghost use Rattle.std.specs.Prelude.{◌≡◌, ◌++◌, ◌||◌, ◌∷◌, [], IfOk, None, OnOk, Some, false, is_some, map};
+ghost use Rattle.std.specs.Prelude.{◌≡◌, ◌++◌, ◌||◌, ◌∷◌, [], IfOk, None, OnOk, Some, false, is_some};
 ghost use Rattle.std.specs.List.{list_any};
-ghost use Rattle.chain_types.specs.declared.objects.Object.{Object};
 ghost use Rattle.chain_types.specs.declared.objects.ObjectId.{ObjectId};
 ghost use Rattle.chain_types.specs.Digests.{transaction_digest};
-ghost use Rattle.chain_types.specs.Equal.{id_eq};
-ghost use Rattle.protocol_spec.specs.Chain.Keys.{named_id, named_ids};
 ghost use Rattle.protocol_spec.specs.Chain.Shape.{shape_fault};
 ghost use Rattle.protocol_spec.specs.Chain.Tests.{has_id};
-ghost use Rattle.protocol_spec.specs.Chain.Words.{repeats};
 ghost use Rattle.follower_core.specs.Courses.{given, is_bad, is_held};
-ghost use Rattle.follower_core.specs.Steps.{creates_in, good, named_after, repeats_after, standing};
+ghost use Rattle.follower_core.specs.Steps.{creates_in, good, named_after, standing};
 
 use crate::ledger::Ledger;
 use crate::reading::read;
@@ -21,7 +17,7 @@ use digest_core::Digest;
 use indexmap::IndexSet;
 use ptb_run::{execute, fits};
 use std::alloc::Global;
-use tx_check::{ShapeRefusal, check_shape};
+use tx_check::{ShapeRefusal, check_shape, named_id, repeats_object};
 use wire_bcs::OutOfMemory;
 
 /// Whether the shape is not valid.
@@ -66,42 +62,6 @@ fn note(seen: &mut IndexSet<ObjectId>, id: ObjectId) -> Result<(), OutOfMemory>
 {
     seen.insert(id)?;
     Ok(())
-}
-
-/// Whether two of the objects have one id, one after the other.
-fn has_twice(alloc: Global, objects: &[Object]) -> Result<bool, OutOfMemory>
-    ensures { IfOk result (λ twice. twice ≡ repeats_after [] objects.now) }
-{
-    let mut seen = IndexSet::new(alloc);
-    let mut rest = objects;
-    while let [object, after @ ..] = rest {
-        if seen.contains(&object.id) {
-            return Ok(true);
-        }
-        note(&mut seen, object.id)?;
-        rest = after;
-    }
-    Ok(false)
-}
-
-/// Whether two of the objects have one id.
-#[tactic(auto, using(crate::proofs::Ids::repeats_whole))]
-fn repeats_id(alloc: Global, objects: &[Object]) -> Result<bool, OutOfMemory>
-    ensures { IfOk result (λ twice. twice ≡ repeats id_eq (map (λ (o : Object). o.id) objects.now)) }
-{
-    has_twice(alloc, objects)
-}
-
-/// The id that an input names.
-fn named_id(input: &Input) -> Option<ObjectId>
-    ensures { result ≡ named_id input.now }
-{
-    match input {
-        Input::Pure(_) => None,
-        Input::Owned(reference) => Some(reference.id),
-        Input::Immutable(reference) => Some(reference.id),
-        Input::Shared { id, .. } => Some(*id),
-    }
 }
 
 /// Adds the ids that the inputs name.
@@ -166,7 +126,7 @@ fn is_bad(
 ) -> Result<bool, OutOfMemory>
     ensures { IfOk result (λ bad. bad ≡ is_bad ledger.now.present tx.now (Some executed.now)) }
 {
-    if repeats_id(alloc, executed.objects.as_slice())? {
+    if repeats_object(alloc, executed.objects.as_slice())? {
         return Ok(true);
     }
     let named = named_by(alloc, tx)?;

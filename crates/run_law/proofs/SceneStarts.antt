@@ -180,7 +180,7 @@ unfolding journals.journal_record
 run-record items few each = (few, All-from_recursion journals.ran_item.fits items each)
 
 -- a call whose record can be read back: what is read from its bytes fits, and an entry's bytes can be kept
-abbrev Given : Call → Type 0
+abbrev pub Given : Call → Type 0
 Given (votes bytes) = ReadsFit (votes bytes)
 Given (holds bytes) = ReadsFit (holds bytes)
 Given (sees number bytes) = length bytes < length_limit
@@ -281,7 +281,7 @@ module _ (r : Rules) (opening : List Object) (records : List Record) (fit : IsFi
   unfolding due
   run-due d = run-good (run_answer r m) refl d d
 
-  due-good : (call : Call) → Given call → due r m call ≡ Some x → IsGood x
+  pub due-good : (call : Call) → Given call → due r (state r opening records) call ≡ Some x → journals.journal_record.fits x
   unfolding due
   due-good (votes bytes) given d = vote-good (read_signed bytes) (vote_answer r m bytes) given (stated-vote bytes) d
   due-good (holds bytes) given d = hold-good (read_certificate bytes) (hold_answer r m bytes) given d

@@ -1,10 +1,8 @@
 //! How a member is opened.
 
 ghost use Rattle.std.specs.Prelude.{◌≡◌, ◌++◌, ◌∷◌, ◌<◌, ◌^◌, [], Err, IfErr, IfOk, OnOk, Option, false, length};
-ghost use Rattle.std.specs.List.{list_any};
 ghost use Rattle.chain_types.specs.Equal.{id_eq};
 ghost use Rattle.protocol_spec.specs.Chain.Words.{repeats};
-ghost use Rattle.tx_check.specs.Parts.{repeats_after};
 ghost use Rattle.sui_validator.specs.Journals.{AreAll, Records, Stays};
 ghost use Rattle.sui_validator.specs.Members.{IsOpened, Opens, ids_of};
 ghost use Rattle.sui_validator.specs.declared.opening.OpenRefusal.TheVariants as refusal;
@@ -14,11 +12,11 @@ use crate::member::Member;
 use crate::records::records_of;
 use crate::sole::Sole;
 use answer_types::StartRefusal;
-use chain_types::{Object, ObjectId};
-use indexmap::IndexSet;
+use chain_types::Object;
 use outside::OutFault;
 use quorum_core::{Committee, Sealer};
 use std::alloc::Global;
+use tx_check::repeats_object;
 use validator_core::Validator;
 use wire_bcs::{OutOfMemory, Seq};
 
@@ -42,47 +40,6 @@ impl From<OutOfMemory> for OpenRefusal {
     fn from(_error: OutOfMemory) -> Self {
         OpenRefusal::OutOfMemory
     }
-}
-
-/// The ids of objects.
-fn ids_of(alloc: Global, objects: &[Object]) -> Result<Vec<ObjectId>, OutOfMemory>
-    ensures { IfOk result (λ ids. ids.items ≡ ids_of objects.now) }
-{
-    Ok(objects.iter().map(|object| object.id).collect(alloc)?)
-}
-
-/// Notes an id that was not seen before.
-fn note(seen: &mut IndexSet<ObjectId>, id: ObjectId) -> Result<(), OutOfMemory>
-    requires { list_any (λ other. id_eq id other) seen.old.keys ≡ false }
-    ensures { OnOk result (seen.new.keys ≡ seen.old.keys ++ id ∷ []) }
-{
-    seen.insert(id)?;
-    Ok(())
-}
-
-/// Whether one of the ids comes twice.
-fn has_twice(alloc: Global, ids: &[ObjectId]) -> Result<bool, OutOfMemory>
-    ensures { IfOk result (λ twice. twice ≡ repeats_after [] ids.now) }
-{
-    let mut seen = IndexSet::new(alloc);
-    let mut rest = ids;
-    while let [id, after @ ..] = rest {
-        if seen.contains(id) {
-            return Ok(true);
-        }
-        note(&mut seen, *id)?;
-        rest = after;
-    }
-    Ok(false)
-}
-
-/// Whether one of the objects comes twice.
-#[tactic(auto, using(tx_check::proofs::Twice::repeats_whole))]
-fn comes_twice(alloc: Global, objects: &[Object]) -> Result<bool, OutOfMemory>
-    ensures { IfOk result (λ twice. twice ≡ repeats id_eq (ids_of objects.now)) }
-{
-    let ids = ids_of(alloc, objects)?;
-    has_twice(alloc, &ids)
 }
 
 /// Starts a validator from records that were read.
@@ -125,7 +82,7 @@ fn start<J: Journal, S: Sealer>(
             members: committee.len(),
         });
     }
-    if comes_twice(alloc, opening.as_slice())? {
+    if repeats_object(alloc, opening.as_slice())? {
         return Err(OpenRefusal::ObjectTwice);
     }
     match records_of(alloc, journal) {

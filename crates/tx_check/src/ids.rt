@@ -1,19 +1,20 @@
-//! The ids that a transaction names.
+//! The ids that a transaction names, and ids that come twice.
 
-ghost use Rattle.std.specs.Prelude.{◌≡◌, ◌++◌, ◌∷◌, [], IfOk, OnOk, false};
+ghost use Rattle.std.specs.Prelude.{◌≡◌, ◌++◌, ◌∷◌, [], IfOk, OnOk, false, map};
 ghost use Rattle.std.specs.List.{list_any};
 ghost use Rattle.chain_types.specs.Equal.{id_eq};
+ghost use Rattle.chain_types.specs.declared.objects.Object.{Object};
 ghost use Rattle.protocol_spec.specs.Chain.Keys.{named_id, named_ids};
 ghost use Rattle.protocol_spec.specs.Chain.Words.{repeats};
 ghost use Rattle.tx_check.specs.Parts.{repeats_after};
 
-use chain_types::{Input, ObjectId, Transaction};
+use chain_types::{Input, Object, ObjectId, Transaction};
 use indexmap::IndexSet;
 use std::alloc::Global;
 use wire_bcs::{OutOfMemory, Seq};
 
-/// The id that the input names.
-fn named_id(input: &Input) -> Option<ObjectId>
+/// The id that an input names, none of bytes.
+pub fn named_id(input: &Input) -> Option<ObjectId>
     ensures { result ≡ named_id input.now }
 {
     match input {
@@ -70,4 +71,20 @@ pub(crate) fn repeats_id(alloc: Global, tx: &Transaction) -> Result<bool, OutOfM
 {
     let ids = named_ids(alloc, tx)?;
     has_twice(alloc, ids.as_slice())
+}
+
+/// The ids of the objects.
+fn ids_of(alloc: Global, objects: &[Object]) -> Result<Vec<ObjectId>, OutOfMemory>
+    ensures { IfOk result (λ ids. ids.items ≡ map (λ (o : Object). o.id) objects.now) }
+{
+    Ok(objects.iter().map(|object| object.id).collect(alloc)?)
+}
+
+/// Whether two of the objects have one id. The only error is that memory is refused.
+#[tactic(auto, using(crate::proofs::Twice::repeats_whole))]
+pub fn repeats_object(alloc: Global, objects: &[Object]) -> Result<bool, OutOfMemory>
+    ensures { IfOk result (λ twice. twice ≡ repeats id_eq (map (λ (o : Object). o.id) objects.now)) }
+{
+    let ids = ids_of(alloc, objects)?;
+    has_twice(alloc, &ids)
 }
