@@ -9,8 +9,8 @@ ghost use Rattle.world_core.specs.Replies.{Leaves};
 ghost use Rattle.world_core.specs.declared.reply.SeatFault.TheVariants as faults;
 ghost use Rattle.validator_process.specs.Says.{run_line, see_line};
 
-use crate::asking::{ask_run, ask_see};
 use answer_types::{Ran, RunRefusal, SeeRefusal, Seen};
+use dag_pool::OpenGate;
 use outside::Keeper;
 use process_lines::{print_ran, print_run_refusal, print_see_refusal, print_seen};
 use quorum_core::Sealer;
@@ -18,7 +18,7 @@ use std::alloc::Global;
 use std::thread::Threads;
 use validator_core::Validator;
 use wire_bcs::{OutOfMemory, Seq};
-use world_core::SeatFault;
+use world_core::{SeatFault, ask_run, ask_see};
 
 /// The text of an answer to `see`.
 fn see_text(alloc: Global, answer: &Result<Seen, SeeRefusal>) -> Result<Seq<u8>, OutOfMemory>
@@ -89,7 +89,7 @@ pub(crate) fn run<R: Threads + Sync, D: Keeper>(
     ensures later { D.failed keeper.old ≤ D.failed keeper.new }
     ensures fault { IsErrOf result faults.KeepFault → Rose (D.failed keeper.old) (D.failed keeper.new) }
 {
-    let answer = ask_run(rt, validator, keeper, workers)?;
+    let answer = ask_run(rt, validator, keeper, workers, &OpenGate)?;
     match run_text(alloc, &answer) {
         Ok(text) => Ok(text),
         Err(OutOfMemory) => Err(SeatFault::OutOfMemory),

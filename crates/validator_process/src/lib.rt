@@ -9,7 +9,6 @@
 #![tactic(auto)]
 
 mod answering;
-mod asking;
 mod entries;
 mod identity;
 mod journal;

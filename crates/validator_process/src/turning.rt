@@ -9,7 +9,6 @@ ghost use Rattle.world_core.specs.Replies.{Leaves};
 ghost use Rattle.world_core.specs.declared.reply.SeatFault.TheVariants as faults;
 ghost use Rattle.validator_process.specs.Says.{close_line, turn_line};
 
-use crate::asking::{ask_close, ask_turn};
 use answer_types::{CloseRefusal, TurnRefusal};
 use digest_core::Digest;
 use outside::Keeper;
@@ -17,7 +16,7 @@ use process_lines::{print_close_refusal, print_closed, print_turn_refusal, print
 use std::alloc::Global;
 use validator_core::Validator;
 use wire_bcs::{OutOfMemory, Seq};
-use world_core::SeatFault;
+use world_core::{SeatFault, ask_close, ask_turn};
 
 /// The text of an answer to `close`.
 fn close_text(alloc: Global, answer: &Result<bool, CloseRefusal>) -> Result<Seq<u8>, OutOfMemory>

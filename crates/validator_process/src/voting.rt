@@ -10,7 +10,6 @@ ghost use Rattle.world_core.specs.Replies.{Leaves};
 ghost use Rattle.world_core.specs.declared.reply.SeatFault.TheVariants as faults;
 ghost use Rattle.validator_process.specs.Says.{VoteSays, certified, hold_line, vote_line};
 
-use crate::asking::{ask_hold, ask_vote};
 use answer_types::{HoldRefusal, VoteRefusal, Voted};
 use chain_messages::decode_certificate;
 use chain_types::{Unread, tx_digest};
@@ -21,7 +20,7 @@ use quorum_core::Sealer;
 use std::alloc::Global;
 use validator_core::Validator;
 use wire_bcs::{OutOfMemory, Seq};
-use world_core::SeatFault;
+use world_core::{SeatFault, ask_hold, ask_vote};
 
 /// The text of an answer to `vote`.
 fn vote_text(alloc: Global, answer: &Result<Voted, VoteRefusal>) -> Result<Seq<u8>, OutOfMemory>

@@ -62,8 +62,8 @@ fn see_fault(answer: &Result<Seen, SeeRefusal>) -> Option<SeatFault>
     }
 }
 
-/// Hands an entry to a member that is up.
-fn ask_see<D: Keeper, S: Sealer>(
+/// Hands an entry to a member that is up. Errors are those of [`ask_vote`](crate::ask_vote).
+pub fn ask_see<D: Keeper, S: Sealer>(
     validator: &mut Validator,
     keeper: &mut D,
     sealer: &S,
@@ -121,8 +121,8 @@ fn close_fault(answer: &Result<bool, CloseRefusal>) -> Option<SeatFault>
     }
 }
 
-/// Closes the epoch of a member that is up.
-fn ask_close<D: Keeper>(
+/// Closes the epoch of a member that is up. Errors are those of [`ask_vote`](crate::ask_vote).
+pub fn ask_close<D: Keeper>(
     validator: &mut Validator,
     keeper: &mut D,
 ) -> Result<Result<bool, CloseRefusal>, SeatFault>
@@ -183,8 +183,8 @@ fn turn_fault(answer: &Result<Seq<Digest>, TurnRefusal>) -> Option<SeatFault>
     }
 }
 
-/// Turns a member that is up to the next epoch.
-fn ask_turn<D: Keeper>(
+/// Turns a member that is up to the next epoch. Errors are those of [`ask_vote`](crate::ask_vote).
+pub fn ask_turn<D: Keeper>(
     validator: &mut Validator,
     keeper: &mut D,
 ) -> Result<Result<Seq<Digest>, TurnRefusal>, SeatFault>

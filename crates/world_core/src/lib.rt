@@ -12,6 +12,7 @@
 //! Within, [`Seats`] are the members, up or down, with armed stops and restarts: each hands a call to the member that
 //! it is for, and says what became of it. A stop that is armed cuts the next call that has a record to append: the
 //! record is kept or lost, as was said, and the member is down until it restarts from the records of its keeper.
+//! [`ask_vote`] and its like hand a call to a member that is up, for a caller with one member and no world.
 #![tactic(auto)]
 
 mod acks;
@@ -41,8 +42,10 @@ mod votes;
 mod world;
 
 pub use cert_rules::{CollectRefusal, Finality, collect_acks};
+pub use epoch_requests::{ask_close, ask_see, ask_turn};
 pub use replay::Replayed;
 pub use reply::{Reply, RestartFault, SeatFault};
+pub use requests::{ask_hold, ask_run, ask_vote};
 pub use seats::Seats;
 pub use sums::Sums;
 pub use terms::Terms;

@@ -1,6 +1,6 @@
 //! Requests to a member that is up.
 
-ghost use Rattle.std.specs.Prelude.{◌≡◌, ◌<◌, ◌≤◌, ℕ, IfOk, IsErrOf, OnOk, true};
+ghost use Rattle.std.specs.Prelude.{◌≡◌, ◌<◌, ◌≤◌, ℕ, IfOk, IsErrOf, OnOk, length, true};
 ghost use Rattle.std.specs.Thread.{IsSync};
 ghost use Rattle.outside.specs.Causes.{Rose};
 ghost use Rattle.protocol_spec.specs.Chain.Certificates.{Rules};
@@ -8,6 +8,7 @@ ghost use Rattle.protocol_spec.specs.Member.Member.{Member};
 ghost use Rattle.protocol_spec.specs.Member.Calls.{Call, due, holds, runs, votes};
 ghost use Rattle.scene_spec.specs.Seats.{bare_rules, rules_of_seat};
 ghost use Rattle.scene_spec.specs.Posts.{seat_behind};
+ghost use Rattle.validator_core.specs.Calls.{origins_in};
 ghost use Rattle.world_core.specs.declared.reply.SeatFault.TheVariants as faults;
 ghost use Rattle.world_core.specs.Replies.{Accepting, Leaves, SaysHold, SaysRun, SaysVote, hold_fault, run_fault, vote_fault};
 
@@ -123,8 +124,8 @@ fn vote_fault(answer: &Result<Voted, VoteRefusal>) -> Option<SeatFault>
     }
 }
 
-/// Asks a member that is up for its vote.
-fn ask_vote<D: Keeper, S: Sealer>(
+/// Asks a member that is up for its vote. The error is what kept it from an answer: a fault of the keeper, or that memory was refused.
+pub fn ask_vote<D: Keeper, S: Sealer>(
     validator: &mut Validator,
     keeper: &mut D,
     sealer: &S,
@@ -133,6 +134,7 @@ fn ask_vote<D: Keeper, S: Sealer>(
     requires known { validator.old.member < D.width keeper.old }
     requires up { validator.old.up ≡ true }
     ensures answer { IfOk result (SaysVote (rules_of_seat validator.old (S.accepts sealer.now)) (S.accepts sealer.now) validator.old.member bytes.now validator.old.state) }
+    ensures few { IfOk result (λ given. IfOk given (λ v. length (origins_in v.sealed.statement) ≤ 257)) }
     ensures state { OnOk result (validator.new ≡ seat_behind (rules_of_seat validator.old (S.accepts sealer.now)) (votes bytes.now) validator.old) }
     ensures kept { Leaves (D.lists keeper.old) (D.lists keeper.new) validator.old.member (due (rules_of_seat validator.old (S.accepts sealer.now)) validator.old.state (votes bytes.now)) result }
     ensures width { D.width keeper.new ≡ D.width keeper.old }
@@ -167,8 +169,8 @@ fn hold_fault(answer: &Result<bool, HoldRefusal>) -> Option<SeatFault>
     }
 }
 
-/// Hands a certificate to a member that is up.
-fn ask_hold<D: Keeper, S: Sealer>(
+/// Hands a certificate to a member that is up. Errors are those of [`ask_vote`].
+pub fn ask_hold<D: Keeper, S: Sealer>(
     validator: &mut Validator,
     keeper: &mut D,
     sealer: &S,
@@ -229,8 +231,8 @@ fn run_fault(answer: &Result<Ran, RunRefusal>) -> Option<SeatFault>
     }
 }
 
-/// Lets a member that is up run what it holds.
-fn ask_run<R: Threads + Sync, D: Keeper, G: Gate + Sync>(
+/// Lets a member that is up run what it holds, by 1 to 16 workers. Errors are those of [`ask_vote`].
+pub fn ask_run<R: Threads + Sync, D: Keeper, G: Gate + Sync>(
     rt: &R,
     validator: &mut Validator,
     keeper: &mut D,
