@@ -26,7 +26,7 @@ PARTS = (
     Part("tools", ("tools/test_tools", "all"), early=True),
     Part("hunt", ("tools/test_hunt", "all")),
     Part("pages of runs", ("tools/test_view", "all")),
-    Part("faults of the system", ("tools/test_faults", "--ours"), COMMITTEE),
+    Part("faults of the system", ("tools/test_faults", "--ours"), BOTH),
     Part("journal under kills", ("tools/test_journal", "--seconds", "5", "--ours"), COMMITTEE),
     Part("images of crashes", ("tools/crash_images", "--trace", "--ours"), COMMITTEE, ("tools/crash_images", "--trace", "--replays", "20", "--ours")),
     Part("conformance", ("conformance/run", "--ours"), BOTH),

@@ -29,10 +29,3 @@ pub use committee_core::fresh_keeper;
 pub use members::MemberList;
 pub use questions::{Question, question_of};
 pub use top::inspect;
-
-#[cfg(test)]
-mod blame_tests;
-#[cfg(test)]
-mod states_tests;
-#[cfg(test)]
-mod tests;
