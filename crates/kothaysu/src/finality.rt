@@ -8,7 +8,7 @@ ghost use Rattle.kothaysu.specs.Answers.{Answered, Puts, Tells, for_committee, k
 ghost use Rattle.kothaysu.specs.Finals.{as_final};
 
 use crate::answer::{Answer, Bytes32, as_bytes, said};
-use light_client::{AcceptedSeals, Acknowledged, BySealer, Checker, SealRow, check_final};
+use light_client::{AcceptedSeals, Acknowledged, Checker, SealRow, check_final};
 use quorum_core::{Committee, KeyedSeal};
 use std::alloc::Global;
 
@@ -55,8 +55,7 @@ fn acknowledged_keyed(
     ensures { Answered result (for_committee stakes.now (λ s. final_answer s (keyed secret.now) acknowledgements.now)) }
 {
     let sealer = KeyedSeal::new(secret.bytes);
-    let checker = BySealer::new(&sealer);
-    acknowledged(alloc, stakes, acknowledgements, &checker)
+    acknowledged(alloc, stakes, acknowledgements, &sealer)
 }
 
 /// Whether the list of sealed statements that the bytes encode shows what a quorum of the committee of these stakes

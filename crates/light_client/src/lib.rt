@@ -2,7 +2,7 @@
 //! certificate is certified, what a quorum acknowledged, and who is to blame for two certificates (Sui Lutris).
 //!
 //! Each input has at most 16,777,216 bytes. A seal is judged by a [`Checker`]: [`AcceptedSeals`] is a set of seals that
-//! the caller has accepted, and [`BySealer`] accepts what a sealer does. [`list_chain`], [`list_certificate`] and
+//! the caller has accepted, and a sealer of `quorum_core` is a checker too. [`list_chain`], [`list_certificate`] and
 //! [`list_acknowledgements`] list the seals that bytes have. Each answer is one equation by the definitions of `specs/`,
 //! or memory was refused.
 #![tactic(auto)]
@@ -11,7 +11,6 @@ mod accepted;
 mod blaming;
 mod certificates;
 mod chains;
-mod checker;
 mod digests;
 mod finality;
 mod input;
@@ -22,7 +21,6 @@ pub use accepted::{AcceptedSeals, SealRow};
 pub use blaming::blame_members;
 pub use certificates::check_certificate;
 pub use chains::{check_chain, check_chain_by, find_transaction};
-pub use checker::BySealer;
 pub use digests::{digest_of_effects, digest_of_object, digest_of_transaction};
 pub use finality::{Acknowledged, check_final};
 pub use listing::{Listing, list_acknowledgements, list_certificate, list_chain};
