@@ -8,7 +8,7 @@ ghost use Rattle.kothaysu.specs.Answers.{Answered, Puts, Tells, as_bytes, for_co
 
 use crate::answer::{Answer, Bytes32, as_bytes, said};
 use digest_core::Digest;
-use light_client::{AcceptedSeals, BySealer, Checker, SealRow, check_certificate};
+use light_client::{AcceptedSeals, Checker, SealRow, check_certificate};
 use quorum_core::{Committee, KeyedSeal};
 use std::alloc::Global;
 
@@ -35,8 +35,7 @@ fn certified_keyed(
     ensures { Answered result (for_committee stakes.now (λ s. certificate_answer s (keyed secret.now) certificate.now)) }
 {
     let sealer = KeyedSeal::new(secret.bytes);
-    let checker = BySealer::new(&sealer);
-    certified(alloc, stakes, certificate, &checker)
+    certified(alloc, stakes, certificate, &sealer)
 }
 
 /// Whether the bytes encode a certificate that is valid for the committee of these stakes, under seals that are among the

@@ -1,7 +1,6 @@
-use Rattle.std.proofs.Common.{◌∙◌, ℕ, List, ap, subst}
+use Rattle.std.proofs.Common.{ℕ, List, subst}
 use Rattle.std.specs.Prelude.{bytes_eq}
 use Rattle.quorum_core.specs.Seals.{keyed_seal}
-use Rattle.quorum_core.specs.declared.sealer.KeyedSeal.{KeyedSeal}
 use Rattle.quorum_core.specs.declared.signer.Signer.{Signer}
 use Rattle.digest_core.specs.declared.Digest.{Digest}
 use Rattle.light_client.specs.Certificates.{certificate_answer}
@@ -9,4 +8,4 @@ use Rattle.kothaysu.specs.Answers.{Answered, for_committee}
 use Rattle.kothaysu.proofs.certificates.certified_keyed.Goals as goal
 
 pub returns : goal.returns
-returns c = subst (λ (secret : List ℕ). Answered c.certified.result (for_committee c.args.stakes.now (λ s. certificate_answer s (λ (who : Signer) (bytes : List ℕ) (seal : Digest). bytes_eq seal.0 (keyed_seal secret who bytes).0) c.args.certificate.now))) (ap (λ (sealer : KeyedSeal). sealer.secret) c.new-checker.ensures ∙ c.new-sealer.ensures) c.certified.ensures
+returns c = subst (λ (secret : List ℕ). Answered c.certified.result (for_committee c.args.stakes.now (λ s. certificate_answer s (λ (who : Signer) (bytes : List ℕ) (seal : Digest). bytes_eq seal.0 (keyed_seal secret who bytes).0) c.args.certificate.now))) c.new-sealer.ensures c.certified.ensures
