@@ -1,17 +1,11 @@
 -- Lists that are collected one after the other.
-use Rattle.std.proofs.Common.{◌≡◌, ◌∙◌, ap, sym, ℕ, suc, ◌+◌, List, [], ◌∷◌, ◌++◌, length, Option, Some, None, map, append_assoc, append-nil, arith}
+use Rattle.std.proofs.Common.{◌≡◌, ◌∙◌, sym, List, [], ◌∷◌, ◌++◌, Option, Some, None, map, append_assoc, append-nil}
 use Rattle.std.specs.Prelude.{filter_map}
 use Rattle.std.specs.List.{cons_option}
 use Rattle.std.proofs.lemmas.List.{map-append}
-use Rattle.digest_core.specs.declared.Digest.{Digest}
-use Rattle.protocol_spec.proofs.ListLemmas.{push_length}
-use Rattle.protocol_spec.specs.Chain.Words.{numbers_below}
 use Rattle.world_spec.specs.World.{Drawn}
-use Rattle.world_spec.specs.Names.{drawn_as}
 use Rattle.world_spec.specs.Making.{drawn_list}
-use Rattle.world_names.specs.declared.rows.DrawnRow.{DrawnRow}
-use Rattle.world_names.specs.Rows.{drawn_of}
-use Rattle.world_names.specs.Collected.{AreDrawn, all_some, with_some}
+use Rattle.world_names.specs.Collected.{all_some, with_some}
 
 pub map_push : {A B : Type 0} → (f : A → B) (xs : List A) (x : A) → map f (xs ++ x ∷ []) ≡ map f xs ++ f x ∷ []
 map_push f xs x = map-append f xs (x ∷ [])
@@ -29,15 +23,3 @@ all_added {A} says xs (w ∷ ws) = by (says w) (λ ys. all_added says ys ws)
 pub words_added : {W : Type 0} → (says : W → Option Drawn) (o : Option Drawn) (words : List W) → all_some says (with_some [] o) words ≡ drawn_list o ++ filter_map says words
 words_added says None words = all_added says [] words
 words_added says (Some d) words = all_added says (d ∷ []) words
-
--- one more id
-pub one_drawn : (tx : Digest) (rows : List DrawnRow) (row : DrawnRow) → AreDrawn tx rows → drawn_of row ≡ drawn_as tx (length rows) → AreDrawn tx (rows ++ row ∷ [])
-one_drawn tx rows row drawn is =
-    map_push drawn_of rows row
-    ∙ ap (λ xs. xs ++ drawn_of row ∷ []) drawn
-    ∙ ap (λ x. map (drawn_as tx) (numbers_below (length rows)) ++ x ∷ []) is
-    ∙ sym (map_push (drawn_as tx) (numbers_below (length rows)) (length rows))
-    ∙ ap (λ n. map (drawn_as tx) (numbers_below n)) (sym (push_length rows row ∙ later (length rows)))
-  where
-    later : (n : ℕ) → n + 1 ≡ suc n
-    later n = omega arith

@@ -2,6 +2,7 @@ pub mod SetUp
 pub mod Lookups
 pub mod Names
 pub mod Collected
+pub mod DrawnRows
 pub mod ShownOrder
 pub mod Pushed
 pub mod Words

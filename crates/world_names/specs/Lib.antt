@@ -1,4 +1,5 @@
 pub mod Rows
+pub mod Drawn
 pub mod SetUp
 pub mod Lines
 pub mod Collected

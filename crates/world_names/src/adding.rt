@@ -1,19 +1,21 @@
 //! The names that a line gives.
 
-ghost use Rattle.std.specs.Prelude.{◌≡◌, ◌+◌, ◌∷◌, ◌++◌, [], IfOk, OnErr, OnOk, length, map, option_map};
+ghost use Rattle.std.specs.Prelude.{◌≡◌, ◌∷◌, ◌++◌, [], IfOk, OnErr, OnOk, map, option_map};
 ghost use Rattle.world_spec.specs.Setting.{user_of};
 ghost use Rattle.world_spec.specs.Names.{draws, draws_of, drawn_by};
 ghost use Rattle.world_spec.specs.Making.{drawn_input, drawn_word, user_word};
 ghost use Rattle.scene_spec.specs.Known.{drawn_words, users_in, with_line, world_with};
 ghost use Rattle.world_names.specs.Rows.{drawn_of, made_as, user_as};
 ghost use Rattle.world_names.specs.Lines.{line_of};
-ghost use Rattle.world_names.specs.Collected.{AreDrawn, all_some, with_some};
+ghost use Rattle.world_names.specs.Collected.{all_some, with_some};
+ghost use Rattle.world_names.specs.Drawn.{line_rows, word_drawn};
 
 use crate::directory::Directory;
+use crate::drawn::{DrawnWord, LineIds};
 use crate::line::TxLine;
-use crate::rows::{DrawnRow, MadeTx, UserRow};
+use crate::rows::{MadeTx, UserRow};
 use chain_types::Command;
-use digest_core::{Digest, address_of};
+use digest_core::address_of;
 use schedule_text::{InputWord, ObjWord};
 use std::alloc::Global;
 use wire_bcs::{OutOfMemory, Seq};
@@ -64,14 +66,14 @@ fn users_of(alloc: Global, sender: &[u8], words: &[InputWord]) -> Result<Vec<Use
     Ok(users)
 }
 
-/// Adds a row, if there is one.
+/// Adds a word, if there is one.
 #[tactic(auto, using(crate::proofs::Collected::map_push))]
-fn add_drawn(rows: &mut Vec<DrawnRow>, row: Option<DrawnRow>) -> Result<(), OutOfMemory>
-    ensures { OnOk result (map drawn_of rows.new.items ≡ with_some (map drawn_of rows.old.items) (option_map drawn_of row)) }
+fn add_drawn(words: &mut Vec<DrawnWord>, word: Option<DrawnWord>) -> Result<(), OutOfMemory>
+    ensures { OnOk result (map word_drawn words.new.items ≡ with_some (map word_drawn words.old.items) (option_map word_drawn word)) }
 {
-    match row {
-        Some(row) => {
-            rows.push(row)?;
+    match word {
+        Some(word) => {
+            words.push(word)?;
             Ok(())
         }
         None => Ok(()),
@@ -89,59 +91,34 @@ fn draws_of(command: &Command) -> usize
     }
 }
 
-/// Adds the id of the next creation number.
-#[tactic(auto, using(crate::proofs::Collected::one_drawn, protocol_spec::proofs::ListLemmas::push_length))]
-fn add_next(rows: &mut Vec<DrawnRow>, tx: &Digest) -> Result<(), OutOfMemory>
-    requires { AreDrawn tx.now rows.old.items }
-    ensures drawn { OnOk result (AreDrawn tx.now rows.new.items) }
-    ensures count { OnOk result (length rows.new.items ≡ length rows.old.items + 1) }
+/// How many ids the commands of a transaction draw at most. A number past its type counts as running out of memory.
+fn draws(commands: &[Command]) -> Result<usize, OutOfMemory>
+    ensures { IfOk result (λ count. count ≡ draws commands.now) }
 {
-    let number = rows.as_slice().len() as u64;
-    rows.push(DrawnRow::new(tx, number))?;
-    Ok(())
-}
-
-/// Adds the ids of so many creation numbers more.
-fn add_numbers(rows: &mut Vec<DrawnRow>, tx: &Digest, count: usize) -> Result<(), OutOfMemory>
-    requires { AreDrawn tx.now rows.old.items }
-    ensures drawn { OnOk result (AreDrawn tx.now rows.new.items) }
-    ensures count { OnOk result (length rows.new.items ≡ length rows.old.items + count) }
-{
-    for _number in 0..count {
-        add_next(rows, tx)?;
-    }
-    Ok(())
-}
-
-/// The ids that the commands of a transaction draw at most.
-fn drawn_by(alloc: Global, tx: &Digest, commands: &[Command]) -> Result<Vec<DrawnRow>, OutOfMemory>
-    ensures drawn { IfOk result (λ rows. AreDrawn tx.now rows.items) }
-    ensures count { IfOk result (λ rows. length rows.items ≡ draws commands.now) }
-{
-    let mut rows = Vec::new(alloc);
+    let mut count = 0usize;
     for command in commands {
-        add_numbers(&mut rows, tx, draws_of(command))?;
+        count = count.checked_add(draws_of(command)).ok_or(OutOfMemory)?;
     }
-    Ok(rows)
+    Ok(count)
 }
 
 impl Directory {
-    /// The id that a word draws, if it names a created object. Takes no memory.
-    fn drawn_word(&self, word: &ObjWord) -> Option<DrawnRow>
-        ensures { option_map drawn_of result ≡ drawn_word (world_with self.now) word.now }
+    /// What a word draws, if it names a created object. Takes no memory.
+    fn drawn_word(&self, word: &ObjWord) -> Option<DrawnWord>
+        ensures { option_map word_drawn result ≡ drawn_word (world_with self.now) word.now }
     {
         match word {
-            ObjWord::Created { tx, number } => {
-                let digest = self.digest_named(tx.as_slice());
-                Some(DrawnRow::new(&digest, *number))
-            }
+            ObjWord::Created { tx, number } => Some(DrawnWord {
+                tx: self.digest_named(tx.as_slice()),
+                number: *number,
+            }),
             ObjWord::Setup(_) => None,
         }
     }
 
-    /// The id that an input's word draws, if it names a created object. Takes no memory.
-    fn drawn_input(&self, word: &InputWord) -> Option<DrawnRow>
-        ensures { option_map drawn_of result ≡ drawn_input (world_with self.now) word.now }
+    /// What an input's word draws, if it names a created object. Takes no memory.
+    fn drawn_input(&self, word: &InputWord) -> Option<DrawnWord>
+        ensures { option_map word_drawn result ≡ drawn_input (world_with self.now) word.now }
     {
         match word {
             InputWord::Owned(reference) => self.drawn_word(&reference.object),
@@ -151,28 +128,30 @@ impl Directory {
         }
     }
 
-    /// The ids that the words of a line draw: of its gas coin and its inputs.
+    /// What the words of a line draw: of its gas coin and its inputs.
     #[tactic(auto, using(crate::proofs::Collected::words_added))]
-    fn drawn_words(&self, line: &TxLine<'_>) -> Result<Vec<DrawnRow>, OutOfMemory>
-        ensures { IfOk result (λ rows. map drawn_of rows.items ≡ drawn_words self.now (line_of line.now).gas (line_of line.now).inputs) }
+    fn drawn_words(&self, line: &TxLine<'_>) -> Result<Vec<DrawnWord>, OutOfMemory>
+        ensures { IfOk result (λ words. map word_drawn words.items ≡ drawn_words self.now (line_of line.now).gas (line_of line.now).inputs) }
     {
-        let mut rows = Vec::new(self.alloc);
-        add_drawn(&mut rows, self.drawn_word(&line.gas.object))?;
+        let mut words = Vec::new(self.alloc);
+        add_drawn(&mut words, self.drawn_word(&line.gas.object))?;
         for word in line.inputs {
-            add_drawn(&mut rows, self.drawn_input(word))?;
+            add_drawn(&mut words, self.drawn_input(word))?;
         }
-        Ok(rows)
+        Ok(words)
     }
 
     /// All ids that a line names or draws.
-    fn drawn_of(&self, line: &TxLine<'_>, made: &MadeTx) -> Result<Vec<DrawnRow>, OutOfMemory>
-        ensures { IfOk result (λ rows. map drawn_of rows.items ≡ drawn_words self.now (line_of line.now).gas (line_of line.now).inputs ++ drawn_by made.now.digest made.now.signed.tx) }
+    fn drawn_of(&self, line: &TxLine<'_>, made: &MadeTx) -> Result<LineIds, OutOfMemory>
+        ensures { IfOk result (λ ids. map drawn_of (line_rows ids) ≡ drawn_words self.now (line_of line.now).gas (line_of line.now).inputs ++ drawn_by made.now.digest made.now.signed.tx) }
     {
-        let mut rows = self.drawn_words(line)?;
-        let commands = made.signed.value().tx.commands.as_slice();
-        let mut more = drawn_by(self.alloc, &made.digest, commands)?;
-        rows.append(&mut more)?;
-        Ok(rows)
+        let words = self.drawn_words(line)?;
+        let count = draws(made.signed.value().tx.commands.as_slice())?;
+        Ok(LineIds {
+            words,
+            tx: made.digest,
+            count,
+        })
     }
 
     /// Adds a transaction, with the users and ids of its line. A refusal changes nothing.
@@ -180,16 +159,16 @@ impl Directory {
         &mut self,
         made: MadeTx,
         users: Vec<UserRow>,
-        drawn: Vec<DrawnRow>,
+        drawn: LineIds,
     ) -> Result<(), OutOfMemory>
-        ensures ok { OnOk result (self.new ≡ record { things = self.old.things; users = self.old.users ++ map user_as users.items; txs = self.old.txs ++ made_as made ∷ []; drawn = self.old.drawn ++ map drawn_of drawn.items }) }
+        ensures ok { OnOk result (self.new ≡ record { things = self.old.things; users = self.old.users ++ map user_as users.items; txs = self.old.txs ++ made_as made ∷ []; drawn = self.old.drawn ++ map drawn_of (line_rows drawn) }) }
         ensures err { OnErr result (self.new ≡ self.old) }
     {
         self.users.make_room(users.as_slice().len())?;
-        self.drawn.make_room(drawn.as_slice().len())?;
+        self.drawn.make_room()?;
         self.txs.add(made)?;
         self.users.add_all(users);
-        self.drawn.add_all(drawn);
+        self.drawn.add(drawn);
         Ok(())
     }
 

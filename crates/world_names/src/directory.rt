@@ -9,7 +9,8 @@ ghost use Rattle.world_names.specs.SetUp.{with_all, with_setup};
 ghost use Rattle.world_names.specs.Rows.{made_as};
 
 use crate::adding::user_row;
-use crate::rows::{DrawnRow, MadeTx, ThingRow, UserRow};
+use crate::drawn::DrawnIds;
+use crate::rows::{MadeTx, ThingRow, UserRow};
 use chain_types::{Address, ObjectId};
 use digest_core::{Digest, genesis_id};
 use schedule_text::Setup;
@@ -25,7 +26,7 @@ pub struct Directory {
     pub(crate) things: NamedTable<ThingRow>,
     pub(crate) users: Table<UserRow>,
     pub(crate) txs: NamedTable<MadeTx>,
-    pub(crate) drawn: Table<DrawnRow>,
+    pub(crate) drawn: DrawnIds,
     pub(crate) alloc: Global,
 }
 
@@ -47,7 +48,7 @@ impl Directory {
             things: NamedTable::new(alloc),
             users: Table::new(alloc),
             txs: NamedTable::new(alloc),
-            drawn: Table::new(alloc),
+            drawn: DrawnIds::new(alloc),
             alloc,
         }
     }
@@ -110,6 +111,23 @@ impl Directory {
         self.users.make_room(1)?;
         self.users.add(user);
         Ok(())
+    }
+
+    /// Lets the ids that lines draw wait until one is looked up, up to the first line with a word that names one, or
+    /// [`Directory::settle`]. A look-up by an id that is no set-up thing's then costs the making of all that wait. Takes
+    /// no memory.
+    pub fn wait(&mut self)
+        ensures { self.new ≡ self.old }
+    {
+        self.drawn.wait();
+    }
+
+    /// Makes the ids that wait, and lets none wait from now on. Where memory is refused they go on waiting, until the
+    /// next line.
+    pub fn settle(&mut self)
+        ensures { self.new ≡ self.old }
+    {
+        self.drawn.settle();
     }
 
     /// The allocator that the directory takes its memory from. There is only one.

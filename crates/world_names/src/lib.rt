@@ -3,7 +3,8 @@
 //! A [`Directory`] begins with the set-up lines; [`Directory::add_made`] adds a transaction and the names of
 //! its line. A name counts from its line on, and the first name of a thing is the one that is shown. Contracts
 //! see the four lists, and each answer is that of the definitions on them. Look-ups are by maps: none scans
-//! what is known. [`Directory::shown_order`] puts objects into the order in which a report shows them.
+//! what is known, but for ids that wait ([`Directory::wait`]). [`Directory::shown_order`] puts objects into the order
+//! in which a report shows them.
 //!
 //! [`stakes_of`], [`honest_of`], [`writers_of`] and [`opening_of`] read the set-up lines: the stakes, which members are honest, the
 //! limit of writers, and the objects with which epoch 0 opens.
@@ -16,6 +17,7 @@
 mod adding;
 mod commands;
 mod directory;
+mod drawn;
 mod inputs;
 mod line;
 mod looks;

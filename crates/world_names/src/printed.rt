@@ -36,10 +36,13 @@ impl Directory {
     {
         match self.things.find(&id.0) {
             Some(thing) => Seq::from_slice(self.alloc, thing.name.as_slice()),
-            None => match self.drawn.find(&id.0) {
-                Some(drawn) => self.created_name(drawn),
-                None => Seq::from_slice(self.alloc, b"?".as_slice()),
-            },
+            None => {
+                let drawn = self.drawn.find(&id.0)?;
+                match drawn {
+                    Some(row) => self.created_name(&row),
+                    None => Seq::from_slice(self.alloc, b"?".as_slice()),
+                }
+            }
         }
     }
 

@@ -1,8 +1,7 @@
 //! The rows of a directory.
 
 ghost use Rattle.std.specs.Prelude.{◌≡◌};
-ghost use Rattle.world_spec.specs.Names.{drawn_as};
-ghost use Rattle.world_names.specs.Rows.{drawn_of};
+ghost use Rattle.world_names.specs.Drawn.{row_as};
 
 use chain_types::{ObjectId, SignedTx};
 use digest_core::{Digest, created_id};
@@ -42,7 +41,7 @@ pub(crate) struct DrawnRow {
 impl DrawnRow {
     /// What the transaction's creation number draws. Takes no memory.
     pub(crate) fn new(tx: &Digest, number: u64) -> DrawnRow
-        ensures { drawn_of result ≡ drawn_as tx.now number }
+        ensures { result ≡ row_as tx.now number }
     {
         DrawnRow {
             id: ObjectId(created_id(tx, number)),

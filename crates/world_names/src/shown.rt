@@ -1,6 +1,6 @@
 //! The order in which objects are shown.
 
-ghost use Rattle.std.specs.Prelude.{◌≡◌, [], IfOk, OnOk, Some, option_copied, option_map};
+ghost use Rattle.std.specs.Prelude.{◌≡◌, [], IfOk, OnOk, Some, option_map};
 ghost use Rattle.std.specs.BTreeMap.{values as values_in};
 ghost use Rattle.world_spec.specs.Names.{drawn_rank, rank, shown_order};
 ghost use Rattle.scene_spec.specs.Known.{setting_with, world_with};
@@ -49,13 +49,13 @@ impl Directory {
     }
 
     /// The rank of an object that is not a set-up object. Takes no memory.
-    fn drawn_rank(&self, drawn: Option<&DrawnRow>) -> Rank
-        ensures { rank_as result ≡ ((1, (drawn_rank (world_with self.now) (option_map drawn_of (option_copied drawn.entry))).0), (drawn_rank (world_with self.now) (option_map drawn_of (option_copied drawn.entry))).1) }
+    fn drawn_rank(&self, drawn: Option<DrawnRow>) -> Rank
+        ensures { rank_as result ≡ ((1, (drawn_rank (world_with self.now) (option_map drawn_of drawn)).0), (drawn_rank (world_with self.now) (option_map drawn_of drawn)).1) }
     {
         match drawn {
             Some(drawn) => Rank {
                 group: 1,
-                place: self.line_of(drawn),
+                place: self.line_of(&drawn),
                 number: drawn.number,
             },
             None => Rank {
@@ -66,17 +66,20 @@ impl Directory {
         }
     }
 
-    /// The rank of an object. Takes no memory.
-    fn rank(&self, object: &Object) -> Rank
-        ensures { rank_as result ≡ rank (setting_with self.now) (world_with self.now) object.now }
+    /// The rank of an object.
+    fn rank(&self, object: &Object) -> Result<Rank, OutOfMemory>
+        ensures { IfOk result (λ r. rank_as r ≡ rank (setting_with self.now) (world_with self.now) object.now) }
     {
         match self.things.place_of(&object.id.0) {
-            Some(place) => Rank {
+            Some(place) => Ok(Rank {
                 group: 0,
                 place,
                 number: 0,
-            },
-            None => self.drawn_rank(self.drawn.find(&object.id.0)),
+            }),
+            None => {
+                let drawn = self.drawn.find(&object.id.0)?;
+                Ok(self.drawn_rank(drawn))
+            }
         }
     }
 
@@ -85,7 +88,7 @@ impl Directory {
         ensures { OnOk result (shown.new.entries ≡ with_shown self.now shown.old.entries object.now) }
     {
         let place = Place {
-            rank: self.rank(object),
+            rank: self.rank(object)?,
             index: shown.len(),
         };
         shown.insert(place, *object)?;
