@@ -35,6 +35,10 @@ sound_first lines opening known orders certs o k s c =
       keepable = subst (λ (x : Orders). AreKeepable x.sequences) (sym s) (tt, tt);
     }
 
+-- what is known is the same
+pub sound_same : (opening : List Object) (known new : Known) (certs : List Formed) (sequences : List (List Entry)) → IsSound opening known certs sequences → new ≡ known → IsSound opening new certs sequences
+sound_same opening known new certs sequences is same = subst (λ (k : Known). IsSound opening k certs sequences) (sym same) is
+
 -- one more transaction
 pub sound_made : (opening : List Object) (known new : Known) (certs : List Formed) (sequences : List (List Entry)) (l : TxLine) (t : Made) → IsSound opening known certs sequences → transactions.signed.short t.signed → new ≡ with_line known l t → IsSound opening new certs sequences
 sound_made opening known new certs sequences l t is short now =

@@ -117,6 +117,14 @@ impl World {
         }
     }
 
+    /// Lets the ids that `tx` lines draw wait until a name is looked up by an id ([`Directory::wait`]). Takes no memory.
+    #[tactic(auto, using(crate::proofs::Sound::sound_same))]
+    pub fn let_ids_wait(&mut self)
+        ensures { self.new ≡ self.old }
+    {
+        self.directory.wait();
+    }
+
     /// The number of members, at most 64: the keeper of [`World::step`] has a list for each. Takes no memory.
     pub fn members(&self) -> u32
         ensures value { result ≡ length self.now.posts }
