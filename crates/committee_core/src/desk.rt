@@ -221,7 +221,15 @@ fn world_of<R: Threads + Sync, S: MakesSeals>(
     ensures { IfOk result (Shows (trust_by (S.made sealer.now) (S.accepts sealer.now)) (setting_in (trust_by (S.made sealer.now) (S.accepts sealer.now)) schedule.now) (desk_world (trust_by (S.made sealer.now) (S.accepts sealer.now)) schedule.now)) }
 {
     let mut keeper = SureKeeper::new(alloc, MOST_MEMBERS)?;
-    match run_schedule(rt, alloc, schedule, sealer, &mut Silence, &mut keeper) {
+    match run_schedule(
+        rt,
+        alloc,
+        schedule,
+        sealer,
+        &mut Silence,
+        &mut keeper,
+        false,
+    ) {
         Ok(world) => Ok(world),
         Err(Stop::WriteFault) => unreachable!(),
         Err(Stop::KeepFault) => unreachable!(),

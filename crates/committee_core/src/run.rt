@@ -17,7 +17,7 @@ ghost use Rattle.committee_core.specs.declared.stop.Stop.TheVariants as stop;
 use crate::event::run_event;
 use crate::stop::Stop;
 use outside::{Keeper, Sink};
-use schedule_text::Schedule;
+use schedule_text::{Event, Schedule};
 use std::alloc::Global;
 use std::thread::Threads;
 use wire_bcs::OutOfMemory;
@@ -74,7 +74,64 @@ pub(crate) fn open_world<S: MakesSeals>(
     }
 }
 
-/// Runs a schedule from its set-up on. Answers the world after it.
+/// Whether a line can ask for the name of an object that no word of a schedule names: it shows objects, or hands in bytes.
+/// Takes no memory.
+fn asks_names(event: &Event) -> bool {
+    match event {
+        Event::Show(_) | Event::RawVote { .. } | Event::RawHold { .. } => true,
+        Event::Tx { .. }
+        | Event::Vote { .. }
+        | Event::Fvote { .. }
+        | Event::Cert { .. }
+        | Event::Send { .. }
+        | Event::Order(_)
+        | Event::OrderEnd(_)
+        | Event::OrderCommit
+        | Event::See { .. }
+        | Event::Run { .. }
+        | Event::Close(_)
+        | Event::End(_)
+        | Event::Turn(_)
+        | Event::Stop { .. }
+        | Event::Restart(_)
+        | Event::Ack { .. }
+        | Event::Final { .. } => false,
+    }
+}
+
+/// Whether no line of a schedule can ask for such a name. Takes no memory.
+pub(crate) fn asks_no_names(schedule: &Schedule) -> bool {
+    let mut rest = schedule.events.as_slice();
+    while let [event, after @ ..] = rest {
+        if asks_names(event) {
+            return false;
+        }
+        rest = after;
+    }
+    true
+}
+
+/// Opens the world of a set-up for a run. If no line asks for names (`waits`), the ids that lines draw wait.
+fn open_to_run<S: MakesSeals>(
+    alloc: Global,
+    schedule: &Schedule,
+    sealer: &S,
+    waits: bool,
+) -> Result<World, OutOfMemory>
+    requires committee { committee_of (stakes_of schedule.now.setup) ≡ Ok (stakes_of schedule.now.setup) }
+    ensures opened { IfOk result (λ w. w ≡ new_scene (setting_in (trust_by (S.made sealer.now) (S.accepts sealer.now)) schedule.now) schedule.now.setup) }
+    ensures few { IfOk result (λ w. length w.posts ≤ 64) }
+{
+    let mut world = open_world(alloc, schedule, sealer)?;
+    if waits {
+        world.let_ids_wait();
+        return Ok(world);
+    }
+    Ok(world)
+}
+
+/// Runs a schedule from its set-up on. Answers the world after it. If no line asks for names, and none is asked for
+/// after it (`waits`), the ids that lines draw are not made.
 #[tactic(auto, using(crate::proofs::Opening::wide_enough, crate::proofs::Whole::nothing_run))]
 pub(crate) fn run_schedule<R: Threads + Sync, S: MakesSeals, K: Sink, D: Keeper>(
     rt: &R,
@@ -83,6 +140,7 @@ pub(crate) fn run_schedule<R: Threads + Sync, S: MakesSeals, K: Sink, D: Keeper>
     sealer: &S,
     sink: &mut K,
     keeper: &mut D,
+    waits: bool,
 ) -> Result<World, Stop>
     requires room { 64 ≤ D.width keeper.old }
     requires empty { AreEmpty (D.lists keeper.old) }
@@ -100,7 +158,7 @@ pub(crate) fn run_schedule<R: Threads + Sync, S: MakesSeals, K: Sink, D: Keeper>
 {
     // observable lists are as many as the keeper has
     let _ = keeper.members();
-    match open_world(alloc, schedule, sealer) {
+    match open_to_run(alloc, schedule, sealer, waits) {
         Ok(mut world) => match run_events(rt, alloc, &mut world, schedule, sealer, sink, keeper) {
             Ok(()) => Ok(world),
             Err(stop) => {

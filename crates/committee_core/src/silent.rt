@@ -73,7 +73,15 @@ pub(crate) fn run_silent<R: Threads + Sync, S: MakesSeals, D: Keeper>(
     ensures keep_fault { IsErrOf result unrun.KeepFault → Rose (D.failed keeper.old) (D.failed keeper.new) }
 {
     match read_schedule(alloc, text) {
-        Ok(schedule) => match run_schedule(rt, alloc, &schedule, sealer, &mut Silence, keeper) {
+        Ok(schedule) => match run_schedule(
+            rt,
+            alloc,
+            &schedule,
+            sealer,
+            &mut Silence,
+            keeper,
+            false,
+        ) {
             Ok(world) => Ok(world),
             Err(Stop::WriteFault) => unreachable!(),
             Err(Stop::KeepFault) => Err(Unrun::KeepFault),

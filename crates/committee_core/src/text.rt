@@ -19,7 +19,7 @@ ghost use Rattle.committee_core.specs.declared.stop.Ended.TheVariants as ended;
 ghost use Rattle.outside.specs.declared.faults.OutFault.TheVariants as out_fault;
 
 use crate::event::write_line;
-use crate::run::run_schedule;
+use crate::run::{asks_no_names, run_schedule};
 use crate::stop::{Ended, Stop};
 use outside::{Keeper, OutFault, Sink};
 use report_text::Line;
@@ -68,7 +68,15 @@ pub(crate) fn run_text<R: Threads + Sync, S: MakesSeals, K: Sink, D: Keeper>(
     ensures keep_fault { IsErrOf result stop.KeepFault → Rose (D.failed keeper.old) (D.failed keeper.new) }
 {
     match read_schedule(alloc, text) {
-        Ok(schedule) => match run_schedule(rt, alloc, &schedule, sealer, sink, keeper) {
+        Ok(schedule) => match run_schedule(
+            rt,
+            alloc,
+            &schedule,
+            sealer,
+            sink,
+            keeper,
+            asks_no_names(&schedule),
+        ) {
             Ok(world) => {
                 drop(world);
                 Ok(Ended::Ran)
