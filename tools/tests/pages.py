@@ -11,6 +11,7 @@ import unittest
 import unittest.mock
 
 import manual
+import programs
 
 TOP = manual.TOP
 MADE = ("docs/DEFINITIONS.md", "docs/CRATES.md")
@@ -71,6 +72,12 @@ class ReadingOrder(unittest.TestCase):
 
     def test_it_is_short(self):
         self.assertLessEqual(os.path.getsize(f"{TOP}/docs/DEFINITIONS.md"), MOST_DEFINITIONS)
+
+
+class Layers(unittest.TestCase):
+    def test_each_crate_stands_in_one_layer(self):
+        listed = [it for _, names in tool("pages").LAYERS for it in names.split()]
+        self.assertEqual(sorted(listed), sorted(programs.uses(TOP)))
 
 
 class SpeedPage(unittest.TestCase):
