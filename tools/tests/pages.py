@@ -11,16 +11,17 @@ import unittest
 import unittest.mock
 
 import manual
+import programs
 
 TOP = manual.TOP
 MADE = ("docs/DEFINITIONS.md", "docs/CRATES.md")
-MOST_BY_HAND, MOST_README = 212_000, 7_500
+MOST_BY_HAND, MOST_README, MOST_DEFINITIONS = 204_000, 7_500, 31_000
 
 
-def speed():
-    """tools/speed as a module."""
-    loader = importlib.machinery.SourceFileLoader("speed", f"{TOP}/tools/speed")
-    module = importlib.util.module_from_spec(importlib.util.spec_from_loader("speed", loader))
+def tool(name):
+    """A tool as a module."""
+    loader = importlib.machinery.SourceFileLoader(name, f"{TOP}/tools/{name}")
+    module = importlib.util.module_from_spec(importlib.util.spec_from_loader(name, loader))
     loader.exec_module(module)
     return module
 
@@ -48,9 +49,40 @@ class Pages(unittest.TestCase):
         self.assertLessEqual(sum(sizes.values()), MOST_BY_HAND, sizes)
 
 
+class ReadingOrder(unittest.TestCase):
+    """The page of definitions is one to read from top to bottom."""
+
+    @classmethod
+    def setUpClass(cls):
+        cls.made = tool("pages")
+        cls.files = [path for _, names in cls.made.READ for path in cls.made.files(names)]
+
+    def test_each_file_stands_once_and_says_what_it_has(self):
+        self.assertEqual(len(self.files), len(set(self.files)))
+        self.assertEqual([it for it in self.files if not self.made.head(it, "--")], [])
+
+    def test_a_file_stands_below_those_that_it_uses(self):
+        late = {path: sorted(self.made.uses(path) & set(self.files[at:])) for at, path in enumerate(self.files)}
+        self.assertEqual({path: found for path, found in late.items() if found}, {}, "READ of tools/pages names these too late")
+
+    def test_all_crates_of_theorems_are_there(self):
+        crates = {it for it in os.listdir(f"{TOP}/crates") if it.endswith("_law")}
+        self.assertEqual(set(self.made.LAWS), crates)
+        self.assertEqual([it for it in self.made.LAWS if not self.made.theorems(it)], [])
+
+    def test_it_is_short(self):
+        self.assertLessEqual(os.path.getsize(f"{TOP}/docs/DEFINITIONS.md"), MOST_DEFINITIONS)
+
+
+class Layers(unittest.TestCase):
+    def test_each_crate_stands_in_one_layer(self):
+        listed = [it for _, names in tool("pages").LAYERS for it in names.split()]
+        self.assertEqual(sorted(listed), sorted(programs.uses(TOP)))
+
+
 class SpeedPage(unittest.TestCase):
     def setUp(self):
-        self.speed = speed()
+        self.speed = tool("speed")
         with open(self.speed.PAGE) as file:
             self.page = file.read()
 
