@@ -24,4 +24,5 @@ pub mod Saying
 pub mod Acking
 pub mod OrderedEnds
 pub mod Asked
+pub mod Cuts
 mod First

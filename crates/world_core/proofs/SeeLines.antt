@@ -1,5 +1,5 @@
 -- The line that hands a member entries, in each of its ways.
-use Rattle.std.proofs.Common.{◌≡◌, ◌∙◌, ap, sym, refl, subst, ℕ, zero, suc, true, false, List, [], ◌∷◌, length, Option, Some, None, option_map, Result, Ok, Err, append-nil, arith}
+use Rattle.std.proofs.Common.{◌≡◌, ◌∙◌, ap, sym, refl, subst, ℕ, zero, suc, true, false, List, [], ◌∷◌, length, Option, Some, None, option_map, Result, Ok, Err, OnErr, append-nil, arith}
 use Rattle.std.proofs.lemmas.Bool.{eqb-true}
 use Rattle.std.specs.Prelude.{◌==◌, min, slice_get}
 use Rattle.digest_core.specs.declared.Digest.{Digest}
@@ -19,7 +19,9 @@ use Rattle.scene_spec.specs.Seats.{Seated}
 use Rattle.scene_spec.specs.Posts.{AddsAll, AddsFront, Post}
 use Rattle.scene_spec.specs.Scene.{Scene, bare_world, rules_in}
 use Rattle.scene_spec.specs.Steps.{Work, entries_lines_in, hands, see_halted_in, see_lines_in, seat_state, sees_left, sees_to, standing_at, state_at, worked}
+use Rattle.world_core.specs.Cuts.{EntriesCut, LineCut}
 use Rattle.world_core.specs.Kept.{LeavesAs}
+use Rattle.world_core.proofs.Cuts.{entries_ended}
 use Rattle.world_core.proofs.Seeing.{Rests, adds_none, halted_rests}
 
 min_none : (n : ℕ) → min n 0 ≡ 0
@@ -120,6 +122,13 @@ module _ (trust : Trust) (sc : Scene) (m e : ℕ) where
 
       pub taken_cut : (B F : Type 0) (before now : Option Journals) (f : F) → AddsFront before now m (sees_left r n sc m) → LeavesAs r sc (see_work sc m e (state_at sc m)) before now (let x : Result B F = Err f in x)
       taken_cut B F before now f is = subst (λ (k : ℕ). AddsFront before now m (sees_left r k sc m)) many_is is
+
+      pub taken_broken : (new : List Post) (before now : Option Journals) → EntriesCut r m n sc new before now → LineCut r sc (see_work sc m e (state_at sc m)) new before now
+      taken_broken new before now is = subst (λ (k : ℕ). EntriesCut r m k sc new before now) many_is is
+
+      pub taken_untold : {B F : Type 0} (new : Scene) (before now : Option Journals) (result : Result B F) → new ≡ sees_to r n sc m → AddsAll before now m (sees_left r n sc m) → OnErr result (LineCut r sc (see_work sc m e (state_at sc m)) new.posts before now)
+      taken_untold new before now (Ok b) is adds = tt
+      taken_untold new before now (Err f) is adds = taken_broken new.posts before now (entries_ended r sc new m n before now is adds)
 
       lines_where : (fork : Option Fork) → fork_of seat.state ≡ fork → None ≡ option_map both fork → none_taken m (entries_lines_in trust n sc m) ≡ see_lines_in trust sc m e (state_at sc m)
       lines_where None is none =

@@ -23,6 +23,7 @@ use Rattle.scene_spec.specs.Terms.{Terms, rules_for}
 use Rattle.scene_spec.specs.Posts.{AddsAll, AddsFront, Post, list_of, post_behind, posts_behind, posts_with, reached_in, reached_post, reached_standing, record_left, seat_behind, stated_in, with_all}
 use Rattle.scene_spec.specs.Scene.{Scene, bare_setting, bare_world, rules_in}
 use Rattle.scene_spec.specs.Steps.{call_lines_in, called_if, called_scene, entries_lines_in, left_if, next_on, seat_state, sees_left, sees_to, standing_at}
+use Rattle.world_core.specs.Cuts.{EntriesCut, NextCut, books_in}
 use Rattle.world_core.specs.Sees.{HasSeen}
 
 module _ (r : Rules) (m : ℕ) where
@@ -252,12 +253,24 @@ adds_then (Some lists) b c m xs ys one two =
     let more : c ≡ Some (with_all (with_all lists m xs) m ys) = subst (λ (told : Option Journals). AddsAll told c m ys) one two in
     more ∙ ap (λ (l : Journals). Some l) (sym (fold_join (λ (told : Journals) (x : Record). with_record told m (journals.journal_record.spell x)) lists xs ys))
 
+-- ---- one entry more at the end
+
+sees_more : (r : Rules) (k : ℕ) (sc : Scene) (m : ℕ) → sees_to r (suc k) sc m ≡ called_if r (sees_to r k sc m) m (next_on (sees_to r k sc m) m)
+sees_more r zero sc m = refl
+sees_more r (suc k) sc m = sees_more r k (called_if r sc m (next_on sc m)) m
+
+left_more : (r : Rules) (k : ℕ) (sc : Scene) (m : ℕ) → sees_left r (suc k) sc m ≡ sees_left r k sc m ++ left_if r (sees_to r k sc m) m (next_on (sees_to r k sc m) m)
+left_more r zero sc m = append-nil (left_if r sc m (next_on sc m))
+left_more r (suc k) sc m =
+    ap (λ (xs : List Record). left_if r sc m (next_on sc m) ++ xs) (left_more r k (called_if r sc m (next_on sc m)) m)
+    ∙ sym (append_assoc (left_if r sc m (next_on sc m)) (sees_left r k (called_if r sc m (next_on sc m)) m) (left_if r (sees_to r (suc k) sc m) m (next_on (sees_to r (suc k) sc m) m)))
+
 -- ---- entry after entry
 
 module _ (trust : Trust) (m n : ℕ) (old : Scene) (before : Option Journals) (lines : List Line) where
   -- so it begins
   pub seen_none : HasSeen trust m n old old before before lines lines n
-  seen_none = record { scene = refl; says = refl; done = []; records = refl; adds = adds_none before m; rules = refl; many = refl }
+  seen_none = record { scene = refl; says = refl; done = []; records = refl; adds = adds_none before m; taken = 0; sum = omega arith; reached = refl; gave = refl; books = refl; rules = refl; many = refl }
 
   module _ (now next : Scene) (told later : Option Journals) (so_far more : List Line) (left : ℕ) (some : 0 < left) (has_ : HasSeen trust m n old now before told lines so_far left) where
     abbrev still : ℕ
@@ -285,9 +298,9 @@ module _ (trust : Trust) (m n : ℕ) (old : Scene) (before : Option Journals) (l
     scene_now is = ap (λ (x : Scene). sees_to rules_old still x m) (called_now is) ∙ has.scene
 
     -- one entry more
-    pub seen_one : next ≡ called_if rules_now now m (next_on now m) → next.terms ≡ now.terms → length next.posts ≡ length now.posts → more ≡ so_far ++ (call_lines_in trust now m (next_on now m)).0
+    pub seen_one : next ≡ called_if rules_now now m (next_on now m) → books_in next ≡ books_in now → next.terms ≡ now.terms → length next.posts ≡ length now.posts → more ≡ so_far ++ (call_lines_in trust now m (next_on now m)).0
         → true ≡ (call_lines_in trust now m (next_on now m)).1 → AddsAll told later m (left_if rules_now now m (next_on now m)) → HasSeen trust m n old next before later lines more (left - 1)
-    seen_one is terms many said goes adds =
+    seen_one is books terms many said goes adds =
         record {
           scene = scene_now is;
           says =
@@ -301,6 +314,14 @@ module _ (trust : Trust) (m n : ℕ) (old : Scene) (before : Option Journals) (l
               ∙ sym (append_assoc has.done (left_if rules_old now m (next_on now m)) (sees_left rules_old still (called_if rules_old now m (next_on now m)) m))
               ∙ ap (λ (x : Scene). (has.done ++ left_if rules_old now m (next_on now m)) ++ sees_left rules_old still x m) (sym (called_now is));
           adds = adds_then before told later m has.done (left_if rules_old now m (next_on now m)) has.adds (left_now adds);
+          taken = suc has.taken;
+          sum = let all = has.sum in omega (arith, all);
+          reached = called_now is ∙ ap (λ (x : Scene). called_if rules_old x m (next_on x m)) has.reached ∙ sym (sees_more rules_old has.taken old m);
+          gave =
+              ap (λ (xs : List Record). xs ++ left_if rules_old now m (next_on now m)) has.gave
+              ∙ ap (λ (x : Scene). sees_left rules_old has.taken old m ++ left_if rules_old x m (next_on x m)) has.reached
+              ∙ sym (left_more rules_old has.taken old m);
+          books = books ∙ has.books;
           rules = terms ∙ has.rules;
           many = many ∙ has.many;
         }
@@ -348,6 +369,21 @@ module _ (trust : Trust) (m n : ℕ) (old : Scene) (before : Option Journals) (l
               ∙ sym (append_assoc has.done adds.front (adds.rest ++ sees_left rules_old still (called_if rules_old now m (next_on now m)) m));
           adds = adds_then before told later m has.done adds.front has.adds adds.adds;
         }
+
+    pub seen_broken : NextCut rules_now now m (next_on now m) next.posts told later → EntriesCut rules_old m n old next.posts before later
+    seen_broken cut =
+        record {
+          taken = has.taken;
+          few = let all = has.sum in omega (arith, all);
+          told = told;
+          adds = subst (λ (xs : List Record). AddsAll before told m xs) has.gave has.adds;
+          next =
+              subst (λ (x : Scene). NextCut rules_old x m (next_on x m) next.posts told later) has.reached
+              (subst (λ (r : Rules). NextCut r now m (next_on now m) next.posts told later) same_rules cut);
+        }
+
+  pub seen_books : (now : Scene) (told : Option Journals) (so_far : List Line) (left : ℕ) → HasSeen trust m n old now before told lines so_far left → books_in now ≡ books_in old
+  seen_books now told so_far left has = has.books
 
   -- all were handed in
   module _ (now : Scene) (told : Option Journals) (so_far : List Line) (has : HasSeen trust m n old now before told lines so_far 0) where

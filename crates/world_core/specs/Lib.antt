@@ -13,3 +13,4 @@ pub mod Sees
 pub mod Epochs
 pub mod Replays
 pub mod Looks
+pub mod Cuts

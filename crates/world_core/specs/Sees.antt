@@ -1,5 +1,5 @@
 -- What is said of entries, by what is known under names; what a line that hands in several has done so far.
-use Rattle.std.specs.Prelude.{◌≡◌, ℕ, false, List, [], ◌∷◌, ◌++◌, length, slice_get, Option, None, option_and_then, option_map, Result, Ok, Err, if◌then◌else◌}
+use Rattle.std.specs.Prelude.{◌≡◌, ◌+◌, ℕ, false, List, [], ◌∷◌, ◌++◌, length, slice_get, Option, None, option_and_then, option_map, Result, Ok, Err, if◌then◌else◌}
 use Rattle.chain_messages.specs.declared.messages.Entry.{Entry}
 use Rattle.journal_core.specs.declared.records.Record.{Record}
 use Rattle.outside.specs.Lists.{Journals}
@@ -16,6 +16,7 @@ use Rattle.world_spec.specs.Report.{Lines, entry_lines}
 use Rattle.scene_spec.specs.Known.{Known, setting_staked, world_with}
 use Rattle.scene_spec.specs.Posts.{AddsAll, AddsFront, Post}
 use Rattle.scene_spec.specs.Scene.{Scene, rules_in}
+use Rattle.world_core.specs.Cuts.{books_in}
 use Rattle.scene_spec.specs.Steps.{entries_lines_in, seat_state, sees_left, sees_to, standing_at}
 
 abbrev pub see_lines_by : Known → Rules → ℕ → ℕ → List ℕ → Reached → Lines
@@ -37,12 +38,17 @@ LeavesAll before now m records (Ok a) = AddsAll before now m records
 LeavesAll before now m records (Err e) = AddsFront before now m records
 
 -- this many entries are left of those that a member was to be handed: what is still to come of them is what is still to come
--- of the whole, after the lines and records so far
+-- of the whole, after the lines and records so far; and it stands as after those that it was handed
 pub record HasSeen (trust : Trust) (m n : ℕ) (old now : Scene) (before told : Option Journals) (lines so_far : List Line) (still : ℕ) : Type 0 where
   pub scene : sees_to (rules_in trust.accepts old) still now m ≡ sees_to (rules_in trust.accepts old) n old m
   pub says : so_far ++ entries_lines_in trust still now m ≡ lines ++ entries_lines_in trust n old m
   pub done : List Record
   pub records : sees_left (rules_in trust.accepts old) n old m ≡ done ++ sees_left (rules_in trust.accepts old) still now m
   pub adds : AddsAll before told m done
+  pub taken : ℕ
+  pub sum : taken + still ≡ n
+  pub reached : now ≡ sees_to (rules_in trust.accepts old) taken old m
+  pub gave : done ≡ sees_left (rules_in trust.accepts old) taken old m
+  pub books : books_in now ≡ books_in old
   pub rules : now.terms ≡ old.terms
   pub many : length now.posts ≡ length old.posts

@@ -6,6 +6,7 @@ ghost use Rattle.scene_spec.specs.Known.{world_with};
 ghost use Rattle.scene_spec.specs.Scene.{bare_setting, bare_world, rules_in};
 ghost use Rattle.scene_spec.specs.Steps.{ack_lines_in, acked_in, seat_state, standing_at};
 ghost use Rattle.scene_spec.specs.Terms.{rules_for};
+ghost use Rattle.world_core.specs.Cuts.{still_in};
 ghost use Rattle.world_core.specs.Epochs.{ack_statements, ack_text_by, false_ack_by};
 ghost use Rattle.world_core.specs.Trusts.{trust_by};
 ghost use Rattle.world_lines.specs.Answers.{stated_as};
@@ -112,6 +113,7 @@ impl World {
     ) -> Result<Seq<Line>, OutOfMemory>
         ensures world { OnOk result (self.new ≡ acked_in (rules_in (S.accepts sealer.now) self.old) self.old member spoiled (made_named (bare_world self.old) tx.now)) }
         ensures lines { IfOk result (λ lines. lines ≡ ack_lines_in (trust_by (S.made sealer.now) (S.accepts sealer.now)) self.old member tx.now (made_named (bare_world self.old) tx.now)) }
+        ensures still { still_in self.new ≡ still_in self.old }
     {
         let Some(made) = self.directory.made(tx) else {
             return ack_line(self.alloc, member, tx, AckText::Down);

@@ -1,6 +1,6 @@
 //! Lines that hand a call to a member.
 
-ghost use Rattle.std.specs.Prelude.{◌≡◌, ◌<◌, ◌≤◌, ◌∷◌, ◌++◌, [], IfOk, IsErrOf, OnOk, length, map, option_map, true};
+ghost use Rattle.std.specs.Prelude.{◌≡◌, ◌<◌, ◌≤◌, ◌∷◌, ◌++◌, [], IfOk, IsErrOf, OnErr, OnOk, length, map, option_map, true};
 ghost use Rattle.chain_messages.specs.Messages as codecs;
 ghost use Rattle.chain_types.specs.Transactions as tx_codecs;
 ghost use Rattle.outside.specs.Causes.{Rose};
@@ -17,6 +17,7 @@ ghost use Rattle.scene_spec.specs.Posts.{posts_behind, reached_in, record_left, 
 ghost use Rattle.scene_spec.specs.Scene.{bare_setting, bare_world, rules_in};
 ghost use Rattle.scene_spec.specs.Steps.{called_scene, hold_text_in, lines_in, steps_to, vote_text_in, work_of};
 ghost use Rattle.world_core.specs.declared.reply.SeatFault.TheVariants as fault;
+ghost use Rattle.world_core.specs.Cuts.{CallCut, LineCut, books_in};
 ghost use Rattle.world_core.specs.Replies.{Leaves};
 ghost use Rattle.world_core.specs.Kept.{LeavesAs, is_call};
 ghost use Rattle.world_core.specs.Texts.{hold_text_by, run_lines_by, spelled_cert, spelled_tx, vote_text_by};
@@ -72,7 +73,9 @@ fn ask<R: Threads + Sync, D: Keeper, S: Sealer>(
     ensures said { OnOk result (said.new ≡ said.old ++ map (said_by member) (stated_in (rules_for seats.old.terms (S.accepts sealer.now)) (votes bytes.now) (reached_in (rules_for seats.old.terms (S.accepts sealer.now)) seats.old.posts member (votes bytes.now)))) }
     ensures posts { OnOk result (seats.new.posts ≡ posts_behind (rules_for seats.old.terms (S.accepts sealer.now)) seats.old.posts member (votes bytes.now)) }
     ensures terms { seats.new.terms ≡ seats.old.terms }
+    ensures count { length seats.new.posts ≡ length seats.old.posts }
     ensures kept { Leaves (D.lists keeper.old) (D.lists keeper.new) member (record_left (reached_in (rules_for seats.old.terms (S.accepts sealer.now)) seats.old.posts member (votes bytes.now))) result }
+    ensures cut { OnErr result (CallCut (rules_for seats.old.terms (S.accepts sealer.now)) member (votes bytes.now) seats.old.posts seats.new.posts (D.lists keeper.old) (D.lists keeper.new)) }
     ensures width { D.width keeper.new ≡ D.width keeper.old }
     ensures later { D.failed keeper.old ≤ D.failed keeper.new }
     ensures fault { IsErrOf result fault.KeepFault → Rose (D.failed keeper.old) (D.failed keeper.new) }
@@ -106,7 +109,9 @@ fn hand<R: Threads + Sync, D: Keeper, S: Sealer>(
     ensures text { IfOk result (λ text. text ≡ hold_text_by directory.now (rules_for seats.old.terms (S.accepts sealer.now)) bytes.now (reached_in (rules_for seats.old.terms (S.accepts sealer.now)) seats.old.posts member (holds bytes.now))) }
     ensures posts { OnOk result (seats.new.posts ≡ posts_behind (rules_for seats.old.terms (S.accepts sealer.now)) seats.old.posts member (holds bytes.now)) }
     ensures terms { seats.new.terms ≡ seats.old.terms }
+    ensures count { length seats.new.posts ≡ length seats.old.posts }
     ensures kept { Leaves (D.lists keeper.old) (D.lists keeper.new) member (record_left (reached_in (rules_for seats.old.terms (S.accepts sealer.now)) seats.old.posts member (holds bytes.now))) result }
+    ensures cut { OnErr result (CallCut (rules_for seats.old.terms (S.accepts sealer.now)) member (holds bytes.now) seats.old.posts seats.new.posts (D.lists keeper.old) (D.lists keeper.new)) }
     ensures width { D.width keeper.new ≡ D.width keeper.old }
     ensures later { D.failed keeper.old ≤ D.failed keeper.new }
     ensures fault { IsErrOf result fault.KeepFault → Rose (D.failed keeper.old) (D.failed keeper.new) }
@@ -162,7 +167,7 @@ fn workers_of(number: u32) -> u32
 }
 
 /// Lets a member run what it holds, by 1 to 16 workers.
-#[tactic(auto, using(crate::proofs::Texts::run_down, crate::proofs::Texts::run_stopped, crate::proofs::Texts::run_said, crate::proofs::Texts::down_states, crate::proofs::Texts::stopped_states, crate::proofs::Texts::run_states))]
+#[tactic(auto, using(crate::proofs::Texts::run_down, crate::proofs::Texts::run_stopped, crate::proofs::Texts::run_said, crate::proofs::Texts::down_states, crate::proofs::Texts::stopped_states, crate::proofs::Texts::run_states, crate::proofs::Cuts::call_ended))]
 fn run<R: Threads + Sync, D: Keeper, S: Sealer>(
     rt: &R,
     seats: &mut Seats,
@@ -179,7 +184,9 @@ fn run<R: Threads + Sync, D: Keeper, S: Sealer>(
     ensures said { OnOk result (said.new ≡ said.old ++ map (said_by member) (stated_in (rules_for seats.old.terms (S.accepts sealer.now)) runs (reached_in (rules_for seats.old.terms (S.accepts sealer.now)) seats.old.posts member runs))) }
     ensures posts { OnOk result (seats.new.posts ≡ posts_behind (rules_for seats.old.terms (S.accepts sealer.now)) seats.old.posts member runs) }
     ensures terms { seats.new.terms ≡ seats.old.terms }
+    ensures count { length seats.new.posts ≡ length seats.old.posts }
     ensures kept { Leaves (D.lists keeper.old) (D.lists keeper.new) member (record_left (reached_in (rules_for seats.old.terms (S.accepts sealer.now)) seats.old.posts member runs)) result }
+    ensures cut { OnErr result (CallCut (rules_for seats.old.terms (S.accepts sealer.now)) member runs seats.old.posts seats.new.posts (D.lists keeper.old) (D.lists keeper.new)) }
     ensures width { D.width keeper.new ≡ D.width keeper.old }
     ensures later { D.failed keeper.old ≤ D.failed keeper.new }
     ensures fault { IsErrOf result fault.KeepFault → Rose (D.failed keeper.old) (D.failed keeper.new) }
@@ -247,6 +254,8 @@ impl World {
         ensures world { OnOk result (self.new ≡ called_scene (rules_in (S.accepts sealer.now) self.old) self.old member (votes bytes.now)) }
         ensures text { IfOk result (λ text. text ≡ vote_text_in (trust_by (S.made sealer.now) (S.accepts sealer.now)) self.old member bytes.now) }
         ensures kept { Leaves (D.lists keeper.old) (D.lists keeper.new) member (record_left (reached_in (rules_in (S.accepts sealer.now) self.old) self.old.posts member (votes bytes.now))) result }
+        ensures cut { OnErr result (CallCut (rules_in (S.accepts sealer.now) self.old) member (votes bytes.now) self.old.posts self.new.posts (D.lists keeper.old) (D.lists keeper.new)) }
+        ensures books { books_in self.new ≡ books_in self.old }
         ensures width { D.width keeper.new ≡ D.width keeper.old }
         ensures later { D.failed keeper.old ≤ D.failed keeper.new }
         ensures fault { IsErrOf result fault.KeepFault → Rose (D.failed keeper.old) (D.failed keeper.new) }
@@ -277,6 +286,8 @@ impl World {
         ensures world { OnOk result (self.new ≡ called_scene (rules_in (S.accepts sealer.now) self.old) self.old member (holds bytes.now)) }
         ensures text { IfOk result (λ text. text ≡ hold_text_in (trust_by (S.made sealer.now) (S.accepts sealer.now)) self.old member bytes.now) }
         ensures kept { Leaves (D.lists keeper.old) (D.lists keeper.new) member (record_left (reached_in (rules_in (S.accepts sealer.now) self.old) self.old.posts member (holds bytes.now))) result }
+        ensures cut { OnErr result (CallCut (rules_in (S.accepts sealer.now) self.old) member (holds bytes.now) self.old.posts self.new.posts (D.lists keeper.old) (D.lists keeper.new)) }
+        ensures books { books_in self.new ≡ books_in self.old }
         ensures width { D.width keeper.new ≡ D.width keeper.old }
         ensures later { D.failed keeper.old ≤ D.failed keeper.new }
         ensures fault { IsErrOf result fault.KeepFault → Rose (D.failed keeper.old) (D.failed keeper.new) }
@@ -306,6 +317,8 @@ impl World {
         ensures world { OnOk result (self.new ≡ steps_to (trust_by (S.made sealer.now) (S.accepts sealer.now)) self.old (events.Vote member tx.now)) }
         ensures lines { IfOk result (λ lines. lines ≡ lines_in (trust_by (S.made sealer.now) (S.accepts sealer.now)) self.old (events.Vote member tx.now)) }
         ensures kept { LeavesAs (rules_in (S.accepts sealer.now) self.old) self.old (work_of self.old (events.Vote member tx.now)) (D.lists keeper.old) (D.lists keeper.new) result }
+        ensures cut { OnErr result (LineCut (rules_in (S.accepts sealer.now) self.old) self.old (work_of self.old (events.Vote member tx.now)) self.new.posts (D.lists keeper.old) (D.lists keeper.new)) }
+        ensures books { books_in self.new ≡ books_in self.old }
         ensures width { D.width keeper.new ≡ D.width keeper.old }
         ensures later { D.failed keeper.old ≤ D.failed keeper.new }
         ensures fault { IsErrOf result fault.KeepFault → Rose (D.failed keeper.old) (D.failed keeper.new) }
@@ -355,6 +368,8 @@ impl World {
         ensures world { OnOk result (self.new ≡ steps_to (trust_by (S.made sealer.now) (S.accepts sealer.now)) self.old (events.Send member tx.now)) }
         ensures lines { IfOk result (λ lines. lines ≡ lines_in (trust_by (S.made sealer.now) (S.accepts sealer.now)) self.old (events.Send member tx.now)) }
         ensures kept { LeavesAs (rules_in (S.accepts sealer.now) self.old) self.old (work_of self.old (events.Send member tx.now)) (D.lists keeper.old) (D.lists keeper.new) result }
+        ensures cut { OnErr result (LineCut (rules_in (S.accepts sealer.now) self.old) self.old (work_of self.old (events.Send member tx.now)) self.new.posts (D.lists keeper.old) (D.lists keeper.new)) }
+        ensures books { books_in self.new ≡ books_in self.old }
         ensures width { D.width keeper.new ≡ D.width keeper.old }
         ensures later { D.failed keeper.old ≤ D.failed keeper.new }
         ensures fault { IsErrOf result fault.KeepFault → Rose (D.failed keeper.old) (D.failed keeper.new) }
@@ -404,6 +419,8 @@ impl World {
         ensures world { OnOk result (self.new ≡ steps_to (trust_by (S.made sealer.now) (S.accepts sealer.now)) self.old (events.Run member workers)) }
         ensures lines { IfOk result (λ lines. lines ≡ lines_in (trust_by (S.made sealer.now) (S.accepts sealer.now)) self.old (events.Run member workers)) }
         ensures kept { LeavesAs (rules_in (S.accepts sealer.now) self.old) self.old (work_of self.old (events.Run member workers)) (D.lists keeper.old) (D.lists keeper.new) result }
+        ensures cut { OnErr result (LineCut (rules_in (S.accepts sealer.now) self.old) self.old (work_of self.old (events.Run member workers)) self.new.posts (D.lists keeper.old) (D.lists keeper.new)) }
+        ensures books { books_in self.new ≡ books_in self.old }
         ensures width { D.width keeper.new ≡ D.width keeper.old }
         ensures later { D.failed keeper.old ≤ D.failed keeper.new }
         ensures fault { IsErrOf result fault.KeepFault → Rose (D.failed keeper.old) (D.failed keeper.new) }
@@ -434,6 +451,8 @@ impl World {
         ensures world { OnOk result (self.new ≡ steps_to (trust_by (S.made sealer.now) (S.accepts sealer.now)) self.old (events.RawVote member bytes.now)) }
         ensures lines { IfOk result (λ lines. lines ≡ lines_in (trust_by (S.made sealer.now) (S.accepts sealer.now)) self.old (events.RawVote member bytes.now)) }
         ensures kept { LeavesAs (rules_in (S.accepts sealer.now) self.old) self.old (work_of self.old (events.RawVote member bytes.now)) (D.lists keeper.old) (D.lists keeper.new) result }
+        ensures cut { OnErr result (LineCut (rules_in (S.accepts sealer.now) self.old) self.old (work_of self.old (events.RawVote member bytes.now)) self.new.posts (D.lists keeper.old) (D.lists keeper.new)) }
+        ensures books { books_in self.new ≡ books_in self.old }
         ensures width { D.width keeper.new ≡ D.width keeper.old }
         ensures later { D.failed keeper.old ≤ D.failed keeper.new }
         ensures fault { IsErrOf result fault.KeepFault → Rose (D.failed keeper.old) (D.failed keeper.new) }
@@ -461,6 +480,8 @@ impl World {
         ensures world { OnOk result (self.new ≡ steps_to (trust_by (S.made sealer.now) (S.accepts sealer.now)) self.old (events.RawHold member bytes.now)) }
         ensures lines { IfOk result (λ lines. lines ≡ lines_in (trust_by (S.made sealer.now) (S.accepts sealer.now)) self.old (events.RawHold member bytes.now)) }
         ensures kept { LeavesAs (rules_in (S.accepts sealer.now) self.old) self.old (work_of self.old (events.RawHold member bytes.now)) (D.lists keeper.old) (D.lists keeper.new) result }
+        ensures cut { OnErr result (LineCut (rules_in (S.accepts sealer.now) self.old) self.old (work_of self.old (events.RawHold member bytes.now)) self.new.posts (D.lists keeper.old) (D.lists keeper.new)) }
+        ensures books { books_in self.new ≡ books_in self.old }
         ensures width { D.width keeper.new ≡ D.width keeper.old }
         ensures later { D.failed keeper.old ≤ D.failed keeper.new }
         ensures fault { IsErrOf result fault.KeepFault → Rose (D.failed keeper.old) (D.failed keeper.new) }
@@ -487,6 +508,8 @@ impl World {
         ensures world { OnOk result (self.new ≡ steps_to (trust_by (S.made sealer.now) (S.accepts sealer.now)) self.old event.now) }
         ensures lines { IfOk result (λ lines. lines ≡ lines_in (trust_by (S.made sealer.now) (S.accepts sealer.now)) self.old event.now) }
         ensures kept { LeavesAs (rules_in (S.accepts sealer.now) self.old) self.old (work_of self.old event.now) (D.lists keeper.old) (D.lists keeper.new) result }
+        ensures cut { OnErr result (LineCut (rules_in (S.accepts sealer.now) self.old) self.old (work_of self.old event.now) self.new.posts (D.lists keeper.old) (D.lists keeper.new)) }
+        ensures books { books_in self.new ≡ books_in self.old }
         ensures width { D.width keeper.new ≡ D.width keeper.old }
         ensures later { D.failed keeper.old ≤ D.failed keeper.new }
         ensures fault { IsErrOf result fault.KeepFault → Rose (D.failed keeper.old) (D.failed keeper.new) }

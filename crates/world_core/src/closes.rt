@@ -1,6 +1,6 @@
 //! The line that closes the epoch of a member.
 
-ghost use Rattle.std.specs.Prelude.{◌≡◌, ◌≤◌, IfOk, IsErrOf, OnOk, length};
+ghost use Rattle.std.specs.Prelude.{◌≡◌, ◌≤◌, IfOk, IsErrOf, OnErr, OnOk, length};
 ghost use Rattle.outside.specs.Causes.{Rose};
 ghost use Rattle.protocol_spec.specs.Member.Calls.{closes};
 ghost use Rattle.schedule_text.specs.declared.words.Event.TheVariants as events;
@@ -9,6 +9,7 @@ ghost use Rattle.scene_spec.specs.Scene.{bare_setting, bare_world, rules_in};
 ghost use Rattle.scene_spec.specs.Steps.{called_scene, comes_to, lines_in, steps_to, work_of};
 ghost use Rattle.scene_spec.specs.Terms.{rules_for};
 ghost use Rattle.world_core.specs.declared.reply.SeatFault.TheVariants as fault;
+ghost use Rattle.world_core.specs.Cuts.{CallCut, LineCut, books_in};
 ghost use Rattle.world_core.specs.Kept.{LeavesAs};
 ghost use Rattle.world_core.specs.Replies.{Leaves};
 ghost use Rattle.world_core.specs.Texts.{close_text_by};
@@ -40,7 +41,9 @@ fn close<R: Threads + Sync, D: Keeper, S: Sealer>(
     ensures text { IfOk result (λ text. text ≡ close_text_by directory.now (rules_for seats.old.terms (S.accepts sealer.now)) (reached_in (rules_for seats.old.terms (S.accepts sealer.now)) seats.old.posts member closes)) }
     ensures posts { OnOk result (seats.new.posts ≡ posts_behind (rules_for seats.old.terms (S.accepts sealer.now)) seats.old.posts member closes) }
     ensures terms { seats.new.terms ≡ seats.old.terms }
+    ensures count { length seats.new.posts ≡ length seats.old.posts }
     ensures kept { Leaves (D.lists keeper.old) (D.lists keeper.new) member (record_left (reached_in (rules_for seats.old.terms (S.accepts sealer.now)) seats.old.posts member closes)) result }
+    ensures cut { OnErr result (CallCut (rules_for seats.old.terms (S.accepts sealer.now)) member closes seats.old.posts seats.new.posts (D.lists keeper.old) (D.lists keeper.new)) }
     ensures width { D.width keeper.new ≡ D.width keeper.old }
     ensures later { D.failed keeper.old ≤ D.failed keeper.new }
     ensures fault { IsErrOf result fault.KeepFault → Rose (D.failed keeper.old) (D.failed keeper.new) }
@@ -73,6 +76,8 @@ impl World {
         ensures world { OnOk result (self.new ≡ called_scene (rules_in (S.accepts sealer.now) self.old) self.old member closes) }
         ensures text { IfOk result (λ text. text ≡ close_reached (bare_setting (trust_by (S.made sealer.now) (S.accepts sealer.now)) self.old) (bare_world self.old) (comes_to (trust_by (S.made sealer.now) (S.accepts sealer.now)) self.old member closes)) }
         ensures kept { Leaves (D.lists keeper.old) (D.lists keeper.new) member (record_left (reached_in (rules_in (S.accepts sealer.now) self.old) self.old.posts member closes)) result }
+        ensures cut { OnErr result (CallCut (rules_in (S.accepts sealer.now) self.old) member closes self.old.posts self.new.posts (D.lists keeper.old) (D.lists keeper.new)) }
+        ensures books { books_in self.new ≡ books_in self.old }
         ensures width { D.width keeper.new ≡ D.width keeper.old }
         ensures later { D.failed keeper.old ≤ D.failed keeper.new }
         ensures fault { IsErrOf result fault.KeepFault → Rose (D.failed keeper.old) (D.failed keeper.new) }
@@ -93,6 +98,8 @@ impl World {
         ensures world { OnOk result (self.new ≡ steps_to (trust_by (S.made sealer.now) (S.accepts sealer.now)) self.old (events.Close member)) }
         ensures lines { IfOk result (λ lines. lines ≡ lines_in (trust_by (S.made sealer.now) (S.accepts sealer.now)) self.old (events.Close member)) }
         ensures kept { LeavesAs (rules_in (S.accepts sealer.now) self.old) self.old (work_of self.old (events.Close member)) (D.lists keeper.old) (D.lists keeper.new) result }
+        ensures cut { OnErr result (LineCut (rules_in (S.accepts sealer.now) self.old) self.old (work_of self.old (events.Close member)) self.new.posts (D.lists keeper.old) (D.lists keeper.new)) }
+        ensures books { books_in self.new ≡ books_in self.old }
         ensures width { D.width keeper.new ≡ D.width keeper.old }
         ensures later { D.failed keeper.old ≤ D.failed keeper.new }
         ensures fault { IsErrOf result fault.KeepFault → Rose (D.failed keeper.old) (D.failed keeper.new) }

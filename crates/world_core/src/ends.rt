@@ -6,6 +6,7 @@ ghost use Rattle.schedule_text.specs.declared.words.Event.TheVariants as events;
 ghost use Rattle.scene_spec.specs.Known.{world_with};
 ghost use Rattle.scene_spec.specs.Steps.{lines_in, seat_state, standing_at, steps_to};
 ghost use Rattle.scene_spec.specs.Terms.{rules_for};
+ghost use Rattle.world_core.specs.Cuts.{still_in};
 ghost use Rattle.world_core.specs.Epochs.{end_statements, end_text_by};
 ghost use Rattle.world_core.specs.Trusts.{trust_by};
 ghost use Rattle.world_lines.specs.Answers.{stated_as};
@@ -79,6 +80,7 @@ impl World {
     ) -> Result<Seq<Line>, OutOfMemory>
         ensures world { OnOk result (self.new ≡ steps_to (trust_by (S.made sealer.now) (S.accepts sealer.now)) self.old (events.End member)) }
         ensures lines { IfOk result (λ lines. lines ≡ lines_in (trust_by (S.made sealer.now) (S.accepts sealer.now)) self.old (events.End member)) }
+        ensures still { still_in self.new ≡ still_in self.old }
     {
         let text = say_end(&self.seats, &mut self.said, &self.directory, sealer, member)?;
         end_line(self.alloc, member, text)

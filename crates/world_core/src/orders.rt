@@ -1,6 +1,6 @@
 //! Lines that order entries.
 
-ghost use Rattle.std.specs.Prelude.{◌≡◌, ◌∷◌, [], IfOk, OnOk, length};
+ghost use Rattle.std.specs.Prelude.{◌≡◌, ◌∷◌, [], IfOk, OnErr, OnOk, length};
 ghost use Rattle.chain_messages.specs.declared.messages.Entry.TheVariants as entry;
 ghost use Rattle.chain_messages.specs.declared.messages.Statement.TheVariants as statement;
 ghost use Rattle.report_text.specs.declared.lines.Line.TheVariants as line;
@@ -8,6 +8,7 @@ ghost use Rattle.report_text.specs.declared.lines.OrderEndText.TheVariants as or
 ghost use Rattle.scene_spec.specs.Scene.{bare_setting, bare_world};
 ghost use Rattle.scene_spec.specs.Steps.{with_order};
 ghost use Rattle.scene_spec.specs.Worlds.{AreKeepable};
+ghost use Rattle.world_core.specs.Cuts.{still_in};
 ghost use Rattle.world_core.specs.Trusts.{trust_by};
 ghost use Rattle.world_spec.specs.Names.{cert_named};
 ghost use Rattle.world_spec.specs.Report.{order_end_said, order_said};
@@ -35,6 +36,7 @@ impl World {
     pub(crate) fn order_cert(&mut self, tx: &[u8]) -> Result<Seq<Line>, OutOfMemory>
         ensures world { OnOk result (self.new ≡ with_order self.old (ordered (bare_world self.old) (cert_named (bare_world self.old) tx.now))) }
         ensures lines { IfOk result (λ lines. lines ≡ line.Order tx.now (order_said (bare_world self.old) (cert_named (bare_world self.old) tx.now)) ∷ []) }
+        ensures still { still_in self.new ≡ still_in self.old }
     {
         let Some(cert) = self.certs.last_named(tx) else {
             return order_line(self.alloc, tx, OrderText::NoCertificate);
@@ -58,6 +60,7 @@ impl World {
     pub(crate) fn order_commit(&mut self) -> Result<Seq<Line>, OutOfMemory>
         ensures world { OnOk result (self.new ≡ with_order self.old (appended_entry (bare_world self.old) entry.Commit)) }
         ensures lines { IfOk result (λ lines. lines ≡ line.OrderCommit (length (open_entries (bare_world self.old))) ∷ []) }
+        ensures still { still_in self.new ≡ still_in self.old }
     {
         let entry = self.order.len();
         self.order.push(&Entry::Commit)?;
@@ -71,6 +74,7 @@ impl World {
     ) -> Result<Seq<Line>, OutOfMemory>
         ensures world { OnOk result (self.new ≡ with_order self.old (ordered_end (bare_setting (trust_by (S.made sealer.now) (S.accepts sealer.now)) self.old) (bare_world self.old) member self.old.epoch)) }
         ensures lines { IfOk result (λ lines. lines ≡ line.OrderEnd member (order_end_text.Entry (length (open_entries (bare_world self.old)))) ∷ []) }
+        ensures still { OnErr result (still_in self.new ≡ still_in self.old) }
     {
         let text = OrderEndText::Entry {
             entry: self.order.len(),
@@ -89,6 +93,7 @@ impl World {
     ) -> Result<Seq<Line>, OutOfMemory>
         ensures world { OnOk result (self.new ≡ with_order self.old (ordered_end (bare_setting (trust_by (S.made sealer.now) (S.accepts sealer.now)) self.old) (says (bare_world self.old) member (statement.End self.old.epoch)) member self.old.epoch)) }
         ensures lines { IfOk result (λ lines. lines ≡ line.OrderEnd member (order_end_text.Entry (length (open_entries (bare_world self.old)))) ∷ []) }
+        ensures still { OnErr result (still_in self.new ≡ still_in self.old) }
     {
         let epoch = self.order.epoch();
         self.said.say(member, Statement::End { epoch })?;
@@ -104,6 +109,7 @@ impl World {
     ) -> Result<Seq<Line>, OutOfMemory>
         ensures world { OnOk result (self.new ≡ with_order self.old (end_ordered (bare_setting (trust_by (S.made sealer.now) (S.accepts sealer.now)) self.old) (bare_world self.old) member)) }
         ensures lines { IfOk result (λ lines. lines ≡ line.OrderEnd member (order_end_said (bare_world self.old) member) ∷ []) }
+        ensures still { OnErr result (still_in self.new ≡ still_in self.old) }
     {
         if !is_honest(self.seats.flags(), member) {
             return self.false_end(sealer, member);

@@ -1,10 +1,11 @@
 //! Lines that touch no record.
 
-ghost use Rattle.std.specs.Prelude.{◌≡◌, ◌∷◌, [], IfOk, OnOk, slice_get, true};
+ghost use Rattle.std.specs.Prelude.{◌≡◌, ◌∷◌, [], IfOk, OnErr, OnOk, slice_get, true};
 ghost use Rattle.report_text.specs.declared.lines.Line.TheVariants as line;
 ghost use Rattle.world_names.specs.Lines.{line_of};
 ghost use Rattle.scene_spec.specs.Posts.{armed_at};
 ghost use Rattle.scene_spec.specs.Steps.{lines_in, standing_at, steps_to, with_tx};
+ghost use Rattle.world_core.specs.Cuts.{still_in};
 ghost use Rattle.world_core.specs.Kept.{is_quiet};
 ghost use Rattle.world_core.specs.Texts.{show_by};
 ghost use Rattle.world_core.specs.Trusts.{trust_by};
@@ -27,24 +28,31 @@ impl World {
     ) -> Result<Seq<Line>, OutOfMemory>
         ensures world { OnOk result (self.new ≡ with_tx (trust_by (S.made sealer.now) (S.accepts sealer.now)) self.old (line_of words.now)) }
         ensures lines { IfOk result (λ lines. lines ≡ line.TxMade words.now.name.now ∷ []) }
+        ensures still { OnErr result (still_in self.new ≡ still_in self.old) }
     {
         let made = match make(self.alloc, &self.directory, &self.seats, sealer, words) {
             Ok(made) => made,
             Err(MakeRefusal::TooLong | MakeRefusal::OutOfMemory) => return Err(OutOfMemory),
         };
-        self.directory.add_made(words, made)?;
         let tx = Seq::from_slice(self.alloc, words.name)?;
-        one_line(self.alloc, Line::TxMade { tx })
+        let lines = one_line(self.alloc, Line::TxMade { tx })?;
+        self.directory.add_made(words, made)?;
+        Ok(lines)
     }
 
     /// The line `stop`: the next record of the member will be kept or lost, and it stops there.
     fn stop(&mut self, member: u32, kept: bool) -> Result<Seq<Line>, OutOfMemory>
         ensures world { OnOk result (self.new ≡ record self.old { posts = armed_at self.old.posts member kept }) }
         ensures lines { IfOk result (λ lines. lines ≡ line.Stop member kept ∷ []) }
+        ensures still { OnErr result (still_in self.new ≡ still_in self.old) }
     {
+        let line = Line::Stop {
+            member: member as u64,
+            kept,
+        };
+        let lines = one_line(self.alloc, line)?;
         self.seats.arm(member, kept);
-        let member = member as u64;
-        one_line(self.alloc, Line::Stop { member, kept })
+        Ok(lines)
     }
 
     /// The line `show`: the objects that a member holds.
@@ -66,8 +74,8 @@ impl World {
         }
     }
 
-    /// Runs a line that touches no record.
-    #[tactic(auto, unfolding(scene_spec::specs::Steps::steps_to, scene_spec::specs::Steps::lines_in), using(crate::proofs::Texts::show_is))]
+    /// Runs a line that touches no record. After a refusal all is as before, except what was stated and ordered.
+    #[tactic(auto, unfolding(scene_spec::specs::Steps::steps_to, scene_spec::specs::Steps::lines_in), using(crate::proofs::Texts::show_is, crate::proofs::Cuts::on_err))]
     pub(crate) fn run_quiet<S: MakesSeals>(
         &mut self,
         sealer: &S,
@@ -76,6 +84,7 @@ impl World {
         requires { is_quiet event.now ≡ true }
         ensures world { OnOk result (self.new ≡ steps_to (trust_by (S.made sealer.now) (S.accepts sealer.now)) self.old event.now) }
         ensures lines { IfOk result (λ lines. lines ≡ lines_in (trust_by (S.made sealer.now) (S.accepts sealer.now)) self.old event.now) }
+        ensures still { OnErr result (still_in self.new ≡ still_in self.old) }
     {
         match event {
             Event::Tx {

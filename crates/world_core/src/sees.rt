@@ -1,6 +1,6 @@
 //! The line that hands a member entries of its sequence.
 
-ghost use Rattle.std.specs.Prelude.{◌≡◌, ◌≤◌, ◌∷◌, ◌++◌, [], IfOk, IsErrOf, OnOk, Some, false, length, map, option_map};
+ghost use Rattle.std.specs.Prelude.{◌≡◌, ◌≤◌, ◌∷◌, ◌++◌, [], IfOk, IsErrOf, OnErr, OnOk, Some, false, length, map, option_map};
 ghost use Rattle.outside.specs.Causes.{Rose};
 ghost use Rattle.protocol_spec.specs.Member.Calls.{sees};
 ghost use Rattle.report_text.specs.declared.lines.Line.TheVariants as line;
@@ -12,6 +12,7 @@ ghost use Rattle.scene_spec.specs.Scene.{bare_world, rules_in};
 ghost use Rattle.scene_spec.specs.Steps.{call_lines_in, called_if, entries_lines_in, left_if, lines_in, next_on, sees_left, sees_to, steps_to, work_of};
 ghost use Rattle.scene_spec.specs.Terms.{rules_for};
 ghost use Rattle.world_core.specs.declared.reply.SeatFault.TheVariants as fault;
+ghost use Rattle.world_core.specs.Cuts.{CallCut, EntriesCut, LineCut, NextCut, books_in};
 ghost use Rattle.world_core.specs.Kept.{LeavesAs};
 ghost use Rattle.world_core.specs.Replies.{Leaves};
 ghost use Rattle.world_core.specs.Sees.{LeavesAll, next_by, see_lines_by};
@@ -81,7 +82,7 @@ fn add_last(lines: &mut Seq<Line>, line: Line) -> Result<bool, SeatFault>
 }
 
 /// Hands a member the entry of this number, adds its lines, and says whether the line goes on after it.
-#[tactic(auto, using(crate::proofs::SeeTexts::see_down, crate::proofs::SeeTexts::down_ends, crate::proofs::SeeTexts::see_stopped, crate::proofs::SeeTexts::stopped_ends, crate::proofs::SeeTexts::see_said, crate::proofs::SeeTexts::said_goes, crate::proofs::SeeTexts::see_states, crate::proofs::Texts::down_states, crate::proofs::Texts::stopped_states))]
+#[tactic(auto, using(crate::proofs::SeeTexts::see_down, crate::proofs::SeeTexts::down_ends, crate::proofs::SeeTexts::see_stopped, crate::proofs::SeeTexts::stopped_ends, crate::proofs::SeeTexts::see_said, crate::proofs::SeeTexts::said_goes, crate::proofs::SeeTexts::see_states, crate::proofs::Texts::down_states, crate::proofs::Texts::stopped_states, crate::proofs::Cuts::call_ended))]
 fn see<R: Threads + Sync, D: Keeper, S: Sealer>(
     rt: &R,
     seats: &mut Seats,
@@ -100,7 +101,9 @@ fn see<R: Threads + Sync, D: Keeper, S: Sealer>(
     ensures said { OnOk result (said.new ≡ said.old ++ map (said_by member) (stated_in (rules_for seats.old.terms (S.accepts sealer.now)) (sees number bytes.now) (reached_in (rules_for seats.old.terms (S.accepts sealer.now)) seats.old.posts member (sees number bytes.now)))) }
     ensures posts { OnOk result (seats.new.posts ≡ posts_behind (rules_for seats.old.terms (S.accepts sealer.now)) seats.old.posts member (sees number bytes.now)) }
     ensures terms { seats.new.terms ≡ seats.old.terms }
+    ensures count { length seats.new.posts ≡ length seats.old.posts }
     ensures kept { Leaves (D.lists keeper.old) (D.lists keeper.new) member (record_left (reached_in (rules_for seats.old.terms (S.accepts sealer.now)) seats.old.posts member (sees number bytes.now))) result }
+    ensures cut { OnErr result (CallCut (rules_for seats.old.terms (S.accepts sealer.now)) member (sees number bytes.now) seats.old.posts seats.new.posts (D.lists keeper.old) (D.lists keeper.new)) }
     ensures width { D.width keeper.new ≡ D.width keeper.old }
     ensures later { D.failed keeper.old ≤ D.failed keeper.new }
     ensures fault { IsErrOf result fault.KeepFault → Rose (D.failed keeper.old) (D.failed keeper.new) }
@@ -171,6 +174,8 @@ impl World {
         ensures goes { IfOk result (λ goes. goes ≡ (call_lines_in (trust_by (S.made sealer.now) (S.accepts sealer.now)) self.old member (next_on self.old member)).1) }
         ensures kept { LeavesAll (D.lists keeper.old) (D.lists keeper.new) member (left_if (rules_in (S.accepts sealer.now) self.old) self.old member (next_on self.old member)) result }
         ensures stay { OnOk result (Stays self.old self.new) }
+        ensures cut { OnErr result (NextCut (rules_in (S.accepts sealer.now) self.old) self.old member (next_on self.old member) self.new.posts (D.lists keeper.old) (D.lists keeper.new)) }
+        ensures books { books_in self.new ≡ books_in self.old }
         ensures width { D.width keeper.new ≡ D.width keeper.old }
         ensures later { D.failed keeper.old ≤ D.failed keeper.new }
         ensures fault { IsErrOf result fault.KeepFault → Rose (D.failed keeper.old) (D.failed keeper.new) }
@@ -194,7 +199,7 @@ impl World {
 
     /// Hands a member this many entries, one after the other, up to the first after which nothing goes on: adds their
     /// lines.
-    #[tactic(auto, using(crate::proofs::Seeing::seen_none, crate::proofs::Seeing::seen_one, crate::proofs::Seeing::last_scene, crate::proofs::Seeing::last_lines, crate::proofs::Seeing::last_kept, crate::proofs::Seeing::seen_cut, crate::proofs::Seeing::all_scene, crate::proofs::Seeing::all_lines, crate::proofs::Seeing::all_kept))]
+    #[tactic(auto, using(crate::proofs::Seeing::seen_none, crate::proofs::Seeing::seen_one, crate::proofs::Seeing::all_scene, crate::proofs::Seeing::all_lines, crate::proofs::Seeing::all_kept))]
     fn see_all<R: Threads + Sync, D: Keeper, S: MakesSeals>(
         &mut self,
         rt: &R,
@@ -208,6 +213,8 @@ impl World {
         ensures world { OnOk result (self.new ≡ sees_to (rules_in (S.accepts sealer.now) self.old) count self.old member) }
         ensures lines { OnOk result (lines.new ≡ lines.old ++ entries_lines_in (trust_by (S.made sealer.now) (S.accepts sealer.now)) count self.old member) }
         ensures kept { LeavesAll (D.lists keeper.old) (D.lists keeper.new) member (sees_left (rules_in (S.accepts sealer.now) self.old) count self.old member) result }
+        ensures cut { OnErr result (EntriesCut (rules_in (S.accepts sealer.now) self.old) member count self.old self.new.posts (D.lists keeper.old) (D.lists keeper.new)) }
+        ensures books { books_in self.new ≡ books_in self.old }
         ensures width { D.width keeper.new ≡ D.width keeper.old }
         ensures later { D.failed keeper.old ≤ D.failed keeper.new }
         ensures fault { IsErrOf result fault.KeepFault → Rose (D.failed keeper.old) (D.failed keeper.new) }
@@ -271,6 +278,8 @@ impl World {
         ensures world { OnOk result (self.new ≡ steps_to (trust_by (S.made sealer.now) (S.accepts sealer.now)) self.old (events.See member entries)) }
         ensures lines { IfOk result (λ lines. lines ≡ lines_in (trust_by (S.made sealer.now) (S.accepts sealer.now)) self.old (events.See member entries)) }
         ensures kept { LeavesAs (rules_in (S.accepts sealer.now) self.old) self.old (work_of self.old (events.See member entries)) (D.lists keeper.old) (D.lists keeper.new) result }
+        ensures cut { OnErr result (LineCut (rules_in (S.accepts sealer.now) self.old) self.old (work_of self.old (events.See member entries)) self.new.posts (D.lists keeper.old) (D.lists keeper.new)) }
+        ensures books { books_in self.new ≡ books_in self.old }
         ensures width { D.width keeper.new ≡ D.width keeper.old }
         ensures later { D.failed keeper.old ≤ D.failed keeper.new }
         ensures fault { IsErrOf result fault.KeepFault → Rose (D.failed keeper.old) (D.failed keeper.new) }

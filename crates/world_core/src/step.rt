@@ -1,11 +1,12 @@
 //! One line of the schedule.
 
-ghost use Rattle.std.specs.Prelude.{◌≡◌, ◌≤◌, ℕ, IfOk, IsErrOf, OnOk, false, length, true};
+ghost use Rattle.std.specs.Prelude.{◌≡◌, ◌≤◌, ℕ, IfOk, IsErrOf, OnErr, OnOk, false, length, true};
 ghost use Rattle.outside.specs.Causes.{Rose};
 ghost use Rattle.scene_spec.specs.Scene.{rules_in};
 ghost use Rattle.scene_spec.specs.Steps.{lines_in, steps_to, work_of};
 ghost use Rattle.scene_spec.specs.Worlds.{AreKeepable, is_restart};
 ghost use Rattle.world_core.specs.declared.world.WorldFault.TheVariants as fault;
+ghost use Rattle.world_core.specs.Cuts.{LineCut, books_in};
 ghost use Rattle.world_core.specs.Kept.{LeavesAs};
 ghost use Rattle.world_core.specs.Restarts.{MayRestart};
 ghost use Rattle.world_core.specs.Stays.{Stays};
@@ -24,8 +25,14 @@ impl World {
     /// Runs one line, and answers the lines that the report has for it. A member's run goes by the line's workers, in
     /// threads. Each record that it leaves is appended before the call that leaves it answers. `KeepFault`: the keeper
     /// failed, and its count of faults rose. `BadRecord`: the member of a `restart` line does not start from its records.
-    /// After a fault nothing is said of the world.
-    #[tactic(auto, unfolding(scene_spec::specs::Steps::work_of), using(crate::proofs::Steps::fault_left, crate::proofs::Leaving::quiet_leaves, crate::proofs::Stays::restart_stays))]
+    ///
+    /// After a fault the world still stands: each look answers of it, and a step may follow. The names, the transactions and
+    /// the certificates are as before, and so is every member except the one that the line calls. That one is as before its
+    /// call; or it fell in the call and is down, so no look finds it, and its record was kept or not; or it is as after the
+    /// call, its record was kept, and only the line of the report is missing. A `see` may have handed in some entries before
+    /// that. A member that fell starts again from its records by a `restart` line, and a `restart` that fails changes
+    /// nothing. Of what was stated and what was ordered nothing is said.
+    #[tactic(auto, unfolding(scene_spec::specs::Steps::work_of), using(crate::proofs::Steps::fault_left, crate::proofs::Leaving::quiet_leaves, crate::proofs::Stays::restart_stays, crate::proofs::Cuts::quiet_line, crate::proofs::Cuts::idle_line_on, crate::proofs::Cuts::on_err))]
     pub fn step<R: Threads + Sync, D: Keeper, S: MakesSeals>(
         &mut self,
         rt: &R,
@@ -39,6 +46,8 @@ impl World {
         ensures kept { LeavesAs (rules_in (S.accepts sealer.now) self.old) self.old (work_of self.old event.now) (D.lists keeper.old) (D.lists keeper.new) result }
         ensures restart { MayRestart (S.accepts sealer.now) (D.lists keeper.old) self.old self.new event.now result }
         ensures stay { OnOk result (Stays self.old self.new) }
+        ensures cut { OnErr result (LineCut (rules_in (S.accepts sealer.now) self.old) self.old (work_of self.old event.now) self.new.posts (D.lists keeper.old) (D.lists keeper.new)) }
+        ensures books { OnErr result (books_in self.new ≡ books_in self.old) }
         ensures keepable { AreKeepable self.old.sequences }
         ensures width { D.width keeper.new ≡ D.width keeper.old }
         ensures later { D.failed keeper.old ≤ D.failed keeper.new }

@@ -1,6 +1,6 @@
 //! The line that turns a member to the next epoch.
 
-ghost use Rattle.std.specs.Prelude.{◌≡◌, ◌≤◌, ◌∷◌, [], IfOk, IsErrOf, OnOk, length};
+ghost use Rattle.std.specs.Prelude.{◌≡◌, ◌≤◌, ◌∷◌, [], IfOk, IsErrOf, OnErr, OnOk, length};
 ghost use Rattle.outside.specs.Causes.{Rose};
 ghost use Rattle.protocol_spec.specs.Member.Calls.{turns};
 ghost use Rattle.report_text.specs.declared.lines.Line.TheVariants as line;
@@ -10,6 +10,7 @@ ghost use Rattle.scene_spec.specs.Scene.{rules_in};
 ghost use Rattle.scene_spec.specs.Steps.{lines_in, steps_to, work_of};
 ghost use Rattle.scene_spec.specs.Terms.{rules_for};
 ghost use Rattle.world_core.specs.declared.reply.SeatFault.TheVariants as fault;
+ghost use Rattle.world_core.specs.Cuts.{CallCut, LineCut, books_in};
 ghost use Rattle.world_core.specs.Epochs.{turn_lines_by};
 ghost use Rattle.world_core.specs.Kept.{LeavesAs};
 ghost use Rattle.world_core.specs.Replies.{Leaves};
@@ -37,7 +38,7 @@ fn turn_line(alloc: Global, member: u32, text: TurnText) -> Result<Seq<Line>, Se
 }
 
 /// Turns a member to the next epoch.
-#[tactic(auto, using(crate::proofs::Turning::turn_down, crate::proofs::Turning::turn_stopped, crate::proofs::Turning::turn_said))]
+#[tactic(auto, using(crate::proofs::Turning::turn_down, crate::proofs::Turning::turn_stopped, crate::proofs::Turning::turn_said, crate::proofs::Cuts::call_ended))]
 fn turn<R: Threads + Sync, D: Keeper, S: Sealer>(
     rt: &R,
     seats: &mut Seats,
@@ -50,7 +51,9 @@ fn turn<R: Threads + Sync, D: Keeper, S: Sealer>(
     ensures lines { IfOk result (λ lines. lines ≡ turn_lines_by directory.now (rules_for seats.old.terms (S.accepts sealer.now)) member (reached_in (rules_for seats.old.terms (S.accepts sealer.now)) seats.old.posts member turns)) }
     ensures posts { OnOk result (seats.new.posts ≡ posts_behind (rules_for seats.old.terms (S.accepts sealer.now)) seats.old.posts member turns) }
     ensures terms { seats.new.terms ≡ seats.old.terms }
+    ensures count { length seats.new.posts ≡ length seats.old.posts }
     ensures kept { Leaves (D.lists keeper.old) (D.lists keeper.new) member (record_left (reached_in (rules_for seats.old.terms (S.accepts sealer.now)) seats.old.posts member turns)) result }
+    ensures cut { OnErr result (CallCut (rules_for seats.old.terms (S.accepts sealer.now)) member turns seats.old.posts seats.new.posts (D.lists keeper.old) (D.lists keeper.new)) }
     ensures width { D.width keeper.new ≡ D.width keeper.old }
     ensures later { D.failed keeper.old ≤ D.failed keeper.new }
     ensures fault { IsErrOf result fault.KeepFault → Rose (D.failed keeper.old) (D.failed keeper.new) }
@@ -85,6 +88,8 @@ impl World {
         ensures world { OnOk result (self.new ≡ steps_to (trust_by (S.made sealer.now) (S.accepts sealer.now)) self.old (events.Turn member)) }
         ensures lines { IfOk result (λ lines. lines ≡ lines_in (trust_by (S.made sealer.now) (S.accepts sealer.now)) self.old (events.Turn member)) }
         ensures kept { LeavesAs (rules_in (S.accepts sealer.now) self.old) self.old (work_of self.old (events.Turn member)) (D.lists keeper.old) (D.lists keeper.new) result }
+        ensures cut { OnErr result (LineCut (rules_in (S.accepts sealer.now) self.old) self.old (work_of self.old (events.Turn member)) self.new.posts (D.lists keeper.old) (D.lists keeper.new)) }
+        ensures books { books_in self.new ≡ books_in self.old }
         ensures width { D.width keeper.new ≡ D.width keeper.old }
         ensures later { D.failed keeper.old ≤ D.failed keeper.new }
         ensures fault { IsErrOf result fault.KeepFault → Rose (D.failed keeper.old) (D.failed keeper.new) }

@@ -5,6 +5,7 @@ ghost use Rattle.world_spec.specs.Names.{made_named};
 ghost use Rattle.world_spec.specs.Report.{fvote_lines};
 ghost use Rattle.world_spec.specs.Step.{fvoted};
 ghost use Rattle.scene_spec.specs.Scene.{bare_world};
+ghost use Rattle.world_core.specs.Cuts.{still_in};
 ghost use Rattle.world_core.specs.Votes.{flag_at};
 
 use crate::world::World;
@@ -34,6 +35,7 @@ impl World {
     ) -> Result<Seq<Line>, OutOfMemory>
         ensures world { OnOk result (self.new ≡ record self.old { said = (fvoted (bare_world self.old) member words.now (made_named (bare_world self.old) tx.now)).said }) }
         ensures lines { IfOk result (λ lines. lines ≡ fvote_lines (bare_world self.old) member tx.now words.now (made_named (bare_world self.old) tx.now)) }
+        ensures still { still_in self.new ≡ still_in self.old }
     {
         let Some(made) = self.directory.made(tx) else {
             let none = Seq::new(self.alloc);

@@ -28,7 +28,7 @@ pub enum WorldRefusal {
     OutOfMemory,
 }
 
-/// Why a line was not completed. Nothing is said of the world after it.
+/// Why a line was not completed. [`World::step`] says what stands of the world then.
 #[derive(Clone, Copy, Debug, PartialEq, Eq)]
 pub enum WorldFault {
     /// A record was not kept or not read, and the keeper's count of faults rose.

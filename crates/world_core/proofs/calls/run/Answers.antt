@@ -4,6 +4,7 @@ use Rattle.protocol_spec.specs.Member.Calls.{runs}
 use Rattle.scene_spec.specs.Posts.{reached_in}
 use Rattle.world_core.specs.Replies.{Replies, SaysRun}
 use Rattle.world_core.proofs.Texts.{run_states}
+use Rattle.world_core.proofs.Cuts.{call_ended_on, call_fell}
 use Rattle.world_core.proofs.calls.run.Goals as goal
 
 pub returns-in-Ok-tell_run-clause-said : goal.returns-in-Ok-tell_run-clause-said
@@ -12,3 +13,15 @@ returns-in-Ok-tell_run-clause-said g c =
     (reached_in (rules_for c.args.seats.now.terms (g.S.Checker.accepts c.args.sealer.now)) c.args.seats.now.posts c.args.member runs) c.in-Answered.answer
     (subst (λ x. Replies (SaysRun (rules_for c.args.seats.now.terms (g.S.Checker.accepts c.args.sealer.now))) (reached_in (rules_for c.args.seats.now.terms (g.S.Checker.accepts c.args.sealer.now)) c.args.seats.now.posts c.args.member runs) x) c.in-Answered.is c.in-Ok.ensures.answer)
     c.in-Ok-tell_run.ensures.said
+
+pub returns-in-Err-clause-cut : goal.returns-in-Err-clause-cut
+returns-in-Err-clause-cut g c =
+    call_fell (rules_for c.args.seats.now.terms (g.S.Checker.accepts c.args.sealer.now)) c.args.member runs c.args.seats.now.posts c.run.new.self.posts (g.D.Keeper.lists c.args.keeper.now) (g.D.Keeper.lists c.run.new.keeper) c.in-Err.ensures.fallen c.in-Err.ensures.kept
+
+pub returns-in-Down-clause-cut : goal.returns-in-Down-clause-cut
+returns-in-Down-clause-cut g c =
+    call_ended_on (rules_for c.args.seats.now.terms (g.S.Checker.accepts c.args.sealer.now)) c.args.member runs c.args.seats.now.posts c.run.new.self.posts (g.D.Keeper.lists c.args.keeper.now) (g.D.Keeper.lists c.run.new.keeper) c.run_line.result c.in-Ok.ensures.posts c.in-Ok.ensures.kept
+
+pub returns-in-Stopped-clause-cut : goal.returns-in-Stopped-clause-cut
+returns-in-Stopped-clause-cut g c =
+    call_ended_on (rules_for c.args.seats.now.terms (g.S.Checker.accepts c.args.sealer.now)) c.args.member runs c.args.seats.now.posts c.run.new.self.posts (g.D.Keeper.lists c.args.keeper.now) (g.D.Keeper.lists c.run.new.keeper) c.run_line-in-Stopped.result c.in-Ok.ensures.posts c.in-Ok.ensures.kept

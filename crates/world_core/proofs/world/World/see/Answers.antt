@@ -1,10 +1,12 @@
 use Rattle.std.proofs.Common.{◌∙◌, ap, ℕ}
 use Rattle.std.specs.Prelude.{min, slice_get}
-use Rattle.scene_spec.specs.Scene.{Scene}
+use Rattle.scene_spec.specs.Scene.{Scene, rules_in}
 use Rattle.scene_spec.specs.Steps.{standing_at, steps_to, work_of}
 use Rattle.world_core.specs.Trusts.{trust_by}
-use Rattle.world_core.proofs.SeeLines.{down_kept, halted_kept, halted_world, taken_kept}
+use Rattle.world_core.proofs.SeeLines.{down_kept, halted_kept, halted_world, taken_broken, taken_kept, taken_untold}
 use Rattle.world_core.proofs.Sound.{on_ok}
+use Rattle.schedule_text.specs.declared.words.Event.TheVariants as events
+use Rattle.world_core.proofs.Cuts.{unmade_line_on}
 use Rattle.world_core.proofs.world.World.see.Goals as goal
 
 pub returns-in_default-clause-kept : goal.returns-in_default-clause-kept
@@ -35,3 +37,27 @@ returns-then-is_empty-clause-kept g c =
     (c.in-Some.ensures.value ∙ ap (λ (x : Scene). standing_at (slice_get x.posts c.args.member)) c.self.view_is) c.min-count.result
     (c.min-count.ensures ∙ ap (λ (n : ℕ). min c.args.entries n) c.entries_left.ensures)
     (g.D.Keeper.lists c.args.keeper.now) (g.D.Keeper.lists c.see_all.new.keeper) c.see_line-then-is_empty.result c.in-Ok-see_all.ensures.kept
+
+pub returns-then-is_empty-clause-cut : goal.returns-then-is_empty-clause-cut
+unfolding work_of
+returns-then-is_empty-clause-cut g c =
+    taken_untold (trust_by (g.S.MakesSeals.made c.args.sealer.now) (g.S.Checker.accepts c.args.sealer.now)) c.args.self.now c.args.member c.args.entries c.in-Some.validator.now
+    (c.in-Some.ensures.value ∙ ap (λ (x : Scene). standing_at (slice_get x.posts c.args.member)) c.self.view_is) c.min-count.result
+    (c.min-count.ensures ∙ ap (λ (n : ℕ). min c.args.entries n) c.entries_left.ensures)
+    c.see_all.new.self (g.D.Keeper.lists c.args.keeper.now) (g.D.Keeper.lists c.see_all.new.keeper) c.see_line-then-is_empty.result c.in-Ok-see_all.ensures.world c.in-Ok-see_all.ensures.kept
+
+pub returns-in_default-clause-cut : goal.returns-in_default-clause-cut
+returns-in_default-clause-cut g c =
+    unmade_line_on (rules_in (g.S.Checker.accepts c.args.sealer.now) c.args.self.now) c.args.self.now (work_of c.args.self.now (events.See c.args.member c.args.entries)) (g.D.Keeper.lists c.args.keeper.now) c.see_line.result
+
+pub returns-in-Some-fork-clause-cut : goal.returns-in-Some-fork-clause-cut
+returns-in-Some-fork-clause-cut g c =
+    unmade_line_on (rules_in (g.S.Checker.accepts c.args.sealer.now) c.args.self.now) c.args.self.now (work_of c.args.self.now (events.See c.args.member c.args.entries)) (g.D.Keeper.lists c.args.keeper.now) c.match-see_halted.result
+
+pub returns-in-Err-see_all-clause-cut : goal.returns-in-Err-see_all-clause-cut
+unfolding work_of
+returns-in-Err-see_all-clause-cut g c =
+    taken_broken (trust_by (g.S.MakesSeals.made c.args.sealer.now) (g.S.Checker.accepts c.args.sealer.now)) c.args.self.now c.args.member c.args.entries c.in-Some.validator.now
+    (c.in-Some.ensures.value ∙ ap (λ (x : Scene). standing_at (slice_get x.posts c.args.member)) c.self.view_is) c.min-count.result
+    (c.min-count.ensures ∙ ap (λ (n : ℕ). min c.args.entries n) c.entries_left.ensures)
+    c.see_all.new.self.posts (g.D.Keeper.lists c.args.keeper.now) (g.D.Keeper.lists c.see_all.new.keeper) c.in-Err-see_all.ensures.cut

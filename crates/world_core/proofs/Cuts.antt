@@ -1,0 +1,128 @@
+-- What stands after a line that did not come to its end, in each of its ways.
+use Rattle.std.proofs.Common.{◌≡◌, ◌∙◌, ap, sym, refl, subst, ℕ, List, length, Option, Some, None, option_map, Result, Ok, Err, OnErr, arith}
+use Rattle.outside.specs.Lists.{Journals, KeepsJournals}
+use Rattle.chain_messages.specs.declared.messages.Certificate.{Certificate}
+use Rattle.protocol_spec.specs.Chain.Certificates.{Rules}
+use Rattle.protocol_spec.specs.Member.Calls.{Call, holds, sees, votes}
+use Rattle.world_spec.specs.Setting.{Trust}
+use Rattle.world_spec.specs.World.{Made, Said}
+use Rattle.scene_spec.specs.Terms.{Terms}
+use Rattle.scene_spec.specs.Posts.{AddsAll, AddsLeft, MayAddLeft, Post, posts_behind, reached_in, record_left}
+use Rattle.scene_spec.specs.Scene.{Scene, rules_in}
+use Rattle.scene_spec.specs.Steps.{Work, asked, asks, called_scene, hands, held_call, idle, next_on, sees_left, sees_to, signed_call}
+use Rattle.world_core.specs.Crews.{fallen_at}
+use Rattle.world_core.specs.Cuts.{Books, CallCut, EntriesCut, LineCut, NextCut, Still, books_in, ended, fell, still_in, unmade}
+use Rattle.world_core.specs.Sees.{next_by}
+use Rattle.world_core.specs.Texts.{spelled_cert, spelled_tx}
+use Rattle.world_core.proofs.Nexts.{next_is}
+use Rattle.world_core.proofs.Seeing.{adds_none}
+use Rattle.validator_core.proofs.Settling.{keeps_same}
+
+pub on_err : {A E : Type 0} (P : Type 0) (result : Result A E) → P → OnErr result P
+on_err P (Ok a) p = tt
+on_err P (Err e) p = p
+
+-- ---- a call
+
+pub call_unmade : (r : Rules) (m : ℕ) (call : Call) (posts : List Post) (told : Option Journals) → CallCut r m call posts posts told told
+call_unmade r m call posts told = record { far = unmade; posts = refl; lists = keeps_same told }
+
+pub call_fell : (r : Rules) (m : ℕ) (call : Call) (old new : List Post) (before now : Option Journals) → new ≡ fallen_at old m → MayAddLeft before now m (record_left (reached_in r old m call)) → CallCut r m call old new before now
+call_fell r m call old new before now is adds = record { far = fell; posts = is; lists = adds }
+
+pub call_ended : (r : Rules) (m : ℕ) (call : Call) (old new : List Post) (before now : Option Journals) → new ≡ posts_behind r old m call → AddsLeft before now m (record_left (reached_in r old m call)) → CallCut r m call old new before now
+call_ended r m call old new before now is adds = record { far = ended; posts = is; lists = adds }
+
+-- after which something else may fail
+pub call_ended_on : {A E : Type 0} (r : Rules) (m : ℕ) (call : Call) (old new : List Post) (before now : Option Journals) (result : Result A E) → new ≡ posts_behind r old m call → AddsLeft before now m (record_left (reached_in r old m call))
+    → OnErr result (CallCut r m call old new before now)
+call_ended_on r m call old new before now result is adds = on_err (CallCut r m call old new before now) result (call_ended r m call old new before now is adds)
+
+pub scene_ended_on : {A E : Type 0} (r : Rules) (m : ℕ) (call : Call) (sc new : Scene) (before now : Option Journals) (result : Result A E) → new ≡ called_scene r sc m call → AddsLeft before now m (record_left (reached_in r sc.posts m call))
+    → OnErr result (LineCut r sc (asks m call) new.posts before now)
+scene_ended_on r m call sc new before now result is adds = call_ended_on r m call sc.posts new.posts before now result (ap (λ (x : Scene). x.posts) is) adds
+
+-- ---- what is seen of a world
+
+-- a call, by the members that are seen
+pub cut_seen : {A E : Type 0} (trust : Trust) (v sc : Scene) (m : ℕ) (call : Call) (new : List Post) (before now : Option Journals) (result : Result A E) → v ≡ sc → OnErr result (CallCut (rules_in trust.accepts v) m call v.posts new before now)
+    → OnErr result (CallCut (rules_in trust.accepts sc) m call sc.posts new before now)
+cut_seen trust v sc m call new before now result view is = subst (λ (x : Scene). OnErr result (CallCut (rules_in trust.accepts x) m call x.posts new before now)) view is
+
+abbrev books_with : Scene → Terms → ℕ → Books
+books_with v terms many = record { many = many; terms = terms; opening = v.opening; known = v.known; epoch = v.epoch; certs = v.certs }
+
+-- members that change, and nothing else that others see
+pub books_seen : (v sc : Scene) (terms : Terms) (posts : List Post) (said : List Said) → v ≡ sc → terms ≡ v.terms → length posts ≡ length v.posts → books_in (record v { terms = terms; said = said; posts = posts }) ≡ books_in sc
+books_seen v sc terms posts said view same many =
+    ap (λ (n : ℕ). books_with v terms n) many ∙ ap (λ (t : Terms). books_with v t (length v.posts)) same ∙ ap (λ (x : Scene). books_in x) view
+
+-- ---- nothing was done
+
+pub next_unmade : (r : Rules) (sc : Scene) (m : ℕ) (call : Option Call) (told : Option Journals) → NextCut r sc m call sc.posts told told
+next_unmade r sc m None told = record { posts = refl; lists = keeps_same told }
+next_unmade r sc m (Some call) told = call_unmade r m call sc.posts told
+
+pub unmade_line : (r : Rules) (sc : Scene) (work : Work) (told : Option Journals) → LineCut r sc work sc.posts told told
+unmade_line r sc idle told = record { posts = refl; lists = keeps_same told }
+unmade_line r sc (asks m call) told = call_unmade r m call sc.posts told
+unmade_line r sc (hands m n) told = record { taken = 0; few = omega arith; told = told; adds = adds_none told m; next = next_unmade r sc m (next_on sc m) told }
+
+pub unmade_line_on : {A E : Type 0} (r : Rules) (sc : Scene) (work : Work) (told : Option Journals) (result : Result A E) → OnErr result (LineCut r sc work sc.posts told told)
+unmade_line_on r sc work told result = on_err (LineCut r sc work sc.posts told told) result (unmade_line r sc work told)
+
+-- a line that touches no record
+pub quiet_line : (r : Rules) (sc new : Scene) (work : Work) (told : Option Journals) → still_in new ≡ still_in sc → LineCut r sc work new.posts told told
+quiet_line r sc new work told same = subst (λ (posts : List Post). LineCut r sc work posts told told) (sym (ap (λ (x : Still). x.posts) same)) (unmade_line r sc work told)
+
+-- a start
+pub idle_line_on : {A E : Type 0} (r : Rules) (sc new : Scene) (before now : Option Journals) (result : Result A E) → OnErr result (new ≡ sc) → KeepsJournals before now → OnErr result (LineCut r sc idle new.posts before now)
+idle_line_on r sc new before now (Ok a) same keeps = tt
+idle_line_on r sc new before now (Err e) same keeps = record { posts = ap (λ (x : Scene). x.posts) same; lists = keeps }
+
+-- ---- a line that names a transaction or a certificate
+
+pub vote_line : (r : Rules) (sc : Scene) (new : List Post) (m : ℕ) (t : Option Made) (bytes : List ℕ) (before now : Option Journals) → Some bytes ≡ option_map spelled_tx t → CallCut r m (votes bytes) sc.posts new before now
+    → LineCut r sc (asked m (option_map signed_call t)) new before now
+vote_line r sc new m None bytes before now e is = absurd (cc)
+vote_line r sc new m (Some t) bytes before now e is = subst (λ (b : List ℕ). CallCut r m (votes b) sc.posts new before now) (cc) is
+
+pub vote_line_on : {A E : Type 0} (r : Rules) (sc new : Scene) (m : ℕ) (t : Option Made) (bytes : List ℕ) (before now : Option Journals) (result : Result A E) → Some bytes ≡ option_map spelled_tx t → new ≡ called_scene r sc m (votes bytes)
+    → AddsLeft before now m (record_left (reached_in r sc.posts m (votes bytes))) → OnErr result (LineCut r sc (asked m (option_map signed_call t)) new.posts before now)
+vote_line_on r sc new m t bytes before now result e is adds =
+    on_err (LineCut r sc (asked m (option_map signed_call t)) new.posts before now) result
+    (vote_line r sc new.posts m t bytes before now e (call_ended r m (votes bytes) sc.posts new.posts before now (ap (λ (x : Scene). x.posts) is) adds))
+
+pub send_line : (r : Rules) (sc : Scene) (new : List Post) (m : ℕ) (c : Option Certificate) (bytes : List ℕ) (before now : Option Journals) → Some bytes ≡ option_map spelled_cert c → CallCut r m (holds bytes) sc.posts new before now
+    → LineCut r sc (asked m (option_map held_call c)) new before now
+send_line r sc new m None bytes before now e is = absurd (cc)
+send_line r sc new m (Some c) bytes before now e is = subst (λ (b : List ℕ). CallCut r m (holds b) sc.posts new before now) (cc) is
+
+pub send_line_on : {A E : Type 0} (r : Rules) (sc new : Scene) (m : ℕ) (c : Option Certificate) (bytes : List ℕ) (before now : Option Journals) (result : Result A E) → Some bytes ≡ option_map spelled_cert c → new ≡ called_scene r sc m (holds bytes)
+    → AddsLeft before now m (record_left (reached_in r sc.posts m (holds bytes))) → OnErr result (LineCut r sc (asked m (option_map held_call c)) new.posts before now)
+send_line_on r sc new m c bytes before now result e is adds =
+    on_err (LineCut r sc (asked m (option_map held_call c)) new.posts before now) result
+    (send_line r sc new.posts m c bytes before now e (call_ended r m (holds bytes) sc.posts new.posts before now (ap (λ (x : Scene). x.posts) is) adds))
+
+-- ---- entries
+
+-- the next entry, by what is seen of it
+pub next_cut : {A E : Type 0} (trust : Trust) (v sc : Scene) (m number : ℕ) (bytes : List ℕ) (view : v ≡ sc) (next : Some (sees number bytes) ≡ next_by v.posts v.sequences m) (result : Result A E) (new : List Post) (before now : Option Journals)
+    → OnErr result (CallCut (rules_in trust.accepts v) m (sees number bytes) v.posts new before now) → OnErr result (NextCut (rules_in trust.accepts sc) sc m (next_on sc m) new before now)
+next_cut trust v sc m number bytes view next (Ok a) new before now is = tt
+next_cut trust v sc m number bytes view next (Err e) new before now is =
+    subst (λ (c : Option Call). NextCut (rules_in trust.accepts sc) sc m c new before now) (sym next_in)
+    (subst (λ (x : Scene). CallCut (rules_in trust.accepts x) m (sees number bytes) x.posts new before now) view is)
+  where
+    next_in : next_on sc m ≡ Some (sees number bytes)
+    next_in = ap (λ (x : Scene). next_on x m) (sym view) ∙ sym (next_is v m) ∙ sym next
+
+-- all were handed in
+pub entries_ended : (r : Rules) (sc new : Scene) (m n : ℕ) (before now : Option Journals) → new ≡ sees_to r n sc m → AddsAll before now m (sees_left r n sc m) → EntriesCut r m n sc new.posts before now
+entries_ended r sc new m n before now is adds = record {
+  taken = n;
+  few = omega arith;
+  told = now;
+  adds = adds;
+  next = subst (λ (posts : List Post). NextCut r (sees_to r n sc m) m (next_on (sees_to r n sc m) m) posts now now) (sym (ap (λ (x : Scene). x.posts) is)) (next_unmade r (sees_to r n sc m) m (next_on (sees_to r n sc m) m) now);
+}

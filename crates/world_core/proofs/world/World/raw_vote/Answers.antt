@@ -1,0 +1,26 @@
+use Rattle.protocol_spec.specs.Member.Calls.{votes}
+use Rattle.scene_spec.specs.Scene.{rules_in}
+use Rattle.scene_spec.specs.Steps.{asks, work_of}
+use Rattle.world_core.proofs.Cuts.{scene_ended_on}
+use Rattle.std.proofs.Common.{List, OnErr, subst, ℕ}
+use Rattle.world_core.specs.Cuts.{LineCut}
+use Rattle.world_core.proofs.world.World.raw_vote.Goals as goal
+
+pub returns-in-Err-clause-cut : goal.returns-in-Err-clause-cut
+unfolding work_of
+returns-in-Err-clause-cut g c =
+    subst (λ (b : List ℕ). LineCut (rules_in (g.S.Checker.accepts c.args.sealer.now) c.args.self.now) c.args.self.now (asks c.args.member (votes b)) c.ask.new.self.posts (g.D.Keeper.lists c.args.keeper.now) (g.D.Keeper.lists c.ask.new.keeper)) c.as_slice.ensures.value c.in-Err.ensures.cut
+
+pub returns-clause-cut : goal.returns-clause-cut
+unfolding work_of
+returns-clause-cut g c =
+    subst (λ (b : List ℕ). OnErr c.told.result (LineCut (rules_in (g.S.Checker.accepts c.args.sealer.now) c.args.self.now) c.args.self.now (asks c.args.member (votes b)) c.ask.new.self.posts (g.D.Keeper.lists c.args.keeper.now) (g.D.Keeper.lists c.ask.new.keeper))) c.as_slice.ensures.value
+    (scene_ended_on (rules_in (g.S.Checker.accepts c.args.sealer.now) c.args.self.now) c.args.member (votes c.as_slice.result.now) c.args.self.now c.ask.new.self (g.D.Keeper.lists c.args.keeper.now) (g.D.Keeper.lists c.ask.new.keeper) c.told.result c.in-Ok.ensures.world c.in-Ok.ensures.kept)
+
+pub returns-in-Err-clause-books : goal.returns-in-Err-clause-books
+returns-in-Err-clause-books g c =
+    c.in-Err.ensures.books
+
+pub returns-clause-books : goal.returns-clause-books
+returns-clause-books g c =
+    c.in-Ok.ensures.books

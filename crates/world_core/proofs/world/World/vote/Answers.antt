@@ -1,0 +1,42 @@
+use Rattle.std.proofs.Common.{◌≡◌, Some, option_map}
+use Rattle.schedule_text.specs.declared.words.Event.TheVariants as events
+use Rattle.scene_spec.specs.Scene.{bare_world, rules_in}
+use Rattle.scene_spec.specs.Steps.{work_of}
+use Rattle.world_spec.specs.Names.{made_named}
+use Rattle.world_core.specs.Texts.{spelled_tx}
+use Rattle.world_core.proofs.Cuts.{unmade_line, unmade_line_on, vote_line, vote_line_on}
+use Rattle.world_core.proofs.world.World.vote.Goals as goal
+
+pub returns-in_default-clause-cut : goal.returns-in_default-clause-cut
+returns-in_default-clause-cut g c =
+    unmade_line (rules_in (g.S.Checker.accepts c.args.sealer.now) c.args.self.now) c.args.self.now (work_of c.args.self.now (events.Vote c.args.member c.args.tx.now)) (g.D.Keeper.lists c.args.keeper.now)
+
+pub returns-in_default-spelled_tx-clause-cut : goal.returns-in_default-spelled_tx-clause-cut
+returns-in_default-spelled_tx-clause-cut g c =
+    unmade_line (rules_in (g.S.Checker.accepts c.args.sealer.now) c.args.self.now) c.args.self.now (work_of c.args.self.now (events.Vote c.args.member c.args.tx.now)) (g.D.Keeper.lists c.args.keeper.now)
+
+pub returns-in_default-bytes-clause-cut : goal.returns-in_default-bytes-clause-cut
+returns-in_default-bytes-clause-cut g c =
+    unmade_line_on (rules_in (g.S.Checker.accepts c.args.sealer.now) c.args.self.now) c.args.self.now (work_of c.args.self.now (events.Vote c.args.member c.args.tx.now)) (g.D.Keeper.lists c.args.keeper.now) c.told.result
+
+pub returns-in-Err-clause-cut : goal.returns-in-Err-clause-cut
+unfolding work_of
+returns-in-Err-clause-cut g c =
+    vote_line (rules_in (g.S.Checker.accepts c.args.sealer.now) c.args.self.now) c.args.self.now c.ask.new.self.posts c.args.member (made_named (bare_world c.args.self.now) c.args.tx.now) c.as_slice-3.result.now (g.D.Keeper.lists c.args.keeper.now) (g.D.Keeper.lists c.ask.new.keeper)
+    (let e : Some c.as_slice-3.result.now ≡ option_map spelled_tx (made_named (bare_world c.args.self.now) c.args.tx.now) = cc (c.as_slice-3.ensures.value, c.in-Some.is, c.in-Ok-spelled_tx.ensures, c.as_slice-2.ensures.value) in e)
+    c.in-Err.ensures.cut
+
+pub returns-clause-cut : goal.returns-clause-cut
+unfolding work_of
+returns-clause-cut g c =
+    vote_line_on (rules_in (g.S.Checker.accepts c.args.sealer.now) c.args.self.now) c.args.self.now c.ask.new.self c.args.member (made_named (bare_world c.args.self.now) c.args.tx.now) c.as_slice-3.result.now (g.D.Keeper.lists c.args.keeper.now) (g.D.Keeper.lists c.ask.new.keeper) c.told-2.result
+    (let e : Some c.as_slice-3.result.now ≡ option_map spelled_tx (made_named (bare_world c.args.self.now) c.args.tx.now) = cc (c.as_slice-3.ensures.value, c.in-Some.is, c.in-Ok-spelled_tx.ensures, c.as_slice-2.ensures.value) in e)
+    c.in-Ok-ask.ensures.world c.in-Ok-ask.ensures.kept
+
+pub returns-in-Err-clause-books : goal.returns-in-Err-clause-books
+returns-in-Err-clause-books g c =
+    c.in-Err.ensures.books
+
+pub returns-clause-books : goal.returns-clause-books
+returns-clause-books g c =
+    c.in-Ok-ask.ensures.books

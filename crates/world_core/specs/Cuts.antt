@@ -1,0 +1,88 @@
+-- What stands of a world after a line that did not come to its end: the line's member by how far its call came, all other
+-- members as before. Source: this profile.
+use Rattle.std.specs.Prelude.{◌≡◌, ◌≤◌, ℕ, List, Option, Some, None, length}
+use Rattle.chain_types.specs.declared.objects.Object.{Object}
+use Rattle.journal_core.specs.declared.records.Record.{Record}
+use Rattle.outside.specs.Lists.{Journals, KeepsJournals}
+use Rattle.protocol_spec.specs.Chain.Certificates.{Rules}
+use Rattle.protocol_spec.specs.Member.Calls.{Call}
+use Rattle.world_spec.specs.World.{Formed}
+use Rattle.scene_spec.specs.Known.{Known}
+use Rattle.scene_spec.specs.Terms.{Terms}
+use Rattle.scene_spec.specs.Posts.{AddsAll, AddsLeft, MayAddLeft, Post, posts_behind, reached_in, record_left}
+use Rattle.scene_spec.specs.Scene.{Scene}
+use Rattle.scene_spec.specs.Steps.{Work, asks, hands, idle, next_on, sees_left, sees_to}
+use Rattle.world_core.specs.Crews.{fallen_at}
+
+-- ---- beside the members
+
+-- how many members there are, their terms and opening objects, the names, the open epoch and the certificates: all but how the
+-- members stand, what was ordered and what was stated
+pub record Books : Type 0 where
+  pub many : ℕ
+  pub terms : Terms
+  pub opening : List Object
+  pub known : Known
+  pub epoch : ℕ
+  pub certs : List Formed
+
+abbrev pub books_in : Scene → Books
+books_in sc = record { many = length sc.posts; terms = sc.terms; opening = sc.opening; known = sc.known; epoch = sc.epoch; certs = sc.certs }
+
+-- that, and how the members stand
+pub record Still : Type 0 where
+  pub books : Books
+  pub posts : List Post
+
+abbrev pub still_in : Scene → Still
+still_in sc = record { books = books_in sc; posts = sc.posts }
+
+-- ---- the members and their records
+
+-- no member changed, and no observable list
+pub record IsAsBefore (old new : List Post) (before now : Option Journals) : Type 0 where
+  pub posts : new ≡ old
+  pub lists : KeepsJournals before now
+
+-- how far a call came: it was not made; the member fell in it; or it came to its end, and its line did not
+pub data Far : Type 0 where
+  unmade : Far
+  fell : Far
+  ended : Far
+
+-- how the members stand then
+abbrev pub posts_at : Far → Rules → List Post → ℕ → Call → List Post
+posts_at unmade r posts m call = posts
+posts_at fell r posts m call = fallen_at posts m
+posts_at ended r posts m call = posts_behind r posts m call
+
+-- observable lists then: a member that fell left its record or none
+abbrev pub ListsAt : Far → Option Journals → Option Journals → ℕ → Option Record → Type 0
+ListsAt unmade before now m x = KeepsJournals before now
+ListsAt fell before now m x = MayAddLeft before now m x
+ListsAt ended before now m x = AddsLeft before now m x
+
+-- a line that broke off at this call
+pub record CallCut (r : Rules) (m : ℕ) (call : Call) (old new : List Post) (before now : Option Journals) : Type 0 where
+  pub far : Far
+  pub posts : new ≡ posts_at far r old m call
+  pub lists : ListsAt far before now m (record_left (reached_in r old m call))
+
+-- likewise at the next entry, if there is one; if there is none, nothing changed
+abbrev pub NextCut : Rules → Scene → ℕ → Option Call → List Post → Option Journals → Option Journals → Type 0
+NextCut r sc m None new before now = IsAsBefore sc.posts new before now
+NextCut r sc m (Some call) new before now = CallCut r m call sc.posts new before now
+
+-- a line that was to hand in so many entries: some were, and it broke off at the next one
+pub record EntriesCut (r : Rules) (m n : ℕ) (old : Scene) (new : List Post) (before now : Option Journals) : Type 0 where
+  pub taken : ℕ
+  pub few : taken ≤ n
+  pub told : Option Journals
+  pub adds : AddsAll before told m (sees_left r taken old m)
+  pub next : NextCut r (sees_to r taken old m) m (next_on (sees_to r taken old m) m) new told now
+
+-- a line with this work
+abbrev pub LineCut : Rules → Scene → Work → List Post → Option Journals → Option Journals → Type 0
+LineCut r sc idle new before now = IsAsBefore sc.posts new before now
+LineCut r sc (asks m call) new before now = CallCut r m call sc.posts new before now
+LineCut r sc (hands m n) new before now = EntriesCut r m n sc new before now
