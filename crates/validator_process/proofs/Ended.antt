@@ -6,8 +6,9 @@ use Rattle.outside.specs.Causes.{Rose}
 use Rattle.outside.specs.Lists.{Journals, KeepsJournals}
 use Rattle.outside.specs.Streams.{AppendsFront, ReadsText}
 use Rattle.schedule_text.specs.Schedule.{longest_text}
-use Rattle.disk_log.specs.Disk.{History}
+use Rattle.disk_log.specs.Disk.{History, IfTold}
 use Rattle.disk_log.specs.Log.{WalkCause}
+use Rattle.disk_log.specs.Records.{Record}
 use Rattle.disk_log.specs.Running.{HoldsLists, Unchanged}
 use Rattle.disk_log.specs.declared.refusals.OpenRefusal.TheVariants as refused
 use Rattle.world_spec.specs.Setting.{Trust}
@@ -23,11 +24,12 @@ use Rattle.validator_process.specs.declared.reading.Unstarted.{Unstarted}
 use Rattle.validator_process.specs.declared.reading.Unstarted.TheVariants as unstarted
 use Rattle.validator_process.specs.declared.stop.Stop.{Stop}
 use Rattle.validator_process.specs.declared.stop.Stop.TheVariants as stop
-use Rattle.validator_process.specs.Ending.{EndsJournal, EndsLife, EndsProcess, EndsTask, EndsText, HasHead, IsHeadRefused, HasCause, IsNoGenesis, IsOfWrite, IsSaid, IsUnopenedBy, SaysUnopened, SaysUnstarted, kept_in, program_trust}
+use Rattle.validator_process.specs.Ending.{EndsJournal, EndsLife, EndsLog, EndsProcess, EndsTask, EndsText, HasHead, IsHeadRefused, HasCause, IsNoGenesis, IsOfWrite, IsSaid, IsUnopenedBy, SaysUnopened, SaysUnstarted, kept_in, program_trust}
 use Rattle.validator_process.specs.declared.words.Task.{Task}
 use Rattle.validator_process.specs.declared.words.Task.TheVariants as task
 use Rattle.validator_process.specs.Genesis.{genesis_of, line_status}
-use Rattle.validator_process.specs.Starting.{LivesCut, LivesWhole, OpensAs, StartsAs, start_bytes}
+use Rattle.validator_process.specs.Growing.{LeavesFirst, counted_in}
+use Rattle.validator_process.specs.Starting.{LivesCut, LivesUnwritten, LivesWhole, OpensAs, StartsAs, start_bytes}
 use Rattle.validator_process.specs.Stops.{status_of}
 
 -- ---- a line that ends a process
@@ -67,8 +69,9 @@ module _ (accepts : Accepting) (scene : Scene) (m : ℕ) (left left' held held' 
   lived_whole seat starts same lives = inl (record { seat = seat; mid = mid; starts = starts; same = same; lives = lives; ends = refl })
 
   pub lived_cut : (seat : Seated) (why : Stop) (given : Result (Unit {0}) Stop) → given ≡ Err why → StartsAs accepts scene m kept (Ok seat) → KeepsJournals kept mid → LivesCut accepts seat left left' held held' mid kept' → first ≤ k
-      → (given ≡ Err stop.ReadFault → Rose r r') → (given ≡ Err stop.WriteFault → Rose w w') → (given ≡ Err stop.KeepFault → Rose k k') → EndsLife accepts scene m left left' held held' kept kept' r r' w w' first k' (status_of why)
-  lived_cut seat why given is starts same lives later read write keep = inr (inl (record {
+      → (given ≡ Err stop.ReadFault → Rose r r') → (given ≡ Err stop.WriteFault → Rose w w') → (given ≡ Err stop.KeepFault → Rose k k')
+      → (given ≡ Err stop.WriteFault → LivesUnwritten accepts seat left left' held held' mid kept') → EndsLife accepts scene m left left' held held' kept kept' r r' w w' first k' (status_of why)
+  lived_cut seat why given is starts same lives later read write keep handed = inr (inl (record {
     seat = seat;
     mid = mid;
     why = why;
@@ -77,6 +80,7 @@ module _ (accepts : Accepting) (scene : Scene) (m : ℕ) (left left' held held' 
     lives = lives;
     ends = refl;
     cause = has_cause why r r' w w' first k k' later (λ e. read (is ∙ ap (λ (s : Stop). Err s) e)) (λ e. write (is ∙ ap (λ (s : Stop). Err s) e)) (λ e. keep (is ∙ ap (λ (s : Stop). Err s) e));
+    handed = λ e. handed (is ∙ ap (λ (s : Stop). Err s) e);
   }))
 
 module _ (accepts : Accepting) (scene : Scene) (m : ℕ) (left held held' : Option (List ℕ)) (kept kept' : Option Journals) (r w w' k k' status : ℕ) where
@@ -107,15 +111,17 @@ unopened_bad None k k' at cause = tt
 unopened_bad (Some h) k k' at cause = (at, cause.bad at refl)
 
 module _ (accepts : Accepting) (scene : Scene) (m : ℕ) (told told' : Option History) (left left' held held' : Option (List ℕ)) (r r' w w' k k' status : ℕ) where
-  pub journal_life : (opened width : ℕ) (first lists : Option Journals) → first ≡ kept_in told → k ≤ opened → EndsLife accepts scene m left left' held held' first lists r r' w w' opened k' status → HoldsLists width k' told' lists
+  pub log_ends : (first : List Record) (kept lists : Option Journals) (width : ℕ) → EndsLife accepts scene m left left' held held' kept lists r r' w w' k k' status → HoldsLists width k' told' lists → IfTold told' (LeavesFirst first)
+      → EndsLog first accepts scene m told' left left' held held' kept r r' w w' k k' status
+  log_ends first kept lists width ends holds grows = record { width = width; lists = lists; ends = ends; holds = holds; grows = grows }
+
+  pub journal_life : (opened : ℕ) (first : List Record) (kept : Option Journals) → first ≡ counted_in told → kept ≡ kept_in told → k ≤ opened → EndsLog first accepts scene m told' left left' held held' kept r r' w w' opened k' status
       → EndsJournal accepts scene m told told' left left' held held' r r' w w' k k' status
-  journal_life opened width first lists same later ends holds = inl (record {
+  journal_life opened first kept same lists later over = inl (record {
     opened = opened;
-    width = width;
-    lists = lists;
     later = later;
-    ends = subst (λ (l : Option Journals). EndsLife accepts scene m left left' held held' l lists r r' w w' opened k' status) same ends;
-    holds = holds;
+    over = subst (λ (l : Option Journals). EndsLog (counted_in told) accepts scene m told' left left' held held' l r r' w w' opened k' status) lists
+        (subst (λ (f : List Record). EndsLog f accepts scene m told' left left' held held' kept r r' w w' opened k' status) same over);
   })
 
 pub unopened_ends : (accepts : Accepting) (scene : Scene) (m : ℕ) (told told' : Option History) (left held held' : Option (List ℕ)) (r w w' k k' status : ℕ) (why : Unopened) → IsUnopenedBy why told k k' → SaysUnopened why held held' w w' status → Unchanged told told'

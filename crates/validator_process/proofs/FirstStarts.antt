@@ -92,6 +92,9 @@ made-by m text short p has = go has.ends
         subst (λ (t : List ℕ). Made m t p.last) (whole-text text done.text p.setup short done.reads)
         (made-for m done.text p.first p.last p.held p.holds p.write_before p.write_faults p.disk_before p.disk_faults p.status has.done done.does.2)
 
+pub made-alone : (m : ℕ) (text : List ℕ) → length text ≤ longest_text → (p : Process) → HasMade m text p → HoldsOnly (identity_record m (genesis_digest text) ∷ []) p.last
+made-alone m text short p has = (made-by m text short p has).alone
+
 -- ---- what the next process finds
 
 -- the record stands alone in what it reads
@@ -187,7 +190,7 @@ module _ (scene : Scene) (m : ℕ) (few : m ≤ 63) (text : List ℕ) (genesis :
   unopened-starts k later (unopened.Stopped why) cause unread said = stopped why (inside-cause k later why cause.0 cause.1) said.0 unread said.1
 
   journal-starts : (k : ℕ) → p.disk_before ≤ k → EndsJournal accepts scene m (Some p.first) (Some p.last) p.asked p.unread p.held p.holds p.read_before p.read_faults p.write_before p.write_faults k p.disk_faults p.status → IsUp scene m p ⊎ IsStopped p
-  journal-starts k later (inl life) = life-starts life.opened life.lists (omega (arith, later, life.later)) life.ends
+  journal-starts k later (inl life) = life-starts life.opened life.over.lists (omega (arith, later, life.later)) life.over.ends
   journal-starts k later (inr none) = unopened-starts k later none.why none.cause none.unread none.said
 
   no-genesis : (why : Unstarted) → ((line : StartLine) → why ≡ unstarted.Refused line → genesis_of program_trust m text ≡ Err line) → ((it : Stop) → why ≡ unstarted.Stopped it → it ≡ stop.OutOfMemory)

@@ -1,13 +1,14 @@
 -- The first bytes of a file whose first record is that of a member and a set-up.
-use Rattle.std.proofs.Common.{refl, sym, subst, ap, ◌∙◌, arith, length-append, length-drop, length-take}
+use Rattle.std.proofs.Common.{refl, sym, subst, ap, ◌∙◌, arith, append_assoc, length-append, length-drop, length-take}
 use Rattle.std.proofs.lemmas.Bool.Decides.{nat_tests}
+use Rattle.std.proofs.lemmas.List.{take-append-drop}
 use Rattle.std.proofs.lemmas.Slice.Eq.{bytes_eq-Decides}
 use Rattle.std.specs.Prelude.{◌≡◌, ◌+◌, ◌-◌, ◌*◌, ◌<◌, ◌≤◌, ◌==◌, ◌&&◌, ℕ, Bool, true, false, nat_le, nat_lt, List, [], ◌∷◌, ◌++◌, length, take, drop, bytes_eq, if◌then◌else◌}
 use Rattle.std.specs.Int.{w32, to_le_bytes}
 use Rattle.wire_bcs.specs.Little.{value_of}
 use Rattle.digest_core.specs.declared.Digest.{Digest}
 use Rattle.disk_log.specs.Records.{Record, behind_record, count_in, counted, is_counted, record_in}
-use Rattle.disk_log.proofs.Counting.{counted-step}
+use Rattle.disk_log.proofs.Counting.{counted-open, counted-step}
 use Rattle.protocol_spec.proofs.ListLemmas.{and-first, and-second}
 use Rattle.protocol_spec.proofs.Truth.{both_true}
 use Rattle.validator_process.specs.declared.identity.Head.{Head}
@@ -101,3 +102,58 @@ module _ (m : ℕ) (g : Digest) where
   pub own_head : (file : List ℕ) (more : List Record) → length g.0 ≡ 32 → counted file ≡ identity_record m g ∷ more → head_of_file m g file ≡ head.Own
   own_head [] more size is = absurd (let e : counted [] ≡ [] = refl in cc)
   own_head (gate ∷ rest) more size is = by-gate gate rest more size (is_counted gate rest) refl (sym (counted-step gate rest) ∙ is)
+
+  -- ---- a file of which this is the head
+
+  tests-own : (a b c d : Bool) → (if a && b then (if c then (if d then head.Own else head.OtherGenesis) else head.OtherMember) else head.Unmade) ≡ head.Own → (a ≡ true) × (b ≡ true) × (c ≡ true) × (d ≡ true)
+  tests-own true true true true is = (refl, refl, refl, refl)
+  tests-own true true true false is = absurd (cc)
+  tests-own true true false d is = absurd (cc)
+  tests-own true false c d is = absurd (cc)
+  tests-own false b c d is = absurd (cc)
+
+  parts-own : (gate text number digest : List ℕ) → head_of_parts m g gate text number digest ≡ head.Own → (gate ≡ front) × (text ≡ mark) × (number ≡ to_le_bytes w32 m) × (digest ≡ g.0)
+  parts-own gate text number digest is =
+      let are = tests-own (bytes_eq gate front) (bytes_eq text mark) (bytes_eq number (to_le_bytes w32 m)) (bytes_eq digest g.0) is in
+      ((bytes_eq-Decides gate front).0 are.0, (bytes_eq-Decides text mark).0 are.1, (bytes_eq-Decides number (to_le_bytes w32 m)).0 are.2, (bytes_eq-Decides digest g.0).0 are.3)
+
+  joined : (bytes : List ℕ) → take 20 bytes ≡ mark → take 4 (drop 20 bytes) ≡ to_le_bytes w32 m → drop 4 (drop 20 bytes) ≡ g.0 → bytes ≡ identity_bytes m g
+  joined bytes text number digest =
+      let rest : List ℕ = drop 20 bytes in
+      sym (take-append-drop 20 bytes)
+      ∙ ap (λ (l : List ℕ). take 20 bytes ++ l) (sym (take-append-drop 4 rest))
+      ∙ sym (append_assoc (take 20 bytes) (take 4 rest) (drop 4 rest))
+      ∙ ap (λ (l : List ℕ). l ++ take 4 rest ++ drop 4 rest) text
+      ∙ ap (λ (l : List ℕ). mark ++ l ++ drop 4 rest) number
+      ∙ ap (λ (l : List ℕ). mark ++ to_le_bytes w32 m ++ l) digest
+
+  abbrev StandsFirst : List ℕ → Type 0
+  StandsFirst file = (more : List Record) × (counted file ≡ identity_record m g ∷ more)
+
+  first-record : (tail : List ℕ) → 56 < length tail → take 56 tail ≡ identity_bytes m g → StandsFirst (1 ∷ 56 ∷ 0 ∷ 0 ∷ 0 ∷ 64 ∷ 0 ∷ 0 ∷ 0 ∷ tail)
+  first-record tail long is =
+      let rest : List ℕ = 56 ∷ 0 ∷ 0 ∷ 0 ∷ 64 ∷ 0 ∷ 0 ∷ 0 ∷ tail in
+      (counted (behind_record rest), counted-open rest (omega (arith, long)) ∙ ap (λ (bytes : List ℕ). record { member = 64; bytes = bytes } ∷ counted (behind_record rest)) is)
+
+  of-head : (file : List ℕ) → 65 < length file → head_of_bytes m g (take 65 file) ≡ head.Own → StandsFirst file
+  unfolding head_of_bytes
+  of-head [] long is = absurd (omega (arith, long))
+  of-head (a ∷ []) long is = absurd (omega (arith, long))
+  of-head (a ∷ b ∷ []) long is = absurd (omega (arith, long))
+  of-head (a ∷ b ∷ c ∷ []) long is = absurd (omega (arith, long))
+  of-head (a ∷ b ∷ c ∷ d ∷ []) long is = absurd (omega (arith, long))
+  of-head (a ∷ b ∷ c ∷ d ∷ e ∷ []) long is = absurd (omega (arith, long))
+  of-head (a ∷ b ∷ c ∷ d ∷ e ∷ f ∷ []) long is = absurd (omega (arith, long))
+  of-head (a ∷ b ∷ c ∷ d ∷ e ∷ f ∷ i ∷ []) long is = absurd (omega (arith, long))
+  of-head (a ∷ b ∷ c ∷ d ∷ e ∷ f ∷ i ∷ j ∷ []) long is = absurd (omega (arith, long))
+  of-head (a ∷ b ∷ c ∷ d ∷ e ∷ f ∷ i ∷ j ∷ k ∷ tail) long is =
+      let body : List ℕ = take 56 tail in
+      let own = parts-own (a ∷ b ∷ c ∷ d ∷ e ∷ f ∷ i ∷ j ∷ k ∷ []) (take 20 body) (take 4 (drop 20 body)) (drop 4 (drop 20 body)) is in
+      subst StandsFirst (sym (ap (λ (l : List ℕ). l ++ tail) own.0)) (first-record tail (omega (arith, long)) (joined body own.1 own.2 own.3))
+
+  by-length : (file : List ℕ) (b : Bool) → nat_le (length file) 65 ≡ b → (if b then head.Unmade else head_of_bytes m g (take 65 file)) ≡ head.Own → StandsFirst file
+  by-length file true short is = absurd (cc)
+  by-length file false short is = of-head file (grind (arith, nat_tests)) is
+
+  pub own_record : (file : List ℕ) → head_of_file m g file ≡ head.Own → StandsFirst file
+  own_record file is = by-length file (nat_le (length file) 65) refl is

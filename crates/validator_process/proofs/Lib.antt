@@ -11,3 +11,6 @@ mod Lives
 mod Made
 mod Headed
 mod FirstStarts
+mod Handed
+mod Growing
+mod Staying

@@ -34,9 +34,10 @@ use Rattle.process_lines.specs.declared.starts.StartLine.{StartLine}
 use Rattle.validator_process.specs.declared.words.Task.TheVariants as task
 use Rattle.validator_process.specs.Ending.{EndsJournal, EndsLife, EndsText, IsLife, IsUnopened, kept_in, program_trust}
 use Rattle.validator_process.specs.Genesis.{genesis_of, member_started, ready_line, started_in}
+use Rattle.validator_process.specs.Handing.{IsAnswerHanded, IsFirstHanded}
 use Rattle.validator_process.specs.Living.{AreProcesses, AreRunsOf, HasAnswered, HasNotAnswered, HaveLives, IsProcess, IsRunOf, Process, asked_in, calls_of}
 use Rattle.validator_process.specs.Serving.{AddsRecords, AreAnswered, Around, Exchange, IsCutAt, Serves, ServesAll, ServesOne, ServesSome, around, due_for_request, records_left, request_in, seat_behind_line, seat_behind_request, spelled, with_records}
-use Rattle.validator_process.specs.Starting.{LivesCut, LivesSome, LivesWhole, StartsAs, start_bytes}
+use Rattle.validator_process.specs.Starting.{LivesCut, LivesHanded, LivesSome, LivesUnwritten, LivesWhole, StartsAs, start_bytes}
 use Rattle.validator_process.proofs.Along.{same_member, serves_push, texts_push}
 use Rattle.validator_process.proofs.Readable.{line-readable}
 use Rattle.lives_law.specs.Files.{AreLivesOf, AreRunsOn, Follows, IsIdleOn, IsLeft, IsLifeOn, IsReadable, Run, dues, kept_of, records_of}
@@ -362,6 +363,33 @@ module _ (scene : Scene) (m : ℕ) (few : m ≤ 63) (p : Process) where
         lived seat lives.said starts lives.ready
         (did-cut accepts m few first_kept (around [] p.asked lives.said mid seat) (around lives.pending p.unread p.holds now lives.last) (own-member seat starts) (mid-stands mid same) lives.serves.exchanges lives.serves.last lives.serves.serves lives.serves.cut)
 
+    -- the sink did not take an answer
+    answer-handed : (seat : Seated) (mid : Option Journals) → StartsAs accepts scene m (kept_in (Some p.first)) (Ok seat) → KeepsJournals (kept_in (Some p.first)) mid → LivesHanded accepts seat p.asked p.unread p.held p.holds mid now → IsAnswerHanded scene m p
+    answer-handed seat mid starts same lives =
+        let a : Around = around [] p.asked lives.said mid seat in
+        let last : Around = lives.serves.last in
+        let xs : List Exchange = lives.serves.exchanges in
+        let x : Exchange = lives.serves.handed.exchange in
+        let c : Around = record { pending = lives.pending; left = p.unread; held = append_known last.held x.text; kept = now; seat = seat_behind_line accepts last.seat x.line } in
+        let one : ServesOne accepts x last c = record { reads = lives.serves.handed.reads; answers = lives.serves.handed.answers; writes = append-known last.held x.text; keeps = lives.serves.handed.keeps; seat = refl } in
+        let all : Serves accepts (xs ++ x ∷ []) a c = serves_push accepts xs a last lives.serves.serves x c one in
+        let stand : Stands now m (first_kept ++ records_left accepts seat (xs ++ x ∷ [])) = served accepts m few first_kept (xs ++ x ∷ []) a c (own-member seat starts) (mid-stands mid same) all in
+        record {
+          seat = seat;
+          before = xs;
+          handed = x;
+          said = last.held;
+          starts = subst (λ (k : List (List ℕ)). started_in accepts scene m k ≡ Ok seat) starts.1 starts.2;
+          answers = all.answers;
+          written = Appends-trans p.held lives.said last.held (start_bytes (ready_line seat)) (flat_map (λ (y : Exchange). y.text) xs) lives.ready lives.serves.serves.writes;
+          writes = lives.serves.handed.writes;
+          stands = λ file left. stands-front m few now (first_kept ++ records_left accepts seat (xs ++ x ∷ [])) files faults p.last stand holds file left;
+        }
+
+    pub line-handed : (seat : Seated) (mid : Option Journals) → StartsAs accepts scene m (kept_in (Some p.first)) (Ok seat) → KeepsJournals (kept_in (Some p.first)) mid → LivesUnwritten accepts seat p.asked p.unread p.held p.holds mid now → IsFirstHanded p ⊎ IsAnswerHanded scene m p
+    line-handed seat mid starts same (inl front) = inl (record { line = ready_line seat; writes = front.writes; unread = front.unread })
+    line-handed seat mid starts same (inr lives) = inr (answer-handed seat mid starts same lives)
+
     then-keeps : (mid : Option Journals) → KeepsJournals (kept_in (Some p.first)) mid → KeepsJournals mid now → KeepsJournals (kept_in (Some p.first)) now
     then-keeps mid same keeps = subst (λ (l : Option Journals). KeepsJournals l now) same keeps
 
@@ -376,7 +404,7 @@ module _ (scene : Scene) (m : ℕ) (few : m ≤ 63) (p : Process) where
     life-done k (inr (inr (inr life))) = idle life.unread (kept-idle life.same)
 
   journal-done : (k : ℕ) → EndsJournal accepts scene m (Some p.first) (Some p.last) p.asked p.unread p.held p.holds p.read_before p.read_faults p.write_before p.write_faults k p.disk_faults p.status → Done scene m p
-  journal-done k (inl life) = life-done life.width p.disk_faults life.lists life.holds life.opened life.ends
+  journal-done k (inl life) = life-done life.over.width p.disk_faults life.over.lists life.over.holds life.opened life.over.ends
   journal-done k (inr none) = idle none.unread (unopened-idle none.stays)
 
   -- ---- from the text
@@ -384,7 +412,7 @@ module _ (scene : Scene) (m : ℕ) (few : m ≤ 63) (p : Process) where
   abbrev scene_ok : Scene → Result Scene StartLine
   scene_ok s = Ok s
 
-  same-scene : (a b : Scene) → scene_ok a ≡ scene_ok b → a ≡ b
+  pub same-scene : (a b : Scene) → scene_ok a ≡ scene_ok b → a ≡ b
   same-scene a b e = cc
 
   text-done : (text : List ℕ) → genesis_of program_trust m text ≡ Ok scene → EndsText program_trust accepts m text (Some p.first) (Some p.last) p.asked p.unread p.held p.holds p.read_before p.read_faults p.write_before p.write_faults p.disk_before p.disk_faults p.status → Done scene m p

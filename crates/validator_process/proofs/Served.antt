@@ -1,5 +1,5 @@
 -- One line more is read, answered and written, or cut.
-use Rattle.std.proofs.Common.{◌≡◌, ◌⊎◌, inl, inr, ℕ, ◌<◌, ◌≤◌, leb, Bool, true, false, cond, List, length, Option, Some, None, refl, subst, arith}
+use Rattle.std.proofs.Common.{◌≡◌, ◌⊎◌, inl, inr, ℕ, ◌<◌, ◌≤◌, leb, Bool, true, false, cond, List, length, Option, Some, None, Result, Err, refl, subst, ap, arith}
 use Rattle.std.proofs.lemmas.Bool.Decides.{nat_tests}
 use Rattle.std.specs.Io.KnownBytes.{Appends, Keeps}
 use Rattle.outside.specs.Lists.{Journals}
@@ -13,7 +13,9 @@ use Rattle.process_lines.specs.declared.request.Request.{Request}
 use Rattle.process_lines.specs.Lines.{Reads, ReadsLine, longest_line}
 use Rattle.process_lines.specs.Requests.{request_of}
 use Rattle.process_lines.specs.Texts.{bad_request_text}
-use Rattle.validator_process.specs.Serving.{IsAnswer, IsCutAt, IsHalfSaid, IsRefused, IsServed, Next, around, due_for_request, ended, request_in, seat_behind_request}
+use Rattle.validator_process.specs.declared.stop.Stop.{Stop}
+use Rattle.validator_process.specs.declared.stop.Stop.TheVariants as stop
+use Rattle.validator_process.specs.Serving.{IsAnswer, IsCutAt, IsHalfSaid, IsRefused, IsServed, IsUnwritten, Next, around, due_for_request, ended, request_in, seat_behind_request}
 
 held_same : (held : Option (List ℕ)) → Keeps held held
 held_same None = tt
@@ -74,8 +76,17 @@ module _ (accepts : Accepting) (pending pending' : List ℕ) (left left' held he
   refused : (line : List ℕ) → ReadsLine pending pending' left left' line → IsRefused accepts (request_in line) held held' kept kept' seat → IsCutAt accepts (around pending left held kept seat) (around pending' left' held' kept' seat')
   refused line reads s = inr (inl (record { line = line; reads = reads; writes = s.writes; keeps = s.keeps }))
 
+  handed : (line : List ℕ) → ReadsLine pending pending' left left' line → IsHalfSaid accepts (request_in line) held held' kept kept' seat → IsUnwritten accepts (around pending left held kept seat) (around pending' left' held' kept' seat')
+  handed line reads s = record { exchange = record { line = line; text = s.text }; reads = reads; answers = s.answers; writes = s.writes; keeps = s.keeps }
+
+  pub handed_line : (line : List ℕ) → Reads pending pending' left left' (got.Line line) → IsHalfSaid accepts (request_of line) held held' kept kept' seat → IsUnwritten accepts (around pending left held kept seat) (around pending' left' held' kept' seat')
+  handed_line line (reads, few) s = handed line reads (subst (λ (q : Option Request). IsHalfSaid accepts q held held' kept kept' seat) (in_short line few) s)
+
+  pub handed_long : Reads pending pending' left left' got.TooLong → IsHalfSaid accepts None held held' kept kept' seat → IsUnwritten accepts (around pending left held kept seat) (around pending' left' held' kept' seat')
+  handed_long (line, reads, many) s = handed line reads (subst (λ (q : Option Request). IsHalfSaid accepts q held held' kept kept' seat) (in_long line many) s)
+
   half_said : (line : List ℕ) → ReadsLine pending pending' left left' line → IsHalfSaid accepts (request_in line) held held' kept kept' seat → IsCutAt accepts (around pending left held kept seat) (around pending' left' held' kept' seat')
-  half_said line reads s = inr (inr (record { exchange = record { line = line; text = s.text }; reads = reads; answers = s.answers; writes = s.writes; keeps = s.keeps }))
+  half_said line reads s = inr (inr (handed line reads s))
 
   pub cut_line : (line : List ℕ) → Reads pending pending' left left' (got.Line line) → IsRefused accepts (request_of line) held held' kept kept' seat ⊎ IsHalfSaid accepts (request_of line) held held' kept kept' seat
       → IsCutAt accepts (around pending left held kept seat) (around pending' left' held' kept' seat')
@@ -84,6 +95,19 @@ module _ (accepts : Accepting) (pending pending' : List ℕ) (left left' held he
 
   pub cut_long : Reads pending pending' left left' got.TooLong → IsHalfSaid accepts None held held' kept kept' seat → IsCutAt accepts (around pending left held kept seat) (around pending' left' held' kept' seat')
   cut_long (line, reads, many) s = half_said line reads (subst (λ (q : Option Request). IsHalfSaid accepts q held held' kept kept' seat) (in_long line many) s)
+
+-- a stop by the sink is one whatever else was answered
+abbrev of_next : Stop → Result Bool Stop
+of_next why = Err why
+
+abbrev of_line : Stop → Result (Unit {0}) Stop
+of_line why = Err why
+
+same_stop : (why other : Stop) → of_next why ≡ of_next other → why ≡ other
+same_stop why other e = cc
+
+pub stopped_line : (why : Stop) → of_next why ≡ of_next stop.WriteFault → of_line why ≡ of_line stop.WriteFault
+stopped_line why e = ap of_line (same_stop why stop.WriteFault e)
 
 -- ---- no line more
 

@@ -27,8 +27,9 @@ use Rattle.validator_process.specs.declared.stop.Stop.TheVariants as stop
 use Rattle.validator_process.specs.declared.words.Task.{Task}
 use Rattle.validator_process.specs.declared.words.Task.TheVariants as task
 use Rattle.validator_process.specs.Genesis.{genesis_of, line_status}
+use Rattle.validator_process.specs.Growing.{LeavesFirst, counted_in}
 use Rattle.validator_process.specs.Identity.{genesis_digest, head_of_file, identity_bytes, identity_record}
-use Rattle.validator_process.specs.Starting.{IsInside, LivesCut, LivesWhole, StartsAs, start_bytes}
+use Rattle.validator_process.specs.Starting.{IsInside, LivesCut, LivesUnwritten, LivesWhole, StartsAs, start_bytes}
 use Rattle.validator_process.specs.Stops.{status_of}
 
 -- ---- faults
@@ -84,7 +85,7 @@ pub record LivedWhole (accepts : Accepting) (scene : Scene) (m : ℕ) (left left
   pub lives : LivesWhole accepts seat left left' held held' mid kept'
   pub ends : status ≡ 0
 
--- it started, and was cut
+-- it started, and was cut; if the sink did so, at a line that it was handed
 pub record LivedCut (accepts : Accepting) (scene : Scene) (m : ℕ) (left left' held held' : Option (List ℕ)) (kept kept' : Option Journals) (r r' w w' k k' status : ℕ) : Type 0 where
   pub seat : Seated
   pub mid : Option Journals
@@ -94,6 +95,7 @@ pub record LivedCut (accepts : Accepting) (scene : Scene) (m : ℕ) (left left' 
   pub lives : LivesCut accepts seat left left' held held' mid kept'
   pub ends : status ≡ status_of why
   pub cause : HasCause why r r' w w' k k'
+  pub handed : why ≡ stop.WriteFault → LivesUnwritten accepts seat left left' held held' mid kept'
 
 -- it did not start: a record is bad, and a line says so
 pub record IsRefusedStart (accepts : Accepting) (scene : Scene) (m : ℕ) (left left' held held' : Option (List ℕ)) (kept kept' : Option Journals) (w w' status : ℕ) : Type 0 where
@@ -131,14 +133,20 @@ abbrev pub IsUnopenedBy : Unopened → Option History → ℕ → ℕ → Type 0
 IsUnopenedBy unopened.BadList told k k' = IfTold told (λ h. (at : ℕ) × (bad_member 65 0 (counted h.now.reads) ≡ Some at))
 IsUnopenedBy (unopened.Stopped why) told k k' = IsInside why × (why ≡ stop.KeepFault → Rose k k')
 
--- the journal was opened, and the life over its lists ended; the disk holds the lists that it left
-pub record IsLife (accepts : Accepting) (scene : Scene) (m : ℕ) (told told' : Option History) (left left' held held' : Option (List ℕ)) (r r' w w' k k' status : ℕ) : Type 0 where
-  pub opened : ℕ
+-- a life over the lists of an open log ended: the disk holds the lists that it left, and the records of the opening are the
+-- first in each file that is left
+pub record EndsLog (first : List Record) (accepts : Accepting) (scene : Scene) (m : ℕ) (told' : Option History) (left left' held held' : Option (List ℕ)) (kept : Option Journals) (r r' w w' k k' status : ℕ) : Type 0 where
   pub width : ℕ
   pub lists : Option Journals
-  pub later : k ≤ opened
-  pub ends : EndsLife accepts scene m left left' held held' (kept_in told) lists r r' w w' opened k' status
+  pub ends : EndsLife accepts scene m left left' held held' kept lists r r' w w' k k' status
   pub holds : HoldsLists width k' told' lists
+  pub grows : IfTold told' (LeavesFirst first)
+
+-- the journal was opened, and the life over it ended
+pub record IsLife (accepts : Accepting) (scene : Scene) (m : ℕ) (told told' : Option History) (left left' held held' : Option (List ℕ)) (r r' w w' k k' status : ℕ) : Type 0 where
+  pub opened : ℕ
+  pub later : k ≤ opened
+  pub over : EndsLog (counted_in told) accepts scene m told' left left' held held' (kept_in told) r r' w w' opened k' status
 
 -- it was not opened: the records that count are those of before
 pub record IsUnopened (told told' : Option History) (left left' held held' : Option (List ℕ)) (w w' k k' status : ℕ) : Type 0 where

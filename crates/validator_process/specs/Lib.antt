@@ -6,6 +6,9 @@ pub mod Words
 pub mod Identity
 pub mod Genesis
 pub mod Starting
+pub mod Growing
 pub mod Ending
 pub mod Living
 pub mod FirstStart
+pub mod Handing
+pub mod Staying

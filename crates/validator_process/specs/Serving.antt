@@ -190,3 +190,10 @@ pub record ServesSome (accepts : Accepting) (old new : Around) : Type 0 where
   pub last : Around
   pub serves : Serves accepts exchanges old last
   pub cut : IsCutAt accepts last new
+
+-- the sink did not take an answer that it was handed: the lines before it were served, and its record is kept
+pub record ServesHanded (accepts : Accepting) (old new : Around) : Type 0 where
+  pub exchanges : List Exchange
+  pub last : Around
+  pub serves : Serves accepts exchanges old last
+  pub handed : IsUnwritten accepts last new

@@ -17,7 +17,7 @@ use Rattle.validator_process.specs.declared.reading.Unstarted.TheVariants as uns
 use Rattle.validator_process.specs.declared.stop.Stop.{Stop}
 use Rattle.validator_process.specs.declared.stop.Stop.TheVariants as stop
 use Rattle.validator_process.specs.Genesis.{ready_line, scene_of, started_in}
-use Rattle.validator_process.specs.Serving.{ServesAll, ServesSome, around, ended}
+use Rattle.validator_process.specs.Serving.{ServesAll, ServesHanded, ServesSome, around, ended}
 
 -- a stop that is none of a stream
 abbrev pub IsInside : Stop → Type 0
@@ -80,3 +80,15 @@ pub record SaysFront (line : StartLine) (left left' held held' : Option (List �
 abbrev pub LivesCut : Accepting → Seated → Option (List ℕ) → Option (List ℕ) → Option (List ℕ) → Option (List ℕ) → Option Journals → Option Journals → Type 0
 LivesCut accepts seat left left' held held' kept kept' =
     SaysFront (ready_line seat) left left' held held' kept kept' ⊎ LivesSome accepts seat left left' held held' kept kept'
+
+-- it said so, and the sink did not take an answer that it was handed
+pub record LivesHanded (accepts : Accepting) (seat : Seated) (left left' held held' : Option (List ℕ)) (kept kept' : Option Journals) : Type 0 where
+  pub said : Option (List ℕ)
+  pub pending : List ℕ
+  pub last : Seated
+  pub ready : Appends held said (start_bytes (ready_line seat))
+  pub serves : ServesHanded accepts (around [] left said kept seat) (around pending left' held' kept' last)
+
+abbrev pub LivesUnwritten : Accepting → Seated → Option (List ℕ) → Option (List ℕ) → Option (List ℕ) → Option (List ℕ) → Option Journals → Option Journals → Type 0
+LivesUnwritten accepts seat left left' held held' kept kept' =
+    SaysFront (ready_line seat) left left' held held' kept kept' ⊎ LivesHanded accepts seat left left' held held' kept kept'

@@ -16,6 +16,7 @@ mod living;
 mod looking;
 mod making;
 mod opening;
+mod process_log;
 mod reading;
 mod serving;
 mod starting;
@@ -26,6 +27,6 @@ mod turning;
 mod voting;
 mod words;
 
-pub use living::{made_starts, processes_live};
+pub use living::{head_stays, kept_first, made_starts, processes_live};
 pub use top::validator;
 pub use words::{Task, task_of};

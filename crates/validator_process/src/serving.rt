@@ -11,7 +11,7 @@ ghost use Rattle.world_core.specs.Replies.{Leaves};
 ghost use Rattle.world_core.specs.declared.reply.SeatFault.TheVariants as faults;
 ghost use Rattle.validator_process.specs.declared.stop.Stop.TheVariants as stop;
 ghost use Rattle.validator_process.specs.Moves.{due_for, moved};
-ghost use Rattle.validator_process.specs.Serving.{IsAnswer, IsCutAt, IsHalfSaid, IsRefused, IsServed, Next, ServesAll, ServesSome, around, due_for_request, ended, seat_behind_request};
+ghost use Rattle.validator_process.specs.Serving.{IsAnswer, IsCutAt, IsHalfSaid, IsRefused, IsServed, IsUnwritten, Next, ServesAll, ServesHanded, ServesSome, around, due_for_request, ended, seat_behind_request};
 ghost use Rattle.validator_process.specs.Says.{Says};
 ghost use Rattle.process_lines.specs.Texts.{bad_request_text};
 
@@ -134,6 +134,7 @@ fn serve_line<R: Threads + Sync, D: Keeper, S: Sealer, K: Sink>(
     ensures keep_fault { IsErrOf result stop.KeepFault → Rose (D.failed keeper.old) (D.failed keeper.new) }
     ensures write_fault { IsErrOf result stop.WriteFault → Rose (K.faults sink.old) (K.faults sink.new) }
     ensures only { IsErrOf result stop.ReadFault → ⊥ }
+    ensures handed { IsErrOf result stop.WriteFault → IsHalfSaid (S.accepts sealer.now) (request_of line.now) (K.held sink.old) (K.held sink.new) (D.lists keeper.old) (D.lists keeper.new) validator.old }
 {
     match answer_line(rt, alloc, validator, keeper, sealer, member, line) {
         Ok(text) => say(sink, text.as_slice()),
@@ -173,7 +174,7 @@ fn serve_bad<S: Sealer, D: Keeper, K: Sink>(
 }
 
 /// Reads the next line, and answers it. Answers whether there was one.
-#[tactic(auto, using(crate::proofs::Served::next_line, crate::proofs::Served::next_long, crate::proofs::Served::next_over, crate::proofs::Served::cut_line, crate::proofs::Served::cut_long, crate::proofs::Served::cut_unread))]
+#[tactic(auto, using(crate::proofs::Served::next_line, crate::proofs::Served::next_long, crate::proofs::Served::next_over, crate::proofs::Served::cut_line, crate::proofs::Served::cut_long, crate::proofs::Served::cut_unread, crate::proofs::Served::handed_long))]
 fn serve_next<R: Threads + Sync, D: Keeper, S: Sealer, I: Source, K: Sink>(
     rt: &R,
     alloc: Global,
@@ -197,6 +198,7 @@ fn serve_next<R: Threads + Sync, D: Keeper, S: Sealer, I: Source, K: Sink>(
     ensures read_fault { IsErrOf result stop.ReadFault → Rose (I.faults source.old) (I.faults source.new) }
     ensures keep_fault { IsErrOf result stop.KeepFault → Rose (D.failed keeper.old) (D.failed keeper.new) }
     ensures write_fault { IsErrOf result stop.WriteFault → Rose (K.faults sink.old) (K.faults sink.new) }
+    ensures handed { IsErrOf result stop.WriteFault → IsUnwritten (S.accepts sealer.now) (around reader.old (I.left source.old) (K.held sink.old) (D.lists keeper.old) validator.old) (around reader.new (I.left source.new) (K.held sink.new) (D.lists keeper.new) validator.new) }
 {
     match reader.next(source) {
         Ok(Got::Line(line)) => {
@@ -244,6 +246,7 @@ pub(crate) fn serve<R: Threads + Sync, D: Keeper, S: Sealer, I: Source, K: Sink>
     ensures read_fault { IsErrOf result stop.ReadFault → Rose (I.faults source.old) (I.faults source.new) }
     ensures keep_fault { IsErrOf result stop.KeepFault → Rose (D.failed keeper.old) (D.failed keeper.new) }
     ensures write_fault { IsErrOf result stop.WriteFault → Rose (K.faults sink.old) (K.faults sink.new) }
+    ensures handed { IsErrOf result stop.WriteFault → ServesHanded (S.accepts sealer.now) (around [] (I.left source.old) (K.held sink.old) (D.lists keeper.old) validator.old) (around reader.new (I.left source.new) (K.held sink.new) (D.lists keeper.new) validator.new) }
 {
     for _ in 0..u64::MAX {
         if !serve_next(

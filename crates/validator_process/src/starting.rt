@@ -5,25 +5,29 @@ ghost use Rattle.std.specs.Io.KnownBytes.{Appends, Keeps};
 ghost use Rattle.outside.specs.Causes.{Rose};
 ghost use Rattle.outside.specs.Streams.{AppendsFront};
 ghost use Rattle.outside.specs.Lists.{KeepsJournals};
+ghost use Rattle.disk_log.specs.Keeping.{told_lists};
 ghost use Rattle.world_core.specs.Trusts.{trust_by};
 ghost use Rattle.validator_process.specs.declared.identity.Head.TheVariants as head;
 ghost use Rattle.validator_process.specs.declared.reading.Unstarted.TheVariants as unstarted;
 ghost use Rattle.validator_process.specs.declared.stop.Stop.TheVariants as stop;
-ghost use Rattle.validator_process.specs.Ending.{EndsJournal, EndsLife, EndsText, HasHead, IsHeadRefused, IsSaid, SaysUnopened, SaysUnstarted};
+ghost use Rattle.validator_process.specs.Ending.{EndsJournal, EndsLife, EndsLog, EndsText, HasHead, IsHeadRefused, IsSaid, SaysUnopened, SaysUnstarted};
 ghost use Rattle.validator_process.specs.Genesis.{line_status};
-ghost use Rattle.validator_process.specs.Starting.{LivesCut, LivesWhole, start_bytes};
+ghost use Rattle.validator_process.specs.Growing.{records_in};
+ghost use Rattle.validator_process.specs.Starting.{LivesCut, LivesUnwritten, LivesWhole, start_bytes};
 
 use crate::identity::{Head, genesis_digest, read_head};
 use crate::journal::{Unopened, open_journal};
 use crate::opening::{open_member, ready};
+use crate::process_log::{Opening, ProcessLog};
 use crate::reading::{Unstarted, open_world};
 use crate::serving::{say, serve};
 use crate::stop::Stop;
-use disk_log::Disk;
+use disk_log::{Disk, RunLog};
 use outside::{Failed, Keeper, Sink, Source};
 use process_lines::{LineReader, StartLine, print_start};
 use quorum_core::Sealer;
 use std::alloc::Global;
+use std::marker::Brand;
 use std::thread::Threads;
 use validator_core::Validator;
 use wire_bcs::{OutOfMemory, Seq};
@@ -55,7 +59,7 @@ pub(crate) fn say_start<K: Sink>(alloc: Global, start: &StartLine, sink: &mut K)
 }
 
 /// Says that the member is up, and answers requests to the end of the source.
-#[tactic(auto, using(crate::proofs::Lived::whole, crate::proofs::Lived::some, crate::proofs::Lived::unready, crate::proofs::Lived::unsaid, validator_core::proofs::Settling::keeps_same))]
+#[tactic(auto, using(crate::proofs::Lived::whole, crate::proofs::Lived::some, crate::proofs::Lived::unready, crate::proofs::Lived::unsaid, crate::proofs::Lived::handed, validator_core::proofs::Settling::keeps_same))]
 fn serve_member<R: Threads + Sync, D: Keeper, S: Sealer, I: Source, K: Sink>(
     rt: &R,
     alloc: Global,
@@ -74,6 +78,7 @@ fn serve_member<R: Threads + Sync, D: Keeper, S: Sealer, I: Source, K: Sink>(
     ensures read_fault { IsErrOf result stop.ReadFault → Rose (I.faults source.old) (I.faults source.new) }
     ensures keep_fault { IsErrOf result stop.KeepFault → Rose (D.failed keeper.old) (D.failed keeper.new) }
     ensures write_fault { IsErrOf result stop.WriteFault → Rose (K.faults sink.old) (K.faults sink.new) }
+    ensures handed { IsErrOf result stop.WriteFault → LivesUnwritten (S.accepts sealer.now) validator.old (I.left source.old) (I.left source.new) (K.held sink.old) (K.held sink.new) (D.lists keeper.old) (D.lists keeper.new) }
 {
     let Ok(mut reader) = LineReader::new(alloc) else {
         return Err(Stop::OutOfMemory);
@@ -186,6 +191,27 @@ fn serve_over<R: Threads + Sync, D: Keeper, S: MakesSeals, I: Source, K: Sink>(
     }
 }
 
+/// Serves over the open log of a journal, whose records stay the first. Gives the disk back.
+#[tactic(auto, using(crate::proofs::Ended::log_ends))]
+fn serve_log<R: Threads + Sync, F: Disk, S: MakesSeals, I: Source, K: Sink, O: Opening>(
+    rt: &R,
+    alloc: Global,
+    world: World,
+    log: RunLog<F>,
+    member: u32,
+    sealer: &S,
+    source: &mut I,
+    sink: &mut K,
+) -> (u8, F)
+    requires known { member < length log.counts }
+    requires first { records_in (F.history log.disk) log.end ≡ O.records }
+    ensures { EndsLog O.records (S.accepts sealer.now) world member (F.history result.1) (I.left source.old) (I.left source.new) (K.held sink.old) (K.held sink.new) (told_lists (F.history log.disk) log.end (length log.counts)) (I.faults source.old) (I.faults source.new) (K.faults sink.old) (K.faults sink.new) (F.failed log.disk) (F.failed result.1) result.0 }
+{
+    let mut log: ProcessLog<F, O> = ProcessLog::new(log);
+    let status = serve_over(rt, alloc, world, &mut log, member, sealer, source, sink);
+    (status, log.into_disk())
+}
+
 /// Opens the log of a disk that is a journal of the member, and serves. Gives the disk back.
 #[tactic(auto, using(crate::proofs::Ended::journal_life, crate::proofs::Ended::unopened_ends))]
 fn serve_journal<R: Threads + Sync, F: Disk, S: MakesSeals, I: Source, K: Sink>(
@@ -202,11 +228,9 @@ fn serve_journal<R: Threads + Sync, F: Disk, S: MakesSeals, I: Source, K: Sink>(
     ensures { EndsJournal (S.accepts sealer.now) world member (F.history disk) (F.history result.1) (I.left source.old) (I.left source.new) (K.held sink.old) (K.held sink.new) (I.faults source.old) (I.faults source.new) (K.faults sink.old) (K.faults sink.new) (F.failed disk) (F.failed result.1) result.0 }
 {
     match open_journal(alloc, disk) {
-        Ok(log) => {
-            let mut log = log;
-            let status = serve_over(rt, alloc, world, &mut log, member, sealer, source, sink);
-            (status, log.into_disk())
-        }
+        Ok(log) => serve_log::<R, F, S, I, K, Brand>(
+            rt, alloc, world, log, member, sealer, source, sink,
+        ),
         Err((disk, why)) => {
             drop(world);
             (say_unopened(alloc, why, sink), disk)

@@ -7,7 +7,7 @@ pub returns-in-Err-served : goal.returns-in-Err-served
 returns-in-Err-served g c =
     rw c.status.ensures (lived_cut (g.S.Checker.accepts c.args.sealer.now) c.args.world c.args.member _ _ _ _ _ (g.D.Keeper.lists c.open_member-opened.new.keeper) _ _ _ _ _ _ (g.D.Keeper.failed c.open_member-opened.new.keeper) _
     c.in-Ok.validator c.in-Err-served.stop (Err c.in-Err-served.stop) refl c.in-Ok.ensures.starts c.in-Ok.ensures.lists c.in-Err-served.ensures.cut c.in-Ok.ensures.later
-    c.in-Err-served.ensures.read_fault c.in-Err-served.ensures.write_fault c.in-Err-served.ensures.keep_fault)
+    c.in-Err-served.ensures.read_fault c.in-Err-served.ensures.write_fault c.in-Err-served.ensures.keep_fault c.in-Err-served.ensures.handed)
 
 pub returns-in-Err : goal.returns-in-Err
 returns-in-Err g c =
