@@ -57,6 +57,9 @@ class Launch:
             self.say(f"the sources could not be built; {build.log} says why:")
             print("".join(kept.said_in(build.log).splitlines(True)[:20]), end="", file=sys.stderr)
             return None
+        if came == kept.CHANGED:
+            self.say("the sources changed while they were built: run it again")
+            return None
         return ""
 
     def by_try(self):
