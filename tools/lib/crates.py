@@ -75,6 +75,11 @@ def sum_of_file(path):
         return hashlib.sha256(it.read()).hexdigest()
 
 
+def sum_seen(path):
+    """The checksum of a file, whose bytes are read only if it has changed since they were last read."""
+    return seen.known(kept_answer(path), [path], lambda: sum_of_file(path))
+
+
 def sources_files(name=NAME, top=TOP):
     """The paths of all that a program is made of, and of the list of crates."""
     return [f"{top}/crates.txt", *(f"{top}/{path}" for crate in needed(name, top) for path in files_of(crate, top))]

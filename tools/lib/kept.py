@@ -19,7 +19,7 @@ import threading
 import time
 
 import seen
-from crates import TOP, cache, kit, kit_files, sources_files, sources_seen, sources_sum, sum_of_file
+from crates import TOP, cache, kit, kit_files, sources_files, sources_seen, sources_sum, sum_of_file, sum_seen
 
 # Each case is one more chance to see the program while it stands, for some 40 milliseconds; on a busy machine some are missed.
 CASES, PAUSE = 60, 0.01
@@ -42,7 +42,7 @@ class Build:
     def stands(self):
         """The path of the kept program, if it is whole and made of these sources by this kit; else none."""
         try:
-            if said_in(self.note) != f"UNPROVED\n{self.made_of}program {sum_of_file(self.program)}\n":
+            if said_in(self.note) != f"UNPROVED\n{self.made_of}program {sum_seen(self.program)}\n":
                 return None
             os.utime(self.note)
             return self.program
@@ -165,11 +165,12 @@ def answers_alike(program, status):
 
 
 def forget_old(name):
-    """Removes the builds of a program that nobody has used for a week."""
-    for place in glob.glob(f"{cache()}/unproved/{name}-*"):
+    """Removes the builds of a program that nobody has used for a week, and the answers about files that were found before that."""
+    notes = [f"{place}/note" for place in glob.glob(f"{cache()}/unproved/{name}-*")]
+    for path in [*notes, *glob.glob(f"{cache()}/seen/*")]:
         try:
-            if time.time() - os.path.getmtime(f"{place}/note") > WEEK:
-                shutil.rmtree(place, ignore_errors=True)
+            if time.time() - os.path.getmtime(path) > WEEK:
+                shutil.rmtree(os.path.dirname(path), ignore_errors=True) if path in notes else os.remove(path)
         except OSError:
             continue
 
