@@ -1,4 +1,4 @@
-"""What ./committee and ./inspect do: help, the proved program, or the unproved build of the same sources, which is kept."""
+"""What ./committee, ./inspect and ./validator do: help, the proved program, or the unproved build of the same sources, which is kept."""
 
 import os
 import re
@@ -88,15 +88,19 @@ class Launch:
         at = self.program()
         if isinstance(at, str):
             at = self.ended(at)
-        if at == REFUSED and self.name in READS_SCHEDULE and self.words[:1] not in ([it] for it in NO_SCHEDULE):
+        if at == REFUSED and self.reads_schedule():
             self.say(f"the text is not a schedule. What to change: {self.advice()}")
         return 1 if at is None else at
+
+    def reads_schedule(self):
+        """Whether the program may refuse a schedule, after which something has to be said."""
+        return self.name in READS_SCHEDULE and self.words[:1] not in ([it] for it in NO_SCHEDULE)
 
     def ended(self, program):
         """Becomes the program; or, if something may have to be said after it, starts it and answers its status."""
         sys.stdout.flush()
         words = [program, *self.words]
-        if self.words[:1] in ([it] for it in NO_SCHEDULE):
+        if not self.reads_schedule():
             os.execv(program, words)
         return status_of(words)
 

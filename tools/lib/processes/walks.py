@@ -157,13 +157,16 @@ def start(standing):
         program = it.read()
     for member in standing.honest:
         if not standing.is_up(member):
-            print(standing.start(program, member), flush=True)
+            line = standing.start(program, member)
+            if not line.startswith("ready "):
+                raise Wrong(f"member {member} does not start: {line}")
+            print(line, flush=True)
 
 
 def pay(standing, name, sender, coin, to, amount):
     """Makes a payment."""
     if not amount.isdigit() or int(amount) >= 1 << 64:
-        raise Wrong(f"{amount} is no amount")
+        raise Wrong(f"{amount} is not an amount")
     epoch = int(standing.ask(standing.honest[0], "state").split(" ")[2])
     inputs = [wire.pure(wire.number(int(amount))), wire.pure(wire.address(to))]
     commands = [wire.split(wire.GAS, [wire.argument(0)]), wire.transfer([wire.result(0)], wire.argument(1))]
@@ -225,7 +228,7 @@ def stop(standing):
 def member_of(standing, word):
     """The honest member of this number."""
     if not word.isdigit() or int(word) not in standing.honest:
-        raise Wrong(f"{word} is no honest member of {standing.folder}")
+        raise Wrong(f"{word} is not an honest member of {standing.folder}")
     return int(word)
 
 
