@@ -11,11 +11,11 @@ import kept
 import programs
 
 HELP, VERSION = ([], ["help"], ["--help"], ["-h"]), ["--version"]
-# The commands that read no schedule from standard input: nothing has to be said after them.
+# The commands that read no schedule from standard input.
 NO_SCHEDULE = ("make", "check")
-# The programs that read a schedule from standard input.
+# The programs that read a schedule from standard input, after which the script may have something to say.
 READS_SCHEDULE = ("committee", "inspect")
-REFUSED = 3
+WRONG_WORDS, REFUSED = 2, 3
 HANDED_ON = (signal.SIGINT, signal.SIGTERM, signal.SIGHUP, signal.SIGQUIT, signal.SIGUSR1, signal.SIGUSR2)
 
 
@@ -88,19 +88,17 @@ class Launch:
         at = self.program()
         if isinstance(at, str):
             at = self.ended(at)
-        if at == REFUSED and self.reads_schedule():
+        if at == WRONG_WORDS and self.name in READS_SCHEDULE:
+            self.say(f"./{self.name} help says what the words mean")
+        if at == REFUSED and self.name in READS_SCHEDULE and self.words[:1] not in ([it] for it in NO_SCHEDULE):
             self.say(f"the text is not a schedule. What to change: {self.advice()}")
         return 1 if at is None else at
-
-    def reads_schedule(self):
-        """Whether the program may refuse a schedule, after which something has to be said."""
-        return self.name in READS_SCHEDULE and self.words[:1] not in ([it] for it in NO_SCHEDULE)
 
     def ended(self, program):
         """Becomes the program; or, if something may have to be said after it, starts it and answers its status."""
         sys.stdout.flush()
         words = [program, *self.words]
-        if not self.reads_schedule():
+        if self.name not in READS_SCHEDULE:
             os.execv(program, words)
         return status_of(words)
 
