@@ -6,6 +6,8 @@ import os
 import shutil
 import subprocess
 
+import seen
+
 TOP = os.path.dirname(os.path.dirname(os.path.dirname(os.path.abspath(__file__))))
 NAME = "committee"
 PARTS = ("src", "specs", "proofs", "c")
@@ -73,18 +75,52 @@ def sum_of_file(path):
         return hashlib.sha256(it.read()).hexdigest()
 
 
+def sum_seen(path):
+    """The checksum of a file, whose bytes are read only if it has changed since they were last read."""
+    return seen.known(kept_answer(path), [path], lambda: sum_of_file(path))
+
+
+def sources_files(name=NAME, top=TOP):
+    """The paths of all that a program is made of, and of the list of crates."""
+    return [f"{top}/crates.txt", *(f"{top}/{path}" for crate in needed(name, top) for path in files_of(crate, top))]
+
+
+def sources_seen(name=NAME, top=TOP):
+    """The checksum of the sources, whose bytes are read only if one of them has changed since they were last read."""
+    return seen.known(kept_answer(f"{name} {top}"), sources_files(name, top), lambda: sources_sum(name, top))
+
+
+def kit_files():
+    """The paths of `rt`, of what stands beside it, and of the kit's name; none if this kit has no such file."""
+    at = os.path.dirname(os.path.realpath(shutil.which("rt") or "rt"))
+    named = f"{os.path.dirname(at)}/KIT-ID"
+    return [named, *sorted(it.path for it in os.scandir(at) if it.is_file())] if os.path.isfile(named) else []
+
+
+def kit_asked():
+    """The line that `rt version` says."""
+    return subprocess.run(["rt", "version"], stdin=subprocess.DEVNULL, capture_output=True, text=True).stdout.strip()
+
+
 @functools.lru_cache(maxsize=None)
 def kit():
-    """The one line that names the kit, or none if there is no `rt`."""
+    """The one line that names the kit, or none if there is no `rt`. Of a kit that stands as it did when it was last asked, and whose
+    KIT-ID is that line, it is known; any other is asked."""
     if not shutil.which("rt"):
         return None
-    ran = subprocess.run(["rt", "version"], stdin=subprocess.DEVNULL, capture_output=True, text=True)
-    return ran.stdout.strip() or None
+    files = kit_files()
+    line = seen.known(kept_answer(f"kit {files}"), files, kit_asked) if files else ""
+    return (line if files and line == seen.said_in(files[0]) else kit_asked()) or None
 
 
 def cache():
     """The folder outside the repository where builds are kept."""
     return f"{os.environ.get('XDG_CACHE_HOME') or os.path.expanduser('~/.cache')}/kothaysu"
+
+
+def kept_answer(what):
+    """Where the answer to a question about files is kept."""
+    return f"{cache()}/seen/{hashlib.sha256(what.encode(errors='surrogateescape')).hexdigest()[:16]}"
 
 
 def version(top=TOP):

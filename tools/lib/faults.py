@@ -1,4 +1,4 @@
-"""What is wrong with a text that is no schedule, in words: by the line and the cause that its refusal names."""
+"""What is wrong with a text that is not a schedule, in words: by the line and the cause that its refusal names."""
 
 import difflib
 import re
@@ -42,7 +42,7 @@ def bad_byte(line, lines):
         return f"the file has Windows line ends: a carriage return stands before the line feed, here and in {count} lines in all", "save it with line feeds only, or make such a copy: tr -d '\\r' < FILE > COPY"
     at = next((place for place, byte in enumerate(line.text, 1) if not 32 <= ord(byte) <= 126), 0)
     what = {"\t": ", a tab: write a space for it", "\r": ", a carriage return"}.get(line.text[at - 1], "") if at else ""
-    return "it holds a byte that is no printable ASCII character", f"its character {at} is byte {ord(line.text[at - 1]):02x} in hexadecimal{what}" if at else ""
+    return "it holds a byte that is not a printable ASCII character", f"its character {at} is byte {ord(line.text[at - 1]):02x} in hexadecimal{what}" if at else ""
 
 
 def bad_number(line):
@@ -50,7 +50,7 @@ def bad_number(line):
     great = next((it for it in re.findall(r"\d+", line.text) if int(it) >= 1 << 64), None)
     if zero:
         return f"{zero} has a leading zero"
-    return f"{great} has more than 64 bits" if great else "a number is out of the range of its place: see the limits in docs/SCHEDULES.md"
+    return f"{great} has more than 64 bits" if great else "a number is out of range here: see the limits in docs/SCHEDULES.md"
 
 
 def bad_place(kind, word):
@@ -65,18 +65,18 @@ def bad_command(word, inputs, gas):
     """What is wrong with a word that is to be a command, after these inputs and with this gas coin."""
     name, _, inside = word.partition("(")
     if name not in COMMANDS:
-        return f"the word {short(name)} is {'no command' if '(' in word else 'neither an input nor a command'}{near(name, COMMANDS)}"
+        return f"the word {short(name)} is {'not a command' if '(' in word else 'neither an input nor a command'}{near(name, COMMANDS)}"
     if not inside.endswith(")"):
         return f"the word {short(word)} has no parentheses around its arguments"
     args = inside[:-1].split(",") if inside != ")" or name not in NATIVES else []
     if name == "vec" and args[0] not in VECTORS:
-        return f"the word {short(args[0])} of vec is no kind of object{near(args[0], VECTORS)}" if args[0] else "the kind of object in vec is missing"
+        return f"the word {short(args[0])} of vec is not a kind of object{near(args[0], VECTORS)}" if args[0] else "the kind of object in vec is missing"
     bad = next((it for it in args[name == "vec" :] if not re.fullmatch(ARGUMENT, it)), None)
     if bad is None:
         return None
     if not bad:
         return f"an argument of {name} is missing"
-    return f"the word {short(bad)} of {name} is no argument such as gas, i0, r0 or r0.1{near(bad, ['gas']) or f'; {how_named(bad, inputs, gas)}'}"
+    return f"the word {short(bad)} of {name} is not an argument such as gas, i0, r0 or r0.1{near(bad, ['gas']) or f'; {how_named(bad, inputs, gas)}'}"
 
 
 def how_named(bad, inputs, gas):
@@ -100,18 +100,18 @@ def how_named(bad, inputs, gas):
 
 def bad_block(line):
     """What is wrong with the first bad one of the words of a `tx` line that are to be inputs and then commands."""
-    is_behind, inputs, gas = False, [], line.words[4].partition("@")[0]
+    is_after, inputs, gas = False, [], line.words[4].partition("@")[0]
     for word in line.words[6:]:
         letter, _, rest = word.partition(":")
         if "(" in word or ":" not in word:
-            why, is_behind = bad_command(word, inputs, gas), True
-        elif is_behind:
-            why = f"the word {short(word)} stands behind a command, and inputs stand before all commands"
+            why, is_after = bad_command(word, inputs, gas), True
+        elif is_after:
+            why = f"the word {short(word)} stands after a command, and inputs stand before all commands"
         elif letter not in INPUTS:
-            why = f"the word {short(word)} is no input, which begins with {', '.join(f'{it}:' for it in INPUTS)}"
+            why = f"the word {short(word)} is not an input, which begins with {', '.join(f'{it}:' for it in INPUTS)}"
         else:
             why = bad_place(INPUTS[letter], rest)
-            why = why and f"the word {short(word)} is no input, since {why if rest else f'nothing stands behind {letter}:'}"
+            why = why and f"the word {short(word)} is not an input, since {why if rest else f'nothing stands after {letter}:'}"
             inputs.append(word)
         if why:
             return why
@@ -119,7 +119,7 @@ def bad_block(line):
 
 
 def bad_word(line):
-    """What is wrong with the first word of a line that its form does not allow; none where there are too few words to tell."""
+    """What is wrong with the first word of a line that its form does not allow; none if there are too few words to tell."""
     is_end = line.word == "order" and line.words[2:] and difflib.get_close_matches(line.words[1], ["end"])
     kinds, words = PLACES["order end" if is_end else line.word].split(" "), line.words[1:]
     if len(words) < len(kinds):
@@ -161,12 +161,12 @@ def role_of(line):
     if line.word == "ack":
         return "leave the ! out: only a faulty member's acknowledgement is spoiled"
     if line.word == "end":
-        return "a faulty member says nothing by itself: `order end` makes its End"
+        return "a faulty member states nothing itself: `order end` makes its End"
     return "write fvote for a faulty member, and the other lines for honest ones"
 
 
 def explain_refusal(schedule, number, cause):
-    """What was wrong with a text that is no schedule."""
+    """What was wrong with a text that is not a schedule."""
     if cause == 1:
         return ["The text has more than 16,777,216 bytes.", "    What to change: make several schedules."]
     if cause == 2:
@@ -179,7 +179,7 @@ def explain_refusal(schedule, number, cause):
         3: lambda: bad_byte(line, lines),
         4: lambda: ("it has none of the forms of a line", bad_form(line)),
         5: lambda: ("a number in it is bad", bad_number(line)),
-        6: lambda: ("it belongs to the set-up, and stands behind an event", f"move it above line {first}"),
+        6: lambda: ("it belongs to the set-up, and stands after an event", f"move it above line {first}"),
         7: lambda: ("it is the 65th member", "there may be 64"),
         8: lambda: ("it is the 65,536th transaction", "make several schedules"),
         9: lambda: ("its name is taken", f"line {next((it.number for it in lines if it.number < number and len(it.words) > 1 and it.words[1] == line.words[1] and (it.word == 'tx') == (line.word == 'tx')), 0)} has it"),
@@ -189,4 +189,4 @@ def explain_refusal(schedule, number, cause):
         13: lambda: ("its order is bad", order_of(line, lines)),
     }[cause]()
     shown = line.text if len(line.text) <= 160 else f"{line.text[:157]}..."
-    return ["The text is no schedule, and nothing was run.", f"line {number}: {shown}", f"    {why[0][:1].upper()}{why[0][1:]} (cause {cause}).", f"      What to change: {why[1]}."]
+    return ["The text is not a schedule, and nothing was run.", f"line {number}: {shown}", f"    {why[0][:1].upper()}{why[0][1:]} (cause {cause}).", f"      What to change: {why[1]}."]

@@ -18,12 +18,13 @@ import sys
 import threading
 import time
 
-from crates import TOP, cache, kit, sources_sum, sum_of_file
+import seen
+from crates import TOP, cache, kit, kit_files, sources_files, sources_seen, sources_sum, sum_of_file, sum_seen
 
 # Each case is one more chance to see the program while it stands, for some 40 milliseconds; on a busy machine some are missed.
 CASES, PAUSE = 60, 0.01
 WEEK = 7 * 24 * 3600
-KEPT, NOT_KEPT, NOT_BUILT = "kept", "not kept", "not built"
+KEPT, NOT_KEPT, NOT_BUILT, CHANGED = "kept", "not kept", "not built", "changed"
 PR_SET_PDEATHSIG = 1
 
 
@@ -32,7 +33,8 @@ class Build:
 
     def __init__(self, name, top=TOP):
         self.name, self.top = name, top
-        self.made_of = f"sources {sources_sum(name, top)}\nkit {kit()}\n"
+        self.sources = sources_seen(name, top)
+        self.made_of = f"sources {self.sources}\nkit {kit()}\n"
         key = hashlib.sha256(self.made_of.encode()).hexdigest()[:16]
         self.place = f"{cache()}/unproved/{name}-{key}"
         self.program, self.note, self.log = f"{self.place}/{name}.unproved", f"{self.place}/note", f"{self.place}/log"
@@ -40,7 +42,7 @@ class Build:
     def stands(self):
         """The path of the kept program, if it is whole and made of these sources by this kit; else none."""
         try:
-            if said_in(self.note) != f"UNPROVED\n{self.made_of}program {sum_of_file(self.program)}\n":
+            if said_in(self.note) != f"UNPROVED\n{self.made_of}program {sum_seen(self.program)}\n":
                 return None
             os.utime(self.note)
             return self.program
@@ -60,7 +62,8 @@ class Build:
         os.replace(f"{self.note}.new", self.note)
 
     def make(self):
-        """Builds and keeps the program, unless another run just did. Answers KEPT, NOT_KEPT, or NOT_BUILT if the log says why not."""
+        """Builds and keeps the program, unless another run just did. Answers KEPT, NOT_KEPT, NOT_BUILT if the log says why not, or
+        CHANGED if it cannot be said of which sources the program is."""
         os.makedirs(self.place, exist_ok=True)
         with open(f"{self.place}/lock", "w", encoding="utf-8") as lock:
             fcntl.flock(lock, fcntl.LOCK_EX)
@@ -71,13 +74,18 @@ class Build:
             for left in glob.glob(f"{self.place}/try-*"):
                 shutil.rmtree(left, ignore_errors=True)
             room = f"{self.place}/try-{os.getpid()}"
+            before = self.look()
             try:
-                return self.try_in(room)
+                return self.try_in(room, before) if self.sources == sources_sum(self.name, self.top) else CHANGED
             finally:
                 shutil.rmtree(room, ignore_errors=True)
 
-    def try_in(self, room):
-        """Runs a try on empty cases, and keeps the program that it makes."""
+    def look(self):
+        """How the sources and the kit stand now."""
+        return seen.look([*sources_files(self.name, self.top), *kit_files()])[0]
+
+    def try_in(self, room, before):
+        """Runs a try on empty cases, and keeps the program that it makes, if sources and kit stand as they did before."""
         for part in ("cases", "tmp", "links"):
             os.makedirs(f"{room}/{part}")
         for case in range(CASES):
@@ -87,6 +95,8 @@ class Build:
             words = ["rt", "try", "--cases", f"{room}/cases"]
             tried = subprocess.Popen(words, cwd=f"{self.top}/crates/{self.name}", preexec_fn=dies_with_parent(signal.SIGTERM), **how)
             good = watched(tried, f"{room}/tmp", f"{room}/links", self.log)
+        if self.look() != before:
+            return CHANGED
         if good is None:
             if not statuses_in(self.log):
                 return NOT_BUILT
@@ -155,11 +165,12 @@ def answers_alike(program, status):
 
 
 def forget_old(name):
-    """Removes the builds of a program that nobody has used for a week."""
-    for place in glob.glob(f"{cache()}/unproved/{name}-*"):
+    """Removes the builds of a program that nobody has used for a week, and the answers about files that were found before that."""
+    notes = [f"{place}/note" for place in glob.glob(f"{cache()}/unproved/{name}-*")]
+    for path in [*notes, *glob.glob(f"{cache()}/seen/*")]:
         try:
-            if time.time() - os.path.getmtime(f"{place}/note") > WEEK:
-                shutil.rmtree(place, ignore_errors=True)
+            if time.time() - os.path.getmtime(path) > WEEK:
+                shutil.rmtree(os.path.dirname(path), ignore_errors=True) if path in notes else os.remove(path)
         except OSError:
             continue
 

@@ -38,11 +38,11 @@ VECTORS = ["coin", "cap", "counter", "vault", "key", "limit"]
 NAME, NUMBER, BYTE = "[a-z][a-z0-9_]{0,15}", "[0-9]+", "[0-9a-f]{2}"
 OBJECT = rf"{NAME}(\.{NUMBER})?@{NUMBER}"
 ARGUMENT = rf"gas|i{NUMBER}|r{NUMBER}(\.{NUMBER})?"
-NO_NAME, NO_BYTES = "no name (a lower-case letter, and then at most 15 lower-case letters, digits or _)", "not bytes (two lower-case hexadecimal digits each)"
+NO_NAME, NO_BYTES = "not a name (a lower-case letter, and then at most 15 lower-case letters, digits or _)", "not bytes (two lower-case hexadecimal digits each)"
 # How a word of each kind is written, and what is said of another one.
 KINDS = {
-    "name": (NAME, NO_NAME), "sender": (rf"{NAME}\??", NO_NAME), "number": (NUMBER, "no number"), "bytes": (f"({BYTE})+", NO_BYTES), "any bytes": (f"({BYTE})*", NO_BYTES),
-    "reference": (f"{OBJECT}!?", "no reference such as g0@1"), "object": (OBJECT, "no reference such as c0@1, without a !"), "origin": (f"-|{NAME}", "neither - nor the name of a transaction"),
+    "name": (NAME, NO_NAME), "sender": (rf"{NAME}\??", NO_NAME), "number": (NUMBER, "not a number"), "bytes": (f"({BYTE})+", NO_BYTES), "any bytes": (f"({BYTE})*", NO_BYTES),
+    "reference": (f"{OBJECT}!?", "not a reference such as g0@1"), "object": (OBJECT, "not a reference such as c0@1, without a !"), "origin": (f"-|{NAME}", "neither - nor the name of a transaction"),
 }
 INPUTS = {"n": "number", "a": "name", "x": "any bytes", "o": "reference", "i": "reference", "s": "object", "r": "object"}
 # What the words after the first word of a line are: a kind, or one of the words between bars; and what more may stand there.

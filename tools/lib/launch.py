@@ -1,4 +1,4 @@
-"""What ./committee and ./inspect do: help, the proved program, or the unproved build of the same sources, which is kept."""
+"""What ./committee, ./inspect and ./validator do: help, the proved program, or the unproved build of the same sources, which is kept."""
 
 import os
 import re
@@ -11,11 +11,11 @@ import kept
 import programs
 
 HELP, VERSION = ([], ["help"], ["--help"], ["-h"]), ["--version"]
-# The commands that read no schedule from standard input: nothing has to be said after them.
+# The commands that read no schedule from standard input.
 NO_SCHEDULE = ("make", "check")
-# The programs that read a schedule from standard input.
+# The programs that read a schedule from standard input, after which the script may have something to say.
 READS_SCHEDULE = ("committee", "inspect")
-REFUSED = 3
+WRONG_WORDS, REFUSED = 2, 3
 HANDED_ON = (signal.SIGINT, signal.SIGTERM, signal.SIGHUP, signal.SIGQUIT, signal.SIGUSR1, signal.SIGUSR2)
 
 
@@ -57,6 +57,9 @@ class Launch:
             self.say(f"the sources could not be built; {build.log} says why:")
             print("".join(kept.said_in(build.log).splitlines(True)[:20]), end="", file=sys.stderr)
             return None
+        if came == kept.CHANGED:
+            self.say("the sources changed while they were built: run it again")
+            return None
         return ""
 
     def by_try(self):
@@ -85,6 +88,8 @@ class Launch:
         at = self.program()
         if isinstance(at, str):
             at = self.ended(at)
+        if at == WRONG_WORDS and self.name in READS_SCHEDULE:
+            self.say(f"./{self.name} help says what the words mean")
         if at == REFUSED and self.name in READS_SCHEDULE and self.words[:1] not in ([it] for it in NO_SCHEDULE):
             self.say(f"the text is not a schedule. What to change: {self.advice()}")
         return 1 if at is None else at
@@ -93,7 +98,7 @@ class Launch:
         """Becomes the program; or, if something may have to be said after it, starts it and answers its status."""
         sys.stdout.flush()
         words = [program, *self.words]
-        if self.words[:1] in ([it] for it in NO_SCHEDULE):
+        if self.name not in READS_SCHEDULE:
             os.execv(program, words)
         return status_of(words)
 

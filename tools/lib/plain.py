@@ -3,13 +3,14 @@
 import os
 import signal
 import sys
-import traceback
 
 
 def fault_of(fault):
     """What is said of an exception, in a line."""
     if isinstance(fault, OSError) and fault.strerror:
         return f"{fault.filename}: {fault.strerror}" if fault.filename else fault.strerror
+    import traceback  # here, since a run without a fault has no use for it
+
     at = traceback.extract_tb(fault.__traceback__)[-1]
     said = " ".join(str(fault).split())
     return f"{type(fault).__name__}{f': {said}' if said else ''} ({os.path.basename(at.filename)}, line {at.lineno})"

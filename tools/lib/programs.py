@@ -4,13 +4,11 @@ A proved program counts only while a note beside it says that it was made of the
 now. `note` writes that note, for those who have just proved and built it.
 """
 
-import concurrent.futures
 import errno
 import os
 import re
 import shutil
 import subprocess
-import tempfile
 
 import kept
 from crates import NAME, TOP, files_of, is_program, is_static, kit, names_of_programs, needed, sources_sum, sum_of_file, uses
@@ -74,6 +72,8 @@ class Program:
         """The status and the output of each case, by its name. A case is a name, its words and its text."""
         if not shutil.which(self.words[0]):
             raise FileNotFoundError(errno.ENOENT, "there is no such program", self.words[0])
+        import concurrent.futures  # here, since a launcher has no use for it
+
         with concurrent.futures.ThreadPoolExecutor(len(os.sched_getaffinity(0))) as pool:
             found = pool.map(lambda case: self.answer(*case[1:]), cases)
             return dict(zip([name for name, *_ in cases], found))
@@ -93,6 +93,8 @@ class Unproved:
         self.name = name
 
     def answers(self, cases):
+        import tempfile  # here, since a launcher has no use for it
+
         with tempfile.TemporaryDirectory(prefix=f"{self.name}-cases-") as room:
             for place, (_, words, text) in enumerate(cases):
                 with open(f"{room}/{place}", "wb") as it:

@@ -141,6 +141,11 @@ class Unreadable(Exception):
     """A file that a tool is handed cannot be read, or is not what it should be."""
 
 
+def brief(text):
+    """A text, or its beginning and a sign that it goes on."""
+    return text if len(text) <= 60 else f"{text[:57]}..."
+
+
 def misfit(schedule, report):
     """What in a report is not of this schedule, or nothing. A report may end before its schedule does."""
     if refusal(report):
@@ -152,7 +157,7 @@ def misfit(schedule, report):
     for event in events:
         head = event.said[0].partition(": ")[0].partition(" entry ")[0] if event.said else ""
         if event.said and head != event.text[: len(head)]:
-            return f"line {event.number} of the schedule is `{event.text[:60]}`, and there it says `{event.said[0][:60]}`"
+            return f"line {event.number} of the schedule is `{brief(event.text)}`, and there it says `{brief(event.said[0])}`"
     return None if taken == len(report.splitlines()) else "it has more lines than the schedule has events"
 
 
@@ -170,5 +175,5 @@ def read_files(schedule, report):
         raise Unreadable(f"{fault.filename}: {fault.strerror}") from None
     wrong = misfit(text, said)
     if wrong:
-        raise Unreadable(f"this is no report of {schedule}: {wrong}")
+        raise Unreadable(f"{'standard input' if report == '-' else report} is not a report of {schedule}: {wrong}")
     return text, said

@@ -189,6 +189,10 @@ class Parts(unittest.TestCase):
     def test_some_parts(self):
         self.assertEqual(self.ran([("one", "true"), ("two", "false")], words=["one"]), (0, unittest.mock.ANY))
         self.assertEqual(self.ran([("one", "true")], words=["three"])[0], 2)
+        for words in (["one", "--jobs", "2"], ["--jobs", "2", "one"]):
+            self.assertEqual(self.ran([("one", "true"), ("two", "false")], words=words)[0], 0)
+        for words in (["--jobs"], ["--jobs", "0"], ["--jobs", "one"]):
+            self.assertEqual(self.ran([("one", "true")], words=words)[0], 2)
 
     def test_each_row_names_a_tool(self):
         """Each part is a file that can be run, and those that come before all proofs need no program."""

@@ -6,20 +6,20 @@ from xml.sax.saxutils import escape, quoteattr
 from .running import Plain
 
 
-def shown(data, most=60):
-    """The lines of a text, a little to the right; of a long one only its end."""
+def shown(data, most=60, wide=None):
+    """The lines of a text, a little to the right; of a long text only its end, and of a wide line only its beginning."""
     lines = data.decode("latin-1").split("\n")[:-1] or ["(nothing)"]
     cut = [f"    .. {len(lines) - most} lines before"] if len(lines) > most else []
-    return "\n".join([*cut, *(f"    {line[:200]}" for line in lines[-most:])])
+    return "\n".join([*cut, *(f"    {line if not wide or len(line) <= wide else f'{line[:wide]}...'}" for line in lines[-most:])])
 
 
 def story(finding, complaint=b""):
     """A finding with its schedule and both reports, and what the program wrote to standard error."""
     parts = [f"seed {finding.seed}, profile {finding.profile}: {finding.kind}", finding.said, "the schedule:", shown(finding.schedule)]
     if finding.wanted:
-        parts += [f"wanted, status {finding.wanted.status}:", shown(finding.wanted.report)]
-    parts += [f"had, status {finding.had.status}:", shown(finding.had.report)]
-    return "\n".join([*parts, "and on standard error:", shown(complaint, 20)] if complaint else parts)
+        parts += [f"wanted, status {finding.wanted.status}:", shown(finding.wanted.report, wide=200)]
+    parts += [f"had, status {finding.had.status}:", shown(finding.had.report, wide=200)]
+    return "\n".join([*parts, "and on standard error:", shown(complaint, 20, 200)] if complaint else parts)
 
 
 def save(folder, finding):

@@ -8,6 +8,7 @@ import os
 import select
 import signal
 import subprocess
+import sys
 import time
 
 import process
@@ -71,7 +72,7 @@ class Standing:
             os.close(said)
             with open(f"{self.folder}/{member}.pid", "w", encoding="utf-8") as it:
                 it.write(f"{child.pid}\n")
-            return line_of(heard, member)
+            return line_of(heard, member, f"ended before its first line; this says why: {' '.join(words)}")
         finally:
             os.close(given)
             os.close(heard)
@@ -127,15 +128,15 @@ class Standing:
         return 3 * sum(self.stakes[it] for it in of) > 2 * sum(self.stakes)
 
 
-def line_of(heard, member):
-    """The next whole line of a member's pipe."""
+def line_of(heard, member, ended="ended before it answered: start it, and ask again"):
+    """The next whole line of a member's pipe; or it is said that the member `ended`."""
     text, until = b"", time.monotonic() + HANG
     while not text.endswith(b"\n"):
         if not select.select([heard], [], [], max(0, until - time.monotonic()))[0]:
             raise Wrong(f"member {member} gave no answer in {HANG} seconds")
         more = os.read(heard, 1 << 16)
         if not more:
-            raise Wrong(f"member {member} ended before it answered: start it, and ask again")
+            raise Wrong(f"member {member} {ended}")
         text += more
     return text.decode().rstrip("\n")
 
@@ -157,13 +158,16 @@ def start(standing):
         program = it.read()
     for member in standing.honest:
         if not standing.is_up(member):
-            print(standing.start(program, member), flush=True)
+            line = standing.start(program, member)
+            if not line.startswith("ready "):
+                raise Wrong(f"member {member} does not start: {line}")
+            print(line, flush=True)
 
 
 def pay(standing, name, sender, coin, to, amount):
     """Makes a payment."""
     if not amount.isdigit() or int(amount) >= 1 << 64:
-        raise Wrong(f"{amount} is no amount")
+        raise Wrong(f"{amount} is not an amount")
     epoch = int(standing.ask(standing.honest[0], "state").split(" ")[2])
     inputs = [wire.pure(wire.number(int(amount))), wire.pure(wire.address(to))]
     commands = [wire.split(wire.GAS, [wire.argument(0)]), wire.transfer([wire.result(0)], wire.argument(1))]
@@ -225,7 +229,7 @@ def stop(standing):
 def member_of(standing, word):
     """The honest member of this number."""
     if not word.isdigit() or int(word) not in standing.honest:
-        raise Wrong(f"{word} is no honest member of {standing.folder}")
+        raise Wrong(f"{word} is not an honest member of {standing.folder}")
     return int(word)
 
 
@@ -233,7 +237,7 @@ def walk(words, program):
     """A command of a walk. Answers its status."""
     takes = {"make": 2, "start": 1, "pay": 6, "vote": 3, "finish": 2, "ask": 3, "stop": 1}
     if not words or len(words) - 1 < takes.get(words[0], len(words)):
-        print(USE, end="")
+        print(USE, end="", file=sys.stderr)
         return 2
     try:
         if words[0] == "make":
@@ -252,6 +256,6 @@ def walk(words, program):
         else:
             {"start": start, "pay": pay, "finish": finish, "stop": stop}[words[0]](standing, *words[2 : takes[words[0]] + 1])
     except (Wrong, process.Refused) as fault:
-        print(fault)
+        print(fault, file=sys.stderr)
         return 1
     return 0
