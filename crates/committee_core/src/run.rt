@@ -101,12 +101,10 @@ fn asks_names(event: &Event) -> bool {
 
 /// Whether no line of a schedule can ask for such a name. Takes no memory.
 pub(crate) fn asks_no_names(schedule: &Schedule) -> bool {
-    let mut rest = schedule.events.as_slice();
-    while let [event, after @ ..] = rest {
+    for event in schedule.events.as_slice() {
         if asks_names(event) {
             return false;
         }
-        rest = after;
     }
     true
 }
