@@ -15,6 +15,8 @@ import schedules
 
 # The sections of a member that an epoch change empties.
 OF_EPOCH = ("votes", "locks", "held", "admitted", "waiting", "dropped", "stuck", "acks")
+# The note of a vote at whose record its member stopped.
+UNHEARD = "the vote for {} is in its records, but nobody heard it"
 # The commands that may use up an owned object that they are handed by value: the places of such arguments.
 USING_UP = {"merge": slice(1, None), "vec": slice(1, None), "coin_burn": slice(1, 2), "vault_deposit": slice(1, 2)}
 
@@ -91,6 +93,11 @@ class Run:
     def note(self, member, line, text):
         """Says of a member where the report is silent."""
         self.put(member.name, "notes", f"{line} {text}", {"line": line, "text": text})
+
+    def no_note(self, member, text):
+        """Takes a note away, since the report says by now what it was silent about."""
+        for item in [it for it, note in self.entries(member.name, "notes").items() if note["text"] == text]:
+            self.put(member.name, "notes", item, None)
 
     def weight(self, numbers):
         return sum(self.members[it].stake for it in numbers if it < len(self.members))
@@ -198,12 +205,13 @@ class Run:
         tx, answer, line = event.tx, event.answer, event.number
         if answer.startswith(("voted", "again")):
             self.same_as(tx, [it for it in self.entries(member.name, "votes") if answer.startswith("again")])
+            self.no_note(member, UNHEARD.format(self.name_of(tx)))
             if self.get(member.name, "votes", self.name_of(tx)) is None:
                 self.vote(member, self.name_of(tx), line, answer.split(" ")[1:])
         elif answer == "stopped":
             if self.stopped(event, member):
                 self.vote(member, tx, line, None)
-                self.note(member, line, f"the vote for {tx} is in its records, but nobody heard it")
+                self.note(member, line, UNHEARD.format(tx))
         elif answer != "down":
             self.put("txs", tx, f"refused {member.name}", {"line": line, "text": answer})
             self.tell("tx", tx, line, f"Member {member.name} does not vote for it: {answer}.")
