@@ -585,6 +585,39 @@ def taken_back():
     write("epochs/a-pending-one-is-taken-back", lines, "A transaction that was executed and is in the sequence, but waits there for its origin, was not admitted: the epoch change takes it back.", "turn.turned see.pending")
 
 
+def written_and_merged():
+    """What an epoch writes and then merges away is not there when the next one opens."""
+    lines = ["member 1 honest", "coin g0 alice 9000", "coin g1 alice 700", "tx t1 alice 0 g0@1 2000 o:g1@1 a:alice transfer(i0,i1)"]
+    for name, words in (("t1", None), ("t2", "alice 0 g0@2 2000 o:g1@2 merge(gas,i0)")):
+        lines += [f"tx {name} {words}"] if words else []
+        lines += [f"vote 0 {name}", f"cert {name} 0", f"order {name}", "see 0 1", "run 0 1"]
+    lines += ["show 0", "close 0", "end 0", "order end 0", "see 0 1", "turn 0", "show 0", "tx t3 alice 1 g0@3 2000 o:g1@2 a:bob transfer(i0,i1)", "vote 0 t3"]
+    write("epochs/what-was-written-and-merged-away-stays-away", lines, "A coin that one transaction of the epoch wrote and a later one merged away, both in its last checkpoint, is not there in the next epoch.", "turn.turned show.objects vote.absent")
+
+
+def two_heirs():
+    """What one transaction makes is spent by two others in the same run: each gets its own of the values."""
+    lines = ["member 1 honest", "member 1 honest", "member 9 faulty", "coin g0 alice 9000", "tx t1 alice 0 g0@1 2000 n:2500 n:2600 a:alice split(gas,i0,i1) transfer(r0.0,r0.1,i2)", "fvote 2 t1", "cert t1 2", "send 1 t1", "run 1 1"]
+    for number in range(2):
+        lines += [f"tx u{number} alice 0 t1.{1 - number}@2 1500 a:bob transfer(gas,i0)", f"fvote 2 u{number} t1", f"cert u{number} 2"]
+    lines += [*(f"send 0 {it}" for it in ("t1", "u0", "u1")), *(f"send 1 {it}" for it in ("u0", "u1")), "run 0 1", "run 1 2", "show 0", "show 1", "restart 0", "show 0"]
+    write("execution/two-heirs-in-one-run", lines, "Two coins that one transaction makes are spent by two others in the same run, the second coin first; and again when the run is read back at a start.", "run.done run.rounds run.same restart.records")
+
+
+def created_second():
+    """A vote as bytes for a transaction that pays with the second coin that another one created: its id is of the number 1."""
+    lines = ["member 1 honest", "coin g0 alice 9000", "tx t1 alice 0 g0@1 2000 n:2500 n:2600 a:alice split(gas,i0,i1) transfer(r0.0,r0.1,i2)", "vote 0 t1", "cert t1 0", "send 0 t1", "run 0 1"]
+    sender, to = wire.address_of("alice"), wire.address_of("bob")
+    paid = wire.object_digest((wire.genesis_id(0), 1, ("address", sender), ("coin", 0, 9000)))
+    amounts = tuple(("pure", wire.U64.put(it)) for it in (2500, 2600))
+    made = (0, sender, (wire.genesis_id(0), 1, paid), 2000, (*amounts, ("pure", sender)), (("split", ("gas",), (("input", 0), ("input", 1))), ("transfer", (("nested", 0, 0), ("nested", 0, 1)), ("input", 2))))
+    id = wire.created_id(Transaction(made).digest, 1)
+    for amount in (2600, 2500):
+        digest = wire.object_digest((id, 2, ("address", sender), ("coin", 0, amount)))
+        lines.append(f"raw 0 vote {Transaction((0, sender, (id, 2, digest), 1500, (('pure', to),), (('transfer', (('gas',),), ('input', 0)),))).sealed().hex()}")
+    write("raw/pays-with-what-was-created-second", lines[:-2] + lines[:-3:-1], "The bytes name the second coin that a transaction created, by the id of its number: first with another digest, then with the right one.", "vote.voted vote.wrong-digest name.created")
+
+
 def longest_length():
     """A length of 2147483647, the last that is read, and the next one: the number of inputs, after the fixed fields of a transaction."""
     lines = ["member 1 honest", *(f"raw 0 {call} {'00' * 120}{length}" for call in ("vote", "hold") for length in ("ffffffff07", "8080808008"))]
@@ -737,6 +770,9 @@ def of_several():
 
 def main():
     of_several()
+    written_and_merged()
+    two_heirs()
+    created_second()
     longest_length()
     no_bytes()
     taken_back()
