@@ -236,6 +236,17 @@ def not_taken():
     yield laid("highest-member-of-a-file", "journal.bad-member replay.started", "replay 0 in journal", of_63, opened, 0, "Member 63 is the last that a file may have records of, whatever the schedule's committee.")
 
 
+def told():
+    """Starts of the second member, and over a file of which the last byte is missing."""
+    two = ONE.replace(b"member 1 honest\n", b"member 1 honest\nmember 1 honest\n", 1)
+    opened = "show {}: epoch 0 objects 1\n  g0 v1 alice coin 0 10000\n"
+    yield {"name": "replay/second-member", "rules": "replay.started", "why": "The member that is named is started, and not another one.", "schedule": two, "words": "replay 1", "status": 0, "report": f"restart 1: records 0\n{opened.format(1)}"}
+    yield {
+        "name": "replay/last-gate-missing", "rules": "replay.started", "why": "A record counts if it lies in the file with the gate after it: without that byte the last one does not.",
+        "records": [(0, VOTE), (0, CLOSE)], "cut": 1, "status": 0, "report": f"restart 0: records 1\n{opened.format(0)}",
+    }
+
+
 def kept():
     """What a run leaves in a new file."""
     yield {
@@ -286,7 +297,7 @@ def files_of(case):
         "about": f"{case['why']}\nrules: {case['rules']}\n".encode(),
     }
     if "records" in case:
-        files["journal"] = journal(case["records"])
+        files["journal"] = journal(case["records"])[: -case["cut"] if "cut" in case else None]
     if "after" in case:
         files["journal.after"] = journal(case["after"])
     return files
@@ -297,7 +308,7 @@ def main(words):
         print(__doc__, end="", file=sys.stderr)
         return 2
     wrong = 0
-    for case in [*starts(), *altered(), *kept(), *not_taken()]:
+    for case in [*starts(), *altered(), *told(), *kept(), *not_taken()]:
         os.makedirs(os.path.dirname(f"{HERE}/{case['name']}"), exist_ok=True)
         for ending, text in files_of(case).items():
             path = f"{HERE}/{case['name']}.{ending}"

@@ -13,6 +13,7 @@ import sys
 sys.dont_write_bytecode = True
 HERE = os.path.dirname(os.path.abspath(__file__))
 sys.path.insert(0, f"{os.path.dirname(HERE)}/tools/lib")
+import firsts
 from hunting.plain import wire, world
 from hunting.plain.tx import Transaction
 
@@ -21,7 +22,11 @@ def write(case, lines, about, rules):
     """A case with the report of the plain model. A text may be given as lines or whole."""
     text = lines if isinstance(lines, bytes) else "".join(f"{line}\n" for line in lines).encode("latin-1")
     status, report = world.run(text)
-    parts = {"schedule": text, "report": report, "status": f"{status}\n".encode(), "about": f"{about}\nrules: {rules}\n".encode()}
+    put(case, {"schedule": text, "report": report, "status": f"{status}\n".encode(), "about": f"{about}\nrules: {rules}\n".encode()})
+
+
+def put(case, parts):
+    """Writes the files of a case."""
     for ending, data in parts.items():
         with open(f"{HERE}/{case}.{ending}", "wb") as it:
             it.write(data)
@@ -148,8 +153,8 @@ class Bytes:
         origins = (None,) * len(tx.named) if origins is None else origins
         statement = ("vote", tx.epoch, tx.digest, origins)
         seals = [(it, wire.member_seal(it, statement)) for it in (self.members if members is None else members)]
-        if spoil is not None:
-            seals[spoil] = (seals[spoil][0], wire.spoiled(seals[spoil][1]))
+        for place in spoil if isinstance(spoil, tuple) else () if spoil is None else (spoil,):
+            seals[place] = (seals[place][0], wire.spoiled(seals[place][1]))
         return wire.CERTIFICATE.put((tx.value, origins, tuple(seals)))
 
 
@@ -580,6 +585,39 @@ def taken_back():
     write("epochs/a-pending-one-is-taken-back", lines, "A transaction that was executed and is in the sequence, but waits there for its origin, was not admitted: the epoch change takes it back.", "turn.turned see.pending")
 
 
+def written_and_merged():
+    """What an epoch writes and then merges away is not there when the next one opens."""
+    lines = ["member 1 honest", "coin g0 alice 9000", "coin g1 alice 700", "tx t1 alice 0 g0@1 2000 o:g1@1 a:alice transfer(i0,i1)"]
+    for name, words in (("t1", None), ("t2", "alice 0 g0@2 2000 o:g1@2 merge(gas,i0)")):
+        lines += [f"tx {name} {words}"] if words else []
+        lines += [f"vote 0 {name}", f"cert {name} 0", f"order {name}", "see 0 1", "run 0 1"]
+    lines += ["show 0", "close 0", "end 0", "order end 0", "see 0 1", "turn 0", "show 0", "tx t3 alice 1 g0@3 2000 o:g1@2 a:bob transfer(i0,i1)", "vote 0 t3"]
+    write("epochs/what-was-written-and-merged-away-stays-away", lines, "A coin that one transaction of the epoch wrote and a later one merged away, both in its last checkpoint, is not there in the next epoch.", "turn.turned show.objects vote.absent")
+
+
+def two_heirs():
+    """What one transaction makes is spent by two others in the same run: each gets its own of the values."""
+    lines = ["member 1 honest", "member 1 honest", "member 9 faulty", "coin g0 alice 9000", "tx t1 alice 0 g0@1 2000 n:2500 n:2600 a:alice split(gas,i0,i1) transfer(r0.0,r0.1,i2)", "fvote 2 t1", "cert t1 2", "send 1 t1", "run 1 1"]
+    for number in range(2):
+        lines += [f"tx u{number} alice 0 t1.{1 - number}@2 1500 a:bob transfer(gas,i0)", f"fvote 2 u{number} t1", f"cert u{number} 2"]
+    lines += [*(f"send 0 {it}" for it in ("t1", "u0", "u1")), *(f"send 1 {it}" for it in ("u0", "u1")), "run 0 1", "run 1 2", "show 0", "show 1", "restart 0", "show 0"]
+    write("execution/two-heirs-in-one-run", lines, "Two coins that one transaction makes are spent by two others in the same run, the second coin first; and again when the run is read back at a start.", "run.done run.rounds run.same restart.records")
+
+
+def created_second():
+    """A vote as bytes for a transaction that pays with the second coin that another one created: its id is of the number 1."""
+    lines = ["member 1 honest", "coin g0 alice 9000", "tx t1 alice 0 g0@1 2000 n:2500 n:2600 a:alice split(gas,i0,i1) transfer(r0.0,r0.1,i2)", "vote 0 t1", "cert t1 0", "send 0 t1", "run 0 1"]
+    sender, to = wire.address_of("alice"), wire.address_of("bob")
+    paid = wire.object_digest((wire.genesis_id(0), 1, ("address", sender), ("coin", 0, 9000)))
+    amounts = tuple(("pure", wire.U64.put(it)) for it in (2500, 2600))
+    made = (0, sender, (wire.genesis_id(0), 1, paid), 2000, (*amounts, ("pure", sender)), (("split", ("gas",), (("input", 0), ("input", 1))), ("transfer", (("nested", 0, 0), ("nested", 0, 1)), ("input", 2))))
+    id = wire.created_id(Transaction(made).digest, 1)
+    for amount in (2600, 2500):
+        digest = wire.object_digest((id, 2, ("address", sender), ("coin", 0, amount)))
+        lines.append(f"raw 0 vote {Transaction((0, sender, (id, 2, digest), 1500, (('pure', to),), (('transfer', (('gas',),), ('input', 0)),))).sealed().hex()}")
+    write("raw/pays-with-what-was-created-second", lines[:-2] + lines[:-3:-1], "The bytes name the second coin that a transaction created, by the id of its number: first with another digest, then with the right one.", "vote.voted vote.wrong-digest name.created")
+
+
 def longest_length():
     """A length of 2147483647, the last that is read, and the next one: the number of inputs, after the fixed fields of a transaction."""
     lines = ["member 1 honest", *(f"raw 0 {call} {'00' * 120}{length}" for call in ("vote", "hold") for length in ("ffffffff07", "8080808008"))]
@@ -591,7 +629,150 @@ def no_bytes():
     write("grammar/refused-raw-of-no-bytes", ["member 1 honest", "coin g0 alice 9000", "tx t1 alice 0 g0@1 2000 x: vec(coin)", "raw 0 vote "], "A raw line needs at least one byte; an input x: does not.", "refused.4")
 
 
+# Of several things that a line could name, which one is told: conformance/firsts.py says what each case tells apart.
+
+FIRST = "Of several that apply the first is told"
+
+
+def first_objects():
+    """Each cause of a vote against the gas coin and two inputs, and against two inputs in both orders."""
+    coins = [f"{owner}{number}" for owner in ("spent", "taken", "good", "his", "odd") for number in range(3)]
+    lines = ["member 1 honest", "coin p alice 9000", "coin q alice 9000", *(f"coin {it} {'bob' if it.startswith('his') else 'alice'} 9000" for it in coins), "cap m alice 7", *(f"coin p{number} alice 9000" for number in range(12))]
+    lines += ["tx spends alice 0 p@1 2000 a:bob o:spent0@1 o:spent1@1 o:spent2@1 transfer(i1,i2,i3,i0)", "vote 0 spends", "cert spends 0", "send 0 spends", "run 0 1", "tx takes alice 0 q@1 2000 a:bob o:taken0@1 o:taken1@1 o:taken2@1 transfer(i1,i2,i3,i0)", "vote 0 takes"]
+    faults = {"absent": "o:{}@7", "consumed": "o:{}@1", "digest": "o:{}@1!", "owner": "o:{}@1", "kind": "i:{}@1", "locked": "o:{}@1"}
+    named = {"absent": "good", "consumed": "spent", "digest": "good", "owner": "his", "kind": "odd", "locked": "taken"}
+    for place, (fault, word) in enumerate(faults.items()):
+        gas, *inputs = (f"{named[fault]}{number}" for number in range(3))
+        words = [word.format(it) for it in inputs]
+        paid = "m@1" if fault == "kind" else word.format(gas)[2:]
+        for name, coin, given in ((f"{fault}_gas", paid, words), (f"{fault}_1", f"p{2 * place}@1", words), (f"{fault}_2", f"p{2 * place + 1}@1", words[::-1])):
+            lines += [f"tx {name} alice 0 {coin} 2000 a:bob {' '.join(given)} transfer(gas,i0)", f"vote 0 {name}"]
+    write("votes/first-object-of-a-refusal", lines, f"{FIRST}: of three objects that are absent, consumed, of another digest, owner or kind, or locked, the gas coin, and of two inputs the first of the transaction.", "vote.absent vote.consumed vote.wrong-digest vote.wrong-owner vote.wrong-kind vote.locked")
+
+
+def first_members():
+    """Votes and acknowledgements of faulty members that say nothing, or something else."""
+    lines = ["member 1 honest", *["member 9 faulty"] * 4, "coin g0 alice 9000", "tx t alice 0 g0@1 2000 a:bob transfer(gas,i0)", "cert t 1 2 3 4", "final t 1 2 3 4", "fvote 1 t -", "fvote 2 t -", "cert t 0 1 2 3 4", "cert t 1 2 3 4", "fvote 3 t t", "fvote 4 t - -", "cert t 1 2 3 4"]
+    lines += ["fvote 3 t -", "cert t 1 2 3", "send 0 t", "run 0 1", "ack 1 t", "ack 2 t", "final t 0 1 2 3 4", "final t 1 2 3 4", "ack 3 t !", "ack 4 t !", "final t 1 2 3 4"]
+    write("certificates/first-member-of-several", lines, f"{FIRST}: the first member that made no vote or acknowledgement, and the first that said something else than the first of all.", "cert.no-vote cert.differ final.no-ack final.differ")
+
+
+def first_seals():
+    """Certificates as bytes of which two seals are bad."""
+    it = Bytes((0, 1, 2), [9000])
+    lines = ["member 1 honest"] * 3 + ["coin g0 alice 9000"]
+    for spoils in ((1, 2), (0, 2), (0, 1, 2)):
+        lines.append(f"raw 0 hold {it.certificate(it.tx(0), spoil=spoils).hex()}")
+    write("certificates/first-bad-seal", lines, f"{FIRST}: the first member whose seal is bad.", "send.bad-seal")
+
+
+def first_of_a_fork():
+    """Certificates that consume what two others consume: members that hold those two in both orders."""
+    lines = [*["member 1 honest"] * 4, "member 99 faulty", *(f"coin {it} alice 9000" for it in ("a", "b", "p0", "p1", "p2", "p3"))]
+    made = {"ta": "p0@1 2000 o:a@1", "tb": "p1@1 2000 o:b@1", "ab": "p2@1 2000 o:a@1 o:b@1", "ba": "p3@1 2000 o:b@1 o:a@1", "gas": "p1@1 2000 o:a@1"}
+    for name, words in made.items():
+        lines += [f"tx {name} alice 0 {words} a:bob transfer(i0,i{words.count('o:')})", f"fvote 4 {name}", f"cert {name} 4"]
+    for member, fork in enumerate(("ab", "ba", "gas")):
+        lines += [f"send {member} ta", f"send {member} tb", f"send {member} {fork}"]
+    write("forks/first-version-of-a-fork", [*lines, "send 3 tb", "send 3 ta", "order ab", "see 3 1"], f"{FIRST}: a fork names the first version of the second certificate that an earlier one consumed, whichever of those came first.", "fork.first see.fork")
+
+
+def first_left():
+    """What a run leaves, and the versions that are not there; two members get the certificates in both orders."""
+    lines = ["member 1 honest", "member 1 honest", "member 99 faulty", *(f"coin {it} alice 9000" for it in ("u", "v", "w", "x", "y", "p0", "p1", "p2"))]
+    for name, words in {"uv": "p0@1 2000 o:u@3 o:v@3", "xw": "p1@1 2000 o:x@3 o:w@3", "gas": "p2@5 2000 o:y@3"}.items():
+        lines += [f"tx {name} alice 0 {words} a:bob transfer(gas,i{words.count('o:')})", f"fvote 2 {name}", f"cert {name} 2"]
+    for member, order in enumerate((("uv", "xw", "gas"), ("gas", "xw", "uv"))):
+        lines += [*(f"send {member} {it}" for it in order), f"run {member} 1"]
+    write("execution/first-absent-version", lines, f"{FIRST}: of versions that are not there; and what is left comes in the order of its certificates.", "run.absent")
+
+
+def first_origins():
+    """A sequence that begins with what waits: of two origins the first is told, and what is free then comes in the order of the sequence, again and again from its beginning."""
+    lines = ["member 1 honest", "coin g0 alice 10000", "coin g1 alice 10000", "tx t0 alice 0 g0@1 2000 n:3000 n:3000 a:alice split(gas,i0,i1) transfer(r0.0,r0.1,i2)", "tx t1 alice 0 g1@1 2000 n:2500 n:2500 n:2500 a:alice split(gas,i0,i1,i2) transfer(r0.0,r0.1,r0.2,i3)"]
+    for name in ("t0", "t1"):
+        lines += [f"vote 0 {name}", f"cert {name} 0", f"send 0 {name}"]
+    lines += ["run 0 1", "tx t2 alice 0 t0.0@2 1200 n:300 n:1200 n:100 a:alice split(gas,i0,i1,i2) transfer(r0.0,r0.1,r0.2,i3)", "vote 0 t2", "cert t2 0", "send 0 t2", "run 0 1"]
+    made = {"ta": "t1.0@2 1100 o:t2.0@3", "tb": "t2.1@3 1100 o:t1.1@2", "x": "t0.1@2 1100", "y": "t1.2@2 1100 o:t2.2@3"}
+    for name, words in made.items():
+        lines += [f"tx {name} alice 0 {words} a:bob transfer(gas,i{words.count('o:')})", f"vote 0 {name}", f"cert {name} 0"]
+    lines += [f"order {it}" for it in ("ta", "tb", "t2", "x", "y", "t1", "t0", "commit")]
+    write("sequence/first-origin-of-several", [*lines, "see 0 9", "run 0 1"], f"{FIRST}: of origins that are not admitted, in the order of the objects; what no longer waits is admitted from the beginning of the sequence on, again after each.", "see.pending see.admitted checkpoint.cut")
+
+
+def first_full():
+    lines = ["member 1 honest", "writers 1", *(f"coin g{number} alice 9000" for number in range(3)), "counter c0 5", "counter c1 5"]
+    for number, (one, other) in enumerate((("c0", "c1"), ("c0", "c1"), ("c1", "c0"))):
+        lines += [f"tx t{number} alice 0 g{number}@1 2000 n:1 s:{one}@1 s:{other}@1 counter_add(i1,i0) counter_add(i2,i0)", f"vote 0 t{number}", f"cert t{number} 0", f"order t{number}"]
+    write("sequence/first-full-object-of-several", [*lines, "see 0 9"], f"{FIRST}: of objects that have as many writers as the limit allows, in the order of the inputs.", "writers.deferred")
+
+
+def first_waiting():
+    """Certificates that came in one order and stand in the sequence in another, at two members."""
+    lines = ["member 1 honest", "member 1 honest", "member 9 faulty", *(f"coin g{number} alice 9000" for number in range(4))]
+    for number in range(4):
+        lines += [f"tx t{number} alice 0 g{number}@1 2000 a:bob transfer(gas,i0)", f"fvote 2 t{number}", f"cert t{number} 2"]
+    lines += [*(f"send 0 t{number}" for number in range(4)), *(f"send 1 t{number}" for number in (3, 2, 1, 0)), "close 0", "close 1", "end 0", "end 1"]
+    lines += [*(f"order t{number}" for number in (2, 0, 3, 1)), "order end 2", "see 0 9", "see 1 9", "turn 0", "turn 1"]
+    write("epochs/first-that-is-waited-for", lines, f"{FIRST}: an End waits for the certificate that came first, a turn for the one that was admitted first.", "end.waits turn.waits")
+
+
+def first_reverted():
+    """Members that executed in another order than certificates came."""
+    lines = ["member 1 honest", "member 1 honest", "member 9 faulty", "coin g0 alice 9000", "coin g1 alice 9000"]
+    for name, words in {"t0": "alice 0 g0@1", "t1": "alice 0 g1@1"}.items():
+        lines += [f"tx {name} {words} 2000 a:bob transfer(gas,i0)", f"fvote 2 {name}", f"cert {name} 2", f"send 1 {name}", "run 1 1"]
+    for name, words in {"u0": "bob 0 g0@2", "u1": "bob 0 g1@2"}.items():
+        lines += [f"tx {name} {words} 2000 a:carol transfer(gas,i0)", f"fvote 2 {name} t{name[1]}", f"cert {name} 2", f"send 1 {name}"]
+    lines += ["run 1 1", *(f"send 0 {it}" for it in ("u1", "u0", "t1", "t0")), "run 0 1", "order end 2", "see 0 1", "see 1 1", "turn 0", "turn 1"]
+    write("epochs/what-was-executed-first-is-taken-back-first", lines, "What a turn takes back comes in the order in which it was executed, and not in that in which certificates came.", "turn.reverted run.rounds")
+
+
+def first_holders():
+    """Two members that hold other objects in one version, or the same object from two transactions."""
+    lines = ["member 1 honest", "member 1 honest", "member 9 faulty", *(f"coin g{number} alice 9000" for number in range(3))]
+    made = {"a0": "g0@1 2000 n:5 a:bob", "a1": "g0@1 2000 n:7 a:bob", "b0": "g1@1 2000 n:5 a:bob", "b1": "g1@1 2000 n:5 a:carol"}
+    for name, words in made.items():
+        lines += [f"tx {name} alice 0 {words} split(gas,i0) transfer(r0,i1)", f"fvote 2 {name}", f"cert {name} 2", f"send {name[1]} {name}"]
+    lines += ["run 0 1", "run 1 1", "tx c alice 0 g0@2 2000 a:bob transfer(gas,i0)", "vote 0 c", "vote 1 c", "tx d alice 0 g1@2 2000 a:bob transfer(gas,i0)", "vote 1 d", "fvote 2 d", "vote 0 d", "fvote 2 d"]
+    lines += ["tx e alice 0 g2@1 2000 a:bob transfer(gas,i0)", "fvote 2 e", "cert e 2", "ack 2 e", "send 1 e", "run 1 1", "ack 1 e", "final e 1 2", "ack 2 e", "final e 1 2", "stop 0 lost", "close 0", "tx f alice 0 g0@2 2000 a:dave transfer(gas,i0)", "vote 1 f"]
+    write("faulty/what-the-first-member-holds", lines, "A reference, a faulty member's vote and its acknowledgement take what the lowest-numbered honest member has that can say it: of two members that hold other versions, voted with other origins, or of which one has not executed or is down.", "fvote.copies ack.faulty")
+
+
+def first_texts():
+    write("grammar/refused-first-of-two-lines", ["member 1 honest", "coin g0 alice 5", "show 1", "show", "run 0 17"], f"{FIRST}: the first bad line, though a later one has a lesser cause.", "text.first refused.11")
+
+
+def first_commands():
+    lines = ["member 1 honest", "coin g0 alice 9000", "coin g1 alice 9000"]
+    for number, commands in enumerate(("split(gas,i0) counter_new(i1)", "counter_new(i1) split(gas,i0)")):
+        lines += [f"tx t{number} alice 0 g{number}@1 2000 n:9000 x:00 {commands}", f"vote 0 t{number}", f"cert t{number} 0", f"send 0 t{number}"]
+    write("blocks/first-command-at-fault", [*lines, "run 0 1"], f"{FIRST}: of two commands at fault, whichever cause is the lesser.", "cause.8 cause.3")
+
+
+def first_sealers():
+    """Members that built two checkpoints, one and none; the chain of the first under the seals of the others."""
+    lines = ["member 1 honest"] * 4 + ["member 9 faulty", "coin g0 alice 9000", "coin g1 alice 9000"]
+    for number in range(2):
+        lines += [f"tx t{number} alice 0 g{number}@1 2000 a:bob transfer(gas,i0)", f"fvote 4 t{number}", f"cert t{number} 4", f"order t{number}", "order commit"]
+    lines += ["see 0 4", "run 0 1", "see 1 2", "run 1 1", "see 3 4", "run 3 1"]
+    text = "".join(f"{line}\n" for line in lines).encode()
+    said = firsts.note_sealed(firsts.Firsts(), text, 0, [0, 1, 2, 3])
+    about = f"{FIRST}: the first of the members that has not built each checkpoint, and the first checkpoint without its seal."
+    put("inspect/chain-without-a-seal", {"schedule": text, "report": f"{said}\n".encode(), "status": b"8\n", "about": f"{about}\nrules: inspect.chain\n".encode(), "args": b"chain\n0\n0,1,2,3\n", "program": b"inspect\n"})
+
+
+def of_several():
+    """The cases of conformance/firsts.py."""
+    for writes in (first_objects, first_members, first_seals, first_of_a_fork, first_left, first_origins, first_full, first_waiting, first_reverted, first_holders, first_texts, first_commands, first_sealers):
+        writes()
+
+
 def main():
+    of_several()
+    written_and_merged()
+    two_heirs()
+    created_second()
     longest_length()
     no_bytes()
     taken_back()

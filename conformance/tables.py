@@ -1,13 +1,13 @@
 #!/usr/bin/env python3
-"""Which causes, limits and pairs of causes the cases show, from the tables of the manual, and which they do not.
+"""Which causes, limits, pairs of causes and first ones of several the cases show, from the tables of the manual, and which they do not.
 
 usage: conformance/tables.py            says for each table how many of it the cases have, and names what is missing
        conformance/tables.py --missing  says only what is missing and could be there; the exit status is 1 if something is
 
 The orders are those that docs/REPORTS.md, docs/SCHEDULES.md and docs/COMMANDS.md state. A pair is shown where, in some case, both apply and
 the first is told: the plain model of the rules runs each case of `run`, and is asked of each refusal what else would have applied. It reads
-the chains of `check` too, and what a case of `check` wants must be what the model says. Answers, causes and statuses are those that
-tools/hunt counts.
+the chains of `check` too, and what a case of `check` wants must be what the model says. Which of several things a line names is in
+conformance/firsts.py. Answers, causes and statuses are those that tools/hunt counts.
 """
 
 import os
@@ -19,10 +19,12 @@ sys.dont_write_bytecode = True
 HERE = os.path.dirname(os.path.abspath(__file__))
 TOP = os.path.dirname(HERE)
 sys.path.insert(0, f"{TOP}/tools/lib")
+import firsts
 from hunting import coverage, running
 from hunting.plain import chain, member, text, tx, wire, world
 from hunting.plain.block import MOST, Block, Halt, Item, is_of_kind
 from hunting.plain.natives import NATIVES
+from hunting.plain.sequence import Admission
 
 
 def read(path):
@@ -61,10 +63,10 @@ def orders():
 
 
 class Watch:
-    """What the cases show: pairs by what they are of, and values at limits."""
+    """What the cases show: pairs by what they are of, values at limits, and which of several is told."""
 
     def __init__(self):
-        self.pairs, self.limits, self.came = {}, set(), Counter()
+        self.pairs, self.limits, self.came, self.firsts, self.is_quiet = {}, set(), Counter(), firsts.Firsts(), False
 
     def note(self, of, applying):
         """These apply, in their order: the first is told."""
@@ -112,10 +114,15 @@ def refusals_of_hold(it, data):
     found += ["wrong epoch"] * (made.epoch != it.epoch) + ["again"] * (made.digest in it.held) + ["closed"] * it.closed
     found += ["shape"] * (tx.fault_of(made) is not None or len(origins) != len(made.named))
     found += ["order"] * (numbers != sorted(set(numbers)) or len(known) < len(numbers)) + ["short stake"] * (3 * sum(it.committee[number] for number in set(known)) <= 2 * total)
-    statement = ("vote", made.epoch, made.digest, origins)
-    found += ["bad seal"] * any(seal != wire.member_seal(number, statement) for number, seal in seals)
+    found += ["bad seal"] * bool(bad_seals(made, origins, seals))
     others = [held for held in it.held.values() if held.tx.digest != made.digest]
     return found + ["fork"] * any(key in held.tx.consumed for held in others for key in made.consumed)
+
+
+def bad_seals(made, origins, seals):
+    """The members of a certificate whose seals are not accepted."""
+    statement = ("vote", made.epoch, made.digest, origins)
+    return [number for number, seal in seals if seal != wire.member_seal(number, statement)]
 
 
 class Watched(world.World):
@@ -128,9 +135,11 @@ class Watched(world.World):
     def hand_vote(self, head, number, data):
         seat = self.seats[number]
         if seat.member:
-            self.watch.note("vote", refusals_of_vote(seat.member, data))
+            refusals = refusals_of_vote(seat.member, data)
+            self.watch.note("vote", refusals)
             try:
                 made = tx.Transaction(wire.decoded(wire.SIGNED, data)[0])
+                firsts.note_vote(self.watch.firsts, seat.member, made, next(iter(refusals), None), applies)
                 self.watch.note("shapes", [str(it) for it in tx.faults_of(made)])
                 self.note_sizes(made)
             except wire.Malformed:
@@ -146,7 +155,11 @@ class Watched(world.World):
 
     def hand_certificate(self, head, number, data):
         if self.seats[number].member:
-            self.watch.note("send", refusals_of_hold(self.seats[number].member, data))
+            refusals = refusals_of_hold(self.seats[number].member, data)
+            self.watch.note("send", refusals)
+            if refusals[:1] == ["bad seal"]:
+                value, *more = wire.decoded(wire.CERTIFICATE, data)
+                firsts.note_seals(self.watch.firsts, bad_seals(tx.Transaction(value), *more))
         return super().hand_certificate(head, number, data)
 
     def do_send(self, number, name):
@@ -162,7 +175,10 @@ class Watched(world.World):
     def collected(self, stated, members, thing):
         had = [stated[it] for it in members if it in stated]
         missing, short = len(had) < len(members), 3 * sum(self.stakes[it] for it in members) <= 2 * sum(self.stakes)
-        self.watch.note("cert" if thing == "vote" else "final", [f"no {thing}"] * missing + ["short"] * short + ["differ"] * any(it != had[0] for it in had))
+        of = "cert" if thing == "vote" else "final"
+        self.watch.note(of, [f"no {thing}"] * missing + ["short"] * short + ["differ"] * any(it != had[0] for it in had))
+        if missing or not short:
+            firsts.note_collected(self.watch.firsts, of, thing, stated, members)
         return super().collected(stated, members, thing)
 
     def of_member(self, of, number, causes):
@@ -188,15 +204,28 @@ class Watched(world.World):
 
     def do_end(self, number):
         self.of_member("end", number, lambda it: [("not closed", not it.closed), ("waits", any(not held.placed for held in it.held.values()))])
+        firsts.note_end(self.watch.firsts, self.seats[number].member)
         return super().do_end(number)
 
     def do_turn(self, number):
+        firsts.note_turn(self.watch.firsts, self.seats[number].member)
         self.of_member("turn", number, lambda it: [("not ended", not it.ended), ("waits", any(not it.is_done(digest) for digest in it.admission.admitted))])
         return super().do_turn(number)
 
+    def reference(self, it, version, spoiled):
+        firsts.note_reference(self.watch.firsts, self, self.id_of(it), version)
+        return super().reference(it, version, spoiled)
+
+    def do_fvote(self, number, name, words):
+        if not words:
+            firsts.note_copied_vote(self.watch.firsts, self.roles, self.votes.get(self.made[name].tx.digest, {}))
+        return super().do_fvote(number, name, words)
+
     def do_ack(self, number, name, spoiled):
-        if self.seats[number]:
-            digest = self.made[name].tx.digest
+        digest = self.made[name].tx.digest
+        if self.seats[number] is None:
+            firsts.note_copied_effects(self.watch.firsts, self, digest)
+        else:
             self.of_member("ack", number, lambda it: [("not executed", not it.is_executed([digest]))])
         return super().do_ack(number, name, spoiled)
 
@@ -205,7 +234,8 @@ def watched_take(watch, take):
     """The taking of an argument, which notes all causes that apply to it."""
 
     def watched(self, argument, mode, kind=None, gives_gas=False):
-        watch.note("argument", causes_of(self, argument, mode, kind, gives_gas))
+        if not watch.is_quiet:
+            watch.note("argument", causes_of(self, argument, mode, kind, gives_gas))
         return take(self, argument, mode, kind, gives_gas)
 
     return watched
@@ -331,18 +361,30 @@ def causes_of_text(watch, data):
         event, cause = reader.line(clean)
         causes = sorted({*([3] if clean != line else []), *([cause] if cause else []), *reader.causes})
         watch.note("refused", [str(it) for it in causes])
+        firsts.note_text(watch.firsts, reader, lines, found.line, found.cause)
         watch.limits.add(("text", line.decode("latin-1"), found.cause))
     else:
         watch.note("refused", [str(found.cause)])
     return False
 
 
+def watching(watch):
+    """What the calls of the model are replaced by, so that they note what they do: the class, the name and the call."""
+    originals = {it: getattr(Block, it) for it in ("run", "take", "split", "merge", "transfer", "vec", "call")}
+    yield Block, "run", firsts.watched_block(watch, originals)
+    yield Block, "take", watched_take(watch, originals["take"])
+    yield from ((Block, name, watched_run(watch, name, originals[name])) for name in list(originals)[2:])
+    calls = {it: getattr(member.Member, it) for it in ("run", "built", "see", "turn", "take")}
+    yield from ((member.Member, name, call) for name, call in firsts.watched_member(watch.firsts, calls).items())
+    yield Admission, "settle", firsts.watched_settle(watch.firsts, Admission.settle)
+
+
 def watched():
-    """What all cases show."""
-    watch, taken, originals = Watch(), set(), {it: getattr(Block, it) for it in ("take", "split", "merge", "transfer", "vec", "call")}
-    Block.take = watched_take(watch, originals["take"])
-    for name in list(originals)[1:]:
-        setattr(Block, name, watched_run(watch, name, originals[name]))
+    """What all cases show, and the lines of those that are schedules."""
+    watch, taken = Watch(), set()
+    replaced = [(of, name, getattr(of, name), call) for of, name, call in watching(watch)]
+    for of, name, _, call in replaced:
+        setattr(of, name, call)
     for _, data, report in cases():
         watch.came.update(coverage.count(data, report))
         if causes_of_text(watch, data):
@@ -350,15 +392,17 @@ def watched():
             it = Watched(watch)
             for event in text.read(data):
                 it.step(event)
-    for name, original in originals.items():
-        setattr(Block, name, original)
-    for _, stakes, _, data, _ in chains():
+    for of, name, original, _ in replaced:
+        setattr(of, name, original)
+    for _, stakes, digest, data, _ in chains():
         try:
-            bad = chain.first_bad(stakes, wire.decoded(chain.CHAIN, data))
+            links = wire.decoded(chain.CHAIN, data)
         except wire.Malformed:
-            bad = None
+            continue
+        bad = chain.first_bad(stakes, links)
         if bad:
             watch.note("check", [str(it) for it in bad[1]])
+        firsts.note_chain(watch.firsts, stakes, digest, links)
     return watch, taken
 
 
@@ -468,12 +512,19 @@ def answers(watch):
     return [f"`{name}` is in no case" for name in names if not watch.came[name]], len(names)
 
 
-def misread():
-    """The cases of `check` of which the plain model says something else."""
+def misread(watch):
+    """The cases of `check` and of `inspect chain` of which the plain model says something else."""
     for name, stakes, digest, data, wanted in chains():
         had = chain.check(stakes, digest, data)
         if had != wanted:
             yield f"{name}: the plain model says {had}, and the case {wanted}"
+    for name in sorted(it.removesuffix(".args") for it in os.listdir(f"{HERE}/inspect") if it.endswith(".args")):
+        what, *words = read(f"{HERE}/inspect/{name}.args").decode().split()
+        if what == "chain":
+            said = firsts.note_sealed(watch.firsts, read(f"{HERE}/inspect/{name}.schedule"), int(words[0]), [int(it) for it in words[1].split(",")])
+            status, report = (b"8\n", f"{said}\n".encode()) if said else (b"0\n", read(f"{HERE}/inspect/{name}.report"))
+            if (status, report) != (read(f"{HERE}/inspect/{name}.status"), read(f"{HERE}/inspect/{name}.report")):
+                yield f"inspect/{name}: the plain model says {said}"
 
 
 def main(words):
@@ -481,14 +532,16 @@ def main(words):
         print(__doc__, end="", file=sys.stderr)
         return 2
     watch, taken = watched()
-    (missing, count), (unseen, named), wrong = limits(watch, taken), answers(watch), list(misread())
+    (missing, count), (unseen, named), wrong = limits(watch, taken), answers(watch), list(misread(watch))
+    untold = list(watch.firsts.missing())
     lines = [f"answers, causes and statuses: {named - len(unseen)} of {named}", f"limits: {count - len(missing)} of {count}", *(f"limit `{name}`: not tried: {why}" for name, why in TOO_GREAT.items())]
     for of, pairs in wanted_pairs().items():
         absent = [it for it in pairs if it not in watch.pairs.get(of, ())]
         without = NOT_BOTH.get(of, {})
         lines.append(f"pairs of {of}: {len(pairs) - len(absent)} of {len(pairs)}{f'; {len(without)} cannot come, or none is made' if without else ''}")
         missing += [f"pair of {of}: `{one}` before `{other}` is in no case" for one, other in absent]
-    missing += [*unseen, *wrong]
+    lines.append(f"first of several: {firsts.count() - len(untold)} of {firsts.count()}")
+    missing += [*untold, *unseen, *wrong]
     print("\n".join(missing if words else [*lines, *missing]))
     return 1 if words and missing else 0
 

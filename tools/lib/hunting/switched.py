@@ -13,30 +13,29 @@ from collections import namedtuple
 
 # The number of the edit that a run has; and a file, to which a run adds the numbers of all edits whose functions it called.
 VARIABLE, REACHED = "KOTHAYSU_EDIT", "KOTHAYSU_REACHED"
+# It is written when a function is first called: a program that can start threads ends without the destructors of C.
 CHOICE = f"""#include <stdio.h>
 #include <stdlib.h>
 static unsigned char asked[1024];
 static unsigned chosen;
 static int known;
+static void tell(unsigned number) {{
+    const char *path = getenv("{REACHED}");
+    FILE *file = path ? fopen(path, "a") : NULL;
+    if (!file)
+        return;
+    fprintf(file, "%u\\n", number);
+    fclose(file);
+}}
 unsigned kothaysu_edit(unsigned number) {{
     if (!known) {{
         const char *text = getenv("{VARIABLE}");
         chosen = text ? (unsigned)atoi(text) : 0;
         known = 1;
     }}
-    asked[number % 1024] = 1;
+    if (!__atomic_exchange_n(&asked[number % 1024], 1, __ATOMIC_RELAXED))
+        tell(number);
     return number == chosen;
-}}
-__attribute__((destructor)) static void tell(void) {{
-    const char *path = getenv("{REACHED}");
-    FILE *file = path ? fopen(path, "a") : NULL;
-    if (!file)
-        return;
-    for (int number = 0; number < 1024; number++)
-        if (asked[number])
-            fprintf(file, "%d ", number);
-    fprintf(file, "\\n");
-    fclose(file);
 }}
 """
 ASKS = """
