@@ -17,22 +17,22 @@ OF_VOTES = "Within one of them the first object counts, the gas coin before the 
 COLLECTED = ("the last", "beside the member before it")
 FIRSTS = {
     **{f"vote {it}": (OF_VOTES, OBJECTS) for it in (*CAUSES, "locked")},
-    "object of a vote": ("The first line that applies is the answer, in this order:", [f"{other} of an earlier object before {one}" for place, one in enumerate(CAUSES) for other in (*CAUSES[place + 1 :], "locked")]),
-    "cert no vote": ("the first such member is named", ["the last"]),
+    "object of a vote": ("The answer is the first line that applies, in this order:", [f"{other} of an earlier object before {one}" for place, one in enumerate(CAUSES) for other in (*CAUSES[place + 1 :], "locked")]),
+    "cert no vote": ("member M, the first such, made no vote", ["the last"]),
     "cert differ": ("the first member, A, and this one, B, named other origins", COLLECTED),
-    "final no ack": ("the first such member is named", ["the last"]),
+    "final no ack": ("member M, the first such, has not acknowledged", ["the last"]),
     "final differ": ("the first member, A, and this one, B, acknowledged other effects", COLLECTED),
     "send bad seal": ("of several such members the first is told", ["the last"]),
     "fork": ("The fork names the first version that the second certificate consumes and an earlier one consumed", (*OBJECTS, "the certificate that came first")),
-    "run executed": ("in rounds: what is ready, in the order in which certificates came, then what that made ready", ("the last", "as soon as it is ready", "the least digest")),
-    "run left": ("then what is left, in the order in which certificates came", ("the last", "the least digest")),
+    "run executed": ("in rounds: what was ready, in the order in which certificates came, then what that made ready", ("the last", "as soon as it is ready", "the least digest")),
+    "run left": ("then what is left (`absent`, `unfit`), in the order in which certificates came", ("the last", "the least digest")),
     "run absent": ("of several such versions the first is told", ["the last"]),
     "see pending": ("T waits in the sequence for T2, the first of its origins that is not admitted", ("the last", "the least digest", "the first in the sequence")),
     "see deferred": ("OBJ is the first such object of T", ("the last", "the least id", "the greatest id")),
     "see admitted": ("again and again, the first in the sequence that no longer waits for anything", ("the order of the sequence", "one pass after another", "the least digest")),
     "checkpoint": ("becomes a checkpoint, in the order of admission", ("the order in which certificates came", "the order of execution", "the least digest")),
-    "end waits": ("T is the first such, in the order in which certificates came", ("the last", "the least digest")),
-    "turn waits": ("T is the first such, in the order of admission", ("the last", "the order in which certificates came", "the least digest")),
+    "end waits": ("T is the first such certificate that came", ("the last", "the least digest")),
+    "turn waits": ("T is the first such in the order of admission", ("the last", "the order in which certificates came", "the least digest")),
     "turn reverted": ("the oldest comes first", ("the newest first", "the order in which certificates came", "the least digest")),
     "reference": ("at the lowest-numbered honest member that is up and holds that version", ("the last", "the lowest-numbered honest member")),
     "fvote": ("the last vote of the lowest-numbered honest member that voted for T", ("the last", "the member that voted first")),
@@ -347,12 +347,17 @@ def note_chain(firsts, stakes, digest, links):
 
 
 def note_sealed(firsts, data, number, members):
-    """What `inspect chain` says of the first of these members that has not built each checkpoint that this one has; none if all have."""
+    """What `inspect chain` says if this one is not up, or of the first of these members that has not built each checkpoint that it has; none
+    if all have."""
     it = world.World()
     for event in text.read(data):
         it.step(event)
-    built = [seat.member.checkpoints if seat and seat.member else 0 for seat in it.seats]
-    lacking = [(place, built[place]) for place in members if built[place] < built[number]]
+    if it.seats is None:
+        it.open()
+    built = {place: seat.member.checkpoints for place, seat in enumerate(it.seats) if seat and seat.member}
+    if number not in built:
+        return f"inspect chain {number}: no honest member that is up"
+    lacking = [(place, built.get(place, 0)) for place in members if built.get(place, 0) < built[number]]
     if not lacking:
         return None
     firsts.note("inspect chain", lacking[0], {"the last": lacking[-1], "the member that built least": min(lacking, key=lambda it: it[1])})

@@ -520,7 +520,7 @@ def misread(watch):
             yield f"{name}: the plain model says {had}, and the case {wanted}"
     for name in sorted(it.removesuffix(".args") for it in os.listdir(f"{HERE}/inspect") if it.endswith(".args")):
         what, *words = read(f"{HERE}/inspect/{name}.args").decode().split()
-        if what == "chain":
+        if what == "chain" and read(f"{HERE}/inspect/{name}.status") in (b"0\n", b"8\n"):
             said = firsts.note_sealed(watch.firsts, read(f"{HERE}/inspect/{name}.schedule"), int(words[0]), [int(it) for it in words[1].split(",")])
             status, report = (b"8\n", f"{said}\n".encode()) if said else (b"0\n", read(f"{HERE}/inspect/{name}.report"))
             if (status, report) != (read(f"{HERE}/inspect/{name}.status"), read(f"{HERE}/inspect/{name}.report")):
