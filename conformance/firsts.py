@@ -347,10 +347,13 @@ def note_chain(firsts, stakes, digest, links):
 
 
 def note_sealed(firsts, data, number, members):
-    """What `inspect chain` says of the first of these members that has not built each checkpoint that this one has; none if all have."""
+    """What `inspect chain` says if this member is not honest and up, or of the first of these members that has not built each checkpoint
+    that it has; none if all have."""
     it = world.World()
     for event in text.read(data):
         it.step(event)
+    if number >= len(it.seats) or not (it.seats[number] and it.seats[number].member):
+        return f"inspect chain {number}: no honest member that is up"
     built = [seat.member.checkpoints if seat and seat.member else 0 for seat in it.seats]
     lacking = [(place, built[place]) for place in members if built[place] < built[number]]
     if not lacking:
