@@ -757,9 +757,9 @@ def first_sealers():
         lines += [f"tx t{number} alice 0 g{number}@1 2000 a:bob transfer(gas,i0)", f"fvote 4 t{number}", f"cert t{number} 4", f"order t{number}", "order commit"]
     lines += ["see 0 4", "run 0 1", "see 1 2", "run 1 1", "see 3 4", "run 3 1"]
     text = "".join(f"{line}\n" for line in lines).encode()
-    said = firsts.note_sealed(firsts.Firsts(), text, 0, [0, 1, 2, 3])
-    about = f"{FIRST}: the first of the members that has not built each checkpoint, and the first checkpoint without its seal."
-    put("inspect/chain-without-a-seal", {"schedule": text, "report": f"{said}\n".encode(), "status": b"8\n", "about": f"{about}\nrules: inspect.chain\n".encode(), "args": b"chain\n0\n0,1,2,3\n", "program": b"inspect\n"})
+    for name, number, about in (("without-a-seal", 0, f"{FIRST}: the first of the members that has not built each checkpoint, and the first checkpoint without its seal."), ("of-a-faulty-member", 4, "A faulty member has no chain.")):
+        said = firsts.note_sealed(firsts.Firsts(), text, number, [0, 1, 2, 3])
+        put(f"inspect/chain-{name}", {"schedule": text, "report": f"{said}\n".encode(), "status": b"8\n", "about": f"{about}\nrules: inspect.chain\n".encode(), "args": f"chain\n{number}\n0,1,2,3\n".encode(), "program": b"inspect\n"})
 
 
 def of_several():
