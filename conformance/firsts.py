@@ -347,8 +347,8 @@ def note_chain(firsts, stakes, digest, links):
 
 
 def note_sealed(firsts, data, number, members):
-    """What `inspect chain` says if this member is not honest and up, or of the first of these members that has not built each checkpoint that it has; none
-    if all have."""
+    """What `inspect chain` says if this member is not honest and up, or of the first of these members that has not built each checkpoint
+    that it has; none if all have."""
     it = world.World()
     for event in text.read(data):
         it.step(event)
