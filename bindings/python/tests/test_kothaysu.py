@@ -75,10 +75,10 @@ def certificates_of(schedule):
 
 
 def is_read(schedule):
-    """Whether each transaction of a schedule sends its gas coin on, and each certificate is formed by a line."""
+    """Whether each transaction of a schedule sends its gas coin on, and all certificates are formed by lines."""
     lines = [it.split() for it in schedule.splitlines() if it]
     blocks = [it[7:] for it in lines if it[0] == "tx"]
-    return all(it == ["transfer(gas,i0)"] for it in blocks) and all(it[0] != "raw" for it in lines)
+    return bool(blocks) and all(it == ["transfer(gas,i0)"] for it in blocks) and all(it[0] != "raw" for it in lines)
 
 
 class Cases(unittest.TestCase):
