@@ -41,7 +41,7 @@ FIRSTS = {
     "command of a block": ("Commands run in order, all or none.", ("the last", "the least cause")),
     "check link": ("the first bad link, counted from 0, and its first cause", ("the last", "the least cause")),
     "check included": ("K is the number of the first checkpoint that lists the transaction", ["the last"]),
-    "inspect chain": ("K is the first of MEMBERS that has not built each checkpoint that M has", ("the last", "the member that built least")),
+    "inspect chain": ("K is the first of MEMBERS that has not built every checkpoint that M has", ("the last", "the member that built least")),
 }
 
 
