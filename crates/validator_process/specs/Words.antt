@@ -22,6 +22,11 @@ task_in (first ∷ second ∷ third ∷ fourth ∷ []) = serve_in first third
 task_in (first ∷ second ∷ third ∷ fourth ∷ fifth ∷ []) = make_in first second fourth
 task_in words = None
 
+-- the place of the word that names the set-up, from 0
+abbrev pub genesis_place : Task → ℕ
+genesis_place (task.Make member) = 2
+genesis_place (task.Serve member) = 1
+
 -- the member is one of 64
 abbrev pub IsInRange : Task → Type 0
 IsInRange (task.Make member) = member ≤ 63

@@ -2,7 +2,7 @@
 
 ghost use Rattle.std.specs.Prelude.{◌≡◌, ◌∷◌, ◌≤◌, [], IfSome, bytes_eq, map};
 ghost use Rattle.std.specs.String.{string_bytes};
-ghost use Rattle.validator_process.specs.Words.{IsInRange, make_in, member_in, serve_in, task_in};
+ghost use Rattle.validator_process.specs.Words.{IsInRange, genesis_place, make_in, member_in, serve_in, task_in};
 
 use schedule_text::number_in;
 
@@ -21,7 +21,8 @@ pub enum Task {
 impl Task {
     /// The place of the word that names the set-up; that of the journal stands two further.
     pub fn genesis_place(self) -> usize
-        ensures { result ≤ 2 }
+        ensures is { result ≡ genesis_place self }
+        ensures most { result ≤ 2 }
     {
         match self {
             Task::Make { .. } => 2,
