@@ -1,6 +1,6 @@
 """Lines that name one of several things that apply: which one is told, and what a program would tell that took another one.
 
-A case shows that the first is told only if another order would tell something else there. FIRSTS says for each such line where the manual
+A case shows that the first is named only if another order would tell something else there. FIRSTS says for each such line where the manual
 or rules.txt states its order, and which other orders a case must refute: tables.py runs the cases and looks which of them it did.
 """
 
