@@ -89,7 +89,7 @@ def votes():
             lines += [vote_line(name, coin, pair), vote_line(f"{name}_b", coin, pair[::-1]), f"vote 0 {name}", f"vote 0 {name}_b", f"vote 1 {name}"]
         said = ", ".join(f"`{other.replace('-', ' ')}`" for _, other in pairs)
         write(f"votes/order-{first}-first", lines, f"`{first.replace('-', ' ')}` is told where one of these applies too, whichever object stands first: {said}. A closed member says so before all but `wrong epoch`.", f"vote.{first if first != 'invalid' else 'voted'} vote.closed vote.order" if first != "invalid" else "shape.6 vote.closed vote.order")
-    write("votes/order-again-and-closed", [*vote_setup(["p2"]), "tx t alice 0 p2@1 2000 a:bob transfer(gas,i0)", "vote 1 takes", "vote 1 spends", "vote 1 t", "vote 0 t", "close 0", "vote 0 t", "vote 0 spends"], "A vote that was given is given again also where the member is closed, the coin is spent, or another one holds the lock.", "vote.again vote.closed vote.order")
+    write("votes/order-again-and-closed", [*vote_setup(["p2"]), "tx t alice 0 p2@1 2000 a:bob transfer(gas,i0)", "vote 1 takes", "vote 1 spends", "vote 1 t", "vote 0 t", "close 0", "vote 0 t", "vote 0 spends"], "A vote that was given is given again even if the member is closed, the coin is spent, or another one holds the lock.", "vote.again vote.closed vote.order")
 
 
 # Votes and runs: what may stand in each place, by kind and owner.
@@ -122,7 +122,7 @@ def kinds():
     held = [f"send 0 {it}" for it in names if it[0] in "oi"]
     write("execution/kinds-that-do-not-fit", [*lines, *made, *forced, *held, "run 0 1", "show 0"], "Certificates that a faulty quorum formed, each with one of many objects as an owned or an immutable input: one that fits is executed, one that does not is unfit.", "run.unfit run.absent run.done")
     seen = ["order make", *(f"order {it}" for it in names if it[0] in "sr")]
-    write("sequence/kinds-that-are-not-shared", [*lines, *made, *forced, *seen, "see 0 99", "run 0 1", "show 0"], "Certificates that a faulty quorum formed, each with one of many objects as a shared input: with no origin, one that was not shared when the epoch opened is dropped; the others are admitted, and executed where they fit.", "see.dropped see.admitted run.unfit")
+    write("sequence/kinds-that-are-not-shared", [*lines, *made, *forced, *seen, "see 0 99", "run 0 1", "show 0"], "Certificates that a faulty quorum formed, each with one of many objects as a shared input: with no origin, one that was not shared when the epoch opened is dropped; the others are admitted, and executed if they fit.", "see.dropped see.admitted run.unfit")
     gas = [f"send 0 {it}" for it in names if it[0] == "g"]
     write("execution/gas-that-does-not-fit", [*lines, *made, *forced, *gas, "run 0 1", "show 0"], "Certificates that a faulty quorum formed, each with one of many objects as its gas.", "run.unfit run.absent run.done")
 
@@ -231,7 +231,7 @@ def shapes():
         name = f"none{len(lines)}"
         lines += [f"tx {name} alice 0 g0@1 999 {other.strip()}", f"vote 0 {name}"]
     lines += [f"tx great alice 0 g0@0 999 x:{'00' * 131072}", "vote 0 great"]
-    write("shapes/order-of-faults", lines, "Each pair of faults of a shape that a line can bring about: the lesser number is told.", "shape.least shape.1 shape.2 shape.3 shape.4 shape.5 shape.6 shape.7 shape.8 shape.10")
+    write("shapes/order-of-faults", lines, "Each pair of faults of a shape that a line can bring about: the lesser number is named.", "shape.least shape.1 shape.2 shape.3 shape.4 shape.5 shape.6 shape.7 shape.8 shape.10")
 
 
 # So many references of one object have more bytes than a transaction may have; a reference is 73 bytes.
@@ -244,7 +244,7 @@ def bytes_first():
     tails = {"other_2": [], **{f"other_{it}": SHAPE_FAULTS[it]["commands"] for it in (3, 6, 7, 8, 12)}}
     for name, commands in tails.items():
         lines += [f"tx {name} alice 0 g@1 900000 {' '.join([*MANY_BYTES, *commands])}", f"vote 0 {name}"]
-    write("shapes/bytes-before-all", lines, "Too many bytes, and each other fault that a line can have beside them: the bytes are told.", "shape.1 shape.least")
+    write("shapes/bytes-before-all", lines, "Too many bytes, and each other fault that a line can have beside them: the bytes are named.", "shape.1 shape.least")
 
 
 def shapes_of_certificates():
@@ -271,7 +271,7 @@ def native_that_is_none():
         made = {"gas": (wire.genesis_id(0), 1, wire.ZERO), "budget": 900_000, "inputs": (), "commands": (native,), **change}
         spelled = wire.TX.put((0, wire.address_of("alice"), made["gas"], made["budget"], made["inputs"], made["commands"]))
         lines.append(f"raw 0 vote {(spelled + wire.seal(('user', wire.address_of('alice')), spelled)).hex()}")
-    write("raw/a-native-that-is-none-and-another-fault", lines, f"A native above 13, and another fault of the shape: {', '.join(faults)}. The least number is told.", "shape.9 shape.least")
+    write("raw/a-native-that-is-none-and-another-fault", lines, f"A native above 13, and another fault of the shape: {', '.join(faults)}. The least number is named.", "shape.9 shape.least")
 
 
 def shape_limits():
@@ -348,7 +348,7 @@ def text():
     write("grammar/refused-3-before-7", [*members, "member 1 honest\x7f"], "The 65th member in a line with a byte that is not printable: the least cause is that of the byte.", "refused.3 text.first")
     write("grammar/refused-3-before-13", [*GOOD[:6], "writers 6\x7f", *GOOD[6:]], "A second limit of writers in a line with a byte that is not printable: the least cause is that of the byte.", "refused.3 text.first")
     write("grammar/refused-5-before-7", [*members, "member 0 honest"], "The 65th member with a stake of 0: the least cause is that of the number.", "refused.5 text.first")
-    write("grammar/refused-6-before-7", [*members, "show 0", "member 1 honest"], "The 65th member behind an event: the least cause is that of the late line.", "refused.6 text.first")
+    write("grammar/refused-6-before-7", [*members, "show 0", "member 1 honest"], "The 65th member after an event: the least cause is that of the late line.", "refused.6 text.first")
 
 
 def printable(line):
