@@ -43,24 +43,28 @@ unfinished_behind u (Err log.DiskFault) = Some u
 
 -- ---- what is true of it
 
--- the records that count in a file are these; or, only if the disk's count of faults rose since the log was opened, these and
--- the unfinished one. Each is of a member below 64
-pub record IsOfLog (opened faults : ℕ) (records : List Record) (u : Option Unfinished) (file : List ℕ) : Type 0 where
-  pub counts : (counted file ≡ records) ⊎ (Rose opened faults × (more : Unfinished) × (u ≡ Some more) × (counted file ≡ records ++ record_of more ∷ []))
+-- the records that count in a file are these, or these and the unfinished one; each is of a member below 64
+pub record IsOfLog (records : List Record) (u : Option Unfinished) (file : List ℕ) : Type 0 where
+  pub counts : (counted file ≡ records) ⊎ ((more : Unfinished) × (u ≡ Some more) × (counted file ≡ records ++ record_of more ∷ []))
   pub members : bad_member most_members 0 (counted file) ≡ None
 
 -- so it is in each file that a crash may leave now
-abbrev pub LeavesOfLog : ℕ → ℕ → List Record → Option Unfinished → History → Type 0
-LeavesOfLog opened faults records u h = (image : List ℕ) → IsImage h.now image → IsOfLog opened faults records u image
+abbrev pub LeavesOfLog : List Record → Option Unfinished → History → Type 0
+LeavesOfLog records u h = (image : List ℕ) → IsImage h.now image → IsOfLog records u image
 
 -- the unfinished record is the next one of its member
 abbrev pub IsNextOf : List ℕ → Option Unfinished → Type 0
 IsNextOf counts None = Unit {0}
 IsNextOf counts (Some u) = (u.member < length counts) × (u.count ≡ slice_index counts u.member + 1)
 
+-- there is one only if the disk's count of faults rose since the log was opened
+abbrev pub HasMetFault : ℕ → ℕ → Option Unfinished → Type 0
+HasMetFault opened faults None = Unit {0}
+HasMetFault opened faults (Some u) = Rose opened faults
+
 -- each list is as long as it was, or longer
 abbrev pub HasGrown : Option Journals → Option Journals → Type 0
-HasGrown None now = Unit {0}
+HasGrown None now = now ≡ None
 HasGrown (Some begun) None = Unit {0}
 HasGrown (Some begun) (Some now) = (m : ℕ) → length (journal_of begun m) ≤ length (journal_of now m)
 
@@ -70,6 +74,7 @@ pub record IsCalling (opened : ℕ) (begun : Option Journals) (told : Option His
   pub later : opened ≤ faults
   pub as_many : length counts ≡ most_members
   pub known : IfTold told (λ h. bad_member most_members 0 (records_to h.now.reads end) ≡ None)
-  pub left : IfTold told (λ h. LeavesOfLog opened faults (records_to h.now.reads end) u h)
+  pub left : IfTold told (λ h. LeavesOfLog (records_to h.now.reads end) u h)
   pub next : IsNextOf counts u
+  pub met : HasMetFault opened faults u
   pub grown : HasGrown begun (told_lists told end (length counts))
