@@ -2,7 +2,7 @@
 use Rattle.std.proofs.Common.{◌≡◌, ◌⊎◌, ◌↔◌, inl, inr, ℕ, ◌+◌, ◌==◌, ◌<◌, ◌≤◌, Bool, true, false, cond, List, [], ◌∷◌, ◌++◌, length, length-append, length-set, get_or, refl, sym, ◌∙◌, ap, subst, arith, Option, Some, None, Result, Ok, Err, IfOk}
 use Rattle.std.proofs.lemmas.Bool.{eq-eqb, eqb-false, eqb-true}
 use Rattle.std.proofs.lemmas.List.{get_or-append_right, get_or-set_other, get_or-set_same, get_or_append_left}
-use Rattle.std.specs.Prelude.{slice_index}
+use Rattle.std.specs.Prelude.{is_some, slice_index}
 use Rattle.outside.specs.Lists.{AddsRecord, Appended, HasMembers, IsCountOf, IsRecordAt, Journals, KeepsJournals, journal_of, with_record}
 use Rattle.outside.specs.declared.faults.OutFault.TheVariants as fault
 use Rattle.outside.specs.declared.faults.OutFault.{OutFault}
@@ -10,12 +10,12 @@ use Rattle.protocol_spec.specs.Chain.Words.{IsFront}
 use Rattle.disk_log.specs.declared.refusals.LogRefusal.{LogRefusal}
 use Rattle.disk_log.specs.declared.refusals.LogRefusal.TheVariants as log
 use Rattle.disk_log.specs.Disk.{History}
-use Rattle.disk_log.specs.Keeping.{Appends, end_behind, told_lists}
+use Rattle.disk_log.specs.Keeping.{Appends, counts_behind, end_behind, told_lists}
 use Rattle.disk_log.specs.Records.{journals_of, records_to}
 use Rattle.disk_log.specs.Running.{run_answer}
 use Rattle.disk_log.proofs.Listing.{length-journals}
 use Rattle.disk_log.proofs.Reading.{keeps}
-use Rattle.disk_log.proofs.Running.{lists-on}
+use Rattle.disk_log.proofs.Running.{counts-many, lists-on}
 use Rattle.run_law.proofs.SceneRecords.{front-set}
 use Rattle.committee_core.specs.Calling.{HasGrown, IsNextOf, call_count, call_lists, unfinished_behind, with_unfinished}
 use Rattle.committee_core.specs.declared.call_log.Unfinished.{Unfinished}
@@ -102,6 +102,20 @@ module _ (old new : Option History) (end end' : ℕ) (begun : Unfinished) (width
   call_lists_on shut (Err log.Full) appends shuts same there = call_keeps Were Are None (lists-on old new end end' begun.member begun.bytes width width' shut (Err log.Full) appends shuts same there as-many)
   call_lists_on shut (Err log.OutOfMemory) appends shuts same there = call_keeps Were Are None (lists-on old new end end' begun.member begun.bytes width width' shut (Err log.OutOfMemory) appends shuts same there as-many)
   call_lists_on shut (Err log.DiskFault) appends shuts same there = inl (torn-called Were Are begun (torn shut appends shuts there))
+
+-- an append to a log that has no unfinished record
+module _ (old new : Option History) (end end' : ℕ) (counts counts' : List ℕ) (member kept : ℕ) (bytes : List ℕ) (shut : Bool) (result : Result (Unit {0}) LogRefusal) where
+  abbrev now-begun : Unfinished
+  now-begun = record { member = member; count = kept + 1; bytes = bytes }
+
+  pub appended_lists : (u u' : Option Unfinished) (begun : Unfinished) (there : Bool) (answer : Result (Unit {0}) OutFault) → begun ≡ now-begun → there ≡ is_some u → there ≡ false → u' ≡ unfinished_behind begun result → answer ≡ run_answer result
+      → (shut ≡ false → Appends old new end member bytes result) → (result ≡ Err log.Shut) ↔ (shut ≡ true) → (shut ≡ true → new ≡ old) → end' ≡ end_behind end (length bytes) result → counts' ≡ counts_behind counts member result
+      → Appended (call_lists (told_lists old end (length counts)) u) (call_lists (told_lists new end' (length counts')) u') member bytes answer
+  appended_lists None u' begun there answer is none isnt left passed appends shuts stays gate many =
+      subst (λ (u : Option Unfinished). Appended (call_lists (told_lists old end (length counts)) None) (call_lists (told_lists new end' (length counts')) u) member bytes answer) (sym (left ∙ ap (λ (b : Unfinished). unfinished_behind b result) is))
+      (subst (λ (a : Result (Unit {0}) OutFault). Appended (call_lists (told_lists old end (length counts)) None) (call_lists (told_lists new end' (length counts')) (unfinished_behind now-begun result)) member bytes a) (sym passed)
+      (call_lists_on old new end end' now-begun (length counts) (length counts') (counts-many counts member result counts' many) shut result appends shuts stays gate))
+  appended_lists (Some u) u' begun there answer is none isnt left passed appends shuts stays gate many = absurd (let e : true ≡ false = sym none ∙ isnt in cc)
 
 -- ---- as many as there are
 

@@ -1,7 +1,7 @@
 -- The log of a call: what the disk holds after each append and read.
 use Rattle.std.proofs.Common.{◌≡◌, ◌≢◌, ◌⊎◌, ◌↔◌, inl, inr, ℕ, ◌+◌, ◌<◌, ◌≤◌, Bool, true, false, cond, List, [], ◌∷◌, ◌++◌, length, refl, sym, ◌∙◌, ap, subst, arith, Option, Some, None, Result, Ok, Err}
 use Rattle.std.proofs.lemmas.Bool.{lt-ltb}
-use Rattle.std.specs.Prelude.{nat_lt, slice_index}
+use Rattle.std.specs.Prelude.{is_some, nat_lt, slice_index}
 use Rattle.outside.specs.Causes.{Rose}
 use Rattle.outside.specs.Lists.{Journals}
 use Rattle.disk_log.specs.declared.refusals.LogRefusal.{LogRefusal}
@@ -157,6 +157,19 @@ module _ (opened : ℕ) (first : Option Journals) (old new : Option History) (fa
       (appended end begun known old new shut result appends shuts same (stands-in opened first old faults end counts None was)))
       (next-behind counts counts' begun result lt next many) (met-behind opened faults faults' begun result was.later cause)
       (grown-on first old new end end' begun.member begun.bytes (length counts) (length counts') shut result appends shuts same there size was.grown)
+
+-- an append to a log that has no unfinished record
+module _ (opened : ℕ) (first : Option Journals) (old new : Option History) (faults faults' end end' : ℕ) (counts counts' : List ℕ) (member kept : ℕ) (bytes : List ℕ) (shut : Bool) (result : Result (Unit {0}) LogRefusal) where
+  abbrev now-begun : Unfinished
+  now-begun = record { member = member; count = kept + 1; bytes = bytes }
+
+  pub appended_calling : (u u' : Option Unfinished) (begun : Unfinished) (there : Bool) → begun ≡ now-begun → kept ≡ slice_index counts member → member < length counts → there ≡ is_some u → there ≡ false → u' ≡ unfinished_behind begun result
+      → (shut ≡ false → Appends old new end member bytes result) → (result ≡ Err log.Shut) ↔ (shut ≡ true) → AppendCause faults faults' result → (shut ≡ true → new ≡ old) → end' ≡ end_behind end (length bytes) result
+      → counts' ≡ counts_behind counts member result → IsCalling opened first old faults end counts u → IsCalling opened first new faults' end' counts' u'
+  appended_calling None u' begun there is same lt none isnt left appends shuts cause stays gate many was =
+      subst (λ (u : Option Unfinished). IsCalling opened first new faults' end' counts' u) (sym (left ∙ ap (λ (b : Unfinished). unfinished_behind b result) is))
+      (calling_on opened first old new faults faults' end end' counts counts' now-begun shut result was lt (ap (λ (n : ℕ). n + 1) same) appends shuts cause stays gate many)
+  appended_calling (Some u) u' begun there is same lt none isnt left appends shuts cause stays gate many was = absurd (let e : true ≡ false = sym none ∙ isnt in cc)
 
 pub calling_still : (opened : ℕ) (first : Option Journals) (old new : Option History) (faults faults' end end' : ℕ) (counts counts' : List ℕ) (u : Option Unfinished) → IsCalling opened first old faults end counts u → new ≡ old → faults ≤ faults' → end' ≡ end → counts' ≡ counts
     → IsCalling opened first new faults' end' counts' u

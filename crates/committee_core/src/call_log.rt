@@ -1,10 +1,11 @@
 //! A log as the keeper of one call of the program.
 
-ghost use Rattle.std.specs.Prelude.{◌≡◌, ◌+◌, ℕ, None, Option, IfOk, length, slice_index};
-ghost use Rattle.outside.specs.Lists.{Journals};
+ghost use Rattle.std.specs.Prelude.{◌≡◌, ◌+◌, ◌<◌, ◌^◌, ℕ, None, Option, IfOk, length, slice_index};
+ghost use Rattle.outside.specs.Causes.{KeepCause};
+ghost use Rattle.outside.specs.Lists.{Appended, IsCountOf, IsRecordAt, Journals};
 ghost use Rattle.disk_log.specs.Keeping.{told_lists};
 ghost use Rattle.disk_log.specs.Running.{run_answer};
-ghost use Rattle.committee_core.specs.Calling.{IsCalling, call_count, call_lists, unfinished_behind};
+ghost use Rattle.committee_core.specs.Calling.{IsCalling, IsNextOf, call_count, call_lists, unfinished_behind};
 
 use disk_log::{Disk, DiskLog, LogRefusal};
 use outside::{Keeper, OutFault};
@@ -136,7 +137,75 @@ fn count_with(unfinished: &Option<Unfinished>, member: u32, kept: u64) -> u64
     }
 }
 
+/// How many records a member has, with the unfinished one. Takes no memory.
+#[tactic(auto, using(crate::proofs::CallLists::call_counts))]
+fn count_of<F: Disk>(log: &DiskLog<F>, unfinished: &Option<Unfinished>, member: u32) -> u64
+    requires known { member < length log.now.counts }
+    requires next { IsNextOf log.now.counts unfinished.now }
+    ensures size { result ≡ call_count unfinished.now member (slice_index log.now.counts member) }
+    ensures told { IsCountOf (call_lists (told_lists (F.history log.now.disk) log.now.end (length log.now.counts)) unfinished.now) member result }
+{
+    count_with(unfinished, member, log.count(member))
+}
+
+/// Appends a record to a log, unless an append met a fault of the disk before. If this one does, it is unfinished.
+fn append_to<F: Disk>(
+    alloc: Global,
+    log: &mut DiskLog<F>,
+    unfinished: &mut Option<Unfinished>,
+    member: u32,
+    bytes: &[u8],
+) -> Result<(), OutFault>
+    requires known { member < length log.old.counts }
+    requires short { length bytes.now < 2 ^ 31 }
+    ensures calling { (opened : ℕ) (first : Option Journals) → IsCalling opened first (F.history log.old.disk) (F.failed log.old.disk) log.old.end log.old.counts unfinished.old → IsCalling opened first (F.history log.new.disk) (F.failed log.new.disk) log.new.end log.new.counts unfinished.new }
+    ensures lists { Appended (call_lists (told_lists (F.history log.old.disk) log.old.end (length log.old.counts)) unfinished.old) (call_lists (told_lists (F.history log.new.disk) log.new.end (length log.new.counts)) unfinished.new) member bytes.now result }
+    ensures width { length log.new.counts ≡ length log.old.counts }
+    ensures cause { KeepCause (F.failed log.old.disk) (F.failed log.new.disk) result }
+{
+    if unfinished.is_some() {
+        return Err(OutFault::OutOfMemory);
+    }
+    let begun = match begin(alloc, member, log.count(member), bytes) {
+        Ok(begun) => begun,
+        Err(OutOfMemory) => return Err(OutFault::OutOfMemory),
+    };
+    let answer = log.append_record(member, bytes);
+    *unfinished = left_of(begun, &answer);
+    passed(answer)
+}
+
+/// The record of a member at a place below its count.
+fn read_from<F: Disk>(
+    alloc: Global,
+    log: &mut DiskLog<F>,
+    unfinished: &Option<Unfinished>,
+    member: u32,
+    place: u64,
+) -> Result<Seq<u8>, OutFault>
+    requires known { member < length log.old.counts }
+    requires next { IsNextOf log.old.counts unfinished.now }
+    requires place { place < call_count unfinished.now member (slice_index log.old.counts member) }
+    ensures record { IfOk result (IsRecordAt (call_lists (told_lists (F.history log.old.disk) log.old.end (length log.old.counts)) unfinished.now) member place) }
+    ensures history { F.history log.new.disk ≡ F.history log.old.disk }
+    ensures end { log.new.end ≡ log.old.end }
+    ensures counts { log.new.counts ≡ log.old.counts }
+    ensures cause { KeepCause (F.failed log.old.disk) (F.failed log.new.disk) result }
+{
+    if place < log.count(member) {
+        return log.read(member, place);
+    }
+    match unfinished {
+        Some(last) => match Seq::from_slice(alloc, last.bytes.as_slice()) {
+            Ok(bytes) => Ok(bytes),
+            Err(OutOfMemory) => Err(OutFault::OutOfMemory),
+        },
+        None => unreachable!(),
+    }
+}
+
 /// The lists are those of the records that were acknowledged, with the unfinished one, if the disk shows its bytes.
+#[tactic(auto, using(crate::proofs::CallLists::call_members))]
 impl<F: Disk, O: Opening> Keeper for CallLog<F, O> {
     ghost lists = { λ l. call_lists (told_lists (F.history l.log.disk) l.log.end (length l.log.counts)) l.unfinished };
 
@@ -147,16 +216,13 @@ impl<F: Disk, O: Opening> Keeper for CallLog<F, O> {
     ghost failed = { λ l. F.failed l.log.disk };
 
     fn append(&mut self, member: u32, bytes: &[u8]) -> Result<(), OutFault> {
-        if self.unfinished.is_some() {
-            return Err(OutFault::OutOfMemory);
-        }
-        let begun = match begin(self.alloc, member, self.log.count(member), bytes) {
-            Ok(begun) => begun,
-            Err(OutOfMemory) => return Err(OutFault::OutOfMemory),
-        };
-        let answer = self.log.append_record(member, bytes);
-        self.unfinished = left_of(begun, &answer);
-        passed(answer)
+        append_to(
+            self.alloc,
+            &mut self.log,
+            &mut self.unfinished,
+            member,
+            bytes,
+        )
     }
 
     fn members(&self) -> u32 {
@@ -168,19 +234,10 @@ impl<F: Disk, O: Opening> Keeper for CallLog<F, O> {
     }
 
     fn count(&self, member: u32) -> u64 {
-        count_with(&self.unfinished, member, self.log.count(member))
+        count_of(&self.log, &self.unfinished, member)
     }
 
     fn read(&mut self, member: u32, place: u64) -> Result<Seq<u8>, OutFault> {
-        if place < self.log.count(member) {
-            return self.log.read(member, place);
-        }
-        match &self.unfinished {
-            Some(last) => match Seq::from_slice(self.alloc, last.bytes.as_slice()) {
-                Ok(bytes) => Ok(bytes),
-                Err(OutOfMemory) => Err(OutFault::OutOfMemory),
-            },
-            None => unreachable!(),
-        }
+        read_from(self.alloc, &mut self.log, &self.unfinished, member, place)
     }
 }
