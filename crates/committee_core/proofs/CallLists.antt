@@ -1,5 +1,5 @@
 -- The lists of the log of a call: the acknowledged records, with the unfinished one.
-use Rattle.std.proofs.Common.{◌≡◌, ◌⊎◌, ◌↔◌, inl, inr, ℕ, ◌+◌, ◌==◌, ◌<◌, ◌≤◌, Bool, true, false, cond, List, [], ◌∷◌, ◌++◌, length, length-append, length-set, get_or, refl, sym, ◌∙◌, ap, subst, arith, Option, Some, None, Result, Ok, Err, IfOk}
+use Rattle.std.proofs.Common.{◌≡◌, ◌⊎◌, ◌↔◌, inl, inr, ℕ, ◌+◌, ◌-◌, ◌==◌, ◌<◌, ◌≤◌, Bool, true, false, cond, List, [], ◌∷◌, ◌++◌, length, length-append, length-set, get_or, refl, sym, ◌∙◌, ap, subst, arith, Option, Some, None, Result, Ok, Err, IfOk}
 use Rattle.std.proofs.lemmas.Bool.{eq-eqb, eqb-false, eqb-true}
 use Rattle.std.proofs.lemmas.List.{get_or-append_right, get_or-set_other, get_or-set_same, get_or_append_left}
 use Rattle.std.specs.Prelude.{is_some, slice_index}
@@ -91,7 +91,10 @@ module _ (old new : Option History) (end end' : ℕ) (begun : Unfinished) (width
   abbrev Are : Option Journals
   Are = told_lists new end' width'
 
-  torn : (shut : Bool) → (shut ≡ false → Appends old new end begun.member begun.bytes (Err log.DiskFault)) → (Err log.DiskFault ≡ Err log.Shut) ↔ (shut ≡ true) → end' ≡ end → KeepsJournals Were Are
+  abbrev Broke : Result (Unit {0}) LogRefusal
+  Broke = Err log.DiskFault
+
+  torn : (shut : Bool) → (shut ≡ false → Appends old new end begun.member begun.bytes Broke) → (Broke ≡ Err log.Shut) ↔ (shut ≡ true) → end' ≡ end → KeepsJournals Were Are
   torn true appends shuts there = absurd (let e = shuts.1 refl in cc)
   torn false appends shuts there = keeps old new end end' begun.member begun.bytes width width' log.DiskFault (appends refl) there as-many
 
@@ -186,9 +189,11 @@ read_unfinished (Some h) end counts u m kept place same next many past lt =
     let long : length (journal_of lists u.member) ≡ place = ap (λ (i : ℕ). length (journal_of lists i)) it ∙ sym many ∙ (let b = below u m kept place it lt in omega (arith, b, count, past)) in
     sym (ap (λ (l : List (List ℕ)). get_or l place []) (ap (λ (i : ℕ). journal_of (with_record lists u.member u.bytes) i) (sym it) ∙ get_or-set_same lists u.member (journal_of lists u.member ++ u.bytes ∷ []) [] low)
     ∙ get_or-append_right (journal_of lists u.member) (u.bytes ∷ []) place place [] long (omega arith)
-    ∙ ap (λ (i : ℕ). get_or (u.bytes ∷ []) i []) (omega arith))
+    ∙ ap (λ (i : ℕ). get_or (u.bytes ∷ []) i []) (let none : place - place ≡ 0 = omega arith in none))
 
--- a log that has none has no record there
-pub no_unfinished : (u : Option Unfinished) (m kept place : ℕ) → u ≡ None → (place < kept → ⊥) → place < call_count u m kept → ⊥
-no_unfinished None m kept place none past lt = past lt
-no_unfinished (Some u) m kept place none past lt = absurd (cc)
+pub read_as : (told : Option History) (end : ℕ) (counts : List ℕ) (u : Option Unfinished) (last : Unfinished) (bytes : List ℕ) (m kept place : ℕ) → u ≡ Some last → bytes ≡ last.bytes → kept ≡ slice_index counts m → IsNextOf counts u → IsCountOf (told_lists told end (length counts)) m kept
+    → (place < kept → ⊥) → place < call_count u m kept → IsRecordAt (call_lists (told_lists told end (length counts)) u) m place bytes
+read_as told end counts None last bytes m kept place is are same next many past lt = absurd (cc)
+read_as told end counts (Some u) last bytes m kept place is are same next many past lt =
+    let it : u ≡ last = cc in
+    subst (IsRecordAt (call_lists (told_lists told end (length counts)) (Some u)) m place) (sym (are ∙ ap (λ (x : Unfinished). x.bytes) (sym it))) (read_unfinished told end counts u m kept place same next many past lt)

@@ -32,7 +32,7 @@ use Rattle.committee_core.proofs.Calling.{call_holds}
 use Rattle.committee_core.proofs.CallLists.{front-more, one-longer}
 
 front-then : {A : Type 0} (xs ys zs : List A) → IsFront xs ys → IsFront ys zs → IsFront xs zs
-front-then xs ys zs (one, is) (two, as) = (one ++ two, as ∙ ap (λ (l : List A). l ++ two) is ∙ append_assoc xs one two)
+front-then {A} xs ys zs (one, is) (two, too) = (one ++ two, too ∙ ap (λ (l : List A). l ++ two) is ∙ append_assoc xs one two)
 
 abbrev or-none : Option Journals → Journals
 or-none None = []
@@ -232,9 +232,9 @@ module _ (c : Option Command) (before now : Outside) (status end : ℕ) (counts 
   }
 
 -- a log that was opened has the lists that it tells
-call_none : (lists : Option Journals) → call_lists lists None ≡ lists
+call_none : (told : Option Journals) → call_lists told None ≡ told
 call_none None = refl
-call_none (Some lists) = refl
+call_none (Some were) = refl
 
 module _ {D : Type 0} (history : D → Option History) (failed : D → ℕ) (c : Option Command) where
   abbrev lists_of : CallState D → Option Journals

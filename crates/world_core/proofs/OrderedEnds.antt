@@ -2,6 +2,7 @@
 use Rattle.std.proofs.Common.{◌≡◌, ◌⊎◌, inl, inr, ◌∙◌, ap, sym, refl, ℕ, Bool, true, false, cond, List, length, Option, Some, None, Result, Ok, Err, OnErr}
 use Rattle.std.specs.Prelude.{slice_get}
 use Rattle.std.proofs.lemmas.Bool.{eq-eqb, ne_eqb}
+use Rattle.chain_messages.specs.declared.messages.Entry.{Entry}
 use Rattle.chain_messages.specs.declared.messages.Statement.TheVariants as statement
 use Rattle.report_text.specs.declared.lines.OrderEndText.{OrderEndText}
 use Rattle.report_text.specs.declared.lines.OrderEndText.TheVariants as order_end_text
@@ -91,18 +92,24 @@ module _ (trust : Trust) (v sc : Scene) (m : ℕ) (view : v ≡ sc) where
 -- ---- if memory is refused
 
 -- nothing was done
-pub end_undone : (trust : Trust) (sc : Scene) (m : ℕ) → SeenCut still_in trust sc (Some m) sc
-end_undone trust sc m = inl refl
+pub end_undone : {A E : Type 0} (trust : Trust) (sc : Scene) (m : ℕ) (result : Result A E) → OnErr result (SeenCut still_in trust sc (Some m) sc)
+end_undone trust sc m (Ok a) = tt
+end_undone trust sc m (Err e) = inl refl
 
 -- its End stands, or not
-pub end_broken : (trust : Trust) (v sc : Scene) (m : ℕ) (new : Orders) → v ≡ sc → (new ≡ orders_in v) ⊎ (new ≡ with_entry (orders_in v) (sealed_end_by trust.seal m v.epoch))
+pub end_broken : (trust : Trust) (v sc : Scene) (m n : ℕ) (e : Entry) (new : Orders) → v ≡ sc → e ≡ sealed_end_by trust.seal m n → n ≡ v.epoch → (new ≡ orders_in v) ⊎ (new ≡ with_entry (orders_in v) e)
     → SeenCut still_in trust sc (Some m) (with_orders v new)
-end_broken trust v sc m new view (inl same) = inl (ap (λ (o : Orders). still_in (with_orders v o)) same ∙ ap (λ (x : Scene). still_in x) view)
-end_broken trust v sc m new view (inr more) = inr (ap (λ (o : Orders). still_in (with_orders v o)) more ∙ ap (λ (x : Scene). still_in (end_appended trust x m)) view)
+end_broken trust v sc m n e new view is open_ (inl same) = inl (ap (λ (o : Orders). still_in (with_orders v o)) same ∙ ap (λ (x : Scene). still_in x) view)
+end_broken trust v sc m n e new view is open_ (inr more) =
+    let this : e ≡ sealed_end_by trust.seal m v.epoch = is ∙ ap (λ (k : ℕ). sealed_end_by trust.seal m k) open_ in
+    inr (ap (λ (o : Orders). still_in (with_orders v o)) (more ∙ ap (λ (x : Entry). with_entry (orders_in v) x) this) ∙ ap (λ (x : Scene). still_in (end_appended trust x m)) view)
 
 -- what was stated before plays no part in it
-abbrev saying : Scene → List Said → Scene
+abbrev pub saying : Scene → List Said → Scene
 saying sc said = record sc { said = said }
+
+pub end_unsaid : (trust : Trust) (v sc : Scene) (m : ℕ) (said : List Said) → v ≡ sc → SeenCut still_in trust sc (Some m) (saying v said)
+end_unsaid trust v sc m said view = inl (ap (λ (x : Scene). still_in x) view)
 
 pub end_stated : {A E : Type 0} (trust : Trust) (v sc : Scene) (m : ℕ) (said : List Said) (new : Scene) (result : Result A E) → v ≡ sc → OnErr result (SeenCut still_in trust (saying v said) (Some m) new)
     → OnErr result (SeenCut still_in trust sc (Some m) new)

@@ -32,7 +32,7 @@ impl World {
     }
 
     /// The line `order T`: orders the certificate that was formed last for this name, if it is of the open epoch.
-    #[tactic(auto, using(crate::proofs::Ordered::orders_none, crate::proofs::Ordered::orders_late, crate::proofs::Ordered::orders_one, crate::proofs::Ordered::short_cert))]
+    #[tactic(auto, using(crate::proofs::Ordered::orders_none, crate::proofs::Ordered::orders_late, crate::proofs::Ordered::orders_one, crate::proofs::Ordered::order_kept, crate::proofs::Ordered::short_cert))]
     pub(crate) fn order_cert(&mut self, tx: &[u8]) -> Result<Seq<Line>, OutOfMemory>
         ensures world { OnOk result (self.new ≡ with_order self.old (ordered (bare_world self.old) (cert_named (bare_world self.old) tx.now))) }
         ensures lines { IfOk result (λ lines. lines ≡ line.Order tx.now (order_said (bare_world self.old) (cert_named (bare_world self.old) tx.now)) ∷ []) }
@@ -56,7 +56,7 @@ impl World {
     }
 
     /// The line `order commit`: orders a mark. Memory for the line is taken first.
-    #[tactic(auto, using(crate::proofs::Ordered::orders_mark, crate::proofs::Ordered::short_mark))]
+    #[tactic(auto, using(crate::proofs::Ordered::orders_mark, crate::proofs::Ordered::order_kept, crate::proofs::Ordered::short_mark))]
     pub(crate) fn order_commit(&mut self) -> Result<Seq<Line>, OutOfMemory>
         ensures world { OnOk result (self.new ≡ with_order self.old (appended_entry (bare_world self.old) entry.Commit)) }
         ensures lines { IfOk result (λ lines. lines ≡ line.OrderCommit (length (open_entries (bare_world self.old))) ∷ []) }
@@ -70,6 +70,7 @@ impl World {
 
     /// Orders a member's End of the open epoch. Another epoch opens if the members of its Ends are a quorum then. If memory
     /// is refused no epoch opens, and the End is ordered or not.
+    #[tactic(auto, using(crate::proofs::OrderedEnds::end_undone, crate::proofs::OrderedEnds::end_broken))]
     fn append_end<S: MakesSeals>(
         &mut self,
         sealer: &S,
@@ -89,6 +90,7 @@ impl World {
     }
 
     /// A faulty member states an End of the open epoch, which is ordered.
+    #[tactic(auto, using(crate::proofs::OrderedEnds::end_unsaid, crate::proofs::OrderedEnds::end_stated))]
     fn false_end<S: MakesSeals>(
         &mut self,
         sealer: &S,
@@ -106,6 +108,7 @@ impl World {
     /// The line `order end`: orders the last End of an honest member, if it is of the open epoch; a faulty member
     /// states one of the open epoch first. Another epoch opens if the open one has ended then. Refusals are those of
     /// [`World::append_end`]; what a faulty member states may stand.
+    #[tactic(auto, using(crate::proofs::OrderedEnds::end_undone))]
     pub(crate) fn order_end<S: MakesSeals>(
         &mut self,
         sealer: &S,
