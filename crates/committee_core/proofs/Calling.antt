@@ -1,18 +1,21 @@
 -- The log of a call: what the disk holds after each append and read.
 use Rattle.std.proofs.Common.{◌≡◌, ◌≢◌, ◌⊎◌, ◌↔◌, inl, inr, ℕ, ◌+◌, ◌<◌, ◌≤◌, Bool, true, false, cond, List, [], ◌∷◌, ◌++◌, length, refl, sym, ◌∙◌, ap, subst, arith, Option, Some, None, Result, Ok, Err}
 use Rattle.std.proofs.lemmas.Bool.{lt-ltb}
-use Rattle.std.specs.Prelude.{nat_lt}
+use Rattle.std.specs.Prelude.{is_some, nat_lt, slice_index}
 use Rattle.outside.specs.Causes.{Rose}
+use Rattle.outside.specs.Lists.{Journals}
 use Rattle.disk_log.specs.declared.refusals.LogRefusal.{LogRefusal}
 use Rattle.disk_log.specs.declared.refusals.LogRefusal.TheVariants as log
 use Rattle.disk_log.specs.Disk.{History, moments, AreSeen, IsImage, IfTold}
-use Rattle.disk_log.specs.Keeping.{AppendCause, Appends, Opened, end_behind, records_behind, told_lists}
+use Rattle.disk_log.specs.Keeping.{AppendCause, Appends, Opened, counts_behind, end_behind, records_behind, told_lists}
 use Rattle.disk_log.specs.Log.{HasOldOrNew}
 use Rattle.disk_log.specs.Records.{Record, bad_member, counted, journals_of, records_to}
 use Rattle.disk_log.specs.SeenLaws.{now-seen}
-use Rattle.disk_log.proofs.Running.{holds-now}
-use Rattle.committee_core.specs.Calling.{IsCalling}
+use Rattle.disk_log.proofs.Running.{counts-many, holds-now}
+use Rattle.committee_core.specs.Calling.{HasGrown, HasMetFault, IsCalling, IsNextOf, IsOfLog, LeavesOfLog, record_of, unfinished_behind}
 use Rattle.committee_core.specs.InFile.{HoldsOfCall, IsOfCall, LeavesOfCall, most_members}
+use Rattle.committee_core.specs.declared.call_log.Unfinished.{Unfinished}
+use Rattle.committee_core.proofs.CallLists.{grown-on, grown-same}
 
 -- ---- whose the records are
 
@@ -36,34 +39,23 @@ known-behind records r (Err refusal) known lt = known
 -- ---- what a disk holds
 
 -- the records up to the gate are of known members, and the disk holds them
-abbrev Stands : ℕ → ℕ → ℕ → History → Type 0
-Stands opened faults end h = AreKnown (records_to h.now.reads end) × LeavesOfCall opened faults (records_to h.now.reads end) h
+abbrev Stands : ℕ → Option Unfinished → History → Type 0
+Stands end u h = AreKnown (records_to h.now.reads end) × LeavesOfLog (records_to h.now.reads end) u h
 
-same-records : (opened faults : ℕ) (records : List Record) (file : List ℕ) → AreKnown records → counted file ≡ records → IsOfCall opened faults records file
-same-records opened faults records file known is = record { counts = inl is; members = ap (bad_member most_members 0) is ∙ known }
-
-more-faults : (opened faults faults' : ℕ) (records : List Record) (file : List ℕ) → faults ≤ faults' → IsOfCall opened faults records file → IsOfCall opened faults' records file
-more-faults opened faults faults' records file le it = record { counts = go it.counts; members = it.members }
-  where
-    go : (counted file ≡ records) ⊎ (Rose opened faults × (more : Record) × (counted file ≡ records ++ more ∷ [])) → (counted file ≡ records) ⊎ (Rose opened faults' × (more : Record) × (counted file ≡ records ++ more ∷ []))
-    go (inl same) = inl same
-    go (inr (rose, more, is)) = inr (omega (arith, le, rose), more, is)
-
-stands-still : (opened faults faults' end : ℕ) (h : History) → faults ≤ faults' → Stands opened faults end h → Stands opened faults' end h
-stands-still opened faults faults' end h le (known, left) = (known, λ image im. more-faults opened faults faults' (records_to h.now.reads end) image le (left image im))
+same-records : (records : List Record) (u : Option Unfinished) (file : List ℕ) → AreKnown records → counted file ≡ records → IsOfLog records u file
+same-records records u file known is = record { counts = inl is; members = ap (bad_member most_members 0) is ∙ known }
 
 -- ---- opening
 
-stands-opened : (opened : ℕ) (old new : Option History) (end : ℕ) → Opened old new end most_members → IfTold new (Stands opened opened end)
-stands-opened opened None new end none = subst (λ (t : Option History). IfTold t (Stands opened opened end)) (sym none) tt
-stands-opened opened (Some h) new end (n, is, o) =
+stands-opened : (old new : Option History) (end : ℕ) → Opened old new end most_members → IfTold new (Stands end None)
+stands-opened None new end none = subst (λ (t : Option History). IfTold t (Stands end None)) (sym none) tt
+stands-opened (Some h) new end (n, is, o) =
     let known : AreKnown (records_to n.now.reads end) = ap (bad_member most_members 0) o.records ∙ o.known in
-    subst (λ (t : Option History). IfTold t (Stands opened opened end)) (sym is)
-    (known, λ image im. same-records opened opened (records_to n.now.reads end) image known (o.between image im ∙ sym o.records))
+    subst (λ (t : Option History). IfTold t (Stands end None)) (sym is) (known, λ image im. same-records (records_to n.now.reads end) None image known (o.between image im ∙ sym o.records))
 
 -- ---- appending
 
-module _ (opened faults faults' end : ℕ) (r : Record) (result : Result (Unit {0}) LogRefusal) (old new : History) (known : AreKnown (records_to old.now.reads end)) (lt : r.member < most_members) where
+module _ (end : ℕ) (r : Record) (u : Option Unfinished) (result : Result (Unit {0}) LogRefusal) (old new : History) (known : AreKnown (records_to old.now.reads end)) (lt : r.member < most_members) where
   abbrev behind : List Record
   behind = records_behind (records_to old.now.reads end) r result
 
@@ -73,83 +65,134 @@ module _ (opened faults faults' end : ℕ) (r : Record) (result : Result (Unit {
   still-known : records_to new.now.reads gate ≡ behind → AreKnown (records_to new.now.reads gate)
   still-known is = ap (bad_member most_members 0) is ∙ known-behind (records_to old.now.reads end) r result known lt
 
-  stands-behind : records_to new.now.reads gate ≡ behind → ((image : List ℕ) → IsImage new.now image → counted image ≡ behind) → Stands opened faults' gate new
-  stands-behind is between = (still-known is, λ image im. same-records opened faults' (records_to new.now.reads gate) image (still-known is) (between image im ∙ sym is))
+  stands-behind : records_to new.now.reads gate ≡ behind → ((image : List ℕ) → IsImage new.now image → counted image ≡ behind) → Stands gate u new
+  stands-behind is between = (still-known is, λ image im. same-records (records_to new.now.reads gate) u image (still-known is) (between image im ∙ sym is))
 
-module _ (opened faults faults' end : ℕ) (r : Record) (old new : History) (known : AreKnown (records_to old.now.reads end)) (lt : r.member < most_members) where
-  either-way : Rose opened faults' → records_to new.now.reads end ≡ records_to old.now.reads end → (image : List ℕ) → HasOldOrNew (records_to old.now.reads end) r image → IsOfCall opened faults' (records_to new.now.reads end) image
-  either-way rose is image (inl before) = same-records opened faults' (records_to new.now.reads end) image (ap (bad_member most_members 0) is ∙ known) (before ∙ sym is)
-  either-way rose is image (inr more) = record {
-    counts = inr (rose, r, more ∙ ap (λ (l : List Record). l ++ r ∷ []) (sym is));
-    members = ap (bad_member most_members 0) more ∙ known-pushed most_members 0 (records_to old.now.reads end) r known lt;
+module _ (end : ℕ) (begun : Unfinished) (old new : History) (known : AreKnown (records_to old.now.reads end)) (lt : begun.member < most_members) where
+  either-way : records_to new.now.reads end ≡ records_to old.now.reads end → (image : List ℕ) → HasOldOrNew (records_to old.now.reads end) (record_of begun) image → IsOfLog (records_to new.now.reads end) (Some begun) image
+  either-way is image (inl before) = same-records (records_to new.now.reads end) (Some begun) image (ap (bad_member most_members 0) is ∙ known) (before ∙ sym is)
+  either-way is image (inr more) = record {
+    counts = inr (begun, refl, more ∙ ap (λ (l : List Record). l ++ record_of begun ∷ []) (sym is));
+    members = ap (bad_member most_members 0) more ∙ known-pushed most_members 0 (records_to old.now.reads end) (record_of begun) known lt;
   }
 
-module _ (opened faults faults' end member : ℕ) (bytes : List ℕ) (lt : member < most_members) (le : opened ≤ faults) where
+module _ (end : ℕ) (begun : Unfinished) (lt : begun.member < most_members) where
   abbrev one : Record
-  one = record { member = member; bytes = bytes }
+  one = record_of begun
 
-  goes : (result : Result (Unit {0}) LogRefusal) → result ≢ Err log.DiskFault → (old new : Option History) → Appends old new end member bytes result → IfTold old (Stands opened faults end) → IfTold new (Stands opened faults' (end_behind end (length bytes) result))
-  goes result isnt None new none stands = subst (λ (t : Option History). IfTold t (Stands opened faults' (end_behind end (length bytes) result))) (sym none) tt
-  goes result isnt (Some h) new (n, is, a) stands =
-      subst (λ (t : Option History). IfTold t (Stands opened faults' (end_behind end (length bytes) result))) (sym is)
-      (stands-behind opened faults faults' end one result h n stands.0 lt a.records (a.between isnt))
+  abbrev StandsAt : ℕ → Option Unfinished → Option History → Type 0
+  StandsAt gate u told = IfTold told (Stands gate u)
 
-  stops : Rose faults faults' → (old new : Option History) → Appends old new end member bytes (Err log.DiskFault) → IfTold old (Stands opened faults end) → IfTold new (Stands opened faults' end)
-  stops rose None new none stands = subst (λ (t : Option History). IfTold t (Stands opened faults' end)) (sym none) tt
-  stops rose (Some h) new (n, is, a) stands =
-      let since : Rose opened faults' = omega (arith, le, rose) in
-      subst (λ (t : Option History). IfTold t (Stands opened faults' end)) (sym is)
-      (ap (bad_member most_members 0) a.records ∙ stands.0, λ image im. either-way opened faults faults' end one h n stands.0 lt since a.records image (holds-now (HasOldOrNew (records_to h.now.reads end) one) h n a.any_moment image im))
+  goes : (u : Option Unfinished) (result : Result (Unit {0}) LogRefusal) → result ≢ Err log.DiskFault → (old new : Option History) → Appends old new end begun.member begun.bytes result → StandsAt end None old → StandsAt (end_behind end (length begun.bytes) result) u new
+  goes u result isnt None new none stands = subst (StandsAt (end_behind end (length begun.bytes) result) u) (sym none) tt
+  goes u result isnt (Some h) new (n, is, a) stands =
+      subst (StandsAt (end_behind end (length begun.bytes) result) u) (sym is) (stands-behind end one u result h n stands.0 lt a.records (a.between isnt))
 
-  stays : (old new : Option History) → new ≡ old → faults ≤ faults' → IfTold old (Stands opened faults end) → IfTold new (Stands opened faults' end)
-  stays None new same more stands = subst (λ (t : Option History). IfTold t (Stands opened faults' end)) (sym same) tt
-  stays (Some h) new same more stands = subst (λ (t : Option History). IfTold t (Stands opened faults' end)) (sym same) (stands-still opened faults faults' end h more stands)
+  stops : (old new : Option History) → Appends old new end begun.member begun.bytes (Err log.DiskFault) → StandsAt end None old → StandsAt end (Some begun) new
+  stops None new none stands = subst (StandsAt end (Some begun)) (sym none) tt
+  stops (Some h) new (n, is, a) stands =
+      subst (StandsAt end (Some begun)) (sym is)
+      (ap (bad_member most_members 0) a.records ∙ stands.0, λ image im. either-way end begun h n stands.0 lt a.records image (holds-now (HasOldOrNew (records_to h.now.reads end) one) h n a.any_moment image im))
 
-  appended : (old new : Option History) (shut : Bool) (result : Result (Unit {0}) LogRefusal) → (shut ≡ false → Appends old new end member bytes result) → (result ≡ Err log.Shut) ↔ (shut ≡ true) → AppendCause faults faults' result → (shut ≡ true → new ≡ old)
-      → IfTold old (Stands opened faults end) → IfTold new (Stands opened faults' (end_behind end (length bytes) result))
-  appended old new true (Ok done) appends shuts cause same stands = absurd (let e = shuts.1 refl in cc)
-  appended old new true (Err refusal) appends shuts cause same stands = stays old new (same refl) cause.later stands
-  appended old new false (Ok done) appends shuts cause same stands = goes (Ok done) (λ is. cc) old new (appends refl) stands
-  appended old new false (Err log.Shut) appends shuts cause same stands = absurd (let e = shuts.0 refl in cc)
-  appended old new false (Err log.Full) appends shuts cause same stands = goes (Err log.Full) (λ is. cc) old new (appends refl) stands
-  appended old new false (Err log.OutOfMemory) appends shuts cause same stands = goes (Err log.OutOfMemory) (λ is. cc) old new (appends refl) stands
-  appended old new false (Err log.DiskFault) appends shuts cause same stands = stops (cause.fault refl) old new (appends refl) stands
+  stays : (old new : Option History) → new ≡ old → StandsAt end None old → StandsAt end None new
+  stays old new same stands = subst (StandsAt end None) (sym same) stands
+
+  appended : (old new : Option History) (shut : Bool) (result : Result (Unit {0}) LogRefusal) → (shut ≡ false → Appends old new end begun.member begun.bytes result) → (result ≡ Err log.Shut) ↔ (shut ≡ true) → (shut ≡ true → new ≡ old)
+      → StandsAt end None old → StandsAt (end_behind end (length begun.bytes) result) (unfinished_behind begun result) new
+  appended old new true (Ok done) appends shuts same stands = absurd (let e = shuts.1 refl in cc)
+  appended old new true (Err log.Shut) appends shuts same stands = stays old new (same refl) stands
+  appended old new true (Err log.Full) appends shuts same stands = absurd (let e = shuts.1 refl in cc)
+  appended old new true (Err log.OutOfMemory) appends shuts same stands = absurd (let e = shuts.1 refl in cc)
+  appended old new true (Err log.DiskFault) appends shuts same stands = absurd (let e = shuts.1 refl in cc)
+  appended old new false (Ok done) appends shuts same stands = goes None (Ok done) (λ is. cc) old new (appends refl) stands
+  appended old new false (Err log.Shut) appends shuts same stands = absurd (let e = shuts.0 refl in cc)
+  appended old new false (Err log.Full) appends shuts same stands = goes None (Err log.Full) (λ is. cc) old new (appends refl) stands
+  appended old new false (Err log.OutOfMemory) appends shuts same stands = goes None (Err log.OutOfMemory) (λ is. cc) old new (appends refl) stands
+  appended old new false (Err log.DiskFault) appends shuts same stands = stops old new (appends refl) stands
 
 -- ---- the log of a call
 
-stands-in : (opened : ℕ) (told : Option History) (faults end width : ℕ) → IsCalling opened told faults end width → IfTold told (Stands opened faults end)
-stands-in opened None faults end width it = tt
-stands-in opened (Some h) faults end width it = (it.known, it.left)
+stands-in : (opened : ℕ) (first : Option Journals) (told : Option History) (faults end : ℕ) (counts : List ℕ) (u : Option Unfinished) → IsCalling opened first told faults end counts u → IfTold told (Stands end u)
+stands-in opened first None faults end counts u it = tt
+stands-in opened first (Some h) faults end counts u it = (it.known, it.left)
 
-calling : (opened : ℕ) (told : Option History) (faults end width : ℕ) → opened ≤ faults → width ≡ most_members → IfTold told (Stands opened faults end) → IsCalling opened told faults end width
-calling opened None faults end width le size stands = record { later = le; as_many = size; known = tt; left = tt }
-calling opened (Some h) faults end width le size stands = record { later = le; as_many = size; known = stands.0; left = stands.1 }
+calling : (opened : ℕ) (first : Option Journals) (told : Option History) (faults end : ℕ) (counts : List ℕ) (u : Option Unfinished) → opened ≤ faults → length counts ≡ most_members → IfTold told (Stands end u) → IsNextOf counts u → HasMetFault opened faults u
+    → HasGrown first (told_lists told end (length counts)) → IsCalling opened first told faults end counts u
+calling opened first None faults end counts u le size stands next met grown = record { later = le; as_many = size; known = tt; left = tt; next = next; met = met; grown = grown }
+calling opened first (Some h) faults end counts u le size stands next met grown = record { later = le; as_many = size; known = stands.0; left = stands.1; next = next; met = met; grown = grown }
 
-pub calling_opened : (old new : Option History) (opened end width : ℕ) → Opened old new end most_members → width ≡ most_members → IsCalling opened new opened end width
-calling_opened old new opened end width is size = calling opened new opened end width (omega arith) size (stands-opened opened old new end is)
+pub calling_opened : (old new : Option History) (opened end : ℕ) (counts : List ℕ) → Opened old new end most_members → length counts ≡ most_members → IsCalling opened (told_lists new end (length counts)) new opened end counts None
+calling_opened old new opened end counts is size =
+    calling opened (told_lists new end (length counts)) new opened end counts None (omega arith) size (stands-opened old new end is) tt tt (grown-same (told_lists new end (length counts)))
 
-pub calling_on : (opened : ℕ) (old new : Option History) (faults faults' end end' width width' member : ℕ) (bytes : List ℕ) (shut : Bool) (result : Result (Unit {0}) LogRefusal) → IsCalling opened old faults end width → member < width
-    → (shut ≡ false → Appends old new end member bytes result) → (result ≡ Err log.Shut) ↔ (shut ≡ true) → AppendCause faults faults' result → (shut ≡ true → new ≡ old) → end' ≡ end_behind end (length bytes) result → width' ≡ width
-    → IsCalling opened new faults' end' width'
-calling_on opened old new faults faults' end end' width width' member bytes shut result was lt appends shuts cause same there size =
-    let known : member < most_members = subst (λ (n : ℕ). member < n) was.as_many lt in
-    subst (λ (e : ℕ). IsCalling opened new faults' e width') (sym there)
-    (calling opened new faults' (end_behind end (length bytes) result) width' (omega (arith, was.later, cause.later)) (size ∙ was.as_many)
-    (appended opened faults faults' end member bytes known was.later old new shut result appends shuts cause same (stands-in opened old faults end width was)))
+-- the unfinished record is the next one
+next-behind : (counts counts' : List ℕ) (begun : Unfinished) (result : Result (Unit {0}) LogRefusal) → begun.member < length counts → begun.count ≡ slice_index counts begun.member + 1 → counts' ≡ counts_behind counts begun.member result
+    → IsNextOf counts' (unfinished_behind begun result)
+next-behind counts counts' begun (Ok done) lt next is = tt
+next-behind counts counts' begun (Err log.Shut) lt next is = tt
+next-behind counts counts' begun (Err log.Full) lt next is = tt
+next-behind counts counts' begun (Err log.OutOfMemory) lt next is = tt
+next-behind counts counts' begun (Err log.DiskFault) lt next is = subst (λ (cs : List ℕ). IsNextOf cs (Some begun)) (sym is) (lt, next)
 
-pub calling_still : (opened : ℕ) (old new : Option History) (faults faults' end end' width width' : ℕ) → IsCalling opened old faults end width → new ≡ old → faults ≤ faults' → end' ≡ end → width' ≡ width → IsCalling opened new faults' end' width'
-calling_still opened old new faults faults' end end' width width' was same le there size =
-    subst (λ (e : ℕ). IsCalling opened new faults' e width') (sym there)
-    (calling opened new faults' end width' (omega (arith, was.later, le)) (size ∙ was.as_many)
-    (subst (λ (t : Option History). IfTold t (Stands opened faults' end)) (sym same) (still old (stands-in opened old faults end width was))))
-  where
-    still : (told : Option History) → IfTold told (Stands opened faults end) → IfTold told (Stands opened faults' end)
-    still None stands = tt
-    still (Some h) stands = stands-still opened faults faults' end h le stands
+met-behind : (opened faults faults' : ℕ) (begun : Unfinished) (result : Result (Unit {0}) LogRefusal) → opened ≤ faults → AppendCause faults faults' result → HasMetFault opened faults' (unfinished_behind begun result)
+met-behind opened faults faults' begun (Ok done) le cause = tt
+met-behind opened faults faults' begun (Err log.Shut) le cause = tt
+met-behind opened faults faults' begun (Err log.Full) le cause = tt
+met-behind opened faults faults' begun (Err log.OutOfMemory) le cause = tt
+met-behind opened faults faults' begun (Err log.DiskFault) le cause = let rose : Rose faults faults' = cause.fault refl in omega (arith, le, rose)
+
+met-still : (opened faults faults' : ℕ) (u : Option Unfinished) → faults ≤ faults' → HasMetFault opened faults u → HasMetFault opened faults' u
+met-still opened faults faults' None le met = tt
+met-still opened faults faults' (Some u) le met = omega (arith, le, met)
+
+module _ (opened : ℕ) (first : Option Journals) (old new : Option History) (faults faults' end end' : ℕ) (counts counts' : List ℕ) (begun : Unfinished) (shut : Bool) (result : Result (Unit {0}) LogRefusal) where
+  pub calling_on : IsCalling opened first old faults end counts None → begun.member < length counts → begun.count ≡ slice_index counts begun.member + 1
+      → (shut ≡ false → Appends old new end begun.member begun.bytes result) → (result ≡ Err log.Shut) ↔ (shut ≡ true) → AppendCause faults faults' result → (shut ≡ true → new ≡ old) → end' ≡ end_behind end (length begun.bytes) result
+      → counts' ≡ counts_behind counts begun.member result → IsCalling opened first new faults' end' counts' (unfinished_behind begun result)
+  calling_on was lt next appends shuts cause same there many =
+      let known : begun.member < most_members = subst (λ (n : ℕ). begun.member < n) was.as_many lt in
+      let size : length counts' ≡ length counts = counts-many counts begun.member result counts' many in
+      calling opened first new faults' end' counts' (unfinished_behind begun result) (let a = was.later in let b = cause.later in omega (arith, a, b)) (size ∙ was.as_many)
+      (subst (λ (e : ℕ). IfTold new (Stands e (unfinished_behind begun result))) (sym there)
+      (appended end begun known old new shut result appends shuts same (stands-in opened first old faults end counts None was)))
+      (next-behind counts counts' begun result lt next many) (met-behind opened faults faults' begun result was.later cause)
+      (grown-on first old new end end' begun.member begun.bytes (length counts) (length counts') shut result appends shuts same there size was.grown)
+
+-- an append to a log that has no unfinished record
+module _ (opened : ℕ) (first : Option Journals) (old new : Option History) (faults faults' end end' : ℕ) (counts counts' : List ℕ) (member kept : ℕ) (bytes : List ℕ) (shut : Bool) (result : Result (Unit {0}) LogRefusal) where
+  abbrev now-begun : Unfinished
+  now-begun = record { member = member; count = kept + 1; bytes = bytes }
+
+  pub appended_calling : (u u' : Option Unfinished) (begun : Unfinished) (there : Bool) → begun ≡ now-begun → kept ≡ slice_index counts member → member < length counts → there ≡ is_some u → there ≡ false → u' ≡ unfinished_behind begun result
+      → (shut ≡ false → Appends old new end member bytes result) → (result ≡ Err log.Shut) ↔ (shut ≡ true) → AppendCause faults faults' result → (shut ≡ true → new ≡ old) → end' ≡ end_behind end (length bytes) result
+      → counts' ≡ counts_behind counts member result → IsCalling opened first old faults end counts u → IsCalling opened first new faults' end' counts' u'
+  appended_calling None u' begun there is same lt none isnt left appends shuts cause stays gate many was =
+      subst (λ (u : Option Unfinished). IsCalling opened first new faults' end' counts' u) (sym (left ∙ ap (λ (b : Unfinished). unfinished_behind b result) is))
+      (calling_on opened first old new faults faults' end end' counts counts' now-begun shut result was lt (ap (λ (n : ℕ). n + 1) same) appends shuts cause stays gate many)
+  appended_calling (Some u) u' begun there is same lt none isnt left appends shuts cause stays gate many was = absurd (let e : true ≡ false = sym none ∙ isnt in cc)
+
+pub calling_still : (opened : ℕ) (first : Option Journals) (old new : Option History) (faults faults' end end' : ℕ) (counts counts' : List ℕ) (u : Option Unfinished) → IsCalling opened first old faults end counts u → new ≡ old → faults ≤ faults' → end' ≡ end → counts' ≡ counts
+    → IsCalling opened first new faults' end' counts' u
+calling_still opened first old new faults faults' end end' counts counts' u was same le there size =
+    subst (λ (cs : List ℕ). IsCalling opened first new faults' end' cs u) (sym size)
+    (subst (λ (e : ℕ). IsCalling opened first new faults' e counts u) (sym there)
+    (subst (λ (t : Option History). IsCalling opened first t faults' end counts u) (sym same)
+    (calling opened first old faults' end counts u (let a = was.later in omega (arith, a, le)) was.as_many (stands-in opened first old faults end counts u was) was.next (met-still opened faults faults' u le was.met) was.grown)))
 
 -- ---- the disk after a call
 
-pub call_holds : (opened : ℕ) (told : Option History) (faults end width : ℕ) → IsCalling opened told faults end width → IfTold told (λ h. AreSeen (moments h)) → HoldsOfCall opened faults told (told_lists told end width)
-call_holds opened None faults end width it seen = refl
-call_holds opened (Some h) faults end width it seen =
-    (records_to h.now.reads end, ap (λ (n : ℕ). Some (journals_of n (records_to h.now.reads end))) it.as_many, it.left h.now.reads (now-seen h seen), it.left)
+of-call : (opened faults : ℕ) (records : List Record) (u : Option Unfinished) (file : List ℕ) → HasMetFault opened faults u → IsOfLog records u file → IsOfCall opened faults records file
+of-call opened faults records u file met it = record { counts = go u met it.counts; members = it.members }
+  where
+    go : (u : Option Unfinished) → HasMetFault opened faults u → (counted file ≡ records) ⊎ ((more : Unfinished) × (u ≡ Some more) × (counted file ≡ records ++ record_of more ∷ []))
+        → (counted file ≡ records) ⊎ (Rose opened faults × (more : Record) × (counted file ≡ records ++ more ∷ []))
+    go u met (inl same) = inl same
+    go None met (inr (more, is, counts)) = absurd (cc)
+    go (Some u) met (inr (more, is, counts)) = inr (met, record_of more, counts)
+
+pub call_holds : (opened : ℕ) (first : Option Journals) (told : Option History) (faults end : ℕ) (counts : List ℕ) (u : Option Unfinished) → IsCalling opened first told faults end counts u → IfTold told (λ h. AreSeen (moments h))
+    → HoldsOfCall opened faults told (told_lists told end (length counts))
+call_holds opened first None faults end counts u it seen = refl
+call_holds opened first (Some h) faults end counts u it seen =
+    let leaves : LeavesOfCall opened faults (records_to h.now.reads end) h = λ image im. of-call opened faults (records_to h.now.reads end) u image it.met (it.left image im) in
+    (records_to h.now.reads end, ap (λ (n : ℕ). Some (journals_of n (records_to h.now.reads end))) it.as_many, leaves h.now.reads (now-seen h seen), leaves)

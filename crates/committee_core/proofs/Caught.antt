@@ -34,7 +34,7 @@ use Rattle.committee_core.specs.Journals.{KeepsFronts, ReadsBack}
 use Rattle.committee_core.specs.Report.{refusal_text, setting_in}
 use Rattle.committee_core.specs.Ways.{MeetsBadRecord, RunsCut, RunsSilently, TextCut}
 use Rattle.committee_core.proofs.Ended.{holds_along}
-use Rattle.committee_core.proofs.Made.{whole_fronts}
+use Rattle.committee_core.proofs.Whole.{whole_fronts}
 use Rattle.committee_core.proofs.Through.{through}
 
 -- ---- a member that is honest and up
@@ -123,12 +123,12 @@ pub untold : (trust : Trust) (s : Schedule) (kept kept' : Option Journals) → k
 untold trust s None kept' none = tt
 untold trust s (Some lists) kept' none = absurd (cc)
 
-front_by : (text : List ℕ) (m : ℕ) (held : Option (List ℕ)) (kept kept' : Option Journals) (r : Result Schedule Refused) → schedule_of text ≡ r → TextCut program_trust r None None kept kept' → FrontOf text m held held kept kept'
+front_by : {R : Type 0} (text : List ℕ) (m : ℕ) (held : Option (List ℕ)) (kept kept' : Option Journals) (r : Result Schedule Refused) → schedule_of text ≡ r → TextCut program_trust r None None kept kept' → FrontOf text m held held kept kept' R
 front_by text m held kept kept' (Ok s) is (inl front) = unrun s is front.journals (Keeps-refl held)
 front_by text m held kept kept' (Ok s) is (inr bad) = unrun s is (untold program_trust s kept kept' bad.untold) (Keeps-refl held)
 front_by text m held kept kept' (Err r) is cut = unrefused r is cut.1 ([], refusal_text r, refl, Appends-nil held)
 
-pub front_of : (text : List ℕ) (m : ℕ) (held : Option (List ℕ)) (kept kept' : Option Journals) → TextCut program_trust (schedule_of text) None None kept kept' → FrontOf text m held held kept kept'
+pub front_of : {R : Type 0} (text : List ℕ) (m : ℕ) (held : Option (List ℕ)) (kept kept' : Option Journals) → TextCut program_trust (schedule_of text) None None kept kept' → FrontOf text m held held kept kept' R
 front_of text m held kept kept' cut = front_by text m held kept kept' (schedule_of text) refl cut
 
 pub kept_refused : (text : List ℕ) (r : Refused) (kept kept' : Option Journals) → schedule_of text ≡ Err r → TextCut program_trust (schedule_of text) None None kept kept' → KeepsJournals kept kept'
@@ -143,8 +143,8 @@ ran_cut text kept kept' sc runs =
 -- ---- a text that was read
 
 pub fault_of : {R : Type 0} (text : List ℕ) (m : ℕ) (left left' held held' : Option (List ℕ)) (kept kept' : Option Journals) → ReadsText longest_text left left' text
-    → (R × FrontOf text m held held' kept kept') ⊎ ((s : Schedule) × (schedule_of text ≡ Ok s) × MeetsBadRecord program_trust s Appends None None kept)
-    → (R × FollowsFront m left left' held held' kept kept') ⊎ FollowsBad left left' kept
+    → (R × FrontOf text m held held' kept kept' R) ⊎ ((s : Schedule) × (schedule_of text ≡ Ok s) × MeetsBadRecord program_trust s Appends None None kept)
+    → (R × FollowsFront m left left' held held' kept kept' R) ⊎ FollowsBad left left' kept
 fault_of text m left left' held held' kept kept' read (inl (rose, front)) = inl (rose, inr (text, read, front))
 fault_of text m left left' held held' kept kept' read (inr (s, is, meets)) = inr (record { text = text; schedule = s; read = read; is = is; meets = meets })
 

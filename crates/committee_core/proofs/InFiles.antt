@@ -17,7 +17,7 @@ use Rattle.disk_log.specs.declared.refusals.OpenRefusal.TheVariants as open_refu
 use Rattle.command_words.specs.declared.words.Command.{Command}
 use Rattle.command_words.specs.declared.words.Command.TheVariants as command
 use Rattle.committee_core.specs.Endings.{BeginsEmpty, Ends}
-use Rattle.committee_core.specs.InFile.{AreOfMembers, EndsInFile, EndsOver, EndsOverLog, IsBadMember, IsFull, IsRefusedBy, MayRun, bad_member_at, bad_member_text, is_not_empty, kept_in, most_members, not_empty_text}
+use Rattle.committee_core.specs.InFile.{AreOfMembers, EndsInFile, EndsOver, EndsOverLog, IsBadMember, IsFull, IsRefusedBy, LeavesEndings, MayRun, bad_member_at, bad_member_text, is_not_empty, kept_in, most_members, not_empty_text}
 use Rattle.committee_core.specs.Journals.{AreEmpty}
 use Rattle.committee_core.specs.Outside.{Outside, outside}
 use Rattle.outside.specs.Streams.{AppendsFront}
@@ -160,6 +160,7 @@ module _ (words : List (List ℕ)) (old told told' : Option History) (end : ℕ)
     fits = fits may;
     ends = subst (λ (l : Option Journals). Ends (command_in words) (outside left read_faults held wrote l faults) (record Last { kept = over.lists }) status) same over.ends;
     holds = over.holds;
+    each = subst (λ (l : Option Journals). LeavesEndings (command_in words) told' (outside left read_faults held wrote l faults) Last status) same over.each;
   })
     where
       fits : MayRun words told end → (names_replay words ≡ true) ⊎ IfTold old (λ h. counted h.now.reads ≡ [])

@@ -18,3 +18,5 @@ pub mod Calling
 pub mod InFiles
 pub mod Through
 pub mod Caught
+pub mod CallLists
+pub mod Fewer

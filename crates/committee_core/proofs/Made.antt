@@ -1,9 +1,9 @@
 -- The run that `make` makes: no line of it stops, starts or reads a member's records, so member 0 stands after it.
-use Rattle.std.proofs.Common.{◌≡◌, ◌≤◌, ◌==◌, ◌%◌, ◌+◌, ◌++◌, inl, inr, ℕ, zero, suc, Bool, true, false, cond, List, [], ◌∷◌, slice_get, Option, Some, None, option_map, option_and_then, Result, Ok, Err, refl, sym, ap, ◌∙◌, subst, append-nil, arith}
+use Rattle.std.proofs.Common.{◌≡◌, ◌≤◌, ◌==◌, ◌%◌, ◌+◌, ◌++◌, inl, inr, ℕ, zero, suc, Bool, true, false, cond, List, [], ◌∷◌, slice_get, Option, Some, None, option_map, option_and_then, Result, Ok, Err, refl, sym, ap, ◌∙◌, subst, arith}
 use Rattle.std.specs.List.{flat_map, range_with_len}
 use Rattle.std.specs.Io.KnownBytes.{Appends}
 use Rattle.std.proofs.KnownBytes.{Appends-nil}
-use Rattle.outside.specs.Lists.{Journals, journal_of}
+use Rattle.outside.specs.Lists.{Journals}
 use Rattle.report_text.specs.declared.lines.Line.TheVariants as line
 use Rattle.report_text.specs.Text.{text_of}
 use Rattle.schedule_make.specs.Make.{make_text_of}
@@ -33,7 +33,7 @@ use Rattle.outside.specs.Streams.{AppendsFront}
 use Rattle.committee_core.specs.Ways.{MeetsBadRecord, RunsSilently, ShowsRun, TextCut}
 use Rattle.committee_core.proofs.Ended.{holds_along}
 use Rattle.committee_core.proofs.Standing.{AreStanding, IsQuiet, first-standing, run-standing}
-use Rattle.committee_core.proofs.Whole.{empty_fronts}
+use Rattle.committee_core.proofs.Whole.{empty_fronts, whole_fronts}
 
 -- ---- the lines that are made
 
@@ -188,10 +188,6 @@ pub not_bad : GeneratedTextIsASchedule → (number : ℕ) → number ≤ 10000 �
 not_bad law number low text same kept (s, is, bad) = never-bad program_trust number s Appends None None kept (read-made law number low text same s is) bad
 
 -- ---- what was kept
-
-pub whole_fronts : (trust : Trust) (s : Schedule) (kept kept' : Option Journals) → KeepsRun trust s kept kept' → KeepsFronts trust s kept kept'
-whole_fronts trust s None kept' all = tt
-whole_fronts trust s (Some old) kept' (lists, is, all) = (lists, is, λ m. ([], sym (all m) ∙ sym (append-nil (journal_of lists m))))
 
 cut-fronts : (trust : Trust) (number : ℕ) (r : Result Schedule Refused) (kept kept' : Option Journals) → r ≡ Ok (made number 4) → TextCut trust r None None kept kept' → KeepsFronts trust (made number 4) kept kept'
 cut-fronts trust number (Ok s) kept kept' law (inl front) = subst (λ (t : Schedule). KeepsFronts trust t kept kept') (same-schedule number (Ok s) s law refl) front.journals

@@ -39,6 +39,7 @@ starved-run : (o : Outside) → RunEnds o o 7
 starved-run o = record {
   known = inr (inr (inr (inr (inr refl))));
   whole = λ is. absurd (omega (arith, is));
+  steady = λ is rose. omega (arith, is);
   refused = λ is. absurd (omega (arith, is));
   read_fault = λ is. absurd (omega (arith, is));
   unwritten = λ is. absurd (omega (arith, is));
@@ -52,6 +53,7 @@ starved-make law number range o empty = record {
   known = inr (inr (inr refl));
   unread = (refl, refl);
   whole = λ is. absurd (omega (arith, is));
+  steady = λ is rose. omega (arith, is);
   write_fault = λ is. absurd (omega (arith, is));
   keep_fault = λ is. absurd (omega (arith, is));
   cut = λ is. made_cut number o.held o.kept o.kept (kept_none law number range.1 o.kept empty);
@@ -94,6 +96,7 @@ starved-follow : (member : ℕ) (o : Outside) → FollowEnds member o o 7
 starved-follow member o = record {
   known = inr (inr (inr (inr (inr (inl refl)))));
   whole = λ is. absurd (follow_other 7 refl is);
+  steady = λ is rose. follow_other 7 refl is;
   refused = λ is. absurd (omega (arith, is));
   read_fault = λ is. absurd (omega (arith, is));
   unwritten = λ is. absurd (unwritten_other 7 refl is);

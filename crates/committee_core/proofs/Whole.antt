@@ -1,10 +1,10 @@
 -- Texts and runs that ended, or were cut.
-use Rattle.std.proofs.Common.{◌≡◌, ℕ, ◌≤◌, inl, Bool, true, false, List, [], ◌++◌, length, Option, Some, None, Result, Ok, Err, nat_lt, if◌then◌else◌, refl, sym, ap, subst, arith}
+use Rattle.std.proofs.Common.{◌≡◌, ◌∙◌, ℕ, ◌≤◌, inl, append-nil, Bool, true, false, List, [], ◌++◌, length, Option, Some, None, Result, Ok, Err, nat_lt, if◌then◌else◌, refl, sym, ap, subst, arith}
 use Rattle.std.proofs.lemmas.Bool.Decides.{nat_tests}
 use Rattle.std.proofs.KnownBytes.{Appends-nil}
 use Rattle.std.specs.Str.{bytes_eq}
 use Rattle.quorum_core.specs.Seals.{keyed_seal}
-use Rattle.outside.specs.Lists.{Journals}
+use Rattle.outside.specs.Lists.{Journals, journal_of}
 use Rattle.schedule_text.specs.declared.words.Schedule.{Schedule}
 use Rattle.schedule_text.specs.Schedule.{Refused, longest_text, schedule_of}
 use Rattle.world_spec.specs.Setting.{Trust}
@@ -13,7 +13,7 @@ use Rattle.world_spec.specs.Run.{journal}
 use Rattle.scene_spec.specs.Scene.{Scene}
 use Rattle.world_core.specs.Trusts.{trust_by}
 use Rattle.committee_core.specs.Headline.{program_trust}
-use Rattle.committee_core.specs.Journals.{AreEmpty, KeepsFronts}
+use Rattle.committee_core.specs.Journals.{AreEmpty, KeepsFronts, KeepsRun}
 use Rattle.committee_core.specs.Report.{refusal_text, report_text, setting_in}
 use Rattle.outside.specs.Streams.{AppendsFront}
 use Rattle.committee_core.specs.Ways.{RunsCut, RunsSilently, RunsWhole, ShowsRun, TextCut}
@@ -47,6 +47,18 @@ keyed-seals secret = refl
 pub program_seals : (secret : List ℕ) → secret ≡ program_secret → trust_by (λ signer bytes. keyed_seal secret signer bytes) (λ signer bytes seal. bytes_eq seal.0 (keyed_seal secret signer bytes).0) ≡ program_trust
 unfolding program_trust
 program_seals secret is = subst (λ (x : List ℕ). trust_by (λ signer bytes. keyed_seal secret signer bytes) (λ signer bytes seal. bytes_eq seal.0 (keyed_seal secret signer bytes).0) ≡ keyed x) is (keyed-seals secret)
+
+-- ---- a run that was whole, and is not said to be
+
+pub whole_fronts : (trust : Trust) (s : Schedule) (kept kept' : Option Journals) → KeepsRun trust s kept kept' → KeepsFronts trust s kept kept'
+whole_fronts trust s None kept' all = tt
+whole_fronts trust s (Some old) kept' (lists, is, all) = (lists, is, λ m. ([], sym (all m) ∙ sym (append-nil (journal_of lists m))))
+
+pub whole_cut : (trust : Trust) (s : Schedule) (held held' : Option (List ℕ)) (kept kept' : Option Journals) → RunsWhole trust s held held' kept kept' → RunsCut trust s held held' kept kept'
+whole_cut trust s held held' kept kept' runs = inl (record {
+  written = λ reads. (report_text trust s, [], sym (append-nil (report_text trust s)), runs.written reads);
+  journals = whole_fronts trust s kept kept' runs.journals;
+})
 
 -- ---- a whole text
 

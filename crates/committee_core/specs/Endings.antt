@@ -20,6 +20,7 @@ use Rattle.committee_core.specs.Replay.{ReplayEnds}
 pub record RunEnds (before now : Outside) (status : ℕ) : Type 0 where
   pub known : (status ≡ 0) ⊎ (status ≡ 3) ⊎ (status ≡ 4) ⊎ (status ≡ 5) ⊎ (status ≡ 6) ⊎ (status ≡ 7)
   pub whole : status ≡ 0 → IsWhole before.left now.left before.held now.held before.kept now.kept
+  pub steady : status ≡ 0 → Rose before.keep_faults now.keep_faults → ⊥
   pub refused : status ≡ 3 → IsRefused before.left now.left before.held now.held before.kept now.kept
   pub read_fault : status ≡ 4 → Rose before.read_faults now.read_faults
   pub unwritten : status ≡ 4 → Keeps before.held now.held × KeepsJournals before.kept now.kept

@@ -165,16 +165,16 @@ pub record Follows (m status : ℕ) (left left' held held' : Option (List ℕ)) 
   pub read : ReadsText longest_text left left' text
   pub says : SaysOf text m status held held' kept kept'
 
--- a text was cut: its run, or the writing of a line
-pub data FrontOf (text : List ℕ) (m : ℕ) (held held' : Option (List ℕ)) (kept kept' : Option Journals) : Type 0 where
-  unrun : (s : Schedule) → schedule_of text ≡ Ok s → KeepsFronts program_trust s kept kept' → Keeps held held' → FrontOf text m held held' kept kept'
-  unsaid : (v : Verdict) → Finds text m kept kept' v → AppendsFront held held' (verdict_text m v) → FrontOf text m held held' kept kept'
-  unrefused : (r : Refused) → schedule_of text ≡ Err r → KeepsJournals kept kept' → AppendsFront held held' (refusal_text r) → FrontOf text m held held' kept kept'
+-- a text was cut: its run, or the writing of a line. The run was whole only if no count of the keeper's faults rose
+pub data FrontOf (text : List ℕ) (m : ℕ) (held held' : Option (List ℕ)) (kept kept' : Option Journals) (HasRisen : Type 0) : Type 0 where
+  unrun : (s : Schedule) → schedule_of text ≡ Ok s → KeepsFronts program_trust s kept kept' → Keeps held held' → FrontOf text m held held' kept kept' HasRisen
+  unsaid : (v : Verdict) → Finds text m kept kept' v → (HasRisen → ⊥) → AppendsFront held held' (verdict_text m v) → FrontOf text m held held' kept kept' HasRisen
+  unrefused : (r : Refused) → schedule_of text ≡ Err r → KeepsJournals kept kept' → AppendsFront held held' (refusal_text r) → FrontOf text m held held' kept kept' HasRisen
 
 -- nothing was written and kept, or a prefix of what was to be
-abbrev pub FollowsFront : ℕ → Option (List ℕ) → Option (List ℕ) → Option (List ℕ) → Option (List ℕ) → Option Journals → Option Journals → Type 0
-FollowsFront m left left' held held' kept kept' =
-    (Keeps held held' × KeepsJournals kept kept') ⊎ ((text : List ℕ) × ReadsText longest_text left left' text × FrontOf text m held held' kept kept')
+abbrev pub FollowsFront : ℕ → Option (List ℕ) → Option (List ℕ) → Option (List ℕ) → Option (List ℕ) → Option Journals → Option Journals → Type 0 → Type 0
+FollowsFront m left left' held held' kept kept' HasRisen =
+    (Keeps held held' × KeepsJournals kept kept') ⊎ ((text : List ℕ) × ReadsText longest_text left left' text × FrontOf text m held held' kept kept' HasRisen)
 
 -- a record that was read back in the run is bad. A keeper that shows its lists gives none.
 pub record FollowsBad (left left' : Option (List ℕ)) (kept : Option Journals) : Type 0 where
@@ -188,9 +188,10 @@ pub record FollowsBad (left left' : Option (List ℕ)) (kept : Option Journals) 
 pub record FollowEnds (m : ℕ) (before now : Outside) (status : ℕ) : Type 0 where
   pub known : (status ≡ 0) ⊎ (status ≡ 3) ⊎ (status ≡ 4) ⊎ (status ≡ 5) ⊎ (status ≡ 6) ⊎ (status ≡ 7) ⊎ (status ≡ 8)
   pub whole : (status ≡ 0) ⊎ (status ≡ 8) → Follows m status before.left now.left before.held now.held before.kept now.kept
+  pub steady : (status ≡ 0) ⊎ (status ≡ 8) → Rose before.keep_faults now.keep_faults → ⊥
   pub refused : status ≡ 3 → IsRefused before.left now.left before.held now.held before.kept now.kept
   pub read_fault : status ≡ 4 → Rose before.read_faults now.read_faults × KeepsJournals before.kept now.kept
   pub unwritten : (status ≡ 4) ⊎ (status ≡ 6) → Keeps before.held now.held
   pub write_fault : status ≡ 5 → Rose before.write_faults now.write_faults
-  pub keep_fault : status ≡ 6 → (Rose before.keep_faults now.keep_faults × FollowsFront m before.left now.left before.held now.held before.kept now.kept) ⊎ FollowsBad before.left now.left before.kept
-  pub cut : (status ≡ 5) ⊎ (status ≡ 7) → FollowsFront m before.left now.left before.held now.held before.kept now.kept
+  pub keep_fault : status ≡ 6 → (Rose before.keep_faults now.keep_faults × FollowsFront m before.left now.left before.held now.held before.kept now.kept (Rose before.keep_faults now.keep_faults)) ⊎ FollowsBad before.left now.left before.kept
+  pub cut : (status ≡ 5) ⊎ (status ≡ 7) → FollowsFront m before.left now.left before.held now.held before.kept now.kept (Rose before.keep_faults now.keep_faults)

@@ -76,11 +76,17 @@ pub record IsFull (words : List (List ℕ)) (told told' : Option History) (end :
   pub write_fault : status ≡ 5 → Rose before.write_faults now.write_faults
   pub cut : (status ≡ 5) ⊎ (status ≡ 7) → AppendsFront before.held now.held not_empty_text
 
+-- in each file that a crash may leave now, the lists of the records that count are lists with which the command may have ended so
+abbrev pub LeavesEndings : Option Command → Option History → Outside → Outside → ℕ → Type 0
+LeavesEndings command None before now status = Unit {0}
+LeavesEndings command (Some h) before now status = (image : List ℕ) → IsImage h.now image → Ends command before (record now { kept = Some (journals_of most_members (counted image)) }) status
+
 -- the command ended, and the disk holds the lists that it left
 pub record EndsOver (command : Option Command) (told' : Option History) (before now : Outside) (status : ℕ) : Type 0 where
   pub lists : Option Journals
   pub ends : Ends command before (record now { kept = lists }) status
   pub holds : HoldsOfCall before.keep_faults now.keep_faults told' lists
+  pub each : LeavesEndings command told' before now status
 
 -- the words may run over the records before the gate
 abbrev pub MayRun : List (List ℕ) → Option History → ℕ → Type 0
@@ -114,6 +120,7 @@ pub record IsCalled (words : List (List ℕ)) (told told' : Option History) (bef
   pub fits : (names_replay words ≡ true) ⊎ IfTold told (λ h. counted h.now.reads ≡ [])
   pub ends : Ends (command_in words) (record before { keep_faults = opened }) (record now { kept = lists }) status
   pub holds : HoldsOfCall opened now.keep_faults told' lists
+  pub each : LeavesEndings (command_in words) told' (record before { keep_faults = opened }) now status
 
 abbrev pub EndsInFile : List (List ℕ) → Option History → Option History → Outside → Outside → ℕ → Type 0
 EndsInFile words told told' before now status = IsUncalled words told told' before now status ⊎ IsCalled words told told' before now status

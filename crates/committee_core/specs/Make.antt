@@ -75,6 +75,7 @@ pub record MakeEnds (number : ℕ) (before now : Outside) (status : ℕ) : Type 
   pub known : (status ≡ 0) ⊎ (status ≡ 5) ⊎ (status ≡ 6) ⊎ (status ≡ 7)
   pub unread : (now.left ≡ before.left) × (now.read_faults ≡ before.read_faults)
   pub whole : status ≡ 0 → MakesWhole number before.held now.held before.kept now.kept
+  pub steady : status ≡ 0 → Rose before.keep_faults now.keep_faults → ⊥
   pub write_fault : status ≡ 5 → Rose before.write_faults now.write_faults
   pub keep_fault : status ≡ 6 → Rose before.keep_faults now.keep_faults
   pub cut : (status ≡ 5) ⊎ (status ≡ 6) ⊎ (status ≡ 7) → MakesFront number before.held now.held before.kept now.kept

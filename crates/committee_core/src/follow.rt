@@ -35,6 +35,7 @@ fn find_verdict<R: Threads + Sync, D: Keeper>(
     requires room { 64 ≤ D.width keeper.old }
     requires empty { AreEmpty (D.lists keeper.old) }
     ensures finds { IfOk result (Finds text.now member (D.lists keeper.old) (D.lists keeper.new)) }
+    ensures steady { IfOk result (λ _. Rose (D.failed keeper.old) (D.failed keeper.new) → ⊥) }
     ensures refused { (line cause : ℕ) → IsErrOf result (unrun.Refused line cause) → (schedule_of text.now ≡ Err (record { line = line; cause = cause })) × KeepsJournals (D.lists keeper.old) (D.lists keeper.new) }
     ensures bad { IsErrOf result unrun.BadRecord → (s : Schedule) × (schedule_of text.now ≡ Ok s) × MeetsBadRecord program_trust s Appends None None (D.lists keeper.old) }
     ensures cut { OnErr result (TextCut program_trust (schedule_of text.now) None None (D.lists keeper.old) (D.lists keeper.new)) }
@@ -92,11 +93,12 @@ fn follow_text<R: Threads + Sync, K: Sink, D: Keeper>(
     requires empty { AreEmpty (D.lists keeper.old) }
     ensures known { (result ≡ 0) ⊎ (result ≡ 3) ⊎ (result ≡ 5) ⊎ (result ≡ 6) ⊎ (result ≡ 7) ⊎ (result ≡ 8) }
     ensures whole { (result ≡ 0) ⊎ (result ≡ 8) → SaysOf text.now member result (K.held sink.old) (K.held sink.new) (D.lists keeper.old) (D.lists keeper.new) }
+    ensures steady { (result ≡ 0) ⊎ (result ≡ 8) → Rose (D.failed keeper.old) (D.failed keeper.new) → ⊥ }
     ensures refused { result ≡ 3 → (r : Refused) × (schedule_of text.now ≡ Err r) × Appends (K.held sink.old) (K.held sink.new) (refusal_text r) × KeepsJournals (D.lists keeper.old) (D.lists keeper.new) }
     ensures unwritten { result ≡ 6 → Keeps (K.held sink.old) (K.held sink.new) }
     ensures write_fault { result ≡ 5 → Rose (K.faults sink.old) (K.faults sink.new) }
-    ensures keep_fault { result ≡ 6 → (Rose (D.failed keeper.old) (D.failed keeper.new) × FrontOf text.now member (K.held sink.old) (K.held sink.new) (D.lists keeper.old) (D.lists keeper.new)) ⊎ ((s : Schedule) × (schedule_of text.now ≡ Ok s) × MeetsBadRecord program_trust s Appends None None (D.lists keeper.old)) }
-    ensures cut { (result ≡ 5) ⊎ (result ≡ 7) → FrontOf text.now member (K.held sink.old) (K.held sink.new) (D.lists keeper.old) (D.lists keeper.new) }
+    ensures keep_fault { result ≡ 6 → (Rose (D.failed keeper.old) (D.failed keeper.new) × FrontOf text.now member (K.held sink.old) (K.held sink.new) (D.lists keeper.old) (D.lists keeper.new) (Rose (D.failed keeper.old) (D.failed keeper.new))) ⊎ ((s : Schedule) × (schedule_of text.now ≡ Ok s) × MeetsBadRecord program_trust s Appends None None (D.lists keeper.old)) }
+    ensures cut { (result ≡ 5) ⊎ (result ≡ 7) → FrontOf text.now member (K.held sink.old) (K.held sink.new) (D.lists keeper.old) (D.lists keeper.new) (Rose (D.failed keeper.old) (D.failed keeper.new)) }
 {
     match find_verdict(rt, alloc, text, member, keeper) {
         Ok(verdict) => say_verdict(alloc, member, verdict, sink),
@@ -121,12 +123,13 @@ pub(crate) fn follow<R: Threads + Sync, S: Source, K: Sink, D: Keeper>(
     requires empty { AreEmpty (D.lists keeper.old) }
     ensures known { (result ≡ 0) ⊎ (result ≡ 3) ⊎ (result ≡ 4) ⊎ (result ≡ 5) ⊎ (result ≡ 6) ⊎ (result ≡ 7) ⊎ (result ≡ 8) }
     ensures whole { (result ≡ 0) ⊎ (result ≡ 8) → Follows member result (S.left source.old) (S.left source.new) (K.held sink.old) (K.held sink.new) (D.lists keeper.old) (D.lists keeper.new) }
+    ensures steady { (result ≡ 0) ⊎ (result ≡ 8) → Rose (D.failed keeper.old) (D.failed keeper.new) → ⊥ }
     ensures refused { result ≡ 3 → IsRefused (S.left source.old) (S.left source.new) (K.held sink.old) (K.held sink.new) (D.lists keeper.old) (D.lists keeper.new) }
     ensures read_fault { result ≡ 4 → Rose (S.faults source.old) (S.faults source.new) × KeepsJournals (D.lists keeper.old) (D.lists keeper.new) }
     ensures unwritten { (result ≡ 4) ⊎ (result ≡ 6) → Keeps (K.held sink.old) (K.held sink.new) }
     ensures write_fault { result ≡ 5 → Rose (K.faults sink.old) (K.faults sink.new) }
-    ensures keep_fault { result ≡ 6 → (Rose (D.failed keeper.old) (D.failed keeper.new) × FollowsFront member (S.left source.old) (S.left source.new) (K.held sink.old) (K.held sink.new) (D.lists keeper.old) (D.lists keeper.new)) ⊎ FollowsBad (S.left source.old) (S.left source.new) (D.lists keeper.old) }
-    ensures cut { (result ≡ 5) ⊎ (result ≡ 7) → FollowsFront member (S.left source.old) (S.left source.new) (K.held sink.old) (K.held sink.new) (D.lists keeper.old) (D.lists keeper.new) }
+    ensures keep_fault { result ≡ 6 → (Rose (D.failed keeper.old) (D.failed keeper.new) × FollowsFront member (S.left source.old) (S.left source.new) (K.held sink.old) (K.held sink.new) (D.lists keeper.old) (D.lists keeper.new) (Rose (D.failed keeper.old) (D.failed keeper.new))) ⊎ FollowsBad (S.left source.old) (S.left source.new) (D.lists keeper.old) }
+    ensures cut { (result ≡ 5) ⊎ (result ≡ 7) → FollowsFront member (S.left source.old) (S.left source.new) (K.held sink.old) (K.held sink.new) (D.lists keeper.old) (D.lists keeper.new) (Rose (D.failed keeper.old) (D.failed keeper.new)) }
 {
     match read_text(alloc, LONGEST_TEXT, source) {
         Ok(text) => follow_text(rt, alloc, text.as_slice(), member, sink, keeper),

@@ -1,6 +1,6 @@
 //! The program over a journal file.
 
-ghost use Rattle.std.specs.Prelude.{◌≡◌, ◌⊎◌, ◌≤◌, IfOk, IsErrOf, OnOk, length, map};
+ghost use Rattle.std.specs.Prelude.{◌≡◌, ◌⊎◌, ◌≤◌, None, IfOk, IsErrOf, OnOk, length, map};
 ghost use Rattle.std.specs.String.{string_bytes};
 ghost use Rattle.std.specs.Io.KnownBytes.{Appends, Keeps};
 ghost use Rattle.outside.specs.Causes.{Rose};
@@ -117,11 +117,12 @@ fn obey_over<R: Threads + Wait + Sync, S: Source, K: Sink, F: Disk, O: Opening>(
     log: DiskLog<F>,
 ) -> (u8, F)
     requires opened { F.failed log.disk ≡ O.faults }
-    requires calling { IsCalling O.faults (F.history log.disk) (F.failed log.disk) log.end (length log.counts) }
+    requires begun { told_lists (F.history log.disk) log.end (length log.counts) ≡ O.begun }
+    requires calling { IsCalling O.faults O.begun (F.history log.disk) (F.failed log.disk) log.end log.counts None }
     requires empty { BeginsEmpty (command_in (map string_bytes words.now)) (told_lists (F.history log.disk) log.end (length log.counts)) }
     ensures { EndsOver (command_in (map string_bytes words.now)) (F.history result.1) (outside (S.left source.old) (S.faults source.old) (K.held sink.old) (K.faults sink.old) (told_lists (F.history log.disk) log.end (length log.counts)) (F.failed log.disk)) (outside (S.left source.new) (S.faults source.new) (K.held sink.new) (K.faults sink.new) (kept_in (F.history result.1)) (F.failed result.1)) result.0 }
 {
-    let mut log: CallLog<F, O> = CallLog::new(log);
+    let mut log: CallLog<F, O> = CallLog::new(alloc, log);
     let status = committee(rt, alloc, words, source, sink, &mut log);
     (status, log.into_disk())
 }
@@ -137,7 +138,7 @@ fn over_log<R: Threads + Wait + Sync, S: Source, K: Sink, F: Disk>(
     sink: &mut K,
     log: DiskLog<F>,
 ) -> (u8, F)
-    requires calling { IsCalling (F.failed log.disk) (F.history log.disk) (F.failed log.disk) log.end (length log.counts) }
+    requires calling { IsCalling (F.failed log.disk) (told_lists (F.history log.disk) log.end (length log.counts)) (F.history log.disk) (F.failed log.disk) log.end log.counts None }
     ensures { EndsOverLog (map string_bytes words.now) (F.history log.disk) (F.history result.1) log.end (outside (S.left source.old) (S.faults source.old) (K.held sink.old) (K.faults sink.old) (told_lists (F.history log.disk) log.end (length log.counts)) (F.failed log.disk)) (outside (S.left source.new) (S.faults source.new) (K.held sink.new) (K.faults sink.new) (kept_in (F.history result.1)) (F.failed result.1)) result.0 }
 {
     if names_replay(words) {
@@ -165,7 +166,9 @@ fn over_log<R: Threads + Wait + Sync, S: Source, K: Sink, F: Disk>(
 /// with all that its clauses say of the keeper's lists and its count of faults said of the lists of
 /// the records that count and of the disk's count. So 6 comes only if the disk's count of faults
 /// rose, or a record read back is bad; a log that has no room answers 7. The file then holds those
-/// records; only if that count rose after the opening, it may hold one more. None is of another member.
+/// records; only if that count rose after the opening, it may hold one more, and none is of another member. Whatever
+/// it holds, the command may have ended so with it: after a run that broke off, each of its lists is a prefix of its
+/// member's journal, so the one more is the record that was due then.
 #[tactic(auto, using(crate::proofs::Calling::calling_opened))]
 pub fn committee_in<R: Threads + Wait + Sync, S: Source, K: Sink, F: Disk>(
     rt: &R,

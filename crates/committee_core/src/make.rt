@@ -47,6 +47,7 @@ fn made_world<R: Threads + Sync, D: Keeper>(
     requires room { 64 ≤ D.width keeper.old }
     requires empty { AreEmpty (D.lists keeper.old) }
     ensures ok { IfOk result (RunsMade number (D.lists keeper.old) (D.lists keeper.new)) }
+    ensures steady { IfOk result (λ _. Rose (D.failed keeper.old) (D.failed keeper.new) → ⊥) }
     ensures cut { OnErr result (KeepsMade number (D.lists keeper.old) (D.lists keeper.new)) }
     ensures keep_fault { IsErrOf result unmade.KeepFault → Rose (D.failed keeper.old) (D.failed keeper.new) }
 {
@@ -88,6 +89,7 @@ fn sums_of_made<R: Threads + Sync, D: Keeper>(
     requires room { 64 ≤ D.width keeper.old }
     requires empty { AreEmpty (D.lists keeper.old) }
     ensures ok { IfOk result (IsSummed number (D.lists keeper.old) (D.lists keeper.new)) }
+    ensures steady { IfOk result (λ _. Rose (D.failed keeper.old) (D.failed keeper.new) → ⊥) }
     ensures cut { OnErr result (KeepsMade number (D.lists keeper.old) (D.lists keeper.new)) }
     ensures keep_fault { IsErrOf result unmade.KeepFault → Rose (D.failed keeper.old) (D.failed keeper.new) }
 {
@@ -143,6 +145,7 @@ pub(crate) fn make<R: Threads + Sync, K: Sink, D: Keeper>(
     requires empty { AreEmpty (D.lists keeper.old) }
     ensures known { (result ≡ 0) ⊎ (result ≡ 5) ⊎ (result ≡ 6) ⊎ (result ≡ 7) }
     ensures whole { result ≡ 0 → MakesWhole number (K.held sink.old) (K.held sink.new) (D.lists keeper.old) (D.lists keeper.new) }
+    ensures steady { result ≡ 0 → Rose (D.failed keeper.old) (D.failed keeper.new) → ⊥ }
     ensures write_fault { result ≡ 5 → Rose (K.faults sink.old) (K.faults sink.new) }
     ensures keep_fault { result ≡ 6 → Rose (D.failed keeper.old) (D.failed keeper.new) }
     ensures cut { (result ≡ 5) ⊎ (result ≡ 6) ⊎ (result ≡ 7) → MakesFront number (K.held sink.old) (K.held sink.new) (D.lists keeper.old) (D.lists keeper.new) }

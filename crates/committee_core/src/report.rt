@@ -31,6 +31,7 @@ fn run_sealed<R: Threads + Sync, K: Sink, D: Keeper>(
     requires room { 64 ≤ D.width keeper.old }
     requires empty { AreEmpty (D.lists keeper.old) }
     ensures ran { result ≡ Ok ended.Ran → (s : Schedule) × (schedule_of text.now ≡ Ok s) × RunsWhole program_trust s (K.held sink.old) (K.held sink.new) (D.lists keeper.old) (D.lists keeper.new) }
+    ensures steady { result ≡ Ok ended.Ran → Rose (D.failed keeper.old) (D.failed keeper.new) → ⊥ }
     ensures refused { result ≡ Ok ended.Refused → (r : Refused) × (schedule_of text.now ≡ Err r) × Appends (K.held sink.old) (K.held sink.new) (refusal_text r) × KeepsJournals (D.lists keeper.old) (D.lists keeper.new) }
     ensures bad { IsErrOf result stop.BadRecord → (s : Schedule) × (schedule_of text.now ≡ Ok s) × MeetsBadRecord program_trust s Appends (K.held sink.old) (K.held sink.new) (D.lists keeper.old) }
     ensures cut { OnErr result (TextCut program_trust (schedule_of text.now) (K.held sink.old) (K.held sink.new) (D.lists keeper.old) (D.lists keeper.new)) }
@@ -54,6 +55,7 @@ fn run_read<R: Threads + Sync, K: Sink, D: Keeper>(
     requires empty { AreEmpty (D.lists keeper.old) }
     ensures known { (result ≡ 0) ⊎ (result ≡ 3) ⊎ (result ≡ 5) ⊎ (result ≡ 6) ⊎ (result ≡ 7) }
     ensures ran { result ≡ 0 → (s : Schedule) × (schedule_of text.now ≡ Ok s) × RunsWhole program_trust s (K.held sink.old) (K.held sink.new) (D.lists keeper.old) (D.lists keeper.new) }
+    ensures steady { result ≡ 0 → Rose (D.failed keeper.old) (D.failed keeper.new) → ⊥ }
     ensures refused { result ≡ 3 → (r : Refused) × (schedule_of text.now ≡ Err r) × Appends (K.held sink.old) (K.held sink.new) (refusal_text r) × KeepsJournals (D.lists keeper.old) (D.lists keeper.new) }
     ensures write_fault { result ≡ 5 → Rose (K.faults sink.old) (K.faults sink.new) }
     ensures kept { result ≡ 6 → (Rose (D.failed keeper.old) (D.failed keeper.new) × TextCut program_trust (schedule_of text.now) (K.held sink.old) (K.held sink.new) (D.lists keeper.old) (D.lists keeper.new)) ⊎ ((s : Schedule) × (schedule_of text.now ≡ Ok s) × MeetsBadRecord program_trust s Appends (K.held sink.old) (K.held sink.new) (D.lists keeper.old)) }
@@ -81,6 +83,7 @@ pub(crate) fn run<R: Threads + Sync, S: Source, K: Sink, D: Keeper>(
     requires empty { AreEmpty (D.lists keeper.old) }
     ensures known { (result ≡ 0) ⊎ (result ≡ 3) ⊎ (result ≡ 4) ⊎ (result ≡ 5) ⊎ (result ≡ 6) ⊎ (result ≡ 7) }
     ensures whole { result ≡ 0 → IsWhole (S.left source.old) (S.left source.new) (K.held sink.old) (K.held sink.new) (D.lists keeper.old) (D.lists keeper.new) }
+    ensures steady { result ≡ 0 → Rose (D.failed keeper.old) (D.failed keeper.new) → ⊥ }
     ensures refused { result ≡ 3 → IsRefused (S.left source.old) (S.left source.new) (K.held sink.old) (K.held sink.new) (D.lists keeper.old) (D.lists keeper.new) }
     ensures read_fault { result ≡ 4 → Rose (S.faults source.old) (S.faults source.new) }
     ensures unwritten { result ≡ 4 → Keeps (K.held sink.old) (K.held sink.new) × KeepsJournals (D.lists keeper.old) (D.lists keeper.new) }

@@ -1,6 +1,6 @@
 //! Running a schedule from its set-up on, line by line, up to the world after it.
 
-ghost use Rattle.std.specs.Prelude.{◌≡◌, ◌≤◌, Ok, length, IfOk, OnErr, OnOk, IsErrOf};
+ghost use Rattle.std.specs.Prelude.{◌≡◌, ◌≤◌, ◌↔◌, Ok, length, IfOk, IsTrue, OnErr, OnOk, IsErrOf};
 ghost use Rattle.std.specs.Io.KnownBytes.{Appends};
 ghost use Rattle.outside.specs.Causes.{Rose};
 ghost use Rattle.outside.specs.Lists.{HasMembers};
@@ -51,6 +51,52 @@ fn run_events<R: Threads + Sync, S: MakesSeals, K: Sink, D: Keeper>(
 {
     for event in schedule.events.as_slice() {
         run_event(rt, alloc, world, event, sealer, sink, keeper)?;
+    }
+    Ok(())
+}
+
+/// Whether a count of faults rose. One that stands at its last value is taken as risen. Takes no memory.
+fn has_risen(before: u64, now: u64) -> bool
+    ensures { IsTrue result ↔ Rose before now }
+{
+    before.saturating_add(1) <= now
+}
+
+/// Runs the events in order, from the world of the set-up on. If the keeper's count of faults rose, the run is not whole,
+/// whatever its lines say.
+#[tactic(auto, using(crate::proofs::Whole::whole_cut))]
+fn run_steadily<R: Threads + Sync, S: MakesSeals, K: Sink, D: Keeper>(
+    rt: &R,
+    alloc: Global,
+    world: &mut World,
+    schedule: &Schedule,
+    sealer: &S,
+    sink: &mut K,
+    keeper: &mut D,
+) -> Result<(), Stop>
+    requires opened { world.old ≡ new_scene (setting_in (trust_by (S.made sealer.now) (S.accepts sealer.now)) schedule.now) schedule.now.setup }
+    requires room { length world.old.posts ≤ D.width keeper.old }
+    requires wide { AreAtLeast (D.lists keeper.old) (length world.old.posts) }
+    requires empty { AreEmpty (D.lists keeper.old) }
+    requires laws { SceneLaws (trust_by (S.made sealer.now) (S.accepts sealer.now)) }
+    requires along { StartsAlong (setting_in (trust_by (S.made sealer.now) (S.accepts sealer.now)) schedule.now) schedule.now.events }
+    ensures ok { OnOk result (RunsWhole (trust_by (S.made sealer.now) (S.accepts sealer.now)) schedule.now (K.held sink.old) (K.held sink.new) (D.lists keeper.old) (D.lists keeper.new)) }
+    ensures steady { OnOk result (Rose (D.failed keeper.old) (D.failed keeper.new) → ⊥) }
+    ensures shows { OnOk result (ShowsRun (trust_by (S.made sealer.now) (S.accepts sealer.now)) schedule.now (D.lists keeper.old) world.new) }
+    ensures cut { OnErr result (RunsCut (trust_by (S.made sealer.now) (S.accepts sealer.now)) schedule.now (K.held sink.old) (K.held sink.new) (D.lists keeper.old) (D.lists keeper.new)) }
+    ensures bad { IsErrOf result stop.BadRecord → MeetsBadRecord (trust_by (S.made sealer.now) (S.accepts sealer.now)) schedule.now Appends (K.held sink.old) (K.held sink.new) (D.lists keeper.old) }
+    ensures later { K.faults sink.old ≤ K.faults sink.new }
+    ensures fault { IsErrOf result stop.WriteFault → Rose (K.faults sink.old) (K.faults sink.new) }
+    ensures kept_later { D.failed keeper.old ≤ D.failed keeper.new }
+    ensures keep_fault { IsErrOf result stop.KeepFault → Rose (D.failed keeper.old) (D.failed keeper.new) }
+{
+    let before = keeper.faults();
+    match run_events(rt, alloc, world, schedule, sealer, sink, keeper) {
+        Ok(()) => {}
+        Err(stop) => return Err(stop),
+    }
+    if has_risen(before, keeper.faults()) {
+        return Err(Stop::KeepFault);
     }
     Ok(())
 }
@@ -146,6 +192,7 @@ pub(crate) fn run_schedule<R: Threads + Sync, S: MakesSeals, K: Sink, D: Keeper>
     requires laws { SceneLaws (trust_by (S.made sealer.now) (S.accepts sealer.now)) }
     requires along { StartsAlong (setting_in (trust_by (S.made sealer.now) (S.accepts sealer.now)) schedule.now) schedule.now.events }
     ensures ok { IfOk result (λ _. RunsWhole (trust_by (S.made sealer.now) (S.accepts sealer.now)) schedule.now (K.held sink.old) (K.held sink.new) (D.lists keeper.old) (D.lists keeper.new)) }
+    ensures steady { IfOk result (λ _. Rose (D.failed keeper.old) (D.failed keeper.new) → ⊥) }
     ensures shows { IfOk result (λ w. ShowsRun (trust_by (S.made sealer.now) (S.accepts sealer.now)) schedule.now (D.lists keeper.old) w) }
     ensures cut { OnErr result (RunsCut (trust_by (S.made sealer.now) (S.accepts sealer.now)) schedule.now (K.held sink.old) (K.held sink.new) (D.lists keeper.old) (D.lists keeper.new)) }
     ensures bad { IsErrOf result stop.BadRecord → MeetsBadRecord (trust_by (S.made sealer.now) (S.accepts sealer.now)) schedule.now Appends (K.held sink.old) (K.held sink.new) (D.lists keeper.old) }
@@ -157,7 +204,9 @@ pub(crate) fn run_schedule<R: Threads + Sync, S: MakesSeals, K: Sink, D: Keeper>
     // observable lists are as many as the keeper has
     let _ = keeper.members();
     match open_to_run(alloc, schedule, sealer, waits) {
-        Ok(mut world) => match run_events(rt, alloc, &mut world, schedule, sealer, sink, keeper) {
+        Ok(mut world) => match run_steadily(
+            rt, alloc, &mut world, schedule, sealer, sink, keeper,
+        ) {
             Ok(()) => Ok(world),
             Err(stop) => {
                 drop(world);

@@ -66,6 +66,7 @@ pub(crate) fn run_silent<R: Threads + Sync, S: MakesSeals, D: Keeper>(
     requires empty { AreEmpty (D.lists keeper.old) }
     requires laws { SceneLaws (trust_by (S.made sealer.now) (S.accepts sealer.now)) }
     ensures ran { IfOk result (RunsSilently (trust_by (S.made sealer.now) (S.accepts sealer.now)) text.now (D.lists keeper.old) (D.lists keeper.new)) }
+    ensures steady { IfOk result (λ _. Rose (D.failed keeper.old) (D.failed keeper.new) → ⊥) }
     ensures refused { (line cause : ℕ) → IsErrOf result (unrun.Refused line cause) → schedule_of text.now ≡ Err (record { line = line; cause = cause }) }
     ensures bad { IsErrOf result unrun.BadRecord → (s : Schedule) × (schedule_of text.now ≡ Ok s) × MeetsBadRecord (trust_by (S.made sealer.now) (S.accepts sealer.now)) s Appends None None (D.lists keeper.old) }
     ensures cut { OnErr result (TextCut (trust_by (S.made sealer.now) (S.accepts sealer.now)) (schedule_of text.now) None None (D.lists keeper.old) (D.lists keeper.new)) }
@@ -93,8 +94,8 @@ pub(crate) fn run_silent<R: Threads + Sync, S: MakesSeals, D: Keeper>(
     }
 }
 
-/// Runs a text under the seals of the program and writes no report: answers the world after the schedule that it is.
-/// The keeper has a list for each of 64 members, and no record if it shows its lists.
+/// Runs a text under the seals of the program and writes no report: answers the world after the schedule that it is, only if
+/// the keeper's count of faults did not rise. The keeper has a list for each of 64 members, and no record if it shows its lists.
 pub fn world_behind<R: Threads + Sync, D: Keeper>(
     rt: &R,
     alloc: Global,
@@ -104,6 +105,7 @@ pub fn world_behind<R: Threads + Sync, D: Keeper>(
     requires room { 64 ≤ D.width keeper.old }
     requires empty { AreEmpty (D.lists keeper.old) }
     ensures ran { IfOk result (RunsSilently program_trust text.now (D.lists keeper.old) (D.lists keeper.new)) }
+    ensures steady { IfOk result (λ _. Rose (D.failed keeper.old) (D.failed keeper.new) → ⊥) }
     ensures refused { (line cause : ℕ) → IsErrOf result (unrun.Refused line cause) → schedule_of text.now ≡ Err (record { line = line; cause = cause }) }
     ensures bad { IsErrOf result unrun.BadRecord → (s : Schedule) × (schedule_of text.now ≡ Ok s) × MeetsBadRecord program_trust s Appends None None (D.lists keeper.old) }
     ensures cut { OnErr result (TextCut program_trust (schedule_of text.now) None None (D.lists keeper.old) (D.lists keeper.new)) }

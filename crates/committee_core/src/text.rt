@@ -61,6 +61,7 @@ pub(crate) fn run_text<R: Threads + Sync, S: MakesSeals, K: Sink, D: Keeper>(
     requires empty { AreEmpty (D.lists keeper.old) }
     requires laws { SceneLaws (trust_by (S.made sealer.now) (S.accepts sealer.now)) }
     ensures ran { result ≡ Ok ended.Ran → (s : Schedule) × (schedule_of text.now ≡ Ok s) × RunsWhole (trust_by (S.made sealer.now) (S.accepts sealer.now)) s (K.held sink.old) (K.held sink.new) (D.lists keeper.old) (D.lists keeper.new) }
+    ensures steady { result ≡ Ok ended.Ran → Rose (D.failed keeper.old) (D.failed keeper.new) → ⊥ }
     ensures refused { result ≡ Ok ended.Refused → (r : Refused) × (schedule_of text.now ≡ Err r) × Appends (K.held sink.old) (K.held sink.new) (refusal_text r) × KeepsJournals (D.lists keeper.old) (D.lists keeper.new) }
     ensures bad { IsErrOf result stop.BadRecord → (s : Schedule) × (schedule_of text.now ≡ Ok s) × MeetsBadRecord (trust_by (S.made sealer.now) (S.accepts sealer.now)) s Appends (K.held sink.old) (K.held sink.new) (D.lists keeper.old) }
     ensures cut { OnErr result (TextCut (trust_by (S.made sealer.now) (S.accepts sealer.now)) (schedule_of text.now) (K.held sink.old) (K.held sink.new) (D.lists keeper.old) (D.lists keeper.new)) }

@@ -50,7 +50,7 @@ fn obey<R: Threads + Wait + Sync, S: Source, K: Sink, D: Keeper>(
 ///
 /// | Status | Comes | Written, kept |
 /// |---|---|---|
-/// | 0 | if all events ran, and the source was read to its end | the whole report; each observable list is its member's journal |
+/// | 0 | if all events ran, the source was read to its end, and the keeper's count of faults did not rise | the whole report; each observable list is its member's journal |
 /// | 3 | only if the bytes are not a schedule, and the line was written | `refused line L cause C`; observable lists stay |
 /// | 4 | only if the source's count of faults rose | nothing; observable lists stay |
 /// | 5 | only if the sink's count of faults rose | a prefix of what was to be written; each observable list is a prefix of its journal |
@@ -66,7 +66,7 @@ fn obey<R: Threads + Wait + Sync, S: Source, K: Sink, D: Keeper>(
 ///
 /// | Status | Comes | Written, kept |
 /// |---|---|---|
-/// | 0 | if all events ran | the line; each observable list is its member's journal |
+/// | 0 | if all events ran, and the keeper's count of faults did not rise | the line; each observable list is its member's journal |
 /// | 5 | only if the sink's count of faults rose | a prefix of the line; each observable list is a prefix of its journal |
 /// | 6 | only if the keeper's count of faults rose | as at 5 |
 /// | 7 | if out of memory | as at 5 |
@@ -90,12 +90,12 @@ fn obey<R: Threads + Wait + Sync, S: Source, K: Sink, D: Keeper>(
 ///
 /// | Status | Comes | Written, kept |
 /// |---|---|---|
-/// | 0 | if all events ran, and the objects are the same | `follow M: equal checkpoints B epoch E objects C`: the checkpoints that were taken, the member's epoch, and the follower's live objects; each observable list is its member's journal |
+/// | 0 | if all events ran, the keeper's count of faults did not rise, and the objects are the same | `follow M: equal checkpoints B epoch E objects C`: the checkpoints that were taken, the member's epoch, and the follower's live objects; each observable list is its member's journal |
 /// | 3, 4 | as for `run` | as for `run` |
 /// | 5 | only if the sink's count of faults rose | a prefix of the line; each observable list is a prefix of its journal |
 /// | 6 | only if the keeper's count of faults rose, or a record read back is bad | nothing; lists as at 5 |
 /// | 7 | if out of memory | as at 5 |
-/// | 8 | if all events ran, and one of these applies | the first that does of `follow M: no honest member`, `follow M: down`, `follow M: stuck N P` and `follow M: differs N P`, with the number of the first checkpoint that is not applied and the place of its first bad transaction, `follow M: unequal`; lists as at 0 |
+/// | 8 | if all events ran, the keeper's count of faults did not rise, and one of these applies | the first that does of `follow M: no honest member`, `follow M: down`, `follow M: stuck N P` and `follow M: differs N P`, with the number of the first checkpoint that is not applied and the place of its first bad transaction, `follow M: unequal`; lists as at 0 |
 ///
 /// Under the run assumptions, if `tx` lines made all transactions, `stuck`, `differs` and `unequal` never come.
 ///

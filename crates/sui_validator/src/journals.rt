@@ -1,6 +1,6 @@
 //! Journals in memory and over a disk.
 
-ghost use Rattle.std.specs.Prelude.{◌≡◌, [], IfErr, IfOk, Some, false};
+ghost use Rattle.std.specs.Prelude.{◌≡◌, ◌∷◌, [], IfErr, IfOk, Some, false};
 ghost use Rattle.disk_log.specs.Keeping.{NotOpened, Opened};
 ghost use Rattle.disk_log.specs.Log.{WalkCause};
 ghost use Rattle.sui_validator.specs.Journals.{first_of};
@@ -15,9 +15,10 @@ use wire_bcs::OutOfMemory;
 /// A journal in memory: its records go with it.
 pub type MemJournal = FirstList<MemKeeper>;
 
-/// An empty journal in memory, which never fails.
+/// An empty journal in memory, over a keeper that fails at no call.
 pub fn journal_in_memory(alloc: Global) -> Result<MemJournal, OutOfMemory>
-    ensures { IfOk result (λ j. first_of (Some j.lists) ≡ Some []) }
+    ensures made { IfOk result (λ j. j ≡ record { lists = [] ∷ []; turns = record { calls = 0; failing = [] }; faults = 0 }) }
+    ensures empty { IfOk result (λ j. first_of (Some j.lists) ≡ Some []) }
 {
     let keeper = MemKeeper::new(alloc, 1, &[])?;
     Ok(FirstList::over(keeper))

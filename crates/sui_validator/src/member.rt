@@ -1,9 +1,9 @@
 //! A member with its journal and its sealer.
 
-ghost use Rattle.std.specs.Prelude.{◌≡◌, IsErrOf, length, option_copied, option_map, slice_get};
+ghost use Rattle.std.specs.Prelude.{◌≡◌, ◌≤◌, IsErrOf, None, is_some, length, option_copied, option_map, slice_get, true};
 ghost use Rattle.outside.specs.Causes.{Rose};
 ghost use Rattle.protocol_spec.specs.Member.Versions.{object_in, version_at, versions as versions_of};
-ghost use Rattle.protocol_spec.specs.Member.Member.{built as built_by};
+ghost use Rattle.protocol_spec.specs.Member.Member.{built as built_by, fork_of};
 ghost use Rattle.protocol_spec.specs.Member.Calls.{closes, holds, runs, sees, turns, votes};
 ghost use Rattle.answer_types.specs.declared.refusals.VoteRefusal.TheVariants as no_vote;
 ghost use Rattle.answer_types.specs.declared.refusals.TurnRefusal.TheVariants as no_turn;
@@ -56,13 +56,17 @@ impl<J: Journal, S: Sealer> Model for Member<J, S> {
 
 impl<J: Journal, S: Sealer> Member<J, S> {
     /// Asks the member for its vote for the transaction that the bytes encode. A new vote's record stands in the journal before
-    /// the vote is given.
+    /// the vote is given. `KeepFault` comes only if a record is due, running out of memory only if the member is up and met
+    /// no fork; so neither replaces `Down` or `Halted`, here and in the calls that follow.
     pub fn vote(&mut self, bytes: &[u8]) -> Result<Voted, VoteRefusal>
         ensures answer { Votes (S.accepts self.old.sealer) self.old.seat.member (vote_said (rules_of_seat self.old.seat (S.accepts self.old.sealer)) self.old.seat bytes.now) result }
         ensures state { Behaves (rules_of_seat self.old.seat (S.accepts self.old.sealer)) (votes bytes.now) self.old.seat self.new.seat (vote_ended result) }
         ensures kept { Kept (J.records self.old.journal) (J.records self.new.journal) (due_at (rules_of_seat self.old.seat (S.accepts self.old.sealer)) self.old.seat (votes bytes.now)) (vote_ended result) }
         ensures sealer { self.new.sealer ≡ self.old.sealer }
+        ensures later { J.failed self.old.journal ≤ J.failed self.new.journal }
         ensures fault { IsErrOf result no_vote.KeepFault → Rose (J.failed self.old.journal) (J.failed self.new.journal) }
+        ensures owed { IsErrOf result no_vote.KeepFault → is_some (due_at (rules_of_seat self.old.seat (S.accepts self.old.sealer)) self.old.seat (votes bytes.now)) ≡ true }
+        ensures able { IsErrOf result no_vote.OutOfMemory → (self.old.seat.up ≡ true) × (fork_of self.old.seat.state ≡ None) }
     {
         self.validator.vote(&mut self.keeper, &self.sealer, bytes)
     }
@@ -74,7 +78,10 @@ impl<J: Journal, S: Sealer> Member<J, S> {
         ensures state { Behaves (rules_of_seat self.old.seat (S.accepts self.old.sealer)) (holds bytes.now) self.old.seat self.new.seat (hold_ended result) }
         ensures kept { Kept (J.records self.old.journal) (J.records self.new.journal) (due_at (rules_of_seat self.old.seat (S.accepts self.old.sealer)) self.old.seat (holds bytes.now)) (hold_ended result) }
         ensures sealer { self.new.sealer ≡ self.old.sealer }
+        ensures later { J.failed self.old.journal ≤ J.failed self.new.journal }
         ensures fault { IsErrOf result no_hold.KeepFault → Rose (J.failed self.old.journal) (J.failed self.new.journal) }
+        ensures owed { IsErrOf result no_hold.KeepFault → is_some (due_at (rules_of_seat self.old.seat (S.accepts self.old.sealer)) self.old.seat (holds bytes.now)) ≡ true }
+        ensures able { IsErrOf result no_hold.OutOfMemory → (self.old.seat.up ≡ true) × (fork_of self.old.seat.state ≡ None) }
     {
         self.validator.hold(&mut self.keeper, &self.sealer, bytes)
     }
@@ -86,7 +93,10 @@ impl<J: Journal, S: Sealer> Member<J, S> {
         ensures state { Behaves (rules_of_seat self.old.seat (S.accepts self.old.sealer)) (sees number bytes.now) self.old.seat self.new.seat (see_ended result) }
         ensures kept { Kept (J.records self.old.journal) (J.records self.new.journal) (due_at (rules_of_seat self.old.seat (S.accepts self.old.sealer)) self.old.seat (sees number bytes.now)) (see_ended result) }
         ensures sealer { self.new.sealer ≡ self.old.sealer }
+        ensures later { J.failed self.old.journal ≤ J.failed self.new.journal }
         ensures fault { IsErrOf result no_see.KeepFault → Rose (J.failed self.old.journal) (J.failed self.new.journal) }
+        ensures owed { IsErrOf result no_see.KeepFault → is_some (due_at (rules_of_seat self.old.seat (S.accepts self.old.sealer)) self.old.seat (sees number bytes.now)) ≡ true }
+        ensures able { IsErrOf result no_see.OutOfMemory → (self.old.seat.up ≡ true) × (fork_of self.old.seat.state ≡ None) }
     {
         self.validator
             .see(&mut self.keeper, &self.sealer, number, bytes)
@@ -99,7 +109,10 @@ impl<J: Journal, S: Sealer> Member<J, S> {
         ensures state { Behaves (bare_rules self.old.seat) runs self.old.seat self.new.seat (run_ended result) }
         ensures kept { Kept (J.records self.old.journal) (J.records self.new.journal) (due_at (bare_rules self.old.seat) self.old.seat runs) (run_ended result) }
         ensures sealer { self.new.sealer ≡ self.old.sealer }
+        ensures later { J.failed self.old.journal ≤ J.failed self.new.journal }
         ensures fault { IsErrOf result no_run.KeepFault → Rose (J.failed self.old.journal) (J.failed self.new.journal) }
+        ensures owed { IsErrOf result no_run.KeepFault → is_some (due_at (bare_rules self.old.seat) self.old.seat runs) ≡ true }
+        ensures able { IsErrOf result no_run.OutOfMemory → (self.old.seat.up ≡ true) × (fork_of self.old.seat.state ≡ None) }
     {
         let count = workers.count();
         self.validator.run(rt, &mut self.keeper, count, &OpenGate)
@@ -111,7 +124,10 @@ impl<J: Journal, S: Sealer> Member<J, S> {
         ensures state { Behaves (bare_rules self.old.seat) closes self.old.seat self.new.seat (close_ended result) }
         ensures kept { Kept (J.records self.old.journal) (J.records self.new.journal) (due_at (bare_rules self.old.seat) self.old.seat closes) (close_ended result) }
         ensures sealer { self.new.sealer ≡ self.old.sealer }
+        ensures later { J.failed self.old.journal ≤ J.failed self.new.journal }
         ensures fault { IsErrOf result no_close.KeepFault → Rose (J.failed self.old.journal) (J.failed self.new.journal) }
+        ensures owed { IsErrOf result no_close.KeepFault → is_some (due_at (bare_rules self.old.seat) self.old.seat closes) ≡ true }
+        ensures able { IsErrOf result no_close.OutOfMemory → (self.old.seat.up ≡ true) × (fork_of self.old.seat.state ≡ None) }
     {
         self.validator.close(&mut self.keeper)
     }
@@ -122,7 +138,10 @@ impl<J: Journal, S: Sealer> Member<J, S> {
         ensures state { Behaves (bare_rules self.old.seat) turns self.old.seat self.new.seat (turn_ended result) }
         ensures kept { Kept (J.records self.old.journal) (J.records self.new.journal) (due_at (bare_rules self.old.seat) self.old.seat turns) (turn_ended result) }
         ensures sealer { self.new.sealer ≡ self.old.sealer }
+        ensures later { J.failed self.old.journal ≤ J.failed self.new.journal }
         ensures fault { IsErrOf result no_turn.KeepFault → Rose (J.failed self.old.journal) (J.failed self.new.journal) }
+        ensures owed { IsErrOf result no_turn.KeepFault → is_some (due_at (bare_rules self.old.seat) self.old.seat turns) ≡ true }
+        ensures able { IsErrOf result no_turn.OutOfMemory → (self.old.seat.up ≡ true) × (fork_of self.old.seat.state ≡ None) }
     {
         self.validator.turn(&mut self.keeper)
     }

@@ -1,6 +1,6 @@
 -- A call on one member among the others.
 use Rattle.std.proofs.Common.{◌≡◌, ℕ, ◌<◌, List, length, get_or, set, Option, Some, sym, ap, ◌∙◌, subst}
-use Rattle.std.specs.Prelude.{Bool, Result, Ok, Err, IfOk, OnOk, OnErr}
+use Rattle.std.specs.Prelude.{Bool, Result, Ok, Err, IfOk, IsErrOf, OnOk, OnErr, is_some, slice_get, true}
 use Rattle.std.proofs.lemmas.Option.{slice_get_read}
 use Rattle.outside.specs.Lists.{Journals}
 use Rattle.protocol_spec.specs.Chain.Certificates.{Rules}
@@ -8,8 +8,11 @@ use Rattle.protocol_spec.specs.Member.Calls.{Call}
 use Rattle.protocol_spec.specs.Member.Member.{Member}
 use Rattle.scene_spec.specs.Terms.{Terms}
 use Rattle.scene_spec.specs.Posts.{Post, posts_behind, posts_with, reached_in, reached_post, record_left}
+use Rattle.scene_spec.specs.Steps.{standing_at}
 use Rattle.world_core.specs.declared.reply.Reply.{Reply}
-use Rattle.world_core.specs.Crews.{IsPlaced, PostAfter, PostsAfter, fallen, fallen_at}
+use Rattle.world_core.specs.declared.reply.SeatFault.{SeatFault}
+use Rattle.world_core.specs.declared.reply.SeatFault.TheVariants as faults
+use Rattle.world_core.specs.Crews.{IsAble, IsPlaced, PostAfter, PostsAfter, fallen, fallen_at}
 use Rattle.world_core.specs.Replies.{Leaves, Replies}
 use Rattle.world_core.proofs.Placing.{AreWhole, changed_is, post_honest, post_placed, whole_with}
 
@@ -41,6 +44,16 @@ said_in Says posts n m r call old result count low is h = subst (λ (o : Option 
 pub left_in : {A E : Type 0} (before now : Option Journals) (posts : List Post) (n m : ℕ) (r : Rules) (call : Call) (old : Post) (result : Result A E) → n ≡ length posts → m < n → old ≡ get_or posts m old
     → Leaves before now m (record_left (reached_post r call (Some old))) result → Leaves before now m (record_left (reached_in r posts m call)) result
 left_in before now posts n m r call old result count low is h = subst (λ (o : Option Post). Leaves before now m (record_left (reached_post r call o)) result) (sym (slice_get_read posts n m old count low is)) h
+
+-- ---- when a fault comes
+
+pub owed_in : {A : Type 0} (posts : List Post) (n m : ℕ) (r : Rules) (call : Call) (old : Post) (result : Result A SeatFault) → n ≡ length posts → m < n → old ≡ get_or posts m old
+    → (IsErrOf result faults.KeepFault → is_some (record_left (reached_post r call (Some old))) ≡ true) → IsErrOf result faults.KeepFault → is_some (record_left (reached_in r posts m call)) ≡ true
+owed_in posts n m r call old result count low is h fault = subst (λ (o : Option Post). is_some (record_left (reached_post r call o)) ≡ true) (sym (slice_get_read posts n m old count low is)) (h fault)
+
+pub able_in : {A : Type 0} (posts : List Post) (n m : ℕ) (old : Post) (result : Result A SeatFault) → n ≡ length posts → m < n → old ≡ get_or posts m old
+    → (IsErrOf result faults.OutOfMemory → IsAble old.standing) → IsErrOf result faults.OutOfMemory → IsAble (standing_at (slice_get posts m))
+able_in posts n m old result count low is h fault = subst (λ (o : Option Post). IsAble (standing_at o)) (sym (slice_get_read posts n m old count low is)) (h fault)
 
 -- ---- by how the call ended
 

@@ -1,5 +1,5 @@
 -- What stands after a line that did not come to its end, in each of its ways.
-use Rattle.std.proofs.Common.{◌≡◌, ◌∙◌, ap, sym, refl, subst, ℕ, List, length, Option, Some, None, option_map, Result, Ok, Err, OnErr, arith}
+use Rattle.std.proofs.Common.{◌≡◌, ◌⊎◌, inl, inr, ◌∙◌, ap, sym, refl, subst, ℕ, List, length, Option, Some, None, option_map, Result, Ok, Err, OnErr, arith}
 use Rattle.outside.specs.Lists.{Journals, KeepsJournals}
 use Rattle.chain_messages.specs.declared.messages.Certificate.{Certificate}
 use Rattle.protocol_spec.specs.Chain.Certificates.{Rules}
@@ -11,7 +11,7 @@ use Rattle.scene_spec.specs.Posts.{AddsAll, AddsLeft, MayAddLeft, Post, posts_be
 use Rattle.scene_spec.specs.Scene.{Scene, rules_in}
 use Rattle.scene_spec.specs.Steps.{Work, asked, asks, called_scene, hands, held_call, idle, next_on, sees_left, sees_to, signed_call}
 use Rattle.world_core.specs.Crews.{fallen_at}
-use Rattle.world_core.specs.Cuts.{Books, CallCut, EntriesCut, LineCut, NextCut, Still, books_in, ended, fell, still_in, unmade}
+use Rattle.world_core.specs.Cuts.{Books, CallCut, EntriesCut, SeenCut, LineCut, NextCut, Still, books_in, ended, fell, still_in, unmade}
 use Rattle.world_core.specs.Sees.{next_by}
 use Rattle.world_core.specs.Texts.{spelled_cert, spelled_tx}
 use Rattle.world_core.proofs.Nexts.{next_is}
@@ -25,13 +25,13 @@ on_err P (Err e) p = p
 -- ---- a call
 
 pub call_unmade : (r : Rules) (m : ℕ) (call : Call) (posts : List Post) (told : Option Journals) → CallCut r m call posts posts told told
-call_unmade r m call posts told = record { far = unmade; posts = refl; lists = keeps_same told }
+call_unmade r m call posts told = record { outcome = unmade; posts = refl; lists = keeps_same told }
 
 pub call_fell : (r : Rules) (m : ℕ) (call : Call) (old new : List Post) (before now : Option Journals) → new ≡ fallen_at old m → MayAddLeft before now m (record_left (reached_in r old m call)) → CallCut r m call old new before now
-call_fell r m call old new before now is adds = record { far = fell; posts = is; lists = adds }
+call_fell r m call old new before now is adds = record { outcome = fell; posts = is; lists = adds }
 
 pub call_ended : (r : Rules) (m : ℕ) (call : Call) (old new : List Post) (before now : Option Journals) → new ≡ posts_behind r old m call → AddsLeft before now m (record_left (reached_in r old m call)) → CallCut r m call old new before now
-call_ended r m call old new before now is adds = record { far = ended; posts = is; lists = adds }
+call_ended r m call old new before now is adds = record { outcome = ended; posts = is; lists = adds }
 
 -- after which something else may fail
 pub call_ended_on : {A E : Type 0} (r : Rules) (m : ℕ) (call : Call) (old new : List Post) (before now : Option Journals) (result : Result A E) → new ≡ posts_behind r old m call → AddsLeft before now m (record_left (reached_in r old m call))
@@ -50,7 +50,7 @@ pub cut_seen : {A E : Type 0} (trust : Trust) (v sc : Scene) (m : ℕ) (call : C
 cut_seen trust v sc m call new before now result view is = subst (λ (x : Scene). OnErr result (CallCut (rules_in trust.accepts x) m call x.posts new before now)) view is
 
 abbrev books_with : Scene → Terms → ℕ → Books
-books_with v terms many = record { many = many; terms = terms; opening = v.opening; known = v.known; epoch = v.epoch; certs = v.certs }
+books_with v terms many = record { many = many; terms = terms; opening = v.opening; known = v.known; sequences = v.sequences; epoch = v.epoch; certs = v.certs }
 
 -- members that change, and nothing else that others see
 pub books_seen : (v sc : Scene) (terms : Terms) (posts : List Post) (said : List Said) → v ≡ sc → terms ≡ v.terms → length posts ≡ length v.posts → books_in (record v { terms = terms; said = said; posts = posts }) ≡ books_in sc
@@ -71,9 +71,24 @@ unmade_line r sc (hands m n) told = record { taken = 0; few = omega arith; told 
 pub unmade_line_on : {A E : Type 0} (r : Rules) (sc : Scene) (work : Work) (told : Option Journals) (result : Result A E) → OnErr result (LineCut r sc work sc.posts told told)
 unmade_line_on r sc work told result = on_err (LineCut r sc work sc.posts told told) result (unmade_line r sc work told)
 
+-- all but the members, whether or not the line was to order an End
+pub same_books : (trust : Trust) (old new : Scene) (m : Option ℕ) → books_in new ≡ books_in old → SeenCut books_in trust old m new
+same_books trust old new None same = same
+same_books trust old new (Some m) same = inl same
+
+pub still_books : (trust : Trust) (old new : Scene) (m : Option ℕ) → SeenCut still_in trust old m new → SeenCut books_in trust old m new
+still_books trust old new None same = ap (λ (x : Still). x.books) same
+still_books trust old new (Some m) (inl same) = inl (ap (λ (x : Still). x.books) same)
+still_books trust old new (Some m) (inr more) = inr (ap (λ (x : Still). x.books) more)
+
+still_posts : (trust : Trust) (old new : Scene) (m : Option ℕ) → SeenCut still_in trust old m new → new.posts ≡ old.posts
+still_posts trust old new None same = ap (λ (x : Still). x.posts) same
+still_posts trust old new (Some m) (inl same) = ap (λ (x : Still). x.posts) same
+still_posts trust old new (Some m) (inr more) = ap (λ (x : Still). x.posts) more
+
 -- a line that touches no record
-pub quiet_line : (r : Rules) (sc new : Scene) (work : Work) (told : Option Journals) → still_in new ≡ still_in sc → LineCut r sc work new.posts told told
-quiet_line r sc new work told same = subst (λ (posts : List Post). LineCut r sc work posts told told) (sym (ap (λ (x : Still). x.posts) same)) (unmade_line r sc work told)
+pub quiet_line : (trust : Trust) (r : Rules) (sc new : Scene) (m : Option ℕ) (work : Work) (told : Option Journals) → SeenCut still_in trust sc m new → LineCut r sc work new.posts told told
+quiet_line trust r sc new m work told same = subst (λ (posts : List Post). LineCut r sc work posts told told) (sym (still_posts trust sc new m same)) (unmade_line r sc work told)
 
 -- a start
 pub idle_line_on : {A E : Type 0} (r : Rules) (sc new : Scene) (before now : Option Journals) (result : Result A E) → OnErr result (new ≡ sc) → KeepsJournals before now → OnErr result (LineCut r sc idle new.posts before now)

@@ -1,4 +1,5 @@
 pub mod Replying
+pub mod Stopping
 pub mod Placing
 pub mod Calling
 pub mod Reading

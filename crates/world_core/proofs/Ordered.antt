@@ -12,6 +12,7 @@ use Rattle.world_lines.specs.Orders.{Orders, open_in, with_entry}
 use Rattle.scene_spec.specs.Scene.{Scene, bare_world}
 use Rattle.scene_spec.specs.Steps.{with_order}
 use Rattle.scene_spec.specs.Worlds.{AreKeepable}
+use Rattle.world_core.specs.Cuts.{still_in}
 
 pub short_mark : messages.entry.short entry.Commit
 unfolding messages.entry
@@ -34,6 +35,10 @@ entry_added sc e = refl
 
 pub orders_mark : (v sc : Scene) (new : Orders) → v ≡ sc → new ≡ with_entry (orders_in v) entry.Commit → with_orders v new ≡ with_order sc (appended_entry (bare_world sc) entry.Commit)
 orders_mark v sc new view is = ap (with_orders v) is ∙ ap (λ (x : Scene). with_order x (appended_entry (bare_world x) entry.Commit)) view
+
+-- no entry more
+pub order_kept : (v sc : Scene) (new : Orders) → v ≡ sc → new ≡ orders_in v → still_in (with_orders v new) ≡ still_in sc
+order_kept v sc new view same = ap (λ (o : Orders). still_in (with_orders v o)) same ∙ ap (λ (x : Scene). still_in x) view
 
 pub orders_none : (sc : Scene) (c : Option Certificate) → None ≡ c → sc ≡ with_order sc (ordered (bare_world sc) c)
 orders_none sc c none = ap (λ (x : Option Certificate). with_order sc (ordered (bare_world sc) x)) none

@@ -1,18 +1,22 @@
 -- Ends that lines order, and the epochs that open after them.
-use Rattle.std.proofs.Common.{◌≡◌, ◌∙◌, ap, sym, refl, ℕ, Bool, true, false, cond, List, length, Option, Some, None}
+use Rattle.std.proofs.Common.{◌≡◌, ◌⊎◌, inl, inr, ◌∙◌, ap, sym, refl, ℕ, Bool, true, false, cond, List, length, Option, Some, None, Result, Ok, Err, OnErr}
 use Rattle.std.specs.Prelude.{slice_get}
 use Rattle.std.proofs.lemmas.Bool.{eq-eqb, ne_eqb}
+use Rattle.chain_messages.specs.declared.messages.Entry.{Entry}
 use Rattle.chain_messages.specs.declared.messages.Statement.TheVariants as statement
 use Rattle.report_text.specs.declared.lines.OrderEndText.{OrderEndText}
 use Rattle.report_text.specs.declared.lines.OrderEndText.TheVariants as order_end_text
 use Rattle.world_spec.specs.Setting.{Trust}
-use Rattle.world_spec.specs.World.{World, is_honest}
+use Rattle.world_spec.specs.World.{Said, World, is_honest}
 use Rattle.world_spec.specs.Step.{end_in, end_ordered, honest_end, last_said, open_entries, ordered_end, says}
 use Rattle.world_spec.specs.Report.{honest_end_said, order_end_said}
 use Rattle.scene_spec.specs.Scene.{Scene, bare_setting, bare_world}
 use Rattle.scene_spec.specs.Steps.{with_order}
+use Rattle.world_lines.specs.Orders.{Orders, sealed_end_by, with_entry}
 use Rattle.world_core.specs.Crews.{honest_flags}
+use Rattle.world_core.specs.Cuts.{SeenCut, end_appended, still_in}
 use Rattle.world_core.specs.Votes.{flag_at}
+use Rattle.world_core.proofs.Ordered.{orders_in, with_orders}
 use Rattle.world_core.proofs.Voting.{honest_same}
 
 -- ---- whose End it is
@@ -84,3 +88,31 @@ module _ (trust : Trust) (v sc : Scene) (m : ℕ) (view : v ≡ sc) where
       let open_one : epoch ≡ sc.epoch = same ∙ present ∙ ap (λ (x : Scene). x.epoch) view in
       ap (λ (b : Bool). cond b (order_end_text.Entry (length (open_entries (bare_world sc)))) order_end_text.NotTaken) (sym (eq-eqb epoch sc.epoch open_one))
       ∙ as_said true (Some epoch) flags (sym is ∙ flag) are (sym some ∙ last)
+
+-- ---- if memory is refused
+
+-- nothing was done
+pub end_undone : {A E : Type 0} (trust : Trust) (sc : Scene) (m : ℕ) (result : Result A E) → OnErr result (SeenCut still_in trust sc (Some m) sc)
+end_undone trust sc m (Ok a) = tt
+end_undone trust sc m (Err e) = inl refl
+
+-- its End stands, or not
+pub end_broken : (trust : Trust) (v sc : Scene) (m n : ℕ) (e : Entry) (new : Orders) → v ≡ sc → e ≡ sealed_end_by trust.seal m n → n ≡ v.epoch → (new ≡ orders_in v) ⊎ (new ≡ with_entry (orders_in v) e)
+    → SeenCut still_in trust sc (Some m) (with_orders v new)
+end_broken trust v sc m n e new view is open_ (inl same) = inl (ap (λ (o : Orders). still_in (with_orders v o)) same ∙ ap (λ (x : Scene). still_in x) view)
+end_broken trust v sc m n e new view is open_ (inr more) =
+    let this : e ≡ sealed_end_by trust.seal m v.epoch = is ∙ ap (λ (k : ℕ). sealed_end_by trust.seal m k) open_ in
+    inr (ap (λ (o : Orders). still_in (with_orders v o)) (more ∙ ap (λ (x : Entry). with_entry (orders_in v) x) this) ∙ ap (λ (x : Scene). still_in (end_appended trust x m)) view)
+
+-- what was stated before plays no part in it
+abbrev pub saying : Scene → List Said → Scene
+saying sc said = record sc { said = said }
+
+pub end_unsaid : (trust : Trust) (v sc : Scene) (m : ℕ) (said : List Said) → v ≡ sc → SeenCut still_in trust sc (Some m) (saying v said)
+end_unsaid trust v sc m said view = inl (ap (λ (x : Scene). still_in x) view)
+
+pub end_stated : {A E : Type 0} (trust : Trust) (v sc : Scene) (m : ℕ) (said : List Said) (new : Scene) (result : Result A E) → v ≡ sc → OnErr result (SeenCut still_in trust (saying v said) (Some m) new)
+    → OnErr result (SeenCut still_in trust sc (Some m) new)
+end_stated trust v sc m said new (Ok a) view is = tt
+end_stated trust v sc m said new (Err e) view (inl same) = inl (same ∙ ap (λ (x : Scene). still_in x) view)
+end_stated trust v sc m said new (Err e) view (inr more) = inr (more ∙ ap (λ (x : Scene). still_in (end_appended trust x m)) view)

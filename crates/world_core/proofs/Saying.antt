@@ -1,6 +1,6 @@
 -- What members that are asked say, and state then; the first of them that says something.
 use Rattle.std.proofs.Common.{◌≡◌, ◌∙◌, ap, sym, refl, ℕ, Bool, List, [], ◌∷◌, ◌++◌, map, append-nil, Option, Some, None, option_map, Result}
-use Rattle.std.specs.Prelude.{if◌then◌else◌, option_and_then}
+use Rattle.std.specs.Prelude.{if◌then◌else◌, is_ok, option_and_then, true}
 use Rattle.digest_core.specs.declared.Digest.{Digest}
 use Rattle.quorum_core.specs.declared.signer.Signer.{Signer}
 use Rattle.chain_messages.specs.declared.messages.Statement.{Statement}
@@ -37,10 +37,22 @@ module _ (accepts : Accepting) (terms : Terms) (m : ℕ) (seat : Seated) (standi
       ap (λ (x : Result Statement EndRefusal). Some x) (said ∙ ap (λ (r : Rules). end_answer r seat.state) rules_are)
       ∙ ap (λ (s : Option Seated). option_map (end_answer (rules_for terms accepts)) (option_map seat_state s)) is
 
+  pub end_able : is_ok (end_answer (rules_of_seat seat accepts) seat.state) ≡ true → option_map (λ (s : Member). is_ok (end_answer (rules_for terms accepts) s)) (option_map seat_state standing) ≡ Some true
+  end_able ok =
+      sym (ap (λ (s : Option Seated). option_map (λ (x : Member). is_ok (end_answer (rules_for terms accepts) x)) (option_map seat_state s)) is)
+      ∙ ap (λ (r : Rules). Some (is_ok (end_answer r seat.state))) (sym rules_are)
+      ∙ ap (λ (b : Bool). Some b) ok
+
   pub ack_asked : (tx : Digest) (a : Result Statement AckRefusal) → a ≡ ack_answer (rules_of_seat seat accepts) seat.state tx → Some a ≡ option_map (λ (s : Member). ack_answer (rules_for terms accepts) s tx) (option_map seat_state standing)
   ack_asked tx a said =
       ap (λ (x : Result Statement AckRefusal). Some x) (said ∙ ap (λ (r : Rules). ack_answer r seat.state tx) rules_are)
       ∙ ap (λ (s : Option Seated). option_map (λ (x : Member). ack_answer (rules_for terms accepts) x tx) (option_map seat_state s)) is
+
+  pub ack_able : (tx : Digest) → is_ok (ack_answer (rules_of_seat seat accepts) seat.state tx) ≡ true → option_map (λ (s : Member). is_ok (ack_answer (rules_for terms accepts) s tx)) (option_map seat_state standing) ≡ Some true
+  ack_able tx ok =
+      sym (ap (λ (s : Option Seated). option_map (λ (x : Member). is_ok (ack_answer (rules_for terms accepts) x tx)) (option_map seat_state s)) is)
+      ∙ ap (λ (r : Rules). Some (is_ok (ack_answer r seat.state tx))) (sym rules_are)
+      ∙ ap (λ (b : Bool). Some b) ok
 
 pub asked_none : {A : Type 0} (f : Member → A) (standing : Option Seated) → None ≡ standing → None ≡ option_map f (option_map seat_state standing)
 asked_none f standing is = ap (λ (s : Option Seated). option_map f (option_map seat_state s)) is

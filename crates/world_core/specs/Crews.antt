@@ -1,7 +1,7 @@
 -- The members of a committee as they stand. Source: this profile.
 use Rattle.std.specs.Prelude.{◌≡◌, ℕ, Bool, false, List, Option, Some, None, Result, Ok, Err, map, slice_get, if◌then◌else◌}
 use Rattle.chain_types.specs.declared.objects.Object.{Object}
-use Rattle.protocol_spec.specs.Member.Member.{live_objects}
+use Rattle.protocol_spec.specs.Member.Member.{fork_of, live_objects}
 use Rattle.scene_spec.specs.Terms.{Terms}
 use Rattle.scene_spec.specs.Seats.{Seated}
 use Rattle.protocol_spec.specs.Chain.Certificates.{Rules}
@@ -56,6 +56,11 @@ fallen p = record p { standing = None }
 
 abbrev pub fallen_at : List Post → ℕ → List Post
 fallen_at posts m = changed_at posts m fallen (slice_get posts m)
+
+-- a member that is up and met no fork: no other is refused memory
+abbrev pub IsAble : Option Seated → Type 0
+IsAble None = ⊥
+IsAble (Some seat) = fork_of seat.state ≡ None
 
 -- a member after a call that ended so
 abbrev pub PostAfter : {A E : Type 0} → Rules → Call → Post → Post → Result A E → Type 0

@@ -1,33 +1,39 @@
--- What stands of a world after a line that did not come to its end: the line's member by how far its call came, all other
--- members as before. Source: this profile.
-use Rattle.std.specs.Prelude.{◌≡◌, ◌≤◌, ℕ, List, Option, Some, None, length}
+-- What stands of a world after a line that did not come to its end: the line's member by what became of its call, all
+-- other members as before. Source: this profile.
+use Rattle.std.specs.Prelude.{◌≡◌, ◌⊎◌, ◌≤◌, ℕ, List, Option, Some, None, length}
 use Rattle.chain_types.specs.declared.objects.Object.{Object}
+use Rattle.chain_messages.specs.declared.messages.Entry.{Entry}
 use Rattle.journal_core.specs.declared.records.Record.{Record}
 use Rattle.outside.specs.Lists.{Journals, KeepsJournals}
 use Rattle.protocol_spec.specs.Chain.Certificates.{Rules}
 use Rattle.protocol_spec.specs.Member.Calls.{Call}
+use Rattle.schedule_text.specs.declared.words.Event.{Event}
+use Rattle.schedule_text.specs.declared.words.Event.TheVariants as event
+use Rattle.world_spec.specs.Setting.{Trust}
+use Rattle.world_spec.specs.Step.{appended_entry, sealed_end}
 use Rattle.world_spec.specs.World.{Formed}
 use Rattle.scene_spec.specs.Known.{Known}
 use Rattle.scene_spec.specs.Terms.{Terms}
 use Rattle.scene_spec.specs.Posts.{AddsAll, AddsLeft, MayAddLeft, Post, posts_behind, reached_in, record_left}
-use Rattle.scene_spec.specs.Scene.{Scene}
-use Rattle.scene_spec.specs.Steps.{Work, asks, hands, idle, next_on, sees_left, sees_to}
+use Rattle.scene_spec.specs.Scene.{Scene, bare_setting, bare_world}
+use Rattle.scene_spec.specs.Steps.{Work, asks, hands, idle, next_on, sees_left, sees_to, with_order}
 use Rattle.world_core.specs.Crews.{fallen_at}
 
 -- ---- beside the members
 
--- how many members there are, their terms and opening objects, the names, the open epoch and the certificates: all but how the
--- members stand, what was ordered and what was stated
+-- how many members there are, their terms and opening objects, the names, the sequences, the open epoch and the certificates:
+-- all but how the members stand and what was stated
 pub record Books : Type 0 where
   pub many : ℕ
   pub terms : Terms
   pub opening : List Object
   pub known : Known
+  pub sequences : List (List Entry)
   pub epoch : ℕ
   pub certs : List Formed
 
 abbrev pub books_in : Scene → Books
-books_in sc = record { many = length sc.posts; terms = sc.terms; opening = sc.opening; known = sc.known; epoch = sc.epoch; certs = sc.certs }
+books_in sc = record { many = length sc.posts; terms = sc.terms; opening = sc.opening; known = sc.known; sequences = sc.sequences; epoch = sc.epoch; certs = sc.certs }
 
 -- that, and how the members stand
 pub record Still : Type 0 where
@@ -37,6 +43,38 @@ pub record Still : Type 0 where
 abbrev pub still_in : Scene → Still
 still_in sc = record { books = books_in sc; posts = sc.posts }
 
+-- a member's End of the open epoch stands as one more entry, and no epoch opened
+abbrev pub end_appended : Trust → Scene → ℕ → Scene
+end_appended trust sc m = with_order sc (appended_entry (bare_world sc) (sealed_end (bare_setting trust sc) m sc.epoch))
+
+-- the member whose End a line is to order
+abbrev pub orders_end : Event → Option ℕ
+orders_end (event.Tx name sender spoiled epoch gas budget inputs commands) = None
+orders_end (event.Vote m tx) = None
+orders_end (event.Fvote m tx origins) = None
+orders_end (event.Cert tx members) = None
+orders_end (event.Send m tx) = None
+orders_end (event.Order tx) = None
+orders_end (event.OrderEnd m) = Some m
+orders_end event.OrderCommit = None
+orders_end (event.See m entries) = None
+orders_end (event.Run m workers) = None
+orders_end (event.Close m) = None
+orders_end (event.End m) = None
+orders_end (event.Turn m) = None
+orders_end (event.Show m) = None
+orders_end (event.Stop m kept) = None
+orders_end (event.Restart m) = None
+orders_end (event.RawVote m bytes) = None
+orders_end (event.RawHold m bytes) = None
+orders_end (event.Ack m tx spoiled) = None
+orders_end (event.Final tx members) = None
+
+-- what is seen of a world after a line that broke off is as before; only a line that orders an End may have ordered it
+abbrev pub SeenCut : {A : Type 0} → (Scene → A) → Trust → Scene → Option ℕ → Scene → Type 0
+SeenCut seen trust old None new = seen new ≡ seen old
+SeenCut seen trust old (Some m) new = (seen new ≡ seen old) ⊎ (seen new ≡ seen (end_appended trust old m))
+
 -- ---- the members and their records
 
 -- no member changed, and no observable list
@@ -44,29 +82,29 @@ pub record IsAsBefore (old new : List Post) (before now : Option Journals) : Typ
   pub posts : new ≡ old
   pub lists : KeepsJournals before now
 
--- how far a call came: it was not made; the member fell in it; or it came to its end, and its line did not
-pub data Far : Type 0 where
-  unmade : Far
-  fell : Far
-  ended : Far
+-- what became of a call: it was not made; the member fell in it; or it came to its end, and its line did not
+pub data Outcome : Type 0 where
+  unmade : Outcome
+  fell : Outcome
+  ended : Outcome
 
 -- how the members stand then
-abbrev pub posts_at : Far → Rules → List Post → ℕ → Call → List Post
+abbrev pub posts_at : Outcome → Rules → List Post → ℕ → Call → List Post
 posts_at unmade r posts m call = posts
 posts_at fell r posts m call = fallen_at posts m
 posts_at ended r posts m call = posts_behind r posts m call
 
 -- observable lists then: a member that fell left its record or none
-abbrev pub ListsAt : Far → Option Journals → Option Journals → ℕ → Option Record → Type 0
+abbrev pub ListsAt : Outcome → Option Journals → Option Journals → ℕ → Option Record → Type 0
 ListsAt unmade before now m x = KeepsJournals before now
 ListsAt fell before now m x = MayAddLeft before now m x
 ListsAt ended before now m x = AddsLeft before now m x
 
 -- a line that broke off at this call
 pub record CallCut (r : Rules) (m : ℕ) (call : Call) (old new : List Post) (before now : Option Journals) : Type 0 where
-  pub far : Far
-  pub posts : new ≡ posts_at far r old m call
-  pub lists : ListsAt far before now m (record_left (reached_in r old m call))
+  pub outcome : Outcome
+  pub posts : new ≡ posts_at outcome r old m call
+  pub lists : ListsAt outcome before now m (record_left (reached_in r old m call))
 
 -- likewise at the next entry, if there is one; if there is none, nothing changed
 abbrev pub NextCut : Rules → Scene → ℕ → Option Call → List Post → Option Journals → Option Journals → Type 0

@@ -1,5 +1,5 @@
 -- What is replied to a call on a member, against what the definition says becomes of the call. Source: this profile.
-use Rattle.std.specs.Prelude.{◌≡◌, ◌⊎◌, ℕ, Bool, true, false, List, Option, Some, None, option_map, Result, Ok, Err}
+use Rattle.std.specs.Prelude.{◌≡◌, ◌⊎◌, ℕ, Bool, true, false, List, Option, Some, None, is_some, option_map, Result, Ok, Err, if◌then◌else◌}
 use Rattle.digest_core.specs.declared.Digest.{Digest}
 use Rattle.quorum_core.specs.declared.signer.Signer.{Signer}
 use Rattle.journal_core.specs.declared.records.Record.{Record}
@@ -21,7 +21,7 @@ use Rattle.answer_types.specs.declared.refusals.VoteRefusal.{VoteRefusal}
 use Rattle.answer_types.specs.declared.refusals.VoteRefusal.TheVariants as no_vote
 use Rattle.answer_types.specs.declared.refusals.HoldRefusal.{HoldRefusal}
 use Rattle.answer_types.specs.declared.refusals.HoldRefusal.TheVariants as no_hold
-use Rattle.protocol_spec.specs.Member.Member.{Member}
+use Rattle.protocol_spec.specs.Member.Member.{Member, fork_of}
 use Rattle.protocol_spec.specs.Member.Calls.{close_answer, hold_answer, run_answer, see_answer, turn_answer, vote_answer}
 use Rattle.world_spec.specs.World.{Reached, finds_down, stops, answers}
 use Rattle.validator_core.specs.Calls.{Closes, Holds, Runs, Sees, Turns, Votes, close_ended, hold_ended, run_ended, see_ended, turn_ended, vote_ended}
@@ -54,6 +54,10 @@ abbrev pub Replies : {A : Type 0} → (Member → A → Type 0) → Reached → 
 Replies Says what reply.Down = what ≡ finds_down
 Replies Says what reply.Stopped = HasStopped what
 Replies Says what (reply.Answered answer) = HasAnswered Says what answer
+
+-- the armed stop that may cut a call; none at a member that met a fork, since it keeps no record then
+abbrev pub stop_at : Member → Option Bool → Option Bool
+stop_at m armed = if is_some (fork_of m) then None else armed
 
 -- ---- what a member that is up answers; neither a fault of the keeper nor running out of memory
 

@@ -1,6 +1,6 @@
 //! Requests that a member answers without a record.
 
-ghost use Rattle.std.specs.Prelude.{◌≡◌, IfOk, true};
+ghost use Rattle.std.specs.Prelude.{◌≡◌, IfOk, OnErr, is_ok, true};
 ghost use Rattle.protocol_spec.specs.Member.Calls.{ack_answer, end_answer};
 ghost use Rattle.scene_spec.specs.Seats.{rules_of_seat};
 ghost use Rattle.world_lines.specs.Answers.{stated_as};
@@ -12,13 +12,14 @@ use quorum_core::Sealer;
 use validator_core::Validator;
 use wire_bcs::OutOfMemory;
 
-/// What a member that is up says of its End.
+/// What a member that is up says of its End. Memory is needed only for an End.
 pub(crate) fn ask_end<S: Sealer>(
     validator: &Validator,
     sealer: &S,
 ) -> Result<Result<Sealed, EndRefusal>, OutOfMemory>
     requires up { validator.now.up ≡ true }
-    ensures { IfOk result (λ answer. stated_as answer ≡ end_answer (rules_of_seat validator.now (S.accepts sealer.now)) validator.now.state) }
+    ensures answer { IfOk result (λ answer. stated_as answer ≡ end_answer (rules_of_seat validator.now (S.accepts sealer.now)) validator.now.state) }
+    ensures able { OnErr result (is_ok (end_answer (rules_of_seat validator.now (S.accepts sealer.now)) validator.now.state) ≡ true) }
 {
     match validator.end(sealer) {
         Err(EndRefusal::OutOfMemory) => Err(OutOfMemory),
@@ -32,14 +33,15 @@ pub(crate) fn ask_end<S: Sealer>(
     }
 }
 
-/// What a member that is up says of a transaction that it may have executed.
+/// What a member that is up says of a transaction that it may have executed. Memory is needed only for an acknowledgement.
 pub(crate) fn ask_ack<S: Sealer>(
     validator: &Validator,
     sealer: &S,
     tx: &Digest,
 ) -> Result<Result<Sealed, AckRefusal>, OutOfMemory>
     requires up { validator.now.up ≡ true }
-    ensures { IfOk result (λ answer. stated_as answer ≡ ack_answer (rules_of_seat validator.now (S.accepts sealer.now)) validator.now.state tx.now) }
+    ensures answer { IfOk result (λ answer. stated_as answer ≡ ack_answer (rules_of_seat validator.now (S.accepts sealer.now)) validator.now.state tx.now) }
+    ensures able { OnErr result (is_ok (ack_answer (rules_of_seat validator.now (S.accepts sealer.now)) validator.now.state tx.now) ≡ true) }
 {
     match validator.ack(sealer, tx) {
         Err(AckRefusal::OutOfMemory) => Err(OutOfMemory),

@@ -1,10 +1,12 @@
 //! Requests to a member that is up: entries of its sequence, and the close and the turn of its epoch.
 
-ghost use Rattle.std.specs.Prelude.{◌≡◌, ◌<◌, ◌≤◌, IfOk, IsErrOf, OnOk, true};
+ghost use Rattle.std.specs.Prelude.{◌≡◌, ◌<◌, ◌≤◌, IfOk, IsErrOf, None, OnErr, OnOk, is_some, true};
 ghost use Rattle.outside.specs.Causes.{Rose};
 ghost use Rattle.protocol_spec.specs.Member.Calls.{closes, due, sees, turns};
+ghost use Rattle.protocol_spec.specs.Member.Member.{fork_of};
 ghost use Rattle.scene_spec.specs.Seats.{bare_rules, rules_of_seat};
 ghost use Rattle.scene_spec.specs.Posts.{seat_behind};
+ghost use Rattle.validator_core.specs.Seats.{Fell};
 ghost use Rattle.world_core.specs.declared.reply.SeatFault.TheVariants as faults;
 ghost use Rattle.world_core.specs.Replies.{Leaves, SaysClose, SaysSee, SaysTurn, close_fault, see_fault, turn_fault};
 
@@ -78,6 +80,9 @@ pub fn ask_see<D: Keeper, S: Sealer>(
     ensures width { D.width keeper.new ≡ D.width keeper.old }
     ensures later { D.failed keeper.old ≤ D.failed keeper.new }
     ensures fault { IsErrOf result faults.KeepFault → Rose (D.failed keeper.old) (D.failed keeper.new) }
+    ensures owed { IsErrOf result faults.KeepFault → is_some (due (rules_of_seat validator.old (S.accepts sealer.now)) validator.old.state (sees number bytes.now)) ≡ true }
+    ensures able { IsErrOf result faults.OutOfMemory → fork_of validator.old.state ≡ None }
+    ensures fell { OnErr result (Fell validator.old validator.new) }
 {
     let answer = validator.see(keeper, sealer, number, bytes);
     match see_fault(&answer) {
@@ -134,6 +139,9 @@ pub fn ask_close<D: Keeper>(
     ensures width { D.width keeper.new ≡ D.width keeper.old }
     ensures later { D.failed keeper.old ≤ D.failed keeper.new }
     ensures fault { IsErrOf result faults.KeepFault → Rose (D.failed keeper.old) (D.failed keeper.new) }
+    ensures owed { IsErrOf result faults.KeepFault → is_some (due (bare_rules validator.old) validator.old.state closes) ≡ true }
+    ensures able { IsErrOf result faults.OutOfMemory → fork_of validator.old.state ≡ None }
+    ensures fell { OnErr result (Fell validator.old validator.new) }
 {
     let answer = validator.close(keeper);
     match close_fault(&answer) {
@@ -196,6 +204,9 @@ pub fn ask_turn<D: Keeper>(
     ensures width { D.width keeper.new ≡ D.width keeper.old }
     ensures later { D.failed keeper.old ≤ D.failed keeper.new }
     ensures fault { IsErrOf result faults.KeepFault → Rose (D.failed keeper.old) (D.failed keeper.new) }
+    ensures owed { IsErrOf result faults.KeepFault → is_some (due (bare_rules validator.old) validator.old.state turns) ≡ true }
+    ensures able { IsErrOf result faults.OutOfMemory → fork_of validator.old.state ≡ None }
+    ensures fell { OnErr result (Fell validator.old validator.new) }
 {
     let answer = validator.turn(keeper);
     match turn_fault(&answer) {

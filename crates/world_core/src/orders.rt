@@ -1,6 +1,6 @@
 //! Lines that order entries.
 
-ghost use Rattle.std.specs.Prelude.{◌≡◌, ◌∷◌, [], IfOk, OnErr, OnOk, length};
+ghost use Rattle.std.specs.Prelude.{◌≡◌, ◌∷◌, [], IfOk, OnErr, OnOk, Some, length};
 ghost use Rattle.chain_messages.specs.declared.messages.Entry.TheVariants as entry;
 ghost use Rattle.chain_messages.specs.declared.messages.Statement.TheVariants as statement;
 ghost use Rattle.report_text.specs.declared.lines.Line.TheVariants as line;
@@ -8,7 +8,7 @@ ghost use Rattle.report_text.specs.declared.lines.OrderEndText.TheVariants as or
 ghost use Rattle.scene_spec.specs.Scene.{bare_setting, bare_world};
 ghost use Rattle.scene_spec.specs.Steps.{with_order};
 ghost use Rattle.scene_spec.specs.Worlds.{AreKeepable};
-ghost use Rattle.world_core.specs.Cuts.{still_in};
+ghost use Rattle.world_core.specs.Cuts.{SeenCut, still_in};
 ghost use Rattle.world_core.specs.Trusts.{trust_by};
 ghost use Rattle.world_spec.specs.Names.{cert_named};
 ghost use Rattle.world_spec.specs.Report.{order_end_said, order_said};
@@ -32,11 +32,11 @@ impl World {
     }
 
     /// The line `order T`: orders the certificate that was formed last for this name, if it is of the open epoch.
-    #[tactic(auto, using(crate::proofs::Ordered::orders_none, crate::proofs::Ordered::orders_late, crate::proofs::Ordered::orders_one, crate::proofs::Ordered::short_cert))]
+    #[tactic(auto, using(crate::proofs::Ordered::orders_none, crate::proofs::Ordered::orders_late, crate::proofs::Ordered::orders_one, crate::proofs::Ordered::order_kept, crate::proofs::Ordered::short_cert))]
     pub(crate) fn order_cert(&mut self, tx: &[u8]) -> Result<Seq<Line>, OutOfMemory>
         ensures world { OnOk result (self.new ≡ with_order self.old (ordered (bare_world self.old) (cert_named (bare_world self.old) tx.now))) }
         ensures lines { IfOk result (λ lines. lines ≡ line.Order tx.now (order_said (bare_world self.old) (cert_named (bare_world self.old) tx.now)) ∷ []) }
-        ensures still { still_in self.new ≡ still_in self.old }
+        ensures still { OnErr result (still_in self.new ≡ still_in self.old) }
     {
         let Some(cert) = self.certs.last_named(tx) else {
             return order_line(self.alloc, tx, OrderText::NoCertificate);
@@ -55,18 +55,22 @@ impl World {
         Ok(lines)
     }
 
-    /// The line `order commit`: orders a mark.
-    #[tactic(auto, using(crate::proofs::Ordered::orders_mark, crate::proofs::Ordered::short_mark))]
+    /// The line `order commit`: orders a mark. Memory for the line is taken first.
+    #[tactic(auto, using(crate::proofs::Ordered::orders_mark, crate::proofs::Ordered::order_kept, crate::proofs::Ordered::short_mark))]
     pub(crate) fn order_commit(&mut self) -> Result<Seq<Line>, OutOfMemory>
         ensures world { OnOk result (self.new ≡ with_order self.old (appended_entry (bare_world self.old) entry.Commit)) }
         ensures lines { IfOk result (λ lines. lines ≡ line.OrderCommit (length (open_entries (bare_world self.old))) ∷ []) }
-        ensures still { still_in self.new ≡ still_in self.old }
+        ensures still { OnErr result (still_in self.new ≡ still_in self.old) }
     {
         let entry = self.order.len();
+        let lines = one_line(self.alloc, Line::OrderCommit { entry })?;
         self.order.push(&Entry::Commit)?;
-        one_line(self.alloc, Line::OrderCommit { entry })
+        Ok(lines)
     }
-    /// Orders a member's End of the open epoch. Another epoch opens if the members of its Ends are a quorum then.
+
+    /// Orders a member's End of the open epoch. Another epoch opens if the members of its Ends are a quorum then. If memory
+    /// is refused no epoch opens, and the End is ordered or not.
+    #[tactic(auto, using(crate::proofs::OrderedEnds::end_undone, crate::proofs::OrderedEnds::end_broken))]
     fn append_end<S: MakesSeals>(
         &mut self,
         sealer: &S,
@@ -74,7 +78,7 @@ impl World {
     ) -> Result<Seq<Line>, OutOfMemory>
         ensures world { OnOk result (self.new ≡ with_order self.old (ordered_end (bare_setting (trust_by (S.made sealer.now) (S.accepts sealer.now)) self.old) (bare_world self.old) member self.old.epoch)) }
         ensures lines { IfOk result (λ lines. lines ≡ line.OrderEnd member (order_end_text.Entry (length (open_entries (bare_world self.old)))) ∷ []) }
-        ensures still { OnErr result (still_in self.new ≡ still_in self.old) }
+        ensures still { OnErr result (SeenCut still_in (trust_by (S.made sealer.now) (S.accepts sealer.now)) self.old (Some member) self.new) }
     {
         let text = OrderEndText::Entry {
             entry: self.order.len(),
@@ -86,6 +90,7 @@ impl World {
     }
 
     /// A faulty member states an End of the open epoch, which is ordered.
+    #[tactic(auto, using(crate::proofs::OrderedEnds::end_unsaid, crate::proofs::OrderedEnds::end_stated))]
     fn false_end<S: MakesSeals>(
         &mut self,
         sealer: &S,
@@ -93,7 +98,7 @@ impl World {
     ) -> Result<Seq<Line>, OutOfMemory>
         ensures world { OnOk result (self.new ≡ with_order self.old (ordered_end (bare_setting (trust_by (S.made sealer.now) (S.accepts sealer.now)) self.old) (says (bare_world self.old) member (statement.End self.old.epoch)) member self.old.epoch)) }
         ensures lines { IfOk result (λ lines. lines ≡ line.OrderEnd member (order_end_text.Entry (length (open_entries (bare_world self.old)))) ∷ []) }
-        ensures still { OnErr result (still_in self.new ≡ still_in self.old) }
+        ensures still { OnErr result (SeenCut still_in (trust_by (S.made sealer.now) (S.accepts sealer.now)) self.old (Some member) self.new) }
     {
         let epoch = self.order.epoch();
         self.said.say(member, Statement::End { epoch })?;
@@ -101,7 +106,9 @@ impl World {
     }
 
     /// The line `order end`: orders the last End of an honest member, if it is of the open epoch; a faulty member
-    /// states one of the open epoch first. Another epoch opens if the open one has ended then.
+    /// states one of the open epoch first. Another epoch opens if the open one has ended then. Refusals are those of
+    /// [`World::append_end`]; what a faulty member states may stand.
+    #[tactic(auto, using(crate::proofs::OrderedEnds::end_undone))]
     pub(crate) fn order_end<S: MakesSeals>(
         &mut self,
         sealer: &S,
@@ -109,7 +116,7 @@ impl World {
     ) -> Result<Seq<Line>, OutOfMemory>
         ensures world { OnOk result (self.new ≡ with_order self.old (end_ordered (bare_setting (trust_by (S.made sealer.now) (S.accepts sealer.now)) self.old) (bare_world self.old) member)) }
         ensures lines { IfOk result (λ lines. lines ≡ line.OrderEnd member (order_end_said (bare_world self.old) member) ∷ []) }
-        ensures still { OnErr result (still_in self.new ≡ still_in self.old) }
+        ensures still { OnErr result (SeenCut still_in (trust_by (S.made sealer.now) (S.accepts sealer.now)) self.old (Some member) self.new) }
     {
         if !is_honest(self.seats.flags(), member) {
             return self.false_end(sealer, member);

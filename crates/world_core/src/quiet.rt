@@ -5,7 +5,7 @@ ghost use Rattle.report_text.specs.declared.lines.Line.TheVariants as line;
 ghost use Rattle.world_names.specs.Lines.{line_of};
 ghost use Rattle.scene_spec.specs.Posts.{armed_at};
 ghost use Rattle.scene_spec.specs.Steps.{lines_in, standing_at, steps_to, with_tx};
-ghost use Rattle.world_core.specs.Cuts.{still_in};
+ghost use Rattle.world_core.specs.Cuts.{SeenCut, orders_end, still_in};
 ghost use Rattle.world_core.specs.Kept.{is_quiet};
 ghost use Rattle.world_core.specs.Texts.{show_by};
 ghost use Rattle.world_core.specs.Trusts.{trust_by};
@@ -74,7 +74,8 @@ impl World {
         }
     }
 
-    /// Runs a line that touches no record. After a refusal all is as before, except what was stated and ordered.
+    /// Runs a line that touches no record. After a refusal all is as before except what was stated; the End of an
+    /// `order end` was ordered or not.
     #[tactic(auto, unfolding(scene_spec::specs::Steps::steps_to, scene_spec::specs::Steps::lines_in), using(crate::proofs::Texts::show_is, crate::proofs::Cuts::on_err))]
     pub(crate) fn run_quiet<S: MakesSeals>(
         &mut self,
@@ -84,7 +85,7 @@ impl World {
         requires { is_quiet event.now ≡ true }
         ensures world { OnOk result (self.new ≡ steps_to (trust_by (S.made sealer.now) (S.accepts sealer.now)) self.old event.now) }
         ensures lines { IfOk result (λ lines. lines ≡ lines_in (trust_by (S.made sealer.now) (S.accepts sealer.now)) self.old event.now) }
-        ensures still { OnErr result (still_in self.new ≡ still_in self.old) }
+        ensures still { OnErr result (SeenCut still_in (trust_by (S.made sealer.now) (S.accepts sealer.now)) self.old (orders_end event.now) self.new) }
     {
         match event {
             Event::Tx {

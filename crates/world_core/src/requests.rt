@@ -1,14 +1,15 @@
 //! Requests to a member that is up.
 
-ghost use Rattle.std.specs.Prelude.{◌≡◌, ◌<◌, ◌≤◌, ℕ, IfOk, IsErrOf, OnOk, length, true};
+ghost use Rattle.std.specs.Prelude.{◌≡◌, ◌<◌, ◌≤◌, ℕ, IfOk, IsErrOf, None, OnErr, OnOk, is_some, length, true};
 ghost use Rattle.std.specs.Thread.{IsSync};
 ghost use Rattle.outside.specs.Causes.{Rose};
 ghost use Rattle.protocol_spec.specs.Chain.Certificates.{Rules};
-ghost use Rattle.protocol_spec.specs.Member.Member.{Member};
+ghost use Rattle.protocol_spec.specs.Member.Member.{Member, fork_of};
 ghost use Rattle.protocol_spec.specs.Member.Calls.{Call, due, holds, runs, votes};
 ghost use Rattle.scene_spec.specs.Seats.{bare_rules, rules_of_seat};
 ghost use Rattle.scene_spec.specs.Posts.{seat_behind};
 ghost use Rattle.validator_core.specs.Calls.{origins_in};
+ghost use Rattle.validator_core.specs.Seats.{Fell};
 ghost use Rattle.world_core.specs.declared.reply.SeatFault.TheVariants as faults;
 ghost use Rattle.world_core.specs.Replies.{Accepting, Leaves, SaysHold, SaysRun, SaysVote, hold_fault, run_fault, vote_fault};
 
@@ -45,7 +46,10 @@ pub(crate) trait Asks {
         ensures kept { Leaves (D.lists keeper.old) (D.lists keeper.new) validator.old.member (due (rules_of_seat validator.old (S.accepts sealer.now)) validator.old.state (call self.now)) result }
         ensures width { D.width keeper.new ≡ D.width keeper.old }
         ensures later { D.failed keeper.old ≤ D.failed keeper.new }
-        ensures fault { IsErrOf result faults.KeepFault → Rose (D.failed keeper.old) (D.failed keeper.new) };
+        ensures fault { IsErrOf result faults.KeepFault → Rose (D.failed keeper.old) (D.failed keeper.new) }
+        ensures owed { IsErrOf result faults.KeepFault → is_some (due (rules_of_seat validator.old (S.accepts sealer.now)) validator.old.state (call self.now)) ≡ true }
+        ensures able { IsErrOf result faults.OutOfMemory → fork_of validator.old.state ≡ None }
+        ensures fell { OnErr result (Fell validator.old validator.new) };
 }
 
 /// A request for the vote for the transaction that the bytes encode.
@@ -124,7 +128,8 @@ fn vote_fault(answer: &Result<Voted, VoteRefusal>) -> Option<SeatFault>
     }
 }
 
-/// Asks a member that is up for its vote. The error is what kept it from an answer: a fault of the keeper, or that memory was refused.
+/// Asks a member that is up for its vote. The error is what kept it from an answer: a fault of the keeper, which comes only
+/// if a record is due, or that memory was refused, which comes only if the member met no fork. After it the member is down.
 pub fn ask_vote<D: Keeper, S: Sealer>(
     validator: &mut Validator,
     keeper: &mut D,
@@ -140,6 +145,9 @@ pub fn ask_vote<D: Keeper, S: Sealer>(
     ensures width { D.width keeper.new ≡ D.width keeper.old }
     ensures later { D.failed keeper.old ≤ D.failed keeper.new }
     ensures fault { IsErrOf result faults.KeepFault → Rose (D.failed keeper.old) (D.failed keeper.new) }
+    ensures owed { IsErrOf result faults.KeepFault → is_some (due (rules_of_seat validator.old (S.accepts sealer.now)) validator.old.state (votes bytes.now)) ≡ true }
+    ensures able { IsErrOf result faults.OutOfMemory → fork_of validator.old.state ≡ None }
+    ensures fell { OnErr result (Fell validator.old validator.new) }
 {
     let answer = validator.vote(keeper, sealer, bytes);
     match vote_fault(&answer) {
@@ -184,6 +192,9 @@ pub fn ask_hold<D: Keeper, S: Sealer>(
     ensures width { D.width keeper.new ≡ D.width keeper.old }
     ensures later { D.failed keeper.old ≤ D.failed keeper.new }
     ensures fault { IsErrOf result faults.KeepFault → Rose (D.failed keeper.old) (D.failed keeper.new) }
+    ensures owed { IsErrOf result faults.KeepFault → is_some (due (rules_of_seat validator.old (S.accepts sealer.now)) validator.old.state (holds bytes.now)) ≡ true }
+    ensures able { IsErrOf result faults.OutOfMemory → fork_of validator.old.state ≡ None }
+    ensures fell { OnErr result (Fell validator.old validator.new) }
 {
     let answer = validator.hold(keeper, sealer, bytes);
     match hold_fault(&answer) {
@@ -248,6 +259,9 @@ pub fn ask_run<R: Threads + Sync, D: Keeper, G: Gate + Sync>(
     ensures width { D.width keeper.new ≡ D.width keeper.old }
     ensures later { D.failed keeper.old ≤ D.failed keeper.new }
     ensures fault { IsErrOf result faults.KeepFault → Rose (D.failed keeper.old) (D.failed keeper.new) }
+    ensures owed { IsErrOf result faults.KeepFault → is_some (due (bare_rules validator.old) validator.old.state runs) ≡ true }
+    ensures able { IsErrOf result faults.OutOfMemory → fork_of validator.old.state ≡ None }
+    ensures fell { OnErr result (Fell validator.old validator.new) }
 {
     let answer = validator.run(rt, keeper, workers, gate);
     match run_fault(&answer) {

@@ -1,6 +1,6 @@
 //! One member, its stop included.
 
-ghost use Rattle.std.specs.Prelude.{◌≡◌, ◌<◌, ◌≤◌, IfOk, IsErrOf, None, Some, if◌then◌else◌, option_and_then, option_copied};
+ghost use Rattle.std.specs.Prelude.{◌≡◌, ◌<◌, ◌≤◌, IfOk, IsErrOf, None, Some, if◌then◌else◌, is_some, option_and_then, option_copied, true};
 ghost use Rattle.outside.specs.Causes.{Rose};
 ghost use Rattle.scene_spec.specs.Seats.{Seated};
 ghost use Rattle.scene_spec.specs.Terms.{rules_for};
@@ -8,7 +8,7 @@ ghost use Rattle.world_spec.specs.Step.{executed_digest};
 ghost use Rattle.scene_spec.specs.Posts.{arming, reached_post, record_left};
 ghost use Rattle.scene_spec.specs.Steps.{held_by};
 ghost use Rattle.world_core.specs.declared.reply.SeatFault.TheVariants as faults;
-ghost use Rattle.world_core.specs.Crews.{IsPlaced, PostAfter, fallen, honest_at};
+ghost use Rattle.world_core.specs.Crews.{IsAble, IsPlaced, PostAfter, fallen, honest_at};
 ghost use Rattle.world_core.specs.Replies.{Leaves, Replies};
 
 use crate::reply::{Reply, SeatFault};
@@ -125,7 +125,8 @@ impl Seat {
         }
     }
 
-    /// Asks the member, of this number in its committee. After a refusal it is down.
+    /// Asks the member, of this number in its committee. `KeepFault` comes only if the call leaves a record, running out of
+    /// memory only if the member is up and met no fork; after both it is down.
     pub(crate) fn call<R: Threads + Sync, D: Keeper, S: Sealer, Q: Asks>(
         &mut self,
         rt: &R,
@@ -145,6 +146,8 @@ impl Seat {
         ensures width { D.width keeper.new ≡ D.width keeper.old }
         ensures later { D.failed keeper.old ≤ D.failed keeper.new }
         ensures fault { IsErrOf result faults.KeepFault → Rose (D.failed keeper.old) (D.failed keeper.new) }
+        ensures owed { IsErrOf result faults.KeepFault → is_some (record_left (reached_post (rules_for _terms.now (S.accepts sealer.now)) (Q.call request.now) (Some self.old))) ≡ true }
+        ensures able { IsErrOf result faults.OutOfMemory → IsAble self.old.standing }
     {
         let Some(validator) = &mut self.validator else {
             return Ok(Reply::Down);

@@ -1,6 +1,6 @@
 //! The members of a committee.
 
-ghost use Rattle.std.specs.Prelude.{◌≡◌, ◌<◌, ◌≤◌, ◌^◌, ℕ, [], IfOk, IsErrOf, OnErr, OnOk, option_copied, option_map, length, slice_get, true};
+ghost use Rattle.std.specs.Prelude.{◌≡◌, ◌<◌, ◌≤◌, ◌^◌, ℕ, [], IfOk, IsErrOf, OnErr, OnOk, Some, is_ok, is_some, option_copied, option_map, length, slice_get, true};
 ghost use Rattle.outside.specs.Causes.{Rose};
 ghost use Rattle.outside.specs.Lists.{KeepsJournals};
 ghost use Rattle.scene_spec.specs.Terms.{rules_for};
@@ -10,7 +10,7 @@ ghost use Rattle.scene_spec.specs.Posts.{armed_at, new_posts, posts_behind, reac
 ghost use Rattle.scene_spec.specs.Steps.{held_in, says_in, seat_state, standing_at};
 ghost use Rattle.world_core.specs.declared.reply.SeatFault.TheVariants as faults;
 ghost use Rattle.world_core.specs.declared.reply.RestartFault.TheVariants as restart_faults;
-ghost use Rattle.world_core.specs.Crews.{IsPlaced, PostsAfter, epoch_of, fallen_at, honest_at, honest_flags, honest_post, shown_of};
+ghost use Rattle.world_core.specs.Crews.{IsAble, IsPlaced, PostsAfter, epoch_of, fallen_at, honest_at, honest_flags, honest_post, shown_of};
 ghost use Rattle.world_core.specs.Replies.{Leaves, Replies, SaysClose, SaysHold, SaysRun, SaysSee, SaysTurn, SaysVote};
 ghost use Rattle.validator_core.specs.Starts.{Starts};
 ghost use Rattle.world_lines.specs.Answers.{stated_as};
@@ -166,6 +166,8 @@ impl Seats {
         ensures width { D.width keeper.new ≡ D.width keeper.old }
         ensures later { D.failed keeper.old ≤ D.failed keeper.new }
         ensures fault { IsErrOf result faults.KeepFault → Rose (D.failed keeper.old) (D.failed keeper.new) }
+        ensures owed { IsErrOf result faults.KeepFault → is_some (record_left (reached_in (rules_for self.old.terms (S.accepts sealer.now)) self.old.posts member (Q.call request.now))) ≡ true }
+        ensures able { IsErrOf result faults.OutOfMemory → IsAble (standing_at (slice_get self.old.posts member)) }
     {
         if member as usize >= self.seats.len() {
             return Ok(Reply::Down);
@@ -176,8 +178,9 @@ impl Seats {
 
     /// Asks a member for its vote for the transaction that the bytes encode (Sui Lutris). `Down`: the member is
     /// down or not there. `Stopped`: a stop was armed and a record was due; the member is down, and its record was
-    /// kept if the stop keeps. Else it answered, and its record stands. After a refusal the member is down, and
-    /// its record stands or does not; the other members stay.
+    /// kept if the stop keeps. Else it answered, and its record stands. `KeepFault` comes only if the call leaves a record,
+    /// running out of memory only if the member is up and met no fork. After both the member is down, and its record stands
+    /// or does not; the other members stay.
     #[tactic(auto, using(crate::proofs::Calling::on_ok, crate::proofs::Calling::on_err))]
     pub fn vote<R: Threads + Sync, D: Keeper, S: Sealer>(
         &mut self,
@@ -198,6 +201,8 @@ impl Seats {
         ensures width { D.width keeper.new ≡ D.width keeper.old }
         ensures later { D.failed keeper.old ≤ D.failed keeper.new }
         ensures fault { IsErrOf result faults.KeepFault → Rose (D.failed keeper.old) (D.failed keeper.new) }
+        ensures owed { IsErrOf result faults.KeepFault → is_some (record_left (reached_in (rules_for self.old.terms (S.accepts sealer.now)) self.old.posts member (votes bytes.now))) ≡ true }
+        ensures able { IsErrOf result faults.OutOfMemory → IsAble (standing_at (slice_get self.old.posts member)) }
     {
         self.call(rt, alloc, keeper, sealer, member, &VoteRequest { bytes })
     }
@@ -223,6 +228,8 @@ impl Seats {
         ensures width { D.width keeper.new ≡ D.width keeper.old }
         ensures later { D.failed keeper.old ≤ D.failed keeper.new }
         ensures fault { IsErrOf result faults.KeepFault → Rose (D.failed keeper.old) (D.failed keeper.new) }
+        ensures owed { IsErrOf result faults.KeepFault → is_some (record_left (reached_in (rules_for self.old.terms (S.accepts sealer.now)) self.old.posts member (holds bytes.now))) ≡ true }
+        ensures able { IsErrOf result faults.OutOfMemory → IsAble (standing_at (slice_get self.old.posts member)) }
     {
         self.call(rt, alloc, keeper, sealer, member, &HoldRequest { bytes })
     }
@@ -250,6 +257,8 @@ impl Seats {
         ensures width { D.width keeper.new ≡ D.width keeper.old }
         ensures later { D.failed keeper.old ≤ D.failed keeper.new }
         ensures fault { IsErrOf result faults.KeepFault → Rose (D.failed keeper.old) (D.failed keeper.new) }
+        ensures owed { IsErrOf result faults.KeepFault → is_some (record_left (reached_in (rules_for self.old.terms (S.accepts sealer.now)) self.old.posts member runs)) ≡ true }
+        ensures able { IsErrOf result faults.OutOfMemory → IsAble (standing_at (slice_get self.old.posts member)) }
     {
         let request = RunRequest {
             workers,
@@ -281,6 +290,8 @@ impl Seats {
         ensures width { D.width keeper.new ≡ D.width keeper.old }
         ensures later { D.failed keeper.old ≤ D.failed keeper.new }
         ensures fault { IsErrOf result faults.KeepFault → Rose (D.failed keeper.old) (D.failed keeper.new) }
+        ensures owed { IsErrOf result faults.KeepFault → is_some (record_left (reached_in (rules_for self.old.terms (S.accepts sealer.now)) self.old.posts member (sees number bytes.now))) ≡ true }
+        ensures able { IsErrOf result faults.OutOfMemory → IsAble (standing_at (slice_get self.old.posts member)) }
     {
         self.call(
             rt,
@@ -313,6 +324,8 @@ impl Seats {
         ensures width { D.width keeper.new ≡ D.width keeper.old }
         ensures later { D.failed keeper.old ≤ D.failed keeper.new }
         ensures fault { IsErrOf result faults.KeepFault → Rose (D.failed keeper.old) (D.failed keeper.new) }
+        ensures owed { IsErrOf result faults.KeepFault → is_some (record_left (reached_in (rules_for self.old.terms (S.accepts sealer.now)) self.old.posts member closes)) ≡ true }
+        ensures able { IsErrOf result faults.OutOfMemory → IsAble (standing_at (slice_get self.old.posts member)) }
     {
         self.call(rt, alloc, keeper, sealer, member, &CloseRequest)
     }
@@ -338,6 +351,8 @@ impl Seats {
         ensures width { D.width keeper.new ≡ D.width keeper.old }
         ensures later { D.failed keeper.old ≤ D.failed keeper.new }
         ensures fault { IsErrOf result faults.KeepFault → Rose (D.failed keeper.old) (D.failed keeper.new) }
+        ensures owed { IsErrOf result faults.KeepFault → is_some (record_left (reached_in (rules_for self.old.terms (S.accepts sealer.now)) self.old.posts member turns)) ≡ true }
+        ensures able { IsErrOf result faults.OutOfMemory → IsAble (standing_at (slice_get self.old.posts member)) }
     {
         self.call(rt, alloc, keeper, sealer, member, &TurnRequest)
     }
@@ -354,14 +369,15 @@ impl Seats {
     }
 
     /// What a member says of its End (epoch change of Sui Lutris); none if it is down or not there. It keeps no
-    /// record.
-    #[tactic(auto, using(crate::proofs::Saying::end_asked, crate::proofs::Saying::asked_none))]
+    /// record. Memory is needed only for an End.
+    #[tactic(auto, using(crate::proofs::Saying::end_asked, crate::proofs::Saying::asked_none, crate::proofs::Saying::end_able))]
     pub fn end<S: Sealer>(
         &self,
         sealer: &S,
         member: u32,
     ) -> Result<Option<Result<Sealed, EndRefusal>>, OutOfMemory>
-        ensures { IfOk result (λ answer. option_map stated_as answer ≡ option_map (end_answer (rules_for self.now.terms (S.accepts sealer.now))) (option_map seat_state (standing_at (slice_get self.now.posts member)))) }
+        ensures answer { IfOk result (λ answer. option_map stated_as answer ≡ option_map (end_answer (rules_for self.now.terms (S.accepts sealer.now))) (option_map seat_state (standing_at (slice_get self.now.posts member)))) }
+        ensures able { OnErr result (option_map (λ state. is_ok (end_answer (rules_for self.now.terms (S.accepts sealer.now)) state)) (option_map seat_state (standing_at (slice_get self.now.posts member))) ≡ Some true) }
     {
         let Some(validator) = self.standing(member) else {
             return Ok(None);
@@ -371,15 +387,16 @@ impl Seats {
     }
 
     /// What a member says of a transaction that it may have executed (Sui Lutris); none if it is down or not there.
-    /// It keeps no record.
-    #[tactic(auto, using(crate::proofs::Saying::ack_asked, crate::proofs::Saying::asked_none))]
+    /// It keeps no record. Memory is needed only for an acknowledgement.
+    #[tactic(auto, using(crate::proofs::Saying::ack_asked, crate::proofs::Saying::asked_none, crate::proofs::Saying::ack_able))]
     pub fn ack<S: Sealer>(
         &self,
         sealer: &S,
         member: u32,
         tx: &Digest,
     ) -> Result<Option<Result<Sealed, AckRefusal>>, OutOfMemory>
-        ensures { IfOk result (λ answer. option_map stated_as answer ≡ option_map (λ state. ack_answer (rules_for self.now.terms (S.accepts sealer.now)) state tx.now) (option_map seat_state (standing_at (slice_get self.now.posts member)))) }
+        ensures answer { IfOk result (λ answer. option_map stated_as answer ≡ option_map (λ state. ack_answer (rules_for self.now.terms (S.accepts sealer.now)) state tx.now) (option_map seat_state (standing_at (slice_get self.now.posts member)))) }
+        ensures able { OnErr result (option_map (λ state. is_ok (ack_answer (rules_for self.now.terms (S.accepts sealer.now)) state tx.now)) (option_map seat_state (standing_at (slice_get self.now.posts member))) ≡ Some true) }
     {
         let Some(validator) = self.standing(member) else {
             return Ok(None);

@@ -6,7 +6,7 @@ ghost use Rattle.scene_spec.specs.Scene.{rules_in};
 ghost use Rattle.scene_spec.specs.Steps.{lines_in, steps_to, work_of};
 ghost use Rattle.scene_spec.specs.Worlds.{AreKeepable, is_restart};
 ghost use Rattle.world_core.specs.declared.world.WorldFault.TheVariants as fault;
-ghost use Rattle.world_core.specs.Cuts.{LineCut, books_in};
+ghost use Rattle.world_core.specs.Cuts.{SeenCut, LineCut, books_in, orders_end};
 ghost use Rattle.world_core.specs.Kept.{LeavesAs};
 ghost use Rattle.world_core.specs.Restarts.{MayRestart};
 ghost use Rattle.world_core.specs.Stays.{Stays};
@@ -26,13 +26,14 @@ impl World {
     /// threads. Each record that it leaves is appended before the call that leaves it answers. `KeepFault`: the keeper
     /// failed, and its count of faults rose. `BadRecord`: the member of a `restart` line does not start from its records.
     ///
-    /// After a fault the world still stands: each look answers of it, and a step may follow. The names, the transactions and
-    /// the certificates are as before, and so is every member except the one that the line calls. That one is as before its
+    /// After a fault the world still stands: each look answers of it, and a step may follow. The names, the transactions, the
+    /// certificates and the sequences are as before, except that an `order end` may have ordered its End, and opened no epoch
+    /// then. So is every member except the one that the line calls. That one is as before its
     /// call; or it fell in the call and is down, so no look finds it, and its record was kept or not; or it is as after the
     /// call, its record was kept, and only the line of the report is missing. A `see` may have handed in some entries before
     /// that. A member that fell starts again from its records by a `restart` line, and a `restart` that fails changes
-    /// nothing. Of what was stated and what was ordered nothing is said.
-    #[tactic(auto, unfolding(scene_spec::specs::Steps::work_of), using(crate::proofs::Steps::fault_left, crate::proofs::Leaving::quiet_leaves, crate::proofs::Stays::restart_stays, crate::proofs::Cuts::quiet_line, crate::proofs::Cuts::idle_line_on, crate::proofs::Cuts::on_err))]
+    /// nothing. Of what was stated nothing is said.
+    #[tactic(auto, unfolding(scene_spec::specs::Steps::work_of), using(crate::proofs::Steps::fault_left, crate::proofs::Leaving::quiet_leaves, crate::proofs::Stays::restart_stays, crate::proofs::Cuts::quiet_line, crate::proofs::Cuts::same_books, crate::proofs::Cuts::still_books, crate::proofs::Cuts::idle_line_on, crate::proofs::Cuts::on_err))]
     pub fn step<R: Threads + Sync, D: Keeper, S: MakesSeals>(
         &mut self,
         rt: &R,
@@ -47,7 +48,7 @@ impl World {
         ensures restart { MayRestart (S.accepts sealer.now) (D.lists keeper.old) self.old self.new event.now result }
         ensures stay { OnOk result (Stays self.old self.new) }
         ensures cut { OnErr result (LineCut (rules_in (S.accepts sealer.now) self.old) self.old (work_of self.old event.now) self.new.posts (D.lists keeper.old) (D.lists keeper.new)) }
-        ensures books { OnErr result (books_in self.new ≡ books_in self.old) }
+        ensures books { OnErr result (SeenCut books_in (trust_by (S.made sealer.now) (S.accepts sealer.now)) self.old (orders_end event.now) self.new) }
         ensures keepable { AreKeepable self.old.sequences }
         ensures width { D.width keeper.new ≡ D.width keeper.old }
         ensures later { D.failed keeper.old ≤ D.failed keeper.new }

@@ -1,14 +1,15 @@
 //! Requests to a member whose stop may be armed.
 
-ghost use Rattle.std.specs.Prelude.{◌≡◌, ◌<◌, ◌≤◌, IfOk, IsErrOf, OnOk, length, slice_get, true};
+ghost use Rattle.std.specs.Prelude.{◌≡◌, ◌<◌, ◌≤◌, IfOk, IsErrOf, None, OnOk, is_some, length, slice_get, true};
 ghost use Rattle.outside.specs.Causes.{Rose};
 ghost use Rattle.outside.specs.Lists.{journal_of};
 ghost use Rattle.protocol_spec.specs.Member.Calls.{due};
+ghost use Rattle.protocol_spec.specs.Member.Member.{fork_of};
 ghost use Rattle.world_spec.specs.World.{reached_up};
 ghost use Rattle.scene_spec.specs.Seats.{rules_of_seat};
 ghost use Rattle.scene_spec.specs.Posts.{record_left, seat_behind};
 ghost use Rattle.world_core.specs.declared.reply.SeatFault.TheVariants as faults;
-ghost use Rattle.world_core.specs.Replies.{AddsBytes, KeptWhere, Leaves, Met, spelled_due};
+ghost use Rattle.world_core.specs.Replies.{AddsBytes, KeptWhere, Leaves, Met, spelled_due, stop_at};
 
 use crate::reply::SeatFault;
 use crate::requests::Asks;
@@ -84,6 +85,7 @@ fn stop<D: Keeper>(keeper: &mut D, member: u32, kept: bool, bytes: &[u8]) -> Res
     ensures width { D.width keeper.new ≡ D.width keeper.old }
     ensures later { D.failed keeper.old ≤ D.failed keeper.new }
     ensures fault { IsErrOf result faults.KeepFault → Rose (D.failed keeper.old) (D.failed keeper.new) }
+    ensures owed { IsErrOf result faults.KeepFault → kept ≡ true }
 {
     if !kept {
         return Ok(());
@@ -93,7 +95,7 @@ fn stop<D: Keeper>(keeper: &mut D, member: u32, kept: bool, bytes: &[u8]) -> Res
 
 /// Asks a member that is up and has an armed stop, which keeps the record or loses it: its answer; none if
 /// it stops.
-#[tactic(auto, using(crate::proofs::Replying::met_idle, crate::proofs::Replying::met_stop, crate::proofs::Replying::left_idle, crate::proofs::Replying::left_stop, crate::proofs::Replying::left_same))]
+#[tactic(auto, using(crate::proofs::Replying::met_idle, crate::proofs::Replying::met_stop, crate::proofs::Replying::left_idle, crate::proofs::Replying::left_stop, crate::proofs::Replying::left_same, crate::proofs::Stopping::stop_owed))]
 fn ask_armed<R: Threads + Sync, D: Keeper, S: Sealer, Q: Asks>(
     rt: &R,
     alloc: Global,
@@ -114,6 +116,7 @@ fn ask_armed<R: Threads + Sync, D: Keeper, S: Sealer, Q: Asks>(
     ensures width { D.width keeper.new ≡ D.width keeper.old }
     ensures later { D.failed keeper.old ≤ D.failed keeper.new }
     ensures fault { IsErrOf result faults.KeepFault → Rose (D.failed keeper.old) (D.failed keeper.new) }
+    ensures owed { IsErrOf result faults.KeepFault → is_some (record_left (reached_up validator.old.state (Some kept) (due (rules_of_seat validator.old (S.accepts sealer.now)) validator.old.state (Q.call request.now)))) ≡ true }
 {
     let (answer, due) = match ask_on_paper(rt, alloc, validator, sealer, member, request) {
         Ok(given) => given,
@@ -128,7 +131,20 @@ fn ask_armed<R: Threads + Sync, D: Keeper, S: Sealer, Q: Asks>(
     }
 }
 
+/// The armed stop that may cut a call of the member. One that met a fork keeps no record, so none cuts its calls. Takes no
+/// memory.
+#[tactic(auto, using(crate::proofs::Stopping::mapped_some))]
+fn stop_of(validator: &Validator, armed: Option<bool>) -> Option<bool>
+    ensures { result ≡ stop_at validator.now.state armed }
+{
+    if validator.fork().is_some() {
+        return None;
+    }
+    armed
+}
+
 /// Asks a member that is up: its answer; none if it stops at an armed stop.
+#[tactic(auto, using(crate::proofs::Stopping::reached_idle, crate::proofs::Stopping::stop_is, crate::proofs::Stopping::stop_free))]
 pub(crate) fn meet<R: Threads + Sync, D: Keeper, S: Sealer, Q: Asks>(
     rt: &R,
     alloc: Global,
@@ -149,8 +165,10 @@ pub(crate) fn meet<R: Threads + Sync, D: Keeper, S: Sealer, Q: Asks>(
     ensures width { D.width keeper.new ≡ D.width keeper.old }
     ensures later { D.failed keeper.old ≤ D.failed keeper.new }
     ensures fault { IsErrOf result faults.KeepFault → Rose (D.failed keeper.old) (D.failed keeper.new) }
+    ensures owed { IsErrOf result faults.KeepFault → is_some (record_left (reached_up validator.old.state armed (due (rules_of_seat validator.old (S.accepts sealer.now)) validator.old.state (Q.call request.now)))) ≡ true }
+    ensures able { IsErrOf result faults.OutOfMemory → fork_of validator.old.state ≡ None }
 {
-    let Some(kept) = armed else {
+    let Some(kept) = stop_of(validator, armed) else {
         return match request.ask(rt, validator, keeper, sealer) {
             Ok(answer) => Ok(Some(answer)),
             Err(fault) => Err(fault),

@@ -4,7 +4,7 @@ use Rattle.committee_core.proofs.Caught.{front_of}
 use Rattle.committee_core.proofs.follow.follow_text.Goals as goal
 
 pub returns-in-Ok-clause-cut : goal.returns-in-Ok-clause-cut
-returns-in-Ok-clause-cut g c = λ is. unsaid c.in-Ok.verdict c.in-Ok.ensures.finds (c.say_verdict.ensures.cut is)
+returns-in-Ok-clause-cut g c = λ is. unsaid c.in-Ok.verdict c.in-Ok.ensures.finds c.in-Ok.ensures.steady (c.say_verdict.ensures.cut is)
 
 pub returns-in-Err-Refused-clause-cut : goal.returns-in-Err-Refused-clause-cut
 returns-in-Err-Refused-clause-cut g c = λ is.

@@ -1,16 +1,16 @@
-use Rattle.std.proofs.Common.{ℕ, length, map, subst, sym}
+use Rattle.std.proofs.Common.{map}
 use Rattle.std.specs.String.{string_bytes}
-use Rattle.disk_log.specs.Keeping.{told_lists}
 use Rattle.command_words.specs.Words.{command_in}
-use Rattle.committee_core.specs.Endings.{Ends}
-use Rattle.committee_core.specs.Outside.{outside}
-use Rattle.committee_core.specs.InFile.{HoldsOfCall}
+use Rattle.committee_core.proofs.Fewer.{begins_as, ends_called}
 use Rattle.committee_core.proofs.in_file.obey_over.Goals as goal
+
+pub committee-requires-clause-empty : goal.committee-requires-clause-empty
+committee-requires-clause-empty g c κs within = begins_as g.F.Disk.history g.F.Disk.failed (command_in (map string_bytes c.args.words.now)) c.new-log.result c.args.log c.new-log.ensures c.requires.empty
 
 pub returns : goal.returns
 returns g c =
-    rw c.into_disk.ensures.disk (record {
-      lists = told_lists (g.F.Disk.history c.committee-status.new.keeper.disk) c.committee-status.new.keeper.end (length c.committee-status.new.keeper.counts);
-      ends = subst (λ l. Ends (command_in (map string_bytes c.args.words.now)) (outside (g.S.Source.left c.args.source.now) (g.S.Source.faults c.args.source.now) (g.K.Sink.held c.args.sink.now) (g.K.Sink.faults c.args.sink.now) (told_lists (g.F.Disk.history l.disk) l.end (length l.counts)) (g.F.Disk.failed l.disk)) (outside (g.S.Source.left c.committee-status.new.source) (g.S.Source.faults c.committee-status.new.source) (g.K.Sink.held c.committee-status.new.sink) (g.K.Sink.faults c.committee-status.new.sink) (told_lists (g.F.Disk.history c.committee-status.new.keeper.disk) c.committee-status.new.keeper.end (length c.committee-status.new.keeper.counts)) (g.F.Disk.failed c.committee-status.new.keeper.disk)) c.committee-status.result) c.new-log.ensures c.committee-status.ensures.ends;
-      holds = subst (λ (n : ℕ). HoldsOfCall n (g.F.Disk.failed c.committee-status.new.keeper.disk) (g.F.Disk.history c.committee-status.new.keeper.disk) (told_lists (g.F.Disk.history c.committee-status.new.keeper.disk) c.committee-status.new.keeper.end (length c.committee-status.new.keeper.counts))) (sym c.requires.opened) c.into_disk.ensures.holds;
-    })
+    rw c.into_disk.ensures.disk (ends_called g.F.Disk.history g.F.Disk.failed (command_in (map string_bytes c.args.words.now))
+    (g.S.Source.left c.args.source.now) (g.S.Source.left c.committee-status.new.source) (g.S.Source.faults c.args.source.now) (g.S.Source.faults c.committee-status.new.source)
+    (g.K.Sink.held c.args.sink.now) (g.K.Sink.held c.committee-status.new.sink) (g.K.Sink.faults c.args.sink.now) (g.K.Sink.faults c.committee-status.new.sink) c.committee-status.result
+    g.O.Opening.faults g.O.Opening.begun c.new-log.result c.committee-status.new.keeper c.args.log
+    c.new-log.ensures c.requires.opened c.requires.begun c.into_disk.ensures.calling (g.met.F.Disk.seen c.committee-status.new.keeper.log.disk) c.committee-status.ensures.ends)

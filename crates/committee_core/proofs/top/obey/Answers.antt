@@ -18,6 +18,7 @@ pub returns-in-Run : goal.returns-in-Run
 returns-in-Run g c = rw c.in-Run.is (record {
   known = c.run.ensures.known;
   whole = c.run.ensures.whole;
+  steady = c.run.ensures.steady;
   refused = c.run.ensures.refused;
   read_fault = c.run.ensures.read_fault;
   unwritten = c.run.ensures.unwritten;
@@ -42,6 +43,7 @@ pub returns-in-Follow : goal.returns-in-Follow
 returns-in-Follow g c = rw c.in-Follow.is (record {
   known = c.follow.ensures.known;
   whole = c.follow.ensures.whole;
+  steady = c.follow.ensures.steady;
   refused = c.follow.ensures.refused;
   read_fault = c.follow.ensures.read_fault;
   unwritten = c.follow.ensures.unwritten;

@@ -1,10 +1,12 @@
-use Rattle.std.proofs.Common.{subst, ◌∙◌, set}
-use Rattle.std.specs.Prelude.{IfOk}
+use Rattle.std.proofs.Common.{◌≡◌, subst, ◌∙◌, is_some, set, true}
+use Rattle.std.specs.Prelude.{IfOk, IsErrOf, slice_get}
 use Rattle.scene_spec.specs.Terms.{rules_for}
 use Rattle.scene_spec.specs.Posts.{reached_in, record_left}
-use Rattle.world_core.specs.Crews.{Crew, PostsAfter}
+use Rattle.scene_spec.specs.Steps.{standing_at}
+use Rattle.world_core.specs.declared.reply.SeatFault.TheVariants as faults
+use Rattle.world_core.specs.Crews.{Crew, IsAble, PostsAfter}
 use Rattle.world_core.specs.Replies.{Leaves, Replies}
-use Rattle.world_core.proofs.Calling.{left_in, posts_after, said_in, whole_after}
+use Rattle.world_core.proofs.Calling.{able_in, left_in, owed_in, posts_after, said_in, whole_after}
 use Rattle.world_core.proofs.Placing.{placed_in}
 use Rattle.world_core.proofs.seats.Seats.call.Goals as goal
 
@@ -40,3 +42,17 @@ returns-clause-kept g c =
     subst (λ (w : Crew). Leaves (g.D.Keeper.lists c.args.keeper.now) (g.D.Keeper.lists c.call.new.keeper) c.args.member (record_left (reached_in (rules_for w.terms accepts) w.posts c.args.member call)) c.call.result) c.self.view_is
     (left_in (g.D.Keeper.lists c.args.keeper.now) (g.D.Keeper.lists c.call.new.keeper) s.seats.items c.len.result c.args.member (rules_for s.terms accepts) call c.index_mut-seat.result.now c.call.result (c.len.ensures ∙ s.seats.ok.0) c.if-member-len.false
     c.index_mut-seat.ensures.value c.call.ensures.kept)
+
+pub returns-clause-owed : goal.returns-clause-owed
+returns-clause-owed g c =
+    let s = c.self.inside in
+    let accepts = g.S.Checker.accepts c.args.sealer.now in
+    let call = g.Q.Asks.call c.args.request.now in
+    subst (λ (w : Crew). IsErrOf c.call.result faults.KeepFault → is_some (record_left (reached_in (rules_for w.terms accepts) w.posts c.args.member call)) ≡ true) c.self.view_is
+    (owed_in s.seats.items c.len.result c.args.member (rules_for s.terms accepts) call c.index_mut-seat.result.now c.call.result (c.len.ensures ∙ s.seats.ok.0) c.if-member-len.false c.index_mut-seat.ensures.value c.call.ensures.owed)
+
+pub returns-clause-able : goal.returns-clause-able
+returns-clause-able g c =
+    let s = c.self.inside in
+    subst (λ (w : Crew). IsErrOf c.call.result faults.OutOfMemory → IsAble (standing_at (slice_get w.posts c.args.member))) c.self.view_is
+    (able_in s.seats.items c.len.result c.args.member c.index_mut-seat.result.now c.call.result (c.len.ensures ∙ s.seats.ok.0) c.if-member-len.false c.index_mut-seat.ensures.value c.call.ensures.able)
