@@ -81,10 +81,6 @@ forked_due r m (acks tx) some = refl
 
 -- ---- the stop that may cut a call
 
-pub mapped_some : {A B : Type 0} (f : A → B) (o : Option A) → is_some (option_map f o) ≡ is_some o
-mapped_some f None = refl
-mapped_some f (Some x) = refl
-
 forked_where : (forked kept : Bool) → None ≡ cond forked None (Some kept) → forked ≡ true
 forked_where true kept e = refl
 forked_where false kept e = absurd (cc)

@@ -133,7 +133,7 @@ fn ask_armed<R: Threads + Sync, D: Keeper, S: Sealer, Q: Asks>(
 
 /// The armed stop that may cut a call of the member. One that met a fork keeps no record, so none cuts its calls. Takes no
 /// memory.
-#[tactic(auto, using(crate::proofs::Stopping::mapped_some))]
+#[tactic(auto, using(protocol_spec::proofs::Truth::some_mapped))]
 fn stop_of(validator: &Validator, armed: Option<bool>) -> Option<bool>
     ensures { result ≡ stop_at validator.now.state armed }
 {
