@@ -7,6 +7,7 @@ use Rattle.outside.specs.Lists.{Journals, KeepsJournals, journal_of, with_record
 use Rattle.schedule_text.specs.declared.words.Schedule.{Schedule}
 use Rattle.schedule_text.specs.Schedule.{Refused, schedule_of}
 use Rattle.protocol_spec.specs.Chain.Words.{IsFront}
+use Rattle.protocol_spec.proofs.ListLemmas.{front_then}
 use Rattle.world_spec.specs.Run.{journal}
 use Rattle.world_spec.specs.Setting.{Trust}
 use Rattle.command_words.specs.declared.words.Command.{Command}
@@ -31,8 +32,6 @@ use Rattle.committee_core.specs.declared.call_log.Unfinished.{Unfinished}
 use Rattle.committee_core.proofs.Calling.{call_holds}
 use Rattle.committee_core.proofs.CallLists.{front-more, one-longer}
 
-front-then : {A : Type 0} (xs ys zs : List A) → IsFront xs ys → IsFront ys zs → IsFront xs zs
-front-then {A} xs ys zs (one, is) (two, too) = (one ++ two, too ∙ ap (λ (l : List A). l ++ two) is ∙ append_assoc xs one two)
 
 abbrev or-none : Option Journals → Journals
 or-none None = []
@@ -58,7 +57,7 @@ module _ (first lists : Journals) (m : ℕ) (bytes : List ℕ) (lt : m < length 
 
   fronts : (trust : Trust) (s : Schedule) → KeepsFronts trust s (Some first) (Some more) → KeepsFronts trust s (Some first) (Some lists)
   fronts trust s (all, is, front) =
-      (lists, refl, λ k. front-then (journal_of lists k) (journal_of more k) (journal (setting_in trust s) s.events k) (front-more lists m bytes k)
+      (lists, refl, λ k. front_then (journal_of lists k) (journal_of more k) (journal (setting_in trust s) s.events k) (front-more lists m bytes k)
       (subst (λ (l : Journals). IsFront (journal_of l k) (journal (setting_in trust s) s.events k)) (sym (ap or-none is)) (front k)))
 
   run-cut : (trust : Trust) (s : Schedule) (held held' : Option (List ℕ)) → RunsCut trust s held held' (Some first) (Some more) → RunsCut trust s held held' (Some first) (Some lists)
