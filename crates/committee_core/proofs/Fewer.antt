@@ -1,5 +1,5 @@
 -- The lists of a log without the record whose append met a fault of the disk: a command may have ended with them, as with all.
-use Rattle.std.proofs.Common.{◌≡◌, ◌⊎◌, inl, inr, ℕ, ◌+◌, ◌<◌, ◌≤◌, List, [], ◌∷◌, ◌++◌, append_assoc, length, replicate, refl, sym, ◌∙◌, ap, subst, arith, Option, Some, None, Result, Ok, Err}
+use Rattle.std.proofs.Common.{◌≡◌, ◌⊎◌, inl, inr, ℕ, ◌+◌, ◌<◌, ◌≤◌, List, [], ◌∷◌, ◌++◌, length, replicate, refl, sym, ◌∙◌, ap, subst, arith, Option, Some, None, Result, Ok, Err}
 use Rattle.std.specs.Io.KnownBytes.{Keeps}
 use Rattle.digest_core.specs.declared.Digest.{Digest}
 use Rattle.outside.specs.Causes.{Rose}
@@ -32,7 +32,6 @@ use Rattle.committee_core.specs.declared.call_log.Unfinished.{Unfinished}
 use Rattle.committee_core.proofs.Calling.{call_holds}
 use Rattle.committee_core.proofs.CallLists.{front-more, one-longer}
 
-
 abbrev or-none : Option Journals → Journals
 or-none None = []
 or-none (Some lists) = lists
@@ -56,9 +55,12 @@ module _ (first lists : Journals) (m : ℕ) (bytes : List ℕ) (lt : m < length 
   -- ---- prefixes
 
   fronts : (trust : Trust) (s : Schedule) → KeepsFronts trust s (Some first) (Some more) → KeepsFronts trust s (Some first) (Some lists)
-  fronts trust s (all, is, front) =
-      (lists, refl, λ k. front_then (journal_of lists k) (journal_of more k) (journal (setting_in trust s) s.events k) (front-more lists m bytes k)
-      (subst (λ (l : Journals). IsFront (journal_of l k) (journal (setting_in trust s) s.events k)) (sym (ap or-none is)) (front k)))
+  fronts trust s (all, is, front) = (
+    lists,
+    refl,
+    λ k. front_then (journal_of lists k) (journal_of more k) (journal (setting_in trust s) s.events k) (front-more lists m bytes k)
+        (subst (λ (l : Journals). IsFront (journal_of l k) (journal (setting_in trust s) s.events k)) (sym (ap or-none is)) (front k)),
+  )
 
   run-cut : (trust : Trust) (s : Schedule) (held held' : Option (List ℕ)) → RunsCut trust s held held' (Some first) (Some more) → RunsCut trust s held held' (Some first) (Some lists)
   run-cut trust s held held' (inl front) = inl (record { written = front.written; journals = fronts trust s front.journals })

@@ -157,8 +157,8 @@ fn over_log<R: Threads + Wait + Sync, S: Source, K: Sink, F: Disk>(
 ///
 /// | Status | Comes | Written, kept |
 /// |---|---|---|
-/// | 8 | if a record that counts is of no member below 64, and the line was written | `journal: bad member at A`, the place of the first such record's gate |
-/// | 8 | else if a record counts, and the first word is not `replay`, and the line was written | `journal: not empty` |
+/// | 8 | only if a record that counts is of no member below 64, and the line was written | `journal: bad member at A`, the place of the first such record's gate |
+/// | 8 | else only if a record counts, and the first word is not `replay`, and the line was written | `journal: not empty` |
 /// | 5, 7 | only if the sink's count of faults rose, or if out of memory | a prefix of such a line |
 /// | 6 | only if the disk's count of faults rose in the opening | nothing |
 ///
@@ -166,7 +166,7 @@ fn over_log<R: Threads + Wait + Sync, S: Source, K: Sink, F: Disk>(
 /// with all that its clauses say of the keeper's lists and its count of faults said of the lists of
 /// the records that count and of the disk's count. So 6 comes only if the disk's count of faults
 /// rose, or a record read back is bad; a log that has no room answers 7. The file then holds those
-/// records; only if that count rose after the opening, it may hold one more, and none is of another member. Whatever
+/// records; only if that count rose in this call, it may hold one more. Whatever
 /// it holds, the command may have ended so with it: after a run that broke off, each of its lists is a prefix of its
 /// member's journal, so the one more is the record that was due then.
 #[tactic(auto, using(crate::proofs::Calling::calling_opened))]

@@ -50,12 +50,12 @@ fn obey<R: Threads + Wait + Sync, S: Source, K: Sink, D: Keeper>(
 ///
 /// | Status | Comes | Written, kept |
 /// |---|---|---|
-/// | 0 | if all events ran, the source was read to its end, and the keeper's count of faults did not rise | the whole report; each observable list is its member's journal |
+/// | 0 | only if all events ran, the source was read to its end, and the keeper's count of faults did not rise | the whole report; each observable list is its member's journal |
 /// | 3 | only if the bytes are not a schedule, and the line was written | `refused line L cause C`; observable lists stay |
 /// | 4 | only if the source's count of faults rose | nothing; observable lists stay |
 /// | 5 | only if the sink's count of faults rose | a prefix of what was to be written; each observable list is a prefix of its journal |
 /// | 6 | only if the keeper's count of faults rose, or a record read back is bad | a prefix of the report, and after a bad record `restart M: bad record PLACE` |
-/// | 7 | if out of memory | as at 5 |
+/// | 7 | (in no clause) if out of memory | as at 5 |
 ///
 /// A keeper that shows its lists never gives a bad record. Of the report over one that does not, nothing
 /// is said after the first restart.
@@ -66,10 +66,10 @@ fn obey<R: Threads + Wait + Sync, S: Source, K: Sink, D: Keeper>(
 ///
 /// | Status | Comes | Written, kept |
 /// |---|---|---|
-/// | 0 | if all events ran, and the keeper's count of faults did not rise | the line; each observable list is its member's journal |
+/// | 0 | only if all events ran, and the keeper's count of faults did not rise | the line; each observable list is its member's journal |
 /// | 5 | only if the sink's count of faults rose | a prefix of the line; each observable list is a prefix of its journal |
 /// | 6 | only if the keeper's count of faults rose | as at 5 |
-/// | 7 | if out of memory | as at 5 |
+/// | 7 | (in no clause) if out of memory | as at 5 |
 ///
 /// `check STAKES TX`, for 1 to 64 stakes from 1 to 4294967295, joined by commas, and the 64 hexadecimal digits of a
 /// digest: reads a chain of checkpoints from the source, at most 16777216 bytes, and says whether it is certified by a
@@ -81,7 +81,7 @@ fn obey<R: Threads + Wait + Sync, S: Source, K: Sink, D: Keeper>(
 /// | 0 | only if the bytes encode a certified chain, and the line was written | `certified N included in K` with the number of links and the number of the first checkpoint that lists the transaction, or `certified N not included` |
 /// | 4 | only if the source's count of faults rose | nothing |
 /// | 5 | only if the sink's count of faults rose | a prefix of the line |
-/// | 7 | if out of memory | a prefix of the line |
+/// | 7 | (in no clause) if out of memory | a prefix of the line |
 /// | 8 | only if there are more bytes, or they encode no chain, or one that is not certified, and the line was written | `refused too large`, `refused malformed at A why W`, `refused link P cause C` |
 ///
 /// `follow M`, for M from 0 to 63: runs the schedule that the source holds, and writes no report. Then a follower that opens
@@ -90,12 +90,12 @@ fn obey<R: Threads + Wait + Sync, S: Source, K: Sink, D: Keeper>(
 ///
 /// | Status | Comes | Written, kept |
 /// |---|---|---|
-/// | 0 | if all events ran, the keeper's count of faults did not rise, and the objects are the same | `follow M: equal checkpoints B epoch E objects C`: the checkpoints that were taken, the member's epoch, and the follower's live objects; each observable list is its member's journal |
+/// | 0 | only if all events ran, the keeper's count of faults did not rise, and the objects are the same | `follow M: equal checkpoints B epoch E objects C`: the checkpoints that were taken, the member's epoch, and the follower's live objects; each observable list is its member's journal |
 /// | 3, 4 | as for `run` | as for `run` |
 /// | 5 | only if the sink's count of faults rose | a prefix of the line; each observable list is a prefix of its journal |
 /// | 6 | only if the keeper's count of faults rose, or a record read back is bad | nothing; lists as at 5 |
-/// | 7 | if out of memory | as at 5 |
-/// | 8 | if all events ran, the keeper's count of faults did not rise, and one of these applies | the first that does of `follow M: no honest member`, `follow M: down`, `follow M: stuck N P` and `follow M: differs N P`, with the number of the first checkpoint that is not applied and the place of its first bad transaction, `follow M: unequal`; lists as at 0 |
+/// | 7 | (in no clause) if out of memory | as at 5 |
+/// | 8 | only if all events ran, the keeper's count of faults did not rise, and one of these applies | the first that does of `follow M: no honest member`, `follow M: down`, `follow M: stuck N P` and `follow M: differs N P`, with the number of the first checkpoint that is not applied and the place of its first bad transaction, `follow M: unequal`; lists as at 0 |
 ///
 /// Under the run assumptions, if `tx` lines made all transactions, `stuck`, `differs` and `unequal` never come.
 ///
@@ -105,11 +105,11 @@ fn obey<R: Threads + Wait + Sync, S: Source, K: Sink, D: Keeper>(
 ///
 /// | Status | Comes | Written |
 /// |---|---|---|
-/// | 0 | if all were asked for, and none ran out of memory | `desk 0: calls C`, and for each call, in the order in which they were made, two spaces and the line of its vote: one history of them all |
+/// | 0 | only if all were asked for, and none ran out of memory | `desk 0: calls C`, and for each call, in the order in which they were made, two spaces and the line of its vote: one history of them all |
 /// | 3 | only if the bytes are not a schedule, and the line was written | `refused line L cause C` |
 /// | 4 | only if the source's count of faults rose | nothing |
 /// | 5 | only if the sink's count of faults rose | a prefix of what was to be written |
-/// | 7 | if out of memory | as at 5 |
+/// | 7 | (in no clause) if out of memory | as at 5 |
 /// | 8 | only if an event is not a `tx` line, or member 0 is not honest, and the line was written | `desk: only tx lines`, else `desk: no honest member` |
 ///
 /// `replay M`, for M from 0 to 63: starts member M of the set-up of the schedule that the source holds, whose events do
@@ -122,7 +122,7 @@ fn obey<R: Threads + Wait + Sync, S: Source, K: Sink, D: Keeper>(
 /// | 4 | only if the source's count of faults rose | nothing |
 /// | 5 | only if the sink's count of faults rose | a prefix of what was to be written |
 /// | 6 | if a record is bad, or if the keeper's count of faults rose | `restart M: bad record PLACE`; nothing after a fault |
-/// | 7 | if out of memory | as at 5 |
+/// | 7 | (in no clause) if out of memory | as at 5 |
 /// | 8 | only if the set-up has no honest member M, and the line was written | `replay M: no honest member` |
 ///
 /// Status 2 comes exactly if the words are not a command: nothing is read, written or kept then.

@@ -35,13 +35,13 @@ use std::thread::Threads;
 ///
 /// | Status | Comes | Written, kept |
 /// |---|---|---|
-/// | 0 | if all events ran, and, for `chain`, member M is honest and up, and the members have built all that it has | the bytes of the chain, or the lines; each observable list is its member's journal |
+/// | 0 | only if all events ran, and, for `chain`, member M is honest and up, and the members have built all that it has | the bytes of the chain, or the lines; each observable list is its member's journal |
 /// | 3 | only if the bytes (for `states L`, the first L lines) are not a schedule, and the line was written | `refused line L cause C`; observable lists stay |
 /// | 4 | only if the source's count of faults rose | nothing; observable lists stay |
 /// | 5 | only if the sink's count of faults rose | a prefix of what was to be written; each observable list is a prefix of its journal |
 /// | 6 | only if the keeper's count of faults rose, or a record read back is bad | nothing; each observable list is a prefix of its journal |
-/// | 7 | if out of memory | as at 5 |
-/// | 8 | for `chain`, if all events ran, and there is no such member M, or else one of the members has not built a checkpoint that M has; for `states L`, if all events ran, and there are fewer lines | `inspect chain M: no honest member that is up`, or `inspect chain M: no seal of member K on checkpoint N` for the first such member and its first such checkpoint; `inspect states L: no such line`; each observable list is its member's journal |
+/// | 7 | (in no clause) if out of memory | as at 5 |
+/// | 8 | for `chain`, only if all events ran, and there is no such member M, or else one of the members has not built a checkpoint that M has; for `states L`, only if all events ran, and there are fewer lines | `inspect chain M: no honest member that is up`, or `inspect chain M: no seal of member K on checkpoint N` for the first such member and its first such checkpoint; `inspect states L: no such line`; each observable list is its member's journal |
 ///
 /// A keeper that shows its lists never gives a bad record. For a run over one that does not, and that restarts a member, it
 /// is not said what is written.
